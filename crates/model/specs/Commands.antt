@@ -1,0 +1,71 @@
+-- What a command line asks for. Source: profile.
+use Rattle.std.specs.Prelude.{ℕ, ◌+◌, ◌-◌, ◌*◌, Bool, true, false, List, [], ◌∷◌, length, nat_lt, nat_le, ◌==◌, ◌&&◌, ◌||◌, if◌then◌else◌, codes, Option, Some, None}
+use Rattle.std.specs.Str.{bytes_eq}
+use Rattle.model.specs.declared.command.Command.{Command}
+use Rattle.model.specs.declared.command.Command.TheVariants.{Regs, Step, Mem, Quit, Nothing, Bad}
+
+-- ---- words
+
+-- Whether a word goes on into some bytes.
+abbrev pub goes_on : List ℕ → Bool
+goes_on [] = false
+goes_on (b ∷ bs) = if b == 32 then false else true
+
+-- A byte put before some words: it belongs to the first of them, or is a word of its own.
+abbrev pub attached : ℕ → Bool → List (List ℕ) → List (List ℕ)
+attached b false ws = (b ∷ []) ∷ ws
+attached b true [] = (b ∷ []) ∷ []
+attached b true (w ∷ ws) = (b ∷ w) ∷ ws
+
+-- The words of a line, which spaces alone separate; spaces may lead and trail.
+abbrev pub words_of : List ℕ → List (List ℕ)
+words_of [] = []
+words_of (b ∷ bs) = if b == 32 then words_of bs else attached b (goes_on bs) (words_of bs)
+
+-- ---- numbers
+
+-- The value of a hex digit in either letter case, and 16 for any other byte.
+abbrev pub hex_value : ℕ → ℕ
+hex_value d =
+    if nat_le 48 d && nat_le d 57 then d - 48
+    else if nat_le 65 d && nat_le d 70 then d - 65 + 10
+    else if nat_le 97 d && nat_le d 102 then d - 97 + 10
+    else 16
+
+-- The address that exactly four hex digits write.
+abbrev pub address_of : List ℕ → Option ℕ
+address_of (a ∷ b ∷ c ∷ d ∷ []) =
+    if hex_value a == 16 || hex_value b == 16 || hex_value c == 16 || hex_value d == 16 then None
+    else Some (hex_value a * 4096 + hex_value b * 256 + hex_value c * 16 + hex_value d)
+address_of other = None
+
+-- ---- commands
+
+-- A command of one word.
+unfoldable pub plain_command : List ℕ → Command
+plain_command w =
+    if bytes_eq w (codes "regs") then Regs
+    else if bytes_eq w (codes "step") then Step
+    else if bytes_eq w (codes "quit") then Quit
+    else Bad
+
+-- The bytes from one address to another, which is at least as high.
+abbrev pub mem_command : Option ℕ → Option ℕ → Command
+mem_command (Some first) (Some last) = if nat_le first last then Mem first last else Bad
+mem_command (Some first) None = Bad
+mem_command None last = Bad
+
+-- A command of three words.
+unfoldable pub range_command : List ℕ → List ℕ → List ℕ → Command
+range_command w low high = if bytes_eq w (codes "mem") then mem_command (address_of low) (address_of high) else Bad
+
+unfoldable pub command_of_words : List (List ℕ) → Command
+command_of_words [] = Nothing
+command_of_words (w ∷ []) = plain_command w
+command_of_words (w ∷ a ∷ []) = Bad
+command_of_words (w ∷ a ∷ b ∷ []) = range_command w a b
+command_of_words (w ∷ a ∷ b ∷ c ∷ ws) = Bad
+
+-- What a line asks for. A line of more than 255 bytes is bad as a whole.
+unfoldable pub command_of : List ℕ → Command
+command_of line = if nat_lt 255 (length line) then Bad else command_of_words (words_of line)

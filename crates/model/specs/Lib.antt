@@ -1,0 +1,16 @@
+pub mod FaultNames
+pub mod Image
+pub mod State
+pub mod Table
+pub mod Operand
+pub mod Effect
+pub mod Step
+pub mod Event
+pub mod Undo
+pub mod Session
+pub mod Lines
+pub mod Source
+pub mod Commands
+pub mod Text
+pub mod Transcript
+pub mod Written

@@ -1,0 +1,41 @@
+-- How replies print numbers, registers and memory. Source: profile.
+use Rattle.std.specs.Prelude.{ℕ, ◌+◌, ◌-◌, ◌*◌, ◌/◌, ◌%◌, min, false, List, [], ◌∷◌, ◌++◌, nat_lt, if◌then◌else◌, codes, decimal, take, drop}
+use Rattle.std.specs.List.{flat_map, range_with_len}
+use Rattle.model.specs.State.{State}
+use Rattle.model.specs.Effect.{status}
+
+-- An upper case hex digit.
+abbrev pub hex_digit : ℕ → ℕ
+hex_digit n = if nat_lt n 10 then 48 + n else 55 + n
+
+-- A byte as two hex digits.
+abbrev pub hex_byte : ℕ → List ℕ
+hex_byte b = hex_digit (b / 16) ∷ hex_digit (b % 16) ∷ []
+
+-- An address as four hex digits.
+abbrev pub hex_word : ℕ → List ℕ
+hex_word w = hex_byte (w / 256) ++ hex_byte (w % 256)
+
+-- The register line. The status register is printed with B clear.
+unfoldable pub register_line : State → List ℕ
+register_line s =
+    codes "A=" ++ hex_byte s.regs.a ++ codes " X=" ++ hex_byte s.regs.x ++ codes " Y=" ++ hex_byte s.regs.y
+    ++ codes " S=" ++ hex_byte s.regs.s ++ codes " P=" ++ hex_byte (status false s.regs.flags)
+    ++ codes " PC=" ++ hex_word s.regs.pc ++ codes " CYC=" ++ decimal s.cycles ++ 10 ∷ []
+
+-- Bytes, each with a space before it.
+unfoldable pub spaced_bytes : List ℕ → List ℕ
+spaced_bytes bytes = flat_map (λ b. 32 ∷ hex_byte b) bytes
+
+-- The bytes of memory from one address to another.
+abbrev pub bytes_between : List ℕ → ℕ → ℕ → List ℕ
+bytes_between memory first last = take (last + 1 - first) (drop first memory)
+
+-- A row of memory: the first address and, two spaces behind it, the bytes.
+unfoldable pub memory_row : List ℕ → ℕ → ℕ → List ℕ
+memory_row memory first last = hex_word first ++ 32 ∷ spaced_bytes (bytes_between memory first last) ++ 10 ∷ []
+
+-- Rows of 16 bytes from one address to another, the last row maybe shorter.
+unfoldable pub memory_rows : List ℕ → ℕ → ℕ → List ℕ
+memory_rows memory first last =
+    flat_map (λ k. memory_row memory (first + 16 * k) (min last (first + 16 * k + 15))) (range_with_len 0 ((last - first) / 16 + 1))

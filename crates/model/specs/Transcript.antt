@@ -1,0 +1,68 @@
+-- What the engine writes for some input, and where the session then stands. Source: profile.
+use Rattle.std.specs.Prelude.{ℕ, Bool, true, false, List, [], ◌∷◌, ◌++◌, if◌then◌else◌, codes, decimal, Result, Ok, Err}
+use Rattle.model.specs.State.{State}
+use Rattle.model.specs.Event.{event_of}
+use Rattle.model.specs.Session.{Session, appended}
+use Rattle.model.specs.FaultNames.{event_fault_name, event_fault_number}
+use Rattle.model.specs.Lines.{lines_of, ended_lines_of}
+use Rattle.model.specs.Commands.{command_of}
+use Rattle.model.specs.Text.{hex_byte, hex_word, register_line, memory_rows}
+use Rattle.model.specs.declared.command.Command.{Command}
+use Rattle.model.specs.declared.command.Command.TheVariants.{Regs, Step, Mem, Quit, Nothing, Bad}
+use Rattle.model.specs.declared.event.Event.TheVariants as event
+use Rattle.model.specs.declared.event.EventFault.{EventFault}
+use Rattle.model.specs.declared.event.EventFault.TheVariants as event_fault
+
+-- What is answered to a command: a text, the session then, and whether the engine ends.
+pub record Answer : Type 0 where
+  pub written : List ℕ
+  pub session : Session
+  pub quit : Bool
+
+abbrev pub answer : List ℕ → Session → Answer
+answer text s = record { written = text; session = s; quit = false }
+
+-- The reply to a refused event.
+unfoldable pub fault_line : EventFault → List ℕ
+fault_line (event_fault.Undocumented opcode pc) = codes "! FAULT " ++ hex_byte opcode ++ codes " AT " ++ hex_word pc ++ 10 ∷ []
+fault_line event_fault.ConsoleFull = codes "! CONSOLE FULL\n"
+fault_line event_fault.CyclesFull = codes "! CYCLES FULL\n"
+fault_line fault = codes "! " ++ event_fault_name fault ++ 32 ∷ decimal (event_fault_number fault) ++ 10 ∷ []
+
+-- The reply to a step: the register line after it, or why it was refused.
+abbrev pub stepped_answer : Session → Result State EventFault → Answer
+stepped_answer s (Ok state) = answer (register_line state) (appended s state)
+stepped_answer s (Err fault) = answer (fault_line fault) s
+
+-- The reply to a command.
+unfoldable pub answer_to : Command → Session → Answer
+answer_to Regs s = answer (register_line s.current) s
+answer_to Step s = stepped_answer s (event_of s.current event.Step)
+answer_to (Mem first last) s = answer (memory_rows s.current.bus.memory first last) s
+answer_to Quit s = record { written = []; session = s; quit = true }
+answer_to Nothing s = answer [] s
+answer_to Bad s = answer (codes "? BAD COMMAND\n") s
+
+-- What is written for some lines, and the session then.
+pub record Served : Type 0 where
+  pub written : List ℕ
+  pub session : Session
+
+abbrev pub after_text : List ℕ → Served → Served
+after_text text r = record { written = text ++ r.written; session = r.session }
+
+abbrev pub served_on : Answer → (Session → Served) → Served
+served_on a rest = if a.quit then record { written = a.written; session = a.session } else after_text a.written (rest a.session)
+
+-- The lines one after another, up to one that ends the engine.
+unfoldable pub served : Session → List (List ℕ) → Served
+served s [] = record { written = []; session = s }
+served s (line ∷ lines) = served_on (answer_to (command_of line) s) (λ t. served t lines)
+
+-- The transcript of a whole input.
+abbrev pub transcript : Session → List ℕ → Served
+transcript s input = served s (lines_of input)
+
+-- The transcript of the lines whose end was told, where the reader failed then.
+abbrev pub transcript_so_far : Session → List ℕ → Served
+transcript_so_far s input = served s (ended_lines_of input)

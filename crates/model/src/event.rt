@@ -1,0 +1,71 @@
+//! Events of the machine, and why one is refused.
+
+ghost use Rattle.std.specs.Prelude.{◌≡◌};
+ghost use Rattle.model.specs.FaultNames.{event_fault_name, event_fault_number};
+
+use thiserror::Error;
+
+/// Why an event is refused. A refused event changes nothing (profile).
+#[derive(Clone, Copy, Debug, PartialEq, Eq, Error)]
+pub enum EventFault {
+    /// The cycle count is above 18,446,744,073,709,551,599, which is 2^64 - 17.
+    #[error("CyclesFull 1")]
+    CyclesFull,
+    /// The byte at PC is no documented opcode.
+    #[error("Undocumented 2")]
+    Undocumented { opcode: u8, pc: u16 },
+    /// The instruction would append to an output of 65,536 bytes.
+    #[error("ConsoleFull 3")]
+    ConsoleFull,
+    /// A patch would reach past address 65535.
+    #[error("PastEnd 4")]
+    PastEnd,
+    /// A patch would change a byte at a port address.
+    #[error("PortAddress 5")]
+    PortAddress,
+    /// A patch has no byte, or more than three.
+    #[error("BadLength 6")]
+    BadLength,
+    /// 65,536 bytes of input were handed in, those taken among them.
+    #[error("InputFull 7")]
+    InputFull,
+}
+
+impl EventFault {
+    /// The fault's number.
+    pub fn number(&self) -> u8
+        ensures { result ≡ event_fault_number self.now }
+    {
+        match self {
+            EventFault::CyclesFull => 1,
+            EventFault::Undocumented { .. } => 2,
+            EventFault::ConsoleFull => 3,
+            EventFault::PastEnd => 4,
+            EventFault::PortAddress => 5,
+            EventFault::BadLength => 6,
+            EventFault::InputFull => 7,
+        }
+    }
+
+    /// The fault's name.
+    pub fn name(&self) -> &'static str
+        ensures { result.now ≡ event_fault_name self.now }
+    {
+        match self {
+            EventFault::CyclesFull => "CyclesFull",
+            EventFault::Undocumented { .. } => "Undocumented",
+            EventFault::ConsoleFull => "ConsoleFull",
+            EventFault::PastEnd => "PastEnd",
+            EventFault::PortAddress => "PortAddress",
+            EventFault::BadLength => "BadLength",
+            EventFault::InputFull => "InputFull",
+        }
+    }
+}
+
+/// What may happen to a machine between two states.
+#[derive(Clone, Copy, Debug, PartialEq, Eq)]
+pub enum Event {
+    /// One step: an interrupt entry or an instruction.
+    Step,
+}

@@ -1,0 +1,21 @@
+//! The plain data that the definitions of `specs/` and the crates above share.
+//! Nothing runs here but the names and numbers of faults, which are themselves part of the definition.
+#![tactic(auto)]
+
+pub use bus_fault::BusFault;
+pub use command::Command;
+pub use event::{Event, EventFault};
+pub use instruction::{InherentOp, LoadOp, Mnemonic, Mode, Operation, Place, Row, StoreOp};
+pub use registers::{Flags, Regs};
+pub use session_fault::SessionFault;
+pub use source_fault::{AsmFault, AsmFaultKind};
+pub use undo::{Change, Undo};
+
+pub mod bus_fault;
+pub mod command;
+pub mod event;
+pub mod instruction;
+pub mod registers;
+pub mod session_fault;
+pub mod source_fault;
+pub mod undo;
