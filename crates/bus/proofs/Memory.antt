@@ -1,11 +1,11 @@
 -- Memory filled with the bytes of an image.
-use Rattle.std.proofs.Common.{◌≡◌, ℕ, ◌+◌, ◌<◌, ◌≤◌, ◌-◌, Bool, true, false, List, [], ◌∷◌, ◌++◌, length, take, set, get_or, ap, ◌∙◌, sym, refl, arith, ◌||◌, Option, Some, None, unwrap_or, map, replicate, zero, suc, true≢false, add-one}
+use Rattle.std.proofs.Common.{◌≡◌, ℕ, ◌+◌, ◌<◌, true, false, List, [], ◌∷◌, ◌++◌, length, take, get_or, ap, ◌∙◌, sym, refl, arith, Option, Some, None, unwrap_or, map, replicate, zero, suc, true≢false, add-one}
 use Rattle.std.specs.Prelude.{slice_index, slice_set, slice_get}
 use Rattle.std.proofs.Math.ListN.{get_or-map}
 use Rattle.std.proofs.Math.Seq.{take-suc}
 use Rattle.std.proofs.lemmas.List.{take_more_set, length-map, take_all}
 use Rattle.std.proofs.lemmas.Option.{unwrap_or-slice_get, get_or_from_slice_get}
-use Rattle.std.proofs.lemmas.Bool.Decides.{nat_tests, eqb_tells}
+use Rattle.std.proofs.lemmas.Bool.Decides.{nat_tests}
 use Rattle.model.specs.Image.{empty_image, has_byte, is_byte_at}
 use Rattle.model.specs.State.{Map, memory_of, is_port, has_port_byte}
 use Rattle.bus.specs.Memory.{zeros}

@@ -3,7 +3,7 @@
 ghost use Rattle.std.specs.Prelude.{◌≡◌, ◌+◌, ◌-◌, ◌<◌, ◌≤◌, ◌↔◌, length, slice_index, slice_get, slice_set, IsErr, OnOk, OnErr, IfErr, IfOk, true, false, not, ◌||◌, ◌++◌, ◌∷◌, [], if◌then◌else◌, ℕ, List};
 ghost use Rattle.model.specs.State.{is_port, is_rom, byte_read, after_read, overflows, after_write, stored, input_waits, loaded_bus, has_port_byte};
 ghost use Rattle.model.specs.Image.{empty_image, has_byte};
-ghost use Rattle.model.specs.Undo.{CanRestore, restored, put_cells, cells_of};
+ghost use Rattle.model.specs.Undo.{CanRestore, restored, cells_of};
 ghost use Rattle.bus.specs.Memory.{zeros};
 
 use crate::image::Image;
@@ -33,7 +33,7 @@ impl Model for Bus {
     ghost view = { λ b. record { map = b.map; memory = b.memory.items; given = b.given.items; taken = b.taken; out = b.out.items } };
 
     ghost invariant = { λ b. (length b.memory.items ≡ 65536) × (b.given.capacity ≡ 65536) × (b.out.capacity ≡ 65536) × (b.taken ≤ length b.given.items)
-        × (length b.given.items ≤ 65536) × (length b.out.items ≤ 65536) × ((k : ℕ) → is_port b.map k ≡ true → slice_index b.memory.items k ≡ 0) };
+        × (length b.given.items ≤ 65536) × (length b.out.items ≤ 65536) × (512 ≤ b.map.port) × ((k : ℕ) → is_port b.map k ≡ true → slice_index b.memory.items k ≡ 0) };
 }
 
 impl Bus {
@@ -230,6 +230,79 @@ impl Bus {
     {
         self.memory[address as usize] = value;
     }
+
+    /// The change that puts this bus back to what it is now.
+    #[tactic(auto, unfolding(model::specs::Undo::restored, model::specs::Undo::spares_port))]
+    pub fn mark(&self) -> Change
+        ensures undo { restored result self.now ≡ self.now }
+        ensures fits { CanRestore result self.now }
+        ensures count { result.count ≡ 0 }
+    {
+        Change {
+            cells: [(0, 0); 3],
+            count: 0,
+            taken: self.taken,
+            given_len: self.given.len() as u32,
+            out_len: self.out.len() as u32,
+        }
+    }
+
+    /// A store into the stack's page, where neither port nor ROM stands. The change notes the byte that was there.
+    pub fn push(&mut self, change: &mut Change, s: u8, value: u8)
+        requires count { change.old.count < 3 }
+        requires fits { CanRestore change.old self.old }
+        ensures after { self.new ≡ stored self.old (256 + s) value }
+        ensures count { change.new.count ≡ change.old.count + 1 }
+        ensures undo { restored change.new self.new ≡ restored change.old self.old }
+        ensures fits { CanRestore change.new self.new }
+    {
+        let address = 256 + s as u16;
+        let old = self.peek(address);
+        *change = noting(*change, address, old);
+        self.set_low(address, value);
+    }
+
+    /// A byte as the processor stores it, where the output has room. The change notes the byte that was there.
+    pub fn store(&mut self, change: &mut Change, address: u16, value: u8)
+        requires room { overflows self.old address ≡ false }
+        requires count { change.old.count < 3 }
+        requires fits { CanRestore change.old self.old }
+        ensures after { self.new ≡ after_write self.old address value }
+        ensures count { change.new.count ≤ change.old.count + 1 }
+        ensures undo { restored change.new self.new ≡ restored change.old self.old }
+        ensures fits { CanRestore change.new self.new }
+    {
+        if self.is_plain(address) {
+            let old = self.peek(address);
+            *change = noting(*change, address, old);
+        }
+        self.put(address, value);
+    }
+
+    /// A byte put into memory below $0200, where neither port nor ROM stands.
+    #[tactic(auto, unfolding(model::specs::State::is_port))]
+    fn set_low(&mut self, address: u16, value: u8)
+        requires { address < 512 }
+        ensures after { self.new ≡ stored self.old address value }
+        ensures port { is_port self.old.map address ≡ false }
+    {
+        self.memory[address as usize] = value;
+    }
+}
+
+/// The change with one cell more, before the others.
+fn noting(change: Change, address: u16, old: u8) -> Change
+    requires { change.count < 3 }
+    ensures cells { cells_of result ≡ (address, old) ∷ cells_of change }
+    ensures count { result.count ≡ change.count + 1 }
+    ensures rest { (result.taken ≡ change.taken) × (result.given_len ≡ change.given_len) × (result.out_len ≡ change.out_len) }
+{
+    let cells = [(address, old), change.cells[0], change.cells[1]];
+    Change {
+        cells,
+        count: change.count + 1,
+        ..change
+    }
 }
 
 /// Memory of this size that is all 0.
@@ -256,5 +329,8 @@ fn has_port_byte(map: &MapSpec, image: &Image) -> bool
     ensures { result ≡ has_port_byte map.now image.now }
 {
     let port = map.port();
-    has_byte(image, port) | has_byte(image, port + 1) | has_byte(image, port + 2) | has_byte(image, port + 3)
+    has_byte(image, port)
+        | has_byte(image, port + 1)
+        | has_byte(image, port + 2)
+        | has_byte(image, port + 3)
 }

@@ -1,4 +1,4 @@
-use Rattle.std.proofs.Common.{◌≡◌, ◌∙◌, refl, ap, List, ℕ, []}
+use Rattle.std.proofs.Common.{◌≡◌, ◌∙◌, refl, ap, []}
 use Rattle.model.specs.Image.{empty_image}
 use Rattle.model.specs.State.{loaded_bus, memory_of}
 use Rattle.bus.proofs.Memory.{zeros_is}
