@@ -42,6 +42,7 @@ impl Bus {
     #[tactic(auto, unfolding(model::specs::State::loaded_bus))]
     pub fn new(alloc: Global, map: MapSpec) -> Result<Bus, BusFault>
         ensures ok { IfOk result (λ bus. bus ≡ loaded_bus map empty_image) }
+        ensures map { IfOk result (λ bus. bus.map ≡ map) }
         ensures only { IfErr result (λ fault. fault ≡ BusFault.OutOfMemory) }
     {
         let Ok(memory) = zeroed(alloc, 65536) else {
