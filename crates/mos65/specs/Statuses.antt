@@ -1,0 +1,14 @@
+-- The exit status of a program that refuses.
+use Rattle.std.specs.Prelude.{ℕ}
+use Rattle.mos65.specs.declared.refusal.Refusal.{Refusal}
+use Rattle.mos65.specs.declared.refusal.Refusal.TheVariants.{Words, Map, Source, Session, OutOfMemory, Read, Write}
+
+-- 1 for a source or a tape, 2 for the words or the map, 3 for memory, 4 for reading or writing
+abbrev pub status_of : Refusal → ℕ
+status_of Words = 2
+status_of (Map fault) = 2
+status_of (Source fault) = 1
+status_of (Session fault) = 1
+status_of OutOfMemory = 3
+status_of Read = 4
+status_of Write = 4

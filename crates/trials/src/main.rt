@@ -1,0 +1,108 @@
+//! Makes each library call that its words name, and prints whether it was served. So a script can
+//! refuse each request for memory of one call in turn.
+#![tactic(auto)]
+
+use assembler::AsmFaultKind;
+use bus::{Bus, BusFault, Image, MapSpec};
+use cpu::Machine;
+use debugger::{Session, SessionFault};
+use std::alloc::Global;
+use std::process::ExitCode;
+use std::{env, fmt, io};
+
+/// The fault that a call answered.
+#[derive(Clone, Copy, Debug, PartialEq, Eq)]
+enum Fault {
+    Bus(BusFault),
+    Session(SessionFault),
+    Source(AsmFaultKind),
+    NoSuchCall,
+}
+
+impl Fault {
+    fn is_out_of_memory(&self) -> bool {
+        matches!(
+            self,
+            Fault::Bus(BusFault::OutOfMemory)
+                | Fault::Session(SessionFault::OutOfMemory)
+                | Fault::Source(AsmFaultKind::OutOfMemory)
+        )
+    }
+}
+
+impl fmt::Display for Fault {
+    fn fmt<W: fmt::Write>(&self, f: &mut fmt::Formatter<W>) -> fmt::Result {
+        match self {
+            Fault::Bus(fault) => write!(f, "{fault}"),
+            Fault::Session(fault) => write!(f, "{fault}"),
+            Fault::Source(fault) => write!(f, "{fault}"),
+            Fault::NoSuchCall => f.write_str("NoSuchCall"),
+        }
+    }
+}
+
+impl From<BusFault> for Fault {
+    fn from(fault: BusFault) -> Fault {
+        Fault::Bus(fault)
+    }
+}
+
+impl From<SessionFault> for Fault {
+    fn from(fault: SessionFault) -> Fault {
+        Fault::Session(fault)
+    }
+}
+
+/// Makes the call that a word names, on the map without ROM, and lets its value go.
+fn make(alloc: Global, word: &str) -> Result<(), Fault> {
+    let map = MapSpec::new(None, 0xf000)?;
+    match word {
+        "nothing" => {}
+        "image_new" => {
+            Image::new(alloc)?;
+        }
+        "bus_new" => {
+            Bus::new(alloc, map)?;
+        }
+        "machine_new" => {
+            Machine::new(alloc, map, &Image::new(alloc)?)?;
+        }
+        "session_new" => {
+            Session::new(alloc, map, &Image::new(alloc)?, 8)?;
+        }
+        "assemble" => {
+            assembler::assemble(alloc, b"; nothing\n\n", &map).map_err(|fault| Fault::Source(
+                fault.kind,
+            ))?;
+        }
+        _ => return Err(Fault::NoSuchCall),
+    }
+    Ok(())
+}
+
+/// Makes the calls in order until one is refused, and gives the exit status: 3 where memory ran out,
+/// and 1 for another fault.
+fn run(rt: &HostRuntime) -> io::Result<u8> {
+    for word in env::args(rt)?.skip(1) {
+        match make(rt.alloc(), word.as_str()) {
+            Ok(()) => println!(rt; "{word} Ok")?,
+            Err(fault) => {
+                println!(rt; "{word} {fault}")?;
+                return Ok(if fault.is_out_of_memory() { 3 } else { 1 });
+            }
+        }
+    }
+    Ok(0)
+}
+
+fn main(rt: HostRuntime) -> ExitCode {
+    match run(&rt) {
+        Ok(status) => ExitCode::from(status),
+        Err(error) => {
+            let is_memory = error.kind() == io::ErrorKind::OutOfMemory;
+            let text = if is_memory { "OutOfMemory" } else { "WORDS" };
+            let _ = eprintln!(rt; "trials: {text}");
+            ExitCode::from(if is_memory { 3 } else { 4 })
+        }
+    }
+}

@@ -1,0 +1,2 @@
+mod Decimal
+mod Found

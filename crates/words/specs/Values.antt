@@ -1,0 +1,65 @@
+-- What the words that stand for values mean.
+use Rattle.std.specs.Prelude.{ℕ, ◌+◌, ◌-◌, ◌*◌, List, [], ◌∷◌, length, take, drop, get_or, nat_lt, nat_le, ◌==◌, ◌&&◌, ◌||◌, if◌then◌else◌, Option, Some, None, option_map}
+
+-- the value of a hex digit in either letter case, or 16
+abbrev pub hex_digit_of : ℕ → ℕ
+hex_digit_of byte =
+    if nat_le 48 byte && nat_le byte 57 then byte - 48
+    else if nat_le 65 byte && nat_le byte 70 then byte - 65 + 10
+    else if nat_le 97 byte && nat_le byte 102 then byte - 97 + 10
+    else 16
+
+-- an address is written by exactly four hex digits
+abbrev pub address_of : List ℕ → Option ℕ
+address_of (a ∷ b ∷ c ∷ d ∷ []) =
+    if hex_digit_of a == 16 || hex_digit_of b == 16 || hex_digit_of c == 16 || hex_digit_of d == 16 then None
+    else Some (hex_digit_of a * 4096 + hex_digit_of b * 256 + hex_digit_of c * 16 + hex_digit_of d)
+address_of other = None
+
+-- the value of a decimal digit, or 10
+abbrev pub digit_of : ℕ → ℕ
+digit_of byte = if nat_le 48 byte && nat_le byte 57 then byte - 48 else 10
+
+-- the number that decimal digits write behind a value
+unfoldable pub decimal_from : ℕ → List ℕ → Option ℕ
+decimal_from value [] = Some value
+decimal_from value (byte ∷ bytes) =
+    if digit_of byte == 10 then None else decimal_from (value * 10 + digit_of byte) bytes
+
+-- a number of at most 65,536
+abbrev pub at_most_65536 : Option ℕ → Option ℕ
+at_most_65536 None = None
+at_most_65536 (Some number) = if nat_le number 65536 then Some number else None
+
+-- the history is written by one to five decimal digits, and is at most 65,536
+abbrev pub history_of : List ℕ → Option ℕ
+history_of word =
+    if length word == 0 then None
+    else if nat_lt 5 (length word) then None
+    else at_most_65536 (decimal_from 0 word)
+
+-- both addresses, where there are both
+abbrev pub both : Option ℕ → Option ℕ → Option (ℕ × ℕ)
+both (Some low) (Some high) = Some (low, high)
+both low high = None
+
+-- LO-HI, each an address
+abbrev pub range_of : List ℕ → Option (ℕ × ℕ)
+range_of word =
+    if length word == 9 && get_or word 4 0 == 45 then both (address_of (take 4 word)) (address_of (drop 5 word))
+    else None
+
+-- the history that is asked for: 1,024 where no word says it
+abbrev pub history_asked : Option (List ℕ) → Option ℕ
+history_asked None = Some 1024
+history_asked (Some word) = history_of word
+
+-- the port that is asked for: $F000 where no word says it
+abbrev pub port_asked : Option (List ℕ) → Option ℕ
+port_asked None = Some 61440
+port_asked (Some word) = address_of word
+
+-- the ROM that is asked for: none where no word says it
+abbrev pub rom_asked : Option (List ℕ) → Option (Option (ℕ × ℕ))
+rom_asked None = Some None
+rom_asked (Some word) = option_map Some (range_of word)

@@ -1,0 +1,122 @@
+//! Values as words.
+ghost use Rattle.std.specs.Prelude.{◌≡◌, ◌≤◌, length, option_map};
+ghost use Rattle.words.specs.Values.{address_of, decimal_from, digit_of, hex_digit_of, history_asked, history_of, port_asked, range_of, rom_asked};
+
+/// The value of a hex digit in either letter case, or 16.
+fn hex_digit_value(byte: u8) -> u8
+    ensures value { result ≡ hex_digit_of byte }
+    ensures within { result ≤ 16 }
+{
+    match byte {
+        b'0'..=b'9' => byte - b'0',
+        b'A'..=b'F' => byte - b'A' + 10,
+        b'a'..=b'f' => byte - b'a' + 10,
+        _ => 16,
+    }
+}
+
+/// The address that exactly four hex digits write, or `None` for any other word.
+fn address(word: &[u8]) -> Option<u16>
+    ensures { result ≡ address_of word.now }
+{
+    let [a, b, c, d] = word else {
+        return None;
+    };
+    let (a, b, c, d) = (
+        hex_digit_value(*a),
+        hex_digit_value(*b),
+        hex_digit_value(*c),
+        hex_digit_value(*d),
+    );
+    if a == 16 || b == 16 || c == 16 || d == 16 {
+        return None;
+    }
+    Some(a as u16 * 4096 + b as u16 * 256 + c as u16 * 16 + d as u16)
+}
+
+/// The value of a decimal digit, or 10.
+fn digit_value(byte: u8) -> u8
+    ensures value { result ≡ digit_of byte }
+    ensures within { result ≤ 10 }
+{
+    match byte {
+        b'0'..=b'9' => byte - b'0',
+        _ => 10,
+    }
+}
+
+/// The number that at most five digits write, or `None` where a byte is no digit.
+fn digits(word: &[u8]) -> Option<u32>
+    requires { length word.now ≤ 5 }
+    ensures { result ≡ decimal_from 0 word.now }
+{
+    let mut value = 0u32;
+    for byte in word {
+        let digit = digit_value(*byte);
+        if digit == 10 {
+            return None;
+        }
+        value = value * 10 + digit as u32;
+    }
+    Some(value)
+}
+
+/// The number of events to hold, of one to five decimal digits and at most 65,536, or `None` for
+/// any other word.
+fn history(word: &[u8]) -> Option<u32>
+    ensures { result ≡ history_of word.now }
+{
+    if word.is_empty() || word.len() > 5 {
+        return None;
+    }
+    match digits(word) {
+        Some(number) if number <= 65536 => Some(number),
+        _ => None,
+    }
+}
+
+/// The two addresses of `LO-HI`, each of exactly four hex digits, or `None` for any other word.
+fn range(word: &[u8]) -> Option<(u16, u16)>
+    ensures { result ≡ range_of word.now }
+{
+    if word.len() != 9 || word[4] != b'-' {
+        return None;
+    }
+    match (address(&word[..4]), address(&word[5..])) {
+        (Some(low), Some(high)) => Some((low, high)),
+        _ => None,
+    }
+}
+
+/// The history that the word after `--history` asks for, or `None` where it is no such value.
+pub fn history_asked(word: Option<&str>) -> Option<u32>
+    ensures { result ≡ history_asked (option_map (λ w. w.now) word.entry) }
+{
+    match word {
+        None => Some(1024),
+        Some(word) => history(word.as_bytes()),
+    }
+}
+
+/// The port that the word after `--port` asks for, or `None` where it is no such value.
+pub fn port_asked(word: Option<&str>) -> Option<u16>
+    ensures { result ≡ port_asked (option_map (λ w. w.now) word.entry) }
+{
+    match word {
+        None => Some(0xf000),
+        Some(word) => address(word.as_bytes()),
+    }
+}
+
+/// The ROM that the word after `--rom` asks for, if any, or `None` where it is no such value.
+pub fn rom_asked(word: Option<&str>) -> Option<Option<(u16, u16)>>
+    ensures { result ≡ rom_asked (option_map (λ w. w.now) word.entry) }
+{
+    match word {
+        None => Some(None),
+        Some(word) => match range(word.as_bytes()) {
+            None => None,
+            Some(rom) => Some(Some(rom)),
+        },
+    }
+}
