@@ -1,0 +1,3 @@
+pub mod Feeds
+pub mod Serving
+pub mod Writing

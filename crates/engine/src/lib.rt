@@ -1,0 +1,7 @@
+//! The engine: command lines in, replies out.
+#![tactic(auto)]
+
+pub use fault::EngineFault;
+
+mod fault;
+mod output;
