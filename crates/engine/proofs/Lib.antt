@@ -1,3 +1,4 @@
 pub mod Feeds
 pub mod Serving
 pub mod Writing
+pub mod Rows

@@ -4,4 +4,7 @@
 pub use fault::EngineFault;
 
 mod fault;
+mod lines;
 mod output;
+mod replies;
+mod texts;
