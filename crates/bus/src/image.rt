@@ -1,0 +1,65 @@
+//! The bytes that a memory is filled with.
+
+ghost use Rattle.std.specs.Prelude.{◌≡◌, IfOk, IfErr, Some, length, slice_get, slice_set};
+ghost use Rattle.model.specs.Image.{empty_image};
+ghost use Rattle.model.specs.State.{memory_of};
+
+use model::BusFault;
+use std::alloc::Global;
+use std::marker::Model;
+
+/// A byte or nothing at each of the 65,536 addresses (profile).
+#[derive(Drop)]
+pub struct Image {
+    cells: Vec<Option<u8>>,
+}
+
+impl Model for Image {
+    ghost use Rattle.std.specs.Prelude.{◌≡◌, ℕ, List, Option, length};
+
+    ghost Value = { List (Option ℕ) };
+
+    ghost view = { λ i. i.cells.items };
+
+    ghost invariant = { λ i. length i.cells.items ≡ 65536 };
+}
+
+impl Image {
+    /// The image with no byte. It takes the room for all addresses, so that no later call takes memory.
+    /// `OutOfMemory` where a request for memory was refused.
+    pub fn new(alloc: Global) -> Result<Image, BusFault>
+        ensures empty { IfOk result (λ image. image ≡ empty_image) }
+        ensures only { IfErr result (λ fault. fault ≡ BusFault.OutOfMemory) }
+    {
+        let mut cells = Vec::with_capacity(alloc, 65536).map_err(|_| BusFault::OutOfMemory)?;
+        for _ in 0..65536u32 {
+            cells.push(None).map_err(|_| BusFault::OutOfMemory)?;
+        }
+        Ok(Image { cells })
+    }
+
+    /// The byte at an address, if there is one.
+    pub fn get(&self, address: u16) -> Option<u8>
+        ensures { slice_get self.now address ≡ Some result }
+    {
+        self.cells[address as usize]
+    }
+
+    /// Puts a byte at an address, in place of what was there.
+    pub fn put(&mut self, address: u16, byte: u8)
+        ensures { self.new ≡ slice_set self.old address (Some byte) }
+    {
+        self.cells[address as usize] = Some(byte);
+    }
+
+    /// Fills memory with the bytes, and with 0 where there is none.
+    pub(crate) fn fill(&self, memory: &mut Vec<u8>)
+        requires { length memory.old.items ≡ 65536 }
+        ensures filled { memory.new.items ≡ memory_of self.now }
+        ensures len { length memory.new.items ≡ 65536 }
+    {
+        for address in 0..65536usize {
+            memory[address] = self.cells[address].unwrap_or(0);
+        }
+    }
+}

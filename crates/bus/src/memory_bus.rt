@@ -1,0 +1,337 @@
+//! Memory, ROM and the port.
+
+ghost use Rattle.std.specs.Prelude.{◌≡◌, ◌+◌, ◌-◌, ◌<◌, ◌≤◌, ◌↔◌, length, slice_index, slice_get, slice_set, IsErr, OnOk, OnErr, IfErr, IfOk, true, false, not, ◌||◌, ◌++◌, ◌∷◌, [], if◌then◌else◌, ℕ, List};
+ghost use Rattle.model.specs.State.{is_port, is_rom, byte_read, after_read, overflows, after_write, stored, input_waits, loaded_bus, has_port_byte};
+ghost use Rattle.model.specs.Image.{empty_image, has_byte};
+ghost use Rattle.model.specs.Undo.{CanRestore, restored, cells_of};
+ghost use Rattle.bus.specs.Memory.{zeros};
+
+use crate::image::Image;
+use crate::map_spec::MapSpec;
+use circular_buffer::HeapCircularBuffer;
+use model::{BusFault, Change};
+use std::alloc::{AllocError, Global};
+use std::marker::Model;
+
+/// Memory of 65,536 bytes, 0 at the port's addresses, with a console behind the port (profile).
+#[derive(Drop)]
+pub struct Bus {
+    map: MapSpec,
+    memory: Vec<u8>,
+    given: HeapCircularBuffer<u8>,
+    taken: u32,
+    out: HeapCircularBuffer<u8>,
+}
+
+impl Model for Bus {
+    ghost use Rattle.std.specs.Prelude.{◌≡◌, ◌≤◌, ℕ, true, length, slice_index};
+    ghost use Rattle.model.specs.State as model;
+    ghost use Rattle.model.specs.State.{is_port};
+
+    ghost Value = { model.Bus };
+
+    ghost view = { λ b. record { map = b.map; memory = b.memory.items; given = b.given.items; taken = b.taken; out = b.out.items } };
+
+    ghost invariant = { λ b. (length b.memory.items ≡ 65536) × (b.given.capacity ≡ 65536) × (b.out.capacity ≡ 65536) × (b.taken ≤ length b.given.items)
+        × (length b.given.items ≤ 65536) × (length b.out.items ≤ 65536) × (512 ≤ b.map.port) × ((k : ℕ) → is_port b.map k ≡ true → slice_index b.memory.items k ≡ 0) };
+}
+
+impl Bus {
+    /// A bus whose memory is all 0, with an empty console. It takes all the room that the bus will need.
+    /// `OutOfMemory` where a request for memory was refused.
+    #[tactic(auto, unfolding(model::specs::State::loaded_bus))]
+    pub fn new(alloc: Global, map: MapSpec) -> Result<Bus, BusFault>
+        ensures ok { IfOk result (λ bus. bus ≡ loaded_bus map empty_image) }
+        ensures map { IfOk result (λ bus. bus.map ≡ map) }
+        ensures only { IfErr result (λ fault. fault ≡ BusFault.OutOfMemory) }
+    {
+        let Ok(memory) = zeroed(alloc, 65536) else {
+            return Err(BusFault::OutOfMemory);
+        };
+        let Ok(given) = HeapCircularBuffer::with_capacity(alloc, 65536) else {
+            return Err(BusFault::OutOfMemory);
+        };
+        let Ok(out) = HeapCircularBuffer::with_capacity(alloc, 65536) else {
+            return Err(BusFault::OutOfMemory);
+        };
+        Ok(Bus {
+            map,
+            memory,
+            given,
+            taken: 0,
+            out,
+        })
+    }
+
+    /// Puts an image into memory, 0 where it has no byte, and empties the console.
+    /// `PortAddress` where the image has a byte at a port address; nothing is changed then.
+    #[tactic(auto, unfolding(model::specs::State::loaded_bus))]
+    pub fn load(&mut self, image: &Image) -> Result<(), BusFault>
+        ensures ok { OnOk result (self.new ≡ loaded_bus self.old.map image.now) }
+        ensures err { OnErr result (self.new ≡ self.old) }
+        ensures port { IsErr result ↔ (has_port_byte self.old.map image.now ≡ true) }
+        ensures only { IfErr result (λ fault. fault ≡ BusFault.PortAddress) }
+    {
+        if has_port_byte(&self.map, image) {
+            return Err(BusFault::PortAddress);
+        }
+        image.fill(&mut self.memory);
+        self.given.truncate_back(0);
+        self.out.truncate_back(0);
+        self.taken = 0;
+        Ok(())
+    }
+
+    /// Where the port and the ROM stand.
+    pub fn map(&self) -> MapSpec
+        ensures { result ≡ self.now.map }
+    {
+        self.map
+    }
+
+    /// A byte of memory, with no effect: 0 at a port address.
+    pub fn peek(&self, address: u16) -> u8
+        ensures value { result ≡ slice_index self.now.memory address }
+        ensures within { address < length self.now.memory }
+    {
+        self.memory[address as usize]
+    }
+
+    /// A byte as the processor reads it, which at base+1 takes the next byte of input.
+    #[tactic(auto, unfolding(model::specs::State::byte_read, model::specs::State::after_read, model::specs::State::is_port))]
+    pub fn read(&mut self, address: u16) -> u8
+        ensures value { result ≡ byte_read self.old address }
+        ensures after { self.new ≡ after_read self.old address }
+    {
+        if !self.map.is_port(address) {
+            return self.memory[address as usize];
+        }
+        let port = self.map.port();
+        let waits = self.input_waits();
+        if address == port + 1 {
+            self.take_input()
+        } else if address == port + 2 {
+            waits as u8
+        } else {
+            0
+        }
+    }
+
+    /// A byte as the processor stores it: into the output at base+0, nowhere at the port's other addresses and in ROM,
+    /// else into memory. `ConsoleFull` where it would be the output's 65,537th byte; nothing is changed then.
+    pub fn write(&mut self, address: u16, value: u8) -> Result<(), BusFault>
+        ensures ok { OnOk result (self.new ≡ after_write self.old address value) }
+        ensures err { OnErr result (self.new ≡ self.old) }
+        ensures full { IsErr result ↔ (overflows self.old address ≡ true) }
+        ensures only { IfErr result (λ fault. fault ≡ BusFault.ConsoleFull) }
+    {
+        if self.overflows(address) {
+            return Err(BusFault::ConsoleFull);
+        }
+        self.put(address, value);
+        Ok(())
+    }
+
+    /// A byte of a patch, put into memory and ROM alike. `PortAddress` at a port address; nothing is changed then.
+    pub fn poke(&mut self, address: u16, value: u8) -> Result<(), BusFault>
+        ensures ok { OnOk result (self.new ≡ stored self.old address value) }
+        ensures err { OnErr result (self.new ≡ self.old) }
+        ensures port { IsErr result ↔ (is_port self.old.map address ≡ true) }
+        ensures only { IfErr result (λ fault. fault ≡ BusFault.PortAddress) }
+    {
+        if self.map.is_port(address) {
+            return Err(BusFault::PortAddress);
+        }
+        self.set(address, value);
+        Ok(())
+    }
+
+    /// How many bytes the output holds, 0 to 65,536.
+    pub fn output_len(&self) -> u32
+        ensures { result ≡ length self.now.out }
+    {
+        self.out.len() as u32
+    }
+
+    /// The output's byte at an index, counted from 0.
+    pub fn output_at(&self, index: u32) -> Option<u8>
+        ensures { result ≡ slice_get self.now.out index }
+    {
+        self.out.get(index as usize).copied()
+    }
+
+    /// How many more bytes of input may be handed in: 65,536 less those that were, taken ones among them.
+    pub fn input_room(&self) -> u32
+        ensures { result + length self.now.given ≡ 65536 }
+    {
+        65536 - self.given.len() as u32
+    }
+
+    /// How many bytes of input were taken.
+    pub fn taken(&self) -> u32
+        ensures { result ≡ self.now.taken }
+    {
+        self.taken
+    }
+
+    /// Whether a byte of input waits.
+    fn input_waits(&self) -> bool
+        ensures { result ≡ input_waits self.now }
+    {
+        (self.taken as usize) < self.given.len()
+    }
+
+    /// The next byte of input, or 0 where none waits.
+    fn take_input(&mut self) -> u8
+        ensures value { result ≡ (if input_waits self.old then slice_index self.old.given self.old.taken else 0) }
+        ensures after { self.new ≡ (if input_waits self.old then record self.old { taken = self.old.taken + 1 } else self.old) }
+    {
+        match self.given.get(self.taken as usize) {
+            None => 0,
+            Some(byte) => {
+                let byte = *byte;
+                self.taken += 1;
+                byte
+            }
+        }
+    }
+
+    /// Whether a store at this address would append to an output of 65,536 bytes.
+    #[tactic(auto, unfolding(model::specs::State::overflows))]
+    pub fn overflows(&self, address: u16) -> bool
+        ensures { result ≡ overflows self.now address }
+    {
+        address == self.map.port() && self.out.len() >= 65536
+    }
+
+    /// Whether a store at this address changes memory.
+    fn is_plain(&self, address: u16) -> bool
+        ensures { result ≡ not (is_port self.now.map address || is_rom self.now.map address) }
+    {
+        !(self.map.is_port(address) || self.map.is_rom(address))
+    }
+
+    /// A byte as the processor stores it, where the output has room.
+    #[tactic(auto, unfolding(model::specs::State::after_write, model::specs::State::overflows, model::specs::State::is_port))]
+    fn put(&mut self, address: u16, value: u8)
+        requires { overflows self.old address ≡ false }
+        ensures { self.new ≡ after_write self.old address value }
+    {
+        if self.is_plain(address) {
+            self.set(address, value);
+        } else if address == self.map.port() {
+            let _ = self.out.try_push_back(value);
+        }
+    }
+
+    /// A byte put into memory.
+    fn set(&mut self, address: u16, value: u8)
+        requires { is_port self.old.map address ≡ false }
+        ensures { self.new ≡ stored self.old address value }
+    {
+        self.memory[address as usize] = value;
+    }
+
+    /// The change that puts this bus back to what it is now.
+    #[tactic(auto, unfolding(model::specs::Undo::restored, model::specs::Undo::spares_port))]
+    pub fn mark(&self) -> Change
+        ensures undo { restored result self.now ≡ self.now }
+        ensures fits { CanRestore result self.now }
+        ensures count { result.count ≡ 0 }
+    {
+        Change {
+            cells: [(0, 0); 3],
+            count: 0,
+            taken: self.taken,
+            given_len: self.given.len() as u32,
+            out_len: self.out.len() as u32,
+        }
+    }
+
+    /// A store into the stack's page, where neither port nor ROM stands. The change notes the byte that was there.
+    pub fn push(&mut self, change: &mut Change, s: u8, value: u8)
+        requires count { change.old.count < 3 }
+        requires fits { CanRestore change.old self.old }
+        ensures after { self.new ≡ stored self.old (256 + s) value }
+        ensures count { change.new.count ≡ change.old.count + 1 }
+        ensures undo { restored change.new self.new ≡ restored change.old self.old }
+        ensures fits { CanRestore change.new self.new }
+    {
+        let address = 256 + s as u16;
+        let old = self.peek(address);
+        *change = noting(*change, address, old);
+        self.set_low(address, value);
+    }
+
+    /// A byte as the processor stores it, where the output has room. The change notes the byte that was there.
+    pub fn store(&mut self, change: &mut Change, address: u16, value: u8)
+        requires room { overflows self.old address ≡ false }
+        requires count { change.old.count < 3 }
+        requires fits { CanRestore change.old self.old }
+        ensures after { self.new ≡ after_write self.old address value }
+        ensures count { change.new.count ≤ change.old.count + 1 }
+        ensures undo { restored change.new self.new ≡ restored change.old self.old }
+        ensures fits { CanRestore change.new self.new }
+    {
+        if self.is_plain(address) {
+            let old = self.peek(address);
+            *change = noting(*change, address, old);
+        }
+        self.put(address, value);
+    }
+
+    /// A byte put into memory below $0200, where neither port nor ROM stands.
+    #[tactic(auto, unfolding(model::specs::State::is_port))]
+    fn set_low(&mut self, address: u16, value: u8)
+        requires { address < 512 }
+        ensures after { self.new ≡ stored self.old address value }
+        ensures port { is_port self.old.map address ≡ false }
+    {
+        self.memory[address as usize] = value;
+    }
+}
+
+/// The change with one cell more, before the others.
+fn noting(change: Change, address: u16, old: u8) -> Change
+    requires { change.count < 3 }
+    ensures cells { cells_of result ≡ (address, old) ∷ cells_of change }
+    ensures count { result.count ≡ change.count + 1 }
+    ensures rest { (result.taken ≡ change.taken) × (result.given_len ≡ change.given_len) × (result.out_len ≡ change.out_len) }
+{
+    let cells = [(address, old), change.cells[0], change.cells[1]];
+    Change {
+        cells,
+        count: change.count + 1,
+        ..change
+    }
+}
+
+/// Memory of this size that is all 0.
+#[tactic(auto, unfolding(crate::specs::Memory::zeros))]
+fn zeroed(alloc: Global, size: usize) -> Result<Vec<u8>, AllocError>
+    ensures zeros { IfOk result (λ memory. memory.items ≡ zeros size) }
+    ensures len { IfOk result (λ memory. length memory.items ≡ size) }
+    ensures clear { IfOk result (λ memory. (k : ℕ) → slice_index memory.items k ≡ 0) }
+{
+    vec![in alloc; 0u8; size]
+}
+
+/// Whether an image has a byte here.
+#[tactic(auto, unfolding(model::specs::Image::has_byte))]
+fn has_byte(image: &Image, address: u16) -> bool
+    ensures { result ≡ has_byte image.now address }
+{
+    image.get(address).is_some()
+}
+
+/// Whether an image has a byte at a port address.
+#[tactic(auto, unfolding(model::specs::State::has_port_byte))]
+fn has_port_byte(map: &MapSpec, image: &Image) -> bool
+    ensures { result ≡ has_port_byte map.now image.now }
+{
+    let port = map.port();
+    has_byte(image, port)
+        | has_byte(image, port + 1)
+        | has_byte(image, port + 2)
+        | has_byte(image, port + 3)
+}

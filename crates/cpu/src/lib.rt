@@ -1,0 +1,10 @@
+//! The processor: one step at a time, each with a record that leads back.
+#![tactic(auto)]
+
+pub use machine::Machine;
+pub use model::{Event, EventFault, Flags, Regs, Undo};
+
+mod decode;
+mod effects;
+mod machine;
+mod operands;
