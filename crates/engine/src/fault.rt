@@ -2,8 +2,9 @@
 
 ghost use Rattle.std.specs.Prelude.{◌≡◌};
 ghost use Rattle.engine.specs.FaultNames.{engine_fault_name, engine_fault_number};
+ghost use Rattle.engine.specs.Refusals.{of_session, of_source};
 
-use model::{AsmFault, SessionFault};
+use model::{AsmFault, AsmFaultKind, SessionFault};
 use thiserror::Error;
 
 /// A fault of the engine (profile).
@@ -50,6 +51,28 @@ impl EngineFault {
             EngineFault::Read => "Read",
             EngineFault::Write => "Write",
             EngineFault::OutOfMemory => "OutOfMemory",
+        }
+    }
+}
+
+impl From<AsmFault> for EngineFault {
+    ghost from_gives = { λ fault e. e ≡ of_source fault };
+
+    fn from(fault: AsmFault) -> EngineFault {
+        match fault.kind {
+            AsmFaultKind::OutOfMemory => EngineFault::OutOfMemory,
+            _ => EngineFault::Source(fault),
+        }
+    }
+}
+
+impl From<SessionFault> for EngineFault {
+    ghost from_gives = { λ fault e. e ≡ of_session fault };
+
+    fn from(fault: SessionFault) -> EngineFault {
+        match fault {
+            SessionFault::OutOfMemory => EngineFault::OutOfMemory,
+            fault => EngineFault::Session(fault),
         }
     }
 }
