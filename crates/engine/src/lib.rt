@@ -9,4 +9,6 @@ mod lines;
 mod output;
 mod replies;
 mod source;
+#[cfg(test)]
+mod tests;
 mod texts;

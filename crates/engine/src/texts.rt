@@ -80,5 +80,9 @@ pub fn row_text(session: &Session, first: u16, last: u16) -> Text
 pub fn row_end(start: u16, last: u16) -> u16
     ensures { result ≡ min last (start + 15) }
 {
-    if last.saturating_sub(start) < 16 { last } else { start + 15 }
+    if last.saturating_sub(start) < 16 {
+        last
+    } else {
+        start + 15
+    }
 }
