@@ -82,19 +82,13 @@ impl Bus {
         Ok(())
     }
 
-    /// Where the port and the ROM stand.
-    pub fn map(&self) -> MapSpec
-        ensures { result ≡ self.now.map }
-    {
-        self.map
-    }
-
     /// A byte of memory, with no effect: 0 at a port address.
     pub fn peek(&self, address: u16) -> u8
         ensures value { result ≡ slice_index self.now.memory address }
         ensures within { address < length self.now.memory }
     {
-        self.memory[address as usize]
+        let place = address as usize;
+        self.memory[place]
     }
 
     /// A byte as the processor reads it, which at base+1 takes the next byte of input.

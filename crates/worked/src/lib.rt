@@ -1,0 +1,5 @@
+//! Worked examples that cross crates. Each is a test; no code stands here.
+#![tactic(auto)]
+
+#[cfg(test)]
+mod machine_tests;
