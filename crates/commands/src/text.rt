@@ -1,0 +1,75 @@
+//! Short texts, put together without memory.
+
+ghost use Rattle.std.specs.Prelude.{◌≡◌, ◌+◌, ◌<◌, ◌≤◌, ◌++◌, length, decimal, false};
+ghost use Rattle.model.specs.Text.{hex_byte, hex_digit, hex_word};
+ghost use Rattle.model.specs.Effect.{bit, status};
+
+use arrayvec::ArrayVec;
+use model::Flags;
+
+/// A text of at most 64 bytes, as one line of a reply: the register line has at most 58 bytes, a
+/// row of memory at most 54.
+pub type Text = ArrayVec<u8, 64>;
+
+/// An upper case hex digit.
+fn hex_digit(n: u8) -> u8
+    requires { n < 16 }
+    ensures { result ≡ hex_digit n }
+{
+    if n < 10 { b'0' + n } else { b'A' + (n - 10) }
+}
+
+/// Appends bytes.
+pub fn push_bytes(text: &mut Text, bytes: &[u8])
+    requires { length text.old.items + length bytes.now ≤ 64 }
+    ensures { text.new.items ≡ text.old.items ++ bytes.now }
+{
+    let _ = text.try_extend_from_slice(bytes);
+}
+
+/// Appends a byte as two upper case hex digits.
+pub fn push_hex_byte(text: &mut Text, byte: u8)
+    requires { length text.old.items + 2 ≤ 64 }
+    ensures { text.new.items ≡ text.old.items ++ hex_byte byte }
+{
+    push_bytes(text, &[hex_digit(byte / 16), hex_digit(byte % 16)]);
+}
+
+/// Appends an address as four upper case hex digits.
+pub fn push_hex_word(text: &mut Text, word: u16)
+    requires { length text.old.items + 4 ≤ 64 }
+    ensures { text.new.items ≡ text.old.items ++ hex_word word }
+{
+    let [high, low] = word.to_be_bytes();
+    push_hex_byte(text, high);
+    push_hex_byte(text, low);
+}
+
+/// Appends a number in decimal, without leading zeros.
+pub fn push_decimal(text: &mut Text, n: u64)
+    requires { length text.old.items + 20 ≤ 64 }
+    ensures written { text.new.items ≡ text.old.items ++ decimal n }
+    ensures short { length text.new.items ≤ length text.old.items + 20 }
+{
+    push_bytes(text, itoa::Buffer::new().format(n).as_bytes());
+}
+
+/// A truth value as a number.
+fn bit(set: bool) -> u8
+    ensures value { result ≡ bit set }
+    ensures within { result ≤ 1 }
+{
+    if set { 1 } else { 0 }
+}
+
+/// Appends the status register as two upper case hex digits, with B clear:
+/// N V 1 B D I Z C from bit 7 down.
+#[tactic(auto, unfolding(model::specs::Effect::status))]
+pub fn push_status(text: &mut Text, flags: Flags)
+    requires { length text.old.items + 2 ≤ 64 }
+    ensures { text.new.items ≡ text.old.items ++ hex_byte (status false flags) }
+{
+    let high = 128 * bit(flags.n) + 64 * bit(flags.v) + 32;
+    let low = 8 * bit(flags.d) + 4 * bit(flags.i) + 2 * bit(flags.z) + bit(flags.c);
+    push_hex_byte(text, high + low);
+}

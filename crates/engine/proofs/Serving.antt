@@ -1,0 +1,82 @@
+-- What was served of an input that came in pieces.
+use Rattle.std.proofs.Common.{◌≡◌, ◌≢◌, ℕ, ◌<◌, ◌≤◌, Bool, true, false, cond, List, [], ◌∷◌, ◌++◌, Option, Some, None, IfSome, refl, sym, ap, ◌∙◌, subst, append_assoc, append-nil, take, length, arith, length-take, true≢false}
+use Rattle.std.specs.Io.KnownBytes.{Appends, Consumes, IsAtEnd}
+use Rattle.model.specs.Session.{Session}
+use Rattle.model.specs.Commands.{command_of}
+use Rattle.model.specs.Lines.{lines_from, last_line, no_line}
+use Rattle.model.specs.Written.{AppendsFront}
+use Rattle.model.specs.Transcript.{Answer, Served, answer_to, after_text, served_on, served, transcript, transcript_so_far}
+use Rattle.engine.specs.Feeding.{Fed, fed, fed_after, fed_on, kept_with, feed}
+use Rattle.engine.proofs.Feeds.{IsServed, Feeds, feeds, command-kept}
+
+-- what holds of the bytes told and any that are left holds of all that was known
+pub known : (a b : Option (List ℕ)) (told : List ℕ) (P : List ℕ → Type 0) → Consumes a b told → ((left : List ℕ) → P (told ++ left)) → IfSome a P
+known None b told P c f = tt
+known (Some x) None told P c f = absurd c
+known (Some x) (Some y) told P c f = subst P (sym c) (f y)
+
+pub length_zero : (xs : List ℕ) → length xs ≡ 0 → xs ≡ []
+length_zero [] h = refl
+length_zero (x ∷ xs) h = absurd (omega arith)
+
+pub length_some : (xs : List ℕ) → (length xs ≡ 0 → ⊥) → 0 < length xs
+length_some [] h = absurd (h refl)
+length_some (x ∷ xs) h = omega arith
+
+feeds_kept : (s : Session) (begun kept bytes : List ℕ) → kept ≡ take 257 begun → Feeds s begun bytes (feed s kept bytes)
+feeds_kept s begun kept bytes e = subst (λ k. Feeds s begun bytes (feed s k bytes)) (sym e) (feeds s begun bytes)
+
+module _ (start s : Session) (told text kept : List ℕ) (i : IsServed start told text s kept) where
+  pub served_more : (bytes : List ℕ) → (feed s kept bytes).quit ≡ false → IsServed start (told ++ bytes) (text ++ (feed s kept bytes).written) (feed s kept bytes).session (feed s kept bytes).kept
+  served_more bytes on =
+      let r = feed s kept bytes in
+      let f = feeds_kept s i.begun kept bytes i.front in
+      record {
+        begun = f.more;
+        front = f.front;
+        goes_on = λ ending rest.
+            ap (λ l. served start (lines_from ending [] l)) (append_assoc told bytes rest) ∙ i.goes_on ending (bytes ++ rest) ∙ ap (after_text text) (f.goes_on on ending rest)
+            ∙ (let t = served r.session (lines_from ending f.more rest) in ap (λ w. record { written = w; session = t.session }) (sym (append_assoc text r.written t.written)));
+      }
+
+  pub served_quit : (bytes rest : List ℕ) → (feed s kept bytes).quit ≡ true → transcript start (told ++ bytes ++ rest) ≡ record { written = text ++ (feed s kept bytes).written; session = (feed s kept bytes).session }
+  served_quit bytes rest off =
+      let f = feeds_kept s i.begun kept bytes i.front in
+      ap (λ l. served start (lines_from last_line [] l)) (append_assoc told bytes rest) ∙ i.goes_on last_line (bytes ++ rest) ∙ ap (after_text text) (f.ends off last_line rest)
+
+  -- what bytes give is written in any case
+  pub served_bytes : (bytes rest : List ℕ) → (more : List ℕ) × ((transcript start (told ++ bytes ++ rest)).written ≡ text ++ ((feed s kept bytes).written ++ more))
+  served_bytes bytes rest = by (feed s kept bytes).quit refl
+    where
+      by : (q : Bool) → (feed s kept bytes).quit ≡ q → (more : List ℕ) × ((transcript start (told ++ bytes ++ rest)).written ≡ text ++ ((feed s kept bytes).written ++ more))
+      by true e = ([], ap (λ r. r.written) (served_quit bytes rest e) ∙ ap (λ w. text ++ w) (sym (append-nil (feed s kept bytes).written)))
+      by false e = let n = served_more bytes e in (_, ap (λ r. r.written) (n.goes_on last_line rest) ∙ append_assoc text (feed s kept bytes).written _)
+
+  pub served_front : (rest : List ℕ) → (more : List ℕ) × ((transcript start (told ++ rest)).written ≡ text ++ more)
+  served_front rest = (_, ap (λ r. r.written) (i.goes_on last_line rest))
+
+  pub so_far : transcript_so_far start told ≡ record { written = text; session = s }
+  unfolding served lines_from
+  so_far = ap (λ l. served start (lines_from no_line [] l)) (sym (append-nil told)) ∙ i.goes_on no_line [] ∙ ap (λ w. record { written = w; session = s }) (append-nil text)
+
+  -- at the end there is no line begun
+  pub served_all : kept ≡ [] → transcript start told ≡ record { written = text; session = s }
+  unfolding served lines_from
+  served_all e = ap (λ l. served start (lines_from last_line [] l)) (sym (append-nil told)) ∙ i.goes_on last_line [] ∙ none i.begun i.front
+    where
+      none : (begun : List ℕ) → kept ≡ take 257 begun → after_text text (served s (lines_from last_line begun [])) ≡ record { written = text; session = s }
+      none [] f = ap (λ w. record { written = w; session = s }) (append-nil text)
+      none (b ∷ bs) f = let bad : take 257 (b ∷ bs) ≡ [] = sym f ∙ e in absurd (omega (arith, ap length bad, length-take 257 (b ∷ bs)))
+
+  -- or the one begun is the last
+  pub served_last : 0 < length kept → transcript start told ≡ record { written = text ++ (answer_to (command_of kept) s).written; session = (answer_to (command_of kept) s).session }
+  unfolding served lines_from
+  served_last h = ap (λ l. served start (lines_from last_line [] l)) (sym (append-nil told)) ∙ i.goes_on last_line [] ∙ last i.begun i.front
+    where
+      answered : (a : Answer) (q : Bool) → a.quit ≡ q → after_text text (served_on a (λ t. served t [])) ≡ record { written = text ++ a.written; session = a.session }
+      answered a true e = rw e refl
+      answered a false e = rw (e, append-nil a.written) refl
+
+      last : (begun : List ℕ) → kept ≡ take 257 begun → after_text text (served s (lines_from last_line begun [])) ≡ record { written = text ++ (answer_to (command_of kept) s).written; session = (answer_to (command_of kept) s).session }
+      last [] f = absurd (omega (arith, ap length f))
+      last (b ∷ bs) f = rw (f, command-kept (b ∷ bs)) (answered (answer_to (command_of (b ∷ bs)) s) _ refl)

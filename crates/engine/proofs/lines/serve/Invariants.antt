@@ -1,0 +1,12 @@
+use Rattle.std.proofs.Common.{◌≡◌, ◌++◌, List, ℕ, take}
+use Rattle.std.specs.Io.KnownBytes.{Appends, Consumes}
+use Rattle.model.specs.Lines.{lines_from}
+use Rattle.model.specs.Transcript.{served, after_text}
+use Rattle.engine.proofs.Feeds.{IsServed}
+use Rattle.engine.proofs.lines.serve.Given as goal
+
+-- what was told so far was served, but for the line begun
+abbrev pub invariant-loop : goal.invariant-loop
+invariant-loop g l =
+    (told : List ℕ) × (text : List ℕ) × Consumes (g.R.Read.remaining l.fn.reader) (g.R.Read.remaining l.reader) told
+    × Appends (g.W.Write.contents l.fn.writer) (g.W.Write.contents l.writer) text × IsServed l.fn.session told text l.session l.begun.items

@@ -1,0 +1,3 @@
+pub mod FaultNames
+pub mod Feeding
+pub mod Refusals

@@ -1,0 +1,31 @@
+-- Which fault the engine answers where a part of it is refused.
+use Rattle.std.specs.Prelude.{⊤, Result, Ok, Err}
+use Rattle.model.specs.declared.source_fault.AsmFault.{AsmFault}
+use Rattle.model.specs.declared.source_fault.AsmFaultKind.{AsmFaultKind}
+use Rattle.model.specs.declared.source_fault.AsmFaultKind.TheVariants as source_fault
+use Rattle.model.specs.declared.session_fault.SessionFault.{SessionFault}
+use Rattle.model.specs.declared.session_fault.SessionFault.TheVariants as session_fault
+use Rattle.engine.specs.declared.fault.EngineFault.{EngineFault}
+use Rattle.engine.specs.declared.fault.EngineFault.TheVariants.{Source, Session, OutOfMemory}
+
+abbrev pub of_source_kind : AsmFaultKind → AsmFault → EngineFault
+of_source_kind source_fault.OutOfMemory fault = OutOfMemory
+of_source_kind _ fault = Source fault
+
+-- Want of memory in any part is the engine's own fault.
+abbrev pub of_source : AsmFault → EngineFault
+of_source fault = of_source_kind fault.kind fault
+
+abbrev pub of_session : SessionFault → EngineFault
+of_session session_fault.OutOfMemory = OutOfMemory
+of_session fault = Session fault
+
+-- What holds where the source is refused.
+abbrev pub IfSource : {X : Type 0} → Result X EngineFault → (AsmFault → Type 0) → Type 0
+IfSource (Err (Source fault)) P = P fault
+IfSource _ P = ⊤
+
+-- What holds where no session can be made.
+abbrev pub IfSession : {X : Type 0} → Result X EngineFault → (SessionFault → Type 0) → Type 0
+IfSession (Err (Session fault)) P = P fault
+IfSession _ P = ⊤

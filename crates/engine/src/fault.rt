@@ -1,0 +1,78 @@
+//! Why the engine ends before its input does.
+
+ghost use Rattle.std.specs.Prelude.{◌≡◌};
+ghost use Rattle.engine.specs.FaultNames.{engine_fault_name, engine_fault_number};
+ghost use Rattle.engine.specs.Refusals.{of_session, of_source};
+
+use model::{AsmFault, AsmFaultKind, SessionFault};
+use thiserror::Error;
+
+/// A fault of the engine (profile).
+#[derive(Clone, Copy, Debug, PartialEq, Eq, Error)]
+pub enum EngineFault {
+    /// The source is refused, with the fault of its first faulty line.
+    #[error("Source 1")]
+    Source(AsmFault),
+    /// No session can be made.
+    #[error("Session 3")]
+    Session(SessionFault),
+    /// A read of command lines failed.
+    #[error("Read 4")]
+    Read,
+    /// A write or a flush of a reply failed, or a write took no byte.
+    #[error("Write 5")]
+    Write,
+    /// A request for memory was refused, in any part.
+    #[error("OutOfMemory 6")]
+    OutOfMemory,
+}
+
+impl EngineFault {
+    /// The fault's number. 2 is kept for the fault of a tape.
+    pub fn number(&self) -> u8
+        ensures { result ≡ engine_fault_number self.now }
+    {
+        match self {
+            EngineFault::Source(_) => 1,
+            EngineFault::Session(_) => 3,
+            EngineFault::Read => 4,
+            EngineFault::Write => 5,
+            EngineFault::OutOfMemory => 6,
+        }
+    }
+
+    /// The fault's name.
+    pub fn name(&self) -> &'static str
+        ensures { result.now ≡ engine_fault_name self.now }
+    {
+        match self {
+            EngineFault::Source(_) => "Source",
+            EngineFault::Session(_) => "Session",
+            EngineFault::Read => "Read",
+            EngineFault::Write => "Write",
+            EngineFault::OutOfMemory => "OutOfMemory",
+        }
+    }
+}
+
+impl From<AsmFault> for EngineFault {
+    ghost from_gives = { λ fault e. e ≡ of_source fault };
+
+    fn from(fault: AsmFault) -> EngineFault {
+        match fault.kind {
+            AsmFaultKind::OutOfMemory => EngineFault::OutOfMemory,
+            _ => EngineFault::Source(fault),
+        }
+    }
+}
+
+impl From<SessionFault> for EngineFault {
+    ghost from_gives = { λ fault e. e ≡ of_session fault };
+
+    fn from(fault: SessionFault) -> EngineFault {
+        match fault {
+            SessionFault::OutOfMemory => EngineFault::OutOfMemory,
+            fault => EngineFault::Session(fault),
+        }
+    }
+}

@@ -1,0 +1,68 @@
+//! What the engine does with a command, and what it replies.
+
+ghost use Rattle.std.specs.Prelude.{◌≡◌, MatchResult, IfOk, OnErr, Ok, Err, false};
+ghost use Rattle.model.specs.Written.{Writes};
+ghost use Rattle.model.specs.Text.{memory_rows, register_line};
+ghost use Rattle.model.specs.Transcript.{answer_to};
+
+use crate::fault::EngineFault;
+use crate::output::put;
+use crate::texts::{fault_text, register_text, row_end, row_text};
+use debugger::Session;
+use model::{Command, Event};
+use std::io::Write;
+
+/// Does what a command asks for and writes the reply. It says whether the engine is to end.
+#[tactic(auto, unfolding(model::specs::Transcript::answer_to))]
+pub fn execute<W: Write>(
+    session: &mut Session,
+    command: Command,
+    writer: &mut W,
+) -> Result<bool, EngineFault>
+    ensures writes { Writes (W.contents writer.old) (W.contents writer.new) (answer_to command session.old).written result }
+    ensures ok { IfOk result (λ quit. (quit ≡ (answer_to command session.old).quit) × (session.new ≡ (answer_to command session.old).session)) }
+    ensures fault { OnErr result (result ≡ Err EngineFault.Write) }
+{
+    match command {
+        Command::Regs => said(put(writer, register_text(session).as_slice())),
+        Command::Step => match session.event(Event::Step) {
+            Ok(()) => said(put(writer, register_text(session).as_slice())),
+            Err(fault) => said(put(writer, fault_text(fault).as_slice())),
+        },
+        Command::Mem { first, last } => said(put_rows(session, first, last, writer)),
+        Command::Quit => Ok(true),
+        Command::Nothing => Ok(false),
+        Command::Bad => said(put(writer, b"? BAD COMMAND\n")),
+    }
+}
+
+/// A reply that does not end the engine.
+fn said(written: Result<(), EngineFault>) -> Result<bool, EngineFault>
+    ensures { MatchResult written (λ _. result ≡ Ok false) (λ e. result ≡ Err e) }
+{
+    match written {
+        Ok(()) => Ok(false),
+        Err(fault) => Err(fault),
+    }
+}
+
+/// The bytes of memory from one address to another, a row at a time.
+fn put_rows<W: Write>(
+    session: &Session,
+    first: u16,
+    last: u16,
+    writer: &mut W,
+) -> Result<(), EngineFault>
+    ensures writes { Writes (W.contents writer.old) (W.contents writer.new) (memory_rows session.now.current.bus.memory first last) result }
+    ensures fault { OnErr result (result ≡ Err EngineFault.Write) }
+{
+    for row in 0..last.saturating_sub(first) / 16 + 1 {
+        let start = first + 16 * row;
+        let text = row_text(session, start, row_end(start, last));
+        match put(writer, text.as_slice()) {
+            Ok(()) => {}
+            Err(fault) => return Err(fault),
+        }
+    }
+    Ok(())
+}

@@ -1,0 +1,354 @@
+//! Replies as the profile's worked examples and an independent program give them, and readers and
+//! writers that tell or take little, or fail.
+
+use crate::texts::fault_text;
+use crate::{EngineFault, debug_source};
+use bus::MapSpec;
+use model::{AsmFault, AsmFaultKind, EventFault};
+use std::alloc::Global;
+use std::cell::Cell;
+use std::io;
+use std::io::{ErrorKind, Read, Write};
+use std::test::Fail;
+
+const START: &[u8] = b"A=00 X=00 Y=00 S=FD P=24 PC=0000 CYC=7\n";
+
+/// Tells its bytes, no more than some at a time, and then ends or fails.
+#[derive(Drop)]
+struct Teller<'a> {
+    rest: &'a [u8],
+    at_once: usize,
+    fails: bool,
+}
+
+impl<'a> Read for Teller<'a> {
+    fn read(&mut self, buf: &mut [u8]) -> io::Result<usize> {
+        if self.rest.is_empty() && self.fails {
+            return Err(io::Error::from(ErrorKind::Other));
+        }
+        let count = self.at_once.min(buf.len()).min(self.rest.len());
+        let (now, later) = self.rest.split_at(count);
+        buf[..count].copy_from_slice(now);
+        self.rest = later;
+        Ok(count)
+    }
+}
+
+/// Takes bytes, no more than some at a time, and none past its room. A flush fails once as many as
+/// `flushes` have been made.
+#[derive(Drop)]
+struct Taker<'a> {
+    taken: Vec<u8>,
+    at_once: usize,
+    room: usize,
+    flushes: usize,
+    flushed: &'a Cell<usize>,
+}
+
+impl<'a> Write for Taker<'a> {
+    fn write(&mut self, buf: &[u8]) -> io::Result<usize> {
+        let left = self.room.saturating_sub(self.taken.len());
+        let count = self.at_once.min(buf.len()).min(left);
+        for byte in &buf[..count] {
+            self.taken.push(*byte)?;
+        }
+        Ok(count)
+    }
+
+    fn flush(&mut self) -> io::Result<()> {
+        let flushed = self.flushed.get();
+        if flushed >= self.flushes {
+            return Err(io::Error::from(ErrorKind::Other));
+        }
+        self.flushed.set(flushed + 1);
+        Ok(())
+    }
+}
+
+/// Tells a line at a time, and fails if a flush has not followed each line that was told.
+#[derive(Drop)]
+struct Turns<'a> {
+    lines: [&'a [u8]; 3],
+    told: usize,
+    flushed: &'a Cell<usize>,
+}
+
+impl<'a> Read for Turns<'a> {
+    fn read(&mut self, buf: &mut [u8]) -> io::Result<usize> {
+        if self.flushed.get() != self.told {
+            return Err(io::Error::from(ErrorKind::Other));
+        }
+        let Some(line) = self.lines.get(self.told) else {
+            return Ok(0);
+        };
+        let count = line.len().min(buf.len());
+        buf[..count].copy_from_slice(&line[..count]);
+        self.told += 1;
+        Ok(count)
+    }
+}
+
+fn wide_taker<'a>(alloc: Global, flushed: &'a Cell<usize>) -> Taker<'a> {
+    Taker {
+        taken: Vec::new(alloc),
+        at_once: 1000,
+        room: 100_000,
+        flushes: 1000,
+        flushed,
+    }
+}
+
+/// How a call with a source and some bytes of commands ends, and what it writes.
+fn run<R: Read>(
+    alloc: Global,
+    source: &[u8],
+    reader: &mut R,
+    writer: &mut Taker,
+) -> Result<Result<(), EngineFault>, Fail> {
+    let map = MapSpec::new(None, 0xF000)?;
+    Ok(debug_source(alloc, map, 1024, source, reader, writer))
+}
+
+/// What is replied to some commands, where the source is empty and nothing fails.
+fn replied(alloc: Global, commands: &[u8]) -> Result<Vec<u8>, Fail> {
+    let flushed = Cell::new(0);
+    let mut reader = Teller {
+        rest: commands,
+        at_once: 1000,
+        fails: false,
+    };
+    let mut writer = wide_taker(alloc, &flushed);
+    run(alloc, b"", &mut reader, &mut writer)??;
+    Ok(writer.taken)
+}
+
+#[test]
+fn runs_first(rt: HostRuntime) -> Result<(), Fail> {
+    let told = replied(rt.alloc(), b"regs\nstep\nmem 01FB 01FD\n")?;
+    let want =
+        b"A=00 X=00 Y=00 S=FD P=24 PC=0000 CYC=7\nA=00 X=00 Y=00 S=FA P=24 PC=0000 CYC=14\n01FB  34 02 00\n";
+    assert_eq!(rt; told.as_slice(), want.as_slice());
+    Ok(())
+}
+
+#[test]
+fn reads_lines(rt: HostRuntime) -> Result<(), Fail> {
+    let bad = b"? BAD COMMAND\n".as_slice();
+    let none = b"".as_slice();
+    let row = b"01FB  00 00 00\n".as_slice();
+    for (line, want) in [
+        (b"regs".as_slice(), START),
+        (b"  regs  \r\n".as_slice(), START),
+        (b"regs x\n".as_slice(), bad),
+        (b"\tregs\n".as_slice(), bad),
+        (b"Regs\n".as_slice(), bad),
+        (b"regs\r".as_slice(), bad),
+        (b"regs\r\r\n".as_slice(), bad),
+        (b"mem 01fb  01fD\n".as_slice(), row),
+        (b"mem 0300 0200\n".as_slice(), bad),
+        (b"mem 1FB 01FD\n".as_slice(), bad),
+        (b"mem 01FG 01FD\n".as_slice(), bad),
+        (b"mem 01FB\n".as_slice(), bad),
+        (b"mem 01FB 01FD 01FF\n".as_slice(), bad),
+        (b"\n   \n\r\n".as_slice(), none),
+        (b"quit\nregs\n".as_slice(), none),
+    ] {
+        let told = replied(rt.alloc(), line)?;
+        assert_eq!(rt; told.as_slice(), want);
+    }
+    Ok(())
+}
+
+#[test]
+fn measures_lines(rt: HostRuntime) -> Result<(), Fail> {
+    let bad = b"? BAD COMMAND\n".as_slice();
+    let mut line = [b' '; 257];
+    line[256] = b'\n';
+    let spaces = replied(rt.alloc(), &line)?;
+    assert_eq!(rt; spaces.as_slice(), bad);
+    line[252..256].copy_from_slice(b"regs");
+    let long = replied(rt.alloc(), &line)?;
+    assert_eq!(rt; long.as_slice(), bad);
+    line[251..256].copy_from_slice(b"regs\r");
+    let longest = replied(rt.alloc(), &line)?;
+    assert_eq!(rt; longest.as_slice(), START);
+    let endless = replied(rt.alloc(), &[b'x'; 2000])?;
+    assert_eq!(rt; endless.as_slice(), bad);
+    Ok(())
+}
+
+#[test]
+fn writes_rows(rt: HostRuntime) -> Result<(), Fail> {
+    let told = replied(
+        rt.alloc(),
+        b"step\nstep\nmem 01F0 0205\nmem FFF5 FFFF\nmem FFFF FFFF\nmem 0000 0010\n",
+    )?;
+    let want =
+        b"A=00 X=00 Y=00 S=FA P=24 PC=0000 CYC=14\nA=00 X=00 Y=00 S=F7 P=24 PC=0000 CYC=21\n01F0  00 00 00 00 00 00 00 00 34 02 00 34 02 00 00 00\n0200  00 00 00 00 00 00\nFFF5  00 00 00 00 00 00 00 00 00 00 00\nFFFF  00\n0000  00 00 00 00 00 00 00 00 00 00 00 00 00 00 00 00\n0010  00\n";
+    assert_eq!(rt; told.as_slice(), want.as_slice());
+    Ok(())
+}
+
+/// Three lines, and the lengths of the input and of the replies after each of them.
+const COMMANDS: &[u8] = b"regs\nstep\nmem 01FB 01FD\n";
+
+const REPLIES: &[u8] =
+    b"A=00 X=00 Y=00 S=FD P=24 PC=0000 CYC=7\nA=00 X=00 Y=00 S=FA P=24 PC=0000 CYC=14\n01FB  34 02 00\n";
+
+const ENDS: [(usize, usize); 4] = [(0, 0), (5, 39), (10, 79), (24, 94)];
+
+#[test]
+fn serves_small_pieces(rt: HostRuntime) -> Result<(), Fail> {
+    let flushed = Cell::new(0);
+    let mut reader = Teller {
+        rest: COMMANDS,
+        at_once: 1,
+        fails: false,
+    };
+    let mut writer = Taker {
+        at_once: 1,
+        ..wide_taker(rt.alloc(), &flushed)
+    };
+    let ended = run(rt.alloc(), b"; remark\n", &mut reader, &mut writer)?;
+    assert_eq!(rt; ended, Ok(()));
+    assert_eq!(rt; writer.taken.as_slice(), REPLIES);
+    Ok(())
+}
+
+#[test]
+fn serves_until_the_reader_fails(rt: HostRuntime) -> Result<(), Fail> {
+    for told in 0..25usize {
+        let flushed = Cell::new(0);
+        let mut reader = Teller {
+            rest: &COMMANDS[..told],
+            at_once: 1000,
+            fails: true,
+        };
+        let mut writer = wide_taker(rt.alloc(), &flushed);
+        let ended = run(rt.alloc(), b"", &mut reader, &mut writer)?;
+        let mut replied = 0;
+        for (input, output) in ENDS {
+            if input <= told {
+                replied = output;
+            }
+        }
+        assert_eq!(rt; ended, Err(EngineFault::Read), "after {told} bytes");
+        assert_eq!(rt;
+            writer.taken.as_slice(),
+            REPLIES.get(..replied).unwrap_or(b"")
+        );
+    }
+    Ok(())
+}
+
+#[test]
+fn writes_a_beginning(rt: HostRuntime) -> Result<(), Fail> {
+    for room in 0..94usize {
+        let flushed = Cell::new(0);
+        let mut reader = Teller {
+            rest: COMMANDS,
+            at_once: 7,
+            fails: false,
+        };
+        let mut writer = Taker {
+            room,
+            ..wide_taker(rt.alloc(), &flushed)
+        };
+        let ended = run(rt.alloc(), b"", &mut reader, &mut writer)?;
+        assert_eq!(rt; ended, Err(EngineFault::Write), "in a room of {room}");
+        assert_eq!(rt; writer.taken.as_slice(), REPLIES.get(..room).unwrap_or(b""));
+    }
+    Ok(())
+}
+
+#[test]
+fn ends_where_a_flush_fails(rt: HostRuntime) -> Result<(), Fail> {
+    for flushes in 0..3usize {
+        let flushed = Cell::new(0);
+        let mut reader = Teller {
+            rest: COMMANDS,
+            at_once: 1000,
+            fails: false,
+        };
+        let mut writer = Taker {
+            flushes,
+            ..wide_taker(rt.alloc(), &flushed)
+        };
+        let ended = run(rt.alloc(), b"", &mut reader, &mut writer)?;
+        assert_eq!(rt; ended, Err(EngineFault::Write));
+        assert_eq!(rt; flushed.get(), flushes);
+        let (_, written) = ENDS[flushes + 1];
+        assert_eq!(rt;
+            writer.taken.as_slice(),
+            REPLIES.get(..written).unwrap_or(b"")
+        );
+    }
+    Ok(())
+}
+
+#[test]
+fn flushes_before_it_reads_on(rt: HostRuntime) -> Result<(), Fail> {
+    let flushed = Cell::new(0);
+    let mut reader = Turns {
+        lines: [b"regs\n", b"step\n", b"mem 01FB 01FD\n"],
+        told: 0,
+        flushed: &flushed,
+    };
+    let mut writer = wide_taker(rt.alloc(), &flushed);
+    let ended = run(rt.alloc(), b"", &mut reader, &mut writer)?;
+    assert_eq!(rt; ended, Ok(()));
+    assert_eq!(rt; writer.taken.as_slice(), REPLIES);
+    Ok(())
+}
+
+#[test]
+fn asks_no_more_after_quit(rt: HostRuntime) -> Result<(), Fail> {
+    let flushed = Cell::new(0);
+    let mut reader = Teller {
+        rest: b"regs\nquit\n",
+        at_once: 1000,
+        fails: true,
+    };
+    let mut writer = wide_taker(rt.alloc(), &flushed);
+    let ended = run(rt.alloc(), b"", &mut reader, &mut writer)?;
+    assert_eq!(rt; ended, Ok(()));
+    assert_eq!(rt; writer.taken.as_slice(), START);
+    Ok(())
+}
+
+#[test]
+fn refuses_a_source(rt: HostRuntime) -> Result<(), Fail> {
+    let flushed = Cell::new(0);
+    let mut reader = Teller {
+        rest: COMMANDS,
+        at_once: 1000,
+        fails: false,
+    };
+    let mut writer = wide_taker(rt.alloc(), &flushed);
+    let ended = run(rt.alloc(), b"\n ?\n", &mut reader, &mut writer)?;
+    let fault = AsmFault {
+        line: 2,
+        kind: AsmFaultKind::Syntax,
+    };
+    assert_eq!(rt; ended, Err(EngineFault::Source(fault)));
+    assert_eq!(rt; reader.rest, COMMANDS);
+    assert!(rt; writer.taken.is_empty());
+    assert_eq!(rt; flushed.get(), 0);
+    Ok(())
+}
+
+#[test]
+fn names_a_refused_step(rt: HostRuntime) -> Result<(), Fail> {
+    let undocumented = EventFault::Undocumented {
+        opcode: 0x02,
+        pc: 0x0200,
+    };
+    for (fault, want) in [
+        (undocumented, b"! FAULT 02 AT 0200\n".as_slice()),
+        (EventFault::ConsoleFull, b"! CONSOLE FULL\n".as_slice()),
+        (EventFault::CyclesFull, b"! CYCLES FULL\n".as_slice()),
+    ] {
+        assert_eq!(rt; fault_text(fault).as_slice(), want);
+    }
+    Ok(())
+}
