@@ -1,7 +1,7 @@
 //! The bytes that a memory is filled with.
 
-ghost use Rattle.std.specs.Prelude.{◌≡◌, IfOk, IfErr, Some, length, slice_get, slice_set};
-ghost use Rattle.model.specs.Image.{empty_image};
+ghost use Rattle.std.specs.Prelude.{◌≡◌, ◌+◌, ◌≤◌, length, IfOk, IfErr, Some, slice_set};
+ghost use Rattle.model.specs.Image.{empty_image, cell_at, with_bytes, IsImage};
 ghost use Rattle.model.specs.State.{memory_of};
 
 use model::BusFault;
@@ -15,18 +15,19 @@ pub struct Image {
 }
 
 impl Model for Image {
-    ghost use Rattle.std.specs.Prelude.{◌≡◌, ℕ, List, Option, length};
+    ghost use Rattle.std.specs.Prelude.{ℕ, List, Option};
+    ghost use Rattle.model.specs.Image.{IsImage};
 
     ghost Value = { List (Option ℕ) };
 
     ghost view = { λ i. i.cells.items };
 
-    ghost invariant = { λ i. length i.cells.items ≡ 65536 };
+    ghost invariant = { λ i. IsImage i.cells.items };
 }
 
 impl Image {
-    /// The image with no byte. It takes the room for all addresses, so that no later call takes memory.
-    /// `OutOfMemory` where a request for memory was refused.
+    /// The image with no byte anywhere. It takes the room for all addresses, so that no later call takes memory.
+    /// The only error is `OutOfMemory`, where a request for memory was refused.
     pub fn new(alloc: Global) -> Result<Image, BusFault>
         ensures empty { IfOk result (λ image. image ≡ empty_image) }
         ensures only { IfErr result (λ fault. fault ≡ BusFault.OutOfMemory) }
@@ -38,9 +39,16 @@ impl Image {
         Ok(Image { cells })
     }
 
+    /// Says to a proof what every image is; it does nothing.
+    pub fn well_formed(&self)
+        ensures { IsImage self.now }
+    {
+        let _ = &self.cells;
+    }
+
     /// The byte at an address, if there is one.
     pub fn get(&self, address: u16) -> Option<u8>
-        ensures { slice_get self.now address ≡ Some result }
+        ensures { result ≡ cell_at self.now address }
     {
         self.cells[address as usize]
     }
@@ -50,6 +58,16 @@ impl Image {
         ensures { self.new ≡ slice_set self.old address (Some byte) }
     {
         self.cells[address as usize] = Some(byte);
+    }
+
+    /// Puts bytes from an address on, none of them past 65535.
+    pub fn store(&mut self, address: u16, bytes: &[u8])
+        requires { address + length bytes.now ≤ 65536 }
+        ensures { self.new ≡ with_bytes self.old address bytes.now }
+    {
+        for (i, byte) in bytes.iter().enumerate() {
+            self.cells[address as usize + i] = Some(*byte);
+        }
     }
 
     /// Fills memory with the bytes, and with 0 where there is none.

@@ -1,9 +1,7 @@
 -- A source that is served has no byte at a port address, so that only want of memory can keep its session from being made.
-use Rattle.std.proofs.Common.{◌≡◌, ℕ, ◌+◌, ◌<◌, Bool, false, true, ◌||◌, List, Option, None, Some, Result, Ok, Err, replicate, slice_get, refl, sym, ap, ◌∙◌, subst, is_some, ◌⊎◌, inl, inr}
+use Rattle.std.proofs.Common.{◌≡◌, ℕ, ◌+◌, ◌<◌, Bool, false, true, ◌||◌, List, Option, None, Some, Result, Ok, Err, replicate, get_or, zero, suc, refl, sym, ap, ◌∙◌, subst, is_some, ◌⊎◌, inl, inr}
 use Rattle.std.specs.Result.{IsErrAnd}
-use Rattle.std.proofs.lemmas.List.{get_or-replicate, length-replicate}
-use Rattle.std.proofs.lemmas.Option.{slice_get_within, get_or_from_slice_get}
-use Rattle.model.specs.Image.{empty_image, has_byte, is_byte_at}
+use Rattle.model.specs.Image.{empty_image, has_byte}
 use Rattle.model.specs.State.{Map, has_port_byte}
 use Rattle.model.specs.Source.{Denotes}
 use Rattle.model.specs.declared.session_fault.SessionFault.{SessionFault}
@@ -11,15 +9,10 @@ use Rattle.model.specs.declared.session_fault.SessionFault.TheVariants.{PortAddr
 use Rattle.engine.specs.declared.fault.EngineFault.{EngineFault}
 use Rattle.engine.specs.Refusals.{of_session, IfSession}
 
-none_at : (n k : ℕ) → is_byte_at (slice_get (replicate n None) k) ≡ false
-none_at n k = by (slice_get (replicate n None) k) refl
-  where
-    by : (cell : Option (Option ℕ)) → slice_get (replicate n None) k ≡ cell → is_byte_at cell ≡ false
-    by None e = refl
-    by (Some cell) e =
-        let within : k < n = subst (λ m. k < m) (length-replicate n None) (slice_get_within (replicate n None) k cell e) in
-        let none : cell ≡ None = sym (get_or_from_slice_get (replicate n None) k cell None e) ∙ get_or-replicate n k None None within in
-        ap is_some none
+none_at : (n k : ℕ) → is_some (get_or (replicate {A = Option ℕ} n None) k None) ≡ false
+none_at zero k = refl
+none_at (suc n) zero = refl
+none_at (suc n) (suc k) = none_at n k
 
 empty_at : (k : ℕ) → has_byte empty_image k ≡ false
 unfolding has_byte empty_image

@@ -14,3 +14,6 @@ pub mod Commands
 pub mod Text
 pub mod Transcript
 pub mod Written
+pub mod TapeFault
+pub mod Tape
+pub mod TapeText

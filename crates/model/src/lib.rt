@@ -9,6 +9,7 @@ pub use instruction::{InherentOp, LoadOp, Mnemonic, Mode, Operation, Place, Row,
 pub use registers::{Flags, Regs};
 pub use session_fault::SessionFault;
 pub use source_fault::{AsmFault, AsmFaultKind};
+pub use tape::{TAPE_OUT_OF_MEMORY, TapeFault, TapeFaultKind};
 pub use undo::{Change, Undo};
 
 pub mod bus_fault;
@@ -18,4 +19,5 @@ pub mod instruction;
 pub mod registers;
 pub mod session_fault;
 pub mod source_fault;
+pub mod tape;
 pub mod undo;

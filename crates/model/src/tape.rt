@@ -1,0 +1,101 @@
+//! Why a text is no tape.
+
+use std::alloc::AllocError;
+use thiserror::Error;
+
+/// What is wrong with a text that is read as a tape (profile).
+#[derive(Clone, Copy, Debug, PartialEq, Eq, Error)]
+pub enum TapeFaultKind {
+    /// The text ends with no record begun.
+    #[error("NoRecord 1")]
+    NoRecord,
+    /// A byte in a record is no hex digit.
+    #[error("BadHex 2")]
+    BadHex,
+    /// All digits of a record are there, and its sum differs from its checksum.
+    #[error("BadChecksum 3")]
+    BadChecksum,
+    /// A data record's bytes would go past address 65535.
+    #[error("PastEnd 4")]
+    PastEnd,
+    /// The text ends in a record, or behind data records without an end record.
+    #[error("Truncated 5")]
+    Truncated,
+    /// The end record's number differs from the number of data records.
+    #[error("BadCount 6")]
+    BadCount,
+    /// A byte that is not skipped stands behind the end record.
+    #[error("JunkAfterEnd 7")]
+    JunkAfterEnd,
+    /// A byte that is neither `;` nor skipped stands where a record may begin.
+    #[error("JunkBetween 8")]
+    JunkBetween,
+    /// A request for memory was refused.
+    #[error("OutOfMemory 9")]
+    OutOfMemory,
+}
+
+impl TapeFaultKind {
+    ghost use Rattle.std.specs.Prelude.{◌≡◌};
+    ghost use Rattle.model.specs.TapeFault.{number_of, name_of};
+
+    /// The number that stands for the kind, 1 to 9 (profile).
+    pub fn number(self) -> u8
+        ensures { result ≡ number_of self }
+    {
+        match self {
+            TapeFaultKind::NoRecord => 1,
+            TapeFaultKind::BadHex => 2,
+            TapeFaultKind::BadChecksum => 3,
+            TapeFaultKind::PastEnd => 4,
+            TapeFaultKind::Truncated => 5,
+            TapeFaultKind::BadCount => 6,
+            TapeFaultKind::JunkAfterEnd => 7,
+            TapeFaultKind::JunkBetween => 8,
+            TapeFaultKind::OutOfMemory => 9,
+        }
+    }
+
+    /// The name of the kind, as it is printed (profile).
+    pub fn name(self) -> &'static str
+        ensures { result.now ≡ name_of self }
+    {
+        match self {
+            TapeFaultKind::NoRecord => "NoRecord",
+            TapeFaultKind::BadHex => "BadHex",
+            TapeFaultKind::BadChecksum => "BadChecksum",
+            TapeFaultKind::PastEnd => "PastEnd",
+            TapeFaultKind::Truncated => "Truncated",
+            TapeFaultKind::BadCount => "BadCount",
+            TapeFaultKind::JunkAfterEnd => "JunkAfterEnd",
+            TapeFaultKind::JunkBetween => "JunkBetween",
+            TapeFaultKind::OutOfMemory => "OutOfMemory",
+        }
+    }
+}
+
+/// The first fault of a text, and where it is.
+#[derive(Clone, Copy, Debug, PartialEq, Eq, Error)]
+#[error("byte {offset} {kind}")]
+pub struct TapeFault {
+    /// In bytes from the text's begin; 0 where memory was refused.
+    pub offset: u64,
+    pub kind: TapeFaultKind,
+}
+
+/// The answer where a request for memory was refused.
+pub const TAPE_OUT_OF_MEMORY: TapeFault = TapeFault {
+    offset: 0,
+    kind: TapeFaultKind::OutOfMemory,
+};
+
+impl From<AllocError> for TapeFault {
+    ghost use Rattle.std.specs.Prelude.{◌≡◌};
+    ghost use Rattle.model.specs.TapeFault.{out_of_memory};
+
+    ghost from_gives = { λ _ f. f ≡ out_of_memory };
+
+    fn from(_error: AllocError) -> TapeFault {
+        TAPE_OUT_OF_MEMORY
+    }
+}

@@ -1,0 +1,33 @@
+-- From the reading machine's answer to what the grammar says of it.
+use Rattle.std.proofs.Common.{◌≡◌, ℕ, List, Option, Result, Ok, Err, sym, ◌∙◌, ap, subst, inl, inr, ◌⊎◌}
+use Rattle.std.specs.Prelude.{IfOk, IfErr}
+use Rattle.model.specs.declared.tape.TapeFault.{TapeFault}
+use Rattle.model.specs.Tape.{Denotes, FirstFault}
+use Rattle.model.specs.TapeFault.{out_of_memory}
+use Rattle.papertape.specs.Reading.{Answers, read_of}
+use Rattle.papertape.proofs.Grammar.{SoundRead, read_sound}
+use Rattle.model.specs.declared.tape.TapeFaultKind.{TapeFaultKind}
+use Rattle.papertape.proofs.Faults.{fault_again}
+use Rattle.papertape.proofs.Again.{read_again}
+
+abbrev Read : Type 0
+Read = Result (List (Option ℕ)) TapeFault
+
+pub found_from : (text : List ℕ) (r : Read) → Answers r (read_of text) → IfOk r (λ image. Denotes text image)
+found_from text (Ok image) h = subst (λ (x : Read). SoundRead text x) h (read_sound text)
+found_from text (Err f) h = tt
+
+pub fault_from : (text : List ℕ) (r : Read) → Answers r (read_of text) → IfErr r (λ f. (f ≡ out_of_memory) ⊎ FirstFault text f.kind f.offset)
+fault_from text (Ok image) h = tt
+fault_from text (Err f) (inl m) = inl m
+fault_from text (Err f) (inr h) = inr (subst (λ (x : Read). SoundRead text x) h (read_sound text))
+
+pub only_from : (text : List ℕ) (r : Read) → Answers r (read_of text) → (cells : List (Option ℕ)) → Denotes text cells → (r ≡ Ok cells) ⊎ (r ≡ Err out_of_memory)
+only_from text (Ok image) h cells d = inl (sym h ∙ read_again text cells d)
+only_from text (Err f) (inl m) cells d = inr (ap Err m)
+only_from text (Err f) (inr h) cells d = inl (sym h ∙ read_again text cells d)
+
+pub refused_from : (text : List ℕ) (r : Read) → Answers r (read_of text) → (kind : TapeFaultKind) (offset : ℕ) → FirstFault text kind offset → (r ≡ Err (record { offset = offset; kind = kind })) ⊎ (r ≡ Err out_of_memory)
+refused_from text (Ok image) h kind offset f = inl (sym h ∙ fault_again text kind offset f)
+refused_from text (Err e) (inl m) kind offset f = inr (ap Err m)
+refused_from text (Err e) (inr h) kind offset f = inl (sym h ∙ fault_again text kind offset f)

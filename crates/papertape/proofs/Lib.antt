@@ -1,0 +1,14 @@
+pub mod Digits
+pub mod Steps
+pub mod Grammar
+pub mod Again
+pub mod Answers
+pub mod Cuts
+pub mod Lines
+pub mod Runs
+pub mod Ahead
+pub mod Written
+pub mod Faults
+pub mod Texts
+pub mod Changed
+pub mod OneReading

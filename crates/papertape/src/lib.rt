@@ -1,0 +1,15 @@
+//! Paper tapes: the text of an image, and the image of a text.
+#![tactic(auto)]
+
+mod claim;
+mod law;
+mod piece;
+mod reader;
+mod reading;
+mod record;
+mod writer;
+
+pub use law::{each_text_has_one_reading, one_digit_is_refused, through_tape, written_is_read};
+pub use model::{TapeFault, TapeFaultKind};
+pub use reader::read_tape;
+pub use writer::write_tape;

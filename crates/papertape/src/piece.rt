@@ -1,0 +1,106 @@
+//! The pieces that an image is written in.
+
+ghost use Rattle.std.specs.Prelude.{◌≡◌, ◌+◌, ◌≤◌, ◌++◌, length, take, drop, IfOk};
+ghost use Rattle.model.specs.TapeText.{data_line};
+ghost use Rattle.papertape.specs.Writing.{front_bytes, first_cell, IsNext};
+
+use crate::record::write_record;
+use bus::Image;
+use std::alloc::AllocError;
+use std::marker::Model;
+
+/// The most bytes that a written record holds (profile).
+const PIECE: usize = 24;
+
+/// At most 24 bytes from an address on, which one record holds.
+#[derive(Drop)]
+pub struct Piece {
+    address: u16,
+    bytes: [u8; PIECE],
+    count: usize,
+}
+
+impl Model for Piece {
+    ghost use Rattle.std.specs.Prelude.{take, ◌≤◌};
+    ghost use Rattle.model.specs.TapeText.{Stretch};
+
+    ghost Value = { Stretch };
+
+    ghost view = { λ p. (p.address, take p.count p.bytes) };
+
+    ghost invariant = { λ p. p.count ≤ 24 };
+}
+
+/// The byte at an address, where an address past the memory has none.
+fn byte_at(image: &Image, address: u32) -> Option<u8>
+    ensures { result ≡ first_cell (drop address image.now) }
+{
+    image.well_formed();
+    if address > 65535 {
+        return None;
+    }
+    image.get(address as u16)
+}
+
+/// Copies the bytes from an address on, up to the first address with none, and says how many they are.
+fn fill(image: &Image, address: u16, bytes: &mut [u8]) -> usize
+    requires { length bytes.old ≡ 24 }
+    ensures copied { take result bytes.new ≡ front_bytes 24 (drop address image.now) }
+    ensures few { result ≤ 24 }
+{
+    for i in 0..PIECE {
+        match byte_at(image, address as u32 + i as u32) {
+            None => return i,
+            Some(byte) => bytes[i] = byte,
+        }
+    }
+    PIECE
+}
+
+impl Piece {
+    /// The piece that begins at an address.
+    fn at(image: &Image, address: u16) -> Piece
+        ensures { result ≡ (address, front_bytes 24 (drop address image.now)) }
+    {
+        let mut bytes = [0u8; PIECE];
+        let count = fill(image, address, &mut bytes);
+        Piece {
+            address,
+            bytes,
+            count,
+        }
+    }
+
+    /// The first piece from an address on, if there is one.
+    pub fn next(image: &Image, from: u32) -> Option<Piece>
+        requires { from ≤ 65536 }
+        ensures { IsNext image.now from result }
+    {
+        image.well_formed();
+        for address in from..65536 {
+            if byte_at(image, address).is_some() {
+                return Some(Piece::at(image, address as u16));
+            }
+        }
+        None
+    }
+
+    /// The address behind the piece.
+    pub fn end(&self) -> u32
+        ensures { result ≡ self.now.0 + length self.now.1 }
+    {
+        self.address as u32 + self.count as u32
+    }
+
+    /// Writes the piece as a data record.
+    pub fn write(&self, out: &mut Vec<u8>) -> Result<(), AllocError>
+        ensures { IfOk result (λ _. out.new.items ≡ out.old.items ++ data_line self.now) }
+    {
+        write_record(
+            out,
+            self.count as u8,
+            self.address,
+            &self.bytes[..self.count],
+        )
+    }
+}

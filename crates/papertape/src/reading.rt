@@ -1,0 +1,188 @@
+//! What was read of a tape so far, and the step for one byte.
+
+ghost use Rattle.std.specs.Prelude.{◌≡◌, [], true};
+ghost use Rattle.hex.specs.Hex.{is_hex_digit};
+ghost use Rattle.model.specs.Tape.{is_skipped};
+
+use crate::claim::{Claim, is_hex_digit, needed};
+use bus::Image;
+use model::{TapeFault, TapeFaultKind};
+use std::marker::Model;
+
+/// Where a reader stands.
+#[derive(Clone, Copy, Debug, PartialEq, Eq)]
+pub enum Place {
+    /// Before or between records.
+    Between,
+    /// Among the digits of a record.
+    Within,
+    /// Behind the end record.
+    After,
+}
+
+pub fn is_skipped(byte: u8) -> bool
+    ensures { result ≡ is_skipped byte }
+{
+    byte == 0 || byte == 13 || byte == 10 || byte == 19
+}
+
+/// What was read of a tape.
+#[derive(Drop)]
+pub struct Reading {
+    image: Image,
+    count: u32,
+    place: Place,
+    start: u64,
+    digits: [u8; 520],
+    held: usize,
+}
+
+impl Model for Reading {
+    ghost use Rattle.std.specs.Prelude.{take};
+    ghost use Rattle.papertape.specs.Reading.{Progress, IsHeld};
+
+    ghost Value = { Progress };
+
+    ghost view = { λ r. record { cells = r.image; count = r.count; place = r.place; start = r.start; digits = take r.held r.digits } };
+
+    ghost invariant = { λ r. IsHeld r.held r.digits };
+}
+
+impl Reading {
+    ghost use Rattle.papertape.specs.Reading.{Gives, start, step, settled, with_digit, finished};
+    ghost use Rattle.papertape.specs.declared.reading.Place.TheVariants.{Within};
+
+    fn begin(&mut self, offset: u64)
+        ensures { self.new ≡ record self.old { place = Within; start = offset; digits = [] } }
+    {
+        self.place = Place::Within;
+        self.start = offset;
+        self.held = 0;
+    }
+
+    #[tactic(auto, unfolding(crate::specs::Reading::settled))]
+    fn settle(&mut self, claim: &Claim) -> Result<(), TapeFault>
+        ensures { Gives result self.new (settled self.old claim.now) }
+    {
+        let fault = |kind| Err(TapeFault {
+            offset: self.start,
+            kind,
+        });
+        if claim.sum != claim.checksum {
+            return fault(TapeFaultKind::BadChecksum);
+        }
+        if claim.length == 0 {
+            if claim.address as u32 != self.count {
+                return fault(TapeFaultKind::BadCount);
+            }
+            self.place = Place::After;
+            self.held = 0;
+            return Ok(());
+        }
+        if claim.address as u32 + claim.length as u32 > 65536 {
+            return fault(TapeFaultKind::PastEnd);
+        }
+        self.image
+            .store(claim.address, &claim.data[..claim.length as usize]);
+        self.place = Place::Between;
+        self.held = 0;
+        if self.count < 65536 {
+            self.count += 1;
+        }
+        Ok(())
+    }
+
+    #[tactic(auto, unfolding(crate::specs::Reading::with_digit))]
+    fn with_digit(&mut self, byte: u8) -> Result<(), TapeFault>
+        requires { is_hex_digit byte ≡ true }
+        ensures { Gives result self.new (with_digit self.old byte) }
+    {
+        self.digits[self.held] = byte;
+        let held = self.held + 1;
+        if held < needed(&self.digits[..held]) {
+            self.held = held;
+            return Ok(());
+        }
+        let claim = Claim::read(&self.digits[..held]);
+        self.held = 0;
+        self.settle(&claim)
+    }
+
+    /// One byte of the tape, at an offset.
+    #[tactic(auto, unfolding(crate::specs::Reading::step))]
+    pub fn take(&mut self, offset: u64, byte: u8) -> Result<(), TapeFault>
+        ensures { Gives result self.new (step offset self.old byte) }
+    {
+        match self.place {
+            Place::Between => {
+                if byte == b';' {
+                    self.begin(offset);
+                    return Ok(());
+                }
+                if is_skipped(byte) {
+                    return Ok(());
+                }
+                Err(TapeFault {
+                    offset,
+                    kind: TapeFaultKind::JunkBetween,
+                })
+            }
+            Place::Within => {
+                if is_hex_digit(byte) {
+                    return self.with_digit(byte);
+                }
+                Err(TapeFault {
+                    offset,
+                    kind: TapeFaultKind::BadHex,
+                })
+            }
+            Place::After => {
+                if is_skipped(byte) {
+                    return Ok(());
+                }
+                Err(TapeFault {
+                    offset,
+                    kind: TapeFaultKind::JunkAfterEnd,
+                })
+            }
+        }
+    }
+
+    pub fn new(image: Image) -> Reading
+        ensures { result ≡ record start { cells = image } }
+    {
+        Reading {
+            image,
+            count: 0,
+            place: Place::Between,
+            start: 0,
+            digits: [0; 520],
+            held: 0,
+        }
+    }
+
+    #[tactic(auto, unfolding(crate::specs::Reading::finished))]
+    pub fn finish(self, offset: u64) -> Result<Image, TapeFault>
+        ensures { finished offset self ≡ result }
+    {
+        match self.place {
+            Place::Between => {
+                if self.count == 0 {
+                    return Err(TapeFault {
+                        offset,
+                        kind: TapeFaultKind::NoRecord,
+                    });
+                }
+                Err(TapeFault {
+                    offset,
+                    kind: TapeFaultKind::Truncated,
+                })
+            }
+            Place::Within => Err(TapeFault {
+                offset,
+                kind: TapeFaultKind::Truncated,
+            }),
+            Place::After => Ok(self.image),
+        }
+    }
+}

@@ -1,0 +1,67 @@
+//! Writing one record.
+
+ghost use Rattle.std.specs.Prelude.{◌≡◌, ◌++◌, ◌∷◌, ◌≤◌, [], length, IfOk, sum};
+ghost use Rattle.hex.specs.Hex.{encode_upper};
+ghost use Rattle.model.specs.TapeText.{line, word};
+
+use std::alloc::AllocError;
+
+/// The two capital hex digits of a byte.
+fn digits_of(byte: u8) -> [u8; 2]
+    ensures { result ≡ encode_upper (byte ∷ []) }
+{
+    let mut digits = [0u8; 2];
+    let _ = hex::encode_to_slice([byte], &mut digits);
+    digits.make_ascii_uppercase();
+    digits
+}
+
+fn push_byte(out: &mut Vec<u8>, byte: u8) -> Result<(), AllocError>
+    ensures { IfOk result (λ _. out.new.items ≡ out.old.items ++ encode_upper (byte ∷ [])) }
+{
+    out.extend_from_slice(&digits_of(byte))
+}
+
+fn push_bytes(out: &mut Vec<u8>, bytes: &[u8]) -> Result<(), AllocError>
+    ensures { IfOk result (λ _. out.new.items ≡ out.old.items ++ encode_upper bytes.now) }
+{
+    for byte in bytes {
+        push_byte(out, *byte)?;
+    }
+    Ok(())
+}
+
+fn push_word(out: &mut Vec<u8>, number: u16) -> Result<(), AllocError>
+    ensures { IfOk result (λ _. out.new.items ≡ out.old.items ++ encode_upper (word number)) }
+{
+    push_byte(out, (number / 256) as u8)?;
+    push_byte(out, (number % 256) as u8)
+}
+
+/// The sum of bytes.
+pub fn total(bytes: &[u8]) -> u32
+    requires { length bytes.now ≤ 260 }
+    ensures { result ≡ sum bytes.now }
+{
+    bytes.iter().map(|byte| *byte as u32).sum()
+}
+
+/// Writes a record with its checksum, and CR LF (form: KIM-1 manual; capitals and the line's end: profile).
+pub fn write_record(
+    out: &mut Vec<u8>,
+    count: u8,
+    number: u16,
+    bytes: &[u8],
+) -> Result<(), AllocError>
+    requires { length bytes.now ≤ 24 }
+    ensures { IfOk result (λ _. out.new.items ≡ out.old.items ++ line (count ∷ word number ++ bytes.now)) }
+{
+    let head = count as u64 + (number / 256) as u64 + (number % 256) as u64;
+    let sum = head + total(bytes) as u64;
+    out.extend_from_slice(b";")?;
+    push_byte(out, count)?;
+    push_word(out, number)?;
+    push_bytes(out, bytes)?;
+    push_word(out, (sum % 65536) as u16)?;
+    out.extend_from_slice(b"\r\n")
+}

@@ -1,0 +1,57 @@
+//! Reads each tape that is named on the command line, and says what reading it gives.
+#![tactic(auto)]
+
+use anyhow::Result;
+use bus::Image;
+use papertape::{read_tape, write_tape};
+use std::rt::Files;
+use std::{env, fs};
+
+#[cfg(test)]
+mod tests;
+
+/// How many addresses of an image have a byte.
+fn size(image: &Image) -> usize {
+    (0..=65535u16)
+        .filter(|address| image.get(*address).is_some())
+        .count()
+}
+
+/// What stands in `NAME.ours.ptp`, or else in `NAME.ptp`, and in which words to say that it was written back.
+fn wanted<R: Files + AllocGlobal>(rt: &R, name: &str) -> Result<(Vec<u8>, &'static str)> {
+    let ours = format!(in rt.alloc(); "{name}.ours.ptp")?;
+    if fs::exists(rt, ours.as_str())? {
+        return Ok((fs::read(rt, ours.as_str())?, "as ours"));
+    }
+    let same = format!(in rt.alloc(); "{name}.ptp")?;
+    Ok((fs::read(rt, same.as_str())?, "the same"))
+}
+
+/// Reads one tape, and writes back what was read.
+fn report<R: Files + AllocGlobal + Print>(rt: &R, name: &str) -> Result<()> {
+    let path = format!(in rt.alloc(); "{name}.ptp")?;
+    let text = fs::read(rt, path.as_str())?;
+    let image = match read_tape(rt.alloc(), &text) {
+        Ok(image) => image,
+        Err(fault) => {
+            println!(rt; "{name}: {fault}")?;
+            return Ok(());
+        }
+    };
+    let written = write_tape(rt.alloc(), &image)?;
+    let (other, words) = wanted(rt, name)?;
+    let bytes = size(&image);
+    if written.as_slice() == other.as_slice() {
+        println!(rt; "{name}: ok, {bytes} bytes, written back {words}")?;
+    } else {
+        println!(rt; "{name}: ok, {bytes} bytes, written back otherwise")?;
+    }
+    Ok(())
+}
+
+fn main(rt: HostRuntime) -> Result<()> {
+    for name in env::args(&rt)?.skip(1) {
+        report(&rt, name.as_str())?;
+    }
+    Ok(())
+}

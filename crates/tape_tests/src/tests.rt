@@ -1,0 +1,193 @@
+//! Tapes whose texts and faults are known from outside.
+
+use bus::Image;
+use papertape::{TapeFault, TapeFaultKind, read_tape, through_tape, write_tape};
+use std::alloc::Global;
+use std::test::Fail;
+
+const PROGRAM: &[u8; 6] = b"\xA9\x41\x8D\x00\xF0\x00";
+
+const PROGRAM_TAPE: &[u8; 38] = b";060200A9418D00F000026F\r\n;0000010001\r\n";
+
+const MANUAL_TAPE: &[u8; 74] =
+    b";180000FFEEDDCCBBAA0099887766554433221122334455667788990AFC\r\n;0000010001\r\n";
+
+fn program(alloc: Global) -> Result<Image, Fail> {
+    let mut image = Image::new(alloc)?;
+    image.store(0x0200, PROGRAM);
+    Ok(image)
+}
+
+fn fault(kind: TapeFaultKind, offset: u64) -> Option<TapeFault> {
+    Some(TapeFault { offset, kind })
+}
+
+#[test]
+fn written_texts(rt: HostRuntime) -> Result<(), Fail> {
+    let alloc = rt.alloc();
+    let empty = Image::new(alloc)?;
+    assert_eq!(rt;
+        write_tape(alloc, &empty)?.as_slice(),
+        b";0000000000\r\n".as_slice()
+    );
+    let mut image = program(alloc)?;
+    assert_eq!(rt;
+        write_tape(alloc, &image)?.as_slice(),
+        PROGRAM_TAPE.as_slice()
+    );
+    image.put(0xFFFC, 0x00);
+    image.put(0xFFFD, 0x02);
+    let text = write_tape(alloc, &image)?;
+    assert_eq!(rt;
+        text.as_slice(),
+        b";060200A9418D00F000026F\r\n;02FFFC000201FF\r\n;0000020002\r\n".as_slice()
+    );
+    let back = through_tape(alloc, &image)?;
+    assert_eq!(rt; back.get(0xFFFD), Some(0x02));
+    assert_eq!(rt; back.get(0xFFFE), None);
+    Ok(())
+}
+
+#[test]
+fn the_manual_example(rt: HostRuntime) -> Result<(), Fail> {
+    let image = read_tape(rt.alloc(), MANUAL_TAPE)?;
+    assert_eq!(rt; image.get(0), Some(0xFF));
+    assert_eq!(rt; image.get(23), Some(0x99));
+    assert_eq!(rt; image.get(24), None);
+    assert_eq!(rt;
+        write_tape(rt.alloc(), &image)?.as_slice(),
+        MANUAL_TAPE.as_slice()
+    );
+    Ok(())
+}
+
+#[test]
+fn a_later_record_wins(rt: HostRuntime) -> Result<(), Fail> {
+    let image = read_tape(rt.alloc(), b";010010ff0110\n;010010FE010F\n;0000020002")?;
+    assert_eq!(rt; image.get(0x10), Some(0xFE));
+    assert_eq!(rt; image.get(0x11), None);
+    Ok(())
+}
+
+#[test]
+fn first_faults(rt: HostRuntime) {
+    let alloc = rt.alloc();
+    let rows: [(&[u8], TapeFaultKind, u64); 13] = [
+        (
+            b";180000FFEEDDCCBBAA0099887766554433221122334455667788990AFD\r\n;0000010001\r\n",
+            TapeFaultKind::BadChecksum,
+            0,
+        ),
+        (
+            b";010010ff0110\n;010010FE010F\n;0000010001",
+            TapeFaultKind::BadCount,
+            28,
+        ),
+        (b";02FFFF01020203", TapeFaultKind::PastEnd, 0),
+        (
+            b";050200A9418D00F000026F\r\n;0000010001\r\n",
+            TapeFaultKind::BadChecksum,
+            0,
+        ),
+        (
+            b";000200A9418D00F000026F\r\n;0000010001\r\n",
+            TapeFaultKind::BadChecksum,
+            0,
+        ),
+        (
+            b";160200A9418D00F000026F\r\n;0000010001\r\n",
+            TapeFaultKind::BadHex,
+            23,
+        ),
+        (b"\r\n\0\x13", TapeFaultKind::NoRecord, 4),
+        (b";", TapeFaultKind::Truncated, 1),
+        (b";01G", TapeFaultKind::BadHex, 3),
+        (b"\n:", TapeFaultKind::JunkBetween, 1),
+        (b";0000000000;", TapeFaultKind::JunkAfterEnd, 11),
+        (b";010010FF0110\r\n\n", TapeFaultKind::Truncated, 16),
+        (
+            b";0000000000\r\n ;0000000000",
+            TapeFaultKind::JunkAfterEnd,
+            13,
+        ),
+    ];
+    for (text, kind, offset) in rows {
+        assert_eq!(rt; read_tape(alloc, text).err(), fault(kind, offset));
+    }
+}
+
+#[test]
+fn a_tape_cut_short(rt: HostRuntime) {
+    for length in 0..=38usize {
+        let wanted = if length == 0 {
+            fault(TapeFaultKind::NoRecord, 0)
+        } else if length <= 35 {
+            fault(TapeFaultKind::Truncated, length as u64)
+        } else {
+            None
+        };
+        let read = read_tape(rt.alloc(), &PROGRAM_TAPE[..length]);
+        assert_eq!(rt; read.err(), wanted, "cut to {length}");
+    }
+}
+
+#[test]
+fn one_digit_changed(rt: HostRuntime) {
+    let mut places = 0u32;
+    for place in 3..36usize {
+        let mut text = *PROGRAM_TAPE;
+        if text[place] < b'0' || place == 26 || place == 27 {
+            continue;
+        }
+        if text[place] == b';' {
+            continue;
+        }
+        text[place] = if text[place] == b'7' { b'8' } else { b'7' };
+        let start = if place < 25 { 0 } else { 25 };
+        let read = read_tape(rt.alloc(), &text);
+        assert_eq!(rt;
+            read.err(),
+            fault(TapeFaultKind::BadChecksum, start),
+            "at {place}"
+        );
+        places += 1;
+    }
+    assert_eq!(rt; places, 28);
+}
+
+#[test]
+fn too_many_records_to_count(rt: HostRuntime) -> Result<(), Fail> {
+    let mut text = Vec::new(rt.alloc());
+    for _ in 0..65536u32 {
+        text.extend_from_slice(b";010010010012")?;
+    }
+    let end = text.len() as u64;
+    text.extend_from_slice(b";0000000000")?;
+    assert_eq!(rt;
+        read_tape(rt.alloc(), &text).err(),
+        fault(TapeFaultKind::BadCount, end)
+    );
+    Ok(())
+}
+
+#[test]
+fn numbers_and_names(rt: HostRuntime) -> Result<(), Fail> {
+    let rows = [
+        (TapeFaultKind::NoRecord, 1, "NoRecord 1"),
+        (TapeFaultKind::BadHex, 2, "BadHex 2"),
+        (TapeFaultKind::BadChecksum, 3, "BadChecksum 3"),
+        (TapeFaultKind::PastEnd, 4, "PastEnd 4"),
+        (TapeFaultKind::Truncated, 5, "Truncated 5"),
+        (TapeFaultKind::BadCount, 6, "BadCount 6"),
+        (TapeFaultKind::JunkAfterEnd, 7, "JunkAfterEnd 7"),
+        (TapeFaultKind::JunkBetween, 8, "JunkBetween 8"),
+        (TapeFaultKind::OutOfMemory, 9, "OutOfMemory 9"),
+    ];
+    for (kind, number, text) in rows {
+        assert_eq!(rt; kind.number(), number);
+        let named = format!(in rt.alloc(); "{} {number}", kind.name())?;
+        assert_eq!(rt; named.as_str(), text);
+        assert_eq!(rt; format!(in rt.alloc(); "{kind}")?.as_str(), text);
+    }
+    Ok(())
+}
