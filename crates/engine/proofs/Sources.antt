@@ -1,5 +1,5 @@
 -- A source that is served has no byte at a port address, so that only want of memory can keep its session from being made.
-use Rattle.std.proofs.Common.{◌≡◌, ℕ, ◌+◌, ◌<◌, Bool, false, true, ◌||◌, List, Option, None, Some, Result, Ok, Err, replicate, get_or, zero, suc, refl, sym, ap, ◌∙◌, subst, is_some, ◌⊎◌, inl, inr}
+use Rattle.std.proofs.Common.{◌≡◌, ℕ, ◌+◌, false, List, Option, None, Result, Ok, Err, replicate, get_or, zero, suc, refl, sym, ap, ◌∙◌, subst, is_some, ◌⊎◌, inl, inr}
 use Rattle.std.specs.Result.{IsErrAnd}
 use Rattle.model.specs.Image.{empty_image, has_byte}
 use Rattle.model.specs.State.{Map, has_port_byte}
