@@ -9,3 +9,4 @@ mod line;
 mod tests;
 
 pub use assembly::{Assembly, assemble};
+pub use model::{AsmFault, AsmFaultKind};

@@ -133,15 +133,12 @@ fn a_tape_cut_short(rt: HostRuntime) {
 
 #[test]
 fn one_digit_changed(rt: HostRuntime) {
-    let mut places = 0u32;
     for place in 3..36usize {
+        // The line's end, and the end record's `;` and length.
+        if place >= 23 && place < 28 {
+            continue;
+        }
         let mut text = *PROGRAM_TAPE;
-        if text[place] < b'0' || place == 26 || place == 27 {
-            continue;
-        }
-        if text[place] == b';' {
-            continue;
-        }
         text[place] = if text[place] == b'7' { b'8' } else { b'7' };
         let start = if place < 25 { 0 } else { 25 };
         let read = read_tape(rt.alloc(), &text);
@@ -150,9 +147,7 @@ fn one_digit_changed(rt: HostRuntime) {
             fault(TapeFaultKind::BadChecksum, start),
             "at {place}"
         );
-        places += 1;
     }
-    assert_eq!(rt; places, 28);
 }
 
 #[test]
