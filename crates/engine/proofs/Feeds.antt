@@ -9,8 +9,8 @@ use Rattle.model.specs.declared.command.Command.TheVariants.{Bad}
 use Rattle.std.specs.Io.BufRead.{strip_last}
 use Rattle.model.specs.Session.{Session}
 use Rattle.model.specs.Commands.{command_of}
-use Rattle.model.specs.Lines.{lines_from, last_line, no_line}
-use Rattle.model.specs.Transcript.{Answer, Served, answer_to, after_text, served_on, served, transcript, transcript_so_far}
+use Rattle.model.specs.Lines.{lines_from}
+use Rattle.model.specs.Transcript.{Answer, answer_to, after_text, served_on, served}
 use Rattle.engine.specs.Feeding.{Fed, fed, fed_after, fed_on, kept_with, feed}
 
 -- the bytes told were served up to the line begun, of which `kept` is the beginning: with more bytes, and at either end,

@@ -1,9 +1,9 @@
 -- Rows of memory, one after another, and the bytes of a row.
-use Rattle.std.proofs.Common.{◌≡◌, ℕ, ◌+◌, ◌-◌, ◌*◌, ◌/◌, ◌<◌, ◌≤◌, List, [], ◌∷◌, ◌++◌, refl, sym, ap, ◌∙◌, zero, suc, min, take, drop, length, get_or, arith, length-drop, append_assoc, append-nil, length-append}
+use Rattle.std.proofs.Common.{◌≡◌, ℕ, ◌+◌, ◌-◌, ◌*◌, ◌/◌, ◌<◌, ◌≤◌, List, [], ◌∷◌, ◌++◌, refl, sym, ap, ◌∙◌, zero, suc, min, take, drop, length, get_or, arith, length-drop, append_assoc, append-nil}
 use Rattle.std.proofs.lemmas.List.{take_more, get_or-drop}
 use Rattle.std.proofs.lemmas.Grind.{flat_map-append}
 use Rattle.std.specs.List.{flat_map, range_with_len}
-use Rattle.model.specs.Text.{hex_byte, hex_word, spaced_bytes, bytes_between, memory_row, memory_rows}
+use Rattle.model.specs.Text.{hex_byte, hex_word, spaced_bytes, memory_row, memory_rows}
 
 -- ---- the bytes of a row
 

@@ -1,12 +1,11 @@
 -- What was served of an input that came in pieces.
-use Rattle.std.proofs.Common.{◌≡◌, ◌≢◌, ℕ, ◌<◌, ◌≤◌, Bool, true, false, cond, List, [], ◌∷◌, ◌++◌, Option, Some, None, IfSome, refl, sym, ap, ◌∙◌, subst, append_assoc, append-nil, take, length, arith, length-take, true≢false}
-use Rattle.std.specs.Io.KnownBytes.{Appends, Consumes, IsAtEnd}
+use Rattle.std.proofs.Common.{◌≡◌, ℕ, ◌<◌, Bool, true, false, List, [], ◌∷◌, ◌++◌, Option, Some, None, IfSome, refl, sym, ap, ◌∙◌, subst, append_assoc, append-nil, take, length, arith, length-take}
+use Rattle.std.specs.Io.KnownBytes.{Consumes}
 use Rattle.model.specs.Session.{Session}
 use Rattle.model.specs.Commands.{command_of}
 use Rattle.model.specs.Lines.{lines_from, last_line, no_line}
-use Rattle.model.specs.Written.{AppendsFront}
-use Rattle.model.specs.Transcript.{Answer, Served, answer_to, after_text, served_on, served, transcript, transcript_so_far}
-use Rattle.engine.specs.Feeding.{Fed, fed, fed_after, fed_on, kept_with, feed}
+use Rattle.model.specs.Transcript.{Answer, answer_to, after_text, served_on, served, transcript, transcript_so_far}
+use Rattle.engine.specs.Feeding.{feed}
 use Rattle.engine.proofs.Feeds.{IsServed, Feeds, feeds, command-kept}
 
 -- what holds of the bytes told and any that are left holds of all that was known

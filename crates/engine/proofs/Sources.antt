@@ -1,5 +1,5 @@
 -- A source that is served has no byte at a port address, so that only want of memory can keep its session from being made.
-use Rattle.std.proofs.Common.{◌≡◌, ℕ, ◌+◌, ◌<◌, Bool, false, true, ◌||◌, List, Option, None, Some, Result, Ok, Err, replicate, slice_get, refl, sym, ap, ◌∙◌, subst, is_some, ◌⊎◌, inl, inr}
+use Rattle.std.proofs.Common.{◌≡◌, ℕ, ◌+◌, ◌<◌, false, List, Option, None, Some, Result, Ok, Err, replicate, slice_get, refl, sym, ap, ◌∙◌, subst, is_some, ◌⊎◌, inl, inr}
 use Rattle.std.specs.Result.{IsErrAnd}
 use Rattle.std.proofs.lemmas.List.{get_or-replicate, length-replicate}
 use Rattle.std.proofs.lemmas.Option.{slice_get_within, get_or_from_slice_get}

@@ -1,8 +1,8 @@
 -- One piece after another.
-use Rattle.std.proofs.Common.{◌≡◌, ℕ, ◌+◌, ◌≤◌, List, [], ◌∷◌, ◌++◌, Option, Some, None, Result, Ok, Err, MatchResult, Bool, false, subst, refl, sym, ap, ◌∙◌, append_assoc, append-nil, take, drop, length, take-append-drop, take-add, length-drop, arith, ◌-◌}
+use Rattle.std.proofs.Common.{◌≡◌, ℕ, ◌+◌, ◌≤◌, List, [], ◌++◌, Option, Result, Ok, Err, MatchResult, Bool, false, subst, refl, sym, ap, ◌∙◌, append_assoc, append-nil, take, drop, length, take-append-drop, take-add, length-drop, arith, ◌-◌}
 use Rattle.std.proofs.lemmas.List.{take_all}
-use Rattle.std.specs.Io.KnownBytes.{Appends, Keeps}
-use Rattle.std.proofs.KnownBytes.{Appends-trans, Appends-nil, Appends-kept}
+use Rattle.std.specs.Io.KnownBytes.{Appends}
+use Rattle.std.proofs.KnownBytes.{Appends-trans, Appends-nil}
 use Rattle.model.specs.Written.{AppendsFront, Writes}
 
 -- a text of which a beginning came after another text

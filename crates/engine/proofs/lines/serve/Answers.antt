@@ -1,5 +1,5 @@
 use Rattle.std.proofs.KnownBytes.{Appends-nil, Appends-trans, Consumes-nil, Consumes-trans, Consumes-whole, Consumes-kept}
-use Rattle.std.proofs.Common.{◌≡◌, ◌∷◌, [], ◌++◌, List, ℕ, sym, ap, ◌∙◌, subst, take, length, refl, append-nil, arith, true, false, ◌<◌}
+use Rattle.std.proofs.Common.{◌≡◌, [], ◌++◌, sym, ap, subst, take, length, refl, append-nil, arith, true, false, ◌<◌}
 use Rattle.std.proofs.lemmas.Bool.{eqb-true, eqb-false}
 use Rattle.std.specs.Io.KnownBytes.{Appends}
 use Rattle.model.specs.Written.{AppendsFront}

@@ -1,7 +1,5 @@
-use Rattle.std.proofs.Common.{◌≡◌, ◌++◌, List, ℕ, take}
+use Rattle.std.proofs.Common.{List, ℕ}
 use Rattle.std.specs.Io.KnownBytes.{Appends, Consumes}
-use Rattle.model.specs.Lines.{lines_from}
-use Rattle.model.specs.Transcript.{served, after_text}
 use Rattle.engine.proofs.Feeds.{IsServed}
 use Rattle.engine.proofs.lines.serve.Given as goal
 

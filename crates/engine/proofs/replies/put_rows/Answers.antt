@@ -1,4 +1,4 @@
-use Rattle.std.proofs.Common.{◌≡◌, ◌+◌, ◌-◌, ◌/◌, ◌*◌, ◌≤◌, ◌++◌, arith, ap, sym, ◌∙◌, refl}
+use Rattle.std.proofs.Common.{◌≡◌, ◌+◌, ◌/◌, ◌*◌, ◌++◌, arith, ap, ◌∙◌, refl}
 use Rattle.std.proofs.KnownBytes.{Appends-nil, Appends-trans}
 use Rattle.engine.proofs.Writing.{front_after, front_more}
 use Rattle.engine.proofs.Rows.{rows_to, row_of, rows_none, rows_more, rows_front, rows_all, row_at}

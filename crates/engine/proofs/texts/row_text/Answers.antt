@@ -1,7 +1,7 @@
-use Rattle.std.proofs.Common.{◌≡◌, ◌+◌, ◌-◌, ◌*◌, ◌<◌, ◌≤◌, ◌++◌, ◌∷◌, [], arith, ap, sym, ◌∙◌, length, length-append, refl, inl, inr}
+use Rattle.std.proofs.Common.{◌≡◌, ◌+◌, ◌-◌, ◌<◌, ◌≤◌, ◌++◌, ◌∷◌, [], arith, ap, sym, ◌∙◌, length, length-append, refl, inl, inr}
 use Rattle.std.proofs.lemmas.Bool.{cases_lt}
-use Rattle.model.specs.Text.{hex_word, hex_byte}
-use Rattle.engine.proofs.Rows.{spaced_from, spaced_none, row_step, row_is}
+use Rattle.model.specs.Text.{hex_word}
+use Rattle.engine.proofs.Rows.{spaced_none, row_step, row_is}
 use Rattle.engine.proofs.texts.row_text.Goals as goal
 use Rattle.engine.proofs.texts.row_text.Goals.{else-loop-address-test, then-loop-address-test+else-address-last}
 

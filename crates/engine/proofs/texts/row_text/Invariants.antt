@@ -1,4 +1,4 @@
-use Rattle.std.proofs.Common.{◌≡◌, ◌≤◌, ◌<◌, ◌+◌, ◌-◌, ◌*◌, ◌++◌, ◌∷◌, [], length}
+use Rattle.std.proofs.Common.{◌≡◌, ◌<◌, ◌+◌, ◌-◌, ◌*◌, ◌++◌, ◌∷◌, length}
 use Rattle.model.specs.Text.{hex_word}
 use Rattle.engine.proofs.Rows.{spaced_from}
 use Rattle.engine.proofs.texts.row_text.Given as goal
