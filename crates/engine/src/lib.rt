@@ -9,6 +9,4 @@ mod lines;
 mod output;
 mod replies;
 mod source;
-#[cfg(test)]
-mod tests;
 mod texts;

@@ -11,6 +11,7 @@ use Rattle.model.specs.Lines.{lines_from, lines_of}
 use Rattle.model.specs.Source.{is_remark, line_fault, first_fault, source_fault}
 use Rattle.model.specs.Commands.{command_of, command_of_words, plain_command, range_command}
 use Rattle.model.specs.Text.{register_line, memory_row, memory_rows, spaced_bytes}
+use Rattle.model.specs.Transcript.{fault_line}
 use Rattle.model.specs.declared.registers.Regs.{Regs}
 use Rattle.model.specs.declared.command.Command.TheVariants as command
 use Rattle.model.specs.declared.event.EventFault.TheVariants as event_fault
@@ -112,6 +113,18 @@ unfolding command_of command_of_words plain_command
 command_upper_case = refl
 
 -- replies
+print_undocumented : fault_line (event_fault.Undocumented 0x02 0x0200) ≡ codes "! FAULT 02 AT 0200\n"
+unfolding fault_line
+print_undocumented = refl
+
+print_console_full : fault_line event_fault.ConsoleFull ≡ codes "! CONSOLE FULL\n"
+unfolding fault_line
+print_console_full = refl
+
+print_cycles_full : fault_line event_fault.CyclesFull ≡ codes "! CYCLES FULL\n"
+unfolding fault_line
+print_cycles_full = refl
+
 print_registers : register_line (with_memory [] (record no_regs { s = 0xFD; flags = record no_flags { i = true } }) 7) ≡ codes "A=00 X=00 Y=00 S=FD P=24 PC=0000 CYC=" ++ decimal 7 ++ 10 ∷ []
 unfolding register_line status
 print_registers = refl

@@ -2,4 +2,6 @@
 #![tactic(auto)]
 
 #[cfg(test)]
+mod engine_tests;
+#[cfg(test)]
 mod machine_tests;

@@ -1,10 +1,9 @@
 //! Replies as the profile's worked examples and an independent program give them, and readers and
 //! writers that tell or take little, or fail.
 
-use crate::texts::fault_text;
-use crate::{EngineFault, debug_source};
 use bus::MapSpec;
-use model::{AsmFault, AsmFaultKind, EventFault};
+use engine::{EngineFault, debug_source};
+use model::{AsmFault, AsmFaultKind};
 use std::alloc::Global;
 use std::cell::Cell;
 use std::io;
@@ -131,31 +130,21 @@ fn runs_first(rt: HostRuntime) -> Result<(), Fail> {
     Ok(())
 }
 
+/// Lines of which some are right, some empty and some bad.
+const LINES: &[u8] =
+    b"regs\n  regs  \r\nregs x\n\tregs\nRegs\nregs\r\r\nmem 01fb  01fD\nmem 0300 0200\nmem 1FB 01FD\nmem 01FG 01FD\nmem 01FB\nmem 01FB 01FD 01FF\n\n   \n\r\nregs\r";
+
+const ANSWERS: &[u8] =
+    b"A=00 X=00 Y=00 S=FD P=24 PC=0000 CYC=7\nA=00 X=00 Y=00 S=FD P=24 PC=0000 CYC=7\n? BAD COMMAND\n? BAD COMMAND\n? BAD COMMAND\n? BAD COMMAND\n01FB  00 00 00\n? BAD COMMAND\n? BAD COMMAND\n? BAD COMMAND\n? BAD COMMAND\n? BAD COMMAND\n? BAD COMMAND\n";
+
 #[test]
 fn reads_lines(rt: HostRuntime) -> Result<(), Fail> {
-    let bad = b"? BAD COMMAND\n".as_slice();
-    let none = b"".as_slice();
-    let row = b"01FB  00 00 00\n".as_slice();
-    for (line, want) in [
-        (b"regs".as_slice(), START),
-        (b"  regs  \r\n".as_slice(), START),
-        (b"regs x\n".as_slice(), bad),
-        (b"\tregs\n".as_slice(), bad),
-        (b"Regs\n".as_slice(), bad),
-        (b"regs\r".as_slice(), bad),
-        (b"regs\r\r\n".as_slice(), bad),
-        (b"mem 01fb  01fD\n".as_slice(), row),
-        (b"mem 0300 0200\n".as_slice(), bad),
-        (b"mem 1FB 01FD\n".as_slice(), bad),
-        (b"mem 01FG 01FD\n".as_slice(), bad),
-        (b"mem 01FB\n".as_slice(), bad),
-        (b"mem 01FB 01FD 01FF\n".as_slice(), bad),
-        (b"\n   \n\r\n".as_slice(), none),
-        (b"quit\nregs\n".as_slice(), none),
-    ] {
-        let told = replied(rt.alloc(), line)?;
-        assert_eq!(rt; told.as_slice(), want);
-    }
+    let told = replied(rt.alloc(), LINES)?;
+    assert_eq!(rt; told.as_slice(), ANSWERS);
+    let last = replied(rt.alloc(), b"quit\nregs")?;
+    assert_eq!(rt; last.as_slice(), b"".as_slice());
+    let unended = replied(rt.alloc(), b"regs")?;
+    assert_eq!(rt; unended.as_slice(), START);
     Ok(())
 }
 
@@ -334,21 +323,5 @@ fn refuses_a_source(rt: HostRuntime) -> Result<(), Fail> {
     assert_eq!(rt; reader.rest, COMMANDS);
     assert!(rt; writer.taken.is_empty());
     assert_eq!(rt; flushed.get(), 0);
-    Ok(())
-}
-
-#[test]
-fn names_a_refused_step(rt: HostRuntime) -> Result<(), Fail> {
-    let undocumented = EventFault::Undocumented {
-        opcode: 0x02,
-        pc: 0x0200,
-    };
-    for (fault, want) in [
-        (undocumented, b"! FAULT 02 AT 0200\n".as_slice()),
-        (EventFault::ConsoleFull, b"! CONSOLE FULL\n".as_slice()),
-        (EventFault::CyclesFull, b"! CYCLES FULL\n".as_slice()),
-    ] {
-        assert_eq!(rt; fault_text(fault).as_slice(), want);
-    }
     Ok(())
 }
