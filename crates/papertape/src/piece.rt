@@ -5,7 +5,6 @@ ghost use Rattle.model.specs.TapeText.{data_line};
 ghost use Rattle.papertape.specs.Writing.{front_bytes, first_cell, IsNext};
 
 use crate::record::write_record;
-use bus::Image;
 use std::alloc::AllocError;
 use std::marker::Model;
 
@@ -32,24 +31,25 @@ impl Model for Piece {
 }
 
 /// The byte at an address, where an address past the memory has none.
-fn byte_at(image: &Image, address: u32) -> Option<u8>
-    ensures { result ≡ first_cell (drop address image.now) }
+fn byte_at(cells: &[Option<u8>], address: u32) -> Option<u8>
+    requires { length cells.now ≡ 65536 }
+    ensures { result ≡ first_cell (drop address cells.now) }
 {
-    image.well_formed();
     if address > 65535 {
         return None;
     }
-    image.get(address as u16)
+    cells[address as usize]
 }
 
 /// Copies the bytes from an address on, up to the first address with none, and says how many they are.
-fn fill(image: &Image, address: u16, bytes: &mut [u8]) -> usize
-    requires { length bytes.old ≡ 24 }
-    ensures copied { take result bytes.new ≡ front_bytes 24 (drop address image.now) }
+fn fill(cells: &[Option<u8>], address: u16, bytes: &mut [u8]) -> usize
+    requires size { length cells.now ≡ 65536 }
+    requires room { length bytes.old ≡ 24 }
+    ensures copied { take result bytes.new ≡ front_bytes 24 (drop address cells.now) }
     ensures few { result ≤ 24 }
 {
     for i in 0..PIECE {
-        match byte_at(image, address as u32 + i as u32) {
+        match byte_at(cells, address as u32 + i as u32) {
             None => return i,
             Some(byte) => bytes[i] = byte,
         }
@@ -59,11 +59,12 @@ fn fill(image: &Image, address: u16, bytes: &mut [u8]) -> usize
 
 impl Piece {
     /// The piece that begins at an address.
-    fn at(image: &Image, address: u16) -> Piece
-        ensures { result ≡ (address, front_bytes 24 (drop address image.now)) }
+    fn at(cells: &[Option<u8>], address: u16) -> Piece
+        requires { length cells.now ≡ 65536 }
+        ensures { result ≡ (address, front_bytes 24 (drop address cells.now)) }
     {
         let mut bytes = [0u8; PIECE];
-        let count = fill(image, address, &mut bytes);
+        let count = fill(cells, address, &mut bytes);
         Piece {
             address,
             bytes,
@@ -72,14 +73,14 @@ impl Piece {
     }
 
     /// The first piece from an address on, if there is one.
-    pub fn next(image: &Image, from: u32) -> Option<Piece>
-        requires { from ≤ 65536 }
-        ensures { IsNext image.now from result }
+    pub fn next(cells: &[Option<u8>], from: u32) -> Option<Piece>
+        requires size { length cells.now ≡ 65536 }
+        requires inside { from ≤ 65536 }
+        ensures { IsNext cells.now from result }
     {
-        image.well_formed();
         for address in from..65536 {
-            if byte_at(image, address).is_some() {
-                return Some(Piece::at(image, address as u16));
+            if byte_at(cells, address).is_some() {
+                return Some(Piece::at(cells, address as u16));
             }
         }
         None

@@ -21,11 +21,11 @@ pub fn write_tape(alloc: Global, image: &Image) -> Result<Vec<u8>, TapeFault>
     // Nothing else is refused.
     ensures refused { IfErr result (λ f. f ≡ out_of_memory) }
 {
-    image.well_formed();
+    let cells = image.cells();
     let mut out = Vec::new(alloc);
     let mut from = 0u32;
     let mut count = 0u32;
-    while let Some(piece) = Piece::next(image, from) {
+    while let Some(piece) = Piece::next(cells, from) {
         piece.write(&mut out)?;
         from = piece.end();
         count += 1;
