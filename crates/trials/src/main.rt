@@ -6,6 +6,7 @@ use assembler::AsmFaultKind;
 use bus::{Bus, BusFault, Image, MapSpec};
 use cpu::Machine;
 use debugger::{Session, SessionFault};
+use papertape::{TapeFault, TapeFaultKind, read_tape, through_tape, write_tape};
 use std::alloc::Global;
 use std::process::ExitCode;
 use std::{env, fmt, io};
@@ -16,6 +17,7 @@ enum Fault {
     Bus(BusFault),
     Session(SessionFault),
     Source(AsmFaultKind),
+    Tape(TapeFaultKind),
     NoSuchCall,
 }
 
@@ -26,6 +28,7 @@ impl Fault {
             Fault::Bus(BusFault::OutOfMemory)
                 | Fault::Session(SessionFault::OutOfMemory)
                 | Fault::Source(AsmFaultKind::OutOfMemory)
+                | Fault::Tape(TapeFaultKind::OutOfMemory)
         )
     }
 }
@@ -36,6 +39,7 @@ impl fmt::Display for Fault {
             Fault::Bus(fault) => write!(f, "{fault}"),
             Fault::Session(fault) => write!(f, "{fault}"),
             Fault::Source(fault) => write!(f, "{fault}"),
+            Fault::Tape(fault) => write!(f, "{fault}"),
             Fault::NoSuchCall => f.write_str("NoSuchCall"),
         }
     }
@@ -50,6 +54,12 @@ impl From<BusFault> for Fault {
 impl From<SessionFault> for Fault {
     fn from(fault: SessionFault) -> Fault {
         Fault::Session(fault)
+    }
+}
+
+impl From<TapeFault> for Fault {
+    fn from(fault: TapeFault) -> Fault {
+        Fault::Tape(fault.kind)
     }
 }
 
@@ -74,6 +84,15 @@ fn make(alloc: Global, word: &str) -> Result<(), Fault> {
             assembler::assemble(alloc, b"; nothing\n\n", &map).map_err(|fault| Fault::Source(
                 fault.kind,
             ))?;
+        }
+        "read_tape" => {
+            read_tape(alloc, b";0000000000")?;
+        }
+        "write_tape" => {
+            write_tape(alloc, &Image::new(alloc)?)?;
+        }
+        "through_tape" => {
+            through_tape(alloc, &Image::new(alloc)?)?;
         }
         _ => return Err(Fault::NoSuchCall),
     }
