@@ -24,6 +24,6 @@ returns-clause-text c =
 pub returns-clause-denotes : goal.returns-clause-denotes
 returns-clause-denotes c =
     let text =
-        text_done c.cells-cells.result.now c.loop-piece.out.items c.write_record.new.out.items c.loop-piece.from c.loop-piece.count c.in_default.ensures c.loop-piece.invariant.text c.loop-piece.invariant.count c.in_ok-write_record.ensures
-        ∙ ap tape_text c.cells-cells.ensures.same in
+    text_done c.cells-cells.result.now c.loop-piece.out.items c.write_record.new.out.items c.loop-piece.from c.loop-piece.count c.in_default.ensures c.loop-piece.invariant.text c.loop-piece.invariant.count c.in_ok-write_record.ensures
+    ∙ ap tape_text c.cells-cells.ensures.same in
     subst (λ t. Denotes t c.args.image.now) (sym text) (written_denotes c.args.image.now c.cells-cells.ensures.image)
