@@ -1,10 +1,10 @@
 -- Worked examples, computed from the definitions. A list that ends early stands for memory: what is past its end reads as 0.
-use Rattle.std.proofs.Common.{◌≡◌, ℕ, true, false, List, [], ◌∷◌, ◌++◌, refl, codes}
-use Rattle.std.specs.Prelude.{decimal, Ok, Err, None, Some}
+use Rattle.std.proofs.Common.{◌≡◌, ℕ, Bool, true, false, List, [], ◌∷◌, ◌++◌, refl, codes}
+use Rattle.std.specs.Prelude.{◌==◌, ◌||◌, ◌&&◌, not, decimal, Ok, Err, None, Some}
 use Rattle.model.specs.State.{State, is_map, is_port, is_rom, overflows, after_write}
 use Rattle.model.specs.Operand.{place_of, word_at}
 use Rattle.model.specs.Effect.{operation_of, loaded, load, operand, after_operand, moved, store, store_value, performed, status}
-use Rattle.model.specs.Table.{row_at, find_row, table}
+use Rattle.model.specs.Table.{Entry, row_at, find_row, table}
 use Rattle.model.specs.Step.{step, attempted, executed, fetched, stores}
 use Rattle.model.specs.Event.{no_regs, no_flags}
 use Rattle.model.specs.Lines.{lines_from, lines_of}
@@ -16,6 +16,23 @@ use Rattle.model.specs.declared.registers.Regs.{Regs}
 use Rattle.model.specs.declared.command.Command.TheVariants as command
 use Rattle.model.specs.declared.event.EventFault.TheVariants as event_fault
 use Rattle.model.specs.declared.source_fault.AsmFaultKind.TheVariants as kind
+
+-- ---- the opcode table
+
+abbrev is_in : ℕ → List Entry → Bool
+is_in opcode [] = false
+is_in opcode (e ∷ es) = (opcode == e.0) || is_in opcode es
+
+-- whether no opcode stands twice
+abbrev opcodes_once : List Entry → Bool
+opcodes_once [] = true
+opcodes_once (e ∷ es) = not (is_in e.0 es) && opcodes_once es
+
+table_once : opcodes_once table ≡ true
+unfolding table
+table_once = refl
+
+-- ---- steps
 
 abbrev with_memory : List ℕ → Regs → ℕ → State
 with_memory memory regs cycles = record {
