@@ -4,7 +4,8 @@ ghost use Rattle.std.specs.Prelude.{◌≡◌, ◌==◌, ◌<◌, ◌∷◌, len
 ghost use Rattle.std.specs.List.{list_all};
 ghost use Rattle.std.specs.Io.BufRead.{strip_last};
 ghost use Rattle.model.specs.Lines.{lines_of};
-ghost use Rattle.model.specs.Source.{is_blank, is_source_byte, is_remark, line_fault};
+ghost use Rattle.model.specs.Source.{is_remark, line_fault};
+ghost use Rattle.model.specs.Token.{is_blank, is_source_byte};
 
 use model::AsmFaultKind;
 

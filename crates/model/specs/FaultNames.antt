@@ -4,6 +4,10 @@ use Rattle.model.specs.declared.bus_fault.BusFault.{BusFault}
 use Rattle.model.specs.declared.bus_fault.BusFault.TheVariants as bus_fault
 use Rattle.model.specs.declared.event.EventFault.{EventFault}
 use Rattle.model.specs.declared.event.EventFault.TheVariants as event_fault
+use Rattle.model.specs.declared.expression.ExprFault.{ExprFault}
+use Rattle.model.specs.declared.expression.ExprFault.TheVariants as expression_fault
+use Rattle.model.specs.declared.expression.LineFault.{LineFault}
+use Rattle.model.specs.declared.expression.LineFault.TheVariants as line_fault
 use Rattle.model.specs.declared.session_fault.SessionFault.{SessionFault}
 use Rattle.model.specs.declared.session_fault.SessionFault.TheVariants as session_fault
 use Rattle.model.specs.declared.source_fault.AsmFaultKind.{AsmFaultKind}
@@ -70,3 +74,21 @@ source_fault_name source_fault.LineTooLong = codes "LineTooLong"
 source_fault_name source_fault.NotAscii = codes "NotAscii"
 source_fault_name source_fault.Syntax = codes "Syntax"
 source_fault_name source_fault.OutOfMemory = codes "OutOfMemory"
+
+abbrev pub line_fault_number : LineFault → ℕ
+line_fault_number line_fault.Syntax = 1
+line_fault_number line_fault.OutOfMemory = 2
+
+abbrev pub line_fault_name : LineFault → List ℕ
+line_fault_name line_fault.Syntax = codes "Syntax"
+line_fault_name line_fault.OutOfMemory = codes "OutOfMemory"
+
+abbrev pub expression_fault_number : ExprFault → ℕ
+expression_fault_number expression_fault.UnknownName = 1
+expression_fault_number expression_fault.Range = 2
+expression_fault_number expression_fault.DivideByZero = 3
+
+abbrev pub expression_fault_name : ExprFault → List ℕ
+expression_fault_name expression_fault.UnknownName = codes "UnknownName"
+expression_fault_name expression_fault.Range = codes "Range"
+expression_fault_name expression_fault.DivideByZero = codes "DivideByZero"

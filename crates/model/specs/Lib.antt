@@ -9,6 +9,10 @@ pub mod Event
 pub mod Undo
 pub mod Session
 pub mod Lines
+pub mod Token
+pub mod Expression
+pub mod Reading
+pub mod Value
 pub mod Source
 pub mod Commands
 pub mod Text

@@ -1,19 +1,12 @@
 -- What a source denotes, as far as sources are served: lines that are empty, blank or a comment. Source: profile.
-use Rattle.std.specs.Prelude.{◌≡◌, ℕ, ◌+◌, Bool, true, ◌||◌, ◌&&◌, ◌==◌, nat_lt, nat_le, not, if◌then◌else◌, List, [], ◌∷◌, length, Option, Some, None}
+use Rattle.std.specs.Prelude.{◌≡◌, ℕ, ◌+◌, Bool, true, ◌==◌, nat_lt, not, if◌then◌else◌, List, [], ◌∷◌, length, Option, Some, None}
 use Rattle.std.specs.List.{list_all}
 use Rattle.model.specs.Lines.{lines_of}
+use Rattle.model.specs.Token.{is_blank, is_source_byte}
 use Rattle.model.specs.Image.{empty_image}
 use Rattle.model.specs.declared.source_fault.AsmFault.{AsmFault}
 use Rattle.model.specs.declared.source_fault.AsmFaultKind.{AsmFaultKind}
 use Rattle.model.specs.declared.source_fault.AsmFaultKind.TheVariants.{TooLarge, LineTooLong, NotAscii, Syntax}
-
--- A space or a tab.
-abbrev pub is_blank : ℕ → Bool
-is_blank b = (b == 32) || (b == 9)
-
--- A byte that may stand in a line: $20..$7E or a tab.
-abbrev pub is_source_byte : ℕ → Bool
-is_source_byte b = (nat_le 32 b && nat_le b 126) || (b == 9)
 
 -- A line that is empty, blank or a comment, which runs from its `;` to the line's end.
 unfoldable pub is_remark : List ℕ → Bool

@@ -5,6 +5,7 @@
 pub use bus_fault::BusFault;
 pub use command::Command;
 pub use event::{Event, EventFault};
+pub use expression::{ExprFault, LineFault, Operator, TokenKind};
 pub use instruction::{InherentOp, LoadOp, Mnemonic, Mode, Operation, Place, Row, StoreOp};
 pub use registers::{Flags, Regs};
 pub use session_fault::SessionFault;
@@ -15,6 +16,7 @@ pub use undo::{Change, Undo};
 pub mod bus_fault;
 pub mod command;
 pub mod event;
+pub mod expression;
 pub mod instruction;
 pub mod registers;
 pub mod session_fault;

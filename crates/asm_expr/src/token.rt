@@ -1,0 +1,13 @@
+//! A token of a line.
+
+use model::TokenKind;
+
+/// A token, whose text is a slice of its line.
+#[derive(Clone, Copy, Debug)]
+pub struct Token<'a> {
+    pub kind: TokenKind,
+    /// Where in the line it starts, counted from 0.
+    pub start: usize,
+    /// Its bytes, quotes and marks among them.
+    pub text: &'a [u8],
+}

@@ -1,0 +1,141 @@
+-- The tokens of a source line. Source: profile.
+use Rattle.std.specs.Prelude.{ℕ, zero, suc, ◌+◌, ◌-◌, Bool, false, not, ◌||◌, ◌&&◌, ◌==◌, nat_le, if◌then◌else◌, List, [], ◌∷◌, ◌++◌, length, drop, Option, Some, None}
+use Rattle.std.specs.List.{list_all}
+use Rattle.std.specs.Option.{option_map}
+use Rattle.model.specs.declared.expression.TokenKind.{TokenKind}
+use Rattle.model.specs.declared.expression.TokenKind.TheVariants.{Word, Directive, Number, Char, Str, Symbol}
+
+-- A token: what it is, where in its line it starts, counted from 0, and its bytes.
+pub record Lexeme : Type 0 where
+  pub kind : TokenKind
+  pub start : ℕ
+  pub text : List ℕ
+
+-- ---- bytes
+
+-- A space or a tab.
+abbrev pub is_blank : ℕ → Bool
+is_blank b = (b == 32) || (b == 9)
+
+-- $20..$7E.
+abbrev pub is_printable : ℕ → Bool
+is_printable b = nat_le 32 b && nat_le b 126
+
+-- A byte that may stand in a line: $20..$7E or a tab.
+abbrev pub is_source_byte : ℕ → Bool
+is_source_byte b = is_printable b || (b == 9)
+
+abbrev pub is_digit : ℕ → Bool
+is_digit b = nat_le 48 b && nat_le b 57
+
+abbrev pub is_letter : ℕ → Bool
+is_letter b = (nat_le 65 b && nat_le b 90) || (nat_le 97 b && nat_le b 122)
+
+-- A letter, a digit or `_`.
+abbrev pub is_word_byte : ℕ → Bool
+is_word_byte b = is_letter b || is_digit b || (b == 95)
+
+-- A hex digit, in either letter case.
+abbrev pub is_hex_byte : ℕ → Bool
+is_hex_byte b = is_digit b || (nat_le 65 b && nat_le b 70) || (nat_le 97 b && nat_le b 102)
+
+abbrev pub is_binary_byte : ℕ → Bool
+is_binary_byte b = (b == 48) || (b == 49)
+
+-- A byte of a string: $20..$7E other than `"`.
+abbrev pub is_string_byte : ℕ → Bool
+is_string_byte b = is_printable b && not (b == 34)
+
+-- : * = , # ! ( ) [ ] < > + - / & | ^
+abbrev pub is_symbol_byte : ℕ → Bool
+is_symbol_byte b =
+    (b == 58) || (b == 42) || (b == 61) || (b == 44) || (b == 35) || (b == 33) || (b == 40) || (b == 41) || (b == 91) || (b == 93)
+    || (b == 60) || (b == 62) || (b == 43) || (b == 45) || (b == 47) || (b == 38) || (b == 124) || (b == 94)
+
+-- ---- one token
+
+-- The longest beginning whose bytes all pass.
+abbrev pub run_of : (ℕ → Bool) → List ℕ → List ℕ
+run_of passes [] = []
+run_of passes (b ∷ bytes) = if passes b then b ∷ run_of passes bytes else []
+
+-- Whether the first byte passes, if there is one.
+abbrev pub begins : (ℕ → Bool) → List ℕ → Bool
+begins passes [] = false
+begins passes (b ∷ bytes) = passes b
+
+-- What a token is, and its bytes.
+abbrev pub Found : Type 0
+Found = Option (TokenKind × List ℕ)
+
+-- A word goes as far as it can, and has at most 31 bytes.
+abbrev pub word_at : List ℕ → Found
+word_at bytes =
+    let text = run_of is_word_byte bytes in
+    if nat_le (length text) 31 then Some (Word, text) else None
+
+-- Digits behind a mark: at least one, and no letter, digit or `_` follows them.
+abbrev pub number_at : List ℕ → (ℕ → Bool) → List ℕ → Found
+number_at mark passes bytes =
+    let digits = run_of passes bytes in
+    if length digits == 0 then None
+    else if begins is_word_byte (drop (length digits) bytes) then None
+    else Some (Number, mark ++ digits)
+
+-- The letters behind a `.`, as many as stand there.
+abbrev pub directive_at : List ℕ → Found
+directive_at bytes =
+    let letters = run_of is_letter bytes in
+    if length letters == 0 then None else Some (Directive, 46 ∷ letters)
+
+-- One byte $20..$7E and a `'`, behind a `'`.
+abbrev pub char_at : List ℕ → Found
+char_at [] = None
+char_at (b ∷ []) = None
+char_at (b ∷ c ∷ bytes) = if is_printable b && (c == 39) then Some (Char, 39 ∷ b ∷ 39 ∷ []) else None
+
+-- One or more bytes $20..$7E other than `"`, and a `"`, behind a `"`.
+abbrev pub string_at : List ℕ → Found
+string_at bytes =
+    let inside = run_of is_string_byte bytes in
+    if length inside == 0 then None
+    else if begins (λ b. b == 34) (drop (length inside) bytes) then Some (Str, 34 ∷ inside ++ 34 ∷ [])
+    else None
+
+-- The token with which some bytes begin, if they begin with one.
+unfoldable pub token_at : List ℕ → Found
+token_at [] = None
+token_at (b ∷ bytes) =
+    if is_letter b then word_at (b ∷ bytes)
+    else if is_digit b then number_at [] is_digit (b ∷ bytes)
+    else if b == 36 then number_at (36 ∷ []) is_hex_byte bytes
+    else if b == 37 then number_at (37 ∷ []) is_binary_byte bytes
+    else if b == 46 then directive_at bytes
+    else if b == 39 then char_at bytes
+    else if b == 34 then string_at bytes
+    else if is_symbol_byte b then Some (Symbol, b ∷ [])
+    else None
+
+-- ---- all tokens
+
+abbrev pub Tokens : Type 0
+Tokens = Option (List Lexeme)
+
+-- A token that was found, before the tokens behind it; none of them where there is none.
+abbrev pub found_before : ℕ → (ℕ → Tokens) → Found → Tokens
+found_before start behind None = None
+found_before start behind (Some found) = option_map (λ ts. record { kind = found.0; start = start; text = found.1 } ∷ ts) (behind (length found.1 - 1))
+
+-- The tokens of some bytes of a line, from a place on; so many of the bytes still belong to the token before.
+-- Blanks may stand between tokens, and outside a character or a string `;` begins a comment, which has no tokens.
+unfoldable pub tokens_from : ℕ → ℕ → List ℕ → Tokens
+tokens_from place covered [] = Some []
+tokens_from place (suc covered) (b ∷ bytes) = tokens_from (place + 1) covered bytes
+tokens_from place zero (b ∷ bytes) =
+    if is_blank b then tokens_from (place + 1) 0 bytes
+    else if b == 59 then Some []
+    else found_before place (λ rest. tokens_from (place + 1) rest bytes) (token_at (b ∷ bytes))
+
+-- The tokens of a line, in order; none where a byte may not stand in a source, in a comment too.
+unfoldable pub tokens_of : List ℕ → Tokens
+tokens_of line = if list_all is_source_byte line then tokens_from 0 0 line else None

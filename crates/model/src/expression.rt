@@ -1,0 +1,113 @@
+//! The parts of tokens and expressions, and why there are none.
+
+ghost use Rattle.std.specs.Prelude.{◌≡◌};
+ghost use Rattle.model.specs.FaultNames.{expression_fault_name, expression_fault_number, line_fault_name, line_fault_number};
+
+use thiserror::Error;
+
+/// What a token is (profile).
+#[derive(Clone, Copy, Debug, PartialEq, Eq)]
+pub enum TokenKind {
+    /// A letter and letters, digits or `_`: at most 31 bytes.
+    Word,
+    /// A `.` and letters.
+    Directive,
+    /// Decimal digits, or `$` and hex digits, or `%` and binary digits.
+    Number,
+    /// One byte between two `'`.
+    Char,
+    /// One or more bytes between two `"`.
+    Str,
+    /// One of `: * = , # ! ( ) [ ] < > + - / & | ^`.
+    Symbol,
+}
+
+/// The operators between two operands (profile).
+#[derive(Clone, Copy, Debug, PartialEq, Eq)]
+pub enum Operator {
+    /// `+`
+    Add,
+    /// `-`
+    Subtract,
+    /// `*`
+    Multiply,
+    /// `/`, cut toward zero
+    Divide,
+    /// `&`
+    And,
+    /// `|`
+    Or,
+    /// `^`
+    ExclusiveOr,
+}
+
+/// Why a line has no tokens, or tokens no expression (profile).
+#[derive(Clone, Copy, Debug, PartialEq, Eq, Error)]
+pub enum LineFault {
+    /// The bytes are no list of tokens, or no beginning of the tokens is an expression.
+    #[error("Syntax 1")]
+    Syntax,
+    /// A request for memory was refused.
+    #[error("OutOfMemory 2")]
+    OutOfMemory,
+}
+
+impl LineFault {
+    /// The fault's number.
+    pub fn number(&self) -> u8
+        ensures { result ≡ line_fault_number self.now }
+    {
+        match self {
+            LineFault::Syntax => 1,
+            LineFault::OutOfMemory => 2,
+        }
+    }
+
+    /// The fault's name.
+    pub fn name(&self) -> &'static str
+        ensures { result.now ≡ line_fault_name self.now }
+    {
+        match self {
+            LineFault::Syntax => "Syntax",
+            LineFault::OutOfMemory => "OutOfMemory",
+        }
+    }
+}
+
+/// Why an expression has no value (profile).
+#[derive(Clone, Copy, Debug, PartialEq, Eq, Error)]
+pub enum ExprFault {
+    /// A name in it has no number. This comes before the others.
+    #[error("UnknownName 1")]
+    UnknownName,
+    /// A literal or a result is outside -2^31..2^31-1, or an operand of `& | ^` outside 0..65535.
+    #[error("Range 2")]
+    Range,
+    /// A division by zero.
+    #[error("DivideByZero 3")]
+    DivideByZero,
+}
+
+impl ExprFault {
+    /// The fault's number.
+    pub fn number(&self) -> u8
+        ensures { result ≡ expression_fault_number self.now }
+    {
+        match self {
+            ExprFault::UnknownName => 1,
+            ExprFault::Range => 2,
+            ExprFault::DivideByZero => 3,
+        }
+    }
+
+    /// The fault's name.
+    pub fn name(&self) -> &'static str
+        ensures { result.now ≡ expression_fault_name self.now }
+    {
+        match self {
+            ExprFault::UnknownName => "UnknownName",
+            ExprFault::Range => "Range",
+            ExprFault::DivideByZero => "DivideByZero",
+        }
+    }
+}
