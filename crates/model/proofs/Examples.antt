@@ -1,9 +1,10 @@
 -- Worked examples, computed from the definitions. A list that ends early stands for memory: what is past its end reads as 0.
-use Rattle.std.proofs.Common.{◌≡◌, ℕ, Bool, true, false, List, [], ◌∷◌, ◌++◌, refl, codes}
+use Rattle.std.proofs.Common.{◌≡◌, ℕ, Bool, true, false, List, [], ◌∷◌, ◌++◌, length, refl, codes}
 use Rattle.std.specs.Prelude.{◌==◌, ◌||◌, ◌&&◌, not, decimal, Ok, Err, None, Some}
-use Rattle.model.specs.State.{State, is_map, is_port, is_rom, overflows, after_write}
+use Rattle.model.specs.State.{State, is_map, is_port, is_rom, overflows, byte_read, after_read, after_write}
 use Rattle.model.specs.Operand.{place_of, word_at}
-use Rattle.model.specs.Effect.{operation_of, loaded, load, operand, after_operand, moved, store, store_value, performed, status}
+use Rattle.model.specs.Arithmetic.{adc, sbc}
+use Rattle.model.specs.Effect.{operation_of, loaded, load, operand, after_operand, moved, store, store_value, performed, status, flags_of_byte}
 use Rattle.model.specs.Table.{Entry, row_at, find_row, table}
 use Rattle.model.specs.Step.{step, attempted, executed, fetched, stores}
 use Rattle.model.specs.Event.{no_regs, no_flags}
@@ -13,11 +14,19 @@ use Rattle.model.specs.Commands.{command_of, command_of_words, plain_command, ra
 use Rattle.model.specs.Text.{register_line, memory_row, memory_rows, spaced_bytes}
 use Rattle.model.specs.Transcript.{fault_line}
 use Rattle.model.specs.declared.registers.Regs.{Regs}
+use Rattle.model.specs.declared.instruction.Row.{Row}
+use Rattle.model.specs.contracts.instruction.Mnemonic as mnemonic
+use Rattle.model.specs.contracts.instruction.Mode as mode
+use denote.Enum.Bare.{sameb}
 use Rattle.model.specs.declared.command.Command.TheVariants as command
 use Rattle.model.specs.declared.event.EventFault.TheVariants as event_fault
 use Rattle.model.specs.declared.source_fault.AsmFaultKind.TheVariants as kind
 
 -- ---- the opcode table
+
+table_lines : length table ≡ 151
+unfolding table
+table_lines = refl
 
 abbrev is_in : ℕ → List Entry → Bool
 is_in opcode [] = false
@@ -31,6 +40,60 @@ opcodes_once (e ∷ es) = not (is_in e.0 es) && opcodes_once es
 table_once : opcodes_once table ≡ true
 unfolding table
 table_once = refl
+
+abbrev same_pair : Row → Row → Bool
+same_pair r s = sameb mnemonic.the_type r.mnemonic s.mnemonic && sameb mode.the_type r.mode s.mode
+
+abbrev has_pair : Row → List Entry → Bool
+has_pair r [] = false
+has_pair r (e ∷ es) = same_pair r e.1 || has_pair r es
+
+-- whether no pair of mnemonic and mode stands twice
+abbrev pairs_once : List Entry → Bool
+pairs_once [] = true
+pairs_once (e ∷ es) = not (has_pair e.1 es) && pairs_once es
+
+table_pairs_once : pairs_once table ≡ true
+unfolding table
+table_pairs_once = refl
+
+-- ---- arithmetic
+
+-- decimal 99 + 1 is 00 and a carry; N and Z are not those of 00
+decimal_carry : adc 0x99 0x01 false true ≡ record { value = 0; n = true; v = false; z = false; c = true }
+unfolding adc
+decimal_carry = refl
+
+decimal_overflow : adc 0x79 0x00 true true ≡ record { value = 0x80; n = true; v = true; z = false; c = false }
+unfolding adc
+decimal_overflow = refl
+
+-- decimal 0 - 1 is 99 and a borrow
+decimal_borrow : sbc 0x00 0x01 true true ≡ record { value = 0x99; n = true; v = false; z = false; c = false }
+unfolding sbc
+decimal_borrow = refl
+
+-- a digit above 9
+decimal_invalid : adc 0x0F 0x01 false true ≡ record { value = 0x16; n = false; v = false; z = false; c = false }
+unfolding adc
+decimal_invalid = refl
+
+binary_overflow : adc 0x7F 0x01 false false ≡ record { value = 0x80; n = true; v = true; z = false; c = false }
+unfolding adc
+binary_overflow = refl
+
+binary_borrow : sbc 0x80 0x01 true false ≡ record { value = 0x7F; n = false; v = true; z = false; c = true }
+unfolding sbc
+binary_borrow = refl
+
+-- the flags of a byte, and the byte of flags
+status_byte : status true (flags_of_byte 0xCF) ≡ 0xFF
+unfolding status flags_of_byte
+status_byte = refl
+
+status_ignored : flags_of_byte 0x30 ≡ no_flags
+unfolding flags_of_byte
+status_ignored = refl
 
 -- ---- steps
 
@@ -62,6 +125,21 @@ store_absolute = refl
 no_operation : step (with_memory (0xEA ∷ []) no_regs 7) ≡ Ok (with_memory (0xEA ∷ []) (record no_regs { pc = 1 }) 9)
 unfolding step attempted executed fetched stores performed moved place_of operation_of row_at find_row table
 no_operation = refl
+
+abbrev with_x : ℕ → Regs
+with_x x = record no_regs { x = x }
+
+-- LDA $FF,X with X = 2 stays in the zero page: it reads $0001, in 4 cycles
+zero_page_wraps : step (with_memory (0xB5 ∷ 0xFF ∷ []) (with_x 2) 7)
+    ≡ Ok (with_memory (0xB5 ∷ 0xFF ∷ []) (record (with_x 2) { a = 0xFF; pc = 2; flags = record no_flags { n = true } }) 11)
+unfolding step attempted executed fetched stores performed load loaded operand after_operand place_of operation_of row_at find_row table is_port byte_read after_read
+zero_page_wraps = refl
+
+-- LDA $12FF,X with X = 1 leaves the page: 5 cycles
+page_left : step (with_memory (0xBD ∷ 0xFF ∷ 0x12 ∷ []) (with_x 1) 7)
+    ≡ Ok (with_memory (0xBD ∷ 0xFF ∷ 0x12 ∷ []) (record (with_x 1) { pc = 3; flags = record no_flags { z = true } }) 12)
+unfolding step attempted executed fetched stores performed load loaded operand after_operand place_of word_at operation_of row_at find_row table is_port byte_read after_read
+page_left = refl
 
 -- an opcode without a row
 undocumented : step (with_memory (0x02 ∷ []) no_regs 7) ≡ Err (event_fault.Undocumented 2 0)

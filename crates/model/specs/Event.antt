@@ -1,17 +1,53 @@
 -- Events, and the state in which a machine starts.
-use Rattle.std.specs.Prelude.{ℕ, ◌+◌, true, false, List, Option, Result}
-use Rattle.model.specs.State.{Map, State, loaded_bus}
+use Rattle.std.specs.Prelude.{ℕ, ◌+◌, Bool, true, false, ◌||◌, ◌==◌, nat_lt, if◌then◌else◌, List, [], ◌∷◌, length, take, Option, Result, Ok, Err}
+use Rattle.model.specs.State.{Map, Bus, State, is_port, stored, loaded_bus}
 use Rattle.model.specs.Operand.{word_at}
+use Rattle.model.specs.Effect.{flags_of_byte}
 use Rattle.model.specs.Step.{step}
 use Rattle.model.specs.declared.registers.Regs.{Regs}
 use Rattle.model.specs.declared.registers.Flags.{Flags}
+use Rattle.model.specs.declared.event.Setting.{Setting}
+use Rattle.model.specs.declared.event.Setting.TheVariants.{A, X, Y, S, P, Pc}
 use Rattle.model.specs.declared.event.Event.{Event}
-use Rattle.model.specs.declared.event.Event.TheVariants.{Step}
+use Rattle.model.specs.declared.event.Event.TheVariants.{Step, Set, Patch}
 use Rattle.model.specs.declared.event.EventFault.{EventFault}
+use Rattle.model.specs.declared.event.EventFault.TheVariants.{PastEnd, PortAddress, BadLength}
+
+-- A register set. P is read as PLP reads it. Source: profile.
+unfoldable pub set_to : Setting → Regs → Regs
+set_to (A value) regs = record regs { a = value }
+set_to (X value) regs = record regs { x = value }
+set_to (Y value) regs = record regs { y = value }
+set_to (S value) regs = record regs { s = value }
+set_to (P value) regs = record regs { flags = flags_of_byte value }
+set_to (Pc value) regs = record regs { pc = value }
+
+-- Whether one of some bytes from an address on would stand at the port.
+abbrev pub meets_port : Map → ℕ → List ℕ → Bool
+meets_port map address [] = false
+meets_port map address (byte ∷ bytes) = is_port map address || meets_port map (address + 1) bytes
+
+-- Bytes put into memory from an address on, one after another.
+abbrev pub patched : ℕ → List ℕ → Bus → Bus
+patched address [] bus = bus
+patched address (byte ∷ bytes) bus = patched (address + 1) bytes (stored bus address byte)
+
+-- A patch is the first of these that applies: refused with BadLength unless it has 1 to 3 bytes; refused with PastEnd where it would
+-- reach past address 65535; refused with PortAddress where it would change a byte at the port; its bytes in memory, in ROM too.
+-- Source: profile.
+unfoldable pub patch_of : ℕ → List ℕ → State → Result State EventFault
+patch_of address bytes state =
+    if (length bytes == 0) || nat_lt 3 (length bytes) then Err BadLength
+    else if nat_lt 65536 (address + length bytes) then Err PastEnd
+    else if meets_port state.bus.map address bytes then Err PortAddress
+    else Ok (record state { bus = patched address bytes state.bus })
 
 -- The next state, or the fault with which the event is refused; a refused event leaves the state as it was.
+-- Of a patch's three bytes the first `count` are taken. A register set is never refused. Source: profile.
 unfoldable pub event_of : State → Event → Result State EventFault
 event_of state Step = step state
+event_of state (Set setting) = Ok (record state { regs = set_to setting state.regs })
+event_of state (Patch address bytes count) = if nat_lt 3 count then Err BadLength else patch_of address (take count bytes) state
 
 -- All flags clear, all registers 0.
 abbrev pub no_flags : Flags

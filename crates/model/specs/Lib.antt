@@ -3,6 +3,7 @@ pub mod Image
 pub mod State
 pub mod Table
 pub mod Operand
+pub mod Arithmetic
 pub mod Effect
 pub mod Step
 pub mod Event

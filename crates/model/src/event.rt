@@ -63,9 +63,28 @@ impl EventFault {
     }
 }
 
+/// A register and its new value. Of P only the six flags are taken: its bits 5 and 4 are ignored.
+#[derive(Clone, Copy, Debug, PartialEq, Eq)]
+pub enum Setting {
+    A(u8),
+    X(u8),
+    Y(u8),
+    S(u8),
+    P(u8),
+    Pc(u16),
+}
+
 /// What may happen to a machine between two states.
 #[derive(Clone, Copy, Debug, PartialEq, Eq)]
 pub enum Event {
     /// One step: an interrupt entry or an instruction.
     Step,
+    /// A register set.
+    Set(Setting),
+    /// The first `count` of the bytes, 1 to 3, put into memory from an address on, into ROM too.
+    Patch {
+        address: u16,
+        bytes: [u8; 3],
+        count: u8,
+    },
 }

@@ -1,20 +1,95 @@
 //! What the opcode table says of an instruction.
 
-/// The mnemonics that are served so far.
+/// The 56 mnemonics of the documented instructions.
 #[derive(Clone, Copy, Debug, PartialEq, Eq)]
 pub enum Mnemonic {
+    Adc,
+    And,
+    Asl,
+    Bcc,
+    Bcs,
+    Beq,
+    Bit,
+    Bmi,
+    Bne,
+    Bpl,
     Brk,
+    Bvc,
+    Bvs,
+    Clc,
+    Cld,
+    Cli,
+    Clv,
+    Cmp,
+    Cpx,
+    Cpy,
+    Dec,
+    Dex,
+    Dey,
+    Eor,
+    Inc,
+    Inx,
+    Iny,
+    Jmp,
+    Jsr,
     Lda,
+    Ldx,
+    Ldy,
+    Lsr,
     Nop,
+    Ora,
+    Pha,
+    Php,
+    Pla,
+    Plp,
+    Rol,
+    Ror,
+    Rti,
+    Rts,
+    Sbc,
+    Sec,
+    Sed,
+    Sei,
     Sta,
+    Stx,
+    Sty,
+    Tax,
+    Tay,
+    Tsx,
+    Txa,
+    Txs,
+    Tya,
 }
 
-/// The addressing modes that are served so far: implied, immediate, absolute.
+/// The 13 addressing modes.
 #[derive(Clone, Copy, Debug, PartialEq, Eq)]
 pub enum Mode {
+    /// Implied: no operand.
     Imp,
+    /// The accumulator.
+    Acc,
+    /// Immediate: the byte after the opcode is the operand.
     Imm,
+    /// Zero page.
+    Zp,
+    /// Zero page, indexed by X.
+    ZpX,
+    /// Zero page, indexed by Y.
+    ZpY,
+    /// Absolute.
     Abs,
+    /// Absolute, indexed by X.
+    AbsX,
+    /// Absolute, indexed by Y.
+    AbsY,
+    /// Indexed indirect: X is added to the pointer's address.
+    IndX,
+    /// Indirect indexed: Y is added to the address at the pointer.
+    IndY,
+    /// Absolute indirect, of JMP alone.
+    Ind,
+    /// Relative, of branches alone.
+    Rel,
 }
 
 /// What the opcode table says of one opcode.
@@ -24,37 +99,10 @@ pub struct Row {
     pub mode: Mode,
     /// How many bytes the instruction has, its opcode among them: 1 to 3.
     pub len: u8,
-    /// How many cycles it takes, without those for a page crossing.
+    /// How many cycles it takes, without those for a page crossing or a branch taken.
     pub cycles: u8,
     /// Whether a page crossing costs one cycle more.
     pub penalty: bool,
-}
-
-/// What a mnemonic does, by the way in which it uses its operand.
-#[derive(Clone, Copy, Debug, PartialEq, Eq)]
-pub enum Operation {
-    Load(LoadOp),
-    Store(StoreOp),
-    Inherent(InherentOp),
-    Break,
-}
-
-/// Reads a byte and changes registers.
-#[derive(Clone, Copy, Debug, PartialEq, Eq)]
-pub enum LoadOp {
-    Lda,
-}
-
-/// Stores a register.
-#[derive(Clone, Copy, Debug, PartialEq, Eq)]
-pub enum StoreOp {
-    Sta,
-}
-
-/// Changes registers alone, or nothing.
-#[derive(Clone, Copy, Debug, PartialEq, Eq)]
-pub enum InherentOp {
-    Nop,
 }
 
 /// Where an operand stands, and whether its page was left on the way.

@@ -1,13 +1,15 @@
 //! The plain data that the definitions of `specs/` and the crates above share.
-//! Nothing runs here but the names and numbers of faults, which are themselves part of the definition.
+//! Nothing runs here but the names and numbers of faults, which are themselves part of the definition, and the status
+//! register as a byte.
 #![tactic(auto)]
 
 pub use bus_fault::BusFault;
 pub use command::Command;
-pub use event::{Event, EventFault};
+pub use event::{Event, EventFault, Setting};
 pub use expression::{ExprFault, LineFault, Operator, TokenKind};
-pub use instruction::{InherentOp, LoadOp, Mnemonic, Mode, Operation, Place, Row, StoreOp};
-pub use registers::{Flags, Regs};
+pub use instruction::{Mnemonic, Mode, Place, Row};
+pub use operation::{BranchOp, InherentOp, LoadOp, ModifyOp, Operation, StoreOp};
+pub use registers::{Flags, Regs, Sum};
 pub use session_fault::SessionFault;
 pub use source_fault::{AsmFault, AsmFaultKind};
 pub use tape::{TAPE_OUT_OF_MEMORY, TapeFault, TapeFaultKind};
@@ -18,6 +20,7 @@ pub mod command;
 pub mod event;
 pub mod expression;
 pub mod instruction;
+pub mod operation;
 pub mod registers;
 pub mod session_fault;
 pub mod source_fault;

@@ -1,0 +1,101 @@
+//! What a mnemonic does, by the way in which it uses its operand.
+
+/// What a mnemonic does, by the way in which it uses its operand.
+#[derive(Clone, Copy, Debug, PartialEq, Eq)]
+pub enum Operation {
+    Load(LoadOp),
+    Store(StoreOp),
+    Modify(ModifyOp),
+    Inherent(InherentOp),
+    Branch(BranchOp),
+    /// PHA.
+    PushA,
+    /// PHP.
+    PushStatus,
+    /// PLA.
+    PullA,
+    /// PLP.
+    PullStatus,
+    /// JMP.
+    Jump,
+    /// JSR.
+    Call,
+    /// RTS.
+    Return,
+    /// RTI.
+    ReturnInterrupt,
+    /// BRK.
+    Break,
+}
+
+/// Reads a byte and changes registers.
+#[derive(Clone, Copy, Debug, PartialEq, Eq)]
+pub enum LoadOp {
+    Ora,
+    And,
+    Eor,
+    Adc,
+    Lda,
+    Cmp,
+    Sbc,
+    Ldx,
+    Ldy,
+    Cpx,
+    Cpy,
+    Bit,
+}
+
+/// Stores a register.
+#[derive(Clone, Copy, Debug, PartialEq, Eq)]
+pub enum StoreOp {
+    Sta,
+    Stx,
+    Sty,
+}
+
+/// Reads a byte, and writes another to the same place.
+#[derive(Clone, Copy, Debug, PartialEq, Eq)]
+pub enum ModifyOp {
+    Asl,
+    Rol,
+    Lsr,
+    Ror,
+    Dec,
+    Inc,
+}
+
+/// Changes registers alone, or nothing.
+#[derive(Clone, Copy, Debug, PartialEq, Eq)]
+pub enum InherentOp {
+    Clc,
+    Sec,
+    Cli,
+    Sei,
+    Clv,
+    Cld,
+    Sed,
+    Txa,
+    Tya,
+    Txs,
+    Tay,
+    Tax,
+    Tsx,
+    Dey,
+    Dex,
+    Iny,
+    Inx,
+    Nop,
+}
+
+/// Branches where a flag is clear, or where it is set.
+#[derive(Clone, Copy, Debug, PartialEq, Eq)]
+pub enum BranchOp {
+    Bpl,
+    Bmi,
+    Bvc,
+    Bvs,
+    Bcc,
+    Bcs,
+    Bne,
+    Beq,
+}
