@@ -2,6 +2,7 @@ pub mod FaultNames
 pub mod Image
 pub mod State
 pub mod Table
+pub mod Mnemonics
 pub mod Operand
 pub mod Arithmetic
 pub mod Effect
