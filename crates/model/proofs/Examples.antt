@@ -9,7 +9,6 @@ use Rattle.model.specs.Table.{Entry, row_at, find_row, table}
 use Rattle.model.specs.Step.{step, attempted, executed, fetched, stores}
 use Rattle.model.specs.Event.{no_regs, no_flags}
 use Rattle.model.specs.Lines.{lines_from, lines_of}
-use Rattle.model.specs.Source.{is_remark, line_fault, first_fault, source_fault}
 use Rattle.model.specs.Commands.{command_of, command_of_words, plain_command, range_command}
 use Rattle.model.specs.Text.{register_line, memory_row, memory_rows, spaced_bytes}
 use Rattle.model.specs.Transcript.{fault_line}
@@ -20,7 +19,6 @@ use Rattle.model.specs.contracts.instruction.Mode as mode
 use denote.Enum.Bare.{sameb}
 use Rattle.model.specs.declared.command.Command.TheVariants as command
 use Rattle.model.specs.declared.event.EventFault.TheVariants as event_fault
-use Rattle.model.specs.declared.source_fault.AsmFaultKind.TheVariants as kind
 
 -- ---- the opcode table
 
@@ -176,19 +174,6 @@ map_rom_meets_port = refl
 cut_lines : lines_of (codes "a\nb\r\n\nc\rd") ≡ codes "a" ∷ codes "b" ∷ [] ∷ codes "c\rd" ∷ []
 unfolding lines_from
 cut_lines = refl
-
--- sources
-remarks : source_fault (codes "\n  \n;text\r\n\t; more") ≡ None
-unfolding source_fault first_fault line_fault is_remark lines_from
-remarks = refl
-
-not_served : source_fault (codes "; one\n NOP\n?") ≡ Some (record { line = 2; kind = kind.Syntax })
-unfolding source_fault first_fault line_fault is_remark lines_from
-not_served = refl
-
-lone_return : source_fault (codes "\n\r") ≡ Some (record { line = 2; kind = kind.NotAscii })
-unfolding source_fault first_fault line_fault is_remark lines_from
-lone_return = refl
 
 -- commands
 command_regs : command_of (codes "  regs ") ≡ command.Regs

@@ -61,20 +61,6 @@ session_fault_name session_fault.NotSet = codes "NotSet"
 session_fault_name session_fault.PortAddress = codes "PortAddress"
 session_fault_name session_fault.OutOfMemory = codes "OutOfMemory"
 
-abbrev pub source_fault_number : AsmFaultKind → ℕ
-source_fault_number source_fault.TooLarge = 1
-source_fault_number source_fault.LineTooLong = 2
-source_fault_number source_fault.NotAscii = 3
-source_fault_number source_fault.Syntax = 4
-source_fault_number source_fault.OutOfMemory = 99
-
-abbrev pub source_fault_name : AsmFaultKind → List ℕ
-source_fault_name source_fault.TooLarge = codes "TooLarge"
-source_fault_name source_fault.LineTooLong = codes "LineTooLong"
-source_fault_name source_fault.NotAscii = codes "NotAscii"
-source_fault_name source_fault.Syntax = codes "Syntax"
-source_fault_name source_fault.OutOfMemory = codes "OutOfMemory"
-
 abbrev pub line_fault_number : LineFault → ℕ
 line_fault_number line_fault.Syntax = 1
 line_fault_number line_fault.OutOfMemory = 2
@@ -92,3 +78,53 @@ abbrev pub expression_fault_name : ExprFault → List ℕ
 expression_fault_name expression_fault.UnknownName = codes "UnknownName"
 expression_fault_name expression_fault.Range = codes "Range"
 expression_fault_name expression_fault.DivideByZero = codes "DivideByZero"
+
+abbrev pub source_fault_number : AsmFaultKind → ℕ
+source_fault_number source_fault.TooLarge = 1
+source_fault_number source_fault.LineTooLong = 2
+source_fault_number source_fault.NotAscii = 3
+source_fault_number source_fault.Syntax = 4
+source_fault_number source_fault.ReservedName = 5
+source_fault_number source_fault.DuplicateName = 6
+source_fault_number source_fault.UnknownHere = 7
+source_fault_number source_fault.NoSuchForm = 8
+source_fault_number source_fault.TooManyNames = 9
+source_fault_number source_fault.OriginRange = 10
+source_fault_number source_fault.ExprRange = 11
+source_fault_number source_fault.DivideByZero = 12
+source_fault_number source_fault.NotOneLine = 13
+source_fault_number source_fault.UndefinedName = 20
+source_fault_number source_fault.ByteRange = 21
+source_fault_number source_fault.WordRange = 22
+source_fault_number source_fault.BranchRange = 23
+source_fault_number source_fault.PastEnd = 24
+source_fault_number source_fault.Overlap = 25
+source_fault_number source_fault.PortAddress = 26
+source_fault_number source_fault.ValueExprRange = 27
+source_fault_number source_fault.ValueDivideByZero = 28
+source_fault_number source_fault.OutOfMemory = 99
+
+abbrev pub source_fault_name : AsmFaultKind → List ℕ
+source_fault_name source_fault.TooLarge = codes "TooLarge"
+source_fault_name source_fault.LineTooLong = codes "LineTooLong"
+source_fault_name source_fault.NotAscii = codes "NotAscii"
+source_fault_name source_fault.Syntax = codes "Syntax"
+source_fault_name source_fault.ReservedName = codes "ReservedName"
+source_fault_name source_fault.DuplicateName = codes "DuplicateName"
+source_fault_name source_fault.UnknownHere = codes "UnknownHere"
+source_fault_name source_fault.NoSuchForm = codes "NoSuchForm"
+source_fault_name source_fault.TooManyNames = codes "TooManyNames"
+source_fault_name source_fault.OriginRange = codes "OriginRange"
+source_fault_name source_fault.ExprRange = codes "ExprRange"
+source_fault_name source_fault.DivideByZero = codes "DivideByZero"
+source_fault_name source_fault.NotOneLine = codes "NotOneLine"
+source_fault_name source_fault.UndefinedName = codes "UndefinedName"
+source_fault_name source_fault.ByteRange = codes "ByteRange"
+source_fault_name source_fault.WordRange = codes "WordRange"
+source_fault_name source_fault.BranchRange = codes "BranchRange"
+source_fault_name source_fault.PastEnd = codes "PastEnd"
+source_fault_name source_fault.Overlap = codes "Overlap"
+source_fault_name source_fault.PortAddress = codes "PortAddress"
+source_fault_name source_fault.ValueExprRange = codes "ExprRange"
+source_fault_name source_fault.ValueDivideByZero = codes "DivideByZero"
+source_fault_name source_fault.OutOfMemory = codes "OutOfMemory"

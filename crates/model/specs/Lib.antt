@@ -15,6 +15,9 @@ pub mod Token
 pub mod Expression
 pub mod Reading
 pub mod Value
+pub mod Line
+pub mod Layout
+pub mod Bytes
 pub mod Source
 pub mod Commands
 pub mod Text

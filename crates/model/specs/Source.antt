@@ -1,42 +1,85 @@
--- What a source denotes, as far as sources are served: lines that are empty, blank or a comment. Source: profile.
-use Rattle.std.specs.Prelude.{◌≡◌, ℕ, ◌+◌, Bool, true, ◌==◌, nat_lt, not, if◌then◌else◌, List, [], ◌∷◌, length, Option, Some, None}
-use Rattle.std.specs.List.{list_all}
+-- What a source denotes, and the fault of one that denotes nothing. Source: profile.
+use Rattle.std.specs.Prelude.{◌≡◌, ℕ, ◌+◌, ◌<◌, ◌≤◌, ◌⊎◌, List, ◌∷◌, ◌++◌, length, Option, Some, None, Err}
+use Rattle.model.specs.State.{Map}
 use Rattle.model.specs.Lines.{lines_of}
-use Rattle.model.specs.Token.{is_blank, is_source_byte}
 use Rattle.model.specs.Image.{empty_image}
+use Rattle.model.specs.Value.{Numbers}
+use Rattle.model.specs.Layout.{Placed, LaidOut, layout_of}
+use Rattle.model.specs.Bytes.{Makes, value_fault}
 use Rattle.model.specs.declared.source_fault.AsmFault.{AsmFault}
-use Rattle.model.specs.declared.source_fault.AsmFaultKind.{AsmFaultKind}
-use Rattle.model.specs.declared.source_fault.AsmFaultKind.TheVariants.{TooLarge, LineTooLong, NotAscii, Syntax}
+use Rattle.model.specs.declared.source_fault.AsmFaultKind.TheVariants.{TooLarge}
 
--- A line that is empty, blank or a comment, which runs from its `;` to the line's end.
-unfoldable pub is_remark : List ℕ → Bool
-is_remark [] = true
-is_remark (b ∷ bs) = if is_blank b then is_remark bs else b == 59
+-- No line defines a name yet, so no name has a number.
+unfoldable pub no_numbers : Numbers
+no_numbers name = None
 
--- What is wrong with a line, if anything is: too many bytes come before a wrong byte, and that before a wrong form.
-unfoldable pub line_fault : List ℕ → Option AsmFaultKind
-line_fault line =
-    if nat_lt 255 (length line) then Some LineTooLong
-    else if not (list_all is_source_byte line) then Some NotAscii
-    else if is_remark line then None
-    else Some Syntax
+-- The most bytes that a source has.
+abbrev pub most_bytes : ℕ
+most_bytes = 1048576
 
-abbrev pub fault_or : Option AsmFaultKind → ℕ → Option AsmFault → Option AsmFault
-fault_or None number rest = rest
-fault_or (Some kind) number rest = Some (record { line = number; kind = kind })
+-- A source denotes an image under a map: some assignment of addresses to its lines meets each line's own equation, each line has
+-- its bytes, at free addresses that are in memory and not the port's, and the image is these bytes.
+pub record Denotes (bus_map : Map) (source : List ℕ) (image : List (Option ℕ)) : Type 0 where
+  pub size : length source ≤ most_bytes
+  pub placed : List Placed
+  pub end : ℕ
+  pub laid : LaidOut no_numbers 0 (lines_of source) placed end
+  pub made : Makes bus_map no_numbers empty_image placed image
 
--- The fault of the first faulty line, where the lines are numbered from a number on.
-unfoldable pub first_fault : ℕ → List (List ℕ) → Option AsmFault
-first_fault number [] = None
-first_fault number (line ∷ lines) = fault_or (line_fault line) number (first_fault (number + 1) lines)
+-- ---- faults
 
--- The fault of a source, if it has one. Lines are counted from 1; a source of more than 1,048,576 bytes is refused as a whole.
-unfoldable pub source_fault : List ℕ → Option AsmFault
-source_fault source =
-    if nat_lt 1048576 (length source) then Some (record { line = 0; kind = TooLarge })
-    else first_fault 1 (lines_of source)
+-- The source has too many bytes: line 0.
+pub record IsTooLarge (source : List ℕ) (fault : AsmFault) : Type 0 where
+  pub size : most_bytes < length source
+  pub line : fault.line ≡ 0
+  pub kind : fault.kind ≡ TooLarge
 
--- A source without a fault denotes the image with no byte.
-pub record Denotes (source : List ℕ) (image : List (Option ℕ)) : Type 0 where
-  pub right : source_fault source ≡ None
-  pub empty : image ≡ empty_image
+-- The first line that has a layout fault where the lines before it put it. Lines are counted from 1.
+pub record HasLayoutFault (source : List ℕ) (fault : AsmFault) : Type 0 where
+  pub size : length source ≤ most_bytes
+  pub front : List (List ℕ)
+  pub line : List ℕ
+  pub back : List (List ℕ)
+  pub cut : lines_of source ≡ front ++ line ∷ back
+  pub placed : List Placed
+  pub address : ℕ
+  pub laid : LaidOut no_numbers 0 front placed address
+  pub number : fault.line ≡ length front + 1
+  pub kind : layout_of no_numbers address line ≡ Err fault.kind
+
+-- All lines are laid out, and this is the first one with a value fault.
+pub record HasValueFault (bus_map : Map) (source : List ℕ) (fault : AsmFault) : Type 0 where
+  pub size : length source ≤ most_bytes
+  pub placed : List Placed
+  pub end : ℕ
+  pub laid : LaidOut no_numbers 0 (lines_of source) placed end
+  pub front : List Placed
+  pub line : Placed
+  pub back : List Placed
+  pub cut : placed ≡ front ++ line ∷ back
+  pub image : List (Option ℕ)
+  pub made : Makes bus_map no_numbers empty_image front image
+  pub number : fault.line ≡ length front + 1
+  pub kind : value_fault bus_map no_numbers image line ≡ Some fault.kind
+
+-- The fault of a source: its size comes first, then the layout of all lines, then their values.
+abbrev pub HasFault : Map → List ℕ → AsmFault → Type 0
+HasFault bus_map source fault = IsTooLarge source fault ⊎ (HasLayoutFault source fault ⊎ HasValueFault bus_map source fault)
+
+-- ---- that this is one meaning of each source
+
+-- Each source denotes an image or has a fault.
+abbrev pub EachSourceIsJudged : Type 0
+EachSourceIsJudged = (bus_map : Map) (source : List ℕ) → ((image : List (Option ℕ)) × Denotes bus_map source image) ⊎ ((fault : AsmFault) × HasFault bus_map source fault)
+
+-- No source denotes two images.
+abbrev pub OneImage : Type 0
+OneImage = (bus_map : Map) (source : List ℕ) (a b : List (Option ℕ)) → Denotes bus_map source a → Denotes bus_map source b → a ≡ b
+
+-- No source has two faults.
+abbrev pub OneFault : Type 0
+OneFault = (bus_map : Map) (source : List ℕ) (a b : AsmFault) → HasFault bus_map source a → HasFault bus_map source b → a ≡ b
+
+-- No source does both.
+abbrev pub ImageOrFault : Type 0
+ImageOrFault = (bus_map : Map) (source : List ℕ) (image : List (Option ℕ)) (fault : AsmFault) → Denotes bus_map source image → HasFault bus_map source fault → ⊥

@@ -5,7 +5,8 @@ ghost use Rattle.model.specs.FaultNames.{source_fault_name, source_fault_number}
 
 use thiserror::Error;
 
-/// What is wrong with a line of a source (profile).
+/// What is wrong with a line of a source (profile). Kinds up to 13 are of its layout: its text, its names, its place and
+/// its size. The others are of its values and its bytes.
 #[derive(Clone, Copy, Debug, PartialEq, Eq, Error)]
 pub enum AsmFaultKind {
     /// The source has more than 1,048,576 bytes; the line is 0.
@@ -20,6 +21,60 @@ pub enum AsmFaultKind {
     /// The line is none of the grammar.
     #[error("Syntax 4")]
     Syntax,
+    /// A mnemonic, A, X or Y, in any letter case, where a name stands.
+    #[error("ReservedName 5")]
+    ReservedName,
+    /// The name has an earlier definition.
+    #[error("DuplicateName 6")]
+    DuplicateName,
+    /// A name that no line up to here defines, where it has to be known.
+    #[error("UnknownHere 7")]
+    UnknownHere,
+    /// The instruction has no form for the operand.
+    #[error("NoSuchForm 8")]
+    NoSuchForm,
+    /// The 8,193rd definition.
+    #[error("TooManyNames 9")]
+    TooManyNames,
+    /// An address to go on from is outside 0..65535, or a reserved stretch below 0 or past address 65535.
+    #[error("OriginRange 10")]
+    OriginRange,
+    /// A literal or a result that places, defines or sizes is out of range.
+    #[error("ExprRange 11")]
+    ExprRange,
+    /// A division by zero in an expression that places, defines or sizes.
+    #[error("DivideByZero 12")]
+    DivideByZero,
+    /// The text is more or less than one instruction or data line; of one-line assembly alone.
+    #[error("NotOneLine 13")]
+    NotOneLine,
+    /// No line defines the name.
+    #[error("UndefinedName 20")]
+    UndefinedName,
+    /// A value for one byte is out of its range.
+    #[error("ByteRange 21")]
+    ByteRange,
+    /// A value for two bytes is out of its range.
+    #[error("WordRange 22")]
+    WordRange,
+    /// A branch's target is farther than -128..127 from the next instruction.
+    #[error("BranchRange 23")]
+    BranchRange,
+    /// The line has a byte past address 65535.
+    #[error("PastEnd 24")]
+    PastEnd,
+    /// The line has a byte where an earlier line has one.
+    #[error("Overlap 25")]
+    Overlap,
+    /// The line has a byte at a port address.
+    #[error("PortAddress 26")]
+    PortAddress,
+    /// A literal or a result is out of range in an expression that neither places, defines nor sizes.
+    #[error("ExprRange 27")]
+    ValueExprRange,
+    /// A division by zero in an expression that neither places, defines nor sizes.
+    #[error("DivideByZero 28")]
+    ValueDivideByZero,
     /// A request for memory was refused; the line is 0.
     #[error("OutOfMemory 99")]
     OutOfMemory,
@@ -35,11 +90,29 @@ impl AsmFaultKind {
             AsmFaultKind::LineTooLong => 2,
             AsmFaultKind::NotAscii => 3,
             AsmFaultKind::Syntax => 4,
+            AsmFaultKind::ReservedName => 5,
+            AsmFaultKind::DuplicateName => 6,
+            AsmFaultKind::UnknownHere => 7,
+            AsmFaultKind::NoSuchForm => 8,
+            AsmFaultKind::TooManyNames => 9,
+            AsmFaultKind::OriginRange => 10,
+            AsmFaultKind::ExprRange => 11,
+            AsmFaultKind::DivideByZero => 12,
+            AsmFaultKind::NotOneLine => 13,
+            AsmFaultKind::UndefinedName => 20,
+            AsmFaultKind::ByteRange => 21,
+            AsmFaultKind::WordRange => 22,
+            AsmFaultKind::BranchRange => 23,
+            AsmFaultKind::PastEnd => 24,
+            AsmFaultKind::Overlap => 25,
+            AsmFaultKind::PortAddress => 26,
+            AsmFaultKind::ValueExprRange => 27,
+            AsmFaultKind::ValueDivideByZero => 28,
             AsmFaultKind::OutOfMemory => 99,
         }
     }
 
-    /// The fault's name.
+    /// The fault's name. Two kinds have the name `ExprRange`, and two `DivideByZero`.
     pub fn name(&self) -> &'static str
         ensures { result.now ≡ source_fault_name self.now }
     {
@@ -48,6 +121,24 @@ impl AsmFaultKind {
             AsmFaultKind::LineTooLong => "LineTooLong",
             AsmFaultKind::NotAscii => "NotAscii",
             AsmFaultKind::Syntax => "Syntax",
+            AsmFaultKind::ReservedName => "ReservedName",
+            AsmFaultKind::DuplicateName => "DuplicateName",
+            AsmFaultKind::UnknownHere => "UnknownHere",
+            AsmFaultKind::NoSuchForm => "NoSuchForm",
+            AsmFaultKind::TooManyNames => "TooManyNames",
+            AsmFaultKind::OriginRange => "OriginRange",
+            AsmFaultKind::ExprRange => "ExprRange",
+            AsmFaultKind::DivideByZero => "DivideByZero",
+            AsmFaultKind::NotOneLine => "NotOneLine",
+            AsmFaultKind::UndefinedName => "UndefinedName",
+            AsmFaultKind::ByteRange => "ByteRange",
+            AsmFaultKind::WordRange => "WordRange",
+            AsmFaultKind::BranchRange => "BranchRange",
+            AsmFaultKind::PastEnd => "PastEnd",
+            AsmFaultKind::Overlap => "Overlap",
+            AsmFaultKind::PortAddress => "PortAddress",
+            AsmFaultKind::ValueExprRange => "ExprRange",
+            AsmFaultKind::ValueDivideByZero => "DivideByZero",
             AsmFaultKind::OutOfMemory => "OutOfMemory",
         }
     }

@@ -1,0 +1,186 @@
+-- What a line of a source says. Source: profile.
+-- line      = [operation]
+-- operation = mnemonic [operand] | "*" "=" expr | ".BYTE" expr {"," expr} | ".WORD" expr {"," expr}
+-- operand   = "A" | "#" expr | ["!"] expr ["," ("X" | "Y")] | "(" expr ")" | "(" expr "," "X" ")" | "(" expr ")" "," "Y"
+-- Mnemonics, directives, A, X and Y are read in either letter case. Lines that define names, and the other directives, are no lines yet.
+use Rattle.std.specs.Prelude.{ℕ, zero, suc, Bool, true, false, not, ◌||◌, ◌&&◌, nat_lt, if◌then◌else◌, List, [], ◌∷◌, length, codes, Option, Some, None, is_some, Result, Ok, Err}
+use Rattle.std.specs.List.{list_all, list_any}
+use Rattle.std.specs.Option.{option_map, option_and_then}
+use Rattle.std.specs.Str.{bytes_eq, str_to_ascii_uppercase}
+use Rattle.model.specs.declared.expression.TokenKind.{TokenKind}
+use Rattle.model.specs.declared.expression.TokenKind.TheVariants.{Word, Directive, Number, Char, Str, Symbol}
+use Rattle.model.specs.declared.line.Index.{Index}
+use Rattle.model.specs.declared.line.Index.TheVariants as index
+use Rattle.model.specs.declared.instruction.Mnemonic.{Mnemonic}
+use Rattle.model.specs.declared.source_fault.AsmFaultKind.{AsmFaultKind}
+use Rattle.model.specs.declared.source_fault.AsmFaultKind.TheVariants.{LineTooLong, NotAscii, Syntax, ReservedName}
+use Rattle.model.specs.Mnemonics.{mnemonic_named}
+use Rattle.model.specs.Token.{Lexeme, is_source_byte, tokens_of}
+use Rattle.model.specs.Expression.{Term, literal, name, here, negated, binary, low, high}
+use Rattle.model.specs.Reading.{is_symbol, expression_of}
+
+-- An operand as it is written. A direct one may be marked with `!`.
+pub data Operand : Type 0 where
+  absent : Operand
+  accumulator : Operand
+  immediate : Term → Operand
+  direct : Bool → Term → Index → Operand
+  pointer : Term → Operand
+  pointer_by_x : Term → Operand
+  pointer_by_y : Term → Operand
+
+-- What a line says.
+pub data Statement : Type 0 where
+  nothing : Statement
+  origin : Term → Statement
+  bytes : List Term → Statement
+  words : List Term → Statement
+  instruction : Mnemonic → Operand → Statement
+
+-- ---- operands
+
+-- Whether a token is a word, in either letter case.
+abbrev pub is_word_in : TokenKind → List ℕ → List ℕ → Bool
+is_word_in Word text capitals = bytes_eq (str_to_ascii_uppercase text) capitals
+is_word_in Directive text capitals = false
+is_word_in Number text capitals = false
+is_word_in Char text capitals = false
+is_word_in Str text capitals = false
+is_word_in Symbol text capitals = false
+
+abbrev pub is_word : List ℕ → Lexeme → Bool
+is_word capitals t = is_word_in t.kind t.text capitals
+
+-- What was read, where no token is left behind it.
+abbrev pub alone : Term → List Lexeme → Option Term
+alone e [] = Some e
+alone e (t ∷ ts) = None
+
+-- Tokens that are an expression all together.
+unfoldable pub whole_expression : List Lexeme → Option Term
+whole_expression ts = option_and_then (λ p. alone p.0 p.1) (expression_of ts)
+
+-- `,X` or `,Y` behind an expression, or nothing.
+abbrev pub direct_behind : Bool → Term → List Lexeme → Option Operand
+direct_behind marked e [] = Some (direct marked e index.Unindexed)
+direct_behind marked e (c ∷ w ∷ []) =
+    if is_symbol 44 c && is_word (codes "X") w then Some (direct marked e index.X)
+    else if is_symbol 44 c && is_word (codes "Y") w then Some (direct marked e index.Y)
+    else None
+direct_behind marked e (c ∷ []) = None
+direct_behind marked e (c ∷ w ∷ t ∷ ts) = None
+
+-- What closes a round bracket behind its expression: `)`, `,X)` or `),Y`.
+abbrev pub pointer_behind : Term → List Lexeme → Option Operand
+pointer_behind e (c ∷ []) = if is_symbol 41 c then Some (pointer e) else None
+pointer_behind e (a ∷ b ∷ c ∷ []) =
+    if is_symbol 44 a && is_word (codes "X") b && is_symbol 41 c then Some (pointer_by_x e)
+    else if is_symbol 41 a && is_symbol 44 b && is_word (codes "Y") c then Some (pointer_by_y e)
+    else None
+pointer_behind e [] = None
+pointer_behind e (a ∷ b ∷ []) = None
+pointer_behind e (a ∷ b ∷ c ∷ t ∷ ts) = None
+
+abbrev pub direct_operand : Bool → List Lexeme → Option Operand
+direct_operand marked ts = option_and_then (λ p. direct_behind marked p.0 p.1) (expression_of ts)
+
+abbrev pub is_alone : List Lexeme → Bool
+is_alone [] = true
+is_alone (t ∷ ts) = false
+
+-- The operand that the tokens behind a mnemonic are. The word A alone is the accumulator.
+unfoldable pub operand_of : List Lexeme → Option Operand
+operand_of [] = Some absent
+operand_of (t ∷ ts) =
+    if is_alone ts && is_word (codes "A") t then Some accumulator
+    else if is_symbol 35 t then option_map immediate (whole_expression ts)
+    else if is_symbol 40 t then option_and_then (λ p. pointer_behind p.0 p.1) (expression_of ts)
+    else if is_symbol 33 t then direct_operand true ts
+    else direct_operand false (t ∷ ts)
+
+-- ---- statements
+
+-- An expression, and behind a comma the expressions that go on.
+abbrev pub list_behind : (List Lexeme → Option (List Term)) → Term → List Lexeme → Option (List Term)
+list_behind more e [] = Some (e ∷ [])
+list_behind more e (c ∷ ts) = if is_symbol 44 c then option_map (λ es. e ∷ es) (more ts) else None
+
+-- At most so many expressions, separated by commas.
+unfoldable pub expressions_within : ℕ → List Lexeme → Option (List Term)
+expressions_within zero ts = None
+expressions_within (suc n) ts = option_and_then (λ p. list_behind (λ more. expressions_within n more) p.0 p.1) (expression_of ts)
+
+-- The expressions, separated by commas, that some tokens are. There are no more of them than tokens.
+abbrev pub expressions_of : List Lexeme → Option (List Term)
+expressions_of ts = expressions_within (length ts) ts
+
+unfoldable pub directive_of : List ℕ → List Lexeme → Option Statement
+directive_of text ts =
+    if bytes_eq (str_to_ascii_uppercase text) (codes ".BYTE") then option_map bytes (expressions_of ts)
+    else if bytes_eq (str_to_ascii_uppercase text) (codes ".WORD") then option_map words (expressions_of ts)
+    else None
+
+abbrev pub origin_behind : List Lexeme → Option Statement
+origin_behind [] = None
+origin_behind (t ∷ ts) = if is_symbol 61 t then option_map origin (whole_expression ts) else None
+
+-- The operation that begins with a token.
+abbrev pub operation_by : TokenKind → Lexeme → List Lexeme → Option Statement
+operation_by Word t ts = option_and_then (λ m. option_map (instruction m) (operand_of ts)) (mnemonic_named t.text)
+operation_by Directive t ts = directive_of t.text ts
+operation_by Symbol t ts = if is_symbol 42 t then origin_behind ts else None
+operation_by Number t ts = None
+operation_by Char t ts = None
+operation_by Str t ts = None
+
+-- What the tokens of a line say.
+unfoldable pub statement_of : List Lexeme → Option Statement
+statement_of [] = Some nothing
+statement_of (t ∷ ts) = operation_by t.kind t ts
+
+-- ---- reserved words
+
+-- A mnemonic, A, X or Y, in either letter case.
+unfoldable pub is_reserved : List ℕ → Bool
+is_reserved text =
+    is_some (mnemonic_named text) || bytes_eq (str_to_ascii_uppercase text) (codes "A")
+    || bytes_eq (str_to_ascii_uppercase text) (codes "X") || bytes_eq (str_to_ascii_uppercase text) (codes "Y")
+
+-- Whether a reserved word stands in an expression where a name stands.
+abbrev pub term_reserves : Term → Bool
+term_reserves (literal v) = false
+term_reserves (name text) = is_reserved text
+term_reserves here = false
+term_reserves (negated e) = term_reserves e
+term_reserves (binary op a b) = term_reserves a || term_reserves b
+term_reserves (low e) = term_reserves e
+term_reserves (high e) = term_reserves e
+
+abbrev pub operand_reserves : Operand → Bool
+operand_reserves absent = false
+operand_reserves accumulator = false
+operand_reserves (immediate e) = term_reserves e
+operand_reserves (direct marked e by) = term_reserves e
+operand_reserves (pointer e) = term_reserves e
+operand_reserves (pointer_by_x e) = term_reserves e
+operand_reserves (pointer_by_y e) = term_reserves e
+
+abbrev pub reserves : Statement → Bool
+reserves nothing = false
+reserves (origin e) = term_reserves e
+reserves (bytes es) = list_any term_reserves es
+reserves (words es) = list_any term_reserves es
+reserves (instruction m operand) = operand_reserves operand
+
+-- ---- the line
+
+abbrev pub unreserved : Option Statement → Result Statement AsmFaultKind
+unreserved None = Err Syntax
+unreserved (Some s) = if reserves s then Err ReservedName else Ok s
+
+-- What a line says, or the fault of its text: too many bytes come before a wrong byte, that before a wrong form, that before a reserved word.
+unfoldable pub read_line : List ℕ → Result Statement AsmFaultKind
+read_line line =
+    if nat_lt 255 (length line) then Err LineTooLong
+    else if not (list_all is_source_byte line) then Err NotAscii
+    else unreserved (option_and_then statement_of (tokens_of line))
