@@ -1,0 +1,36 @@
+-- Lines without where they lie in memory.
+use Rattle.std.specs.Prelude.{◌≡◌, ⊤, List, map, Result, Ok, Err}
+use Rattle.asm_expr.specs.Trees.{view}
+use Rattle.asm_expr.specs.declared.tree.Expr.{Expr}
+use Rattle.assembler.specs.declared.statement.Operand.{Operand}
+use Rattle.assembler.specs.declared.statement.Operand.TheVariants as operands
+use Rattle.assembler.specs.declared.statement.Statement.{Statement}
+use Rattle.assembler.specs.declared.statement.Statement.TheVariants as statements
+use Rattle.model.specs.Expression.{Term}
+use Rattle.model.specs.Line as line
+use Rattle.model.specs.Line.{absent, accumulator, immediate, direct, pointer, pointer_by_x, pointer_by_y, nothing, origin, bytes, words, instruction}
+use Rattle.model.specs.declared.source_fault.AsmFaultKind.{AsmFaultKind}
+use Rattle.assembler.specs.declared.fault.LineError.{LineError}
+use Rattle.assembler.specs.declared.fault.LineError.TheVariants as errors
+
+abbrev pub seen_operand : Operand → line.Operand
+seen_operand operands.Absent = absent
+seen_operand operands.Accumulator = accumulator
+seen_operand (operands.Immediate e) = immediate (view e)
+seen_operand (operands.Direct marked e by) = direct marked (view e) by
+seen_operand (operands.Pointer e) = pointer (view e)
+seen_operand (operands.PointerByX e) = pointer_by_x (view e)
+seen_operand (operands.PointerByY e) = pointer_by_y (view e)
+
+abbrev pub seen : Statement → line.Statement
+seen statements.Nothing = nothing
+seen (statements.Origin e) = origin (view e)
+seen (statements.Bytes es) = bytes (map view es.items)
+seen (statements.Words es) = words (map view es.items)
+seen (statements.Instruction m operand) = instruction m (seen_operand operand)
+
+-- What was answered is what a definition gives, memory aside.
+abbrev pub Gives : {A B : Type 0} → (A → B) → Result A LineError → Result B AsmFaultKind → Type 0
+Gives shown (Ok a) given = given ≡ Ok (shown a)
+Gives shown (Err errors.Memory) given = ⊤
+Gives shown (Err (errors.Kind kind)) given = given ≡ Err kind
