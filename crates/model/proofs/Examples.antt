@@ -9,7 +9,7 @@ use Rattle.model.specs.Table.{Entry, row_at, find_row, table}
 use Rattle.model.specs.Step.{step, attempted, executed, fetched, stores}
 use Rattle.model.specs.Event.{no_regs, no_flags}
 use Rattle.model.specs.Lines.{lines_from, lines_of}
-use Rattle.model.specs.Commands.{command_of, command_of_words, plain_command, range_command}
+use Rattle.model.specs.Commands.{command_of, command_of_words, plain_command, triple_command, long_command, set_command}
 use Rattle.model.specs.Text.{register_line, memory_row, memory_rows, spaced_bytes}
 use Rattle.model.specs.Transcript.{fault_line}
 use Rattle.model.specs.declared.registers.Regs.{Regs}
@@ -19,6 +19,7 @@ use Rattle.model.specs.contracts.instruction.Mode as mode
 use denote.Enum.Bare.{sameb}
 use Rattle.model.specs.declared.command.Command.TheVariants as command
 use Rattle.model.specs.declared.event.EventFault.TheVariants as event_fault
+use Rattle.model.specs.declared.event.Setting.TheVariants as setting
 
 -- ---- the opcode table
 
@@ -181,12 +182,28 @@ unfolding command_of command_of_words plain_command
 command_regs = refl
 
 command_mem : command_of (codes "mem 01fb 01FD") ≡ command.Mem 0x01FB 0x01FD
-unfolding command_of command_of_words range_command
+unfolding command_of command_of_words triple_command
 command_mem = refl
 
 command_mem_backwards : command_of (codes "mem 0300 0200") ≡ command.Bad
-unfolding command_of command_of_words range_command
+unfolding command_of command_of_words triple_command
 command_mem_backwards = refl
+
+command_set : command_of (codes "set P 30") ≡ command.Set (setting.P 0x30)
+unfolding command_of command_of_words triple_command set_command
+command_set = refl
+
+command_patch : command_of (codes "patch 0200 4c 00 02") ≡ command.Patch 0x0200 (0x4C ∷ 0 ∷ 2 ∷ []) 3
+unfolding command_of command_of_words long_command
+command_patch = refl
+
+command_patch_of_four : command_of (codes "patch 0200 01 02 03 04") ≡ command.Bad
+unfolding command_of command_of_words long_command
+command_patch_of_four = refl
+
+command_small_register : command_of (codes "set a 01") ≡ command.Bad
+unfolding command_of command_of_words triple_command set_command
+command_small_register = refl
 
 command_upper_case : command_of (codes "STEP") ≡ command.Bad
 unfolding command_of command_of_words plain_command

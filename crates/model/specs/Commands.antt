@@ -2,7 +2,9 @@
 use Rattle.std.specs.Prelude.{ℕ, ◌+◌, ◌-◌, ◌*◌, Bool, true, false, List, [], ◌∷◌, length, nat_lt, nat_le, ◌==◌, ◌&&◌, ◌||◌, if◌then◌else◌, codes, Option, Some, None}
 use Rattle.std.specs.Str.{bytes_eq}
 use Rattle.model.specs.declared.command.Command.{Command}
-use Rattle.model.specs.declared.command.Command.TheVariants.{Regs, Step, Mem, Quit, Nothing, Bad}
+use Rattle.model.specs.declared.command.Command.TheVariants.{Regs, Step, Mem, Out, Set, Patch, Quit, Nothing, Bad}
+use Rattle.model.specs.declared.event.Setting.{Setting}
+use Rattle.model.specs.declared.event.Setting.TheVariants.{A, X, Y, S, P, Pc}
 
 -- ---- words
 
@@ -39,6 +41,21 @@ address_of (a ∷ b ∷ c ∷ d ∷ []) =
     else Some (hex_value a * 4096 + hex_value b * 256 + hex_value c * 16 + hex_value d)
 address_of other = None
 
+-- The byte that exactly two hex digits write.
+abbrev pub byte_of : List ℕ → Option ℕ
+byte_of (a ∷ b ∷ []) = if hex_value a == 16 || hex_value b == 16 then None else Some (hex_value a * 16 + hex_value b)
+byte_of other = None
+
+abbrev pub byte_before : Option ℕ → Option (List ℕ) → Option (List ℕ)
+byte_before (Some b) (Some bytes) = Some (b ∷ bytes)
+byte_before (Some b) None = None
+byte_before None bytes = None
+
+-- The bytes that some words write, if each word writes one.
+abbrev pub bytes_of : List (List ℕ) → Option (List ℕ)
+bytes_of [] = Some []
+bytes_of (w ∷ ws) = byte_before (byte_of w) (bytes_of ws)
+
 -- ---- commands
 
 -- A command of one word.
@@ -46,6 +63,7 @@ unfoldable pub plain_command : List ℕ → Command
 plain_command w =
     if bytes_eq w (codes "regs") then Regs
     else if bytes_eq w (codes "step") then Step
+    else if bytes_eq w (codes "out") then Out
     else if bytes_eq w (codes "quit") then Quit
     else Bad
 
@@ -55,16 +73,52 @@ mem_command (Some first) (Some last) = if nat_le first last then Mem first last 
 mem_command (Some first) None = Bad
 mem_command None last = Bad
 
+abbrev pub set_byte : (ℕ → Setting) → Option ℕ → Command
+set_byte register (Some value) = Set (register value)
+set_byte register None = Bad
+
+-- A register and its new value: two hex digits, and four for PC. Register names are capital letters.
+unfoldable pub set_command : List ℕ → List ℕ → Command
+set_command name value =
+    if bytes_eq name (codes "A") then set_byte A (byte_of value)
+    else if bytes_eq name (codes "X") then set_byte X (byte_of value)
+    else if bytes_eq name (codes "Y") then set_byte Y (byte_of value)
+    else if bytes_eq name (codes "S") then set_byte S (byte_of value)
+    else if bytes_eq name (codes "P") then set_byte P (byte_of value)
+    else if bytes_eq name (codes "PC") then set_byte Pc (address_of value)
+    else Bad
+
+-- One to three bytes from an address on.
+abbrev pub patch_at : ℕ → List ℕ → Command
+patch_at address (a ∷ []) = Patch address (a ∷ 0 ∷ 0 ∷ []) 1
+patch_at address (a ∷ b ∷ []) = Patch address (a ∷ b ∷ 0 ∷ []) 2
+patch_at address (a ∷ b ∷ c ∷ []) = Patch address (a ∷ b ∷ c ∷ []) 3
+patch_at address [] = Bad
+patch_at address (a ∷ b ∷ c ∷ d ∷ bytes) = Bad
+
+abbrev pub patch_command : Option ℕ → Option (List ℕ) → Command
+patch_command (Some address) (Some bytes) = patch_at address bytes
+patch_command (Some address) None = Bad
+patch_command None bytes = Bad
+
 -- A command of three words.
-unfoldable pub range_command : List ℕ → List ℕ → List ℕ → Command
-range_command w low high = if bytes_eq w (codes "mem") then mem_command (address_of low) (address_of high) else Bad
+unfoldable pub triple_command : List ℕ → List ℕ → List ℕ → Command
+triple_command w a b =
+    if bytes_eq w (codes "mem") then mem_command (address_of a) (address_of b)
+    else if bytes_eq w (codes "set") then set_command a b
+    else if bytes_eq w (codes "patch") then patch_command (address_of a) (bytes_of (b ∷ []))
+    else Bad
+
+-- A command of more than three words.
+unfoldable pub long_command : List ℕ → List ℕ → List (List ℕ) → Command
+long_command w a ws = if bytes_eq w (codes "patch") then patch_command (address_of a) (bytes_of ws) else Bad
 
 unfoldable pub command_of_words : List (List ℕ) → Command
 command_of_words [] = Nothing
 command_of_words (w ∷ []) = plain_command w
 command_of_words (w ∷ a ∷ []) = Bad
-command_of_words (w ∷ a ∷ b ∷ []) = range_command w a b
-command_of_words (w ∷ a ∷ b ∷ c ∷ ws) = Bad
+command_of_words (w ∷ a ∷ b ∷ []) = triple_command w a b
+command_of_words (w ∷ a ∷ b ∷ c ∷ ws) = long_command w a (b ∷ c ∷ ws)
 
 -- What a line asks for. A line of more than 255 bytes is bad as a whole.
 unfoldable pub command_of : List ℕ → Command

@@ -1,5 +1,5 @@
 -- How replies print numbers, registers and memory. Source: profile.
-use Rattle.std.specs.Prelude.{ℕ, ◌+◌, ◌-◌, ◌*◌, ◌/◌, ◌%◌, min, false, List, [], ◌∷◌, ◌++◌, nat_lt, if◌then◌else◌, codes, decimal, take, drop}
+use Rattle.std.specs.Prelude.{ℕ, ◌+◌, ◌-◌, ◌*◌, ◌/◌, ◌%◌, min, false, List, [], ◌∷◌, ◌++◌, nat_lt, if◌then◌else◌, codes, decimal, length, take, drop}
 use Rattle.std.specs.List.{flat_map, range_with_len}
 use Rattle.model.specs.State.{State}
 use Rattle.model.specs.Effect.{status}
@@ -39,3 +39,12 @@ memory_row memory first last = hex_word first ++ 32 ∷ spaced_bytes (bytes_betw
 unfoldable pub memory_rows : List ℕ → ℕ → ℕ → List ℕ
 memory_rows memory first last =
     flat_map (λ k. memory_row memory (first + 16 * k) (min last (first + 16 * k + 15))) (range_with_len 0 ((last - first) / 16 + 1))
+
+-- A line of output bytes in hex, with no space between them: at most 32 bytes from a place on.
+unfoldable pub output_row : List ℕ → ℕ → List ℕ
+output_row out from = flat_map hex_byte (take 32 (drop from out)) ++ 10 ∷ []
+
+-- How many bytes of output there are, and the bytes in lines of 32.
+unfoldable pub output_text : List ℕ → List ℕ
+output_text out =
+    codes "OUT " ++ decimal (length out) ++ 10 ∷ flat_map (λ k. output_row out (32 * k)) (range_with_len 0 ((length out + 31) / 32))

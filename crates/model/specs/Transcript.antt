@@ -6,9 +6,9 @@ use Rattle.model.specs.Session.{Session, appended}
 use Rattle.model.specs.FaultNames.{event_fault_name, event_fault_number}
 use Rattle.model.specs.Lines.{lines_of, ended_lines_of}
 use Rattle.model.specs.Commands.{command_of}
-use Rattle.model.specs.Text.{hex_byte, hex_word, register_line, memory_rows}
+use Rattle.model.specs.Text.{hex_byte, hex_word, register_line, memory_rows, output_text}
 use Rattle.model.specs.declared.command.Command.{Command}
-use Rattle.model.specs.declared.command.Command.TheVariants.{Regs, Step, Mem, Quit, Nothing, Bad}
+use Rattle.model.specs.declared.command.Command.TheVariants.{Regs, Step, Mem, Out, Set, Patch, Quit, Nothing, Bad}
 use Rattle.model.specs.declared.event.Event.TheVariants as event
 use Rattle.model.specs.declared.event.EventFault.{EventFault}
 use Rattle.model.specs.declared.event.EventFault.TheVariants as event_fault
@@ -34,11 +34,19 @@ abbrev pub stepped_answer : Session → Result State EventFault → Answer
 stepped_answer s (Ok state) = answer (register_line state) (appended s state)
 stepped_answer s (Err fault) = answer (fault_line fault) s
 
+-- The reply to another event: OK, or why it was refused.
+abbrev pub event_answer : Session → Result State EventFault → Answer
+event_answer s (Ok state) = answer (codes "OK\n") (appended s state)
+event_answer s (Err fault) = answer (fault_line fault) s
+
 -- The reply to a command.
 unfoldable pub answer_to : Command → Session → Answer
 answer_to Regs s = answer (register_line s.current) s
 answer_to Step s = stepped_answer s (event_of s.current event.Step)
 answer_to (Mem first last) s = answer (memory_rows s.current.bus.memory first last) s
+answer_to Out s = answer (output_text s.current.bus.out) s
+answer_to (Set setting) s = event_answer s (event_of s.current (event.Set setting))
+answer_to (Patch address bytes count) s = event_answer s (event_of s.current (event.Patch address bytes count))
 answer_to Quit s = record { written = []; session = s; quit = true }
 answer_to Nothing s = answer [] s
 answer_to Bad s = answer (codes "? BAD COMMAND\n") s

@@ -1,5 +1,7 @@
 //! What a command line asks for.
 
+use crate::event::Setting;
+
 /// A command of the debugger.
 #[derive(Clone, Copy, Debug, PartialEq, Eq)]
 pub enum Command {
@@ -9,6 +11,16 @@ pub enum Command {
     Step,
     /// `mem LO HI`: the bytes of memory from LO to HI, LO being at most HI.
     Mem { first: u16, last: u16 },
+    /// `out`: the output's bytes.
+    Out,
+    /// `set A HH`, also X, Y, S and P, and `set PC HHHH`: a register set.
+    Set(Setting),
+    /// `patch A HH ..`: the first `count` of the bytes, 1 to 3, put into memory from an address on.
+    Patch {
+        address: u16,
+        bytes: [u8; 3],
+        count: u8,
+    },
     /// `quit`: the end of the session.
     Quit,
     /// A line without a word.
