@@ -50,15 +50,22 @@ fn adjusted_up(digits: u8) -> u8
     }
 }
 
+/// The decimal sum, digit by digit.
+#[tactic(auto, using(crate::proofs::Parts::bool_byte_is))]
 fn adc_decimal(a: u8, m: u8, c: bool) -> Sum
-    ensures { result ≡ adc_decimal a m c }
+    ensures value { result.value ≡ (adc_decimal a m c).value }
+    ensures minus { result.n ≡ (adc_decimal a m c).n }
+    ensures overflow { result.v ≡ (adc_decimal a m c).v }
+    ensures zero { result.z ≡ (adc_decimal a m c).z }
+    ensures carry { result.c ≡ (adc_decimal a m c).c }
 {
     let low = (a & 15) + (m & 15) + c as u8;
     let high = (a >> 4) + (m >> 4) + (low > 9) as u8;
     let minus = high & 15 > 7;
     let binary = a as u16 + m as u16 + c as u16;
+    let value = adjusted_up(high) * 16 + adjusted_up(low);
     Sum {
-        value: adjusted_up(high) * 16 + adjusted_up(low),
+        value,
         n: minus,
         v: ((a >= 128) == (m >= 128)) & ((a >= 128) != minus),
         z: binary & 0xff == 0,
