@@ -50,10 +50,9 @@ none_named text other = sym (none_among text all_mnemonics other)
 
 -- ---- texts of three bytes
 
-pub named_three : (text : List ℕ) (a b c : ℕ) (d : ℕ) → length text ≡ 3 → a ≡ to_ascii_uppercase (get_or text 0 d) → b ≡ to_ascii_uppercase (get_or text 1 d)
-    → c ≡ to_ascii_uppercase (get_or text 2 d) → looked_up (a ∷ b ∷ c ∷ []) NAMES ≡ mnemonic_named text
-named_three [] a b c d len x y z = absurd (omega arith)
-named_three (p ∷ []) a b c d len x y z = absurd (omega arith)
-named_three (p ∷ q ∷ []) a b c d len x y z = absurd (omega arith)
-named_three (p ∷ q ∷ r ∷ []) a b c d len x y z = rw (x, y, z) (looked_up_all (p ∷ q ∷ r ∷ []))
-named_three (p ∷ q ∷ r ∷ s ∷ rest) a b c d len x y z = absurd (omega arith)
+pub capitals_is : (text : List ℕ) (d : ℕ) → length text ≡ 3 → to_ascii_uppercase (get_or text 0 d) ∷ to_ascii_uppercase (get_or text 1 d) ∷ to_ascii_uppercase (get_or text 2 d) ∷ [] ≡ str_to_ascii_uppercase text
+capitals_is [] d len = absurd (omega arith)
+capitals_is (p ∷ []) d len = absurd (omega arith)
+capitals_is (p ∷ q ∷ []) d len = absurd (omega arith)
+capitals_is (p ∷ q ∷ r ∷ []) d len = refl
+capitals_is (p ∷ q ∷ r ∷ s ∷ rest) d len = absurd (omega arith)

@@ -1,6 +1,7 @@
 //! The names of mnemonics.
 
-ghost use Rattle.std.specs.Prelude.{◌≡◌, ◌∷◌, []};
+ghost use Rattle.std.specs.Prelude.{◌≡◌, length};
+ghost use Rattle.std.specs.Str.{str_to_ascii_uppercase};
 ghost use Rattle.model.specs.Mnemonics.{mnemonic_named};
 ghost use Rattle.optable.specs.Names.{looked_up};
 
@@ -74,14 +75,20 @@ pub fn mnemonic_of(text: &[u8]) -> Option<Mnemonic>
     if text.len() != 3 {
         return None;
     }
-    look_up(
-        &NAMES,
-        [
-            text[0].to_ascii_uppercase(),
-            text[1].to_ascii_uppercase(),
-            text[2].to_ascii_uppercase(),
-        ],
-    )
+    look_up(&NAMES, capitals(text))
+}
+
+/// Three bytes, each small letter a capital.
+#[tactic(auto, using(crate::proofs::Naming::capitals_is))]
+fn capitals(text: &[u8]) -> [u8; 3]
+    requires { length text.now ≡ 3 }
+    ensures { result ≡ str_to_ascii_uppercase text.now }
+{
+    [
+        text[0].to_ascii_uppercase(),
+        text[1].to_ascii_uppercase(),
+        text[2].to_ascii_uppercase(),
+    ]
 }
 
 /// The first of some mnemonics that has these letters.
