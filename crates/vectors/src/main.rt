@@ -88,7 +88,14 @@ fn step_agrees(alloc: Global, line: &str) -> Result<bool> {
     for place in 0..5usize {
         field[place] = words.next();
     }
-    let [Some(before), Some(after), Some(cycles), Some(cells), Some(left)] = field else {
+    let [
+        Some(before),
+        Some(after),
+        Some(cycles),
+        Some(cells),
+        Some(left),
+    ] = field
+    else {
         return Ok(false);
     };
     let (Some(before), Some(after)) = (
@@ -102,9 +109,14 @@ fn step_agrees(alloc: Global, line: &str) -> Result<bool> {
     set_registers(&mut machine, &before)?;
     let _undo = machine.step()?;
     let cycles = hex::decode(alloc, cycles)?;
-    Ok(machine.regs() == after
-        && cycles.as_slice() == [(machine.cycles() - RESET_CYCLES) as u8].as_slice()
-        && has_cells(&machine, &hex::decode(alloc, left)?))
+    let [cycles] = *cycles.as_slice() else {
+        return Ok(false);
+    };
+    Ok(
+        machine.regs() == after
+            && machine.cycles() == RESET_CYCLES + cycles as u64
+            && has_cells(&machine, &hex::decode(alloc, left)?),
+    )
 }
 
 /// Whether the table has the row of a line, both ways.
@@ -123,9 +135,11 @@ fn row_agrees(alloc: Global, line: &str) -> Result<bool> {
         return Ok(false);
     };
     let written = format!(in alloc; "{:?} {} {} {}", row.mode, row.len, row.cycles, row.penalty)?;
-    Ok(written.as_str() == rest
-        && mnemonic_of(name.as_bytes()) == Some(row.mnemonic)
-        && encode(row.mnemonic, row.mode) == Some(opcode))
+    Ok(
+        written.as_str() == rest
+            && mnemonic_of(name.as_bytes()) == Some(row.mnemonic)
+            && encode(row.mnemonic, row.mode) == Some(opcode),
+    )
 }
 
 fn main(rt: HostRuntime) -> Result<()> {
@@ -139,7 +153,9 @@ fn main(rt: HostRuntime) -> Result<()> {
             }
         }
     }
-    let documented = (0..=255u8).filter(|opcode| decode(*opcode).is_some()).count();
+    let documented = (0..=255u8)
+        .filter(|opcode| decode(*opcode).is_some())
+        .count();
     println!(rt; "opcodes: {count} compared, {documented} in the table")?;
     let steps = fs::read_to_string(&rt, "steps.txt")?;
     let mut count = 0u32;
