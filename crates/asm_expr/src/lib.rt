@@ -2,6 +2,10 @@
 #![tactic(auto)]
 
 mod token;
+mod tree;
+mod value;
 
 pub use model::{ExprFault, LineFault, Operator, TokenKind};
 pub use token::Token;
+pub use tree::Expr;
+pub use value::{Names, eval};
