@@ -11,7 +11,7 @@ use crate::tree::Expr;
 use model::{Operator, TokenKind};
 
 /// The byte of a symbol.
-pub fn symbol(token: &Token<'_>) -> Option<u8>
+pub(crate) fn symbol(token: &Token<'_>) -> Option<u8>
     ensures { result ≡ symbol_of (lexeme_of token.now) }
 {
     match token.kind {
@@ -25,7 +25,7 @@ pub fn symbol(token: &Token<'_>) -> Option<u8>
 }
 
 /// The operator that a token is, if it is one.
-pub fn operator(token: &Token<'_>) -> Option<Operator>
+pub(crate) fn operator(token: &Token<'_>) -> Option<Operator>
     ensures { result ≡ operator_of (lexeme_of token.now) }
 {
     match symbol(token) {
@@ -54,7 +54,7 @@ fn digit(byte: u8) -> u8
 }
 
 /// The number that digits write, where it is at most 2^31 - 1.
-#[tactic(auto, using(crate::proofs::Literals::capped_turn, crate::proofs::Literals::capped_end))]
+#[tactic(auto, using(crate::proofs::Literals::capped_end))]
 fn number_in(base: u8, digits: &[u8]) -> Option<i32>
     requires { 1 ≤ base }
     ensures { result ≡ in_range (number_behind base 0 digits.now) }
@@ -83,7 +83,7 @@ fn number(text: &[u8]) -> Option<i32>
 }
 
 /// What a token is as an expression by itself, if it is one.
-pub fn atom<'a>(token: &Token<'a>) -> Option<Expr<'a>>
+pub(crate) fn atom<'a>(token: &Token<'a>) -> Option<Expr<'a>>
     ensures { option_map view result ≡ atom_of (lexeme_of token.now) }
 {
     match token.kind {
