@@ -1,7 +1,10 @@
 //! Tokens and expressions of source lines.
 #![tactic(auto)]
 
+mod byte_class;
+mod lexer;
 mod token;
 
+pub use lexer::tokens;
 pub use model::{ExprFault, LineFault, Operator, TokenKind};
 pub use token::Token;
