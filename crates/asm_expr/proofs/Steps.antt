@@ -19,11 +19,10 @@ covered place (suc n) (b ∷ bytes) h =
     let e : place + 1 + n ≡ place + suc n = omega arith in
     covered (place + 1) n bytes (omega arith) ∙ ap (λ p. tokens_from p 0 (drop n bytes)) e
 
-pub blank_passed : (front : List Lexeme) (line : List ℕ) (start : ℕ) → start < length line → (get_or line start 0 ≡ 9) ⊎ (get_or line start 0 ≡ 32)
+pub blank_passed : (front : List Lexeme) (line : List ℕ) (start : ℕ) → start < length line → is_blank (get_or line start 0) ≡ true
     → then_tokens front (tokens_from (start + 1) 0 (drop (start + 1) line)) ≡ then_tokens front (tokens_from start 0 (drop start line))
 unfolding tokens_from
-blank_passed front line start below (inl tab) = sym (rw (drop_more line start 0 below, tab) refl)
-blank_passed front line start below (inr space) = sym (rw (drop_more line start 0 below, space) refl)
+blank_passed front line start below blank = sym (rw (drop_more line start 0 below, blank) refl)
 
 pub at_end : (front : List Lexeme) (line : List ℕ) (start : ℕ) → length line ≤ start → then_tokens front (tokens_from start 0 (drop start line)) ≡ Some front
 unfolding tokens_from then_tokens
@@ -33,13 +32,13 @@ pub at_comment : (front : List Lexeme) (line : List ℕ) (start : ℕ) → start
 unfolding tokens_from then_tokens
 at_comment front line start below semicolon = rw (drop_more line start 0 below, semicolon) (ap (λ (x : List Lexeme). Some x) (append-nil front))
 
-pub none_found : (front : List Lexeme) (line : List ℕ) (start : ℕ) → start < length line → is_blank (get_or line start 0) ≡ false → (get_or line start 0 == 59) ≡ false → token_at (drop start line) ≡ None
+pub none_found : (front : List Lexeme) (line : List ℕ) (start : ℕ) → start < length line → is_blank (get_or line start 0) ≡ false → (get_or line start 0 ≡ 59 → ⊥) → token_at (drop start line) ≡ None
     → then_tokens front (tokens_from start 0 (drop start line)) ≡ None
 unfolding tokens_from then_tokens
-none_found front line start below black other none =
+none_found front line start below dark semicolon none =
     let at = drop_more line start 0 below in
     let h = rw at at none in
-    rw (at, black, other, h) refl
+    rw (at, dark, ne_eqb (get_or line start 0) 59 semicolon, h) refl
 
 then_push : (front : List Lexeme) (t : Lexeme) (behind : Tokens) → then_tokens front (option_map (λ ts. t ∷ ts) behind) ≡ then_tokens (front ++ t ∷ []) behind
 unfolding then_tokens
@@ -55,12 +54,12 @@ token_inside line start kind text h =
 token_behind : (place b : ℕ) (bytes : List ℕ) (kind : TokenKind) (text : List ℕ) → is_blank b ≡ false → (b == 59) ≡ false → token_at (b ∷ bytes) ≡ Some (kind, text) → length text - 1 ≤ length bytes
     → tokens_from place 0 (b ∷ bytes) ≡ option_map (λ ts. record { kind = kind; start = place; text = text } ∷ ts) (tokens_from (place + 1 + (length text - 1)) 0 (drop (length text - 1) bytes))
 unfolding tokens_from
-token_behind place b bytes kind text black other found le = rw (black, other, found) (ap (λ (x : Tokens). option_map (λ ts. record { kind = kind; start = place; text = text } ∷ ts) x) (covered (place + 1) (length text - 1) bytes le))
+token_behind place b bytes kind text dark other found le = rw (dark, other, found) (ap (λ (x : Tokens). option_map (λ ts. record { kind = kind; start = place; text = text } ∷ ts) x) (covered (place + 1) (length text - 1) bytes le))
 
-pub token_passed : (front : List Lexeme) (line : List ℕ) (start : ℕ) (kind : TokenKind) (text : List ℕ) → start < length line → is_blank (get_or line start 0) ≡ false → (get_or line start 0 == 59) ≡ false
+pub token_passed : (front : List Lexeme) (line : List ℕ) (start : ℕ) (kind : TokenKind) (text : List ℕ) → start < length line → is_blank (get_or line start 0) ≡ false → (get_or line start 0 ≡ 59 → ⊥)
     → token_at (drop start line) ≡ Some (kind, text)
     → then_tokens (front ++ record { kind = kind; start = start; text = text } ∷ []) (tokens_from (start + length text) 0 (drop (start + length text) line)) ≡ then_tokens front (tokens_from start 0 (drop start line))
-token_passed front line start kind text below black other found =
+token_passed front line start kind text below dark semicolon found =
     let inside = token_inside line start kind text found in
     let at = drop_more line start 0 below in
     let h = rw at at found in
@@ -69,7 +68,7 @@ token_passed front line start kind text below black other found =
     let d : drop (length text - 1) (drop (start + 1) line) ≡ drop (start + length text) line = drop-drop (length text - 1) (start + 1) line ∙ ap (λ n. drop n line) p in
     sym (
     ap (λ (x : List ℕ). then_tokens front (tokens_from start 0 x)) at
-    ∙ ap (then_tokens front) (token_behind start (get_or line start 0) (drop (start + 1) line) kind text black other h (omega (arith, inside.0, length-drop (start + 1) line)))
+    ∙ ap (then_tokens front) (token_behind start (get_or line start 0) (drop (start + 1) line) kind text dark (ne_eqb (get_or line start 0) 59 semicolon) h (omega (arith, inside.0, length-drop (start + 1) line)))
     ∙ then_push front t (tokens_from (start + 1 + (length text - 1)) 0 (drop (length text - 1) (drop (start + 1) line)))
     ∙ ap (λ n. then_tokens (front ++ t ∷ []) (tokens_from n 0 (drop (length text - 1) (drop (start + 1) line)))) p
     ∙ ap (λ (x : List ℕ). then_tokens (front ++ t ∷ []) (tokens_from (start + length text) 0 x)) d

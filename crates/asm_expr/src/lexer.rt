@@ -7,8 +7,8 @@ ghost use Rattle.asm_expr.specs.Lexemes.{lexemes, found_of};
 ghost use Rattle.asm_expr.specs.Lexing.{number_in};
 
 use crate::byte_class::{
-    binary_run, digit_run, hex_run, letter_run, may_be_char, may_be_in_word, may_be_symbol,
-    may_begin_decimal, may_begin_word, may_stand, string_run, word_run,
+    binary_run, digit_run, hex_run, is_blank_byte, letter_run, may_be_char, may_be_in_word,
+    may_be_symbol, may_begin_decimal, may_begin_word, may_stand, string_run, word_run,
 };
 use crate::token::Token;
 use model::{LineFault, TokenKind};
@@ -140,16 +140,17 @@ pub fn tokens<'a>(alloc: Global, line: &'a [u8]) -> Result<Vec<Token<'a>>, LineF
     let mut found = Vec::new(alloc);
     let mut start = 0;
     while start < line.len() {
-        match line[start] {
-            b' ' | b'\t' => start += 1,
-            b';' => return Ok(found),
-            _ => {
-                let Some((kind, text)) = first_token(&line[start..]) else {
-                    return Err(LineFault::Syntax);
-                };
-                found.push(Token { kind, start, text })?;
-                start += text.len();
-            }
+        let byte = line[start];
+        if is_blank_byte(byte) {
+            start += 1;
+        } else if byte == b';' {
+            return Ok(found);
+        } else {
+            let Some((kind, text)) = first_token(&line[start..]) else {
+                return Err(LineFault::Syntax);
+            };
+            found.push(Token { kind, start, text })?;
+            start += text.len();
         }
     }
     Ok(found)
