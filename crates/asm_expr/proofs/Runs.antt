@@ -1,13 +1,12 @@
 -- Runs of bytes, and the tokens that they make.
 use Rattle.std.proofs.Common.{◌≡◌, ℕ, zero, suc, ◌+◌, ◌-◌, ◌<◌, ◌≤◌, Bool, true, false, List, [], ◌∷◌, ◌++◌, length, length-drop, take, drop, refl, ap, sym, ◌∙◌, arith, inl, inr}
-use Rattle.std.specs.Prelude.{◌==◌, nat_le, if◌then◌else◌, Option, None, Some}
+use Rattle.std.specs.Prelude.{◌==◌, nat_le, if◌then◌else◌, None, Some}
 use Rattle.std.specs.List.{prefix_len}
 use Rattle.std.proofs.lemmas.Bool.{cases_Bool, false≢true, lt-leb, le-leb, ne_eqb, eqb-true}
 use Rattle.std.proofs.lemmas.List.Folds.{length-prefix_len}
 use Rattle.std.proofs.lemmas.List.{take_all, drop-drop}
-use Rattle.model.specs.declared.expression.TokenKind.{TokenKind}
-use Rattle.model.specs.declared.expression.TokenKind.TheVariants.{Word, Directive, Number, Str}
-use Rattle.model.specs.Token.{Found, run_of, begins, is_word_byte, is_letter, is_digit, is_hex_byte, is_binary_byte, is_string_byte, word_at, number_at, directive_at, string_at, token_at}
+use Rattle.model.specs.declared.expression.TokenKind.TheVariants.{Word, Directive, Str}
+use Rattle.model.specs.Token.{run_of, begins, is_word_byte, is_letter, is_digit, is_hex_byte, is_binary_byte, is_string_byte, word_at, number_at, directive_at, string_at, token_at}
 use Rattle.asm_expr.specs.Lexing.{number_in}
 
 -- a run is the bytes at the front that pass

@@ -1,11 +1,10 @@
 -- The tokens of a line are slices of it.
-use Rattle.std.proofs.Common.{◌≡◌, ℕ, zero, suc, ◌+◌, ◌-◌, ◌<◌, ◌≤◌, Bool, true, false, List, [], ◌∷◌, ◌++◌, length, take, drop, refl, ap, sym, ◌∙◌, subst, arith, inl, inr}
-use Rattle.std.specs.Prelude.{◌==◌, if◌then◌else◌, Option, None, Some}
+use Rattle.std.proofs.Common.{◌≡◌, ℕ, zero, suc, ◌+◌, ◌-◌, ◌≤◌, List, [], ◌∷◌, length, take, drop, refl, ap, sym, ◌∙◌, subst, arith, inl, inr}
+use Rattle.std.specs.Prelude.{◌==◌, None, Some}
 use Rattle.std.specs.List.{list_all}
 use Rattle.std.specs.Option.{option_map}
 use Rattle.std.proofs.lemmas.Bool.{cases_Bool}
 use Rattle.std.proofs.lemmas.List.{drop-drop, take_at}
-use Rattle.model.specs.declared.expression.TokenKind.{TokenKind}
 use Rattle.model.specs.Token.{Lexeme, Found, Tokens, AreSlices, TokensAreSlices, is_blank, is_source_byte, found_before, token_at, tokens_from, tokens_of}
 use Rattle.asm_expr.proofs.Fronts.{Front, token_front}
 

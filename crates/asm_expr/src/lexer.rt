@@ -18,6 +18,7 @@ use std::alloc::Global;
 const WORD_SIZE: usize = 31;
 
 /// A word, as long as it can be.
+#[tactic(auto, using(crate::proofs::Runs::word_short, crate::proofs::Runs::word_long))]
 fn word(bytes: &[u8]) -> Option<(TokenKind, &[u8])>
     ensures { found_of result ≡ word_at bytes.now }
 {

@@ -1,4 +1,4 @@
-use Rattle.std.proofs.Common.{◌≡◌, ◌∙◌, ◌∷◌, sym, ap}
+use Rattle.std.proofs.Common.{◌∙◌, ◌∷◌, sym, ap}
 use Rattle.asm_expr.proofs.Runs.{token_decimal, token_hex, token_binary}
 use Rattle.asm_expr.proofs.lexer.first_token.Goals as goal
 
