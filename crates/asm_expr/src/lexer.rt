@@ -2,7 +2,7 @@
 
 ghost use Rattle.std.specs.Prelude.{◌≡◌, ◌==◌, ◌+◌, ◌<◌, ◌≤◌, ◌∷◌, true, length, drop, None, Some, IfOk, IsErrOf};
 ghost use Rattle.std.specs.List.{list_all};
-ghost use Rattle.model.specs.Token.{begins, is_source_byte, is_source_byte, is_word_byte, word_at, directive_at, char_at, string_at, token_at, tokens_of};
+ghost use Rattle.model.specs.Token.{begins, is_source_byte, is_word_byte, word_at, directive_at, char_at, string_at, token_at, tokens_of};
 ghost use Rattle.asm_expr.specs.Lexemes.{lexemes, found_of};
 ghost use Rattle.asm_expr.specs.Lexing.{number_in};
 

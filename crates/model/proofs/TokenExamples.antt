@@ -1,9 +1,9 @@
 -- Worked examples of the tokens of lines.
-use Rattle.std.proofs.Common.{◌≡◌, ℕ, List, [], ◌∷◌, ◌++◌, refl, codes, replicate}
-use Rattle.std.specs.Prelude.{Option, Some, None}
+use Rattle.std.proofs.Common.{◌≡◌, ℕ, List, [], ◌∷◌, refl, codes, replicate}
+use Rattle.std.specs.Prelude.{Some, None}
 use Rattle.model.specs.declared.expression.TokenKind.{TokenKind}
 use Rattle.model.specs.declared.expression.TokenKind.TheVariants.{Word, Directive, Number, Char, Str, Symbol}
-use Rattle.model.specs.Token.{Lexeme, Tokens, token_at, tokens_from, tokens_of}
+use Rattle.model.specs.Token.{Lexeme, token_at, tokens_from, tokens_of}
 
 abbrev token : TokenKind → ℕ → List ℕ → Lexeme
 token kind start text = record { kind = kind; start = start; text = text }

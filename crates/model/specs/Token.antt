@@ -142,7 +142,8 @@ tokens_of line = if list_all is_source_byte line then tokens_from 0 0 line else 
 
 -- ---- where tokens stand
 
--- Tokens that stand in a line in order, from a place on: each begins at that place or behind it, its bytes are those of the line at its start, at least one, and the others stand behind it.
+-- Tokens that stand in a line in order, from a place on: each begins at that place or behind it, its bytes are those of the
+-- line at its start, at least one, and the others stand behind it.
 abbrev pub AreSlices : List ℕ → ℕ → List Lexeme → Type 0
 AreSlices line place [] = Unit {0}
 AreSlices line place (t ∷ ts) =
