@@ -2,11 +2,13 @@
 #![tactic(auto)]
 
 mod atom;
+mod law;
 mod parse;
 mod token;
 mod tree;
 mod value;
 
+pub use law::{expressions_are_longest, one_expression};
 pub use model::{ExprFault, LineFault, Operator, TokenKind};
 pub use parse::parse_expr;
 pub use token::Token;

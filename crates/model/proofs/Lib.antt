@@ -1,3 +1,4 @@
 pub mod Examples
 pub mod SourceExamples
 pub mod Encoding
+pub mod ValueExamples
