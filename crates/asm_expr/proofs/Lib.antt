@@ -4,3 +4,7 @@ pub mod Literals
 pub mod Longest
 pub mod Turns
 pub mod Whole
+pub mod Runs
+pub mod Fronts
+pub mod Steps
+pub mod Slices

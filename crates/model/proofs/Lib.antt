@@ -2,3 +2,4 @@ pub mod Examples
 pub mod SourceExamples
 pub mod Encoding
 pub mod ValueExamples
+pub mod TokenExamples
