@@ -3,9 +3,9 @@
 
 mod expressions;
 mod fault;
+mod line;
 mod operand;
 mod reserved;
 mod statement;
-mod stub;
 mod text;
 mod token_tests;

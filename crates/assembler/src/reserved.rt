@@ -1,6 +1,6 @@
 //! Reserved words where names stand.
 
-ghost use Rattle.std.specs.Prelude.{◌≡◌, map};
+ghost use Rattle.std.specs.Prelude.{◌≡◌};
 ghost use Rattle.std.specs.List.{list_any};
 ghost use Rattle.model.specs.Line.{is_reserved, operand_reserves, reserves, term_reserves};
 ghost use Rattle.asm_expr.specs.Trees.{view};
@@ -49,6 +49,7 @@ fn operand_reserves(operand: &Operand<'_>) -> bool
 }
 
 /// The same of a line.
+#[tactic(auto, using(crate::proofs::Behind::list_any_map))]
 pub fn reserves(statement: &Statement<'_>) -> bool
     ensures { result ≡ reserves (seen statement.now) }
 {
@@ -62,7 +63,7 @@ pub fn reserves(statement: &Statement<'_>) -> bool
 
 /// The same of some expressions.
 fn any_reserves(values: &[Expr<'_>]) -> bool
-    ensures { result ≡ list_any term_reserves (map view values.now) }
+    ensures { result ≡ list_any (λ value. term_reserves (view value)) values.now }
 {
     values.iter().any(|value| expr_reserves(value))
 }
