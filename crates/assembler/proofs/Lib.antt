@@ -1,2 +1,4 @@
+pub mod Behind
+pub mod Capitals
 pub mod Cuts
-pub mod Scans
+pub mod Rest

@@ -1,1 +1,4 @@
 pub mod Assembly
+pub mod Lists
+pub mod Pointers
+pub mod Seen
