@@ -1,0 +1,10 @@
+//! Arithmetic on bytes: sums and differences in binary and decimal, comparisons, shifts and the bit test.
+//! Each call gives a byte and the flags that go with it; a flag that the operation does not name is false.
+#![tactic(auto)]
+
+pub use bits::{asl, bit_test, compare, lsr, rol, ror};
+pub use model::{Flags, Sum};
+pub use sums::{adc, sbc};
+
+mod bits;
+mod sums;
