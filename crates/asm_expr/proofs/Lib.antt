@@ -1,0 +1,5 @@
+pub mod Derived
+pub mod Grammar
+pub mod Literals
+pub mod Turns
+pub mod Whole

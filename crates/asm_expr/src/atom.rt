@@ -1,0 +1,98 @@
+//! What single tokens are in an expression.
+
+ghost use Rattle.std.specs.Prelude.{◌≡◌, ℕ, ◌≤◌};
+ghost use Rattle.std.specs.Option.{option_map};
+ghost use Rattle.model.specs.Expression.{atom_of, digit_value, in_range, number_behind, number_of_text, operator_of, symbol_of};
+ghost use Rattle.asm_expr.specs.Lexemes.{lexeme_of};
+ghost use Rattle.asm_expr.specs.Trees.{view};
+
+use crate::token::Token;
+use crate::tree::Expr;
+use model::{Operator, TokenKind};
+
+/// The byte of a symbol.
+pub fn symbol(token: &Token<'_>) -> Option<u8>
+    ensures { result ≡ symbol_of (lexeme_of token.now) }
+{
+    match token.kind {
+        TokenKind::Symbol => token.text.first().copied(),
+        TokenKind::Word | TokenKind::Directive | TokenKind::Number | TokenKind::Char | TokenKind::Str => None,
+    }
+}
+
+/// The operator that a token is, if it is one.
+pub fn operator(token: &Token<'_>) -> Option<Operator>
+    ensures { result ≡ operator_of (lexeme_of token.now) }
+{
+    match symbol(token) {
+        Some(b'+') => Some(Operator::Add),
+        Some(b'-') => Some(Operator::Subtract),
+        Some(b'*') => Some(Operator::Multiply),
+        Some(b'/') => Some(Operator::Divide),
+        Some(b'&') => Some(Operator::And),
+        Some(b'|') => Some(Operator::Or),
+        Some(b'^') => Some(Operator::ExclusiveOr),
+        _ => None,
+    }
+}
+
+/// What a digit stands for, in either letter case.
+fn digit(byte: u8) -> u8
+    ensures { result ≡ digit_value byte }
+{
+    if byte <= b'9' {
+        return byte.saturating_sub(48);
+    }
+    if byte <= b'Z' {
+        return byte - 55;
+    }
+    byte - 87
+}
+
+/// The number that digits write, where it is at most 2^31 - 1.
+#[tactic(auto, using(crate::proofs::Literals::capped_turn, crate::proofs::Literals::capped_end))]
+fn number_in(base: u8, digits: &[u8]) -> Option<i32>
+    requires { 1 ≤ base }
+    ensures { result ≡ in_range (number_behind base 0 digits.now) }
+{
+    let mut number: u64 = 0;
+    for byte in digits {
+        let more = number * base as u64 + digit(*byte) as u64;
+        number = more.min(2147483648);
+    }
+    if number > 2147483647 {
+        return None;
+    }
+    Some(number as i32)
+}
+
+/// The number that a number's text writes, where it is at most 2^31 - 1.
+fn number(text: &[u8]) -> Option<i32>
+    ensures { result ≡ in_range (number_of_text text.now) }
+{
+    match text.split_first() {
+        None => Some(0),
+        Some((b'$', digits)) => number_in(16, digits),
+        Some((b'%', digits)) => number_in(2, digits),
+        Some(_) => number_in(10, text),
+    }
+}
+
+/// What a token is as an expression by itself, if it is one.
+pub fn atom<'a>(token: &Token<'a>) -> Option<Expr<'a>>
+    ensures { option_map view result ≡ atom_of (lexeme_of token.now) }
+{
+    match token.kind {
+        TokenKind::Word => Some(Expr::Name(token.text)),
+        TokenKind::Number => Some(Expr::Literal(number(token.text))),
+        TokenKind::Char => match token.text.get(1) {
+            Some(byte) => Some(Expr::Literal(Some(*byte as i32))),
+            None => None,
+        },
+        TokenKind::Symbol => match token.text.first() {
+            Some(b'*') => Some(Expr::Here),
+            _ => None,
+        },
+        TokenKind::Directive | TokenKind::Str => None,
+    }
+}
