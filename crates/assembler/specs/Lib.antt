@@ -1,1 +1,3 @@
 pub mod Assembly
+pub mod Placing
+pub mod Seen

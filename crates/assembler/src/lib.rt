@@ -1,12 +1,11 @@
 //! The assembler: from a source to the image that it denotes.
-//! So far it serves sources whose lines are empty, blank or comments; each other line is a Syntax fault.
 #![tactic(auto)]
 
-mod assembly;
 mod fault;
+mod layout;
 mod line;
-#[cfg(test)]
-mod tests;
+mod names;
+mod statement;
+mod text;
 
-pub use assembly::{Assembly, assemble};
 pub use model::{AsmFault, AsmFaultKind};
