@@ -1,1 +1,4 @@
 pub mod Cuts
+pub mod Sizes
+pub mod Ports
+pub mod Gathers

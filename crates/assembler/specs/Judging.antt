@@ -45,6 +45,14 @@ nothing_gathered = record { bytes = []; kind = None }
 abbrev pub refused : Gathering → AsmFaultKind → Gathering
 refused g kind = record { bytes = g.bytes; kind = lower g.kind (Some kind) }
 
+-- A kind of fault, if there is one.
+abbrev pub noted : Gathering → Option AsmFaultKind → Gathering
+noted g kind = record { bytes = g.bytes; kind = lower g.kind kind }
+
+abbrev pub noted_all : Gathering → List (Option AsmFaultKind) → Gathering
+noted_all g [] = g
+noted_all g (kind ∷ kinds) = noted_all (noted g kind) kinds
+
 abbrev pub added : Gathering → Piece → Gathering
 added g (Ok bytes) = record { bytes = g.bytes ++ bytes; kind = g.kind }
 added g (Err kind) = refused g kind
@@ -72,6 +80,12 @@ unfoldable pub laid_line : ℕ → List ℕ → Result ((ℕ × ℕ) × ℕ) Asm
 laid_line address line = layout_of no_numbers address line >>> λ p. Ok (extent_of p.0, p.1)
 
 -- What was answered, and left in an image, is what a definition gives, memory aside.
+abbrev pub Stores : Result Unit LineError → List (Option ℕ) → Result (List (Option ℕ)) AsmFaultKind → Type 0
+Stores (Ok u) image given = given ≡ Ok image
+Stores (Err errors.Memory) image given = ⊤
+Stores (Err (errors.Kind kind)) image given = given ≡ Err kind
+
+-- The same where the next line's address is answered.
 abbrev pub Puts : Result ℕ LineError → List (Option ℕ) → Result (List (Option ℕ) × ℕ) AsmFaultKind → Type 0
 Puts (Ok next) image given = given ≡ Ok (image, next)
 Puts (Err errors.Memory) image given = ⊤

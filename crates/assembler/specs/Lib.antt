@@ -1,3 +1,4 @@
-pub mod Assembly
 pub mod Placing
+pub mod Assembly
+pub mod Judging
 pub mod Seen

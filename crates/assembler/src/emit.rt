@@ -2,13 +2,15 @@
 
 ghost use Rattle.std.specs.Prelude.{◌≡◌, ◌+◌, ◌<◌, ◌≤◌, ◌^◌, ◌-◌, ◌∷◌, [], pos, length, map, IfOk, OnOk, Ok, Some, Err};
 ghost use Rattle.asm_expr.specs.Trees.{view};
-ghost use Rattle.assembler.specs.Judging.{Puts, added, byte_pieces, gathered, nothing_gathered, put, refused, seen_encoded, seen_piece, word_pieces};
+ghost use Rattle.assembler.specs.Judging.{Stores, added, byte_pieces, gathered, noted, noted_all, nothing_gathered, put, refused, seen_encoded, seen_piece, word_pieces};
 ghost use Rattle.assembler.specs.Placing.{seen_content, shown};
-ghost use Rattle.model.specs.Bytes.{address_piece, behind_opcode, branch_piece, byte_piece, distance_piece, has_bytes, has_port, lower, lowest, modulo, operand_piece, pieces_of, place_kinds, value_fault, within, word_bytes, word_piece, zero_page_piece};
+ghost use Rattle.model.specs.Bytes.{address_piece, behind_opcode, branch_piece, byte_piece, distance_piece, has_bytes, has_port, kind_if, lower, lowest, modulo, operand_piece, pieces_of, place_kinds, value_fault, within, word_bytes, word_piece, zero_page_piece};
+ghost use Rattle.model.specs.Image.{has_byte, with_bytes};
 ghost use Rattle.model.specs.Layout.{size_of};
 ghost use Rattle.model.specs.Source.{no_numbers};
 ghost use Rattle.model.specs.Value.{eval_of};
 
+use crate::fault::LineError;
 use crate::layout::{Content, value_at};
 use asm_expr::Expr;
 use bus::{Image, MapSpec};
@@ -197,6 +199,16 @@ impl Gathered {
         self.kind = lower(self.kind, Some(kind));
     }
 
+    /// A fault, if this holds.
+    #[tactic(auto, using(crate::proofs::Gathers::lower_nothing))]
+    fn refuse_if(&mut self, holds: bool, kind: AsmFaultKind)
+        ensures { self.new ≡ noted self.old (kind_if holds kind) }
+    {
+        if holds {
+            self.refuse(kind);
+        }
+    }
+
     /// Bytes behind those so far.
     fn push(&mut self, encoded: Encoded) -> Result<(), AllocError>
         ensures { OnOk result (self.new ≡ added self.old (Ok (seen_encoded encoded))) }
@@ -248,6 +260,7 @@ impl Gathered {
     }
 
     /// What stands behind an opcode.
+    #[tactic(auto, unfolding(crate::specs::Judging::gathered))]
     fn add_operand(
         &mut self,
         here: u32,
@@ -264,20 +277,34 @@ impl Gathered {
     }
 
     /// All pieces of a line.
-    #[tactic(auto, unfolding(model::specs::Bytes::pieces_of))]
-    fn add_content(&mut self, here: u32, content: &Content<'_, '_>) -> Result<(), AllocError>
+    #[tactic(auto, unfolding(model::specs::Bytes::pieces_of, crate::specs::Judging::gathered))]
+    fn add_content(&mut self, here: u32, content: Content<'_, '_>) -> Result<(), AllocError>
         requires { here < 2 ^ 31 - 510 }
-        ensures { OnOk result (self.new ≡ gathered self.old (pieces_of no_numbers here (seen_content content.now))) }
+        ensures { OnOk result (self.new ≡ gathered self.old (pieces_of no_numbers here (seen_content content.entry))) }
     {
         match content {
             Content::NoBytes => Ok(()),
             Content::Bytes(values) => self.add_bytes(here, values),
             Content::Words(values) => self.add_words(here, values),
             Content::Code(opcode, mode, value) => {
-                self.push(Encoded::Byte(*opcode))?;
-                self.add_operand(here, *mode, *value)
+                self.push(Encoded::Byte(opcode))?;
+                self.add_operand(here, mode, value)
             }
         }
+    }
+}
+
+/// Whether an image has a byte at an address.
+#[tactic(auto, unfolding(model::specs::Image::has_byte))]
+fn has_byte(image: &Image, address: u32) -> bool
+    ensures { result ≡ has_byte image.now address }
+{
+    let cells = image.cells();
+    let at = address as usize;
+    if at < cells.len() {
+        cells[at].is_some()
+    } else {
+        false
     }
 }
 
@@ -286,10 +313,8 @@ fn has_bytes(image: &Image, address: u32, count: u32) -> bool
     requires { address + count < 2 ^ 32 }
     ensures { result ≡ has_bytes image.now address count }
 {
-    let cells = image.cells();
     for i in 0..count {
-        let at = (address + i) as usize;
-        if at < cells.len() && cells[at].is_some() {
+        if has_byte(image, address + i) {
             return true;
         }
     }
@@ -297,6 +322,7 @@ fn has_bytes(image: &Image, address: u32, count: u32) -> bool
 }
 
 /// Whether one of so many addresses from an address on is a port address.
+#[tactic(auto, using(crate::proofs::Ports::has_port_is))]
 fn has_port(map: &MapSpec, address: u32, count: u32) -> bool
     requires { address + count < 2 ^ 32 }
     ensures { result ≡ has_port map.now address count }
@@ -309,15 +335,44 @@ fn has_port(map: &MapSpec, address: u32, count: u32) -> bool
 #[tactic(auto, unfolding(model::specs::Bytes::place_kinds))]
 fn judge_place(gathered: &mut Gathered, map: &MapSpec, image: &Image, address: u32, count: u32)
     requires { address + count < 2 ^ 32 }
-    ensures { gathered.new ≡ record gathered.old { kind = lower gathered.old.kind (lowest (place_kinds map.now image.now address count)) } }
+    ensures { gathered.new ≡ noted_all gathered.old (place_kinds map.now image.now address count) }
 {
-    if (0 < count) & (65536 < address + count) {
-        gathered.refuse(AsmFaultKind::PastEnd);
+    let past_end = (0 < count) & (65536 < address + count);
+    gathered.refuse_if(past_end, AsmFaultKind::PastEnd);
+    gathered.refuse_if(has_bytes(image, address, count), AsmFaultKind::Overlap);
+    gathered.refuse_if(has_port(map, address, count), AsmFaultKind::PortAddress);
+}
+
+/// Puts bytes into an image, none of them past address 65535.
+fn store(image: &mut Image, address: u32, bytes: &[u8])
+    requires { 0 < length bytes.now → address + length bytes.now ≤ 65536 }
+    ensures { image.new ≡ with_bytes image.old address bytes.now }
+{
+    if !bytes.is_empty() {
+        image.store(address as u16, bytes);
     }
-    if has_bytes(image, address, count) {
-        gathered.refuse(AsmFaultKind::Overlap);
+}
+
+/// Puts the bytes of a line into an image, or answers its value fault.
+pub fn put_line(
+    alloc: Global,
+    map: &MapSpec,
+    image: &mut Image,
+    address: u32,
+    content: Content<'_, '_>,
+) -> Result<(), LineError>
+    requires room { address < 2 ^ 31 - 510 }
+    requires small { size_of (seen_content content) ≤ 510 }
+    ensures { Stores result image.new (put map.now image.old (record { address = address; content = seen_content content.entry })) }
+{
+    let mut gathered = Gathered::new(alloc);
+    gathered
+        .add_content(address, content)
+        .map_err(|_| LineError::Memory)?;
+    judge_place(&mut gathered, map, image, address, content.size());
+    if let Some(kind) = gathered.kind {
+        return Err(LineError::Kind(kind));
     }
-    if has_port(map, address, count) {
-        gathered.refuse(AsmFaultKind::PortAddress);
-    }
+    store(image, address, &gathered.bytes);
+    Ok(())
 }

@@ -1,10 +1,11 @@
 //! Where a line stands, and which form its instruction takes.
 
-ghost use Rattle.std.specs.Prelude.{◌≡◌, ◌+◌, ◌<◌, ◌≤◌, ◌^◌, pos, IfOk};
+ghost use Rattle.std.specs.Prelude.{◌≡◌, ◌+◌, ◌-◌, ◌<◌, ◌≤◌, ◌^◌, max, pos, IfOk};
 ghost use Rattle.asm_expr.specs.Trees.{view};
-ghost use Rattle.assembler.specs.Placing.{IsSmall, Shows, seen_content, seen_form, seen_place, shown};
+ghost use Rattle.assembler.specs.Placing.{IsSmall, Shows, direct_form, seen_content, seen_form, seen_place, shown};
 ghost use Rattle.assembler.specs.Seen.{seen, seen_operand};
-ghost use Rattle.model.specs.Layout.{absolute_mode, either, form_of, has_row, in_memory, is_unindexed, laid, length_in, mode_by, only, placing, size_of, sized, term_of, zero_page_mode};
+ghost use Rattle.model.specs.Layout.{absolute_mode, either, form_of, has_row, in_memory, is_unindexed, laid, length_in, mode_by, only, placing, size_of, sized, standing, term_of, zero_page_mode};
+ghost use Rattle.model.specs.Line.{instruction};
 ghost use Rattle.model.specs.Source.{no_numbers};
 ghost use Rattle.model.specs.Value.{eval_of};
 
@@ -273,6 +274,7 @@ fn standing<'s, 'a>(address: u32, content: Content<'s, 'a>) -> Place<'s, 'a>
 }
 
 /// An instruction at an address.
+#[tactic(auto, using(crate::proofs::Sizes::length_in_small), unfolding(model::specs::Layout::laid, model::specs::Layout::size_of))]
 fn instruct<'s, 'a>(
     address: u32,
     mnemonic: Mnemonic,
@@ -289,7 +291,7 @@ fn instruct<'s, 'a>(
 }
 
 /// A statement at an address, or its layout fault.
-#[tactic(auto, unfolding(model::specs::Layout::laid))]
+#[tactic(auto, unfolding(model::specs::Layout::laid, model::specs::Layout::size_of))]
 pub fn lay<'s, 'a>(
     address: u32,
     statement: &'s Statement<'a>,

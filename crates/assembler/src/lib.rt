@@ -1,6 +1,7 @@
 //! The assembler: from a source to the image that it denotes.
 #![tactic(auto)]
 
+mod emit;
 mod fault;
 mod layout;
 mod line;
