@@ -10,7 +10,7 @@ use Rattle.model.specs.Layout.{Placed, size_of}
 use Rattle.model.specs.Bytes.{Piece, lower, lowest, bytes_in, kind_in, kinds_in, bytes_of, pieces_of, place_kinds, value_fault}
 use Rattle.model.specs.Source.{no_numbers}
 use Rattle.model.specs.declared.source_fault.AsmFaultKind.{AsmFaultKind}
-use Rattle.assembler.specs.Judging.{Gathering, nothing_gathered, added, gathered, noted, noted_all, refused, put, unless}
+use Rattle.assembler.specs.Judging.{line_gathered, Gathering, nothing_gathered, added, gathered, noted, noted_all, refused, put, unless}
 use borrow.Author.Tests.{leb-true, leb-false}
 
 -- ---- loops over values
@@ -62,12 +62,12 @@ lower_again (Some a) None c = refl
 lower_again (Some a) (Some b) None = lower_nothing (lower (Some a) (Some b))
 lower_again (Some a) (Some b) (Some c) = lower_three a b c
 
-lowest-append : (xs ys : List (Option AsmFaultKind)) → lowest (xs ++ ys) ≡ lower (lowest xs) (lowest ys)
+pub lowest-append : (xs ys : List (Option AsmFaultKind)) → lowest (xs ++ ys) ≡ lower (lowest xs) (lowest ys)
 unfolding lowest lower
 lowest-append [] ys = refl
 lowest-append (x ∷ xs) ys = ap (lower x) (lowest-append xs ys) ∙ sym (lower_again x (lowest xs) (lowest ys))
 
-abbrev both : List ℕ → Option AsmFaultKind → Gathering
+abbrev pub both : List ℕ → Option AsmFaultKind → Gathering
 both bytes kind = record { bytes = bytes; kind = kind }
 
 gathered_is : (g : Gathering) (ps : List Piece) → gathered g ps ≡ both (g.bytes ++ flat_map bytes_in ps) (lower g.kind (lowest (kinds_in ps)))
@@ -87,13 +87,8 @@ noted_is g (k ∷ ks) = noted_is (noted g k) ks ∙ ap (both g.bytes) (lower_aga
 
 -- ---- the whole line
 
--- what is gathered of a line
-abbrev pub line_gathered : Map → List (Option ℕ) → Placed → Gathering
-line_gathered m image p =
-    noted_all (gathered nothing_gathered (pieces_of no_numbers p.address p.content)) (place_kinds m image p.address (size_of p.content))
-
 -- it is the line's bytes and its value fault
-line_is : (m : Map) (image : List (Option ℕ)) (p : Placed) → line_gathered m image p ≡ both (bytes_of no_numbers p) (value_fault m no_numbers image p)
+pub line_is : (m : Map) (image : List (Option ℕ)) (p : Placed) → line_gathered m image p ≡ both (bytes_of no_numbers p) (value_fault m no_numbers image p)
 unfolding bytes_of value_fault lower
 line_is m image p =
     let pieces = pieces_of no_numbers p.address p.content in

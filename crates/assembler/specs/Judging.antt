@@ -3,8 +3,8 @@ use Rattle.std.specs.Prelude.{◌≡◌, ℕ, pos, ◌+◌, nat_lt, ⊤, if◌th
 use Rattle.model.specs.State.{Map}
 use Rattle.model.specs.Lines.{lines_of}
 use Rattle.model.specs.Image.{empty_image, with_bytes}
-use Rattle.model.specs.Layout.{Placed, layout_of, ◌>>>◌}
-use Rattle.model.specs.Bytes.{Piece, lower, byte_piece, word_piece, bytes_of, value_fault}
+use Rattle.model.specs.Layout.{Placed, size_of, layout_of, ◌>>>◌}
+use Rattle.model.specs.Bytes.{Piece, lower, byte_piece, word_piece, bytes_of, pieces_of, place_kinds, value_fault}
 use Rattle.model.specs.Expression.{Term}
 use Rattle.model.specs.Value.{eval_of}
 use Rattle.model.specs.Source.{most_bytes, no_numbers}
@@ -60,6 +60,11 @@ added g (Err kind) = refused g kind
 unfoldable pub gathered : Gathering → List Piece → Gathering
 gathered g [] = g
 gathered g (p ∷ ps) = gathered (added g p) ps
+
+-- All that is gathered of a line in its place.
+abbrev pub line_gathered : Map → List (Option ℕ) → Placed → Gathering
+line_gathered m image p =
+    noted_all (gathered nothing_gathered (pieces_of no_numbers p.address p.content)) (place_kinds m image p.address (size_of p.content))
 
 -- ---- one line
 

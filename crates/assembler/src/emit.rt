@@ -1,8 +1,8 @@
 //! The bytes of a line in its place, or its value fault.
 
-ghost use Rattle.std.specs.Prelude.{◌≡◌, ◌+◌, ◌<◌, ◌≤◌, ◌^◌, ◌-◌, ◌∷◌, [], pos, length, map, IfOk, OnOk, Ok, Some, Err};
+ghost use Rattle.std.specs.Prelude.{◌≡◌, ◌+◌, ◌<◌, ◌≤◌, ◌^◌, ◌-◌, ◌∷◌, [], pos, length, map, IfErr, IfOk, OnOk, Ok, Some, Err};
 ghost use Rattle.asm_expr.specs.Trees.{view};
-ghost use Rattle.assembler.specs.Judging.{Stores, added, byte_pieces, gathered, noted, noted_all, nothing_gathered, put, refused, seen_encoded, seen_piece, word_pieces};
+ghost use Rattle.assembler.specs.Judging.{Stores, added, byte_pieces, gathered, line_gathered, noted, noted_all, nothing_gathered, put, refused, seen_encoded, seen_piece, word_pieces};
 ghost use Rattle.assembler.specs.Placing.{seen_content, shown};
 ghost use Rattle.model.specs.Bytes.{address_piece, behind_opcode, branch_piece, byte_piece, distance_piece, has_bytes, has_port, kind_if, lower, lowest, modulo, operand_piece, pieces_of, place_kinds, value_fault, within, word_bytes, word_piece, zero_page_piece};
 ghost use Rattle.model.specs.Image.{has_byte, with_bytes};
@@ -192,6 +192,20 @@ impl Gathered {
         }
     }
 
+    /// The lowest kind of its faults.
+    fn kind(&self) -> Option<AsmFaultKind>
+        ensures { result ≡ self.now.kind }
+    {
+        self.kind
+    }
+
+    /// Its bytes.
+    fn bytes(&self) -> &[u8]
+        ensures { result.now ≡ self.now.bytes }
+    {
+        &self.bytes
+    }
+
     /// A fault.
     fn refuse(&mut self, kind: AsmFaultKind)
         ensures { self.new ≡ refused self.old kind }
@@ -353,6 +367,27 @@ fn store(image: &mut Image, address: u32, bytes: &[u8])
     }
 }
 
+/// The bytes of a line, and the lowest kind of all its value faults.
+fn gather(
+    alloc: Global,
+    map: &MapSpec,
+    image: &Image,
+    address: u32,
+    content: Content<'_, '_>,
+) -> Result<Gathered, LineError>
+    requires room { address < 2 ^ 31 - 510 }
+    requires small { size_of (seen_content content) ≤ 510 }
+    ensures found { IfOk result (λ g. g ≡ line_gathered map.now image.now (record { address = address; content = seen_content content.entry })) }
+    ensures refused { IfErr result (λ e. e ≡ LineError.Memory) }
+{
+    let mut gathered = Gathered::new(alloc);
+    gathered
+        .add_content(address, content)
+        .map_err(|_| LineError::Memory)?;
+    judge_place(&mut gathered, map, image, address, content.size());
+    Ok(gathered)
+}
+
 /// Puts the bytes of a line into an image, or answers its value fault.
 pub fn put_line(
     alloc: Global,
@@ -365,14 +400,12 @@ pub fn put_line(
     requires small { size_of (seen_content content) ≤ 510 }
     ensures { Stores result image.new (put map.now image.old (record { address = address; content = seen_content content.entry })) }
 {
-    let mut gathered = Gathered::new(alloc);
-    gathered
-        .add_content(address, content)
-        .map_err(|_| LineError::Memory)?;
-    judge_place(&mut gathered, map, image, address, content.size());
-    if let Some(kind) = gathered.kind {
-        return Err(LineError::Kind(kind));
+    let gathered = gather(alloc, map, image, address, content)?;
+    match gathered.kind() {
+        Some(kind) => Err(LineError::Kind(kind)),
+        None => {
+            store(image, address, gathered.bytes());
+            Ok(())
+        }
     }
-    store(image, address, &gathered.bytes);
-    Ok(())
 }
