@@ -4,5 +4,7 @@ pub mod Ports
 pub mod Gathers
 pub mod Room
 pub mod Meaning
+pub mod Passes
 pub mod Small
 pub mod Spared
+pub mod OneMeaning

@@ -1,6 +1,6 @@
 -- A line that was read has few values, since its bytes are few.
 use Rattle.std.proofs.Common.{◌≡◌, ℕ, zero, suc, ◌+◌, ◌-◌, ◌≤◌, ◌<◌, Bool, true, false, List, [], ◌∷◌, length, Option, Some, None, Result, Ok, Err, refl, sym, ◌∙◌, ap, subst, arith}
-use Rattle.std.specs.Prelude.{nat_lt, not, ⊤, ◌==◌, if◌then◌else◌}
+use Rattle.std.specs.Prelude.{codes, nat_lt, not, ⊤, ◌==◌, if◌then◌else◌}
 use Rattle.std.specs.List.{list_all}
 use Rattle.std.specs.Option.{option_map, option_and_then}
 use Rattle.std.specs.Str.{bytes_eq, str_to_ascii_uppercase}
@@ -107,8 +107,11 @@ small_named (Some m) o = small_instruction m o
 small_directive : (text : List ℕ) (ts : List Lexeme) → length ts ≤ 255 → Small (directive_of text ts)
 unfolding directive_of
 small_directive text ts le =
-    small_if _ (option_map bytes (expressions_of ts)) _ (small_bytes (length ts) (expressions_of ts) le (expressions_small (length ts) ts))
-    (small_if _ (option_map words (expressions_of ts)) None (small_words (length ts) (expressions_of ts) le (expressions_small (length ts) ts)) tt)
+    let wide : Option Statement = if bytes_eq (str_to_ascii_uppercase text) (codes ".WORD") then option_map words (expressions_of ts) else None in
+    small_if (bytes_eq (str_to_ascii_uppercase text) (codes ".BYTE")) (option_map bytes (expressions_of ts)) wide
+    (small_bytes (length ts) (expressions_of ts) le (expressions_small (length ts) ts))
+    (small_if (bytes_eq (str_to_ascii_uppercase text) (codes ".WORD")) (option_map words (expressions_of ts)) None
+    (small_words (length ts) (expressions_of ts) le (expressions_small (length ts) ts)) tt)
 
 small_behind : (ts : List Lexeme) → Small (origin_behind ts)
 small_behind [] = tt

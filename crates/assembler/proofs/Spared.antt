@@ -1,7 +1,7 @@
 -- No line without a fault puts a byte at a port address.
 use Rattle.std.proofs.Common.{◌≡◌, ◌≢◌, ℕ, zero, suc, ◌+◌, ◌≤◌, ◌<◌, Bool, true, false, List, [], ◌∷◌, length, Option, Some, None, replicate, get_or, inl, inr, refl, sym, ◌∙◌, ap, arith, get_or-set_other}
 use Rattle.std.specs.Prelude.{nat_le, nat_lt, ◌||◌, ◌&&◌, slice_set, is_some}
-use Rattle.std.proofs.lemmas.Bool.Decides.{nat_tests, ltb_tells}
+use Rattle.std.proofs.lemmas.Bool.Decides.{nat_tests, leb_tells}
 use Rattle.std.proofs.lemmas.List.{get_or-replicate, get_or_past, length-replicate}
 use Rattle.model.specs.State.{Map, is_port, has_port_byte}
 use Rattle.model.specs.Image.{empty_image, has_byte, with_bytes}
@@ -48,9 +48,9 @@ makes_spared m (p ∷ ps) image final h s =
     (bytes_spared m (bytes_of no_numbers p) image p.address (size_of p.content) (line_size p) (placed_right m image p h.0).port s)
 
 blank_cell : (n q : ℕ) → get_or (replicate n nothing) q None ≡ None
-blank_cell n q = elim (ltb_tells q n) [
+blank_cell n q = elim (leb_tells (suc q) n) [
   | inl inside ↦ get_or-replicate n q nothing None inside.1
-  | inr past ↦ let whole : length (replicate n nothing) ≤ q = omega (arith, length-replicate {A = Option ℕ} n nothing) in get_or_past (replicate n nothing) q None whole
+  | inr past ↦ let whole : length (replicate n nothing) ≤ q = omega (arith, past.1, length-replicate {A = Option ℕ} n nothing) in get_or_past (replicate n nothing) q None whole
 ]
 
 blank_spared : (m : Map) (n : ℕ) → IsSpared m (replicate n nothing)

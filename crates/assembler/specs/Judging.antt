@@ -3,15 +3,17 @@ use Rattle.std.specs.Prelude.{◌≡◌, ℕ, pos, ◌+◌, nat_lt, ⊤, if◌th
 use Rattle.model.specs.State.{Map}
 use Rattle.model.specs.Lines.{lines_of}
 use Rattle.model.specs.Image.{empty_image, with_bytes}
-use Rattle.model.specs.Layout.{Placed, size_of, layout_of, ◌>>>◌}
+use Rattle.model.specs.Layout.{Placed, size_of, laid, layout_of, ◌>>>◌}
 use Rattle.model.specs.Bytes.{Piece, lower, byte_piece, word_piece, bytes_of, pieces_of, place_kinds, value_fault}
 use Rattle.model.specs.Expression.{Term}
+use Rattle.model.specs.Line.{Statement}
 use Rattle.model.specs.Value.{eval_of}
 use Rattle.model.specs.Source.{most_bytes, no_numbers}
 use Rattle.model.specs.declared.source_fault.AsmFault.{AsmFault}
 use Rattle.model.specs.declared.source_fault.AsmFaultKind.{AsmFaultKind}
 use Rattle.model.specs.declared.source_fault.AsmFaultKind.TheVariants.{TooLarge}
-use Rattle.assembler.specs.Assembly.{extent_of, out_of_memory}
+use Rattle.assembler.specs.Assembly.{Assembled, extent_of, out_of_memory, pair_of}
+use Rattle.assembler.specs.declared.pass.Span.{Span}
 use Rattle.assembler.specs.declared.emit.Encoded.{Encoded}
 use Rattle.assembler.specs.declared.emit.Encoded.TheVariants.{Nothing, Byte, Word}
 use Rattle.assembler.specs.declared.fault.LineError.{LineError}
@@ -84,6 +86,13 @@ made_line bus_map address image line = layout_of no_numbers address line >>> λ 
 unfoldable pub laid_line : ℕ → List ℕ → Result ((ℕ × ℕ) × ℕ) AsmFaultKind
 laid_line address line = layout_of no_numbers address line >>> λ p. Ok (extent_of p.0, p.1)
 
+-- The same of a statement.
+unfoldable pub made_statement : Map → ℕ → List (Option ℕ) → Statement → Result (List (Option ℕ) × ℕ) AsmFaultKind
+made_statement bus_map address image s = laid no_numbers address s >>> λ p. put bus_map image p.0 >>> λ i. Ok (i, p.1)
+
+unfoldable pub laid_statement : ℕ → Statement → Result ((ℕ × ℕ) × ℕ) AsmFaultKind
+laid_statement address s = laid no_numbers address s >>> λ p. Ok (extent_of p.0, p.1)
+
 -- What was answered, and left in an image, is what a definition gives, memory aside.
 abbrev pub Stores : Result Unit LineError → List (Option ℕ) → Result (List (Option ℕ)) AsmFaultKind → Type 0
 Stores (Ok u) image given = given ≡ Ok image
@@ -96,7 +105,15 @@ Puts (Ok next) image given = given ≡ Ok (image, next)
 Puts (Err errors.Memory) image given = ⊤
 Puts (Err (errors.Kind kind)) image given = given ≡ Err kind
 
+abbrev pub spanned : Span × ℕ → (ℕ × ℕ) × ℕ
+spanned p = (pair_of p.0, p.1)
+
 -- ---- all lines
+
+-- The fault of a line with a number.
+abbrev pub located : ℕ → LineError → AsmFault
+located number errors.Memory = out_of_memory
+located number (errors.Kind kind) = record { line = number; kind = kind }
 
 abbrev pub numbered : {A : Type 0} → ℕ → Result A AsmFaultKind → Result A AsmFault
 numbered number (Ok a) = Ok a
@@ -139,3 +156,11 @@ judged bus_map source = if nat_lt most_bytes (length source) then Err too_large 
 abbrev pub Answers : {A B : Type 0} → (A → B) → Result A AsmFault → Result B AsmFault → Type 0
 Answers shown (Ok a) given = given ≡ Ok (shown a)
 Answers shown (Err fault) given = (fault ≡ out_of_memory) ⊎ (given ≡ Err fault)
+
+abbrev pub seen_judged : Assembled → Judged
+seen_judged a = record { places = a.places; image = a.image }
+
+-- The answer is this image, or memory was refused.
+abbrev pub IsImageOrMemory : Result Assembled AsmFault → List (Option ℕ) → Type 0
+IsImageOrMemory (Ok a) image = a.image ≡ image
+IsImageOrMemory (Err fault) image = fault ≡ out_of_memory

@@ -265,6 +265,8 @@ fn standing<'s, 'a>(address: u32, content: Content<'s, 'a>) -> Place<'s, 'a>
     requires small { size_of (seen_content content) ≤ 510 }
     ensures exact { seen_place result ≡ standing address (seen_content content.entry) }
     ensures near { result.next ≤ address + 510 }
+    ensures here { result.address ≡ address }
+    ensures small { size_of (seen_content result.content) ≤ 510 }
 {
     Place {
         address,
@@ -283,6 +285,8 @@ fn instruct<'s, 'a>(
     requires { address < 2 ^ 31 - 510 }
     ensures exact { Shows seen_place result (laid no_numbers address (instruction mnemonic (seen_operand operand.now))) }
     ensures near { IfOk result (λ p. p.next ≤ address + 510) }
+    ensures small { IfOk result (λ p. size_of (seen_content p.content) ≤ 510) }
+    ensures here { IfOk result (λ p. p.address ≡ address) }
 {
     let value = term_of(operand);
     let mode = mode_of(address, value, form_of(mnemonic, operand))?;
@@ -301,6 +305,7 @@ pub fn lay<'s, 'a>(
     ensures exact { Shows seen_place result (laid no_numbers address (seen statement.now)) }
     ensures near { IfOk result (λ p. p.next ≤ max (address + 510) 65535) }
     ensures small { IfOk result (λ p. size_of (seen_content p.content) ≤ 510) }
+    ensures here { IfOk result (λ p. p.address ≡ address) }
 {
     match statement {
         Statement::Nothing => Ok(standing(address, Content::NoBytes)),
