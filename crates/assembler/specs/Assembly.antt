@@ -16,6 +16,9 @@ pub record Assembled : Type 0 where
 abbrev pub extent_of : Placed → ℕ × ℕ
 extent_of p = (p.address, size_of p.content)
 
+abbrev pub extents_of : List Placed → List (ℕ × ℕ)
+extents_of placed = map extent_of placed
+
 abbrev pub pair_of : Span → ℕ × ℕ
 pair_of span = (span.address, span.count)
 

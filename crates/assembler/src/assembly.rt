@@ -1,7 +1,7 @@
 //! A source assembled.
 
-ghost use Rattle.std.specs.Prelude.{◌≡◌, ◌⊎◌, ℕ, List, Option, Err, IfOk, IfErr, false, map};
-ghost use Rattle.assembler.specs.Assembly.{extent_of, out_of_memory};
+ghost use Rattle.std.specs.Prelude.{◌≡◌, ◌⊎◌, ℕ, List, Option, Err, IfOk, IfErr, false};
+ghost use Rattle.assembler.specs.Assembly.{extents_of, out_of_memory};
 ghost use Rattle.assembler.specs.Judging.{Answers, IsImageOrMemory, judged, seen_judged};
 ghost use Rattle.model.specs.Image.{IsImage};
 ghost use Rattle.model.specs.Layout.{LaidOut, Placed};
@@ -78,17 +78,16 @@ pub fn assemble(alloc: Global, source: &[u8], map: &MapSpec) -> Result<Assembly,
     ensures cells { IfOk result (λ a. IsImage a.image) }
     // The source is kept, and where its lines stand and how many bytes each has.
     ensures kept { IfOk result (λ a. a.source ≡ source.now) }
-    ensures places { IfOk result (λ a. (placed : List Placed) (end : ℕ) → LaidOut no_numbers 0 (lines_of source.now) placed end → a.places ≡ map extent_of placed) }
+    ensures places { IfOk result (λ a. (placed : List Placed) (end : ℕ) → LaidOut no_numbers 0 (lines_of source.now) placed end → a.places ≡ extents_of placed) }
 {
-    let assembly = assemble_lines(alloc, source, map)?;
-    let _ = assembly.image().cells();
-    Ok(assembly)
+    assemble_lines(alloc, source, map)
 }
 
 /// The source laid out, and then its bytes put.
 #[tactic(auto, unfolding(crate::specs::Judging::judged, crate::specs::Judging::judged_lines))]
 fn assemble_lines(alloc: Global, source: &[u8], map: &MapSpec) -> Result<Assembly, AsmFault>
     ensures exact { Answers seen_judged result (judged map.now source.now) }
+    ensures cells { IfOk result (λ a. IsImage a.image) }
     ensures kept { IfOk result (λ a. a.source ≡ source.now) }
 {
     if source.len() > SOURCE_SIZE {
@@ -99,6 +98,7 @@ fn assemble_lines(alloc: Global, source: &[u8], map: &MapSpec) -> Result<Assembl
     }
     let spans = lay_out(alloc, source)?;
     let image = make_image(alloc, source, map)?;
+    let _ = image.cells();
     let source = Vec::from_slice(alloc, source).map_err(|_| OUT_OF_MEMORY)?;
     Ok(Assembly {
         image,
