@@ -1,6 +1,6 @@
 -- What is found is derived by the grammar.
 use Rattle.std.proofs.Common.{◌≡◌, ℕ, zero, suc, Bool, true, false, List, [], ◌∷◌, ◌++◌, length, Option, Some, None, refl, sym, ap, ◌∙◌, subst, append_assoc}
-use Rattle.std.specs.Option.{option_map, option_map_or, option_and_then}
+use Rattle.std.specs.Option.{option_map, option_and_then}
 use Rattle.model.specs.declared.expression.Operator.{Operator}
 use Rattle.model.specs.Token.{Lexeme}
 use Rattle.model.specs.Expression.{Term, negated, binary, low, high, symbol_of, operator_of, atom_of, Level, primary, unary, sum, whole, Derives, atom, group, plain, minus, single, chain, bare, low_byte, high_byte}
@@ -24,11 +24,11 @@ abbrev Of : Level → ℕ → List Lexeme → Read → Type 0
 Of l d tokens None = Unit {0}
 Of l d tokens (Some p) = Spelled l d p.0 tokens p.1
 
-abbrev Inside : ℕ → List Lexeme → Read → Type 0
+abbrev pub Inside : ℕ → List Lexeme → Read → Type 0
 Inside d tokens None = Unit {0}
 Inside d tokens (Some p) = Bracketed d p.0 tokens p.1
 
-abbrev Inner : ℕ → (List Lexeme → Read) → Type 0
+abbrev pub Inner : ℕ → (List Lexeme → Read) → Type 0
 Inner d inner = (tokens : List Lexeme) → Inside d tokens (inner tokens)
 
 -- ---- primaries
@@ -78,7 +78,7 @@ unary_derived d inner h (t ∷ ts) = go (is_symbol 45 t) refl where
 -- ---- sums
 
 -- an operator and its right side make a longer sum
-abbrev Longer : ℕ → List Lexeme → Option (Operator × Term × List Lexeme) → Type 0
+abbrev pub Longer : ℕ → List Lexeme → Option (Operator × Term × List Lexeme) → Type 0
 Longer d tokens None = Unit {0}
 Longer d tokens (Some q) = (front : List Lexeme) × (tokens ≡ front ++ q.2) × ((a : Term) (ls : List Lexeme) → Derives sum d a ls → Derives sum d (binary q.0 a q.1) (ls ++ front))
 
@@ -86,7 +86,7 @@ right_derived : (d : ℕ) (t : Lexeme) (ts : List Lexeme) (op : Operator) (r : R
 right_derived d t ts op None o h = tt
 right_derived d t ts op (Some p) o h = (t ∷ h.front, ap (λ xs. t ∷ xs) h.cut, λ a ls k. chain t o k h.derived)
 
-next_derived : (d : ℕ) (inner : List Lexeme → Read) → Inner d inner → (tokens : List Lexeme) → Longer d tokens (next_with inner tokens)
+pub next_derived : (d : ℕ) (inner : List Lexeme → Read) → Inner d inner → (tokens : List Lexeme) → Longer d tokens (next_with inner tokens)
 next_derived d inner h [] = tt
 next_derived d inner h (t ∷ ts) = go (operator_of t) refl where
   go : (o : Option Operator) → operator_of t ≡ o → Longer d (t ∷ ts) (option_and_then (λ op. option_map (λ p. (op, p.0, p.1)) (unary_with inner ts)) o)
@@ -102,8 +102,8 @@ more_derived d inner h (suc n) e front tokens k = go (next_with inner tokens) (n
       → Spelled sum d (went_on (λ x xs. more_with inner n x xs) e tokens o).0 (front ++ tokens) (went_on (λ x xs. more_with inner n x xs) e tokens o).1
   go None l again = record { front = front; cut = refl; derived = k }
   go (Some q) l again =
-    let s = again (binary q.0 e q.1) (front ++ l.0) q.2 (l.2 e front k) in
-    record { front = s.front; cut = ap (λ xs. front ++ xs) l.1 ∙ sym (append_assoc front l.0 q.2) ∙ s.cut; derived = s.derived }
+      let s = again (binary q.0 e q.1) (front ++ l.0) q.2 (l.2 e front k) in
+      record { front = s.front; cut = ap (λ xs. front ++ xs) l.1 ∙ sym (append_assoc front l.0 q.2) ∙ s.cut; derived = s.derived }
 
 sum_of_unary : (d : ℕ) (inner : List Lexeme → Read) → Inner d inner → (tokens : List Lexeme) (r : Read) → Of unary d tokens r → Of sum d tokens (option_map (λ p. more_with inner (length p.1) p.0 p.1) r)
 sum_of_unary d inner h tokens None u = tt
@@ -120,7 +120,7 @@ bracketed : (d : ℕ) (tokens : List Lexeme) (r : Read) → Of sum d tokens r �
 bracketed d tokens None h = tt
 bracketed d tokens (Some p) h = record { front = h.front; cut = h.cut; enclosed = λ t u o c. group t u o c h.derived }
 
-inside_at : (d : ℕ) → Inner d (inner_at d)
+pub inside_at : (d : ℕ) → Inner d (inner_at d)
 inside_at zero tokens = tt
 inside_at (suc d) tokens = bracketed d tokens (sum_with (inner_at d) tokens) (sum_derived d (inner_at d) (inside_at d) tokens)
 
@@ -143,6 +143,7 @@ whole_derived d [] = tt
 whole_derived d (t ∷ ts) = go (is_symbol 60 t) (is_symbol 62 t) refl refl where
   sums : (xs : List Lexeme) → Of sum d xs (sum_with (inner_at d) xs)
   sums xs = sum_derived d (inner_at d) (inside_at d) xs
+
   go : (l g : Bool) → is_symbol 60 t ≡ l → is_symbol 62 t ≡ g → Of whole d (t ∷ ts) (whole_with (inner_at d) (t ∷ ts))
   go true g x y = rw x (low_derived d t ts (sum_with (inner_at d) ts) (is_symbol_back 60 (symbol_of t) x) (sums ts))
   go false true x y = rw (x, y) (high_derived d t ts (sum_with (inner_at d) ts) (is_symbol_back 62 (symbol_of t) y) (sums ts))

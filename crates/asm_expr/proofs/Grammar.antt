@@ -1,6 +1,6 @@
 -- What the grammar derives is found, whatever follows it.
-use Rattle.std.proofs.Common.{◌≡◌, ◌≢◌, ℕ, zero, suc, ◌+◌, ◌-◌, ◌<◌, ◌≤◌, ◌==◌, Bool, true, false, List, [], ◌∷◌, ◌++◌, length, Option, Some, None, refl, sym, ap, ◌∙◌, arith, append_assoc, append-nil}
-use Rattle.std.specs.Option.{option_map, option_map_or, option_and_then}
+use Rattle.std.proofs.Common.{◌≡◌, ◌≢◌, ℕ, zero, suc, ◌≤◌, ◌==◌, Bool, true, false, List, [], ◌∷◌, ◌++◌, length, Option, Some, None, refl, sym, ap, ◌∙◌, arith, append_assoc}
+use Rattle.std.specs.Option.{option_map, option_map_or}
 use Rattle.std.proofs.lemmas.Bool.{eq-eqb, eqb-true, ne_eqb}
 use Rattle.std.proofs.lemmas.List.{length-append}
 use Rattle.model.specs.declared.expression.Operator.{Operator}
@@ -8,7 +8,7 @@ use Rattle.model.specs.declared.expression.TokenKind.{TokenKind}
 use Rattle.model.specs.declared.expression.TokenKind.TheVariants.{Word, Directive, Number, Char, Str, Symbol}
 use Rattle.model.specs.Token.{Lexeme}
 use Rattle.model.specs.Expression.{Term, negated, binary, low, high, symbol_in, symbol_of, operator_of, atom_in, atom_of, star_term, Level, primary, unary, sum, whole, Derives, atom, group, plain, minus, single, chain, bare, low_byte, high_byte, IsExpression}
-use Rattle.model.specs.Reading.{Read, is_symbol, primary_with, unary_with, next_with, more_with, sum_with, inner_at, whole_with}
+use Rattle.model.specs.Reading.{Read, is_symbol, primary_with, unary_with, more_with, sum_with, inner_at, whole_with}
 
 pub is_symbol_from : (b : ℕ) (t : Lexeme) → symbol_of t ≡ Some b → is_symbol b t ≡ true
 is_symbol_from b t e = rw e (eq-eqb b b refl)
@@ -161,14 +161,14 @@ finds_low t e ts h f rest = record {
 
 finds_high : (t : Lexeme) (e : Term) (ts : List Lexeme) → symbol_of t ≡ Some 62 → Finds sum 8 e ts → (rest : List Lexeme) → FindsWhole (high e) (t ∷ ts) rest
 finds_high t e ts h f rest =
-  let not_low : is_symbol 60 t ≡ false = rw h refl in
-  record {
-    count = (f rest).0;
-    inside = e;
-    around = high;
-    is = refl;
-    found = rw (not_low, is_symbol_from 62 t h, (f rest).2) refl;
-  }
+    let not_low : is_symbol 60 t ≡ false = rw h refl in
+    record {
+      count = (f rest).0;
+      inside = e;
+      around = high;
+      is = refl;
+      found = rw (not_low, is_symbol_from 62 t h, (f rest).2) refl;
+    }
 
 pub finds_whole : {e : Term} {ts : List Lexeme} → IsExpression e ts → (rest : List Lexeme) → FindsWhole e ts rest
 finds_whole (bare {e = e} {ts = ts} h) rest = finds_bare e ts (finds_sum h) rest

@@ -1,5 +1,10 @@
 pub mod Derived
 pub mod Grammar
 pub mod Literals
+pub mod Longest
 pub mod Turns
 pub mod Whole
+pub mod Runs
+pub mod Fronts
+pub mod Steps
+pub mod Slices

@@ -23,13 +23,13 @@ capped_step : (base n : ℕ) (digits : List ℕ) → 1 ≤ base → in_range (nu
 capped_step base n digits h = go (nat_lt n 2147483648) refl where
   go : (b : Bool) → nat_lt n 2147483648 ≡ b → in_range (number_behind base (min n 2147483648) digits) ≡ in_range (number_behind base n digits)
   go true t =
-    let lt = ltb-true n 2147483648 t in
-    let e : min n 2147483648 ≡ n = omega (arith, lt) in
-    ap (λ m. in_range (number_behind base m digits)) e
+      let lt = ltb-true n 2147483648 t in
+      let e : min n 2147483648 ≡ n = omega (arith, lt) in
+      ap (λ m. in_range (number_behind base m digits)) e
   go false t =
-    let le = ltb-false n 2147483648 t in
-    let e : 2147483648 ≤ min n 2147483648 = omega (arith, le) in
-    is_past (number_behind base (min n 2147483648) digits) (past base (min n 2147483648) digits h e) ∙ sym (is_past (number_behind base n digits) (past base n digits h le))
+      let le = ltb-false n 2147483648 t in
+      let e : 2147483648 ≤ min n 2147483648 = omega (arith, le) in
+      is_past (number_behind base (min n 2147483648) digits) (past base (min n 2147483648) digits h e) ∙ sym (is_past (number_behind base n digits) (past base n digits h le))
 
 -- a turn of the loop over the digits
 pub capped_turn : (base n i : ℕ) (digits : List ℕ) → 1 ≤ base → i < length digits

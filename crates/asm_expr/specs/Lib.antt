@@ -1,2 +1,3 @@
 pub mod Lexemes
 pub mod Trees
+pub mod Lexing

@@ -16,7 +16,11 @@ pub fn symbol(token: &Token<'_>) -> Option<u8>
 {
     match token.kind {
         TokenKind::Symbol => token.text.first().copied(),
-        TokenKind::Word | TokenKind::Directive | TokenKind::Number | TokenKind::Char | TokenKind::Str => None,
+        TokenKind::Word
+        | TokenKind::Directive
+        | TokenKind::Number
+        | TokenKind::Char
+        | TokenKind::Str => None,
     }
 }
 

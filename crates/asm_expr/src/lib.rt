@@ -2,13 +2,20 @@
 #![tactic(auto)]
 
 mod atom;
+mod byte_class;
+mod law;
+mod lexer;
 mod parse;
 mod token;
+mod token_law;
 mod tree;
 mod value;
 
+pub use law::{expressions_are_longest, one_expression};
+pub use lexer::tokens;
 pub use model::{ExprFault, LineFault, Operator, TokenKind};
 pub use parse::parse_expr;
 pub use token::Token;
+pub use token_law::tokens_are_slices;
 pub use tree::Expr;
 pub use value::{Names, eval};

@@ -1,4 +1,7 @@
+pub mod Behind
+pub mod Capitals
 pub mod Cuts
+pub mod Rest
 pub mod Sizes
 pub mod Ports
 pub mod Gathers

@@ -1,5 +1,8 @@
 -- Lines without where they lie in memory.
-use Rattle.std.specs.Prelude.{◌≡◌, ⊤, List, map, Result, Ok, Err}
+use Rattle.std.specs.Prelude.{◌≡◌, ⊤, List, map, Option, Some, None, Result, Ok, Err}
+use Rattle.std.specs.Borrow.{Bor}
+use Rattle.asm_expr.specs.Lexemes.{lexemes}
+use Rattle.asm_expr.specs.declared.token.Token.{Token}
 use Rattle.asm_expr.specs.Trees.{view}
 use Rattle.asm_expr.specs.declared.tree.Expr.{Expr}
 use Rattle.assembler.specs.declared.statement.Operand.{Operand}
@@ -9,7 +12,11 @@ use Rattle.assembler.specs.declared.statement.Statement.TheVariants as statement
 use Rattle.model.specs.Expression.{Term}
 use Rattle.model.specs.Line as line
 use Rattle.model.specs.Line.{absent, accumulator, immediate, direct, pointer, pointer_by_x, pointer_by_y, nothing, origin, bytes, words, instruction}
+use Rattle.model.specs.Token.{Lexeme}
+use Rattle.model.specs.declared.expression.LineFault.{LineFault}
+use Rattle.model.specs.declared.expression.LineFault.TheVariants as faults
 use Rattle.model.specs.declared.source_fault.AsmFaultKind.{AsmFaultKind}
+use Rattle.model.specs.declared.source_fault.AsmFaultKind.TheVariants as kinds
 use Rattle.assembler.specs.declared.fault.LineError.{LineError}
 use Rattle.assembler.specs.declared.fault.LineError.TheVariants as errors
 
@@ -34,3 +41,18 @@ abbrev pub Gives : {A B : Type 0} → (A → B) → Result A LineError → Resul
 Gives shown (Ok a) given = given ≡ Ok (shown a)
 Gives shown (Err errors.Memory) given = ⊤
 Gives shown (Err (errors.Kind kind)) given = given ≡ Err kind
+
+-- An expression, and the tokens behind it.
+abbrev pub seen_behind : Expr × Bor (List Token) → Term × List Lexeme
+seen_behind p = (view p.0, lexemes p.1.now)
+
+-- What was read is what a definition finds, memory aside.
+abbrev pub Reads : {A B : Type 0} → (A → B) → Result A LineFault → Option B → Type 0
+Reads shown (Ok a) found = found ≡ Some (shown a)
+Reads shown (Err faults.OutOfMemory) found = ⊤
+Reads shown (Err faults.Syntax) found = found ≡ None
+
+-- A line whose tokens or expressions are none of the grammar has the fault Syntax.
+abbrev pub error_of : LineFault → LineError
+error_of faults.Syntax = errors.Kind kinds.Syntax
+error_of faults.OutOfMemory = errors.Memory

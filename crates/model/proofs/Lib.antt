@@ -1,3 +1,5 @@
 pub mod Examples
 pub mod SourceExamples
 pub mod Encoding
+pub mod ValueExamples
+pub mod TokenExamples

@@ -1,5 +1,5 @@
 -- The tokens of a source line. Source: profile.
-use Rattle.std.specs.Prelude.{ℕ, zero, suc, ◌+◌, ◌-◌, Bool, false, not, ◌||◌, ◌&&◌, ◌==◌, nat_le, if◌then◌else◌, List, [], ◌∷◌, ◌++◌, length, drop, Option, Some, None}
+use Rattle.std.specs.Prelude.{◌≡◌, ℕ, zero, suc, ◌+◌, ◌-◌, ◌<◌, ◌≤◌, Bool, false, not, ◌||◌, ◌&&◌, ◌==◌, nat_le, if◌then◌else◌, List, [], ◌∷◌, ◌++◌, length, take, drop, Option, Some, None}
 use Rattle.std.specs.List.{list_all}
 use Rattle.std.specs.Option.{option_map}
 use Rattle.model.specs.declared.expression.TokenKind.{TokenKind}
@@ -139,3 +139,15 @@ tokens_from place zero (b ∷ bytes) =
 -- The tokens of a line, in order; none where a byte may not stand in a source, in a comment too.
 unfoldable pub tokens_of : List ℕ → Tokens
 tokens_of line = if list_all is_source_byte line then tokens_from 0 0 line else None
+
+-- ---- where tokens stand
+
+-- Tokens that stand in a line in order, from a place on: each begins at that place or behind it, its bytes are those of the line at its start, at least one, and the others stand behind it.
+abbrev pub AreSlices : List ℕ → ℕ → List Lexeme → Type 0
+AreSlices line place [] = Unit {0}
+AreSlices line place (t ∷ ts) =
+    (place ≤ t.start) × (0 < length t.text) × (take (length t.text) (drop t.start line) ≡ t.text) × AreSlices line (t.start + length t.text) ts
+
+-- The tokens of a line are slices of it, in order, and no two of them overlap.
+abbrev pub TokensAreSlices : Type 0
+TokensAreSlices = (line : List ℕ) (ts : List Lexeme) → tokens_of line ≡ Some ts → AreSlices line 0 ts

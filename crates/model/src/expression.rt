@@ -3,6 +3,7 @@
 ghost use Rattle.std.specs.Prelude.{◌≡◌};
 ghost use Rattle.model.specs.FaultNames.{expression_fault_name, expression_fault_number, line_fault_name, line_fault_number};
 
+use std::alloc::{AllocError, AllocFailed};
 use thiserror::Error;
 
 /// What a token is (profile).
@@ -71,6 +72,28 @@ impl LineFault {
             LineFault::Syntax => "Syntax",
             LineFault::OutOfMemory => "OutOfMemory",
         }
+    }
+}
+
+impl From<AllocError> for LineFault {
+    ghost use Rattle.std.specs.Prelude.{◌≡◌};
+    ghost use Rattle.model.specs.declared.expression.LineFault.TheVariants.{OutOfMemory};
+
+    ghost from_gives = { λ _ f. f ≡ OutOfMemory };
+
+    fn from(_error: AllocError) -> LineFault {
+        LineFault::OutOfMemory
+    }
+}
+
+impl<T: Drop> From<AllocFailed<T>> for LineFault {
+    ghost use Rattle.std.specs.Prelude.{◌≡◌};
+    ghost use Rattle.model.specs.declared.expression.LineFault.TheVariants.{OutOfMemory};
+
+    ghost from_gives = { λ _ f. f ≡ OutOfMemory };
+
+    fn from(_refused: AllocFailed<T>) -> LineFault {
+        LineFault::OutOfMemory
     }
 }
 

@@ -6,5 +6,5 @@ pub loop-byte-preserved : goal.loop-byte-preserved
 loop-byte-preserved c = record {
   capped = omega (arith, c.min-number.ensures);
   same = rw (c.min-number.ensures, c.digit.ensures)
-    (capped_turn c.args.base c.loop-byte.number c.loop-byte.byte-index c.args.digits.now c.requires c.loop-byte-test.true ∙ c.loop-byte.invariant.same);
+      (capped_turn c.args.base c.loop-byte.number c.loop-byte.byte-index c.args.digits.now c.requires c.loop-byte-test.true ∙ c.loop-byte.invariant.same);
 }
