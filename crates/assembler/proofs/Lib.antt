@@ -2,3 +2,12 @@ pub mod Behind
 pub mod Capitals
 pub mod Cuts
 pub mod Rest
+pub mod Sizes
+pub mod Ports
+pub mod Gathers
+pub mod Room
+pub mod Meaning
+pub mod Passes
+pub mod Small
+pub mod Spared
+pub mod OneMeaning

@@ -1,4 +1,6 @@
 pub mod Assembly
 pub mod Lists
 pub mod Pointers
+pub mod Placing
+pub mod Judging
 pub mod Seen

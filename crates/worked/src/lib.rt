@@ -2,6 +2,8 @@
 #![tactic(auto)]
 
 #[cfg(test)]
+mod assembler_tests;
+#[cfg(test)]
 mod engine_tests;
 #[cfg(test)]
 mod machine_tests;

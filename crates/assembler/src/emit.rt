@@ -1,0 +1,411 @@
+//! The bytes of a line in its place, or its value fault.
+
+ghost use Rattle.std.specs.Prelude.{◌≡◌, ◌+◌, ◌<◌, ◌≤◌, ◌^◌, ◌-◌, ◌∷◌, [], pos, length, map, IfErr, IfOk, OnOk, Ok, Some, Err};
+ghost use Rattle.asm_expr.specs.Trees.{view};
+ghost use Rattle.assembler.specs.Judging.{Stores, added, byte_pieces, gathered, line_gathered, noted, noted_all, nothing_gathered, put, refused, seen_encoded, seen_piece, word_pieces};
+ghost use Rattle.assembler.specs.Placing.{seen_content, shown};
+ghost use Rattle.model.specs.Bytes.{address_piece, behind_opcode, branch_piece, byte_piece, distance_piece, has_bytes, has_port, kind_if, lower, lowest, modulo, operand_piece, pieces_of, place_kinds, value_fault, within, word_bytes, word_piece, zero_page_piece};
+ghost use Rattle.model.specs.Image.{has_byte, with_bytes};
+ghost use Rattle.model.specs.Layout.{size_of};
+ghost use Rattle.model.specs.Source.{no_numbers};
+ghost use Rattle.model.specs.Value.{eval_of};
+
+use crate::fault::LineError;
+use crate::layout::{Content, value_at};
+use asm_expr::Expr;
+use bus::{Image, MapSpec};
+use model::{AsmFaultKind, ExprFault, Mode};
+use std::alloc::{AllocError, Global};
+use std::marker::Model;
+
+/// The bytes that one expression gives.
+#[derive(Clone, Copy, Debug, PartialEq, Eq)]
+pub enum Encoded {
+    Nothing,
+    Byte(u8),
+    /// The first byte and the second.
+    Word(u8, u8),
+}
+
+/// A value within bounds.
+fn within(
+    value: Result<i32, ExprFault>,
+    least: i32,
+    most: i32,
+    kind: AsmFaultKind,
+) -> Result<i32, AsmFaultKind>
+    ensures { result ≡ within least most kind value }
+{
+    match value {
+        Ok(number) => {
+            if (number < least) | (number > most) {
+                Err(kind)
+            } else {
+                Ok(number)
+            }
+        }
+        Err(ExprFault::UnknownName) => Err(AsmFaultKind::UndefinedName),
+        Err(ExprFault::Range) => Err(AsmFaultKind::ValueExprRange),
+        Err(ExprFault::DivideByZero) => Err(AsmFaultKind::ValueDivideByZero),
+    }
+}
+
+/// A number modulo 256, as one byte.
+fn byte_of(number: i32) -> Encoded
+    ensures { seen_encoded result ≡ modulo number 256 ∷ [] }
+{
+    Encoded::Byte(number.rem_euclid(256) as u8)
+}
+
+/// A number modulo 65536, the low byte first.
+fn word_of(number: i32) -> Encoded
+    ensures { seen_encoded result ≡ word_bytes (modulo number 65536) }
+{
+    let word = number.rem_euclid(65536) as u16;
+    Encoded::Word((word % 256) as u8, (word / 256) as u8)
+}
+
+/// One byte: -128..255.
+#[tactic(auto, unfolding(model::specs::Bytes::byte_piece))]
+fn byte(value: Result<i32, ExprFault>) -> Result<Encoded, AsmFaultKind>
+    ensures { seen_piece result ≡ byte_piece value }
+{
+    let number = within(value, -128, 255, AsmFaultKind::ByteRange)?;
+    Ok(byte_of(number))
+}
+
+/// An address in the zero page: 0..255.
+#[tactic(auto, unfolding(model::specs::Bytes::zero_page_piece))]
+fn zero_page(value: Result<i32, ExprFault>) -> Result<Encoded, AsmFaultKind>
+    ensures { seen_piece result ≡ zero_page_piece value }
+{
+    let number = within(value, 0, 255, AsmFaultKind::ByteRange)?;
+    Ok(byte_of(number))
+}
+
+/// Two bytes: -32768..65535.
+#[tactic(auto, unfolding(model::specs::Bytes::word_piece))]
+fn word(value: Result<i32, ExprFault>) -> Result<Encoded, AsmFaultKind>
+    ensures { seen_piece result ≡ word_piece value }
+{
+    let number = within(value, -32768, 65535, AsmFaultKind::WordRange)?;
+    Ok(word_of(number))
+}
+
+/// An address: 0..65535.
+#[tactic(auto, unfolding(model::specs::Bytes::address_piece))]
+fn address(value: Result<i32, ExprFault>) -> Result<Encoded, AsmFaultKind>
+    ensures { seen_piece result ≡ address_piece value }
+{
+    let number = within(value, 0, 65535, AsmFaultKind::WordRange)?;
+    Ok(word_of(number))
+}
+
+/// A branch's distance modulo 65536, where it is -128..127.
+fn distance(distance: u32) -> Result<Encoded, AsmFaultKind>
+    ensures { seen_piece result ≡ distance_piece distance }
+{
+    if (distance <= 127) | (65408 <= distance) {
+        Ok(Encoded::Byte((distance % 256) as u8))
+    } else {
+        Err(AsmFaultKind::BranchRange)
+    }
+}
+
+/// The distance of a branch at an address to its target.
+#[tactic(auto, unfolding(model::specs::Bytes::branch_piece))]
+fn branch(here: u32, value: Result<i32, ExprFault>) -> Result<Encoded, AsmFaultKind>
+    requires { here < 2 ^ 31 - 510 }
+    ensures { seen_piece result ≡ branch_piece here value }
+{
+    let target = within(value, 0, 65535, AsmFaultKind::WordRange)?;
+    let from_next = target - (here as i32 + 2);
+    distance(from_next.rem_euclid(65536) as u32)
+}
+
+/// What stands behind an opcode at an address.
+#[tactic(auto, unfolding(model::specs::Bytes::operand_piece))]
+fn operand(here: u32, mode: Mode, value: Result<i32, ExprFault>) -> Result<Encoded, AsmFaultKind>
+    requires { here < 2 ^ 31 - 510 }
+    ensures { seen_piece result ≡ operand_piece here mode value }
+{
+    match mode {
+        Mode::Imp => Ok(Encoded::Nothing),
+        Mode::Acc => Ok(Encoded::Nothing),
+        Mode::Imm => byte(value),
+        Mode::Zp => zero_page(value),
+        Mode::ZpX => zero_page(value),
+        Mode::ZpY => zero_page(value),
+        Mode::Abs => address(value),
+        Mode::AbsX => address(value),
+        Mode::AbsY => address(value),
+        Mode::IndX => zero_page(value),
+        Mode::IndY => zero_page(value),
+        Mode::Ind => address(value),
+        Mode::Rel => branch(here, value),
+    }
+}
+
+/// Of two kinds, if there are two, the one with the lower number.
+#[tactic(auto, unfolding(model::specs::Bytes::lower))]
+fn lower(first: Option<AsmFaultKind>, second: Option<AsmFaultKind>) -> Option<AsmFaultKind>
+    ensures { result ≡ lower first second }
+{
+    match first {
+        None => second,
+        Some(one) => match second {
+            None => first,
+            Some(other) => {
+                if one.number() <= other.number() {
+                    first
+                } else {
+                    second
+                }
+            }
+        },
+    }
+}
+
+/// A line's bytes so far, and the lowest kind of its faults so far.
+#[derive(Drop)]
+struct Gathered {
+    bytes: Vec<u8>,
+    kind: Option<AsmFaultKind>,
+}
+
+impl Model for Gathered {
+    ghost use Rattle.assembler.specs.Judging.{Gathering};
+
+    ghost Value = { Gathering };
+
+    ghost view = { λ g. record { bytes = g.bytes.items; kind = g.kind } };
+}
+
+impl Gathered {
+    /// Nothing yet.
+    fn new(alloc: Global) -> Gathered
+        ensures { result ≡ nothing_gathered }
+    {
+        Gathered {
+            bytes: Vec::new(alloc),
+            kind: None,
+        }
+    }
+
+    /// The lowest kind of its faults.
+    fn kind(&self) -> Option<AsmFaultKind>
+        ensures { result ≡ self.now.kind }
+    {
+        self.kind
+    }
+
+    /// Its bytes.
+    fn bytes(&self) -> &[u8]
+        ensures { result.now ≡ self.now.bytes }
+    {
+        &self.bytes
+    }
+
+    /// A fault.
+    fn refuse(&mut self, kind: AsmFaultKind)
+        ensures { self.new ≡ refused self.old kind }
+    {
+        self.kind = lower(self.kind, Some(kind));
+    }
+
+    /// A fault, if this holds.
+    #[tactic(auto, using(crate::proofs::Gathers::lower_nothing))]
+    fn refuse_if(&mut self, holds: bool, kind: AsmFaultKind)
+        ensures { self.new ≡ noted self.old (kind_if holds kind) }
+    {
+        if holds {
+            self.refuse(kind);
+        }
+    }
+
+    /// Bytes behind those so far.
+    fn push(&mut self, encoded: Encoded) -> Result<(), AllocError>
+        ensures { OnOk result (self.new ≡ added self.old (Ok (seen_encoded encoded))) }
+    {
+        match encoded {
+            Encoded::Nothing => {}
+            Encoded::Byte(byte) => self.bytes.push(byte)?,
+            Encoded::Word(first, second) => {
+                self.bytes.push(first)?;
+                self.bytes.push(second)?;
+            }
+        }
+        Ok(())
+    }
+
+    /// Bytes or a fault.
+    fn add(&mut self, piece: Result<Encoded, AsmFaultKind>) -> Result<(), AllocError>
+        ensures { OnOk result (self.new ≡ added self.old (seen_piece piece)) }
+    {
+        match piece {
+            Ok(encoded) => self.push(encoded),
+            Err(kind) => {
+                self.refuse(kind);
+                Ok(())
+            }
+        }
+    }
+
+    /// The bytes of `.BYTE`.
+    fn add_bytes(&mut self, here: u32, values: &[Expr<'_>]) -> Result<(), AllocError>
+        requires { here < 2 ^ 31 }
+        ensures { OnOk result (self.new ≡ gathered self.old (byte_pieces here (map view values.now))) }
+    {
+        for value in values {
+            self.add(byte(value_at(value, here)))?;
+        }
+        Ok(())
+    }
+
+    /// The bytes of `.WORD`.
+    fn add_words(&mut self, here: u32, values: &[Expr<'_>]) -> Result<(), AllocError>
+        requires { here < 2 ^ 31 }
+        ensures { OnOk result (self.new ≡ gathered self.old (word_pieces here (map view values.now))) }
+    {
+        for value in values {
+            self.add(word(value_at(value, here)))?;
+        }
+        Ok(())
+    }
+
+    /// What stands behind an opcode.
+    #[tactic(auto, unfolding(crate::specs::Judging::gathered))]
+    fn add_operand(
+        &mut self,
+        here: u32,
+        mode: Mode,
+        value: Option<&Expr<'_>>,
+    ) -> Result<(), AllocError>
+        requires { here < 2 ^ 31 - 510 }
+        ensures { OnOk result (self.new ≡ gathered self.old (behind_opcode no_numbers here mode (shown (λ e. view e.now) value.entry))) }
+    {
+        match value {
+            None => Ok(()),
+            Some(value) => self.add(operand(here, mode, value_at(value, here))),
+        }
+    }
+
+    /// All pieces of a line.
+    #[tactic(auto, unfolding(model::specs::Bytes::pieces_of, crate::specs::Judging::gathered))]
+    fn add_content(&mut self, here: u32, content: Content<'_, '_>) -> Result<(), AllocError>
+        requires { here < 2 ^ 31 - 510 }
+        ensures { OnOk result (self.new ≡ gathered self.old (pieces_of no_numbers here (seen_content content.entry))) }
+    {
+        match content {
+            Content::NoBytes => Ok(()),
+            Content::Bytes(values) => self.add_bytes(here, values),
+            Content::Words(values) => self.add_words(here, values),
+            Content::Code(opcode, mode, value) => {
+                self.push(Encoded::Byte(opcode))?;
+                self.add_operand(here, mode, value)
+            }
+        }
+    }
+}
+
+/// Whether an image has a byte at an address.
+#[tactic(auto, unfolding(model::specs::Image::has_byte))]
+fn has_byte(image: &Image, address: u32) -> bool
+    ensures { result ≡ has_byte image.now address }
+{
+    let cells = image.cells();
+    let at = address as usize;
+    if at < cells.len() {
+        cells[at].is_some()
+    } else {
+        false
+    }
+}
+
+/// Whether an image has a byte at one of so many addresses from an address on.
+fn has_bytes(image: &Image, address: u32, count: u32) -> bool
+    requires { address + count < 2 ^ 32 }
+    ensures { result ≡ has_bytes image.now address count }
+{
+    for i in 0..count {
+        if has_byte(image, address + i) {
+            return true;
+        }
+    }
+    false
+}
+
+/// Whether one of so many addresses from an address on is a port address.
+#[tactic(auto, using(crate::proofs::Ports::has_port_is))]
+fn has_port(map: &MapSpec, address: u32, count: u32) -> bool
+    requires { address + count < 2 ^ 32 }
+    ensures { result ≡ has_port map.now address count }
+{
+    let port = map.port() as u32;
+    (0 < count) & (address < port + 4) & (port < address + count)
+}
+
+/// What is wrong with where bytes stand, behind what is wrong with them.
+#[tactic(auto, unfolding(model::specs::Bytes::place_kinds))]
+fn judge_place(gathered: &mut Gathered, map: &MapSpec, image: &Image, address: u32, count: u32)
+    requires { address + count < 2 ^ 32 }
+    ensures { gathered.new ≡ noted_all gathered.old (place_kinds map.now image.now address count) }
+{
+    let past_end = (0 < count) & (65536 < address + count);
+    gathered.refuse_if(past_end, AsmFaultKind::PastEnd);
+    gathered.refuse_if(has_bytes(image, address, count), AsmFaultKind::Overlap);
+    gathered.refuse_if(has_port(map, address, count), AsmFaultKind::PortAddress);
+}
+
+/// Puts bytes into an image, none of them past address 65535.
+fn store(image: &mut Image, address: u32, bytes: &[u8])
+    requires { 0 < length bytes.now → address + length bytes.now ≤ 65536 }
+    ensures { image.new ≡ with_bytes image.old address bytes.now }
+{
+    if !bytes.is_empty() {
+        image.store(address as u16, bytes);
+    }
+}
+
+/// The bytes of a line, and the lowest kind of all its value faults.
+fn gather(
+    alloc: Global,
+    map: &MapSpec,
+    image: &Image,
+    address: u32,
+    content: Content<'_, '_>,
+) -> Result<Gathered, LineError>
+    requires room { address < 2 ^ 31 - 510 }
+    requires small { size_of (seen_content content) ≤ 510 }
+    ensures found { IfOk result (λ g. g ≡ line_gathered map.now image.now (record { address = address; content = seen_content content.entry })) }
+    ensures refused { IfErr result (λ e. e ≡ LineError.Memory) }
+{
+    let mut gathered = Gathered::new(alloc);
+    gathered
+        .add_content(address, content)
+        .map_err(|_| LineError::Memory)?;
+    judge_place(&mut gathered, map, image, address, content.size());
+    Ok(gathered)
+}
+
+/// Puts the bytes of a line into an image, or answers its value fault.
+pub fn put_line(
+    alloc: Global,
+    map: &MapSpec,
+    image: &mut Image,
+    address: u32,
+    content: Content<'_, '_>,
+) -> Result<(), LineError>
+    requires room { address < 2 ^ 31 - 510 }
+    requires small { size_of (seen_content content) ≤ 510 }
+    ensures { Stores result image.new (put map.now image.old (record { address = address; content = seen_content content.entry })) }
+{
+    let gathered = gather(alloc, map, image, address, content)?;
+    match gathered.kind() {
+        Some(kind) => Err(LineError::Kind(kind)),
+        None => {
+            store(image, address, gathered.bytes());
+            Ok(())
+        }
+    }
+}
