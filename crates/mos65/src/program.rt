@@ -1,7 +1,6 @@
 //! What the program does with its words.
-ghost use Rattle.std.specs.Prelude.{◌≡◌, ◌≤◌, ◌⊎◌, ℕ, List, Option, Some, None, [], IfErr, IfOk, IfSome, MatchResult, OnOk, false, map};
+ghost use Rattle.std.specs.Prelude.{◌≡◌, ◌≤◌, ◌⊎◌, ℕ, List, Option, Some, None, Err, IfErr, IfOk, IfSome, MatchResult, OnOk, false, map};
 ghost use Rattle.std.specs.Io.KnownBytes.{Appends};
-ghost use Rattle.clap.specs.Words.{fault_of};
 ghost use Rattle.model.specs.Event.{start};
 ghost use Rattle.model.specs.Session.{fresh};
 ghost use Rattle.model.specs.Source.{Denotes, HasFault};
@@ -11,7 +10,7 @@ ghost use Rattle.model.specs.Transcript.{transcript};
 ghost use Rattle.model.specs.declared.bus_fault.BusFault.TheVariants.{BadMap};
 ghost use Rattle.mos65.specs.Statuses.{IsStatusOf, status_of};
 ghost use Rattle.words.specs.Asked.{AsmAsked, DebugAsked, asked, asm, debug};
-ghost use Rattle.words.specs.CommandLine.{mos65};
+ghost use Rattle.words.specs.Refused.{IsTaken};
 
 use crate::refusal::Refusal;
 use assembler::assemble;
@@ -163,12 +162,12 @@ pub fn program<H: Files + AllocGlobal, R: Read, O: Write, E: Write>(
     // A refusal leaves the input and the output as they were.
     ensures untouched { 1 ≤ result → result ≤ 3 → (input.new ≡ input.old) × (output.new ≡ output.old) }
     // A wrong value has the status 2, memory aside.
-    ensures value { fault_of mos65 (map (λ s. s.now) words.entry.now) ≡ [] → asked (map (λ s. s.now) words.entry.now) ≡ None → (result ≡ 2) ⊎ (result ≡ 3) }
+    ensures value { IsTaken (map (λ s. s.now) words.entry.now) → asked (map (λ s. s.now) words.entry.now) ≡ None → (result ≡ 2) ⊎ (result ≡ 3) }
     // So has a wrong map, whatever the file.
-    ensures asm_map { (a : AsmAsked) → asked (map (λ s. s.now) words.entry.now) ≡ Some (asm a) → fault_of mos65 (map (λ s. s.now) words.entry.now) ≡ [] → is_map None a.port ≡ false → (result ≡ 2) ⊎ (result ≡ 3) }
-    ensures debug_map { (d : DebugAsked) → asked (map (λ s. s.now) words.entry.now) ≡ Some (debug d) → fault_of mos65 (map (λ s. s.now) words.entry.now) ≡ [] → is_map d.rom d.port ≡ false → (result ≡ 2) ⊎ (result ≡ 3) }
+    ensures asm_map { (a : AsmAsked) → asked (map (λ s. s.now) words.entry.now) ≡ Some (asm a) → IsTaken (map (λ s. s.now) words.entry.now) → is_map None a.port ≡ false → (result ≡ 2) ⊎ (result ≡ 3) }
+    ensures debug_map { (d : DebugAsked) → asked (map (λ s. s.now) words.entry.now) ≡ Some (debug d) → IsTaken (map (λ s. s.now) words.entry.now) → is_map d.rom d.port ≡ false → (result ≡ 2) ⊎ (result ≡ 3) }
     // Where a session has ended, the output has the transcript of the input, from some image on the map of the words.
-    ensures served { result ≡ 0 → (d : DebugAsked) → asked (map (λ s. s.now) words.entry.now) ≡ Some (debug d) → fault_of mos65 (map (λ s. s.now) words.entry.now) ≡ [] → (image : List (Option ℕ)) × IfSome (R.remaining input.old) (λ given.
+    ensures served { result ≡ 0 → (d : DebugAsked) → asked (map (λ s. s.now) words.entry.now) ≡ Some (debug d) → IsTaken (map (λ s. s.now) words.entry.now) → (image : List (Option ℕ)) × IfSome (R.remaining input.old) (λ given.
         Appends (O.contents output.old) (O.contents output.new) (transcript (fresh d.history (start (record { rom = d.rom; port = d.port }) image)) given).written) }
 {
     match read_words(rt.alloc(), words) {

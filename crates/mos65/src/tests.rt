@@ -131,7 +131,7 @@ fn refuses_files_that_are_not_there(rt: HostRuntime) {
 fn refuses_sources(rt: HostRuntime) -> Result<(), Fail> {
     let cases = [
         ("; right\n?\n", "mos65: SOURCE line 2 Syntax 4\n"),
-        ("a1 = 1\na1 = 2\n", "mos65: SOURCE line 2 DuplicateName 6\n"),
+        ("NOP\n.BYTE 256\n", "mos65: SOURCE line 2 ByteRange 21\n"),
     ];
     for (source, line) in cases {
         fs::write(&rt, "refused.a65", source)?;

@@ -15,10 +15,14 @@ Answers e (Help text) = (text ≡ e) × (kind_of e ≡ kind.DisplayHelp)
 Answers e (Usage text) = (text ≡ e) × (kind_of e ≢ kind.OutOfMemory) × (kind_of e ≢ kind.DisplayHelp)
 Answers e Value = ⊥
 
--- by clap's definition the words ask for help, or are none that the command line takes; or it takes
--- them, and a value among them is wrong. Memory may run out at any words
+-- by clap's definition the words fit the command line
+abbrev pub IsTaken : List Text → Type 0
+IsTaken words = fault_of mos65 words ≡ []
+
+-- by clap's definition the words ask for help, or do not fit the command line; or they fit, and a
+-- value among them is wrong. Memory may run out at any words
 abbrev pub IsRightRefusal : List Text → WordsFault → Type 0
 IsRightRefusal words (Help text) = (kind_of text ≡ kind.DisplayHelp) × IsAmong kind.DisplayHelp (fault_of mos65 words)
 IsRightRefusal words (Usage text) = (kind_of text ≢ kind.DisplayHelp) × IsAmong (kind_of text) (fault_of mos65 words)
-IsRightRefusal words Value = (fault_of mos65 words ≡ []) × (asked words ≡ None)
+IsRightRefusal words Value = IsTaken words × (asked words ≡ None)
 IsRightRefusal words OutOfMemory = Unit {0}

@@ -1,9 +1,8 @@
 //! Words read as what they ask for.
-ghost use Rattle.std.specs.Prelude.{◌≡◌, [], Some, IfErr, IfOk, codes, map, option_map};
-ghost use Rattle.clap.specs.Words.{fault_of, first_value, found_of, subcommand_rows_of};
-ghost use Rattle.words.specs.Asked.{asked, asked_of, asm_asked, debug_asked, is_flag};
-ghost use Rattle.words.specs.CommandLine.{mos65};
-ghost use Rattle.words.specs.Refused.{IsRightRefusal};
+ghost use Rattle.std.specs.Prelude.{◌≡◌, ◌⊎◌, Err, None, Some, IsOkUnless, IfErr, IfOk, codes, map, option_map};
+ghost use Rattle.clap.specs.Words.{first_value, found_of, subcommand_rows_of};
+ghost use Rattle.words.specs.Asked.{Asked, asked, asked_of, asm_asked, debug_asked, is_flag};
+ghost use Rattle.words.specs.Refused.{IsRightRefusal, IsTaken};
 ghost use Rattle.words.specs.Views.{asm_view, debug_view, view};
 
 use crate::asked::{AsmWords, DebugWords, Words};
@@ -76,7 +75,11 @@ fn asked<'a>(matches: &ArgMatches<'a>) -> Option<Words<'a>>
 /// - `OutOfMemory`: a request for memory was refused.
 pub fn read_words<'a>(alloc: Global, words: &'a [&'a str]) -> Result<Words<'a>, WordsFault>
     ensures asked { IfOk result (λ w. asked (map (λ s. s.now) words.entry.now) ≡ Some (view w)) }
-    ensures taken { IfOk result (λ w. fault_of mos65 (map (λ s. s.now) words.entry.now) ≡ []) }
+    ensures taken { IfOk result (λ w. IsTaken (map (λ s. s.now) words.entry.now)) }
+    ensures served { (a : Asked) → IsTaken (map (λ s. s.now) words.entry.now)
+        → asked (map (λ s. s.now) words.entry.now) ≡ Some a → IsOkUnless result WordsFault.OutOfMemory }
+    ensures wrong { IsTaken (map (λ s. s.now) words.entry.now) → asked (map (λ s. s.now) words.entry.now) ≡ None
+        → (result ≡ Err WordsFault.Value) ⊎ (result ≡ Err WordsFault.OutOfMemory) }
     ensures refused { IfErr result (IsRightRefusal (map (λ s. s.now) words.entry.now)) }
 {
     let matches = command(alloc)?.try_get_matches_from(words)?;
