@@ -114,11 +114,7 @@ fn ended<E: Write>(outcome: Result<(), Refusal>, errors: &mut E) -> u8
 }
 
 /// Says why words are refused, or gives the help that they ask for, and gives the exit status.
-fn refused_words<O: Write, E: Write>(
-    fault: WordsFault,
-    output: &mut O,
-    errors: &mut E,
-) -> u8
+fn refused_words<O: Write, E: Write>(fault: WordsFault, output: &mut O, errors: &mut E) -> u8
     ensures status { IsStatusOf fault result }
     ensures untouched { 1 ≤ result → result ≤ 3 → output.new ≡ output.old }
 {

@@ -172,11 +172,7 @@ fn refuses_tapes(rt: HostRuntime) -> Result<(), Fail> {
 /// `LDA #$41`, `STA $F000`, `BRK` at $0200. The operand is no byte at the port.
 #[test]
 fn writes_the_tape_of_a_source(rt: HostRuntime) -> Result<(), Fail> {
-    fs::write(
-        &rt,
-        "letter.a65",
-        "*=$0200\nLDA #$41\nSTA $F000\nBRK\n",
-    )?;
+    fs::write(&rt, "letter.a65", "*=$0200\nLDA #$41\nSTA $F000\nBRK\n")?;
     let ran = run(&rt, &["asm", "letter.a65", "letter.tape"]);
     let unwritable = run(&rt, &["asm", "letter.a65", "no/such/folder"]);
     fs::remove_file(&rt, "letter.a65")?;
@@ -209,7 +205,8 @@ fn debugs_a_tape(rt: HostRuntime) -> Result<(), Fail> {
         ran.output.as_slice(),
         b"A=41 X=00 Y=00 S=FD P=24 PC=0202 CYC=9\n\
           A=41 X=00 Y=00 S=FD P=24 PC=0205 CYC=13\n\
-          OUT 1\n41\n".as_slice()
+          OUT 1\n41\n"
+            .as_slice()
     );
     Ok(())
 }
