@@ -1,10 +1,10 @@
 //! Why the program ends without having done what it was asked for.
 ghost use Rattle.std.specs.Prelude.{◌≡◌};
+ghost use Rattle.mos65.specs.Refusals.{of_engine, of_source, of_tape};
+ghost use Rattle.mos65.specs.declared.refusal.Refusal.TheVariants.{Map};
 
-use assembler::AsmFault;
-use bus::BusFault;
-use debugger::SessionFault;
 use engine::EngineFault;
+use model::{AsmFault, AsmFaultKind, BusFault, SessionFault, TapeFault, TapeFaultKind};
 use std::{fmt, io};
 
 /// Each but `OutOfMemory`, `Read` and `Write` is found before anything is written.
@@ -16,13 +16,15 @@ pub enum Refusal {
     Map(BusFault),
     /// The source has a fault.
     Source(AsmFault),
+    /// The tape has a fault.
+    Tape(TapeFault),
     /// The image has bytes at the port's addresses, as only a tape can bring it.
     Session(SessionFault),
     /// Memory ran out.
     OutOfMemory,
     /// A file or the standard input cannot be read.
     Read,
-    /// The standard output cannot be written.
+    /// A file or the standard output cannot be written.
     Write,
 }
 
@@ -35,10 +37,28 @@ impl Refusal {
         ensures { result ≡ status_of self.now }
     {
         match self {
-            Refusal::Source(_) | Refusal::Session(_) => 1,
+            Refusal::Source(_) | Refusal::Tape(_) | Refusal::Session(_) => 1,
             Refusal::Words | Refusal::Map(_) => 2,
             Refusal::OutOfMemory => 3,
             Refusal::Read | Refusal::Write => 4,
+        }
+    }
+
+    /// Why a file could not be read.
+    pub fn unreadable(error: &io::Error) -> Refusal {
+        if error.kind() == io::ErrorKind::OutOfMemory {
+            Refusal::OutOfMemory
+        } else {
+            Refusal::Read
+        }
+    }
+
+    /// Why a file could not be written.
+    pub fn unwritable(error: &io::Error) -> Refusal {
+        if error.kind() == io::ErrorKind::OutOfMemory {
+            Refusal::OutOfMemory
+        } else {
+            Refusal::Write
         }
     }
 }
@@ -49,6 +69,7 @@ impl fmt::Display for Refusal {
             Refusal::Words => f.write_str("WORDS"),
             Refusal::Map(fault) => write!(f, "MAP {fault}"),
             Refusal::Source(AsmFault { line, kind }) => write!(f, "SOURCE line {line} {kind}"),
+            Refusal::Tape(fault) => write!(f, "TAPE {fault}"),
             Refusal::Session(fault) => write!(f, "TAPE {fault}"),
             Refusal::OutOfMemory => f.write_str("OutOfMemory"),
             Refusal::Read => f.write_str("READ"),
@@ -58,29 +79,46 @@ impl fmt::Display for Refusal {
 }
 
 impl From<BusFault> for Refusal {
+    ghost from_gives = { λ fault refusal. refusal ≡ Map fault };
+
     fn from(fault: BusFault) -> Refusal {
         Refusal::Map(fault)
     }
 }
 
-impl From<EngineFault> for Refusal {
-    fn from(fault: EngineFault) -> Refusal {
-        match fault {
-            EngineFault::Source(fault) => Refusal::Source(fault),
-            EngineFault::Session(fault) => Refusal::Session(fault),
-            EngineFault::Read => Refusal::Read,
-            EngineFault::Write => Refusal::Write,
-            EngineFault::OutOfMemory => Refusal::OutOfMemory,
+impl From<AsmFault> for Refusal {
+    ghost from_gives = { λ fault refusal. refusal ≡ of_source fault };
+
+    fn from(fault: AsmFault) -> Refusal {
+        match fault.kind {
+            AsmFaultKind::OutOfMemory => Refusal::OutOfMemory,
+            _ => Refusal::Source(fault),
         }
     }
 }
 
-impl From<io::Error> for Refusal {
-    fn from(error: io::Error) -> Refusal {
-        if error.kind() == io::ErrorKind::OutOfMemory {
-            Refusal::OutOfMemory
-        } else {
-            Refusal::Read
+impl From<TapeFault> for Refusal {
+    ghost from_gives = { λ fault refusal. refusal ≡ of_tape fault };
+
+    fn from(fault: TapeFault) -> Refusal {
+        match fault.kind {
+            TapeFaultKind::OutOfMemory => Refusal::OutOfMemory,
+            _ => Refusal::Tape(fault),
+        }
+    }
+}
+
+impl From<EngineFault> for Refusal {
+    ghost from_gives = { λ fault refusal. refusal ≡ of_engine fault };
+
+    fn from(fault: EngineFault) -> Refusal {
+        match fault {
+            EngineFault::Source(fault) => Refusal::Source(fault),
+            EngineFault::Tape(fault) => Refusal::Tape(fault),
+            EngineFault::Session(fault) => Refusal::Session(fault),
+            EngineFault::Read => Refusal::Read,
+            EngineFault::Write => Refusal::Write,
+            EngineFault::OutOfMemory => Refusal::OutOfMemory,
         }
     }
 }

@@ -11,6 +11,16 @@ use std::alloc::Global;
 use std::process::ExitCode;
 use std::{env, fmt, io};
 
+/// A source with tokens and expressions of each kind.
+const SOURCE: &[u8] =
+    b"; nothing\n*=$0200\n LDA #[1+2]*4/$4|%101\n STA <$1234,X\n.BYTE \"text\",'c',*&255\n\n";
+
+/// A source whose last line is none.
+const FAULTY_SOURCE: &[u8] = b"*=$0200\n LDA #[1+2]*3\n.WORD [4^5],>$1234\n?\n";
+
+/// A source whose last line has a value that is no byte.
+const FAULTY_VALUE: &[u8] = b"*=$0200\n LDA #[1+2]*3\n.WORD [4^5],>$1234\n.BYTE 256\n";
+
 /// The fault that a call answered.
 #[derive(Clone, Copy, Debug, PartialEq, Eq)]
 enum Fault {
@@ -63,6 +73,14 @@ impl From<TapeFault> for Fault {
     }
 }
 
+/// Assembles a source, and lets what it denotes go.
+fn assemble(alloc: Global, map: &MapSpec, source: &[u8]) -> Result<(), Fault> {
+    match assembler::assemble(alloc, source, map) {
+        Ok(_) => Ok(()),
+        Err(fault) => Err(Fault::Source(fault.kind)),
+    }
+}
+
 /// Makes the call that a word names, on the map without ROM, and lets its value go.
 fn make(alloc: Global, word: &str) -> Result<(), Fault> {
     let map = MapSpec::new(None, 0xf000)?;
@@ -80,11 +98,9 @@ fn make(alloc: Global, word: &str) -> Result<(), Fault> {
         "session_new" => {
             Session::new(alloc, map, &Image::new(alloc)?, 8)?;
         }
-        "assemble" => {
-            assembler::assemble(alloc, b"; nothing\n\n", &map).map_err(|fault| Fault::Source(
-                fault.kind,
-            ))?;
-        }
+        "assemble" => assemble(alloc, &map, SOURCE)?,
+        "assemble_faulty" => assemble(alloc, &map, FAULTY_SOURCE)?,
+        "assemble_value" => assemble(alloc, &map, FAULTY_VALUE)?,
         "read_tape" => {
             read_tape(alloc, b";0000000000")?;
         }

@@ -1,25 +1,60 @@
--- The values that a parse found, by clap's definition of it.
-use Rattle.std.proofs.Common.{◌≡◌, ◌∙◌, List, Option, Some, None, refl, ap, sym, true, option_map, option_and_then}
+-- What clap's definition of a parse finds among the words.
+use Rattle.std.proofs.Common.{◌≡◌, ◌∙◌, List, Option, Some, None, true, [], refl, ap, sym, codes, option_map, ap₂, unwrap_or}
+use Rattle.std.specs.Box.{box_value}
 use Rattle.clap.proofs.OnLiterals.{clap_on_literals}
-use Rattle.clap.specs.Words.{App, Row, Text, first_of, is_simple, subcommand_of}
-use Rattle.words.specs.CommandLine.{mos65, value_in}
+use Rattle.clap.proofs.WalkLemmas.{first_value-rows}
+use Rattle.clap.specs.Faults.{is_simple_and_free}
+use Rattle.clap.specs.Matches.{subcommand_name_of}
+use Rattle.clap.specs.Words.{App, HasMatchesOf, Row, Text, fault_of, first_of, first_value, found_of, is_simple, rows_of, subcommand_of, subcommand_rows_of}
+use Rattle.clap.specs.declared.parser.matches.ArgMatches.{ArgMatches}
+use Rattle.clap.specs.declared.parser.matches.ArgMatches.TheViews.{out-ArgMatches, out-SubCommand}
+use Rattle.clap.specs.declared.parser.matches.Found.{Found}
+use Rattle.words.specs.Asked.{asked, asked_of, asm, asm_asked, debug, debug_asked}
+use Rattle.words.specs.CommandLine.{mos65}
 
 -- clap's definition speaks of this command line
 mos65_simple : is_simple mos65 ≡ true
 unfolding clap_on_literals
 mos65_simple = refl
 
-and_then-map : (f : List Row → Option Text) (found : Option (Text × List Row)) → option_and_then (λ p. f p.1) found ≡ option_and_then f (option_map (λ p. p.1) found)
-and_then-map f None = refl
-and_then-map f (Some p) = refl
+mos65_free : is_simple_and_free mos65 ≡ true
+unfolding clap_on_literals
+mos65_free = refl
 
--- a value among the rows of the subcommand that was found
-value_among : (words : List Text) (name : Text) (found : Option (Text × List Row)) (rows : List Row) → found ≡ subcommand_of mos65 words → option_map (λ p. p.1) found ≡ Some rows → first_of name rows ≡ value_in words name
-value_among words name found rows parse is =
-    sym (ap (option_and_then (first_of name)) is) ∙ sym (and_then-map (first_of name) found) ∙ ap (option_and_then (λ p. first_of name p.1)) parse
+-- the words that are taken
+pub taken : (app : App) (words : List Text) → app ≡ mos65 → (is_simple_and_free app ≡ true → fault_of app words ≡ []) → fault_of mos65 words ≡ []
+taken app words is parse = ap (λ (a : App). fault_of a words) (sym is) ∙ parse (ap is_simple_and_free is ∙ mos65_free)
 
--- the same, where a parse of the command says what it found
-pub value_found : {A : Type 0} (app : App) (words : List Text) (name : Text) (found : Option (Text × List Row)) (rows : List Row) → app ≡ mos65 → (is_simple app ≡ true → A × (found ≡ subcommand_of app words))
-    → option_map (λ p. p.1) found ≡ Some rows → first_of name rows ≡ value_in words name
-value_found app words name found rows is parse among =
-    value_among words name found rows ((parse (ap is_simple is ∙ mos65_simple)).1 ∙ ap (λ (a : App). subcommand_of a words) is) among
+-- what a parse of them found
+pub parsed : (app : App) (words : List Text) (m : ArgMatches) → app ≡ mos65 → HasMatchesOf app words m → asked_of (subcommand_rows_of m) ≡ asked words
+parsed app words m is parse = ap asked_of ((parse (ap is_simple is ∙ mos65_simple)).1 ∙ ap (λ (a : App). subcommand_of a words) is)
+
+firsts : {A : Type 0} (f : A → Text) (g : A → List Row) (o : Option A) → option_map f o ≡ option_map (λ (p : Text × List Row). p.0) (option_map (λ b. (f b, g b)) o)
+firsts f g None = refl
+firsts f g (Some b) = refl
+
+-- the subcommand's name
+name_among : (m : ArgMatches) → subcommand_name_of m ≡ option_map (λ (p : Text × List Row). p.0) (subcommand_rows_of m)
+name_among m = firsts (λ b. (out-SubCommand (box_value b)).name.now) (λ b. rows_of (found_of (out-SubCommand (box_value b)).matches)) (out-ArgMatches m).subcommand
+
+both_are : (found : Option (Text × List Row)) (name : Text) (rows : List Row) → option_map (λ (p : Text × List Row). p.0) found ≡ Some name → option_map (λ (p : Text × List Row). p.1) found ≡ Some rows → found ≡ Some (name, rows)
+both_are None name rows h k = cc
+both_are (Some p) name rows h k =
+    ap₂ (λ (n : Text) (r : List Row). Some (n, r)) (ap (λ (o : Option Text). unwrap_or o name) h) (ap (λ (o : Option (List Row)). unwrap_or o rows) k)
+
+asm_by_rows : (f : Found) → asm_asked (first_value f) ≡ asm_asked (λ name. first_of name (rows_of f))
+asm_by_rows f = rw (first_value-rows f (codes "SOURCE"), first_value-rows f (codes "TAPE"), first_value-rows f (codes "port")) refl
+
+debug_by_rows : (f : Found) → debug_asked (first_value f) ≡ debug_asked (λ name. first_of name (rows_of f))
+debug_by_rows f =
+    rw (first_value-rows f (codes "FILE"), first_value-rows f (codes "tape"), first_value-rows f (codes "history"), first_value-rows f (codes "port"), first_value-rows f (codes "rom")) refl
+
+pub asm_found : (m : ArgMatches) (f : Found) (name : Text) → Some name ≡ subcommand_name_of m → Some (rows_of f) ≡ option_map (λ (p : Text × List Row). p.1) (subcommand_rows_of m) → name ≡ codes "asm"
+    → option_map asm (asm_asked (first_value f)) ≡ asked_of (subcommand_rows_of m)
+asm_found m f name names rows is =
+    ap (option_map asm) (asm_by_rows f) ∙ ap asked_of (sym (both_are (subcommand_rows_of m) (codes "asm") (rows_of f) (sym (name_among m) ∙ sym names ∙ ap (λ t. Some t) is) (sym rows)))
+
+pub debug_found : (m : ArgMatches) (f : Found) (name : Text) → Some name ≡ subcommand_name_of m → Some (rows_of f) ≡ option_map (λ (p : Text × List Row). p.1) (subcommand_rows_of m) → name ≡ codes "debug"
+    → option_map debug (debug_asked (first_value f)) ≡ asked_of (subcommand_rows_of m)
+debug_found m f name names rows is =
+    ap (option_map debug) (debug_by_rows f) ∙ ap asked_of (sym (both_are (subcommand_rows_of m) (codes "debug") (rows_of f) (sym (name_among m) ∙ sym names ∙ ap (λ t. Some t) is) (sym rows)))

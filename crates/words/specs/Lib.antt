@@ -1,2 +1,5 @@
+pub mod Asked
 pub mod CommandLine
+pub mod Refused
 pub mod Values
+pub mod Views

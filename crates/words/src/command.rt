@@ -1,11 +1,36 @@
 //! The command line as `clap` is told of it.
-ghost use Rattle.std.specs.Prelude.{◌≡◌, IfOk, false};
-ghost use Rattle.clap.specs.Words.{app_of, rule_of};
-ghost use Rattle.words.specs.CommandLine.{file_rule, mos65, option_rule};
+ghost use Rattle.std.specs.Prelude.{◌≡◌, IfErr, IfOk, codes, false};
+ghost use Rattle.clap.specs.Words.{app_of, kind_of, rule_of};
+ghost use Rattle.clap.specs.declared.builder.command.Command.TheViews.{out-Command};
+ghost use Rattle.words.specs.CommandLine.{asm, debug, file_rule, flag_rule, mos65, option_rule};
 
+use clap::error::ErrorKind;
 use clap::{Arg, ArgAction, Command, Error};
 use std::alloc::Global;
 
+/// A file's name, which has to be there.
+fn file<'a>(alloc: Global, name: &'a str, help: &'a str) -> Arg<'a>
+    ensures rule { rule_of result ≡ file_rule name.entry.now }
+    ensures local { result.global ≡ false }
+{
+    Arg::new(alloc, name)
+        .required(true)
+        .action(ArgAction::Set)
+        .help(help)
+}
+
+/// An option that takes no value.
+fn flag<'a>(alloc: Global, name: &'a str, help: &'a str) -> Arg<'a>
+    ensures rule { rule_of result ≡ flag_rule name.entry.now }
+    ensures local { result.global ≡ false }
+{
+    Arg::new(alloc, name)
+        .long(name)
+        .action(ArgAction::SetTrue)
+        .help(help)
+}
+
+/// An option with one value.
 fn option<'a>(alloc: Global, name: &'a str, value: &'a str, help: &'a str) -> Arg<'a>
     ensures rule { rule_of result ≡ option_rule name.entry.now }
     ensures local { result.global ≡ false }
@@ -17,34 +42,59 @@ fn option<'a>(alloc: Global, name: &'a str, value: &'a str, help: &'a str) -> Ar
         .help(help)
 }
 
-fn file<'a>(alloc: Global) -> Arg<'a>
-    ensures rule { rule_of result ≡ file_rule }
+fn port<'a>(alloc: Global) -> Arg<'a>
+    ensures rule { rule_of result ≡ option_rule (codes "port") }
     ensures local { result.global ≡ false }
 {
-    Arg::new(alloc, "FILE")
-        .required(true)
-        .action(ArgAction::Set)
-        .help("The source to assemble and load")
+    let help = "The first of the port's four addresses, four hex digits [default: F000]";
+    option(alloc, "port", "HHHH", help)
+}
+
+fn asm_command<'a>(alloc: Global) -> Result<Command<'a>, Error>
+    ensures shape { IfOk result (λ c. app_of c ≡ asm) }
+    ensures local { IfOk result (λ c. (out-Command c).has_globals ≡ false) }
+    ensures memory { IfErr result (λ e. kind_of e ≡ ErrorKind.OutOfMemory) }
+{
+    let command = Command::new(alloc, "asm")
+        .about("Assembles a source, and writes its tape")
+        .arg(file(alloc, "SOURCE", "The source to assemble"))?
+        .arg(file(alloc, "TAPE", "The file to write the tape to"))?
+        .arg(port(alloc))?;
+    Ok(command)
+}
+
+fn debug_command<'a>(alloc: Global) -> Result<Command<'a>, Error>
+    ensures shape { IfOk result (λ c. app_of c ≡ debug) }
+    ensures local { IfOk result (λ c. (out-Command c).has_globals ≡ false) }
+    ensures memory { IfErr result (λ e. kind_of e ≡ ErrorKind.OutOfMemory) }
+{
+    let history = "How many events can be gone back over, at most 65536 [default: 1024]";
+    let rom = "The addresses that the program cannot write [default: none]";
+    let command = Command::new(alloc, "debug")
+        .about("Debugs a source: commands on standard input, replies on standard output")
+        .arg(file(alloc, "FILE", "The source to assemble and load"))?
+        .arg(flag(alloc, "tape", "FILE is a tape, and no source"))?
+        .arg(option(alloc, "history", "N", history))?
+        .arg(port(alloc))?
+        .arg(option(alloc, "rom", "LO-HI", rom))?;
+    Ok(command)
 }
 
 /// The program's command line.
+///
+/// # Errors
+///
+/// Only for want of memory.
 pub fn command<'a>(alloc: Global) -> Result<Command<'a>, Error>
-    ensures { IfOk result (λ c. app_of c ≡ mos65) }
+    ensures shape { IfOk result (λ c. app_of c ≡ mos65) }
+    ensures memory { IfErr result (λ e. kind_of e ≡ ErrorKind.OutOfMemory) }
 {
-    let history = "How many events can be gone back over, at most 65536 [default: 1024]";
-    let port = "The first of the port's four addresses, four hex digits [default: F000]";
-    let rom = "The addresses that the program cannot write [default: none]";
-    let debug = Command::new(alloc, "debug")
-        .about("Debugs a source: commands on standard input, replies on standard output")
-        .arg(file(alloc))?
-        .arg(option(alloc, "history", "N", history))?
-        .arg(option(alloc, "port", "HHHH", port))?
-        .arg(option(alloc, "rom", "LO-HI", rom))?;
     let program = Command::new(alloc, "mos65")
         .about("A development system for the MOS 6502")
         .no_binary_name(true)
         .subcommand_required(true)
         .bin_name("mos65")?
-        .subcommand(debug)?;
+        .subcommand(asm_command(alloc)?)?
+        .subcommand(debug_command(alloc)?)?;
     Ok(program)
 }

@@ -1,8 +1,12 @@
 //! The words of the program's command line, and what they ask for.
 #![tactic(auto)]
 
+mod asked;
 mod command;
-mod debug;
+mod fault;
+mod read;
 mod value;
 
-pub use debug::{DebugWords, WordsFault, read_words};
+pub use asked::{AsmWords, DebugWords, Words};
+pub use fault::WordsFault;
+pub use read::read_words;

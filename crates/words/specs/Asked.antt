@@ -1,0 +1,59 @@
+-- What the words ask for, by the values that clap's definition of a parse finds among them.
+use Rattle.std.specs.Prelude.{ℕ, Bool, false, List, Option, Some, None, codes, if◌then◌else◌, option_and_then, option_map}
+use Rattle.std.specs.Str.{bytes_eq}
+use Rattle.clap.specs.Words.{Row, Text, first_of, subcommand_of}
+use Rattle.words.specs.CommandLine.{mos65}
+use Rattle.words.specs.Values.{history_asked, port_asked, rom_asked}
+
+pub record AsmAsked : Type 0 where
+  pub source : Text
+  pub tape : Text
+  pub port : ℕ
+
+pub record DebugAsked : Type 0 where
+  pub file : Text
+  pub is_tape : Bool
+  pub history : ℕ
+  pub port : ℕ
+  pub rom : Option (ℕ × ℕ)
+
+pub data Asked : Type 0 where
+  asm : AsmAsked → Asked
+  debug : DebugAsked → Asked
+
+abbrev pub asm_of : Option Text → Option Text → Option ℕ → Option AsmAsked
+asm_of (Some source) (Some tape) (Some port) = Some (record { source = source; tape = tape; port = port })
+asm_of source tape port = None
+
+-- clap gives a flag that is there the value `true`
+abbrev pub is_flag : Option Text → Bool
+is_flag None = false
+is_flag (Some text) = bytes_eq text (codes "true")
+
+abbrev pub debug_of : Option Text → Bool → Option ℕ → Option ℕ → Option (Option (ℕ × ℕ)) → Option DebugAsked
+debug_of (Some file) is_tape (Some history) (Some port) (Some rom) =
+    Some (record { file = file; is_tape = is_tape; history = history; port = port; rom = rom })
+debug_of file is_tape history port rom = None
+
+-- what the values of the names of `asm` ask for, where each is one that its name can have
+abbrev pub asm_asked : (Text → Option Text) → Option AsmAsked
+asm_asked value = asm_of (value (codes "SOURCE")) (value (codes "TAPE")) (port_asked (value (codes "port")))
+
+-- what the values of the names of `debug` ask for, where each is one that its name can have
+abbrev pub debug_asked : (Text → Option Text) → Option DebugAsked
+debug_asked value = debug_of (value (codes "FILE")) (is_flag (value (codes "tape")))
+    (history_asked (value (codes "history"))) (port_asked (value (codes "port"))) (rom_asked (value (codes "rom")))
+
+-- what a subcommand and the values of its names ask for
+abbrev pub asked_by : Text → (Text → Option Text) → Option Asked
+asked_by name value =
+    if bytes_eq name (codes "asm") then option_map asm (asm_asked value)
+    else if bytes_eq name (codes "debug") then option_map debug (debug_asked value)
+    else None
+
+abbrev pub asked_of : Option (Text × List Row) → Option Asked
+asked_of = option_and_then (λ p. asked_by p.0 (λ name. first_of name p.1))
+
+-- what the program's words ask for, where the values that clap finds are right
+abbrev pub asked : List Text → Option Asked
+asked words = asked_of (subcommand_of mos65 words)

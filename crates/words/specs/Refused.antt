@@ -1,0 +1,28 @@
+-- Why words are refused.
+use Rattle.std.specs.Prelude.{◌≡◌, ◌≢◌, List, [], None}
+use Rattle.clap.specs.Words.{IsAmong, Text, fault_of, kind_of}
+use Rattle.clap.specs.declared.error.Error.{Error}
+use Rattle.clap.specs.declared.error.kind.ErrorKind.TheVariants as kind
+use Rattle.words.specs.Asked.{asked}
+use Rattle.words.specs.CommandLine.{mos65}
+use Rattle.words.specs.declared.fault.WordsFault.{WordsFault}
+use Rattle.words.specs.declared.fault.WordsFault.TheVariants.{Help, OutOfMemory, Usage, Value}
+
+-- what an error of clap is answered as
+abbrev pub Answers : Error → WordsFault → Type 0
+Answers e OutOfMemory = kind_of e ≡ kind.OutOfMemory
+Answers e (Help text) = (text ≡ e) × (kind_of e ≡ kind.DisplayHelp)
+Answers e (Usage text) = (text ≡ e) × (kind_of e ≢ kind.OutOfMemory) × (kind_of e ≢ kind.DisplayHelp)
+Answers e Value = ⊥
+
+-- by clap's definition the words fit the command line
+abbrev pub IsTaken : List Text → Type 0
+IsTaken words = fault_of mos65 words ≡ []
+
+-- by clap's definition the words ask for help, or do not fit the command line; or they fit, and a
+-- value among them is wrong. Memory may run out at any words
+abbrev pub IsRightRefusal : List Text → WordsFault → Type 0
+IsRightRefusal words (Help text) = (kind_of text ≡ kind.DisplayHelp) × IsAmong kind.DisplayHelp (fault_of mos65 words)
+IsRightRefusal words (Usage text) = (kind_of text ≢ kind.DisplayHelp) × IsAmong (kind_of text) (fault_of mos65 words)
+IsRightRefusal words Value = IsTaken words × (asked words ≡ None)
+IsRightRefusal words OutOfMemory = Unit {0}

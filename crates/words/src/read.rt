@@ -1,0 +1,90 @@
+//! Words read as what they ask for.
+ghost use Rattle.std.specs.Prelude.{◌≡◌, ◌⊎◌, Err, None, Some, IsOkUnless, IfErr, IfOk, codes, map, option_map};
+ghost use Rattle.clap.specs.Words.{first_value, found_of, subcommand_rows_of};
+ghost use Rattle.words.specs.Asked.{Asked, asked, asked_of, asm_asked, debug_asked, is_flag};
+ghost use Rattle.words.specs.Refused.{IsRightRefusal, IsTaken};
+ghost use Rattle.words.specs.Views.{asm_view, debug_view, view};
+
+use crate::asked::{AsmWords, DebugWords, Words};
+use crate::command::command;
+use crate::fault::WordsFault;
+use crate::value::{history_asked, port_asked, rom_asked};
+use clap::ArgMatches;
+use std::alloc::Global;
+
+/// Whether a flag is among the words.
+fn is_given(matches: &ArgMatches<'_>, name: &str) -> bool
+    ensures { result ≡ is_flag (first_value (found_of matches.now) name.now) }
+{
+    match matches.get_str(name) {
+        Some(value) => value == "true",
+        None => false,
+    }
+}
+
+/// What the values that were found ask for, or `None` where one is no value of its option.
+fn asm_words<'a>(matches: &ArgMatches<'a>) -> Option<AsmWords<'a>>
+    ensures { option_map asm_view result ≡ asm_asked (first_value (found_of matches.now)) }
+{
+    Some(AsmWords {
+        source: matches.get_str("SOURCE")?,
+        tape: matches.get_str("TAPE")?,
+        port: port_asked(matches.get_str("port"))?,
+    })
+}
+
+/// What the values that were found ask for, or `None` where one is no value of its option.
+fn debug_words<'a>(matches: &ArgMatches<'a>) -> Option<DebugWords<'a>>
+    ensures { option_map debug_view result ≡ debug_asked (first_value (found_of matches.now)) }
+{
+    let file = matches.get_str("FILE")?;
+    let history = history_asked(matches.get_str("history"))?;
+    let port = port_asked(matches.get_str("port"))?;
+    let rom = rom_asked(matches.get_str("rom"))?;
+    Some(DebugWords {
+        file,
+        is_tape: is_given(matches, "tape"),
+        history,
+        port,
+        rom,
+    })
+}
+
+/// What the subcommand that was found asks for, or `None` where a value is wrong.
+fn asked<'a>(matches: &ArgMatches<'a>) -> Option<Words<'a>>
+    ensures { option_map view result ≡ asked_of (subcommand_rows_of matches.now) }
+{
+    match matches.subcommand()? {
+        ("asm", found) => Some(Words::Asm(asm_words(found)?)),
+        ("debug", found) => Some(Words::Debug(debug_words(found)?)),
+        _ => None,
+    }
+}
+
+/// Reads the program's words, its own name left out: what they ask for, with the value of each
+/// option, `F000` for a port and 1,024 for a history that no word says.
+///
+/// # Errors
+///
+/// - `Help`: the words ask for help. The text is `clap`'s.
+/// - `Usage`: the words are none that the program takes: a word that is missing, unknown, or too
+///   many. The text is `clap`'s.
+/// - `Value`: `clap` takes the words, and a value is none that its option can have: `--port` with
+///   anything but four hex digits, `--history` with anything but one to five decimal digits of a
+///   number up to 65,536, or `--rom` with anything but two such addresses with `-` between.
+/// - `OutOfMemory`: a request for memory was refused.
+pub fn read_words<'a>(alloc: Global, words: &'a [&'a str]) -> Result<Words<'a>, WordsFault>
+    ensures asked { IfOk result (λ w. asked (map (λ s. s.now) words.entry.now) ≡ Some (view w)) }
+    ensures taken { IfOk result (λ w. IsTaken (map (λ s. s.now) words.entry.now)) }
+    ensures served { (a : Asked) → IsTaken (map (λ s. s.now) words.entry.now)
+        → asked (map (λ s. s.now) words.entry.now) ≡ Some a → IsOkUnless result WordsFault.OutOfMemory }
+    ensures wrong { IsTaken (map (λ s. s.now) words.entry.now) → asked (map (λ s. s.now) words.entry.now) ≡ None
+        → (result ≡ Err WordsFault.Value) ⊎ (result ≡ Err WordsFault.OutOfMemory) }
+    ensures refused { IfErr result (IsRightRefusal (map (λ s. s.now) words.entry.now)) }
+{
+    let matches = command(alloc)?.try_get_matches_from(words)?;
+    match asked(&matches) {
+        Some(words) => Ok(words),
+        None => Err(WordsFault::Value),
+    }
+}
