@@ -1,12 +1,12 @@
 //! What a command line asks for.
 
-ghost use Rattle.std.specs.Prelude.{◌≡◌};
+ghost use Rattle.std.specs.Prelude.{◌≡◌, ◌∷◌, [], MatchOption};
 ghost use Rattle.std.specs.Str.{bytes_eq};
-ghost use Rattle.model.specs.Commands.{command_of, mem_command, plain_command, range_command};
+ghost use Rattle.model.specs.Commands.{address_of, bytes_of, command_of, long_command, mem_command, patch_command, plain_command, set_command, triple_command, words_of};
 
-use crate::numbers::address_of;
+use crate::numbers::{address_of, byte_of};
 use crate::words::next_word;
-use model::Command;
+use model::{Command, Setting};
 
 /// What a line asks for, its end taken off (profile). A line of more than 255 bytes is bad as a
 /// whole.
@@ -20,7 +20,7 @@ pub fn parse(line: &[u8]) -> Command
     let (first, rest) = next_word(line);
     let (second, rest) = next_word(rest);
     let (third, rest) = next_word(rest);
-    let (fourth, _) = next_word(rest);
+    let (fourth, rest) = next_word(rest);
     if first.is_empty() {
         Command::Nothing
     } else if second.is_empty() {
@@ -28,9 +28,9 @@ pub fn parse(line: &[u8]) -> Command
     } else if third.is_empty() {
         Command::Bad
     } else if fourth.is_empty() {
-        range_command(first, second, third)
+        triple_command(first, second, third)
     } else {
-        Command::Bad
+        long_command(first, second, third, fourth, rest)
     }
 }
 
@@ -49,6 +49,8 @@ fn plain_command(word: &[u8]) -> Command
         Command::Regs
     } else if is_text(word, b"step") {
         Command::Step
+    } else if is_text(word, b"out") {
+        Command::Out
     } else if is_text(word, b"quit") {
         Command::Quit
     } else {
@@ -57,12 +59,35 @@ fn plain_command(word: &[u8]) -> Command
 }
 
 /// A command of three words.
-#[tactic(auto, unfolding(model::specs::Commands::range_command))]
-fn range_command(word: &[u8], low: &[u8], high: &[u8]) -> Command
-    ensures { result ≡ range_command word.now low.now high.now }
+#[tactic(auto, unfolding(model::specs::Commands::triple_command))]
+fn triple_command(word: &[u8], second: &[u8], third: &[u8]) -> Command
+    ensures { result ≡ triple_command word.now second.now third.now }
 {
     if is_text(word, b"mem") {
-        mem_command(address_of(low), address_of(high))
+        mem_command(address_of(second), address_of(third))
+    } else if is_text(word, b"set") {
+        set_command(second, third)
+    } else if is_text(word, b"patch") {
+        patch_of_one(second, third)
+    } else {
+        Command::Bad
+    }
+}
+
+/// A command of four words or more: a patch of two bytes or three.
+#[tactic(auto, unfolding(model::specs::Commands::long_command))]
+fn long_command(word: &[u8], second: &[u8], third: &[u8], fourth: &[u8], rest: &[u8]) -> Command
+    ensures { result ≡ long_command word.now second.now (third.now ∷ fourth.now ∷ words_of rest.now) }
+{
+    if !is_text(word, b"patch") {
+        return Command::Bad;
+    }
+    let (fifth, rest) = next_word(rest);
+    let (sixth, _) = next_word(rest);
+    if fifth.is_empty() {
+        patch_of_two(second, third, fourth)
+    } else if sixth.is_empty() {
+        patch_of_three(second, third, fourth, fifth)
     } else {
         Command::Bad
     }
@@ -74,6 +99,81 @@ fn mem_command(first: Option<u16>, last: Option<u16>) -> Command
 {
     match (first, last) {
         (Some(first), Some(last)) if first <= last => Command::Mem { first, last },
+        _ => Command::Bad,
+    }
+}
+
+/// A register and its new value.
+fn set_command(name: &[u8], value: &[u8]) -> Command
+    ensures { result ≡ set_command name.now value.now }
+{
+    match setting_of(name, value) {
+        Some(setting) => Command::Set(setting),
+        None => Command::Bad,
+    }
+}
+
+/// What a register's name and a value set: two hex digits, and four for PC.
+#[tactic(auto, unfolding(model::specs::Commands::set_command))]
+fn setting_of(name: &[u8], value: &[u8]) -> Option<Setting>
+    ensures { MatchOption result (set_command name.now value.now ≡ Command.Bad) (λ setting. set_command name.now value.now ≡ Command.Set setting) }
+{
+    if is_text(name, b"A") {
+        Some(Setting::A(byte_of(value)?))
+    } else if is_text(name, b"X") {
+        Some(Setting::X(byte_of(value)?))
+    } else if is_text(name, b"Y") {
+        Some(Setting::Y(byte_of(value)?))
+    } else if is_text(name, b"S") {
+        Some(Setting::S(byte_of(value)?))
+    } else if is_text(name, b"P") {
+        Some(Setting::P(byte_of(value)?))
+    } else if is_text(name, b"PC") {
+        Some(Setting::Pc(address_of(value)?))
+    } else {
+        None
+    }
+}
+
+/// A patch of one byte.
+fn patch_of_one(address: &[u8], first: &[u8]) -> Command
+    ensures { result ≡ patch_command (address_of address.now) (bytes_of (first.now ∷ [])) }
+{
+    match (address_of(address), byte_of(first)) {
+        (Some(address), Some(first)) => Command::Patch {
+            address,
+            bytes: [first, 0, 0],
+            count: 1,
+        },
+        _ => Command::Bad,
+    }
+}
+
+/// A patch of two bytes.
+fn patch_of_two(address: &[u8], first: &[u8], second: &[u8]) -> Command
+    ensures { result ≡ patch_command (address_of address.now) (bytes_of (first.now ∷ second.now ∷ [])) }
+{
+    match (address_of(address), byte_of(first), byte_of(second)) {
+        (Some(address), Some(first), Some(second)) => Command::Patch {
+            address,
+            bytes: [first, second, 0],
+            count: 2,
+        },
+        _ => Command::Bad,
+    }
+}
+
+/// A patch of three bytes.
+fn patch_of_three(address: &[u8], first: &[u8], second: &[u8], third: &[u8]) -> Command
+    ensures { result ≡ patch_command (address_of address.now) (bytes_of (first.now ∷ second.now ∷ third.now ∷ [])) }
+{
+    let bytes = (byte_of(first), byte_of(second), byte_of(third));
+    match (address_of(address), bytes) {
+        (Some(address), (Some(first), Some(second), Some(third))) => Command::Patch {
+            address,
+            bytes: [first, second, third],
+            count: 3,
+        },
         _ => Command::Bad,
     }
 }

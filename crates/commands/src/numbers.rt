@@ -1,7 +1,7 @@
 //! The numbers of a command line.
 
 ghost use Rattle.std.specs.Prelude.{◌≡◌, ◌≤◌};
-ghost use Rattle.model.specs.Commands.{address_of, hex_value};
+ghost use Rattle.model.specs.Commands.{address_of, byte_of, hex_value};
 
 /// The value of a hex digit in either letter case, and 16 for any other byte.
 fn hex_value(digit: u8) -> u8
@@ -28,4 +28,18 @@ pub fn address_of(word: &[u8]) -> Option<u16>
         return None;
     }
     Some(a as u16 * 4096 + b as u16 * 256 + c as u16 * 16 + d as u16)
+}
+
+/// The byte that exactly two hex digits write (profile).
+pub fn byte_of(word: &[u8]) -> Option<u8>
+    ensures { result ≡ byte_of word.now }
+{
+    let [a, b] = word else {
+        return None;
+    };
+    let (a, b) = (hex_value(*a), hex_value(*b));
+    if a == 16 || b == 16 {
+        return None;
+    }
+    Some(a * 16 + b)
 }

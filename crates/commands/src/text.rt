@@ -1,27 +1,29 @@
 //! Short texts, put together without memory.
 
-ghost use Rattle.std.specs.Prelude.{◌≡◌, ◌+◌, ◌<◌, ◌≤◌, ◌++◌, length, decimal, false};
-ghost use Rattle.model.specs.Text.{hex_byte, hex_digit, hex_word};
+ghost use Rattle.std.specs.Prelude.{◌≡◌, ◌+◌, ◌≤◌, ◌++◌, length, decimal, false};
+ghost use Rattle.model.specs.Text.{hex_byte, hex_word};
 ghost use Rattle.model.specs.Effect.{status};
 
 use arrayvec::ArrayVec;
 use model::Flags;
 
-/// A text of at most 64 bytes, as one line of a reply: the register line has at most 58 bytes, a
-/// row of memory at most 54.
-pub type Text = ArrayVec<u8, 64>;
+/// A text of at most 65 bytes, as one line of a reply: the register line has at most 58 bytes, a
+/// row of memory at most 54, a row of output at most 65.
+pub type Text = ArrayVec<u8, 65>;
 
-/// An upper case hex digit.
-fn hex_digit(n: u8) -> u8
-    requires { n < 16 }
-    ensures { result ≡ hex_digit n }
+/// The two upper case hex digits of a byte.
+fn hex_digits(byte: u8) -> [u8; 2]
+    ensures { result ≡ hex_byte byte }
 {
-    if n < 10 { b'0' + n } else { b'A' + (n - 10) }
+    let mut digits = [0u8; 2];
+    let _ = hex::encode_to_slice([byte], &mut digits);
+    digits.make_ascii_uppercase();
+    digits
 }
 
 /// Appends bytes.
 pub fn push_bytes(text: &mut Text, bytes: &[u8])
-    requires { length text.old.items + length bytes.now ≤ 64 }
+    requires { length text.old.items + length bytes.now ≤ 65 }
     ensures { text.new.items ≡ text.old.items ++ bytes.now }
 {
     let _ = text.try_extend_from_slice(bytes);
@@ -29,15 +31,15 @@ pub fn push_bytes(text: &mut Text, bytes: &[u8])
 
 /// Appends a byte as two upper case hex digits.
 pub fn push_hex_byte(text: &mut Text, byte: u8)
-    requires { length text.old.items + 2 ≤ 64 }
+    requires { length text.old.items + 2 ≤ 65 }
     ensures { text.new.items ≡ text.old.items ++ hex_byte byte }
 {
-    push_bytes(text, &[hex_digit(byte / 16), hex_digit(byte % 16)]);
+    push_bytes(text, &hex_digits(byte));
 }
 
 /// Appends an address as four upper case hex digits.
 pub fn push_hex_word(text: &mut Text, word: u16)
-    requires { length text.old.items + 4 ≤ 64 }
+    requires { length text.old.items + 4 ≤ 65 }
     ensures { text.new.items ≡ text.old.items ++ hex_word word }
 {
     let [high, low] = word.to_be_bytes();
@@ -47,7 +49,7 @@ pub fn push_hex_word(text: &mut Text, word: u16)
 
 /// Appends a number in decimal, without leading zeros.
 pub fn push_decimal(text: &mut Text, n: u64)
-    requires { length text.old.items + 20 ≤ 64 }
+    requires { length text.old.items + 20 ≤ 65 }
     ensures written { text.new.items ≡ text.old.items ++ decimal n }
     ensures short { length text.new.items ≤ length text.old.items + 20 }
 {
@@ -57,7 +59,7 @@ pub fn push_decimal(text: &mut Text, n: u64)
 /// Appends the status register as two upper case hex digits, with B clear:
 /// N V 1 B D I Z C from bit 7 down.
 pub fn push_status(text: &mut Text, flags: Flags)
-    requires { length text.old.items + 2 ≤ 64 }
+    requires { length text.old.items + 2 ≤ 65 }
     ensures { text.new.items ≡ text.old.items ++ hex_byte (status false flags) }
 {
     push_hex_byte(text, flags.to_byte(false));

@@ -1,5 +1,5 @@
 pub mod Feeds
 pub mod Serving
 pub mod Writing
+pub mod Refused
 pub mod Rows
-pub mod Sources

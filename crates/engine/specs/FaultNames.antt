@@ -1,10 +1,11 @@
 -- The names and numbers of the engine's faults. Source: profile.
 use Rattle.std.specs.Prelude.{ℕ, List, codes}
 use Rattle.engine.specs.declared.fault.EngineFault.{EngineFault}
-use Rattle.engine.specs.declared.fault.EngineFault.TheVariants.{Source, Session, Read, Write, OutOfMemory}
+use Rattle.engine.specs.declared.fault.EngineFault.TheVariants.{Source, Tape, Session, Read, Write, OutOfMemory}
 
 abbrev pub engine_fault_number : EngineFault → ℕ
 engine_fault_number (Source fault) = 1
+engine_fault_number (Tape fault) = 2
 engine_fault_number (Session fault) = 3
 engine_fault_number Read = 4
 engine_fault_number Write = 5
@@ -12,6 +13,7 @@ engine_fault_number OutOfMemory = 6
 
 abbrev pub engine_fault_name : EngineFault → List ℕ
 engine_fault_name (Source fault) = codes "Source"
+engine_fault_name (Tape fault) = codes "Tape"
 engine_fault_name (Session fault) = codes "Session"
 engine_fault_name Read = codes "Read"
 engine_fault_name Write = codes "Write"

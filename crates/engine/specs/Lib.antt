@@ -1,3 +1,4 @@
 pub mod FaultNames
 pub mod Feeding
+pub mod Output
 pub mod Refusals

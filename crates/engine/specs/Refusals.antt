@@ -5,8 +5,11 @@ use Rattle.model.specs.declared.source_fault.AsmFaultKind.{AsmFaultKind}
 use Rattle.model.specs.declared.source_fault.AsmFaultKind.TheVariants as source_fault
 use Rattle.model.specs.declared.session_fault.SessionFault.{SessionFault}
 use Rattle.model.specs.declared.session_fault.SessionFault.TheVariants as session_fault
+use Rattle.model.specs.declared.tape.TapeFault.{TapeFault}
+use Rattle.model.specs.declared.tape.TapeFaultKind.{TapeFaultKind}
+use Rattle.model.specs.declared.tape.TapeFaultKind.TheVariants as tape_fault
 use Rattle.engine.specs.declared.fault.EngineFault.{EngineFault}
-use Rattle.engine.specs.declared.fault.EngineFault.TheVariants.{Source, Session, OutOfMemory}
+use Rattle.engine.specs.declared.fault.EngineFault.TheVariants.{Source, Tape, Session, OutOfMemory}
 
 abbrev pub of_source_kind : AsmFaultKind → AsmFault → EngineFault
 of_source_kind source_fault.OutOfMemory fault = OutOfMemory
@@ -16,6 +19,13 @@ of_source_kind _ fault = Source fault
 abbrev pub of_source : AsmFault → EngineFault
 of_source fault = of_source_kind fault.kind fault
 
+abbrev pub of_tape_kind : TapeFaultKind → TapeFault → EngineFault
+of_tape_kind tape_fault.OutOfMemory fault = OutOfMemory
+of_tape_kind _ fault = Tape fault
+
+abbrev pub of_tape : TapeFault → EngineFault
+of_tape fault = of_tape_kind fault.kind fault
+
 abbrev pub of_session : SessionFault → EngineFault
 of_session session_fault.OutOfMemory = OutOfMemory
 of_session fault = Session fault
@@ -24,6 +34,11 @@ of_session fault = Session fault
 abbrev pub IfSource : {X : Type 0} → Result X EngineFault → (AsmFault → Type 0) → Type 0
 IfSource (Err (Source fault)) P = P fault
 IfSource _ P = ⊤
+
+-- What holds where the tape is refused.
+abbrev pub IfTape : {X : Type 0} → Result X EngineFault → (TapeFault → Type 0) → Type 0
+IfTape (Err (Tape fault)) P = P fault
+IfTape _ P = ⊤
 
 -- What holds where no session can be made.
 abbrev pub IfSession : {X : Type 0} → Result X EngineFault → (SessionFault → Type 0) → Type 0

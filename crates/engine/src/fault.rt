@@ -2,9 +2,9 @@
 
 ghost use Rattle.std.specs.Prelude.{◌≡◌};
 ghost use Rattle.engine.specs.FaultNames.{engine_fault_name, engine_fault_number};
-ghost use Rattle.engine.specs.Refusals.{of_session, of_source};
+ghost use Rattle.engine.specs.Refusals.{of_session, of_source, of_tape};
 
-use model::{AsmFault, AsmFaultKind, SessionFault};
+use model::{AsmFault, AsmFaultKind, SessionFault, TapeFault, TapeFaultKind};
 use thiserror::Error;
 
 /// A fault of the engine (profile).
@@ -13,6 +13,9 @@ pub enum EngineFault {
     /// The source is refused, with the fault of its first faulty line.
     #[error("Source 1")]
     Source(AsmFault),
+    /// The text is no tape, with the first of its faults.
+    #[error("Tape 2")]
+    Tape(TapeFault),
     /// No session can be made.
     #[error("Session 3")]
     Session(SessionFault),
@@ -28,12 +31,13 @@ pub enum EngineFault {
 }
 
 impl EngineFault {
-    /// The fault's number. 2 is kept for the fault of a tape.
+    /// The fault's number.
     pub fn number(&self) -> u8
         ensures { result ≡ engine_fault_number self.now }
     {
         match self {
             EngineFault::Source(_) => 1,
+            EngineFault::Tape(_) => 2,
             EngineFault::Session(_) => 3,
             EngineFault::Read => 4,
             EngineFault::Write => 5,
@@ -47,6 +51,7 @@ impl EngineFault {
     {
         match self {
             EngineFault::Source(_) => "Source",
+            EngineFault::Tape(_) => "Tape",
             EngineFault::Session(_) => "Session",
             EngineFault::Read => "Read",
             EngineFault::Write => "Write",
@@ -62,6 +67,17 @@ impl From<AsmFault> for EngineFault {
         match fault.kind {
             AsmFaultKind::OutOfMemory => EngineFault::OutOfMemory,
             _ => EngineFault::Source(fault),
+        }
+    }
+}
+
+impl From<TapeFault> for EngineFault {
+    ghost from_gives = { λ fault e. e ≡ of_tape fault };
+
+    fn from(fault: TapeFault) -> EngineFault {
+        match fault.kind {
+            TapeFaultKind::OutOfMemory => EngineFault::OutOfMemory,
+            _ => EngineFault::Tape(fault),
         }
     }
 }

@@ -2,12 +2,14 @@
 
 ghost use Rattle.std.specs.Prelude.{◌≡◌, MatchResult, IfOk, OnErr, Ok, Err, false};
 ghost use Rattle.model.specs.Written.{Writes};
-ghost use Rattle.model.specs.Text.{memory_rows, register_line};
-ghost use Rattle.model.specs.Transcript.{answer_to};
+ghost use Rattle.model.specs.Text.{memory_rows, output_text};
+ghost use Rattle.model.specs.Event.{event_of};
+ghost use Rattle.engine.specs.Output.{output_rows};
+ghost use Rattle.model.specs.Transcript.{answer_to, event_answer};
 
 use crate::fault::EngineFault;
 use crate::output::put;
-use crate::texts::{fault_text, register_text, row_end, row_text};
+use crate::texts::{fault_text, output_head, output_row_text, register_text, row_end, row_text};
 use debugger::Session;
 use model::{Command, Event};
 use std::io::Write;
@@ -30,9 +32,40 @@ pub fn execute<W: Write>(
             Err(fault) => said(put(writer, fault_text(fault).as_slice())),
         },
         Command::Mem { first, last } => said(put_rows(session, first, last, writer)),
+        Command::Out => said(put_output(session, writer)),
+        Command::Set(setting) => happened(session, Event::Set(setting), writer),
+        Command::Patch {
+            address,
+            bytes,
+            count,
+        } => happened(
+            session,
+            Event::Patch {
+                address,
+                bytes,
+                count,
+            },
+            writer,
+        ),
         Command::Quit => Ok(true),
         Command::Nothing => Ok(false),
         Command::Bad => said(put(writer, b"? BAD COMMAND\n")),
+    }
+}
+
+/// An event other than a step: the reply is `OK`, or why it was refused.
+fn happened<W: Write>(
+    session: &mut Session,
+    event: Event,
+    writer: &mut W,
+) -> Result<bool, EngineFault>
+    ensures writes { Writes (W.contents writer.old) (W.contents writer.new) (event_answer session.old (event_of session.old.current event)).written result }
+    ensures ok { IfOk result (λ quit. (quit ≡ false) × (session.new ≡ (event_answer session.old (event_of session.old.current event)).session)) }
+    ensures fault { OnErr result (result ≡ Err EngineFault.Write) }
+{
+    match session.event(event) {
+        Ok(()) => said(put(writer, b"OK\n")),
+        Err(fault) => said(put(writer, fault_text(fault).as_slice())),
     }
 }
 
@@ -59,6 +92,32 @@ fn put_rows<W: Write>(
     for row in 0..last.saturating_sub(first) / 16 + 1 {
         let start = first + 16 * row;
         let text = row_text(session, start, row_end(start, last));
+        match put(writer, text.as_slice()) {
+            Ok(()) => {}
+            Err(fault) => return Err(fault),
+        }
+    }
+    Ok(())
+}
+
+/// How many bytes of output there are, and the bytes, a row at a time.
+fn put_output<W: Write>(session: &Session, writer: &mut W) -> Result<(), EngineFault>
+    ensures writes { Writes (W.contents writer.old) (W.contents writer.new) (output_text session.now.current.bus.out) result }
+    ensures fault { OnErr result (result ≡ Err EngineFault.Write) }
+{
+    match put(writer, output_head(session).as_slice()) {
+        Ok(()) => put_output_rows(session, writer),
+        Err(fault) => Err(fault),
+    }
+}
+
+/// The output's bytes, 32 a row.
+fn put_output_rows<W: Write>(session: &Session, writer: &mut W) -> Result<(), EngineFault>
+    ensures writes { Writes (W.contents writer.old) (W.contents writer.new) (output_rows session.now.current.bus.out) result }
+    ensures fault { OnErr result (result ≡ Err EngineFault.Write) }
+{
+    for row in 0..session.output_len().div_ceil(32) {
+        let text = output_row_text(session, 32 * row);
         match put(writer, text.as_slice()) {
             Ok(()) => {}
             Err(fault) => return Err(fault),

@@ -1,7 +1,7 @@
 //! The lines of replies.
 
-ghost use Rattle.std.specs.Prelude.{◌≡◌, ◌+◌, ◌≤◌, min};
-ghost use Rattle.model.specs.Text.{memory_row, register_line};
+ghost use Rattle.std.specs.Prelude.{◌≡◌, ◌+◌, ◌≤◌, ◌∷◌, ◌++◌, [], codes, decimal, length, min};
+ghost use Rattle.model.specs.Text.{memory_row, output_row, register_line};
 ghost use Rattle.model.specs.Transcript.{fault_line};
 
 use commands::{Text, push_bytes, push_decimal, push_hex_byte, push_hex_word, push_status};
@@ -85,4 +85,28 @@ pub fn row_end(start: u16, last: u16) -> u16
     } else {
         start + 15
     }
+}
+
+/// How many bytes the output has.
+pub fn output_head(session: &Session) -> Text
+    ensures { result.items ≡ codes "OUT " ++ decimal (length session.now.current.bus.out) ++ 10 ∷ [] }
+{
+    let mut text = Text::new();
+    push_bytes(&mut text, b"OUT ");
+    push_decimal(&mut text, session.output_len() as u64);
+    push_bytes(&mut text, b"\n");
+    text
+}
+
+/// A row of output: the bytes from an index on, at most 32.
+pub fn output_row_text(session: &Session, from: u32) -> Text
+    ensures { result.items ≡ output_row session.now.current.bus.out from }
+{
+    let mut text = Text::new();
+    let count = session.output_len().saturating_sub(from).min(32);
+    for index in from..from + count {
+        push_hex_byte(&mut text, session.output_at(index).unwrap_or(0));
+    }
+    push_bytes(&mut text, b"\n");
+    text
 }

@@ -2,8 +2,8 @@
 //! writers that tell or take little, or fail.
 
 use bus::MapSpec;
-use engine::{EngineFault, debug_source};
-use model::{AsmFault, AsmFaultKind};
+use engine::{EngineFault, debug_source, debug_tape};
+use model::{AsmFault, AsmFaultKind, SessionFault, TapeFault, TapeFaultKind};
 use std::alloc::Global;
 use std::cell::Cell;
 use std::io;
@@ -110,6 +110,11 @@ fn run<R: Read>(
 
 /// What is replied to some commands, where the source is empty and nothing fails.
 fn replied(alloc: Global, commands: &[u8]) -> Result<Vec<u8>, Fail> {
+    replied_on_source(alloc, b"", commands)
+}
+
+/// What is replied to some commands, where nothing fails and the machine starts with this source.
+fn replied_on_source(alloc: Global, source: &[u8], commands: &[u8]) -> Result<Vec<u8>, Fail> {
     let flushed = Cell::new(0);
     let mut reader = Teller {
         rest: commands,
@@ -117,8 +122,26 @@ fn replied(alloc: Global, commands: &[u8]) -> Result<Vec<u8>, Fail> {
         fails: false,
     };
     let mut writer = wide_taker(alloc, &flushed);
-    run(alloc, b"", &mut reader, &mut writer)??;
+    run(alloc, source, &mut reader, &mut writer)??;
     Ok(writer.taken)
+}
+
+/// How a call with a tape and some bytes of commands ends, and what it writes.
+fn run_tape(
+    alloc: Global,
+    tape: &[u8],
+    commands: &[u8],
+) -> Result<(Result<(), EngineFault>, Vec<u8>), Fail> {
+    let flushed = Cell::new(0);
+    let map = MapSpec::new(None, 0xF000)?;
+    let mut reader = Teller {
+        rest: commands,
+        at_once: 1000,
+        fails: false,
+    };
+    let mut writer = wide_taker(alloc, &flushed);
+    let ended = debug_tape(alloc, map, 1024, tape, &mut reader, &mut writer);
+    Ok((ended, writer.taken))
 }
 
 #[test]
@@ -127,6 +150,104 @@ fn runs_first(rt: HostRuntime) -> Result<(), Fail> {
     let want =
         b"A=00 X=00 Y=00 S=FD P=24 PC=0000 CYC=7\nA=00 X=00 Y=00 S=FA P=24 PC=0000 CYC=14\n01FB  34 02 00\n";
     assert_eq!(rt; told.as_slice(), want.as_slice());
+    Ok(())
+}
+
+const PROGRAM: &[u8] = b"*=$0200\nLDA #$41\nSTA $F000\nBRK\n*=$FFFC\n.WORD $0200\n";
+
+const PROGRAM_TAPE: &[u8] = b";060200A9418D00F000026F\r\n;02FFFC000201FF\r\n;0000020002\r\n";
+
+const PROGRAM_COMMANDS: &[u8] = b"step\nstep\nout\nmem 0200 0205\n";
+
+const PROGRAM_REPLIES: &[u8] =
+    b"A=41 X=00 Y=00 S=FD P=24 PC=0202 CYC=9\nA=41 X=00 Y=00 S=FD P=24 PC=0205 CYC=13\nOUT 1\n41\n0200  A9 41 8D 00 F0 00\n";
+
+#[test]
+fn runs_sources_and_tapes(rt: HostRuntime) -> Result<(), Fail> {
+    let of_source = replied_on_source(rt.alloc(), PROGRAM, PROGRAM_COMMANDS)?;
+    assert_eq!(rt; of_source.as_slice(), PROGRAM_REPLIES);
+    let (ended, of_tape) = run_tape(rt.alloc(), PROGRAM_TAPE, PROGRAM_COMMANDS)?;
+    assert_eq!(rt; ended, Ok(()));
+    assert_eq!(rt; of_tape.as_slice(), PROGRAM_REPLIES);
+    Ok(())
+}
+
+#[test]
+fn refuses_tapes(rt: HostRuntime) -> Result<(), Fail> {
+    let bad_sum = TapeFault {
+        offset: 0,
+        kind: TapeFaultKind::BadChecksum,
+    };
+    let refused: [(&[u8], EngineFault); 2] = [
+        (
+            b";01F000AA019B\r\n;0000010001\r\n",
+            EngineFault::Session(SessionFault::PortAddress),
+        ),
+        (
+            b";060200A9418D00F000026E\r\n;0000010001\r\n",
+            EngineFault::Tape(bad_sum),
+        ),
+    ];
+    for (tape, fault) in refused {
+        let (ended, written) = run_tape(rt.alloc(), tape, COMMANDS)?;
+        assert_eq!(rt; ended, Err(fault));
+        assert!(rt; written.is_empty());
+    }
+    Ok(())
+}
+
+/// Registers set and patches: an undocumented opcode, a PC that wraps, a call over its own bytes,
+/// flags, and what is refused.
+const CHANGES: [(&[u8], &[u8]); 6] = [
+    (
+        b"set PC 0200\npatch 0200 02\nstep\nregs\npatch 0200 EA\nstep\n",
+        b"OK\nOK\n! FAULT 02 AT 0200\nA=00 X=00 Y=00 S=FD P=24 PC=0200 CYC=7\nOK\nA=00 X=00 Y=00 S=FD P=24 PC=0201 CYC=9\n",
+    ),
+    (
+        b"set PC FFFF\npatch FFFF A9\npatch 0000 07\nstep\n",
+        b"OK\nOK\nOK\nA=07 X=00 Y=00 S=FD P=24 PC=0001 CYC=9\n",
+    ),
+    (
+        b"set PC 01FC\npatch 01FC 20 34 12\nset S FE\nstep\nmem 01FC 01FE\n",
+        b"OK\nOK\nOK\nA=00 X=00 Y=00 S=FC P=24 PC=0134 CYC=13\n01FC  20 FE 01\n",
+    ),
+    (
+        b"set A 3F\nset PC 0200\npatch 0200 24 10\npatch 0010 C0\nstep\nset P 82\nregs\n",
+        b"OK\nOK\nOK\nOK\nA=3F X=00 Y=00 S=FD P=E6 PC=0202 CYC=10\nOK\nA=3F X=00 Y=00 S=FD P=A2 PC=0202 CYC=10\n",
+    ),
+    (
+        b"patch F000 01\npatch FFFF 01 02\nmem FFFF FFFF\n",
+        b"! PortAddress 5\n! PastEnd 4\nFFFF  00\n",
+    ),
+    (
+        b"patch 0200\npatch 0200 01 02 03 04\nset a 01\n",
+        b"? BAD COMMAND\n? BAD COMMAND\n? BAD COMMAND\n",
+    ),
+];
+
+#[test]
+fn sets_and_patches(rt: HostRuntime) -> Result<(), Fail> {
+    for (commands, want) in CHANGES {
+        let told = replied(rt.alloc(), commands)?;
+        assert_eq!(rt; told.as_slice(), want);
+    }
+    Ok(())
+}
+
+/// INX, STX $F000, JMP $0200.
+const COUNTER: &[u8] = b"patch 0200 E8 8E 00\npatch 0203 F0 4C 00\npatch 0206 02\nset PC 0200\n";
+
+#[test]
+fn writes_output_in_rows(rt: HostRuntime) -> Result<(), Fail> {
+    let mut commands = Vec::new(rt.alloc());
+    commands.extend_from_slice(COUNTER)?;
+    for _ in 0..99 {
+        commands.extend_from_slice(b"step\n")?;
+    }
+    commands.extend_from_slice(b"out\n")?;
+    let told = replied(rt.alloc(), &commands)?;
+    let want = b"OUT 33\n0102030405060708090A0B0C0D0E0F101112131415161718191A1B1C1D1E1F20\n21\n";
+    assert!(rt; told.ends_with(want));
     Ok(())
 }
 

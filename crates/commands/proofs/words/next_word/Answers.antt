@@ -1,4 +1,4 @@
-use Rattle.std.proofs.Common.{arith, ◌≡◌, ◌+◌, ◌-◌, ◌≤◌, ◌<◌, ◌≢◌, get_or, length, take, drop, ◌⊎◌, inl, inr}
+use Rattle.std.proofs.Common.{arith, ◌≡◌, ◌+◌, ◌-◌, ◌≤◌, ◌<◌, ◌≢◌, get_or, length, ◌⊎◌, inl, inr}
 use Rattle.commands.proofs.Spaces.{all_more, found_word, ends_by, none_by}
 use Rattle.commands.proofs.words.next_word.Goals as goal
 use Rattle.commands.proofs.words.next_word.Goals.{then-loop-start-test+else-line-start-eq32, else-loop-start-test, then-loop-end-test+else-line-end-ne32, else-loop-end-test}

@@ -1,4 +1,4 @@
-use Rattle.std.proofs.Common.{◌≡◌, ◌≤◌, ◌-◌, ◌<◌, ℕ, ◌≢◌, length, drop, get_or, take, true}
+use Rattle.std.proofs.Common.{◌≡◌, ◌≤◌, ◌-◌, length, drop, take, true}
 use Rattle.std.specs.List.{list_all}
 use Rattle.model.specs.Commands.{words_of}
 use Rattle.commands.specs.Words.{no_space}

@@ -1,25 +1,25 @@
 use Rattle.std.proofs.Common.{◌≡◌, ◌+◌, ◌/◌, ◌*◌, ◌++◌, arith, ap, ◌∙◌, refl}
 use Rattle.std.proofs.KnownBytes.{Appends-nil, Appends-trans}
 use Rattle.engine.proofs.Writing.{front_after, front_more}
-use Rattle.engine.proofs.Rows.{rows_to, row_of, rows_none, rows_more, rows_front, rows_all, row_at}
+use Rattle.engine.proofs.Rows.{parts_to, row_of, parts_none, parts_more, parts_front, rows_all, row_at}
 use Rattle.engine.proofs.replies.put_rows.Goals as goal
 
 pub loop-row-init : goal.loop-row-init
-loop-row-init g c = rw rows_none (Appends-nil _)
+loop-row-init g c = rw parts_none (Appends-nil _)
 
 pub returns-in-Err-clause-writes : goal.returns-in-Err-clause-writes
 returns-in-Err-clause-writes g c =
     let memory = c.args.session.now.current.bus.memory in let first = c.args.first in let last = c.args.last in let k = c.loop-row.row in
     let row = c.as_slice.ensures.value ∙ c.row_text-text.ensures ∙ row_at memory first last k (first + 16 * k) c.row_end.result refl c.row_end.ensures in
     let part = rw row at c.in-Err.ensures.writes in
-    let all = rows_front memory first last (k + 1) (c.saturating_sub.result / 16 + 1) (omega (arith, c.loop-row-test.true)) in
-    rw (rows_all memory first last (c.saturating_sub.result / 16 + 1) (ap (λ n. n / 16 + 1) c.saturating_sub.ensures), all.1, rows_more) (front_more _ _ (rows_to memory first last k ++ row_of memory first last k) all.0 (front_after _ _ _ _ _ c.loop-row.invariant part))
+    let all = parts_front (row_of memory first last) (k + 1) (c.saturating_sub.result / 16 + 1) (omega (arith, c.loop-row-test.true)) in
+    rw (rows_all memory first last (c.saturating_sub.result / 16 + 1) (ap (λ n. n / 16 + 1) c.saturating_sub.ensures), all.1, parts_more) (front_more _ _ (parts_to (row_of memory first last) k ++ row_of memory first last k) all.0 (front_after _ _ _ _ _ c.loop-row.invariant part))
 
 pub loop-row-preserved : goal.loop-row-preserved
 loop-row-preserved g c =
     let memory = c.args.session.now.current.bus.memory in let first = c.args.first in let last = c.args.last in let k = c.loop-row.row in
     let row = c.as_slice.ensures.value ∙ c.row_text-text.ensures ∙ row_at memory first last k (first + 16 * k) c.row_end.result refl c.row_end.ensures in
-    rw rows_more (Appends-trans _ _ _ _ _ c.loop-row.invariant (rw row at c.in-Ok.ensures.writes))
+    rw parts_more (Appends-trans _ _ _ _ _ c.loop-row.invariant (rw row at c.in-Ok.ensures.writes))
 
 pub returns-clause-writes : goal.returns-clause-writes
 returns-clause-writes g c =
