@@ -1,3 +1,4 @@
 pub mod Images
 pub mod Memory
+pub mod Patching
 pub mod Recording

@@ -2,6 +2,7 @@
 
 ghost use Rattle.std.specs.Prelude.{◌≡◌, ◌+◌, ◌-◌, ◌<◌, ◌≤◌, ◌↔◌, length, slice_index, slice_get, slice_set, IsErr, OnOk, OnErr, IfErr, IfOk, true, false, not, ◌||◌, ◌++◌, ◌∷◌, [], if◌then◌else◌, ℕ, List};
 ghost use Rattle.model.specs.State.{is_port, is_rom, byte_read, after_read, overflows, after_write, stored, input_waits, loaded_bus, has_port_byte};
+ghost use Rattle.model.specs.Event.{meets_port, patched};
 ghost use Rattle.model.specs.Image.{empty_image, has_byte};
 ghost use Rattle.model.specs.Undo.{CanRestore, restored, cells_of};
 ghost use Rattle.bus.specs.Memory.{zeros};
@@ -140,6 +141,19 @@ impl Bus {
         Ok(())
     }
 
+    /// Whether one of some bytes from an address on, none of them past 65535, would stand at the port.
+    pub fn meets_port(&self, address: u16, bytes: &[u8]) -> bool
+        requires { address + length bytes.now ≤ 65536 }
+        ensures { result ≡ meets_port self.now.map address bytes.now }
+    {
+        for i in 0..bytes.len() {
+            if self.map.is_port(address + i as u16) {
+                return true;
+            }
+        }
+        false
+    }
+
     /// How many bytes the output holds, 0 to 65,536.
     pub fn output_len(&self) -> u32
         ensures { result ≡ length self.now.out }
@@ -272,6 +286,37 @@ impl Bus {
             *change = noting(*change, address, old);
         }
         self.put(address, value);
+    }
+
+    /// The bytes of a patch, put into memory and ROM alike from an address on, none of them past 65535 and none at the port.
+    /// The change notes the bytes that were there.
+    pub fn patch(&mut self, change: &mut Change, address: u16, bytes: &[u8])
+        requires end { address + length bytes.now ≤ 65536 }
+        requires plain { meets_port self.old.map address bytes.now ≡ false }
+        requires count { change.old.count + length bytes.now ≤ 3 }
+        requires fits { CanRestore change.old self.old }
+        ensures after { self.new ≡ patched address bytes.now self.old }
+        ensures undo { restored change.new self.new ≡ restored change.old self.old }
+        ensures fits { CanRestore change.new self.new }
+    {
+        for (i, byte) in bytes.iter().enumerate() {
+            self.patch_byte(change, address + i as u16, *byte);
+        }
+    }
+
+    /// A byte put into memory and ROM alike, not at the port. The change notes the byte that was there.
+    fn patch_byte(&mut self, change: &mut Change, address: u16, value: u8)
+        requires plain { is_port self.old.map address ≡ false }
+        requires count { change.old.count < 3 }
+        requires fits { CanRestore change.old self.old }
+        ensures after { self.new ≡ stored self.old address value }
+        ensures count { change.new.count ≡ change.old.count + 1 }
+        ensures undo { restored change.new self.new ≡ restored change.old self.old }
+        ensures fits { CanRestore change.new self.new }
+    {
+        let old = self.peek(address);
+        *change = noting(*change, address, old);
+        self.set(address, value);
     }
 
     /// A byte put into memory below $0200, where neither port nor ROM stands.

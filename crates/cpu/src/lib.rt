@@ -2,9 +2,7 @@
 #![tactic(auto)]
 
 pub use machine::Machine;
-pub use model::{Event, EventFault, Flags, Regs, Undo};
+pub use model::{Event, EventFault, Flags, Regs, Setting, Undo};
 
-mod decode;
 mod effects;
 mod machine;
-mod operands;

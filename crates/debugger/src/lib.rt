@@ -1,7 +1,7 @@
 //! The debugger's session: a machine with the history of its whole states.
 #![tactic(auto)]
 
-pub use model::{Event, EventFault, Flags, Regs, SessionFault};
+pub use model::{Event, EventFault, Flags, Regs, SessionFault, Setting};
 pub use session::Session;
 
 mod session;

@@ -66,7 +66,7 @@ impl Session {
     }
 
     /// One event. An accepted event is held until it is older than the last `history` events; a refused one changes nothing,
-    /// and the fault is that of the machine's step. It takes no memory.
+    /// and the fault is that of the machine's call, or `BadLength` where a patch counts more than three bytes. It takes no memory.
     pub fn event(&mut self, event: Event) -> Result<(), EventFault>
         ensures ok { OnOk result ((state : State) × (event_of self.old.current event ≡ Ok state) × (self.new ≡ appended self.old state)) }
         ensures err { IfErr result (λ fault. (event_of self.old.current event ≡ Err fault) × (self.new ≡ self.old)) }
@@ -133,5 +133,12 @@ fn happen(machine: &mut Machine, event: Event) -> Result<Undo, EventFault>
 {
     match event {
         Event::Step => machine.step(),
+        Event::Set(setting) => machine.set_register(setting),
+        Event::Patch { count, .. } if count > 3 => Err(EventFault::BadLength),
+        Event::Patch {
+            address,
+            bytes,
+            count,
+        } => machine.patch(address, &bytes[..count as usize]),
     }
 }

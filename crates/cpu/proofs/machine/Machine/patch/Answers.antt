@@ -1,0 +1,8 @@
+use Rattle.std.proofs.Common.{◌∙◌}
+use Rattle.cpu.proofs.Undoing.{undoes}
+use Rattle.cpu.proofs.machine.Machine.patch.Goals as goal
+
+pub returns-clause-undo : goal.returns-clause-undo
+returns-clause-undo c =
+    let before = rw (← c.self.view_is) at c.record-before.ensures in
+    rw (← c.self.view_is) (undoes _ _ _ c.patch.ensures.fits (c.patch.ensures.undo ∙ before.bus) before.regs before.irq before.nmi before.cycles)

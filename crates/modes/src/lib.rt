@@ -1,0 +1,92 @@
+//! Where the operand of an instruction stands.
+#![tactic(auto)]
+
+ghost use Rattle.std.specs.Prelude.{◌≡◌, ◌+◌, ◌%◌};
+ghost use Rattle.model.specs.Operand.{indexed, place_of, straight, target, word_at, word_in_page};
+
+use bus::Bus;
+use model::{Mode, Place, Regs};
+
+/// Where the operand of the instruction at PC stands, and whether a page was left on the way there: the next byte for
+/// an immediate operand, the target of a branch, 0 where there is none. It reads plain memory alone, never the port
+/// (MCS6500 manual, chapters 4 to 6).
+#[tactic(auto, unfolding(model::specs::Operand::place_of))]
+pub fn resolve(bus: &Bus, regs: &Regs, mode: Mode) -> Place
+    ensures { result ≡ place_of bus.now regs.now mode }
+{
+    let next = regs.pc.wrapping_add(1);
+    match mode {
+        Mode::Imp | Mode::Acc => straight(0),
+        Mode::Imm => straight(next),
+        Mode::Zp => straight(bus.peek(next) as u16),
+        Mode::ZpX => straight(bus.peek(next).wrapping_add(regs.x) as u16),
+        Mode::ZpY => straight(bus.peek(next).wrapping_add(regs.y) as u16),
+        Mode::Abs => straight(word(bus, next)),
+        Mode::AbsX => indexed(word(bus, next), regs.x),
+        Mode::AbsY => indexed(word(bus, next), regs.y),
+        Mode::IndX => {
+            let pointer = bus.peek(next).wrapping_add(regs.x);
+            straight(word_in_page(bus, pointer as u16))
+        }
+        Mode::IndY => indexed(word_in_page(bus, bus.peek(next) as u16), regs.y),
+        Mode::Ind => straight(word_in_page(bus, word(bus, next))),
+        Mode::Rel => target(regs.pc.wrapping_add(2), bus.peek(next)),
+    }
+}
+
+/// Two bytes of plain memory as an address, the low byte first. After $FFFF comes $0000.
+#[tactic(auto, unfolding(model::specs::Operand::word_at))]
+pub fn word(bus: &Bus, address: u16) -> u16
+    ensures { result ≡ word_at bus.now address }
+{
+    let low = bus.peek(address);
+    let high = bus.peek(address.wrapping_add(1));
+    low as u16 + 256 * high as u16
+}
+
+/// The same without leaving the page: after its last byte comes its first.
+#[tactic(auto, unfolding(model::specs::Operand::word_in_page))]
+fn word_in_page(bus: &Bus, address: u16) -> u16
+    ensures { result ≡ word_in_page bus.now address }
+{
+    let low = bus.peek(address);
+    let high = bus.peek((address & 0xff00) + (address.wrapping_add(1) & 0xff));
+    low as u16 + 256 * high as u16
+}
+
+/// An address that leaves no page.
+fn straight(address: u16) -> Place
+    ensures { result ≡ straight address }
+{
+    Place {
+        address,
+        crossed: false,
+    }
+}
+
+/// An index added to a base.
+fn indexed(base: u16, index: u8) -> Place
+    ensures { result ≡ indexed base index }
+{
+    let address = base.wrapping_add(index as u16);
+    Place {
+        address,
+        crossed: base >> 8 != address >> 8,
+    }
+}
+
+/// A branch's target, from the next instruction's address and the distance, a signed byte.
+fn target(next: u16, byte: u8) -> Place
+    ensures { result ≡ target next byte }
+{
+    let distance = if byte < 128 {
+        byte as u16
+    } else {
+        byte as u16 + 0xff00
+    };
+    let address = next.wrapping_add(distance);
+    Place {
+        address,
+        crossed: next >> 8 != address >> 8,
+    }
+}
