@@ -2,7 +2,7 @@
 
 ghost use Rattle.std.specs.Prelude.{◌≡◌, ◌+◌, ◌<◌, ◌≤◌, ◌++◌, length, decimal, false};
 ghost use Rattle.model.specs.Text.{hex_byte, hex_digit, hex_word};
-ghost use Rattle.model.specs.Effect.{bit, status};
+ghost use Rattle.model.specs.Effect.{status};
 
 use arrayvec::ArrayVec;
 use model::Flags;
@@ -54,22 +54,11 @@ pub fn push_decimal(text: &mut Text, n: u64)
     push_bytes(text, itoa::Buffer::new().format(n).as_bytes());
 }
 
-/// A truth value as a number.
-fn bit(set: bool) -> u8
-    ensures value { result ≡ bit set }
-    ensures within { result ≤ 1 }
-{
-    if set { 1 } else { 0 }
-}
-
 /// Appends the status register as two upper case hex digits, with B clear:
 /// N V 1 B D I Z C from bit 7 down.
-#[tactic(auto, unfolding(model::specs::Effect::status))]
 pub fn push_status(text: &mut Text, flags: Flags)
     requires { length text.old.items + 2 ≤ 64 }
     ensures { text.new.items ≡ text.old.items ++ hex_byte (status false flags) }
 {
-    let high = 128 * bit(flags.n) + 64 * bit(flags.v) + 32;
-    let low = 8 * bit(flags.d) + 4 * bit(flags.i) + 2 * bit(flags.z) + bit(flags.c);
-    push_hex_byte(text, high + low);
+    push_hex_byte(text, flags.to_byte(false));
 }

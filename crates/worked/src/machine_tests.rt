@@ -2,7 +2,7 @@
 
 use bus::{Bus, Image, MapSpec};
 use cpu::Machine;
-use debugger::{Event, EventFault, Flags, Regs, Session};
+use debugger::{Event, EventFault, Flags, Regs, Session, Setting};
 use model::{AsmFaultKind, BusFault, SessionFault};
 use std::alloc::Global;
 use std::test::Fail;
@@ -94,6 +94,154 @@ fn undocumented_opcode(rt: HostRuntime) -> Result<(), Fail> {
     );
     assert_eq!(rt; machine.regs().pc, 0x0201);
     assert_eq!(rt; machine.cycles(), 9);
+    Ok(())
+}
+
+/// A machine that was loaded with nothing: 7 cycles have passed, and all registers but S are 0.
+fn empty_machine(alloc: Global) -> Result<Machine, Fail> {
+    let image = Image::new(alloc)?;
+    Ok(Machine::new(alloc, default_map()?, &image)?)
+}
+
+/// Makes one step of an instruction that is put to an address, and tells its cycles.
+fn cycles_of(machine: &mut Machine, address: u16, bytes: &[u8]) -> Result<u64, Fail> {
+    machine.patch(address, bytes)?;
+    machine.set_register(Setting::Pc(address))?;
+    let before = machine.cycles();
+    machine.step()?;
+    Ok(machine.cycles() - before)
+}
+
+/// Indexed addresses in the zero page wrap, and so does the pointer of LDA ($FF),Y.
+#[test]
+fn zero_page_wraps(rt: HostRuntime) -> Result<(), Fail> {
+    let mut machine = empty_machine(rt.alloc())?;
+    machine.patch(0x0001, &[0x77])?;
+    machine.set_register(Setting::X(2))?;
+    assert_eq!(rt; cycles_of(&mut machine, 0x0200, &[0xb5, 0xff])?, 4);
+    assert_eq!(rt; machine.regs().a, 0x77);
+    machine.patch(0x00ff, &[0x10])?;
+    machine.patch(0x0000, &[0x03])?;
+    machine.patch(0x0405, &[0x99])?;
+    machine.set_register(Setting::Y(0xf5))?;
+    assert_eq!(rt; cycles_of(&mut machine, 0x0200, &[0xb1, 0xff])?, 6);
+    assert_eq!(rt; machine.regs().a, 0x99);
+    Ok(())
+}
+
+/// A page that is left costs a load a cycle, and a store none.
+#[test]
+fn page_crossings(rt: HostRuntime) -> Result<(), Fail> {
+    let mut machine = empty_machine(rt.alloc())?;
+    machine.set_register(Setting::X(1))?;
+    for (bytes, cycles) in [
+        ([0xbd, 0xff, 0x12], 5u64),
+        ([0xbd, 0xfe, 0x12], 4),
+        ([0x9d, 0xfe, 0x12], 5),
+        ([0x9d, 0xff, 0x12], 5),
+    ] {
+        assert_eq!(rt; cycles_of(&mut machine, 0x0200, &bytes)?, cycles);
+    }
+    Ok(())
+}
+
+/// BNE at $02FD by 2: taken into the next page, and not taken.
+#[test]
+fn branch_leaves_page(rt: HostRuntime) -> Result<(), Fail> {
+    let mut machine = empty_machine(rt.alloc())?;
+    machine.set_register(Setting::P(0x00))?;
+    assert_eq!(rt; cycles_of(&mut machine, 0x02fd, &[0xd0, 0x02])?, 4);
+    assert_eq!(rt; machine.regs().pc, 0x0301);
+    machine.set_register(Setting::P(0x02))?;
+    assert_eq!(rt; cycles_of(&mut machine, 0x02fd, &[0xd0, 0x02])?, 2);
+    assert_eq!(rt; machine.regs().pc, 0x02ff);
+    Ok(())
+}
+
+/// JSR whose pushes overwrite its own last byte, which is read after them.
+#[test]
+fn call_over_itself(rt: HostRuntime) -> Result<(), Fail> {
+    let mut machine = empty_machine(rt.alloc())?;
+    machine.set_register(Setting::S(0xfe))?;
+    assert_eq!(rt; cycles_of(&mut machine, 0x01fc, &[0x20, 0x34, 0x12])?, 6);
+    assert_eq!(rt; (machine.regs().s, machine.regs().pc), (0xfc, 0x0134));
+    assert_eq!(rt;
+        (
+            machine.peek(0x01fc),
+            machine.peek(0x01fd),
+            machine.peek(0x01fe)
+        ),
+        (0x20, 0xfe, 0x01)
+    );
+    Ok(())
+}
+
+/// An instruction over the end of memory, and a patch that would go past it.
+#[test]
+fn end_of_memory(rt: HostRuntime) -> Result<(), Fail> {
+    let mut machine = empty_machine(rt.alloc())?;
+    machine.patch(0x0000, &[0x07])?;
+    assert_eq!(rt; cycles_of(&mut machine, 0xffff, &[0xa9])?, 2);
+    assert_eq!(rt; (machine.regs().a, machine.regs().pc), (0x07, 0x0001));
+    assert_eq!(rt;
+        machine.patch(0xffff, &[1, 2]).err(),
+        Some(EventFault::PastEnd)
+    );
+    assert_eq!(rt;
+        machine.patch(0xefff, &[1, 2]).err(),
+        Some(EventFault::PortAddress)
+    );
+    assert_eq!(rt;
+        machine.patch(0x0200, &[]).err(),
+        Some(EventFault::BadLength)
+    );
+    Ok(())
+}
+
+/// JMP ($02FF) takes its high byte from $0200.
+#[test]
+fn jump_indirect_stays_in_page(rt: HostRuntime) -> Result<(), Fail> {
+    let mut image = Image::new(rt.alloc())?;
+    for (address, byte) in [
+        (0x0200, 0x12),
+        (0x02ff, 0x34),
+        (0x0300, 0x99),
+        (0x0400, 0x6c),
+        (0x0401, 0xff),
+        (0x0402, 0x02),
+        (0xfffd, 0x04),
+    ] {
+        image.put(address, byte);
+    }
+    let mut session = Session::new(rt.alloc(), default_map()?, &image, 0)?;
+    session.event(Event::Step)?;
+    assert_eq!(rt; session.regs().pc, 0x1234);
+    assert_eq!(rt; session.cycles(), 12);
+    Ok(())
+}
+
+/// The session's registers set, and its patches: bytes that are not counted stay out, and more than three are refused.
+#[test]
+fn session_sets_and_patches(rt: HostRuntime) -> Result<(), Fail> {
+    let image = Image::new(rt.alloc())?;
+    let mut session = Session::new(rt.alloc(), default_map()?, &image, 8)?;
+    session.event(Event::Set(Setting::Pc(0x0200)))?;
+    let bytes = [0xe8, 0xca, 0xff];
+    for (count, answer) in [
+        (2, Ok(())),
+        (0, Err(EventFault::BadLength)),
+        (4, Err(EventFault::BadLength)),
+    ] {
+        let patch = Event::Patch {
+            address: 0x0200,
+            bytes,
+            count,
+        };
+        assert_eq!(rt; session.event(patch), answer);
+    }
+    assert_eq!(rt; (session.peek(0x0201), session.peek(0x0202)), (0xca, 0x00));
+    session.event(Event::Step)?;
+    assert_eq!(rt; (session.regs().x, session.regs().pc), (1, 0x0201));
     Ok(())
 }
 

@@ -1,0 +1,51 @@
+//! What shows of a machine.
+
+ghost use Rattle.std.specs.Prelude.{◌≡◌, ◌+◌, ◌<◌, length, slice_get, slice_index};
+
+use crate::machine::Machine;
+use model::Regs;
+
+impl Machine {
+    /// The registers.
+    pub fn regs(&self) -> Regs
+        ensures { result ≡ self.now.regs }
+    {
+        self.regs
+    }
+
+    /// The cycles since load.
+    pub fn cycles(&self) -> u64
+        ensures { result ≡ self.now.cycles }
+    {
+        self.cycles
+    }
+
+    /// A byte of memory, with no effect: 0 at a port address.
+    pub fn peek(&self, address: u16) -> u8
+        ensures value { result ≡ slice_index self.now.bus.memory address }
+        ensures within { address < length self.now.bus.memory }
+    {
+        self.bus.peek(address)
+    }
+
+    /// How many bytes the output holds, 0 to 65,536.
+    pub fn output_len(&self) -> u32
+        ensures { result ≡ length self.now.bus.out }
+    {
+        self.bus.output_len()
+    }
+
+    /// The output's byte at an index, counted from 0.
+    pub fn output_at(&self, index: u32) -> Option<u8>
+        ensures { result ≡ slice_get self.now.bus.out index }
+    {
+        self.bus.output_at(index)
+    }
+
+    /// How many more bytes of input may be handed in.
+    pub fn input_room(&self) -> u32
+        ensures { result + length self.now.bus.given ≡ 65536 }
+    {
+        self.bus.input_room()
+    }
+}
