@@ -78,7 +78,7 @@ mnemonic_text Tya = codes "TYA"
 -- The first of some mnemonics whose letters a text has, in any letter case.
 unfoldable pub named_among : List ℕ → List Mnemonic → Option Mnemonic
 named_among text [] = None
-named_among text (m ∷ ms) = if bytes_eq (str_to_ascii_uppercase text) (mnemonic_text m) then Some m else named_among text ms
+named_among text (m ∷ ms) = if bytes_eq (mnemonic_text m) (str_to_ascii_uppercase text) then Some m else named_among text ms
 
 -- The mnemonic that a text names, in any letter case, if it names one. Source: profile.
 unfoldable pub mnemonic_named : List ℕ → Option Mnemonic

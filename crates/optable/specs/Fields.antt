@@ -1,5 +1,5 @@
 -- The rows by the fields of an opcode: its group (bits 7 to 5), its place (bits 4 to 2) and its two last bits.
-use Rattle.std.specs.Prelude.{ℕ, true, false, Option, Some, None, if◌then◌else◌, ◌==◌, nat_lt, ◌||◌, ◌/◌, bit_and, ◌<◌, ◌≡◌}
+use Rattle.std.specs.Prelude.{ℕ, true, false, Option, Some, None, if◌then◌else◌, ◌==◌, nat_lt, ◌||◌, ◌/◌, bit_and}
 use Rattle.model.specs.declared.instruction.Mnemonic.{Mnemonic}
 use Rattle.model.specs.declared.instruction.Mnemonic.TheVariants.{Adc, And, Asl, Bcc, Bcs, Beq, Bit, Bmi, Bne, Bpl, Brk, Bvc, Bvs, Clc, Cld, Cli, Clv, Cmp, Cpx, Cpy, Dec, Dex, Dey, Eor, Inc, Inx, Iny, Jmp, Jsr, Lda, Ldx, Ldy, Lsr, Nop, Ora, Pha, Php, Pla, Plp, Rol, Ror, Rti, Rts, Sbc, Sec, Sed, Sei, Sta, Stx, Sty, Tax, Tay, Tsx, Txa, Txs, Tya}
 use Rattle.model.specs.declared.instruction.Mode.{Mode}
@@ -108,8 +108,8 @@ index_row g mode bytes time =
     if g == 7 then plain Cpx mode bytes time else
     None
 
-abbrev pub load_row : ℕ → Option Row
-load_row g =
+abbrev pub first_row : ℕ → Option Row
+first_row g =
     if g == 0 then plain Brk Imp 1 7 else
     if g == 1 then plain Jsr Abs 3 6 else
     if g == 2 then plain Rti Imp 1 6 else
@@ -119,7 +119,7 @@ load_row g =
 
 abbrev pub control_row : ℕ → ℕ → Option Row
 control_row g place =
-    if place == 0 then load_row g else
+    if place == 0 then first_row g else
     if place == 1 then index_row g Zp 2 3 else
     if place == 2 then (if nat_lt g 2 || (g == 3) then plain (stack_mnemonic g) Imp 1 (if g == 0 then 3 else 4)
     else plain (stack_mnemonic g) Imp 1 (if g == 2 then 3 else 2)) else
@@ -140,12 +140,3 @@ fields_row opcode =
     if last == 1 then arithmetic_row g place else
     if last == 2 then shift_row g place else
     None
-
--- a row of at most 7 cycles
-abbrev pub IsSmall : Row → Type 0
-IsSmall row = row.cycles < 8
-
--- a row of this mnemonic in this mode
-abbrev pub IsPair : Option Row → Mnemonic → Mode → Type 0
-IsPair None m d = ⊥
-IsPair (Some row) m d = (row.mnemonic ≡ m) × (row.mode ≡ d)

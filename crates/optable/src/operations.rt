@@ -1,9 +1,11 @@
+//! What each mnemonic does.
+
 ghost use Rattle.std.specs.Prelude.{◌≡◌};
 ghost use Rattle.model.specs.Effect.{operation_of};
 
 use model::{BranchOp, InherentOp, LoadOp, Mnemonic, ModifyOp, Operation, StoreOp};
 
-/// The operation of a mnemonic.
+/// The operation of a mnemonic, by the way in which it uses its operand. (MCS6500 manual, appendix A.)
 #[tactic(auto, unfolding(model::specs::Effect::operation_of))]
 pub fn operation(mnemonic: Mnemonic) -> Operation
     ensures { result ≡ operation_of mnemonic }

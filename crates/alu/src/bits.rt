@@ -1,0 +1,80 @@
+//! Comparisons, shifts and the bit test.
+
+ghost use Rattle.std.specs.Prelude.{◌≡◌};
+ghost use Rattle.model.specs.Arithmetic.{asl, bit_test, compared, lsr, rol, ror, with_carry};
+
+use model::Sum;
+
+/// A register compared with a byte, as CMP, CPX and CPY do: the value is their difference modulo 256, with N and Z of it,
+/// and C is set where the register is not below the byte. V is false. (MCS6500 manual, chapter 4 and appendix A.)
+#[tactic(auto, unfolding(model::specs::Arithmetic::compared))]
+pub fn compare(reg: u8, m: u8) -> Sum
+    ensures { result ≡ compared reg m }
+{
+    with_carry(reg.wrapping_sub(m), reg >= m)
+}
+
+/// A byte shifted left by one place, 0 coming in and bit 7 going into C, with N and Z of the result. V is false.
+/// (MCS6500 manual, chapter 10 and appendix A.)
+#[tactic(auto, unfolding(model::specs::Arithmetic::asl))]
+pub fn asl(m: u8) -> Sum
+    ensures { result ≡ asl m }
+{
+    with_carry((m & 127) << 1, m >= 128)
+}
+
+/// A byte shifted right by one place, 0 coming in and bit 0 going into C, with N and Z of the result; so N is false.
+/// V is false. (MCS6500 manual, chapter 10 and appendix A.)
+#[tactic(auto, unfolding(model::specs::Arithmetic::lsr))]
+pub fn lsr(m: u8) -> Sum
+    ensures { result ≡ lsr m }
+{
+    with_carry(m >> 1, m & 1 == 1)
+}
+
+/// A byte rotated left by one place through the carry: `c` comes in, bit 7 goes into C, with N and Z of the result.
+/// V is false. (MCS6500 manual, chapter 10 and appendix A.)
+#[tactic(auto, unfolding(model::specs::Arithmetic::rol))]
+pub fn rol(m: u8, c: bool) -> Sum
+    ensures { result ≡ rol m c }
+{
+    with_carry(((m & 127) << 1) + c as u8, m >= 128)
+}
+
+/// A byte rotated right by one place through the carry: `c` comes in at bit 7, bit 0 goes into C, with N and Z of the
+/// result. V is false. (MCS6500 manual, chapter 10 and appendix A.)
+#[tactic(auto, unfolding(model::specs::Arithmetic::ror))]
+pub fn ror(m: u8, c: bool) -> Sum
+    ensures { result ≡ ror m c }
+{
+    with_carry((m >> 1) + 128 * c as u8, m & 1 == 1)
+}
+
+/// The accumulator and a byte, as BIT tests them: the value is their common bits, Z is of it, N and V are bits 7 and 6 of
+/// the byte. C is false. (MCS6500 manual, chapter 4 and appendix A.)
+#[tactic(auto, unfolding(model::specs::Arithmetic::bit_test))]
+pub fn bit_test(a: u8, m: u8) -> Sum
+    ensures { result ≡ bit_test a m }
+{
+    let value = a & m;
+    Sum {
+        value,
+        n: m >= 128,
+        v: (m >> 6) & 1 == 1,
+        z: value == 0,
+        c: false,
+    }
+}
+
+/// A value with N and Z of it, and a carry.
+fn with_carry(value: u8, carry: bool) -> Sum
+    ensures { result ≡ with_carry value carry }
+{
+    Sum {
+        value,
+        n: value >= 128,
+        v: false,
+        z: value == 0,
+        c: carry,
+    }
+}

@@ -1,0 +1,58 @@
+-- Names of mnemonics looked up in the table.
+use Rattle.std.proofs.Common.{◌≡◌, ◌≢◌, ℕ, ◌+◌, ◌<◌, List, [], ◌∷◌, length, drop, get_or, Bool, true, false, refl, ap, sym, ◌∙◌, add-one, arith}
+use Rattle.std.specs.Prelude.{Some, None}
+use Rattle.std.specs.Str.{bytes_eq, str_to_ascii_uppercase}
+use Rattle.std.specs.Char.{to_ascii_uppercase}
+use Rattle.std.proofs.Math.Seq.{drop-cons}
+use Rattle.std.proofs.lemmas.List.{length-map}
+use Rattle.std.proofs.lemmas.Slice.Eq.{bytes_eq-Decides}
+use Rattle.model.specs.declared.instruction.Mnemonic.{Mnemonic}
+use Rattle.model.specs.Mnemonics.{mnemonic_named, named_among, mnemonic_text, all_mnemonics}
+use Rattle.model.proofs.Encoding.{length-mnemonic_text}
+use Rattle.optable.specs.declared.names.TheConstants.{NAMES}
+use Rattle.optable.specs.Names.{looked_up}
+
+-- the table has all mnemonics with their letters, in their order
+pub looked_up_all : (text : List ℕ) → looked_up (str_to_ascii_uppercase text) NAMES ≡ mnemonic_named text
+unfolding mnemonic_named named_among mnemonic_text
+looked_up_all text = refl
+
+-- ---- one name of the table
+
+pub found_at : (letters : List ℕ) (ns : List (List ℕ × Mnemonic)) (i : ℕ) (d : List ℕ × Mnemonic) → i < length ns → bytes_eq (get_or ns i d).0 letters ≡ true
+    → looked_up letters (drop i ns) ≡ looked_up letters ns → Some (get_or ns i d).1 ≡ looked_up letters ns
+found_at letters ns i d below same kept = rw same at (rw (drop-cons ns i d below) at kept)
+
+pub passed_at : (letters : List ℕ) (ns : List (List ℕ × Mnemonic)) (i : ℕ) (d : List ℕ × Mnemonic) → i < length ns → bytes_eq (get_or ns i d).0 letters ≡ false
+    → looked_up letters (drop i ns) ≡ looked_up letters ns → looked_up letters (drop (i + 1) ns) ≡ looked_up letters ns
+passed_at letters ns i d below same kept = rw add-one (rw same at (rw (drop-cons ns i d below) at kept))
+
+-- ---- texts of another length
+
+false_if : (b : Bool) → (b ≡ true → ⊥) → b ≡ false
+false_if true h = absurd (h refl)
+false_if false h = refl
+
+other_letters : (m : Mnemonic) (text : List ℕ) → length text ≢ 3 → bytes_eq (mnemonic_text m) (str_to_ascii_uppercase text) ≡ false
+other_letters m text other = false_if _ (λ same.
+    let e : mnemonic_text m ≡ str_to_ascii_uppercase text = (bytes_eq-Decides (mnemonic_text m) (str_to_ascii_uppercase text)).0 same in
+    let lengths : length (mnemonic_text m) ≡ length text = simp length-map at (ap length e) in
+    other (sym lengths ∙ length-mnemonic_text m))
+
+none_among : (text : List ℕ) (ms : List Mnemonic) → length text ≢ 3 → named_among text ms ≡ None
+unfolding named_among
+none_among text [] other = refl
+none_among text (m ∷ ms) other = rw (other_letters m text other) (none_among text ms other)
+
+pub none_named : (text : List ℕ) → length text ≢ 3 → None ≡ mnemonic_named text
+unfolding mnemonic_named
+none_named text other = sym (none_among text all_mnemonics other)
+
+-- ---- texts of three bytes
+
+pub capitals_is : (text : List ℕ) (d : ℕ) → length text ≡ 3 → to_ascii_uppercase (get_or text 0 d) ∷ to_ascii_uppercase (get_or text 1 d) ∷ to_ascii_uppercase (get_or text 2 d) ∷ [] ≡ str_to_ascii_uppercase text
+capitals_is [] d len = absurd (omega arith)
+capitals_is (p ∷ []) d len = absurd (omega arith)
+capitals_is (p ∷ q ∷ []) d len = absurd (omega arith)
+capitals_is (p ∷ q ∷ r ∷ []) d len = refl
+capitals_is (p ∷ q ∷ r ∷ s ∷ rest) d len = absurd (omega arith)

@@ -1,0 +1,238 @@
+//! The opcode of a mnemonic in a mode.
+
+ghost use Rattle.std.specs.Prelude.{◌≡◌, ◌<◌, ◌+◌, ℕ, IfSome, IfNone, Some};
+ghost use Rattle.model.specs.Table.{encoded, row_at, IsRowOf};
+ghost use Rattle.optable.specs.Codes.{code_of, load_code, store_code, modify_code, move_code, branch_code, arithmetic_code, shift_code, memory_code, direct_code, immediate_code, implied_code, relative_code, jump_code, call_code};
+
+use crate::operations::operation;
+use model::{BranchOp, InherentOp, LoadOp, Mnemonic, Mode, ModifyOp, Operation, StoreOp};
+
+/// The opcode of a mnemonic in a mode, and `None` where no documented opcode has both.
+/// It is the inverse of `decode`: the one opcode whose row has this mnemonic and this mode.
+/// (MCS6500 manual, appendix B.)
+pub fn encode(mnemonic: Mnemonic, mode: Mode) -> Option<u8>
+    ensures code { result ≡ encoded mnemonic mode }
+    ensures found { IfSome result (λ opcode. IsRowOf mnemonic mode (row_at opcode)) }
+    ensures none { IfNone result ((opcode : ℕ) → opcode < 256 → ¬ IsRowOf mnemonic mode (row_at opcode)) }
+    ensures only { (opcode : ℕ) → opcode < 256 → IsRowOf mnemonic mode (row_at opcode) → result ≡ Some opcode }
+{
+    code_of(operation(mnemonic), mode)
+}
+
+/// The opcode of an operation in a mode.
+fn code_of(operation: Operation, mode: Mode) -> Option<u8>
+    ensures { result ≡ code_of operation mode }
+{
+    match operation {
+        Operation::Load(op) => load_code(op, mode),
+        Operation::Store(op) => store_code(op, mode),
+        Operation::Modify(op) => modify_code(op, mode),
+        Operation::Inherent(op) => implied_code(move_code(op), mode),
+        Operation::Branch(op) => relative_code(branch_code(op), mode),
+        Operation::PushA => implied_code(0x48, mode),
+        Operation::PushStatus => implied_code(0x08, mode),
+        Operation::PullA => implied_code(0x68, mode),
+        Operation::PullStatus => implied_code(0x28, mode),
+        Operation::Jump => jump_code(mode),
+        Operation::Call => call_code(mode),
+        Operation::Return => implied_code(0x60, mode),
+        Operation::ReturnInterrupt => implied_code(0x40, mode),
+        Operation::Break => implied_code(0x00, mode),
+    }
+}
+
+fn load_code(op: LoadOp, mode: Mode) -> Option<u8>
+    ensures { result ≡ load_code op mode }
+{
+    match op {
+        LoadOp::Ora => arithmetic_code(0x01, mode),
+        LoadOp::And => arithmetic_code(0x21, mode),
+        LoadOp::Eor => arithmetic_code(0x41, mode),
+        LoadOp::Adc => arithmetic_code(0x61, mode),
+        LoadOp::Lda => arithmetic_code(0xa1, mode),
+        LoadOp::Cmp => arithmetic_code(0xc1, mode),
+        LoadOp::Sbc => arithmetic_code(0xe1, mode),
+        LoadOp::Ldx => match mode {
+            Mode::ZpY => Some(0xb6),
+            Mode::AbsY => Some(0xbe),
+            _ => immediate_code(0xa2, mode),
+        },
+        LoadOp::Ldy => match mode {
+            Mode::ZpX => Some(0xb4),
+            Mode::AbsX => Some(0xbc),
+            _ => immediate_code(0xa0, mode),
+        },
+        LoadOp::Cpx => immediate_code(0xe0, mode),
+        LoadOp::Cpy => immediate_code(0xc0, mode),
+        LoadOp::Bit => direct_code(0x20, mode),
+    }
+}
+
+fn store_code(op: StoreOp, mode: Mode) -> Option<u8>
+    ensures { result ≡ store_code op mode }
+{
+    match op {
+        StoreOp::Sta => match mode {
+            Mode::Imm => None,
+            _ => arithmetic_code(0x81, mode),
+        },
+        StoreOp::Stx => match mode {
+            Mode::ZpY => Some(0x96),
+            _ => direct_code(0x82, mode),
+        },
+        StoreOp::Sty => match mode {
+            Mode::ZpX => Some(0x94),
+            _ => direct_code(0x80, mode),
+        },
+    }
+}
+
+fn modify_code(op: ModifyOp, mode: Mode) -> Option<u8>
+    ensures { result ≡ modify_code op mode }
+{
+    match op {
+        ModifyOp::Asl => shift_code(0x02, mode),
+        ModifyOp::Rol => shift_code(0x22, mode),
+        ModifyOp::Lsr => shift_code(0x42, mode),
+        ModifyOp::Ror => shift_code(0x62, mode),
+        ModifyOp::Dec => memory_code(0xc2, mode),
+        ModifyOp::Inc => memory_code(0xe2, mode),
+    }
+}
+
+fn move_code(op: InherentOp) -> u8
+    ensures { result ≡ move_code op }
+{
+    match op {
+        InherentOp::Clc => 0x18,
+        InherentOp::Sec => 0x38,
+        InherentOp::Cli => 0x58,
+        InherentOp::Sei => 0x78,
+        InherentOp::Clv => 0xb8,
+        InherentOp::Cld => 0xd8,
+        InherentOp::Sed => 0xf8,
+        InherentOp::Txa => 0x8a,
+        InherentOp::Tya => 0x98,
+        InherentOp::Txs => 0x9a,
+        InherentOp::Tay => 0xa8,
+        InherentOp::Tax => 0xaa,
+        InherentOp::Tsx => 0xba,
+        InherentOp::Dey => 0x88,
+        InherentOp::Dex => 0xca,
+        InherentOp::Iny => 0xc8,
+        InherentOp::Inx => 0xe8,
+        InherentOp::Nop => 0xea,
+    }
+}
+
+fn branch_code(op: BranchOp) -> u8
+    ensures { result ≡ branch_code op }
+{
+    match op {
+        BranchOp::Bpl => 0x10,
+        BranchOp::Bmi => 0x30,
+        BranchOp::Bvc => 0x50,
+        BranchOp::Bvs => 0x70,
+        BranchOp::Bcc => 0x90,
+        BranchOp::Bcs => 0xb0,
+        BranchOp::Bne => 0xd0,
+        BranchOp::Beq => 0xf0,
+    }
+}
+
+/// The eight modes of the arithmetic group, from the opcode of its first one.
+fn arithmetic_code(first: u8, mode: Mode) -> Option<u8>
+    requires { first < 228 }
+    ensures { result ≡ arithmetic_code first mode }
+{
+    match mode {
+        Mode::IndX => Some(first),
+        Mode::Imm => Some(first + 0x08),
+        Mode::IndY => Some(first + 0x10),
+        Mode::AbsY => Some(first + 0x18),
+        _ => memory_code(first, mode),
+    }
+}
+
+/// The accumulator, and the modes of a shift in memory.
+fn shift_code(first: u8, mode: Mode) -> Option<u8>
+    requires { first < 228 }
+    ensures { result ≡ shift_code first mode }
+{
+    match mode {
+        Mode::Acc => Some(first + 0x08),
+        _ => memory_code(first, mode),
+    }
+}
+
+/// Zero page and absolute, each also by X.
+fn memory_code(first: u8, mode: Mode) -> Option<u8>
+    requires { first < 228 }
+    ensures { result ≡ memory_code first mode }
+{
+    match mode {
+        Mode::ZpX => Some(first + 0x14),
+        Mode::AbsX => Some(first + 0x1c),
+        _ => direct_code(first, mode),
+    }
+}
+
+/// Zero page and absolute.
+fn direct_code(first: u8, mode: Mode) -> Option<u8>
+    requires { first < 228 }
+    ensures { result ≡ direct_code first mode }
+{
+    match mode {
+        Mode::Zp => Some(first + 0x04),
+        Mode::Abs => Some(first + 0x0c),
+        _ => None,
+    }
+}
+
+/// Immediate, zero page and absolute.
+fn immediate_code(first: u8, mode: Mode) -> Option<u8>
+    requires { first < 228 }
+    ensures { result ≡ immediate_code first mode }
+{
+    match mode {
+        Mode::Imm => Some(first),
+        _ => direct_code(first, mode),
+    }
+}
+
+fn implied_code(opcode: u8, mode: Mode) -> Option<u8>
+    ensures { result ≡ implied_code opcode mode }
+{
+    match mode {
+        Mode::Imp => Some(opcode),
+        _ => None,
+    }
+}
+
+fn relative_code(opcode: u8, mode: Mode) -> Option<u8>
+    ensures { result ≡ relative_code opcode mode }
+{
+    match mode {
+        Mode::Rel => Some(opcode),
+        _ => None,
+    }
+}
+
+fn jump_code(mode: Mode) -> Option<u8>
+    ensures { result ≡ jump_code mode }
+{
+    match mode {
+        Mode::Abs => Some(0x4c),
+        Mode::Ind => Some(0x6c),
+        _ => None,
+    }
+}
+
+fn call_code(mode: Mode) -> Option<u8>
+    ensures { result ≡ call_code mode }
+{
+    match mode {
+        Mode::Abs => Some(0x20),
+        _ => None,
+    }
+}

@@ -1,0 +1,104 @@
+//! The names of mnemonics.
+
+ghost use Rattle.std.specs.Prelude.{◌≡◌, length};
+ghost use Rattle.std.specs.Str.{str_to_ascii_uppercase};
+ghost use Rattle.model.specs.Mnemonics.{mnemonic_named};
+ghost use Rattle.optable.specs.Names.{looked_up};
+
+use model::Mnemonic;
+
+/// The letters of each mnemonic.
+const NAMES: [([u8; 3], Mnemonic); 56] = [
+    (*b"ADC", Mnemonic::Adc),
+    (*b"AND", Mnemonic::And),
+    (*b"ASL", Mnemonic::Asl),
+    (*b"BCC", Mnemonic::Bcc),
+    (*b"BCS", Mnemonic::Bcs),
+    (*b"BEQ", Mnemonic::Beq),
+    (*b"BIT", Mnemonic::Bit),
+    (*b"BMI", Mnemonic::Bmi),
+    (*b"BNE", Mnemonic::Bne),
+    (*b"BPL", Mnemonic::Bpl),
+    (*b"BRK", Mnemonic::Brk),
+    (*b"BVC", Mnemonic::Bvc),
+    (*b"BVS", Mnemonic::Bvs),
+    (*b"CLC", Mnemonic::Clc),
+    (*b"CLD", Mnemonic::Cld),
+    (*b"CLI", Mnemonic::Cli),
+    (*b"CLV", Mnemonic::Clv),
+    (*b"CMP", Mnemonic::Cmp),
+    (*b"CPX", Mnemonic::Cpx),
+    (*b"CPY", Mnemonic::Cpy),
+    (*b"DEC", Mnemonic::Dec),
+    (*b"DEX", Mnemonic::Dex),
+    (*b"DEY", Mnemonic::Dey),
+    (*b"EOR", Mnemonic::Eor),
+    (*b"INC", Mnemonic::Inc),
+    (*b"INX", Mnemonic::Inx),
+    (*b"INY", Mnemonic::Iny),
+    (*b"JMP", Mnemonic::Jmp),
+    (*b"JSR", Mnemonic::Jsr),
+    (*b"LDA", Mnemonic::Lda),
+    (*b"LDX", Mnemonic::Ldx),
+    (*b"LDY", Mnemonic::Ldy),
+    (*b"LSR", Mnemonic::Lsr),
+    (*b"NOP", Mnemonic::Nop),
+    (*b"ORA", Mnemonic::Ora),
+    (*b"PHA", Mnemonic::Pha),
+    (*b"PHP", Mnemonic::Php),
+    (*b"PLA", Mnemonic::Pla),
+    (*b"PLP", Mnemonic::Plp),
+    (*b"ROL", Mnemonic::Rol),
+    (*b"ROR", Mnemonic::Ror),
+    (*b"RTI", Mnemonic::Rti),
+    (*b"RTS", Mnemonic::Rts),
+    (*b"SBC", Mnemonic::Sbc),
+    (*b"SEC", Mnemonic::Sec),
+    (*b"SED", Mnemonic::Sed),
+    (*b"SEI", Mnemonic::Sei),
+    (*b"STA", Mnemonic::Sta),
+    (*b"STX", Mnemonic::Stx),
+    (*b"STY", Mnemonic::Sty),
+    (*b"TAX", Mnemonic::Tax),
+    (*b"TAY", Mnemonic::Tay),
+    (*b"TSX", Mnemonic::Tsx),
+    (*b"TXA", Mnemonic::Txa),
+    (*b"TXS", Mnemonic::Txs),
+    (*b"TYA", Mnemonic::Tya),
+];
+
+/// The mnemonic that a text names, in any letter case, and `None` for every other text. (MCS6500 manual, appendix B;
+/// the letter case is this profile's.)
+pub fn mnemonic_of(text: &[u8]) -> Option<Mnemonic>
+    ensures { result ≡ mnemonic_named text.now }
+{
+    if text.len() != 3 {
+        return None;
+    }
+    look_up(&NAMES, capitals(text))
+}
+
+/// Three bytes, each small letter a capital.
+#[tactic(auto, using(crate::proofs::Naming::capitals_is))]
+fn capitals(text: &[u8]) -> [u8; 3]
+    requires { length text.now ≡ 3 }
+    ensures { result ≡ str_to_ascii_uppercase text.now }
+{
+    [
+        text[0].to_ascii_uppercase(),
+        text[1].to_ascii_uppercase(),
+        text[2].to_ascii_uppercase(),
+    ]
+}
+
+/// The first of some mnemonics that has these letters.
+fn look_up(names: &[([u8; 3], Mnemonic)], letters: [u8; 3]) -> Option<Mnemonic>
+    ensures { result ≡ looked_up letters names.now }
+{
+    for (name, mnemonic) in names {
+        if *name == letters {
+            return Some(*mnemonic);
+        }
+    }
+    None
+}
