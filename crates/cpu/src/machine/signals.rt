@@ -58,9 +58,9 @@ impl Machine {
         ensures undo { IfOk result (λ undo. Undoes undo self.old self.new) }
     {
         let before = self.record();
-        match self.bus.give(byte) {
-            Ok(()) => Ok(before),
-            Err(_) => Err(EventFault::InputFull),
-        }
+        let Ok(()) = self.bus.give(byte) else {
+            return Err(EventFault::InputFull);
+        };
+        Ok(before)
     }
 }
