@@ -4,7 +4,7 @@ ghost use Rattle.std.specs.Prelude.{◌≡◌, true, OnOk, IfOk, IfErr, IsOk, Ok
 ghost use Rattle.model.specs.Event.{input_of, reset_of};
 ghost use Rattle.model.specs.Undo.{Undoes};
 
-use crate::machine::{Machine, MOST_CYCLES};
+use crate::machine::{MOST_CYCLES, Machine};
 use model::{EventFault, Undo};
 
 impl Machine {
