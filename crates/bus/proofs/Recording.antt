@@ -90,3 +90,16 @@ plain_no_port false rom plain = refl
 pub CanRestore-stored : (change : Change) (bus : Bus) (address value : ℕ) → CanRestore change bus → CanRestore change (stored bus address value)
 unfolding spares_port
 CanRestore-stored change bus address value fits = record { given = fits.given; out = fits.out; taken = fits.taken; count = fits.count; port = fits.port }
+
+-- a byte of input after those that stay
+pub restored-given : (change : Change) (bus : Bus) (value : ℕ) → CanRestore change bus → restored change (record bus { given = bus.given ++ value ∷ [] }) ≡ restored change bus
+unfolding restored
+restored-given change bus value fits =
+    let shorter : change.given_len ≤ length bus.given = fits.given in
+    rw take-append-le
+
+-- a byte of input shortens nothing, and moves no port
+pub CanRestore-given : (change : Change) (bus : Bus) (value : ℕ) → CanRestore change bus → CanRestore change (record bus { given = bus.given ++ value ∷ [] })
+unfolding spares_port
+CanRestore-given change bus value fits =
+    record { given = omega (arith, fits.given, length-append bus.given (value ∷ [])); out = fits.out; taken = fits.taken; count = fits.count; port = fits.port }

@@ -1,7 +1,7 @@
 //! Memory, ROM and the port.
 
 ghost use Rattle.std.specs.Prelude.{◌≡◌, ◌+◌, ◌-◌, ◌<◌, ◌≤◌, ◌↔◌, length, slice_index, slice_get, slice_set, IsErr, OnOk, OnErr, IfErr, IfOk, true, false, not, ◌||◌, ◌++◌, ◌∷◌, [], if◌then◌else◌, ℕ, List};
-ghost use Rattle.model.specs.State.{is_port, is_rom, byte_read, after_read, overflows, after_write, stored, input_waits, loaded_bus, has_port_byte};
+ghost use Rattle.model.specs.State.{console_size, is_port, is_rom, byte_read, after_read, overflows, after_write, stored, input_waits, loaded_bus, has_port_byte};
 ghost use Rattle.model.specs.Event.{meets_port, patched};
 ghost use Rattle.model.specs.Image.{empty_image, has_byte};
 ghost use Rattle.model.specs.Undo.{CanRestore, restored, cells_of};
@@ -139,6 +139,22 @@ impl Bus {
         }
         self.set(address, value);
         Ok(())
+    }
+
+    /// A byte of input handed in, behind those that were. `InputFull` where 65,536 bytes were handed in, taken ones
+    /// among them; nothing is changed then. A change that could be put back before still can, and gives the same (profile).
+    pub fn give(&mut self, byte: u8) -> Result<(), BusFault>
+        ensures ok { OnOk result (self.new ≡ record self.old { given = self.old.given ++ byte ∷ [] }) }
+        ensures err { OnErr result (self.new ≡ self.old) }
+        ensures full { IsErr result ↔ (console_size ≤ length self.old.given) }
+        ensures only { IfErr result (λ fault. fault ≡ BusFault.InputFull) }
+        ensures undo { (change : Change) → CanRestore change self.old → restored change self.new ≡ restored change self.old }
+        ensures fits { (change : Change) → CanRestore change self.old → CanRestore change self.new }
+    {
+        match self.given.try_push_back(byte) {
+            Ok(()) => Ok(()),
+            Err(_) => Err(BusFault::InputFull),
+        }
     }
 
     /// Whether one of some bytes from an address on, none of them past 65535, would stand at the port.

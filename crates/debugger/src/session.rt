@@ -133,6 +133,9 @@ fn happen(machine: &mut Machine, event: Event) -> Result<Undo, EventFault>
 {
     match event {
         Event::Step => machine.step(),
+        Event::Reset => machine.reset(),
+        Event::Irq(level) => machine.set_irq(level),
+        Event::Nmi => machine.nmi(),
         Event::Set(setting) => machine.set_register(setting),
         Event::Patch { count, .. } if count > 3 => Err(EventFault::BadLength),
         Event::Patch {
@@ -140,5 +143,6 @@ fn happen(machine: &mut Machine, event: Event) -> Result<Undo, EventFault>
             bytes,
             count,
         } => machine.patch(address, &bytes[..count as usize]),
+        Event::Input(byte) => machine.give_input(byte),
     }
 }

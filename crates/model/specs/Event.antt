@@ -1,17 +1,17 @@
 -- Events, and the state in which a machine starts.
-use Rattle.std.specs.Prelude.{ℕ, ◌+◌, Bool, true, false, ◌||◌, ◌==◌, nat_lt, if◌then◌else◌, List, [], ◌∷◌, length, take, Option, Result, Ok, Err}
-use Rattle.model.specs.State.{Map, Bus, State, is_port, stored, loaded_bus}
+use Rattle.std.specs.Prelude.{ℕ, ◌+◌, Bool, true, false, ◌||◌, ◌==◌, nat_lt, nat_le, if◌then◌else◌, List, [], ◌∷◌, ◌++◌, length, take, Option, Result, Ok, Err}
+use Rattle.model.specs.State.{Map, Bus, State, console_size, is_port, stored, loaded_bus}
 use Rattle.model.specs.Operand.{word_at}
 use Rattle.model.specs.Effect.{flags_of_byte}
-use Rattle.model.specs.Step.{step}
+use Rattle.model.specs.Step.{most_cycles, step}
 use Rattle.model.specs.declared.registers.Regs.{Regs}
 use Rattle.model.specs.declared.registers.Flags.{Flags}
 use Rattle.model.specs.declared.event.Setting.{Setting}
 use Rattle.model.specs.declared.event.Setting.TheVariants.{A, X, Y, S, P, Pc}
 use Rattle.model.specs.declared.event.Event.{Event}
-use Rattle.model.specs.declared.event.Event.TheVariants.{Step, Set, Patch}
+use Rattle.model.specs.declared.event.Event.TheVariants.{Step, Reset, Irq, Nmi, Set, Patch, Input}
 use Rattle.model.specs.declared.event.EventFault.{EventFault}
-use Rattle.model.specs.declared.event.EventFault.TheVariants.{PastEnd, PortAddress, BadLength}
+use Rattle.model.specs.declared.event.EventFault.TheVariants.{CyclesFull, PastEnd, PortAddress, BadLength, InputFull}
 
 -- A register set. P is read as PLP reads it. Source: profile.
 unfoldable pub set_to : Setting → Regs → Regs
@@ -42,13 +42,6 @@ patch_of address bytes state =
     else if meets_port state.bus.map address bytes then Err PortAddress
     else Ok (record state { bus = patched address bytes state.bus })
 
--- The next state, or the fault with which the event is refused; a refused event leaves the state as it was.
--- Of a patch's three bytes the first `count` are taken. A register set is never refused. Source: profile.
-unfoldable pub event_of : State → Event → Result State EventFault
-event_of state Step = step state
-event_of state (Set setting) = Ok (record state { regs = set_to setting state.regs })
-event_of state (Patch address bytes count) = if nat_lt 3 count then Err BadLength else patch_of address (take count bytes) state
-
 -- All flags clear, all registers 0.
 abbrev pub no_flags : Flags
 no_flags = record { n = false; v = false; d = false; i = false; z = false; c = false }
@@ -64,6 +57,27 @@ reset_state state = record state {
   nmi = false;
   cycles = state.cycles + 7;
 }
+
+-- A reset is refused with CyclesFull as a step is, where the count is above 2^64 - 17. Source: profile.
+unfoldable pub reset_of : State → Result State EventFault
+reset_of state = if nat_lt most_cycles state.cycles then Err CyclesFull else Ok (reset_state state)
+
+-- A byte of input is handed in, or refused where 65,536 bytes were handed in, those taken among them. Source: profile.
+unfoldable pub input_of : ℕ → State → Result State EventFault
+input_of byte state =
+    if nat_le console_size (length state.bus.given) then Err InputFull
+    else Ok (record state { bus = record state.bus { given = state.bus.given ++ byte ∷ [] } })
+
+-- The next state, or the fault with which the event is refused; a refused event leaves the state as it was.
+-- Of a patch's three bytes the first `count` are taken. The lines and the registers are never refused. Source: profile.
+unfoldable pub event_of : State → Event → Result State EventFault
+event_of state Step = step state
+event_of state Reset = reset_of state
+event_of state (Irq level) = Ok (record state { irq = level })
+event_of state Nmi = Ok (record state { nmi = true })
+event_of state (Set setting) = Ok (record state { regs = set_to setting state.regs })
+event_of state (Patch address bytes count) = if nat_lt 3 count then Err BadLength else patch_of address (take count bytes) state
+event_of state (Input byte) = input_of byte state
 
 -- The start: an image in memory, everything else 0, and then one reset. Source: profile.
 unfoldable pub start : Map → List (Option ℕ) → State

@@ -79,6 +79,12 @@ pub enum Setting {
 pub enum Event {
     /// One step: an interrupt entry or an instruction.
     Step,
+    /// A reset.
+    Reset,
+    /// The IRQ line set, true for the level that asks for an interrupt. It stays until it is set again.
+    Irq(bool),
+    /// An NMI, which is pending until its entry. A second one before that adds nothing.
+    Nmi,
     /// A register set.
     Set(Setting),
     /// The first `count` of the bytes, 1 to 3, put into memory from an address on, into ROM too.
@@ -87,4 +93,6 @@ pub enum Event {
         bytes: [u8; 3],
         count: u8,
     },
+    /// A byte of input handed in.
+    Input(u8),
 }

@@ -245,6 +245,100 @@ fn session_sets_and_patches(rt: HostRuntime) -> Result<(), Fail> {
     Ok(())
 }
 
+/// S, the status with B clear, PC and the cycles.
+fn shown(machine: &Machine) -> (u8, u8, u16, u64) {
+    let regs = machine.regs();
+    (regs.s, regs.flags.to_byte(false), regs.pc, machine.cycles())
+}
+
+/// Two NMIs make one entry, which comes before the IRQ; the IRQ line stays 1 through entries and a reset.
+#[test]
+fn interrupts_and_reset(rt: HostRuntime) -> Result<(), Fail> {
+    let mut machine = empty_machine(rt.alloc())?;
+    machine.set_register(Setting::Pc(0x0300))?;
+    machine.set_register(Setting::P(0x08))?;
+    machine.patch(0xfffa, &[0x00, 0x04])?;
+    machine.set_irq(true)?;
+    machine.nmi()?;
+    machine.nmi()?;
+    machine.step()?;
+    assert_eq!(rt; shown(&machine), (0xfa, 0x2c, 0x0400, 14));
+    assert_eq!(rt;
+        (
+            machine.peek(0x01fb),
+            machine.peek(0x01fc),
+            machine.peek(0x01fd)
+        ),
+        (0x28, 0x00, 0x03)
+    );
+    machine.set_register(Setting::P(0x00))?;
+    machine.step()?;
+    assert_eq!(rt; shown(&machine), (0xf7, 0x24, 0x0000, 21));
+    machine.reset()?;
+    assert_eq!(rt; shown(&machine), (0xfd, 0x24, 0x0000, 28));
+    machine.set_register(Setting::P(0x00))?;
+    machine.step()?;
+    assert_eq!(rt; shown(&machine), (0xfa, 0x24, 0x0000, 35));
+    Ok(())
+}
+
+/// The same events by a session: the IRQ entry, and an NMI that a reset forgets.
+#[test]
+fn session_interrupts(rt: HostRuntime) -> Result<(), Fail> {
+    let image = Image::new(rt.alloc())?;
+    let mut session = Session::new(rt.alloc(), default_map()?, &image, 8)?;
+    for event in [
+        Event::Set(Setting::Pc(0x0210)),
+        Event::Set(Setting::S(0x01)),
+        Event::Set(Setting::P(0x00)),
+        Event::Irq(true),
+        Event::Step,
+    ] {
+        session.event(event)?;
+    }
+    assert_eq!(rt; (session.regs().s, session.regs().pc), (0xfe, 0x0000));
+    assert_eq!(rt; session.cycles(), 14);
+    assert_eq!(rt;
+        (
+            session.peek(0x0100),
+            session.peek(0x0101),
+            session.peek(0x01ff)
+        ),
+        (0x10, 0x02, 0x20)
+    );
+    session.event(Event::Nmi)?;
+    session.event(Event::Reset)?;
+    session.event(Event::Irq(false))?;
+    session.event(Event::Set(Setting::P(0x00)))?;
+    session.event(Event::Step)?;
+    assert_eq!(rt; session.peek(0x01fb), 0x30);
+    Ok(())
+}
+
+/// 65,536 bytes of input are accepted, and the next is refused, also after one was read.
+#[test]
+fn input_fills(rt: HostRuntime) -> Result<(), Fail> {
+    let image = program_image(rt.alloc(), &[0xad, 0x01, 0xf0, 0xad, 0x02, 0xf0])?;
+    let mut session = Session::new(rt.alloc(), default_map()?, &image, 2)?;
+    session.event(Event::Input(0x41))?;
+    for _ in 0..65535u32 {
+        session.event(Event::Input(0x42))?;
+    }
+    assert_eq!(rt;
+        session.event(Event::Input(0x43)),
+        Err(EventFault::InputFull)
+    );
+    session.event(Event::Step)?;
+    assert_eq!(rt; (session.regs().a, session.input_room()), (0x41, 0));
+    assert_eq!(rt;
+        session.event(Event::Input(0x43)),
+        Err(EventFault::InputFull)
+    );
+    session.event(Event::Step)?;
+    assert_eq!(rt; session.regs().a, 1);
+    Ok(())
+}
+
 /// A store into ROM does nothing, and a patch writes it.
 #[test]
 fn rom_keeps_its_bytes(rt: HostRuntime) -> Result<(), Fail> {
@@ -269,6 +363,35 @@ fn rom_keeps_its_bytes(rt: HostRuntime) -> Result<(), Fail> {
         ),
         (1, Some(0x0a), 0, 0, 65536)
     );
+    Ok(())
+}
+
+/// STA into ROM passes its cycles and changes nothing, and a patch writes there.
+#[test]
+fn store_into_rom(rt: HostRuntime) -> Result<(), Fail> {
+    let map = MapSpec::new(Some((0x8000, 0x8fff)), 0xf000)?;
+    let mut machine = Machine::new(rt.alloc(), map, &Image::new(rt.alloc())?)?;
+    machine.set_register(Setting::A(0x55))?;
+    assert_eq!(rt; cycles_of(&mut machine, 0x0200, &[0x8d, 0x00, 0x80])?, 4);
+    assert_eq!(rt; (machine.regs().a, machine.regs().pc), (0x55, 0x0203));
+    assert_eq!(rt; machine.peek(0x8000), 0x00);
+    machine.patch(0x8000, &[0xaa])?;
+    assert_eq!(rt; machine.peek(0x8000), 0xaa);
+    Ok(())
+}
+
+/// Input at the port: whether it waits, its bytes in their order, and 0 where none waits.
+#[test]
+fn input_at_the_port(rt: HostRuntime) -> Result<(), Fail> {
+    let mut bus = Bus::new(rt.alloc(), default_map()?)?;
+    bus.give(0x41)?;
+    bus.give(0x42)?;
+    for (waits, byte, taken) in [(1, 0x41, 1u32), (1, 0x42, 2), (0, 0x00, 2)] {
+        assert_eq!(rt; bus.read(0xf002), waits);
+        assert_eq!(rt; bus.read(0xf001), byte);
+        assert_eq!(rt; bus.taken(), taken);
+    }
+    assert_eq!(rt; bus.input_room(), 65534);
     Ok(())
 }
 

@@ -13,7 +13,7 @@ returns-in-Err-load-clause-port c = λ _. rw c.in-Ok.ensures.map at c.in-Err-loa
 pub returns-clause-ok : goal.returns-clause-ok
 unfolding start
 returns-clause-ok c =
-    c.restart.ensures ∙ ap (λ bus. reset_state (record { bus = bus; regs = no_regs; irq = false; nmi = false; cycles = 0 }))
+    c.restart.ensures.after ∙ ap (λ bus. reset_state (record { bus = bus; regs = no_regs; irq = false; nmi = false; cycles = 0 }))
     (c.in-Ok-load.ensures.ok ∙ ap (λ map. loaded_bus map c.args.image.now) c.in-Ok.ensures.map)
 
 pub returns-clause-room : goal.returns-clause-room

@@ -1,0 +1,7 @@
+use Rattle.cpu.proofs.Undoing.{undoes}
+use Rattle.cpu.proofs.machine.Machine.nmi.Goals as goal
+
+pub returns-clause-undo : goal.returns-clause-undo
+returns-clause-undo c =
+    let before = rw (← c.self.view_is) at c.record-before.ensures in
+    rw (← c.self.view_is) (undoes _ _ _ before.fits before.bus before.regs before.irq before.nmi before.cycles)
