@@ -10,13 +10,13 @@ use thiserror::Error;
 /// A fault of the engine (profile).
 #[derive(Clone, Copy, Debug, PartialEq, Eq, Error)]
 pub enum EngineFault {
-    /// The source is refused, with the fault of its first faulty line.
+    /// The source is refused, with its fault.
     #[error("Source 1")]
     Source(AsmFault),
     /// The text is no tape, with the first of its faults.
     #[error("Tape 2")]
     Tape(TapeFault),
-    /// No session can be made.
+    /// No session can be made: the image has a byte at a port address.
     #[error("Session 3")]
     Session(SessionFault),
     /// A read of command lines failed.

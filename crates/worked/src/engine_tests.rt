@@ -327,7 +327,7 @@ fn serves_small_pieces(rt: HostRuntime) -> Result<(), Fail> {
 
 #[test]
 fn serves_until_the_reader_fails(rt: HostRuntime) -> Result<(), Fail> {
-    for told in 0..25usize {
+    for told in [0usize, 4, 5, 6, 9, 10, 23, 24] {
         let flushed = Cell::new(0);
         let mut reader = Teller {
             rest: &COMMANDS[..told],
@@ -353,7 +353,7 @@ fn serves_until_the_reader_fails(rt: HostRuntime) -> Result<(), Fail> {
 
 #[test]
 fn writes_a_beginning(rt: HostRuntime) -> Result<(), Fail> {
-    for room in 0..94usize {
+    for room in [0usize, 1, 38, 39, 40, 79, 93] {
         let flushed = Cell::new(0);
         let mut reader = Teller {
             rest: COMMANDS,
