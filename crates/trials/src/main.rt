@@ -13,7 +13,7 @@ use std::{env, fmt, io};
 
 /// A source with tokens and expressions of each kind.
 const SOURCE: &[u8] =
-    b"; nothing\n*=$0200\n LDA #[1+2]*4/$4|%101\n STA <$1234,X\n.BYTE \"text\",'c',*&255\n\n";
+    b"; nothing\n*=$0200\n LDA #[1+2]*4/$4|%101\n STA <$1234,X\n.BYTE 1,'c',*&255\n\n";
 
 /// A source whose last line is none.
 const FAULTY_SOURCE: &[u8] = b"*=$0200\n LDA #[1+2]*3\n.WORD [4^5],>$1234\n?\n";
