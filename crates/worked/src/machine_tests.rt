@@ -109,7 +109,7 @@ fn cycles_of(machine: &mut Machine, address: u16, bytes: &[u8]) -> Result<u64, F
     machine.set_register(Setting::Pc(address))?;
     let before = machine.cycles();
     machine.step()?;
-    Ok(machine.cycles() - before)
+    Ok(machine.cycles().saturating_sub(before))
 }
 
 /// Indexed addresses in the zero page wrap, and so does the pointer of LDA ($FF),Y.
