@@ -1,16 +1,16 @@
 -- Pieces gathered from left to right, and what is wrong with a line.
-use Rattle.std.proofs.Common.{◌≡◌, ℕ, zero, suc, ◌+◌, ◌≤◌, ◌<◌, Bool, true, false, List, [], ◌∷◌, ◌++◌, map, length, drop, get_or, Option, Some, None, Result, Ok, Err, refl, sym, ◌∙◌, ap, append_assoc, append-nil, arith}
-use Rattle.std.specs.Prelude.{nat_le, nat_lt, ◌&&◌, if◌then◌else◌}
+use Rattle.std.proofs.Common.{◌≡◌, ℕ, ◌+◌, ◌≤◌, ◌<◌, Bool, true, false, List, [], ◌∷◌, ◌++◌, map, length, drop, get_or, Option, Some, None, Ok, Err, refl, sym, ◌∙◌, ap, append_assoc, append-nil, arith}
+use Rattle.std.specs.Prelude.{nat_le, if◌then◌else◌}
 use Rattle.std.specs.List.{flat_map}
 use Rattle.std.proofs.lemmas.List.{drop_more, drop_all}
 use Rattle.model.specs.State.{Map}
 use Rattle.model.specs.FaultNames.{source_fault_number}
 use Rattle.model.specs.Image.{with_bytes}
 use Rattle.model.specs.Layout.{Placed, size_of}
-use Rattle.model.specs.Bytes.{Piece, lower, lowest, bytes_in, kind_in, kinds_in, bytes_of, pieces_of, place_kinds, value_fault}
+use Rattle.model.specs.Bytes.{Piece, lower, lowest, bytes_in, kinds_in, bytes_of, pieces_of, place_kinds, value_fault}
 use Rattle.model.specs.Source.{no_numbers}
 use Rattle.model.specs.declared.source_fault.AsmFaultKind.{AsmFaultKind}
-use Rattle.assembler.specs.Judging.{line_gathered, Gathering, nothing_gathered, added, gathered, noted, noted_all, refused, put, unless}
+use Rattle.assembler.specs.Judging.{line_gathered, Gathering, nothing_gathered, added, gathered, noted, noted_all, put}
 use borrow.Author.Tests.{leb-true, leb-false}
 
 -- ---- loops over values

@@ -1,13 +1,13 @@
 -- What is computed of a source is what it denotes, or its fault.
-use Rattle.std.proofs.Common.{◌≡◌, ℕ, zero, suc, ◌+◌, ◌≤◌, ◌<◌, ◌⊎◌, inl, inr, Bool, true, false, List, [], ◌∷◌, ◌++◌, map, length, Option, Some, None, Result, Ok, Err, refl, sym, ◌∙◌, ap, arith}
-use Rattle.std.specs.Prelude.{nat_lt, if◌then◌else◌}
+use Rattle.std.proofs.Common.{◌≡◌, ℕ, ◌+◌, ◌≤◌, ◌<◌, ◌⊎◌, inl, inr, Bool, true, false, List, [], ◌∷◌, ◌++◌, map, length, Option, Some, None, Result, Ok, Err, refl, sym, ◌∙◌, ap, arith}
+use Rattle.std.specs.Prelude.{nat_lt}
 use Rattle.std.proofs.lemmas.Bool.{ltb-true, ltb-false, lt-ltb, le-ltb}
 use Rattle.model.specs.State.{Map}
 use Rattle.model.specs.Image.{with_bytes, empty_image}
 use Rattle.model.specs.Lines.{lines_of}
 use Rattle.model.specs.Layout.{Place, Placed, LaidOut, layout_of, ◌>>>◌}
 use Rattle.model.specs.Bytes.{Makes, bytes_of, value_fault}
-use Rattle.model.specs.Source.{no_numbers, most_bytes, Denotes, IsTooLarge, HasLayoutFault, HasValueFault, HasFault}
+use Rattle.model.specs.Source.{no_numbers, most_bytes, Denotes, HasFault}
 use Rattle.model.specs.declared.source_fault.AsmFault.{AsmFault}
 use Rattle.model.specs.declared.source_fault.AsmFaultKind.{AsmFaultKind}
 use Rattle.model.specs.declared.source_fault.AsmFaultKind.TheVariants.{TooLarge}
@@ -138,7 +138,13 @@ layout_fault (line ∷ lines) n a f h = elim (bind_err (numbered n (extents (lay
   | inl here ↦
       let e = numbered_err n (extents (layout_of no_numbers a line)) f here in
       record {
-        front = []; line = line; back = lines; cut = refl; placed = []; address = a; laid = (refl, refl);
+        front = [];
+        line = line;
+        back = lines;
+        cut = refl;
+        placed = [];
+        address = a;
+        laid = (refl, refl);
         number = omega (arith, e.0);
         kind = extents_err (layout_of no_numbers a line) f.kind e.1;
       }
@@ -149,9 +155,12 @@ layout_fault (line ∷ lines) n a f h = elim (bind_err (numbered n (extents (lay
         | inl behind ↦
             let later = layout_fault lines (n + 1) p.1 f (laid_along (n + 1) first.0.1 p.1 lines (Err f) there behind) in
             record {
-              front = line ∷ later.front; line = later.line; back = later.back;
+              front = line ∷ later.front;
+              line = later.line;
+              back = later.back;
               cut = ap (λ (x : List (List ℕ)). line ∷ x) later.cut;
-              placed = p.0 ∷ later.placed; address = later.address;
+              placed = p.0 ∷ later.placed;
+              address = later.address;
               laid = (p.1, p.2, later.laid);
               number = omega (arith, later.number);
               kind = later.kind;
@@ -228,7 +237,12 @@ value_fault_of m (p ∷ ps) n image f h = elim (bind_err (numbered n (put m imag
   | inl here ↦
       let e = numbered_err n (put m image p) f here in
       record {
-        front = []; line = p; back = ps; cut = refl; image = image; made = refl;
+        front = [];
+        line = p;
+        back = ps;
+        cut = refl;
+        image = image;
+        made = refl;
         number = omega (arith, e.0);
         kind = unless_err (value_fault m no_numbers image p) (with_bytes image p.address (bytes_of no_numbers p)) f.kind e.1;
       }
@@ -236,9 +250,12 @@ value_fault_of m (p ∷ ps) n image f h = elim (bind_err (numbered n (put m imag
       let u = unless_ok (value_fault m no_numbers image p) (with_bytes image p.address (bytes_of no_numbers p)) first.0 (numbered_ok n _ first.0 first.1) in
       let later = value_fault_of m ps (n + 1) (with_bytes image p.address (bytes_of no_numbers p)) f (rw u.1 at first.2) in
       record {
-        front = p ∷ later.front; line = later.line; back = later.back;
+        front = p ∷ later.front;
+        line = later.line;
+        back = later.back;
         cut = ap (λ (x : List Placed). p ∷ x) later.cut;
-        image = later.image; made = (u.0, later.made);
+        image = later.image;
+        made = (u.0, later.made);
         number = omega (arith, later.number);
         kind = later.kind;
       }
@@ -289,9 +306,10 @@ says_ok m source j small h =
     let is : j ≡ record { places = first.0; image = second.0 } = sym (ok_judged (record { places = first.0; image = second.0 }) j second.2) in
     let made = made_sound m stands.placed 1 empty_image second.0 (sym (made_same m lines stands.placed 1 0 stands.end empty_image stands.laid) ∙ second.1) in
     let image : j.image ≡ second.0 = ap (λ (x : Judged). x.image) is in
-    let places : j.places ≡ first.0 = ap (λ (x : Judged). x.places) is in
-    (record { size = small; placed = stands.placed; end = stands.end; laid = stands.laid; made = makes_along m stands.placed j.image second.0 image made },
-    λ placed end laid. places ∙ ok_list first.0 (map extent_of placed) (sym first.1 ∙ laid_again lines placed 1 0 end laid))
+    let places : j.places ≡ first.0 = ap (λ (x : Judged). x.places) is in (
+      record { size = small; placed = stands.placed; end = stands.end; laid = stands.laid; made = makes_along m stands.placed j.image second.0 image made },
+      λ placed end laid. places ∙ ok_list first.0 (map extent_of placed) (sym first.1 ∙ laid_again lines placed 1 0 end laid),
+    )
 
 says_err : (m : Map) (source : List ℕ) (f : AsmFault) → length source ≤ most_bytes → judged_lines m (lines_of source) ≡ Err f → HasFault m source f
 unfolding judged_lines
@@ -302,12 +320,12 @@ says_err m source f small h =
           let l = layout_fault lines 1 0 f bad in
           inr (inl (record { size = small; front = l.front; line = l.line; back = l.back; cut = l.cut; placed = l.placed; address = l.address; laid = l.laid; number = l.number; kind = l.kind }))
       | inr first ↦ elim (bind_err (made_lines m 1 0 empty_image lines) _ f first.2) [
-          | inl bad ↦
-              let stands = laid_sound lines 1 0 first.0 first.1 in
-              let v = value_fault_of m stands.placed 1 empty_image f (sym (made_same m lines stands.placed 1 0 stands.end empty_image stands.laid) ∙ bad) in
-              inr (inr (record { size = small; placed = stands.placed; end = stands.end; laid = stands.laid; front = v.front; line = v.line; back = v.back; cut = v.cut; image = v.image; made = v.made; number = v.number; kind = v.kind }))
-          | inr done ↦ absurd (ok_not_err _ f done.2)
-        ]
+        | inl bad ↦
+            let stands = laid_sound lines 1 0 first.0 first.1 in
+            let v = value_fault_of m stands.placed 1 empty_image f (sym (made_same m lines stands.placed 1 0 stands.end empty_image stands.laid) ∙ bad) in
+            inr (inr (record { size = small; placed = stands.placed; end = stands.end; laid = stands.laid; front = v.front; line = v.line; back = v.back; cut = v.cut; image = v.image; made = v.made; number = v.number; kind = v.kind }))
+        | inr done ↦ absurd (ok_not_err _ f done.2)
+      ]
     ]
 
 pub judged_says : (m : Map) (source : List ℕ) → Says m source (judged m source)
@@ -316,6 +334,7 @@ judged_says m source = by (nat_lt most_bytes (length source)) refl
     on : (r : Result Judged AsmFault) → length source ≤ most_bytes → judged_lines m (lines_of source) ≡ r → Says m source r
     on (Ok j) small h = says_ok m source j small h
     on (Err f) small h = says_err m source f small h
+
     by : (t : Bool) → nat_lt most_bytes (length source) ≡ t → Says m source (judged m source)
     by true e =
         let large : most_bytes < length source = ltb-true most_bytes (length source) e in
@@ -327,10 +346,11 @@ judged_says m source = by (nat_lt most_bytes (length source)) refl
 pub denotes_again : (m : Map) (source : List ℕ) (image : Cells) → Denotes m source image → (places : List (ℕ × ℕ)) × (judged m source ≡ Ok (record { places = places; image = image }))
 unfolding judged_lines
 denotes_again m source image d =
-    let lines = lines_of source in
-    (map extent_of d.placed,
-    small_source m source d.size
-    ∙ rw (laid_again lines d.placed 1 0 d.end d.laid, made_same m lines d.placed 1 0 d.end empty_image d.laid, made_again m d.placed 1 empty_image image d.made) refl)
+    let lines = lines_of source in (
+      map extent_of d.placed,
+      small_source m source d.size
+          ∙ rw (laid_again lines d.placed 1 0 d.end d.laid, made_same m lines d.placed 1 0 d.end empty_image d.laid, made_again m d.placed 1 empty_image image d.made) refl,
+    )
 
 same_fault : (f : AsmFault) (n : ℕ) (k : AsmFaultKind) → f.line ≡ n → f.kind ≡ k → fault n k ≡ f
 same_fault f n k line kind = rw (← line, ← kind) refl

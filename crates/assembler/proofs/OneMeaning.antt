@@ -1,5 +1,5 @@
 -- Each source denotes one image or has one fault, and what an answer says of it.
-use Rattle.std.proofs.Common.{◌≡◌, ℕ, List, map, Option, Bool, false, Result, Ok, Err, ◌⊎◌, inl, inr, sym, ap, subst, ◌∙◌}
+use Rattle.std.proofs.Common.{◌≡◌, ℕ, List, map, Option, false, Result, Ok, Err, ◌⊎◌, inl, inr, sym, ap, subst, ◌∙◌}
 use Rattle.std.specs.Prelude.{IfOk, IfErr}
 use Rattle.model.specs.State.{Map, has_port_byte}
 use Rattle.model.specs.Layout.{Placed, LaidOut}

@@ -1,5 +1,5 @@
 -- How many bytes a line has at most.
-use Rattle.std.proofs.Common.{◌≤◌, ℕ, arith}
+use Rattle.std.proofs.Common.{◌≤◌, arith}
 use Rattle.model.specs.declared.instruction.Mode.{Mode}
 use Rattle.model.specs.declared.instruction.Mode.TheVariants.{Imp, Acc, Imm, Zp, ZpX, ZpY, Abs, AbsX, AbsY, IndX, IndY, Ind, Rel}
 use Rattle.model.specs.Layout.{length_in}

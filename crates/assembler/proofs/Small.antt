@@ -1,5 +1,5 @@
 -- A line that was read has few values, since its bytes are few.
-use Rattle.std.proofs.Common.{◌≡◌, ℕ, zero, suc, ◌+◌, ◌-◌, ◌≤◌, ◌<◌, Bool, true, false, List, [], ◌∷◌, length, Option, Some, None, Result, Ok, Err, refl, sym, ◌∙◌, ap, subst, arith}
+use Rattle.std.proofs.Common.{◌≡◌, ℕ, zero, suc, ◌+◌, ◌-◌, ◌≤◌, Bool, true, false, List, [], ◌∷◌, length, Option, Some, None, Result, Ok, Err, refl, subst, arith}
 use Rattle.std.specs.Prelude.{codes, nat_lt, not, ⊤, ◌==◌, if◌then◌else◌}
 use Rattle.std.specs.List.{list_all}
 use Rattle.std.specs.Option.{option_map, option_and_then}
@@ -14,7 +14,7 @@ use Rattle.model.specs.Mnemonics.{mnemonic_named}
 use Rattle.model.specs.Token.{Lexeme, Found, Tokens, is_blank, is_source_byte, found_before, token_at, tokens_from, tokens_of}
 use Rattle.model.specs.Expression.{Term}
 use Rattle.model.specs.Reading.{Read, is_symbol, expression_of}
-use Rattle.model.specs.Line.{Operand, Statement, nothing, origin, bytes, words, instruction, list_behind, expressions_within, expressions_of, directive_of, origin_behind, operand_of, operation_by, statement_of, whole_expression, reserves, unreserved, read_line}
+use Rattle.model.specs.Line.{Operand, Statement, origin, bytes, words, instruction, list_behind, expressions_within, expressions_of, directive_of, origin_behind, operand_of, operation_by, statement_of, whole_expression, reserves, unreserved, read_line}
 use Rattle.assembler.specs.Placing.{IsSmall}
 
 -- ---- lists of few elements

@@ -1,12 +1,12 @@
 -- No line without a fault puts a byte at a port address.
-use Rattle.std.proofs.Common.{◌≡◌, ◌≢◌, ℕ, zero, suc, ◌+◌, ◌≤◌, ◌<◌, Bool, true, false, List, [], ◌∷◌, length, Option, Some, None, replicate, get_or, inl, inr, refl, sym, ◌∙◌, ap, arith, get_or-set_other}
+use Rattle.std.proofs.Common.{◌≡◌, ◌≢◌, ℕ, zero, suc, ◌+◌, ◌≤◌, ◌<◌, Bool, true, false, List, [], ◌∷◌, length, Option, Some, None, replicate, get_or, inl, inr, refl, ap, arith, get_or-set_other}
 use Rattle.std.specs.Prelude.{nat_le, nat_lt, ◌||◌, ◌&&◌, slice_set, is_some}
 use Rattle.std.proofs.lemmas.Bool.Decides.{nat_tests, leb_tells}
 use Rattle.std.proofs.lemmas.List.{get_or-replicate, get_or_past, length-replicate}
 use Rattle.model.specs.State.{Map, is_port, has_port_byte}
 use Rattle.model.specs.Image.{empty_image, has_byte, with_bytes}
 use Rattle.model.specs.Layout.{Placed, size_of}
-use Rattle.model.specs.Bytes.{Makes, bytes_of, has_port, value_fault}
+use Rattle.model.specs.Bytes.{Makes, bytes_of, has_port}
 use Rattle.model.specs.Source.{no_numbers}
 use Rattle.assembler.proofs.Room.{line_size, placed_right}
 

@@ -1,5 +1,5 @@
 -- Forms, contents and places without where they lie in memory.
-use Rattle.std.specs.Prelude.{◌≡◌, ℕ, ◌≤◌, ◌&&◌, ⊤, Bool, if◌then◌else◌, List, length, map, Option, Some, None, Result, Ok, Err}
+use Rattle.std.specs.Prelude.{◌≡◌, ◌≤◌, ◌&&◌, ⊤, if◌then◌else◌, length, map, Option, Some, None, Result, Ok, Err}
 use Rattle.asm_expr.specs.Trees.{view}
 use Rattle.assembler.specs.declared.layout.Form.{Form}
 use Rattle.assembler.specs.declared.layout.Form.TheVariants.{One, BySize}

@@ -98,6 +98,7 @@ fn assemble_lines(alloc: Global, source: &[u8], map: &MapSpec) -> Result<Assembl
     }
     let spans = lay_out(alloc, source)?;
     let image = make_image(alloc, source, map)?;
+    // For the proof: what `cells` says of each image.
     let _ = image.cells();
     let source = Vec::from_slice(alloc, source).map_err(|_| OUT_OF_MEMORY)?;
     Ok(Assembly {

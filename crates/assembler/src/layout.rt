@@ -189,11 +189,7 @@ fn sized(short: Mode, long: Mode, value: Result<i32, ExprFault>) -> Result<Mode,
 }
 
 /// The mode of an instruction, by the value of its operand where that decides.
-fn mode_of(
-    address: u32,
-    value: Option<&Expr<'_>>,
-    form: Option<Form>,
-) -> Result<Mode, AsmFaultKind>
+fn mode_of(address: u32, value: Option<&Expr<'_>>, form: Option<Form>) -> Result<Mode, AsmFaultKind>
     requires { address < 2 ^ 31 }
     ensures { result ≡ mode_by no_numbers address (shown (λ e. view e.now) value.entry) (shown seen_form form) }
 {

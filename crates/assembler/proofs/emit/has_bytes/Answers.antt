@@ -1,7 +1,5 @@
-use Rattle.std.proofs.Common.{◌≡◌, ◌+◌, ◌-◌, ◌<◌, true, false, sym, ◌∙◌, arith}
-use Rattle.model.specs.Image.{has_byte}
-use Rattle.model.specs.Bytes.{has_bytes}
-use Rattle.assembler.proofs.Ports.{has_bytes_free, has_bytes_met, has_bytes_none, has_bytes_next}
+use Rattle.std.proofs.Common.{◌+◌, ◌-◌, sym, ◌∙◌, arith}
+use Rattle.assembler.proofs.Ports.{has_bytes_met, has_bytes_none, has_bytes_next}
 use Rattle.assembler.proofs.emit.has_bytes.Goals as goal
 
 pub returns-then-has_byte : goal.returns-then-has_byte

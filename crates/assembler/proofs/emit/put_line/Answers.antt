@@ -1,4 +1,4 @@
-use Rattle.std.proofs.Common.{◌≡◌, ◌≤◌, ◌<◌, ◌+◌, ℕ, List, length, sym, ◌∙◌, arith}
+use Rattle.std.proofs.Common.{sym, ◌∙◌}
 use Rattle.model.specs.Layout.{Placed}
 use Rattle.assembler.specs.Placing.{seen_content}
 use Rattle.assembler.proofs.Gathers.{put_right, put_faulty}

@@ -1,4 +1,3 @@
-use Rattle.std.proofs.Common.{◌≡◌}
 use Rattle.assembler.specs.Seen.{seen}
 use Rattle.assembler.proofs.Passes.{laid_read, laid_fails}
 use Rattle.assembler.proofs.pass.lay_line.Goals as goal

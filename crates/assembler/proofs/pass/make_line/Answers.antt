@@ -1,4 +1,3 @@
-use Rattle.std.proofs.Common.{◌≡◌}
 use Rattle.assembler.specs.Seen.{seen}
 use Rattle.assembler.proofs.Passes.{made_read, made_fails}
 use Rattle.assembler.proofs.pass.make_line.Goals as goal

@@ -1,4 +1,4 @@
-use Rattle.std.proofs.Common.{◌≡◌, ◌∙◌, sym, ap, arith, ℤ, pos, Result}
+use Rattle.std.proofs.Common.{◌∙◌, ap, arith, ℤ, pos, Result}
 use Rattle.asm_expr.specs.Trees.{view}
 use Rattle.model.specs.Bytes.{byte_piece}
 use Rattle.model.specs.Expression.{Term}
