@@ -1,11 +1,10 @@
 -- Bytes of input, as they are met word by word.
-use Rattle.std.proofs.Common.{◌≡◌, ℕ, zero, suc, ◌+◌, ◌<◌, ◌≤◌, ◌-◌, Bool, true, false, List, [], ◌∷◌, ◌++◌, length, take, Option, Some, None, refl, sym, ap, ◌∙◌, if◌then◌else◌, codes, arith, append-nil, append_assoc, length-append, subst}
-use Rattle.std.specs.Prelude.{nat_lt, nat_le, slice_set}
+use Rattle.std.proofs.Common.{◌≡◌, ℕ, zero, suc, ◌+◌, ◌<◌, ◌≤◌, true, false, List, [], ◌∷◌, ◌++◌, length, take, Option, Some, None, refl, sym, ap, ◌∙◌, if◌then◌else◌, codes, arith, append-nil, append_assoc, length-append}
+use Rattle.std.specs.Prelude.{nat_lt, slice_set}
 use Rattle.std.specs.Str.{bytes_eq}
 use Rattle.std.proofs.lemmas.Slice.Eq.{bytes_eq-Decides}
 use Rattle.std.proofs.lemmas.Bool.{le-leb, lt-leb}
 use Rattle.model.specs.Commands.{byte_of, byte_before, bytes_of, input_command, no_input, command_of, command_of_words, pair_command, triple_command, long_command, words_of}
-use Rattle.model.specs.declared.command.Command.{Command}
 use Rattle.model.specs.declared.command.Command.TheVariants.{Bad, Input}
 use Rattle.commands.specs.Words.{IsNextWord}
 use Rattle.commands.proofs.Patches.{next}

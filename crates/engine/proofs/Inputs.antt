@@ -1,6 +1,7 @@
 -- Bytes of input for which there is room.
-use Rattle.std.proofs.Common.{◌≡◌, ℕ, ◌+◌, ◌<◌, ◌≤◌, Bool, true, false, List, [], ◌∷◌, ◌++◌, Result, Ok, Err, OnOk, IfErr, refl, sym, ap, ◌∙◌, if◌then◌else◌, length, take, drop, get_or, drop-cons, add-one, arith, append_assoc, append-nil, length-append, length-take}
-use Rattle.std.proofs.lemmas.Bool.{lt-leb}
+use Rattle.std.proofs.Common.{◌≡◌, ℕ, ◌+◌, ◌<◌, ◌≤◌, Bool, true, false, List, [], ◌∷◌, ◌++◌, Result, Ok, Err, OnOk, IfErr, refl, sym, ap, ◌∙◌, if◌then◌else◌, length, take, drop, get_or, drop-cons, add-one, arith, append_assoc, append-nil, length-append, length-take, lt-ltb, inl, inr}
+use Rattle.std.specs.Prelude.{nat_lt}
+use Rattle.std.proofs.lemmas.Bool.{lt-leb, le-ltb, cases_lt, ltb-false}
 use Rattle.std.proofs.lemmas.List.{take_all, take_more, drop_all}
 use Rattle.model.specs.State.{State, console_size}
 use Rattle.model.specs.Session.{Session, appended}
@@ -63,3 +64,13 @@ after_all s bytes i h = rw (drop_all i bytes h) (after_none s)
 
 pub given_all : (before now : List ℕ) (bytes : List ℕ) (i : ℕ) → length bytes ≤ i → now ≡ before ++ take i bytes → now ≡ before ++ bytes
 given_all before now bytes i h e = e ∙ ap (λ l. before ++ l) (take_all i bytes h)
+
+-- The room tells whether so many more bytes are too many.
+pub exceeds : (room given n : ℕ) → room + given ≡ 65536 → nat_lt room n ≡ nat_lt console_size (given + n)
+exceeds room given n e = elim (cases_lt room n) [
+  | inl h ↦ lt-ltb room n h ∙ sym (lt-ltb console_size (given + n) (omega (arith, e, h)))
+  | inr h ↦ le-ltb room n h ∙ sym (le-ltb console_size (given + n) (omega (arith, e, h)))
+]
+
+pub fits : (given n : ℕ) → nat_lt console_size (given + n) ≡ false → given + n ≤ 65536
+fits given n h = ltb-false console_size (given + n) h

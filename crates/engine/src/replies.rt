@@ -1,9 +1,10 @@
 //! What the engine does with a command, and what it replies.
 
-ghost use Rattle.std.specs.Prelude.{◌≡◌, ◌≤◌, ◌+◌, ◌∷◌, ◌++◌, [], length, take, MatchResult, IfOk, OnErr, Ok, Err, false};
+ghost use Rattle.std.specs.Prelude.{◌≡◌, ◌≤◌, ◌+◌, ◌∷◌, ◌++◌, [], length, take, MatchResult, IfOk, OnErr, Ok, Err, false, nat_lt};
 ghost use Rattle.model.specs.Written.{Writes};
 ghost use Rattle.model.specs.Text.{memory_rows, output_text};
 ghost use Rattle.model.specs.Event.{event_of};
+ghost use Rattle.model.specs.State.{console_size};
 ghost use Rattle.engine.specs.Output.{output_rows};
 ghost use Rattle.model.specs.Transcript.{after_input, answer_to, event_answer, input_answer};
 
@@ -95,11 +96,18 @@ fn take_input<W: Write>(
     ensures ok { IfOk result (λ quit. (quit ≡ false) × (session.new ≡ (input_answer session.old bytes.now).session)) }
     ensures fault { OnErr result (result ≡ Err EngineFault.Write) }
 {
-    if bytes.len() > session.input_room() as usize {
+    if exceeds_room(session, bytes) {
         return said(put(writer, fault_text(EventFault::InputFull).as_slice()));
     }
     hand_in(session, bytes);
     said(put(writer, b"OK\n"))
+}
+
+/// Whether not all of the bytes may be handed in.
+fn exceeds_room(session: &Session, bytes: &[u8]) -> bool
+    ensures { result ≡ nat_lt console_size (length session.now.current.bus.given + length bytes.now) }
+{
+    bytes.len() > session.input_room() as usize
 }
 
 /// Hands in bytes for which there is room, each an event of its own. None is refused.
