@@ -74,3 +74,7 @@ exceeds room given n e = elim (cases_lt room n) [
 
 pub fits : (given n : ℕ) → nat_lt console_size (given + n) ≡ false → given + n ≤ 65536
 fits given n h = ltb-false console_size (given + n) h
+
+-- All bytes are the first of them where there are no more.
+pub first_all : (bytes : List ℕ) (count : ℕ) → length bytes ≤ count → bytes ≡ take count bytes
+first_all bytes count h = sym (take_all count bytes h)

@@ -75,6 +75,7 @@ fn happened<W: Write>(
 }
 
 /// The first of some bytes, or all where there are no more than `count`.
+#[tactic(auto, using(crate::proofs::Inputs::first_all))]
 fn first_bytes(bytes: &[u8; 16], count: u8) -> &[u8]
     ensures { result.now ≡ take count bytes.now }
 {
