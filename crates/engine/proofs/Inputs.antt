@@ -20,12 +20,19 @@ pub accepts : (state : State) (b : ℕ) → length state.bus.given + 1 ≤ 65536
 unfolding event_of input_of
 accepts state b h = rw (lt-leb console_size (length state.bus.given) (omega arith)) refl
 
-state_in : State → Result State EventFault → State
+abbrev state_in : State → Result State EventFault → State
 state_in other (Ok state) = state
 state_in other (Err fault) = other
 
+abbrev is_accepted : Result State EventFault → Bool
+is_accepted (Ok state) = true
+is_accepted (Err fault) = false
+
+true_false : true ≡ false → ⊥
+true_false h = cc
+
 refused : (state : State) (fault : EventFault) (r : Result State EventFault) → r ≡ Ok state → r ≡ Err fault → ⊥
-refused state fault r e f = let bad : Ok state ≡ Err fault = sym e ∙ f in absurd cc
+refused state fault r e f = true_false (sym (ap is_accepted e) ∙ ap is_accepted f)
 
 -- So the session holds it, whatever the call's result.
 pub handed : (s n : Session) (b : ℕ) (r : Result (Unit {0}) EventFault) → length s.current.bus.given + 1 ≤ 65536

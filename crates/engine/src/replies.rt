@@ -94,7 +94,7 @@ fn take_input<W: Write>(
     writer: &mut W,
 ) -> Result<bool, EngineFault>
     ensures writes { Writes (W.contents writer.old) (W.contents writer.new) (input_answer session.old bytes.now).written result }
-    ensures ok { IfOk result (λ quit. (quit ≡ false) × (session.new ≡ (input_answer session.old bytes.now).session)) }
+    ensures ok { IfOk result (λ quit. (quit ≡ (input_answer session.old bytes.now).quit) × (session.new ≡ (input_answer session.old bytes.now).session)) }
     ensures fault { OnErr result (result ≡ Err EngineFault.Write) }
 {
     if exceeds_room(session, bytes) {

@@ -1,4 +1,4 @@
-use Rattle.std.proofs.Common.{◌∙◌, ap, sym, refl, append-nil, drop}
+use Rattle.std.proofs.Common.{◌∙◌, ◌+◌, ap, sym, refl, append-nil, drop}
 use Rattle.model.specs.Transcript.{after_input}
 use Rattle.engine.proofs.Inputs.{after_at, given_at, room_at, after_all, given_all}
 use Rattle.engine.proofs.replies.hand_in.Goals as goal
