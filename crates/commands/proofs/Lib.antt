@@ -1,3 +1,4 @@
 pub mod Digits
+pub mod Inputs
 pub mod Patches
 pub mod Spaces

@@ -1,9 +1,8 @@
 -- The words of a line, from its front.
-use Rattle.std.proofs.Common.{◌≡◌, ◌≢◌, ℕ, ◌+◌, ◌-◌, ◌*◌, ◌^◌, ◌<◌, ◌≤◌, Bool, true, false, cond, eqb, List, [], ◌∷◌, ◌++◌, refl, sym, ap, ◌∙◌, subst, take, drop, length, get_or, arith, drop-cons, add-one, true≢false, take-append-drop, inl, inr, Option, Some, None, append-nil, zero, suc, ◌&&◌, length-drop, length-take, drop-drop, ◌⊎◌, leb}
-use Rattle.std.proofs.lemmas.Bool.{le-leb}
+use Rattle.std.proofs.Common.{◌≡◌, ◌≢◌, ℕ, ◌+◌, ◌-◌, ◌<◌, ◌≤◌, Bool, true, false, eqb, List, [], ◌∷◌, ◌++◌, refl, sym, ap, ◌∙◌, take, drop, length, get_or, arith, drop-cons, add-one, true≢false, take-append-drop, inl, inr, ◌&&◌, length-drop, length-take, drop-drop, ◌⊎◌}
 use Rattle.std.proofs.lemmas.List.{take_all, drop_all, take_more, get_or-drop}
 use Rattle.std.proofs.lemmas.List.Folds.{list_all-append}
-use Rattle.std.proofs.lemmas.Bool.Decides.{nat_tests, eqb_tells}
+use Rattle.std.proofs.lemmas.Bool.Decides.{eqb_tells}
 use Rattle.std.specs.List.{list_all}
 use Rattle.model.specs.Commands.{words_of, attached, goes_on}
 use Rattle.commands.specs.Words.{no_space, IsNextWord}

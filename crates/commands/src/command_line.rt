@@ -1,8 +1,8 @@
 //! What a command line asks for.
 
-ghost use Rattle.std.specs.Prelude.{◌≡◌, ◌∷◌, [], MatchOption};
+ghost use Rattle.std.specs.Prelude.{◌≡◌, ◌∷◌, [], MatchOption, codes, false};
 ghost use Rattle.std.specs.Str.{bytes_eq};
-ghost use Rattle.model.specs.Commands.{address_of, bytes_of, command_of, long_command, mem_command, patch_command, plain_command, set_command, triple_command, words_of};
+ghost use Rattle.model.specs.Commands.{address_of, bytes_of, command_of, input_command, long_command, mem_command, pair_command, patch_command, plain_command, set_command, triple_command, words_of};
 
 use crate::numbers::{address_of, byte_of};
 use crate::words::next_word;
@@ -17,16 +17,18 @@ pub fn parse(line: &[u8]) -> Command
     if line.len() > 255 {
         return Command::Bad;
     }
-    let (first, rest) = next_word(line);
-    let (second, rest) = next_word(rest);
+    let (first, behind) = next_word(line);
+    let (second, rest) = next_word(behind);
     let (third, rest) = next_word(rest);
     let (fourth, rest) = next_word(rest);
     if first.is_empty() {
         Command::Nothing
     } else if second.is_empty() {
         plain_command(first)
+    } else if is_text(first, b"in") {
+        input_command(behind)
     } else if third.is_empty() {
-        Command::Bad
+        pair_command(first, second)
     } else if fourth.is_empty() {
         triple_command(first, second, third)
     } else {
@@ -49,6 +51,10 @@ fn plain_command(word: &[u8]) -> Command
         Command::Regs
     } else if is_text(word, b"step") {
         Command::Step
+    } else if is_text(word, b"reset") {
+        Command::Reset
+    } else if is_text(word, b"nmi") {
+        Command::Nmi
     } else if is_text(word, b"out") {
         Command::Out
     } else if is_text(word, b"quit") {
@@ -58,9 +64,53 @@ fn plain_command(word: &[u8]) -> Command
     }
 }
 
-/// A command of three words.
+/// A command of two words, but for `in`: the IRQ line's level.
+#[tactic(auto, unfolding(model::specs::Commands::pair_command))]
+fn pair_command(word: &[u8], level: &[u8]) -> Command
+    requires { bytes_eq word.now (codes "in") ≡ false }
+    ensures { result ≡ pair_command word.now level.now }
+{
+    if !is_text(word, b"irq") {
+        return Command::Bad;
+    }
+    if is_text(level, b"0") {
+        Command::Irq(false)
+    } else if is_text(level, b"1") {
+        Command::Irq(true)
+    } else {
+        Command::Bad
+    }
+}
+
+/// Bytes of input, which all words of a line write: at most 16.
+fn input_command(line: &[u8]) -> Command
+    ensures { result ≡ input_command (bytes_of (words_of line.now)) }
+{
+    let mut bytes = [0u8; 16];
+    let mut rest = line;
+    for count in 0..16u8 {
+        let (word, behind) = next_word(rest);
+        if word.is_empty() {
+            return Command::Input { bytes, count };
+        }
+        match byte_of(word) {
+            Some(byte) => bytes[count as usize] = byte,
+            None => return Command::Bad,
+        }
+        rest = behind;
+    }
+    let (word, _) = next_word(rest);
+    if word.is_empty() {
+        Command::Input { bytes, count: 16 }
+    } else {
+        Command::Bad
+    }
+}
+
+/// A command of three words, but for `in`.
 #[tactic(auto, unfolding(model::specs::Commands::triple_command))]
 fn triple_command(word: &[u8], second: &[u8], third: &[u8]) -> Command
+    requires { bytes_eq word.now (codes "in") ≡ false }
     ensures { result ≡ triple_command word.now second.now third.now }
 {
     if is_text(word, b"mem") {
@@ -74,9 +124,10 @@ fn triple_command(word: &[u8], second: &[u8], third: &[u8]) -> Command
     }
 }
 
-/// A command of four words or more: a patch of two bytes or three.
+/// A command of four words or more, but for `in`: a patch of two bytes or three.
 #[tactic(auto, unfolding(model::specs::Commands::long_command))]
 fn long_command(word: &[u8], second: &[u8], third: &[u8], fourth: &[u8], rest: &[u8]) -> Command
+    requires { bytes_eq word.now (codes "in") ≡ false }
     ensures { result ≡ long_command word.now second.now (third.now ∷ fourth.now ∷ words_of rest.now) }
 {
     if !is_text(word, b"patch") {

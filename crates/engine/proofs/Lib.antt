@@ -1,4 +1,5 @@
 pub mod Feeds
+pub mod Inputs
 pub mod Serving
 pub mod Writing
 pub mod Refused

@@ -1,17 +1,18 @@
 //! What the engine does with a command, and what it replies.
 
-ghost use Rattle.std.specs.Prelude.{◌≡◌, MatchResult, IfOk, OnErr, Ok, Err, false};
+ghost use Rattle.std.specs.Prelude.{◌≡◌, ◌≤◌, ◌+◌, ◌∷◌, ◌++◌, [], length, take, MatchResult, IfOk, OnErr, Ok, Err, false, nat_lt};
 ghost use Rattle.model.specs.Written.{Writes};
 ghost use Rattle.model.specs.Text.{memory_rows, output_text};
 ghost use Rattle.model.specs.Event.{event_of};
+ghost use Rattle.model.specs.State.{console_size};
 ghost use Rattle.engine.specs.Output.{output_rows};
-ghost use Rattle.model.specs.Transcript.{answer_to, event_answer};
+ghost use Rattle.model.specs.Transcript.{after_input, answer_to, event_answer, input_answer};
 
 use crate::fault::EngineFault;
 use crate::output::put;
 use crate::texts::{fault_text, output_head, output_row_text, register_text, row_end, row_text};
 use debugger::Session;
-use model::{Command, Event};
+use model::{Command, Event, EventFault};
 use std::io::Write;
 
 /// Does what a command asks for and writes the reply. It says whether the engine is to end.
@@ -47,6 +48,10 @@ pub fn execute<W: Write>(
             },
             writer,
         ),
+        Command::Reset => happened(session, Event::Reset, writer),
+        Command::Irq(level) => happened(session, Event::Irq(level), writer),
+        Command::Nmi => happened(session, Event::Nmi, writer),
+        Command::Input { bytes, count } => take_input(session, first_bytes(&bytes, count), writer),
         Command::Quit => Ok(true),
         Command::Nothing => Ok(false),
         Command::Bad => said(put(writer, b"? BAD COMMAND\n")),
@@ -67,6 +72,64 @@ fn happened<W: Write>(
         Ok(()) => said(put(writer, b"OK\n")),
         Err(fault) => said(put(writer, fault_text(fault).as_slice())),
     }
+}
+
+/// The first of some bytes, or all where there are no more than `count`.
+#[tactic(auto, using(crate::proofs::Inputs::first_all))]
+fn first_bytes(bytes: &[u8; 16], count: u8) -> &[u8]
+    ensures { result.now ≡ take count bytes.now }
+{
+    if count < 16 {
+        &bytes[..count as usize]
+    } else {
+        bytes
+    }
+}
+
+/// Bytes of input: all of them are handed in, or none where not all fit.
+#[tactic(auto, unfolding(model::specs::Transcript::input_answer))]
+fn take_input<W: Write>(
+    session: &mut Session,
+    bytes: &[u8],
+    writer: &mut W,
+) -> Result<bool, EngineFault>
+    ensures writes { Writes (W.contents writer.old) (W.contents writer.new) (input_answer session.old bytes.now).written result }
+    ensures ok { IfOk result (λ quit. (quit ≡ (input_answer session.old bytes.now).quit) × (session.new ≡ (input_answer session.old bytes.now).session)) }
+    ensures fault { OnErr result (result ≡ Err EngineFault.Write) }
+{
+    if exceeds_room(session, bytes) {
+        return said(put(writer, fault_text(EventFault::InputFull).as_slice()));
+    }
+    hand_in(session, bytes);
+    said(put(writer, b"OK\n"))
+}
+
+/// Whether not all of the bytes may be handed in.
+fn exceeds_room(session: &Session, bytes: &[u8]) -> bool
+    ensures { result ≡ nat_lt console_size (length session.now.current.bus.given + length bytes.now) }
+{
+    bytes.len() > session.input_room() as usize
+}
+
+/// Hands in bytes for which there is room, each an event of its own. None is refused.
+fn hand_in(session: &mut Session, bytes: &[u8])
+    requires { length session.old.current.bus.given + length bytes.now ≤ 65536 }
+    ensures after { session.new ≡ after_input session.old bytes.now }
+    ensures given { session.new.current.bus.given ≡ session.old.current.bus.given ++ bytes.now }
+{
+    for byte in bytes {
+        hand_in_byte(session, *byte);
+    }
+}
+
+/// Hands in a byte for which there is room. The event is not refused.
+fn hand_in_byte(session: &mut Session, byte: u8)
+    requires { length session.old.current.bus.given + 1 ≤ 65536 }
+    ensures accepted { event_of session.old.current (Event.Input byte) ≡ Ok session.new.current }
+    ensures after { session.new ≡ after_input session.old (byte ∷ []) }
+    ensures given { session.new.current.bus.given ≡ session.old.current.bus.given ++ byte ∷ [] }
+{
+    let _ = session.event(Event::Input(byte));
 }
 
 /// A reply that does not end the engine.

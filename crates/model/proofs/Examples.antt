@@ -9,7 +9,7 @@ use Rattle.model.specs.Table.{Entry, row_at, find_row, table}
 use Rattle.model.specs.Step.{step, attempted, executed, fetched, stores}
 use Rattle.model.specs.Event.{no_regs, no_flags}
 use Rattle.model.specs.Lines.{lines_from, lines_of}
-use Rattle.model.specs.Commands.{command_of, command_of_words, plain_command, triple_command, long_command, set_command}
+use Rattle.model.specs.Commands.{command_of, command_of_words, plain_command, pair_command, triple_command, long_command, set_command}
 use Rattle.model.specs.Text.{register_line, memory_row, memory_rows, spaced_bytes}
 use Rattle.model.specs.Transcript.{fault_line}
 use Rattle.model.specs.declared.registers.Regs.{Regs}
@@ -204,6 +204,22 @@ command_patch_of_four = refl
 command_small_register : command_of (codes "set a 01") ≡ command.Bad
 unfolding command_of command_of_words triple_command set_command
 command_small_register = refl
+
+command_irq : command_of (codes "irq 1") ≡ command.Irq true
+unfolding command_of command_of_words pair_command
+command_irq = refl
+
+command_irq_of_two : command_of (codes "irq 2") ≡ command.Bad
+unfolding command_of command_of_words pair_command
+command_irq_of_two = refl
+
+command_in : command_of (codes "in 41 0d") ≡ command.Input (0x41 ∷ 0x0D ∷ 0 ∷ 0 ∷ 0 ∷ 0 ∷ 0 ∷ 0 ∷ 0 ∷ 0 ∷ 0 ∷ 0 ∷ 0 ∷ 0 ∷ 0 ∷ 0 ∷ []) 2
+unfolding command_of command_of_words triple_command
+command_in = refl
+
+command_in_of_17 : command_of (codes "in 00 01 02 03 04 05 06 07 08 09 0A 0B 0C 0D 0E 0F 10") ≡ command.Bad
+unfolding command_of command_of_words long_command
+command_in_of_17 = refl
 
 command_upper_case : command_of (codes "STEP") ≡ command.Bad
 unfolding command_of command_of_words plain_command

@@ -1,8 +1,8 @@
 -- What a command line asks for. Source: profile.
-use Rattle.std.specs.Prelude.{ℕ, ◌+◌, ◌-◌, ◌*◌, Bool, true, false, List, [], ◌∷◌, length, nat_lt, nat_le, ◌==◌, ◌&&◌, ◌||◌, if◌then◌else◌, codes, Option, Some, None}
+use Rattle.std.specs.Prelude.{ℕ, ◌+◌, ◌-◌, ◌*◌, Bool, true, false, List, [], ◌∷◌, ◌++◌, length, take, nat_lt, nat_le, ◌==◌, ◌&&◌, ◌||◌, if◌then◌else◌, codes, Option, Some, None}
 use Rattle.std.specs.Str.{bytes_eq}
 use Rattle.model.specs.declared.command.Command.{Command}
-use Rattle.model.specs.declared.command.Command.TheVariants.{Regs, Step, Mem, Out, Set, Patch, Quit, Nothing, Bad}
+use Rattle.model.specs.declared.command.Command.TheVariants.{Regs, Step, Mem, Out, Set, Patch, Reset, Irq, Nmi, Input, Quit, Nothing, Bad}
 use Rattle.model.specs.declared.event.Setting.{Setting}
 use Rattle.model.specs.declared.event.Setting.TheVariants.{A, X, Y, S, P, Pc}
 
@@ -63,6 +63,8 @@ unfoldable pub plain_command : List ℕ → Command
 plain_command w =
     if bytes_eq w (codes "regs") then Regs
     else if bytes_eq w (codes "step") then Step
+    else if bytes_eq w (codes "reset") then Reset
+    else if bytes_eq w (codes "nmi") then Nmi
     else if bytes_eq w (codes "out") then Out
     else if bytes_eq w (codes "quit") then Quit
     else Bad
@@ -101,22 +103,49 @@ patch_command (Some address) (Some bytes) = patch_at address bytes
 patch_command (Some address) None = Bad
 patch_command None bytes = Bad
 
+-- Sixteen zeros.
+abbrev pub no_input : List ℕ
+no_input = 0 ∷ 0 ∷ 0 ∷ 0 ∷ 0 ∷ 0 ∷ 0 ∷ 0 ∷ 0 ∷ 0 ∷ 0 ∷ 0 ∷ 0 ∷ 0 ∷ 0 ∷ 0 ∷ []
+
+-- The IRQ line's level: 0 or 1.
+abbrev pub irq_command : List ℕ → Command
+irq_command level =
+    if bytes_eq level (codes "0") then Irq false
+    else if bytes_eq level (codes "1") then Irq true
+    else Bad
+
+-- One to sixteen bytes of input. Zeros fill the place of those that are not there.
+abbrev pub input_command : Option (List ℕ) → Command
+input_command (Some bytes) = if nat_le (length bytes) 16 then Input (take 16 (bytes ++ no_input)) (length bytes) else Bad
+input_command None = Bad
+
+-- A command of two words.
+unfoldable pub pair_command : List ℕ → List ℕ → Command
+pair_command w a =
+    if bytes_eq w (codes "irq") then irq_command a
+    else if bytes_eq w (codes "in") then input_command (bytes_of (a ∷ []))
+    else Bad
+
 -- A command of three words.
 unfoldable pub triple_command : List ℕ → List ℕ → List ℕ → Command
 triple_command w a b =
     if bytes_eq w (codes "mem") then mem_command (address_of a) (address_of b)
     else if bytes_eq w (codes "set") then set_command a b
     else if bytes_eq w (codes "patch") then patch_command (address_of a) (bytes_of (b ∷ []))
+    else if bytes_eq w (codes "in") then input_command (bytes_of (a ∷ b ∷ []))
     else Bad
 
 -- A command of more than three words.
 unfoldable pub long_command : List ℕ → List ℕ → List (List ℕ) → Command
-long_command w a ws = if bytes_eq w (codes "patch") then patch_command (address_of a) (bytes_of ws) else Bad
+long_command w a ws =
+    if bytes_eq w (codes "patch") then patch_command (address_of a) (bytes_of ws)
+    else if bytes_eq w (codes "in") then input_command (bytes_of (a ∷ ws))
+    else Bad
 
 unfoldable pub command_of_words : List (List ℕ) → Command
 command_of_words [] = Nothing
 command_of_words (w ∷ []) = plain_command w
-command_of_words (w ∷ a ∷ []) = Bad
+command_of_words (w ∷ a ∷ []) = pair_command w a
 command_of_words (w ∷ a ∷ b ∷ []) = triple_command w a b
 command_of_words (w ∷ a ∷ b ∷ c ∷ ws) = long_command w a (b ∷ c ∷ ws)
 

@@ -1,6 +1,6 @@
 -- What the engine writes for some input, and where the session then stands. Source: profile.
-use Rattle.std.specs.Prelude.{ℕ, Bool, true, false, List, [], ◌∷◌, ◌++◌, if◌then◌else◌, codes, decimal, Result, Ok, Err}
-use Rattle.model.specs.State.{State}
+use Rattle.std.specs.Prelude.{ℕ, ◌+◌, Bool, true, false, List, [], ◌∷◌, ◌++◌, length, take, nat_lt, if◌then◌else◌, codes, decimal, Result, Ok, Err}
+use Rattle.model.specs.State.{State, console_size}
 use Rattle.model.specs.Event.{event_of}
 use Rattle.model.specs.Session.{Session, appended}
 use Rattle.model.specs.FaultNames.{event_fault_name, event_fault_number}
@@ -8,7 +8,7 @@ use Rattle.model.specs.Lines.{lines_of, ended_lines_of}
 use Rattle.model.specs.Commands.{command_of}
 use Rattle.model.specs.Text.{hex_byte, hex_word, register_line, memory_rows, output_text}
 use Rattle.model.specs.declared.command.Command.{Command}
-use Rattle.model.specs.declared.command.Command.TheVariants.{Regs, Step, Mem, Out, Set, Patch, Quit, Nothing, Bad}
+use Rattle.model.specs.declared.command.Command.TheVariants.{Regs, Step, Mem, Out, Set, Patch, Reset, Irq, Nmi, Input, Quit, Nothing, Bad}
 use Rattle.model.specs.declared.event.Event.TheVariants as event
 use Rattle.model.specs.declared.event.EventFault.{EventFault}
 use Rattle.model.specs.declared.event.EventFault.TheVariants as event_fault
@@ -39,6 +39,22 @@ abbrev pub event_answer : Session → Result State EventFault → Answer
 event_answer s (Ok state) = answer (codes "OK\n") (appended s state)
 event_answer s (Err fault) = answer (fault_line fault) s
 
+-- The session after an event, whether it was accepted or not.
+abbrev pub after_event : Session → Result State EventFault → Session
+after_event s (Ok state) = appended s state
+after_event s (Err fault) = s
+
+-- The session after some bytes of input, each an event of its own.
+unfoldable pub after_input : Session → List ℕ → Session
+after_input s [] = s
+after_input s (byte ∷ bytes) = after_input (after_event s (event_of s.current (event.Input byte))) bytes
+
+-- The reply to bytes of input: all of them are handed in, or none where not all fit.
+unfoldable pub input_answer : Session → List ℕ → Answer
+input_answer s bytes =
+    if nat_lt console_size (length s.current.bus.given + length bytes) then answer (fault_line event_fault.InputFull) s
+    else answer (codes "OK\n") (after_input s bytes)
+
 -- The reply to a command.
 unfoldable pub answer_to : Command → Session → Answer
 answer_to Regs s = answer (register_line s.current) s
@@ -47,6 +63,10 @@ answer_to (Mem first last) s = answer (memory_rows s.current.bus.memory first la
 answer_to Out s = answer (output_text s.current.bus.out) s
 answer_to (Set setting) s = event_answer s (event_of s.current (event.Set setting))
 answer_to (Patch address bytes count) s = event_answer s (event_of s.current (event.Patch address bytes count))
+answer_to Reset s = event_answer s (event_of s.current event.Reset)
+answer_to (Irq level) s = event_answer s (event_of s.current (event.Irq level))
+answer_to Nmi s = event_answer s (event_of s.current event.Nmi)
+answer_to (Input bytes count) s = input_answer s (take count bytes)
 answer_to Quit s = record { written = []; session = s; quit = true }
 answer_to Nothing s = answer [] s
 answer_to Bad s = answer (codes "? BAD COMMAND\n") s

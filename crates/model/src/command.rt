@@ -21,6 +21,14 @@ pub enum Command {
         bytes: [u8; 3],
         count: u8,
     },
+    /// `reset`: a reset.
+    Reset,
+    /// `irq 0` and `irq 1`: the IRQ line set.
+    Irq(bool),
+    /// `nmi`: an NMI.
+    Nmi,
+    /// `in HH ..`: the first `count` of the bytes, 1 to 16, handed in as input, all or none.
+    Input { bytes: [u8; 16], count: u8 },
     /// `quit`: the end of the session.
     Quit,
     /// A line without a word.

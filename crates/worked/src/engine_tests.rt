@@ -234,6 +234,61 @@ fn sets_and_patches(rt: HostRuntime) -> Result<(), Fail> {
     Ok(())
 }
 
+/// Interrupts, a reset, input, and what is no command.
+const INTERRUPTS: [(&[u8], &[u8]); 3] = [
+    (
+        b"set PC 0300\nset P 08\npatch FFFA 00 04\nirq 1\nnmi\nnmi\nstep\nmem 01FB 01FD\nset P 00\nstep\nreset\nregs\nset P 00\nstep\n",
+        b"OK\nOK\nOK\nOK\nOK\nOK\nA=00 X=00 Y=00 S=FA P=2C PC=0400 CYC=14\n01FB  28 00 03\nOK\nA=00 X=00 Y=00 S=F7 P=24 PC=0000 CYC=21\nOK\nA=00 X=00 Y=00 S=FD P=24 PC=0000 CYC=28\nOK\nA=00 X=00 Y=00 S=FA P=24 PC=0000 CYC=35\n",
+    ),
+    (
+        b"set PC 0200\npatch 0200 EE 01 F0\npatch 0203 EE 00 F0\nin 41\nstep\nstep\nout\n",
+        b"OK\nOK\nOK\nOK\nA=00 X=00 Y=00 S=FD P=24 PC=0203 CYC=13\nA=00 X=00 Y=00 S=FD P=24 PC=0206 CYC=19\nOUT 1\n01\n",
+    ),
+    (
+        b"irq 2\nin\nin 1\nin 00 01 02 03 04 05 06 07 08 09 0a 0b 0c 0d 0e 0f 10\n",
+        b"? BAD COMMAND\n? BAD COMMAND\n? BAD COMMAND\n? BAD COMMAND\n",
+    ),
+];
+
+#[test]
+fn interrupts_and_takes_input(rt: HostRuntime) -> Result<(), Fail> {
+    for (commands, want) in INTERRUPTS {
+        let told = replied(rt.alloc(), commands)?;
+        assert_eq!(rt; told.as_slice(), want);
+    }
+    Ok(())
+}
+
+const SIXTEEN: &[u8] = b"in 00 01 02 03 04 05 06 07 08 09 0A 0B 0C 0D 0E 0F\n";
+
+const FIFTEEN: &[u8] = b"in 00 01 02 03 04 05 06 07 08 09 0A 0B 0C 0D 0E\n";
+
+#[test]
+fn takes_input_until_it_is_full(rt: HostRuntime) -> Result<(), Fail> {
+    let mut commands = Vec::new(rt.alloc());
+    let mut want = Vec::new(rt.alloc());
+    for _ in 0..4095 {
+        commands.extend_from_slice(SIXTEEN)?;
+        want.extend_from_slice(b"OK\n")?;
+    }
+    commands.extend_from_slice(FIFTEEN)?;
+    commands.extend_from_slice(b"in 01 02\nin 01\nin 02\n")?;
+    want.extend_from_slice(b"OK\n! InputFull 7\nOK\n! InputFull 7\n")?;
+    let flushed = Cell::new(0);
+    let mut reader = Teller {
+        rest: &commands,
+        at_once: 1000,
+        fails: false,
+    };
+    let mut writer = Taker {
+        flushes: 10_000,
+        ..wide_taker(rt.alloc(), &flushed)
+    };
+    run(rt.alloc(), b"", &mut reader, &mut writer)??;
+    assert_eq!(rt; writer.taken.as_slice(), want.as_slice());
+    Ok(())
+}
+
 /// INX, STX $F000, JMP $0200.
 const COUNTER: &[u8] = b"patch 0200 E8 8E 00\npatch 0203 F0 4C 00\npatch 0206 02\nset PC 0200\n";
 

@@ -1,0 +1,120 @@
+-- Bytes of input, as they are met word by word.
+use Rattle.std.proofs.Common.{◌≡◌, ℕ, zero, suc, ◌+◌, ◌<◌, ◌≤◌, true, false, List, [], ◌∷◌, ◌++◌, length, take, Option, Some, None, refl, sym, ap, ◌∙◌, if◌then◌else◌, codes, arith, append-nil, append_assoc, length-append}
+use Rattle.std.specs.Prelude.{nat_lt, slice_set}
+use Rattle.std.specs.Str.{bytes_eq}
+use Rattle.std.proofs.lemmas.Slice.Eq.{bytes_eq-Decides}
+use Rattle.std.proofs.lemmas.Bool.{le-leb, lt-leb}
+use Rattle.model.specs.Commands.{byte_of, byte_before, bytes_of, input_command, no_input, command_of, command_of_words, pair_command, triple_command, long_command, words_of}
+use Rattle.model.specs.declared.command.Command.TheVariants.{Bad, Input}
+use Rattle.commands.specs.Words.{IsNextWord}
+use Rattle.commands.proofs.Patches.{next}
+
+-- ---- lines that begin with `in`
+
+same : (w : List ℕ) → bytes_eq w (codes "in") ≡ true → w ≡ codes "in"
+same w e = (bytes_eq-Decides w (codes "in")).0 e
+
+input_words : (a : List ℕ) (ws : List (List ℕ)) → command_of_words (codes "in" ∷ a ∷ ws) ≡ input_command (bytes_of (a ∷ ws))
+unfolding command_of_words pair_command triple_command long_command
+input_words a [] = refl
+input_words a (b ∷ []) = refl
+input_words a (b ∷ c ∷ ws) = refl
+
+short_line : (line : List ℕ) → nat_lt 255 (length line) ≡ false → command_of line ≡ command_of_words (words_of line)
+unfolding command_of
+short_line line e = ap (λ t. if t then Bad else command_of_words (words_of line)) e
+
+pub in_line : (line first behind second rest : List ℕ) → nat_lt 255 (length line) ≡ false → IsNextWord line first behind → (length first ≡ 0 → ⊥) → IsNextWord behind second rest → (length second ≡ 0 → ⊥)
+    → bytes_eq first (codes "in") ≡ true → input_command (bytes_of (words_of behind)) ≡ command_of line
+in_line line first behind second rest short p some q more is_in =
+    let words = next line first behind p some in
+    let words_behind = next behind second rest q more in
+    ap (λ ws. input_command (bytes_of ws)) words_behind ∙ sym (short_line line short ∙ ap command_of_words (words ∙ ap (λ w. w ∷ words_of behind) (same first is_in) ∙ ap (λ ws. codes "in" ∷ ws) words_behind) ∙ input_words second (words_of rest))
+
+-- ---- bytes with zeros behind them
+
+abbrev pub padded : ℕ → List ℕ → List ℕ
+padded zero xs = []
+padded (suc n) [] = 0 ∷ padded n []
+padded (suc n) (x ∷ xs) = x ∷ padded n xs
+
+abbrev pub joined : List ℕ → Option (List ℕ) → Option (List ℕ)
+joined taken (Some more) = Some (taken ++ more)
+joined taken None = None
+
+abbrev zeros : ℕ → List ℕ
+zeros zero = []
+zeros (suc n) = 0 ∷ zeros n
+
+take_pad : (n m : ℕ) (xs : List ℕ) → n ≤ m → take n (xs ++ zeros m) ≡ padded n xs
+take_pad zero m xs h = refl
+take_pad (suc n) zero [] h = absurd (omega arith)
+take_pad (suc n) (suc m) [] h = ap (λ l. 0 ∷ l) (take_pad n m [] (omega arith))
+take_pad (suc n) m (x ∷ xs) h = ap (λ l. x ∷ l) (take_pad n m xs (omega arith))
+
+pad_more : (n : ℕ) (xs : List ℕ) (b : ℕ) → length xs < n → slice_set (padded n xs) (length xs) b ≡ padded n (xs ++ b ∷ [])
+pad_more zero xs b h = absurd (omega arith)
+pad_more (suc n) [] b h = refl
+pad_more (suc n) (x ∷ xs) b h = ap (λ l. x ∷ l) (pad_more n xs b (omega arith))
+
+-- ---- the bytes met so far, and those of the rest
+
+joined_none : (r : Option (List ℕ)) → r ≡ joined [] r
+joined_none (Some more) = refl
+joined_none None = refl
+
+joined_more : (taken : List ℕ) (b : ℕ) (r : Option (List ℕ)) → joined taken (byte_before (Some b) r) ≡ joined (taken ++ b ∷ []) r
+joined_more taken b (Some more) = sym (ap (λ l. Some l) (append_assoc taken (b ∷ []) more))
+joined_more taken b None = refl
+
+all_met : (taken : List ℕ) → length taken ≤ 16 → input_command (joined taken (Some [])) ≡ Input (padded 16 taken) (length taken)
+all_met taken h =
+    ap (λ l. input_command (Some l)) (append-nil taken)
+    ∙ ap (λ t. if t then Input (take 16 (taken ++ no_input)) (length taken) else Bad) (le-leb (length taken) 16 h)
+    ∙ ap (λ l. Input l (length taken)) (take_pad 16 16 taken (omega arith))
+
+too_many : (taken : List ℕ) (a : Option ℕ) (r : Option (List ℕ)) → length taken ≡ 16 → input_command (joined taken (byte_before a r)) ≡ Bad
+too_many taken None r h = refl
+too_many taken (Some b) None h = refl
+too_many taken (Some b) (Some more) h =
+    let bytes = taken ++ b ∷ more in
+    ap (λ t. if t then Input (take 16 (bytes ++ no_input)) (length bytes) else Bad) (lt-leb (length bytes) 16 (omega (arith, length-append taken (b ∷ more))))
+
+-- Some bytes of a line were met, and the words of the rest are to come.
+abbrev pub Meets : List ℕ → List ℕ → ℕ → List ℕ → Type 0
+Meets line bytes count rest =
+    (taken : List ℕ) × (length taken ≡ count) × (bytes ≡ padded 16 taken) × (bytes_of (words_of line) ≡ joined taken (bytes_of (words_of rest)))
+
+pub meets_none : (line : List ℕ) → Meets line (padded 16 []) 0 line
+meets_none line = ([], refl, refl, joined_none (bytes_of (words_of line)))
+
+none : (line word rest : List ℕ) → IsNextWord line word rest → length word ≡ 0 → words_of line ≡ []
+none line [] rest h e = h.0
+none line (b ∷ w) rest h e = absurd (omega arith)
+
+pub meets_all : (line bytes : List ℕ) (count : ℕ) (rest word behind : List ℕ) → Meets line bytes count rest → count ≤ 16 → IsNextWord rest word behind → length word ≡ 0
+    → Input bytes count ≡ input_command (bytes_of (words_of line))
+meets_all line bytes count rest word behind m h p empty =
+    let few : length m.0 ≤ 16 = omega (arith, m.1, h) in
+    let whole = ap input_command (m.3 ∙ ap (λ ws. joined m.0 (bytes_of ws)) (none rest word behind p empty)) ∙ all_met m.0 few in
+    ap (λ l. Input l count) m.2 ∙ ap (λ n. Input (padded 16 m.0) n) (sym m.1) ∙ sym whole
+
+pub meets_bad : (line bytes : List ℕ) (count : ℕ) (rest word behind : List ℕ) → Meets line bytes count rest → IsNextWord rest word behind → (length word ≡ 0 → ⊥) → byte_of word ≡ None
+    → Bad ≡ input_command (bytes_of (words_of line))
+meets_bad line bytes count rest word behind m p some e =
+    sym (ap input_command (m.3 ∙ ap (λ ws. joined m.0 (bytes_of ws)) (next rest word behind p some) ∙ ap (λ b. joined m.0 (byte_before b (bytes_of (words_of behind)))) e))
+
+pub meets_more : (line bytes : List ℕ) (count : ℕ) (rest word behind : List ℕ) (b : ℕ) → Meets line bytes count rest → count < 16 → IsNextWord rest word behind → (length word ≡ 0 → ⊥) → byte_of word ≡ Some b
+    → Meets line (slice_set bytes count b) (count + 1) behind
+meets_more line bytes count rest word behind b m h p some e =
+    let place : slice_set bytes count b ≡ slice_set (padded 16 m.0) (length m.0) b = ap (λ l. slice_set l count b) m.2 ∙ ap (λ n. slice_set (padded 16 m.0) n b) (sym m.1) in (
+      m.0 ++ b ∷ [],
+      omega (arith, m.1, length-append m.0 (b ∷ [])),
+      place ∙ pad_more 16 m.0 b (omega (arith, m.1, h)),
+      m.3 ∙ ap (λ ws. joined m.0 (bytes_of ws)) (next rest word behind p some) ∙ ap (λ c. joined m.0 (byte_before c (bytes_of (words_of behind)))) e ∙ joined_more m.0 b (bytes_of (words_of behind)),
+    )
+
+pub meets_too_many : (line bytes : List ℕ) (rest word behind : List ℕ) → Meets line bytes 16 rest → IsNextWord rest word behind → (length word ≡ 0 → ⊥)
+    → Bad ≡ input_command (bytes_of (words_of line))
+meets_too_many line bytes rest word behind m p some =
+    sym (ap input_command (m.3 ∙ ap (λ ws. joined m.0 (bytes_of ws)) (next rest word behind p some)) ∙ too_many m.0 (byte_of word) (bytes_of (words_of behind)) m.1)
