@@ -10,7 +10,10 @@ pub enum Command {
     /// `step`: one step of the machine.
     Step,
     /// `mem LO HI`: the bytes of memory from LO to HI, LO being at most HI.
-    Mem { first: u16, last: u16 },
+    Mem {
+        first: u16,
+        last: u16,
+    },
     /// `out`: the output's bytes.
     Out,
     /// `set A HH`, also X, Y, S and P, and `set PC HHHH`: a register set.
@@ -28,7 +31,10 @@ pub enum Command {
     /// `nmi`: an NMI.
     Nmi,
     /// `in HH ..`: the first `count` of the bytes, 1 to 16, handed in as input, all or none.
-    Input { bytes: [u8; 16], count: u8 },
+    Input {
+        bytes: [u8; 16],
+        count: u8,
+    },
     /// `quit`: the end of the session.
     Quit,
     /// A line without a word.

@@ -56,12 +56,32 @@ fn assembles_instructions_and_data(rt: HostRuntime) -> Result<(), Fail> {
             0x300,
             &[0x14, 0x35, 0x13, 0xfd],
         ),
-        (b"*=$10\r\n.WORD $1234,-1 ; two\r\n", 0x10, &[0x34, 0x12, 0xff, 0xff]),
-        (b"*=$20\nLDA 5\nLDA !5\nLDA 256\n", 0x20, &[0xa5, 5, 0xad, 5, 0, 0xad, 0, 1]),
+        (
+            b"*=$10\r\n.WORD $1234,-1 ; two\r\n",
+            0x10,
+            &[0x34, 0x12, 0xff, 0xff],
+        ),
+        (
+            b"*=$20\nLDA 5\nLDA !5\nLDA 256\n",
+            0x20,
+            &[0xa5, 5, 0xad, 5, 0, 0xad, 0, 1],
+        ),
         (b"*=$20\nLDX 5,Y\nLDA 5,Y\n", 0x20, &[0xb6, 5, 0xb9, 5, 0]),
-        (b"*=$0200\nBNE *\nbeq *+129\n", 0x200, &[0xd0, 0xfe, 0xf0, 0x7f]),
-        (b"*=$0200\nASL A\nJMP ($02FF)\n", 0x200, &[0x0a, 0x6c, 0xff, 0x02]),
-        (b"*=$0200\nLDA (5,X)\nLDA (5),Y\n", 0x200, &[0xa1, 5, 0xb1, 5]),
+        (
+            b"*=$0200\nBNE *\nbeq *+129\n",
+            0x200,
+            &[0xd0, 0xfe, 0xf0, 0x7f],
+        ),
+        (
+            b"*=$0200\nASL A\nJMP ($02FF)\n",
+            0x200,
+            &[0x0a, 0x6c, 0xff, 0x02],
+        ),
+        (
+            b"*=$0200\nLDA (5,X)\nLDA (5),Y\n",
+            0x200,
+            &[0xa1, 5, 0xb1, 5],
+        ),
         (b"*=$0010\nBEQ $0000\n", 0x10, &[0xf0, 0xee]),
     ];
     for (source, from, bytes) in right {
