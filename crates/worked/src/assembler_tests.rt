@@ -34,13 +34,14 @@ fn denotes(alloc: Global, source: &[u8], from: u16, bytes: &[u8]) -> Result<bool
         return Ok(false);
     };
     let image = assembly.image();
-    for (i, byte) in bytes.iter().enumerate() {
-        if image.get(from.wrapping_add(i as u16)) != Some(*byte) {
+    let mut address = from;
+    for byte in bytes {
+        if image.get(address) != Some(*byte) {
             return Ok(false);
         }
+        address = address.wrapping_add(1);
     }
-    let behind = from.wrapping_add(bytes.len() as u16);
-    Ok(image.get(from.wrapping_sub(1)).is_none() && image.get(behind).is_none())
+    Ok(image.get(from.wrapping_sub(1)).is_none() && image.get(address).is_none())
 }
 
 #[test]
