@@ -5,13 +5,12 @@ use Rattle.std.proofs.lemmas.Bool.{ltb-true, ltb-false, lt-ltb, le-ltb}
 use Rattle.model.specs.State.{Map}
 use Rattle.model.specs.Image.{with_bytes, empty_image}
 use Rattle.model.specs.Lines.{lines_of}
-use Rattle.model.specs.Layout.{Place, Placed, LaidOut, layout_of, ◌>>>◌}
+use Rattle.model.specs.Layout.{Place, Placed, LaidOut, extent_of, layout_of, ◌>>>◌}
 use Rattle.model.specs.Bytes.{Makes, bytes_of, value_fault}
 use Rattle.model.specs.Source.{no_numbers, most_bytes, Denotes, HasFault}
 use Rattle.model.specs.declared.source_fault.AsmFault.{AsmFault}
 use Rattle.model.specs.declared.source_fault.AsmFaultKind.{AsmFaultKind}
 use Rattle.model.specs.declared.source_fault.AsmFaultKind.TheVariants.{TooLarge}
-use Rattle.assembler.specs.Assembly.{extent_of}
 use Rattle.assembler.specs.Judging.{Judged, judged, judged_lines, laid_line, laid_lines, made_line, made_lines, numbered, put, too_large, unless, ◌>>=◌}
 
 abbrev Cells : Type 0

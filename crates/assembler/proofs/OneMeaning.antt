@@ -2,11 +2,11 @@
 use Rattle.std.proofs.Common.{◌≡◌, ℕ, List, map, Option, false, Result, Ok, Err, ◌⊎◌, inl, inr, sym, ap, subst, ◌∙◌}
 use Rattle.std.specs.Prelude.{IfOk, IfErr}
 use Rattle.model.specs.State.{Map, has_port_byte}
-use Rattle.model.specs.Layout.{Placed, LaidOut}
+use Rattle.model.specs.Layout.{Placed, LaidOut, extent_of}
 use Rattle.model.specs.Lines.{lines_of}
 use Rattle.model.specs.Source.{Denotes, HasFault, EachSourceIsJudged, OneImage, OneFault, ImageOrFault, no_numbers}
 use Rattle.model.specs.declared.source_fault.AsmFault.{AsmFault}
-use Rattle.assembler.specs.Assembly.{Assembled, extent_of, out_of_memory}
+use Rattle.assembler.specs.Assembly.{Assembled, out_of_memory}
 use Rattle.assembler.specs.Judging.{Answers, IsImageOrMemory, Judged, judged, seen_judged}
 use Rattle.assembler.proofs.Meaning.{Says, judged_says, denotes_again, fault_again}
 use Rattle.assembler.proofs.Spared.{spared_image}

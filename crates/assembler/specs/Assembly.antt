@@ -1,7 +1,6 @@
 -- What an assembly shows, and the refusal that is no fault of the source.
 use Rattle.std.specs.Prelude.{ℕ, List, Option, map}
 use Rattle.assembler.specs.declared.pass.Span.{Span}
-use Rattle.model.specs.Layout.{Placed, size_of}
 use Rattle.model.specs.declared.source_fault.AsmFault.{AsmFault}
 use Rattle.model.specs.declared.source_fault.AsmFaultKind.TheVariants.{OutOfMemory}
 
@@ -11,13 +10,6 @@ pub record Assembled : Type 0 where
   pub image : List (Option ℕ)
   pub source : List ℕ
   pub places : List (ℕ × ℕ)
-
--- A line's address and how many bytes it has.
-abbrev pub extent_of : Placed → ℕ × ℕ
-extent_of p = (p.address, size_of p.content)
-
-abbrev pub extents_of : List Placed → List (ℕ × ℕ)
-extents_of placed = map extent_of placed
 
 abbrev pub pair_of : Span → ℕ × ℕ
 pair_of span = (span.address, span.count)

@@ -3,7 +3,7 @@ use Rattle.std.specs.Prelude.{◌≡◌, ℕ, pos, ◌+◌, nat_lt, ⊤, if◌th
 use Rattle.model.specs.State.{Map}
 use Rattle.model.specs.Lines.{lines_of}
 use Rattle.model.specs.Image.{empty_image, with_bytes}
-use Rattle.model.specs.Layout.{Placed, size_of, laid, layout_of, ◌>>>◌}
+use Rattle.model.specs.Layout.{Placed, size_of, extent_of, laid, layout_of, ◌>>>◌}
 use Rattle.model.specs.Bytes.{Piece, lower, byte_piece, word_piece, bytes_of, pieces_of, place_kinds, value_fault}
 use Rattle.model.specs.Expression.{Term}
 use Rattle.model.specs.Line.{Statement}
@@ -12,7 +12,7 @@ use Rattle.model.specs.Source.{most_bytes, no_numbers}
 use Rattle.model.specs.declared.source_fault.AsmFault.{AsmFault}
 use Rattle.model.specs.declared.source_fault.AsmFaultKind.{AsmFaultKind}
 use Rattle.model.specs.declared.source_fault.AsmFaultKind.TheVariants.{TooLarge}
-use Rattle.assembler.specs.Assembly.{Assembled, extent_of, out_of_memory, pair_of}
+use Rattle.assembler.specs.Assembly.{Assembled, out_of_memory, pair_of}
 use Rattle.assembler.specs.declared.pass.Span.{Span}
 use Rattle.assembler.specs.declared.emit.Encoded.{Encoded}
 use Rattle.assembler.specs.declared.emit.Encoded.TheVariants.{Nothing, Byte, Word}

@@ -1,10 +1,10 @@
 //! A source assembled.
 
 ghost use Rattle.std.specs.Prelude.{◌≡◌, ◌⊎◌, ℕ, List, Option, Err, IfOk, IfErr, false};
-ghost use Rattle.assembler.specs.Assembly.{extents_of, out_of_memory};
+ghost use Rattle.assembler.specs.Assembly.{out_of_memory};
 ghost use Rattle.assembler.specs.Judging.{Answers, IsImageOrMemory, judged, seen_judged};
 ghost use Rattle.model.specs.Image.{IsImage};
-ghost use Rattle.model.specs.Layout.{LaidOut, Placed};
+ghost use Rattle.model.specs.Layout.{LaidOut, Placed, extents_of};
 ghost use Rattle.model.specs.Lines.{lines_of};
 ghost use Rattle.model.specs.Source.{Denotes, HasFault, no_numbers};
 ghost use Rattle.model.specs.State.{has_port_byte};

@@ -1,5 +1,5 @@
 -- Where the lines of a source stand, and which form each instruction takes. Source: profile.
-use Rattle.std.specs.Prelude.{◌≡◌, ℕ, ◌+◌, ◌*◌, nat_le, ℤ, pos, negsuc, Bool, true, false, ◌&&◌, if◌then◌else◌, List, [], ◌∷◌, length, Option, Some, None, is_some, unwrap_or, Result, Ok, Err}
+use Rattle.std.specs.Prelude.{◌≡◌, ℕ, ◌+◌, ◌*◌, nat_le, ℤ, pos, negsuc, Bool, true, false, ◌&&◌, if◌then◌else◌, List, [], ◌∷◌, length, map, Option, Some, None, is_some, unwrap_or, Result, Ok, Err}
 use Rattle.model.specs.declared.expression.ExprFault.{ExprFault}
 use Rattle.model.specs.declared.expression.ExprFault.TheVariants as expression
 use Rattle.model.specs.declared.line.Index.{Index}
@@ -174,3 +174,10 @@ abbrev pub LaidOut : Numbers → ℕ → List (List ℕ) → List Placed → ℕ
 LaidOut numbers address [] placed end = (placed ≡ []) × (end ≡ address)
 LaidOut numbers address (line ∷ lines) [] end = ⊥
 LaidOut numbers address (line ∷ lines) (p ∷ ps) end = (next : ℕ) × (layout_of numbers address line ≡ Ok (p, next)) × LaidOut numbers next lines ps end
+
+-- A line's address and how many bytes it has.
+abbrev pub extent_of : Placed → ℕ × ℕ
+extent_of p = (p.address, size_of p.content)
+
+abbrev pub extents_of : List Placed → List (ℕ × ℕ)
+extents_of placed = map extent_of placed

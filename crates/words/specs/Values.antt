@@ -1,20 +1,6 @@
 -- What the words that stand for values mean.
-use Rattle.std.specs.Prelude.{ℕ, ◌+◌, ◌-◌, ◌*◌, List, [], ◌∷◌, length, take, drop, get_or, nat_lt, nat_le, ◌==◌, ◌&&◌, ◌||◌, if◌then◌else◌, Option, Some, None, option_map}
-
--- the value of a hex digit in either letter case, or 16
-abbrev pub hex_digit_of : ℕ → ℕ
-hex_digit_of byte =
-    if nat_le 48 byte && nat_le byte 57 then byte - 48
-    else if nat_le 65 byte && nat_le byte 70 then byte - 65 + 10
-    else if nat_le 97 byte && nat_le byte 102 then byte - 97 + 10
-    else 16
-
--- an address is written by exactly four hex digits
-abbrev pub address_of : List ℕ → Option ℕ
-address_of (a ∷ b ∷ c ∷ d ∷ []) =
-    if hex_digit_of a == 16 || hex_digit_of b == 16 || hex_digit_of c == 16 || hex_digit_of d == 16 then None
-    else Some (hex_digit_of a * 4096 + hex_digit_of b * 256 + hex_digit_of c * 16 + hex_digit_of d)
-address_of other = None
+use Rattle.model.specs.Commands.{address_of}
+use Rattle.std.specs.Prelude.{ℕ, ◌+◌, ◌-◌, ◌*◌, List, [], ◌∷◌, length, take, drop, get_or, nat_lt, nat_le, ◌==◌, ◌&&◌, if◌then◌else◌, Option, Some, None, option_map}
 
 -- the value of a decimal digit, or 10
 abbrev pub digit_of : ℕ → ℕ

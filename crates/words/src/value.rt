@@ -1,38 +1,8 @@
 //! Values as words.
 ghost use Rattle.std.specs.Prelude.{◌≡◌, ◌≤◌, length, option_map};
-ghost use Rattle.words.specs.Values.{address_of, decimal_from, digit_of, hex_digit_of, history_asked, history_of, port_asked, range_of, rom_asked};
+ghost use Rattle.words.specs.Values.{decimal_from, digit_of, history_asked, history_of, port_asked, range_of, rom_asked};
 
-/// The value of a hex digit in either letter case, or 16.
-fn hex_digit_value(byte: u8) -> u8
-    ensures value { result ≡ hex_digit_of byte }
-    ensures within { result ≤ 16 }
-{
-    match byte {
-        b'0'..=b'9' => byte - b'0',
-        b'A'..=b'F' => byte - b'A' + 10,
-        b'a'..=b'f' => byte - b'a' + 10,
-        _ => 16,
-    }
-}
-
-/// The address that exactly four hex digits write, or `None` for any other word.
-fn address(word: &[u8]) -> Option<u16>
-    ensures { result ≡ address_of word.now }
-{
-    let [a, b, c, d] = word else {
-        return None;
-    };
-    let (a, b, c, d) = (
-        hex_digit_value(*a),
-        hex_digit_value(*b),
-        hex_digit_value(*c),
-        hex_digit_value(*d),
-    );
-    if a == 16 || b == 16 || c == 16 || d == 16 {
-        return None;
-    }
-    Some(a as u16 * 4096 + b as u16 * 256 + c as u16 * 16 + d as u16)
-}
+use commands::address_of;
 
 /// The value of a decimal digit, or 10.
 fn digit_value(byte: u8) -> u8
@@ -82,7 +52,7 @@ fn range(word: &[u8]) -> Option<(u16, u16)>
     if word.len() != 9 || word[4] != b'-' {
         return None;
     }
-    match (address(&word[..4]), address(&word[5..])) {
+    match (address_of(&word[..4]), address_of(&word[5..])) {
         (Some(low), Some(high)) => Some((low, high)),
         _ => None,
     }
@@ -104,7 +74,7 @@ pub fn port_asked(word: Option<&str>) -> Option<u16>
 {
     match word {
         None => Some(0xf000),
-        Some(word) => address(word.as_bytes()),
+        Some(word) => address_of(word.as_bytes()),
     }
 }
 
