@@ -3,7 +3,7 @@
 use bus::{Bus, Image, MapSpec};
 use cpu::Machine;
 use debugger::{Event, EventFault, Flags, Regs, Session, Setting};
-use model::{AsmFaultKind, BusFault, SessionFault};
+use model::{AsmFaultKind, BusFault, SessionFault, Sum};
 use std::alloc::Global;
 use std::test::Fail;
 
@@ -110,6 +110,63 @@ fn cycles_of(machine: &mut Machine, address: u16, bytes: &[u8]) -> Result<u64, F
     let before = machine.cycles();
     machine.step()?;
     Ok(machine.cycles().saturating_sub(before))
+}
+
+/// Decimal sums and differences, one of them of a digit above 9: the byte, N, V, Z and C.
+#[test]
+fn decimal_sums(rt: HostRuntime) {
+    for (sum, value, n, v, z, c) in [
+        (
+            alu::adc(0x99, 0x01, false, true),
+            0x00,
+            true,
+            false,
+            false,
+            true,
+        ),
+        (
+            alu::adc(0x79, 0x00, true, true),
+            0x80,
+            true,
+            true,
+            false,
+            false,
+        ),
+        (
+            alu::sbc(0x00, 0x01, true, true),
+            0x99,
+            true,
+            false,
+            false,
+            false,
+        ),
+        (
+            alu::adc(0x0f, 0x01, false, true),
+            0x16,
+            false,
+            false,
+            false,
+            false,
+        ),
+        (
+            alu::adc(0x58, 0x46, true, true),
+            0x05,
+            true,
+            true,
+            false,
+            true,
+        ),
+        (
+            alu::sbc(0x12, 0x21, true, true),
+            0x91,
+            true,
+            false,
+            false,
+            false,
+        ),
+    ] {
+        assert_eq!(rt; sum, Sum { value, n, v, z, c });
+    }
 }
 
 /// Indexed addresses in the zero page wrap, and so does the pointer of LDA ($FF),Y.

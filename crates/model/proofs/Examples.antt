@@ -7,7 +7,7 @@ use Rattle.model.specs.Arithmetic.{adc, sbc}
 use Rattle.model.specs.Effect.{operation_of, loaded, load, operand, after_operand, moved, store, store_value, performed, status, flags_of_byte}
 use Rattle.model.specs.Table.{Entry, row_at, find_row, table}
 use Rattle.model.specs.Step.{step, attempted, executed, fetched, stores}
-use Rattle.model.specs.Event.{no_regs, no_flags}
+use Rattle.model.specs.Event.{no_regs, no_flags, reset_of, reset_state}
 use Rattle.model.specs.Lines.{lines_from, lines_of}
 use Rattle.model.specs.Commands.{command_of, command_of_words, plain_command, pair_command, triple_command, long_command, set_command}
 use Rattle.model.specs.Text.{register_line, memory_row, memory_rows, spaced_bytes}
@@ -71,6 +71,16 @@ decimal_overflow = refl
 decimal_borrow : sbc 0x00 0x01 true true ≡ record { value = 0x99; n = true; v = false; z = false; c = false }
 unfolding sbc
 decimal_borrow = refl
+
+-- with the carry in, 58 + 46 + 1 is 105
+decimal_sum : adc 0x58 0x46 true true ≡ record { value = 0x05; n = true; v = true; z = false; c = true }
+unfolding adc
+decimal_sum = refl
+
+-- 12 - 21 is -9, which is 91 and a borrow
+decimal_difference : sbc 0x12 0x21 true true ≡ record { value = 0x91; n = true; v = false; z = false; c = false }
+unfolding sbc
+decimal_difference = refl
 
 -- a digit above 9
 decimal_invalid : adc 0x0F 0x01 false true ≡ record { value = 0x16; n = false; v = false; z = false; c = false }
@@ -153,6 +163,16 @@ cycles_full = refl
 cycles_not_full : step (with_memory (0xEA ∷ []) no_regs 18446744073709551599) ≡ Ok (with_memory (0xEA ∷ []) (record no_regs { pc = 1 }) 18446744073709551601)
 unfolding step attempted executed fetched stores performed moved place_of operation_of row_at find_row table
 cycles_not_full = refl
+
+-- the same of a reset
+reset_full : reset_of (with_memory (0xEA ∷ []) no_regs 18446744073709551600) ≡ Err event_fault.CyclesFull
+unfolding reset_of
+reset_full = refl
+
+reset_not_full : reset_of (with_memory (0xEA ∷ []) no_regs 18446744073709551599)
+    ≡ Ok (with_memory (0xEA ∷ []) (record no_regs { s = 0xFD; flags = record no_flags { i = true } }) 18446744073709551606)
+unfolding reset_of reset_state word_at
+reset_not_full = refl
 
 -- maps
 map_default : is_map None 0xF000 ≡ true

@@ -2,6 +2,8 @@
 //! refuse each request for memory of one call in turn.
 #![tactic(auto)]
 
+ghost use Rattle.std.specs.Prelude.{◌≡◌};
+
 use assembler::AsmFaultKind;
 use bus::{Bus, BusFault, Image, MapSpec};
 use cpu::Machine;
@@ -9,7 +11,8 @@ use debugger::{Session, SessionFault};
 use papertape::{TapeFault, TapeFaultKind, read_tape, through_tape, write_tape};
 use std::alloc::Global;
 use std::process::ExitCode;
-use std::{env, fmt, io};
+use std::{env, io};
+use thiserror::Error;
 
 /// A source with tokens and expressions of each kind.
 const SOURCE: &[u8] =
@@ -22,12 +25,17 @@ const FAULTY_SOURCE: &[u8] = b"*=$0200\n LDA #[1+2]*3\n.WORD [4^5],>$1234\n?\n";
 const FAULTY_VALUE: &[u8] = b"*=$0200\n LDA #[1+2]*3\n.WORD [4^5],>$1234\n.BYTE 256\n";
 
 /// The fault that a call answered.
-#[derive(Clone, Copy, Debug, PartialEq, Eq)]
+#[derive(Clone, Copy, Debug, PartialEq, Eq, Error)]
 enum Fault {
-    Bus(BusFault),
-    Session(SessionFault),
+    #[error("{0}")]
+    Bus(#[from] BusFault),
+    #[error("{0}")]
+    Session(#[from] SessionFault),
+    #[error("{0}")]
     Source(AsmFaultKind),
+    #[error("{0}")]
     Tape(TapeFaultKind),
+    #[error("NoSuchCall")]
     NoSuchCall,
 }
 
@@ -43,31 +51,11 @@ impl Fault {
     }
 }
 
-impl fmt::Display for Fault {
-    fn fmt<W: fmt::Write>(&self, f: &mut fmt::Formatter<W>) -> fmt::Result {
-        match self {
-            Fault::Bus(fault) => write!(f, "{fault}"),
-            Fault::Session(fault) => write!(f, "{fault}"),
-            Fault::Source(fault) => write!(f, "{fault}"),
-            Fault::Tape(fault) => write!(f, "{fault}"),
-            Fault::NoSuchCall => f.write_str("NoSuchCall"),
-        }
-    }
-}
-
-impl From<BusFault> for Fault {
-    fn from(fault: BusFault) -> Fault {
-        Fault::Bus(fault)
-    }
-}
-
-impl From<SessionFault> for Fault {
-    fn from(fault: SessionFault) -> Fault {
-        Fault::Session(fault)
-    }
-}
-
 impl From<TapeFault> for Fault {
+    ghost use Rattle.trials.specs.declared.Fault.{Fault};
+
+    ghost from_gives = { λ fault e. e ≡ Fault.Tape fault.kind };
+
     fn from(fault: TapeFault) -> Fault {
         Fault::Tape(fault.kind)
     }
