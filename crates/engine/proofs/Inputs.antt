@@ -1,5 +1,5 @@
 -- Bytes of input for which there is room.
-use Rattle.std.proofs.Common.{◌≡◌, ℕ, ◌+◌, ◌<◌, ◌≤◌, Bool, true, false, List, [], ◌∷◌, ◌++◌, Result, Ok, Err, OnOk, IfErr, refl, sym, ap, ◌∙◌, if◌then◌else◌, length, take, drop, get_or, drop-cons, add-one, arith, append_assoc, append-nil, length-append, length-take, lt-ltb, inl, inr}
+use Rattle.std.proofs.Common.{◌≡◌, ℕ, ◌+◌, ◌<◌, ◌≤◌, Bool, true, false, List, [], ◌∷◌, ◌++◌, Result, Ok, Err, OnOk, IfErr, refl, sym, ap, ◌∙◌, length, take, drop, get_or, drop-cons, add-one, arith, append_assoc, length-append, length-take, lt-ltb, inl, inr}
 use Rattle.std.specs.Prelude.{nat_lt}
 use Rattle.std.proofs.lemmas.Bool.{lt-leb, le-ltb, cases_lt, ltb-false}
 use Rattle.std.proofs.lemmas.List.{take_all, take_more, drop_all}
@@ -9,7 +9,6 @@ use Rattle.model.specs.Event.{event_of, input_of}
 use Rattle.model.specs.Transcript.{after_event, after_input}
 use Rattle.model.specs.declared.event.Event.TheVariants as event
 use Rattle.model.specs.declared.event.EventFault.{EventFault}
-use Rattle.model.specs.declared.event.EventFault.TheVariants.{InputFull}
 
 -- One byte more handed in.
 abbrev pub given_more : State → ℕ → State

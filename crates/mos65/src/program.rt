@@ -1,5 +1,5 @@
 //! What the program does with its words.
-ghost use Rattle.std.specs.Prelude.{◌≡◌, ◌≤◌, ◌⊎◌, ℕ, List, Option, Some, None, Err, IfErr, IfOk, IfSome, MatchResult, OnOk, false, map};
+ghost use Rattle.std.specs.Prelude.{◌≡◌, ◌≤◌, ◌⊎◌, ℕ, List, Option, Some, None, Err, IfErr, IfOk, IfSome, MatchResult, OnOk, true, false, map};
 ghost use Rattle.std.specs.Io.KnownBytes.{Appends};
 ghost use Rattle.model.specs.Event.{start};
 ghost use Rattle.model.specs.Session.{fresh};
@@ -8,6 +8,7 @@ ghost use Rattle.model.specs.State.{is_map};
 ghost use Rattle.model.specs.TapeText.{tape_text};
 ghost use Rattle.model.specs.Transcript.{transcript};
 ghost use Rattle.model.specs.declared.bus_fault.BusFault.TheVariants.{BadMap};
+ghost use Rattle.mos65.specs.Refusals.{EndsAsm, EndsDebug};
 ghost use Rattle.mos65.specs.Statuses.{IsStatusOf, status_of};
 ghost use Rattle.words.specs.Asked.{AsmAsked, DebugAsked, asked, asm, debug};
 ghost use Rattle.words.specs.Refused.{IsTaken};
@@ -49,6 +50,7 @@ fn tape_of(alloc: Global, map: &MapSpec, source: &[u8]) -> Result<Vec<u8>, Refus
 /// Assembles a file and writes its tape. The text is whole before the tape's file is made.
 fn asm<H: Files + AllocGlobal>(rt: &H, words: &AsmWords<'_>) -> Result<(), Refusal>
     ensures bad_map { is_map None words.now.port ≡ false → result ≡ Err (Refusal.Map BadMap) }
+    ensures refused { IfErr result (EndsAsm words.now.port) }
 {
     let map = MapSpec::new(None, words.port)?;
     let source = read_source(rt, words.source).map_err(|error| Refusal::unreadable(&error))?;
@@ -64,6 +66,7 @@ fn debug<H: Files + AllocGlobal, R: Read, O: Write>(
     output: &mut O,
 ) -> Result<(), Refusal>
     ensures bad_map { is_map words.now.rom words.now.port ≡ false → result ≡ Err (Refusal.Map BadMap) }
+    ensures refused { IfErr result (EndsDebug words.now.is_tape words.now.rom words.now.port) }
     // The replies are the transcript of the input, from some image on the map of the words.
     ensures served { OnOk result ((image : List (Option ℕ)) × IfSome (R.remaining input.old) (λ given.
         Appends (O.contents output.old) (O.contents output.new)
@@ -133,7 +136,9 @@ fn refused_words<O: Write, E: Write>(fault: WordsFault, output: &mut O, errors: 
 }
 
 /// Says why the process's words could not be collected, and gives the exit status.
-pub fn unreadable_words<E: Write>(error: &io::Error, errors: &mut E) -> u8 {
+pub fn unreadable_words<E: Write>(error: &io::Error, errors: &mut E) -> u8
+    ensures { (result ≡ 2) ⊎ (result ≡ 3) }
+{
     if error.kind() == io::ErrorKind::OutOfMemory {
         refused(Refusal::OutOfMemory, errors)
     } else {
@@ -162,6 +167,9 @@ pub fn program<H: Files + AllocGlobal, R: Read, O: Write, E: Write>(
     // So has a wrong map, whatever the file.
     ensures asm_map { (a : AsmAsked) → asked (map (λ s. s.now) words.entry.now) ≡ Some (asm a) → IsTaken (map (λ s. s.now) words.entry.now) → is_map None a.port ≡ false → (result ≡ 2) ⊎ (result ≡ 3) }
     ensures debug_map { (d : DebugAsked) → asked (map (λ s. s.now) words.entry.now) ≡ Some (debug d) → IsTaken (map (λ s. s.now) words.entry.now) → is_map d.rom d.port ≡ false → (result ≡ 2) ⊎ (result ≡ 3) }
+    // Where the words and the map are right, the status is another one.
+    ensures asm_right { (a : AsmAsked) → asked (map (λ s. s.now) words.entry.now) ≡ Some (asm a) → IsTaken (map (λ s. s.now) words.entry.now) → is_map None a.port ≡ true → ¬ (result ≡ 2) }
+    ensures debug_right { (d : DebugAsked) → asked (map (λ s. s.now) words.entry.now) ≡ Some (debug d) → IsTaken (map (λ s. s.now) words.entry.now) → is_map d.rom d.port ≡ true → ¬ (result ≡ 2) }
     // Where a session has ended, the output has the transcript of the input, from some image on the map of the words.
     ensures served { result ≡ 0 → (d : DebugAsked) → asked (map (λ s. s.now) words.entry.now) ≡ Some (debug d) → IsTaken (map (λ s. s.now) words.entry.now) → (image : List (Option ℕ)) × IfSome (R.remaining input.old) (λ given.
         Appends (O.contents output.old) (O.contents output.new) (transcript (fresh d.history (start (record { rom = d.rom; port = d.port }) image)) given).written) }

@@ -1,30 +1,41 @@
 //! Why the program ends without having done what it was asked for.
 ghost use Rattle.std.specs.Prelude.{◌≡◌};
+ghost use Rattle.std.specs.IoError.{error_kind};
 ghost use Rattle.mos65.specs.Refusals.{of_engine, of_source, of_tape};
 ghost use Rattle.mos65.specs.declared.refusal.Refusal.TheVariants.{Map};
 
 use engine::EngineFault;
 use model::{AsmFault, AsmFaultKind, BusFault, SessionFault, TapeFault, TapeFaultKind};
-use std::{fmt, io};
+use std::io;
+use std::io::ErrorKind;
+use thiserror::Error;
 
 /// Each but `OutOfMemory`, `Read` and `Write` is found before anything is written.
-#[derive(Clone, Copy, Debug, PartialEq, Eq)]
+#[derive(Clone, Copy, Debug, PartialEq, Eq, Error)]
 pub enum Refusal {
     /// A word is none that the program takes.
+    #[error("WORDS")]
     Words,
     /// The port and the ROM make no map.
+    #[error("MAP {0}")]
     Map(BusFault),
     /// The source has a fault.
+    #[error("SOURCE line {} {}", .0.line, .0.kind)]
     Source(AsmFault),
     /// The tape has a fault.
+    #[error("TAPE {0}")]
     Tape(TapeFault),
     /// The image has bytes at the port's addresses, as only a tape can bring it.
+    #[error("TAPE {0}")]
     Session(SessionFault),
     /// Memory ran out.
+    #[error("OutOfMemory")]
     OutOfMemory,
     /// A file or the standard input cannot be read.
+    #[error("READ")]
     Read,
     /// A file or the standard output cannot be written.
+    #[error("WRITE")]
     Write,
 }
 
@@ -45,35 +56,24 @@ impl Refusal {
     }
 
     /// Why a file could not be read.
-    pub fn unreadable(error: &io::Error) -> Refusal {
-        if error.kind() == io::ErrorKind::OutOfMemory {
-            Refusal::OutOfMemory
-        } else {
-            Refusal::Read
+    pub fn unreadable(error: &io::Error) -> Refusal
+        ensures memory { error_kind error.now ≡ ErrorKind.OutOfMemory → result ≡ Refusal.OutOfMemory }
+        ensures other { ¬ (error_kind error.now ≡ ErrorKind.OutOfMemory) → result ≡ Refusal.Read }
+    {
+        match error.kind() {
+            ErrorKind::OutOfMemory => Refusal::OutOfMemory,
+            _ => Refusal::Read,
         }
     }
 
     /// Why a file could not be written.
-    pub fn unwritable(error: &io::Error) -> Refusal {
-        if error.kind() == io::ErrorKind::OutOfMemory {
-            Refusal::OutOfMemory
-        } else {
-            Refusal::Write
-        }
-    }
-}
-
-impl fmt::Display for Refusal {
-    fn fmt<W: fmt::Write>(&self, f: &mut fmt::Formatter<W>) -> fmt::Result {
-        match self {
-            Refusal::Words => f.write_str("WORDS"),
-            Refusal::Map(fault) => write!(f, "MAP {fault}"),
-            Refusal::Source(AsmFault { line, kind }) => write!(f, "SOURCE line {line} {kind}"),
-            Refusal::Tape(fault) => write!(f, "TAPE {fault}"),
-            Refusal::Session(fault) => write!(f, "TAPE {fault}"),
-            Refusal::OutOfMemory => f.write_str("OutOfMemory"),
-            Refusal::Read => f.write_str("READ"),
-            Refusal::Write => f.write_str("WRITE"),
+    pub fn unwritable(error: &io::Error) -> Refusal
+        ensures memory { error_kind error.now ≡ ErrorKind.OutOfMemory → result ≡ Refusal.OutOfMemory }
+        ensures other { ¬ (error_kind error.now ≡ ErrorKind.OutOfMemory) → result ≡ Refusal.Write }
+    {
+        match error.kind() {
+            ErrorKind::OutOfMemory => Refusal::OutOfMemory,
+            _ => Refusal::Write,
         }
     }
 }

@@ -1,4 +1,4 @@
-use Rattle.std.proofs.Common.{◌≡◌, ℕ, List, Option, Err, ◌⊎◌, inr, sym, ◌∙◌, true, false, true≢false}
+use Rattle.std.proofs.Common.{◌≡◌, ℕ, List, Err, ◌⊎◌, inr, sym, ◌∙◌, true, false, true≢false}
 use Rattle.std.specs.Prelude.{OnOk, IfSome, IsErrOf}
 use Rattle.std.specs.Io.KnownBytes.{Appends, Consumes}
 use Rattle.model.specs.Written.{AppendsFront}
