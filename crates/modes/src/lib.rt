@@ -5,7 +5,7 @@ ghost use Rattle.std.specs.Prelude.{◌≡◌, ◌+◌, ◌%◌};
 ghost use Rattle.model.specs.Operand.{indexed, place_of, straight, target, word_at, word_in_page};
 
 use bus::Bus;
-use model::{Mode, Place, Regs};
+pub use model::{Mode, Place, Regs};
 
 /// Where the operand of the instruction at PC stands, and whether a page was left on the way there: the next byte for
 /// an immediate operand, the target of a branch, 0 where there is none. It reads plain memory alone, never the port
