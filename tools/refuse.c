@@ -1,5 +1,6 @@
 /* A shared object, preloaded into a program: it refuses one request for memory, the Nth that the
    program makes, and grants all others. REFUSE_AT is N; with 0 or without it nothing is refused.
+   With REFUSE_ON set to 1 it refuses the Nth and each later one.
    REFUSE_TELL is a file descriptor to which one byte is written for each request. Nothing here asks
    for memory itself. */
 
@@ -16,14 +17,17 @@ extern void *__libc_memalign(size_t alignment, size_t size);
 static int is_started;
 static int tell = -1;
 static unsigned long refuse_at;
+static int refuse_on;
 static unsigned long requests;
 
 /* What the C library asks for while it loads the program comes before this and is not counted. */
 __attribute__((constructor)) static void start(void)
 {
     const char *at = getenv("REFUSE_AT");
+    const char *on = getenv("REFUSE_ON");
     const char *descriptor = getenv("REFUSE_TELL");
     refuse_at = at ? strtoul(at, NULL, 10) : 0;
+    refuse_on = on && *on == '1';
     tell = descriptor ? (int)strtoul(descriptor, NULL, 10) : -1;
     is_started = 1;
 }
@@ -35,7 +39,7 @@ static int is_refused(void)
     requests++;
     if (tell >= 0 && write(tell, ".", 1) != 1)
         _exit(99);
-    if (requests != refuse_at)
+    if (!refuse_at || requests < refuse_at || (requests > refuse_at && !refuse_on))
         return 0;
     errno = ENOMEM;
     return 1;

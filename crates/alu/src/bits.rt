@@ -66,8 +66,8 @@ pub fn bit_test(a: u8, m: u8) -> Sum
     }
 }
 
-/// A value with N and Z of it, and a carry.
-fn with_carry(value: u8, carry: bool) -> Sum
+/// A value with N and Z of it, and a carry. V is false.
+pub fn with_carry(value: u8, carry: bool) -> Sum
     ensures { result ≡ with_carry value carry }
 {
     Sum {

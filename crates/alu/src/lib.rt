@@ -2,7 +2,7 @@
 //! Each call gives a byte and the flags that go with it; a flag that the operation does not name is false.
 #![tactic(auto)]
 
-pub use bits::{asl, bit_test, compare, lsr, rol, ror};
+pub use bits::{asl, bit_test, compare, lsr, rol, ror, with_carry};
 pub use model::{Flags, Sum};
 pub use sums::{adc, sbc};
 

@@ -126,26 +126,26 @@ fn all_may_stand(line: &[u8]) -> bool
     line.iter().all(|byte| may_stand(*byte))
 }
 
-/// The tokens of a line, in order.
+/// The tokens of a line, in order, put into a list in place of what it holds; the list's memory is used again.
 /// `Syntax`: a byte is neither $20..$7E nor a tab, or bytes outside a comment are no token (profile).
 /// `OutOfMemory`: a request for memory was refused.
-pub fn tokens<'a>(alloc: Global, line: &'a [u8]) -> Result<Vec<Token<'a>>, LineFault>
+pub fn tokens_into<'a>(found: &mut Vec<Token<'a>>, line: &'a [u8]) -> Result<(), LineFault>
     // What is found are the line's tokens.
-    ensures found { IfOk result (λ ts. tokens_of line.now ≡ Some (lexemes ts.items)) }
+    ensures found { IfOk result (λ _. tokens_of line.now ≡ Some (lexemes found.new.items)) }
     // A line that is refused for its bytes has none.
     ensures syntax { IsErrOf result LineFault.Syntax → tokens_of line.now ≡ None }
 {
     if !all_may_stand(line) {
         return Err(LineFault::Syntax);
     }
-    let mut found = Vec::new(alloc);
+    found.clear();
     let mut start = 0;
     while start < line.len() {
         let byte = line[start];
         if is_blank_byte(byte) {
             start += 1;
         } else if byte == b';' {
-            return Ok(found);
+            return Ok(());
         } else {
             let Some((kind, text)) = first_token(&line[start..]) else {
                 return Err(LineFault::Syntax);
@@ -154,5 +154,15 @@ pub fn tokens<'a>(alloc: Global, line: &'a [u8]) -> Result<Vec<Token<'a>>, LineF
             start += text.len();
         }
     }
+    Ok(())
+}
+
+/// The tokens of a line, in order, in a list of their own. Its faults are those of `tokens_into`.
+pub fn tokens<'a>(alloc: Global, line: &'a [u8]) -> Result<Vec<Token<'a>>, LineFault>
+    ensures found { IfOk result (λ ts. tokens_of line.now ≡ Some (lexemes ts.items)) }
+    ensures syntax { IsErrOf result LineFault.Syntax → tokens_of line.now ≡ None }
+{
+    let mut found = Vec::new(alloc);
+    tokens_into(&mut found, line)?;
     Ok(found)
 }

@@ -12,7 +12,7 @@ mod tree;
 mod value;
 
 pub use law::{expressions_are_longest, one_expression};
-pub use lexer::tokens;
+pub use lexer::{tokens, tokens_into};
 pub use model::{ExprFault, LineFault, Operator, TokenKind};
 pub use parse::parse_expr;
 pub use token::Token;

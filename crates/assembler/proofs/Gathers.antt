@@ -6,11 +6,12 @@ use Rattle.std.proofs.lemmas.List.{drop_more, drop_all}
 use Rattle.model.specs.State.{Map}
 use Rattle.model.specs.FaultNames.{source_fault_number}
 use Rattle.model.specs.Image.{with_bytes}
+use Rattle.model.specs.Value.{Numbers}
 use Rattle.model.specs.Layout.{Placed, size_of}
-use Rattle.model.specs.Bytes.{Piece, lower, lowest, bytes_in, kinds_in, bytes_of, pieces_of, place_kinds, value_fault}
-use Rattle.model.specs.Source.{no_numbers}
+use Rattle.model.specs.Bytes.{Piece, lower, lowest, bytes_in, kinds_in, place_kinds, bytes_of, pieces_of, value_fault}
 use Rattle.model.specs.declared.source_fault.AsmFaultKind.{AsmFaultKind}
-use Rattle.assembler.specs.Judging.{line_gathered, Gathering, nothing_gathered, added, gathered, noted, noted_all, put}
+use Rattle.assembler.specs.Gathering.{line_gathered, Gathering, nothing_gathered, added, gathered, noted, noted_all}
+use Rattle.source_laws.specs.Judging.{put}
 use borrow.Author.Tests.{leb-true, leb-false}
 
 -- ---- loops over values
@@ -70,7 +71,7 @@ lowest-append (x ∷ xs) ys = ap (lower x) (lowest-append xs ys) ∙ sym (lower_
 abbrev pub both : List ℕ → Option AsmFaultKind → Gathering
 both bytes kind = record { bytes = bytes; kind = kind }
 
-gathered_is : (g : Gathering) (ps : List Piece) → gathered g ps ≡ both (g.bytes ++ flat_map bytes_in ps) (lower g.kind (lowest (kinds_in ps)))
+pub gathered_is : (g : Gathering) (ps : List Piece) → gathered g ps ≡ both (g.bytes ++ flat_map bytes_in ps) (lower g.kind (lowest (kinds_in ps)))
 unfolding gathered lowest lower
 gathered_is g [] = ap (λ (x : List ℕ). both x g.kind) (sym (append-nil g.bytes)) ∙ ap (both (g.bytes ++ [])) (sym (lower_nothing g.kind))
 gathered_is g (Ok bs ∷ ps) =
@@ -88,26 +89,26 @@ noted_is g (k ∷ ks) = noted_is (noted g k) ks ∙ ap (both g.bytes) (lower_aga
 -- ---- the whole line
 
 -- it is the line's bytes and its value fault
-pub line_is : (m : Map) (image : List (Option ℕ)) (p : Placed) → line_gathered m image p ≡ both (bytes_of no_numbers p) (value_fault m no_numbers image p)
+pub line_is : (m : Map) (numbers : Numbers) (image : List (Option ℕ)) (p : Placed) → line_gathered m numbers image p ≡ both (bytes_of numbers p) (value_fault m numbers image p)
 unfolding bytes_of value_fault lower
-line_is m image p =
-    let pieces = pieces_of no_numbers p.address p.content in
+line_is m numbers image p =
+    let pieces = pieces_of numbers p.address p.content in
     let places = place_kinds m image p.address (size_of p.content) in
     ap (λ (g : Gathering). noted_all g places) (gathered_is nothing_gathered pieces)
     ∙ noted_is (both (flat_map bytes_in pieces) (lowest (kinds_in pieces))) places
     ∙ ap (both (flat_map bytes_in pieces)) (sym (lowest-append (kinds_in pieces) places))
 
-pub put_faulty : (m : Map) (image : List (Option ℕ)) (p : Placed) (g : Gathering) (kind : AsmFaultKind) → g ≡ line_gathered m image p → g.kind ≡ Some kind
-    → put m image p ≡ Err kind
+pub put_faulty : (m : Map) (numbers : Numbers) (image : List (Option ℕ)) (p : Placed) (g : Gathering) (kind : AsmFaultKind) → g ≡ line_gathered m numbers image p → g.kind ≡ Some kind
+    → put m numbers image p ≡ Err kind
 unfolding put
-put_faulty m image p g kind is met =
-    let same : value_fault m no_numbers image p ≡ Some kind = sym (ap (λ (x : Gathering). x.kind) (is ∙ line_is m image p)) ∙ met in
+put_faulty m numbers image p g kind is met =
+    let same : value_fault m numbers image p ≡ Some kind = sym (ap (λ (x : Gathering). x.kind) (is ∙ line_is m numbers image p)) ∙ met in
     rw same refl
 
-pub put_right : (m : Map) (image : List (Option ℕ)) (p : Placed) (g : Gathering) → g ≡ line_gathered m image p → g.kind ≡ None
-    → put m image p ≡ Ok (with_bytes image p.address g.bytes)
+pub put_right : (m : Map) (numbers : Numbers) (image : List (Option ℕ)) (p : Placed) (g : Gathering) → g ≡ line_gathered m numbers image p → g.kind ≡ None
+    → put m numbers image p ≡ Ok (with_bytes image p.address g.bytes)
 unfolding put
-put_right m image p g is met =
-    let same : value_fault m no_numbers image p ≡ None = sym (ap (λ (x : Gathering). x.kind) (is ∙ line_is m image p)) ∙ met in
-    let bytes : g.bytes ≡ bytes_of no_numbers p = ap (λ (x : Gathering). x.bytes) (is ∙ line_is m image p) in
+put_right m numbers image p g is met =
+    let same : value_fault m numbers image p ≡ None = sym (ap (λ (x : Gathering). x.kind) (is ∙ line_is m numbers image p)) ∙ met in
+    let bytes : g.bytes ≡ bytes_of numbers p = ap (λ (x : Gathering). x.bytes) (is ∙ line_is m numbers image p) in
     rw (same, bytes) refl

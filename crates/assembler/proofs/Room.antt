@@ -6,16 +6,16 @@ use Rattle.std.proofs.lemmas.Bool.{ltb-false, lt-ltb}
 use Rattle.model.specs.State.{Map}
 use Rattle.model.specs.Expression.{Term, here}
 use Rattle.model.specs.FaultNames.{source_fault_number}
-use Rattle.model.specs.Value.{eval_of}
-use Rattle.model.specs.Layout.{Placed, Content, no_bytes, byte_list, word_list, code, size_of, length_in, ◌>>>◌}
-use Rattle.model.specs.Bytes.{Piece, modulo, word_bytes, within, byte_piece, zero_page_piece, word_piece, address_piece, distance_piece, branch_piece, operand_piece, pieces_of, bytes_in, kinds_in, kind_if, lower, lowest, bytes_of, place_kinds, has_bytes, has_port, value_fault}
-use Rattle.model.specs.Source.{no_numbers}
+use Rattle.model.specs.Value.{Numbers, eval_of}
+use Rattle.model.specs.Layout.{length_in, ◌>>>◌, Placed, Content, no_bytes, byte_list, word_list, word_list_high_first, code, size_of, items_size}
+use Rattle.model.specs.Line.{Item, value, string}
+use Rattle.model.specs.Bytes.{Piece, modulo, word_bytes, within, byte_piece, zero_page_piece, word_piece, address_piece, distance_piece, branch_piece, operand_piece, bytes_in, kinds_in, kind_if, lower, lowest, place_kinds, has_bytes, has_port, word_bytes_high_first, word_piece_high_first, item_piece, pieces_of, bytes_of, value_fault}
 use Rattle.model.specs.declared.expression.ExprFault.{ExprFault}
 use Rattle.model.specs.declared.instruction.Mode.{Mode}
 use Rattle.model.specs.declared.instruction.Mode.TheVariants.{Imp, Acc, Imm, Zp, ZpX, ZpY, Abs, AbsX, AbsY, IndX, IndY, Ind, Rel}
 use Rattle.model.specs.declared.source_fault.AsmFaultKind.{AsmFaultKind}
 use Rattle.model.specs.declared.source_fault.AsmFaultKind.TheVariants.{WordRange, BranchRange, PastEnd, Overlap, PortAddress}
-use Rattle.assembler.specs.Judging.{Gathering, line_gathered}
+use Rattle.assembler.specs.Gathering.{Gathering, line_gathered}
 use Rattle.assembler.proofs.Gathers.{line_is, lowest-append}
 
 abbrev sized : Piece → ℕ
@@ -31,6 +31,10 @@ two_size : (f : ℤ → ℕ) (w : Result ℤ AsmFaultKind) → sized (w >>> λ v
 two_size f (Ok v) = omega arith
 two_size f (Err k) = omega arith
 
+two_size_high_first : (f : ℤ → ℕ) (w : Result ℤ AsmFaultKind) → sized (w >>> λ v. Ok (word_bytes_high_first (f v))) ≤ 2
+two_size_high_first f (Ok v) = omega arith
+two_size_high_first f (Err k) = omega arith
+
 byte_size : (r : Result ℤ ExprFault) → sized (byte_piece r) ≤ 1
 unfolding byte_piece
 byte_size r = one_size (λ v. modulo v 256) _
@@ -42,6 +46,10 @@ zero_page_size r = one_size (λ v. modulo v 256) _
 word_size : (r : Result ℤ ExprFault) → sized (word_piece r) ≤ 2
 unfolding word_piece
 word_size r = two_size (λ v. modulo v 65536) _
+
+word_size_high_first : (r : Result ℤ ExprFault) → sized (word_piece_high_first r) ≤ 2
+unfolding word_piece_high_first
+word_size_high_first r = two_size_high_first (λ v. modulo v 65536) _
 
 address_size : (r : Result ℤ ExprFault) → sized (address_piece r) ≤ 2
 unfolding address_piece
@@ -78,9 +86,10 @@ operand_size a IndY r = omega (arith, zero_page_size r)
 operand_size a Ind r = omega (arith, address_size r)
 operand_size a Rel r = omega (arith, branch_size a r)
 
-bytes_size : (f : Term → Piece) → ((e : Term) → sized (f e) ≤ 1) → (es : List Term) → length (flat_map bytes_in (map f es)) ≤ length es
-bytes_size f small [] = omega arith
-bytes_size f small (e ∷ es) = rw length-append (omega (arith, small e, bytes_size f small es))
+items_fit : (numbers : Numbers) (a : ℕ) (is : List Item) → length (flat_map bytes_in (map (λ i. item_piece numbers a i) is)) ≤ items_size is
+items_fit numbers a [] = omega arith
+items_fit numbers a (value e ∷ is) = rw length-append (omega (arith, byte_size (eval_of numbers (pos a) e), items_fit numbers a is))
+items_fit numbers a (string text ∷ is) = rw length-append (omega (arith, items_fit numbers a is))
 
 words_size : (f : Term → Piece) → ((e : Term) → sized (f e) ≤ 2) → (es : List Term) → length (flat_map bytes_in (map f es)) ≤ 2 * length es
 words_size f small [] = omega arith
@@ -89,17 +98,18 @@ words_size f small (e ∷ es) = rw length-append (omega (arith, small e, words_s
 code_size : (p : Piece) → suc (length (bytes_in p ++ [])) ≡ suc (sized p)
 code_size p = ap (λ (x : List ℕ). suc (length x)) (append-nil (bytes_in p))
 
-content_size : (a : ℕ) (content : Content) → length (flat_map bytes_in (pieces_of no_numbers a content)) ≤ size_of content
+content_size : (numbers : Numbers) (a : ℕ) (content : Content) → length (flat_map bytes_in (pieces_of numbers a content)) ≤ size_of content
 unfolding pieces_of size_of
-content_size a no_bytes = omega arith
-content_size a (byte_list es) = bytes_size (λ (e : Term). byte_piece (eval_of no_numbers (pos a) e)) (λ e. byte_size (eval_of no_numbers (pos a) e)) es
-content_size a (word_list es) = words_size (λ (e : Term). word_piece (eval_of no_numbers (pos a) e)) (λ e. word_size (eval_of no_numbers (pos a) e)) es
-content_size a (code opcode mode None) = omega (arith, operand_size a mode (eval_of no_numbers (pos a) here))
-content_size a (code opcode mode (Some e)) = omega (arith, operand_size a mode (eval_of no_numbers (pos a) e), code_size (operand_piece a mode (eval_of no_numbers (pos a) e)))
+content_size numbers a no_bytes = omega arith
+content_size numbers a (byte_list is) = items_fit numbers a is
+content_size numbers a (word_list es) = words_size (λ (e : Term). word_piece (eval_of numbers (pos a) e)) (λ e. word_size (eval_of numbers (pos a) e)) es
+content_size numbers a (word_list_high_first es) = words_size (λ (e : Term). word_piece_high_first (eval_of numbers (pos a) e)) (λ e. word_size_high_first (eval_of numbers (pos a) e)) es
+content_size numbers a (code opcode mode None) = omega (arith, operand_size a mode (eval_of numbers (pos a) here))
+content_size numbers a (code opcode mode (Some e)) = omega (arith, operand_size a mode (eval_of numbers (pos a) e), code_size (operand_piece a mode (eval_of numbers (pos a) e)))
 
-pub line_size : (p : Placed) → length (bytes_of no_numbers p) ≤ size_of p.content
+pub line_size : (numbers : Numbers) (p : Placed) → length (bytes_of numbers p) ≤ size_of p.content
 unfolding bytes_of
-line_size p = content_size p.address p.content
+line_size numbers p = content_size numbers p.address p.content
 
 -- ---- places
 
@@ -121,13 +131,13 @@ pub record IsPlaced (m : Map) (image : List (Option ℕ)) (p : Placed) : Type 0 
   pub past : (nat_lt 0 (size_of p.content) && nat_lt 65536 (p.address + size_of p.content)) ≡ false
   pub port : has_port m p.address (size_of p.content) ≡ false
 
-pub placed_right : (m : Map) (image : List (Option ℕ)) (p : Placed) → value_fault m no_numbers image p ≡ None → IsPlaced m image p
+pub placed_right : (m : Map) (numbers : Numbers) (image : List (Option ℕ)) (p : Placed) → value_fault m numbers image p ≡ None → IsPlaced m image p
 unfolding value_fault place_kinds lowest
-placed_right m image p right =
+placed_right m numbers image p right =
     let size = size_of p.content in
     let places = place_kinds m image p.address size in
-    let split : lower (lowest (kinds_in (pieces_of no_numbers p.address p.content))) (lowest places) ≡ None =
-    sym (lowest-append (kinds_in (pieces_of no_numbers p.address p.content)) places) ∙ right in
+    let split : lower (lowest (kinds_in (pieces_of numbers p.address p.content))) (lowest places) ≡ None =
+    sym (lowest-append (kinds_in (pieces_of numbers p.address p.content)) places) ∙ right in
     let first = lower_none _ (lowest places) split in
     let second = lower_none (kind_if (nat_lt 0 size && nat_lt 65536 (p.address + size)) PastEnd) _ first.1 in
     let third = lower_none (kind_if (has_bytes image p.address size) Overlap) _ second.1 in
@@ -141,10 +151,10 @@ not_past a s n past small some =
     omega (arith, ltb-false 65536 (a + s) behind)
 
 -- the bytes of a line without a fault have room
-pub line_room : (m : Map) (image : List (Option ℕ)) (p : Placed) (g : Gathering) → g ≡ line_gathered m image p → g.kind ≡ None
+pub line_room : (m : Map) (numbers : Numbers) (image : List (Option ℕ)) (p : Placed) (g : Gathering) → g ≡ line_gathered m numbers image p → g.kind ≡ None
     → 0 < length g.bytes → p.address + length g.bytes ≤ 65536
-line_room m image p g is met some =
-    let right : value_fault m no_numbers image p ≡ None = sym (ap (λ (x : Gathering). x.kind) (is ∙ line_is m image p)) ∙ met in
-    let bytes : g.bytes ≡ bytes_of no_numbers p = ap (λ (x : Gathering). x.bytes) (is ∙ line_is m image p) in
-    let small : length g.bytes ≤ size_of p.content = rw bytes (line_size p) in
-    not_past p.address (size_of p.content) (length g.bytes) (placed_right m image p right).past small some
+line_room m numbers image p g is met some =
+    let right : value_fault m numbers image p ≡ None = sym (ap (λ (x : Gathering). x.kind) (is ∙ line_is m numbers image p)) ∙ met in
+    let bytes : g.bytes ≡ bytes_of numbers p = ap (λ (x : Gathering). x.bytes) (is ∙ line_is m numbers image p) in
+    let small : length g.bytes ≤ size_of p.content = rw bytes (line_size numbers p) in
+    not_past p.address (size_of p.content) (length g.bytes) (placed_right m numbers image p right).past small some

@@ -5,9 +5,9 @@ use Rattle.std.proofs.lemmas.Bool.Decides.{nat_tests, leb_tells}
 use Rattle.std.proofs.lemmas.List.{get_or-replicate, get_or_past, length-replicate}
 use Rattle.model.specs.State.{Map, is_port, has_port_byte}
 use Rattle.model.specs.Image.{empty_image, has_byte, with_bytes}
+use Rattle.model.specs.Value.{Numbers}
+use Rattle.model.specs.Bytes.{has_port, Makes, bytes_of}
 use Rattle.model.specs.Layout.{Placed, size_of}
-use Rattle.model.specs.Bytes.{Makes, bytes_of, has_port}
-use Rattle.model.specs.Source.{no_numbers}
 use Rattle.assembler.proofs.Room.{line_size, placed_right}
 
 abbrev Cells : Type 0
@@ -41,11 +41,11 @@ bytes_spared m (b ∷ bytes) image a (suc n) small off s =
     let parts = or_false (is_port m a) (has_port m (a + 1) n) off in
     bytes_spared m bytes (slice_set image a (Some b)) (a + 1) n (omega arith) parts.1 (set_spared m image a b parts.0 s)
 
-makes_spared : (m : Map) (ps : List Placed) (image final : Cells) → Makes m no_numbers image ps final → IsSpared m image → IsSpared m final
-makes_spared m [] image final h s = rw h s
-makes_spared m (p ∷ ps) image final h s =
-    makes_spared m ps (with_bytes image p.address (bytes_of no_numbers p)) final h.1
-    (bytes_spared m (bytes_of no_numbers p) image p.address (size_of p.content) (line_size p) (placed_right m image p h.0).port s)
+makes_spared : (m : Map) (numbers : Numbers) (ps : List Placed) (image final : Cells) → Makes m numbers image ps final → IsSpared m image → IsSpared m final
+makes_spared m numbers [] image final h s = rw h s
+makes_spared m numbers (p ∷ ps) image final h s =
+    makes_spared m numbers ps (with_bytes image p.address (bytes_of numbers p)) final h.1
+    (bytes_spared m (bytes_of numbers p) image p.address (size_of p.content) (line_size numbers p) (placed_right m numbers image p h.0).port s)
 
 blank_cell : (n q : ℕ) → get_or (replicate n nothing) q None ≡ None
 blank_cell n q = elim (leb_tells (suc q) n) [
@@ -77,8 +77,8 @@ on_port m k small = port_test m.port k small
 first_on : (m : Map) → is_port m m.port ≡ true
 first_on m = let same : m.port + 0 ≡ m.port = omega arith in rw same at (on_port m 0 (omega arith))
 
-pub spared_image : (m : Map) (ps : List Placed) (final : Cells) → Makes m no_numbers empty_image ps final → has_port_byte m final ≡ false
+pub spared_image : (m : Map) (numbers : Numbers) (ps : List Placed) (final : Cells) → Makes m numbers empty_image ps final → has_port_byte m final ≡ false
 unfolding has_port_byte
-spared_image m ps final h =
-    let s = makes_spared m ps empty_image final h (empty_spared m) in
+spared_image m numbers ps final h =
+    let s = makes_spared m numbers ps empty_image final h (empty_spared m) in
     rw (s.free m.port (first_on m), s.free (m.port + 1) (on_port m 1 (omega arith)), s.free (m.port + 2) (on_port m 2 (omega arith)), s.free (m.port + 3) (on_port m 3 (omega arith))) refl

@@ -1,22 +1,51 @@
 -- What an assembly shows, and the refusal that is no fault of the source.
-use Rattle.std.specs.Prelude.{ℕ, List, Option, map}
-use Rattle.assembler.specs.declared.pass.Span.{Span}
+use Rattle.std.specs.Prelude.{◌≡◌, ℕ, List, map, Option, ◌⊎◌, Result, Ok, Err}
+use Rattle.model.specs.Names.{Definitions}
+use Rattle.model.specs.Layout.{extents_of}
+use Rattle.model.specs.Lines.{lines_of}
+use Rattle.model.specs.Listing.{listing_text, shown_in}
+use Rattle.source_laws.specs.Judging.{Judged, judged, ◌>>=◌}
+use Rattle.model.specs.State.{Map}
 use Rattle.model.specs.declared.source_fault.AsmFault.{AsmFault}
 use Rattle.model.specs.declared.source_fault.AsmFaultKind.TheVariants.{OutOfMemory}
 
--- What clauses see of an assembly: the byte at each address, where the source denotes one; the source; and each line's
--- address and byte count, in the order of the lines.
+-- What clauses see of an assembly: the byte at each address, where the source denotes one; the source; each line's address and
+-- byte count, in the order of the lines; and the names with their numbers, in order of definition.
 pub record Assembled : Type 0 where
   pub image : List (Option ℕ)
   pub source : List ℕ
   pub places : List (ℕ × ℕ)
+  pub names : Definitions
 
-abbrev pub pair_of : Span → ℕ × ℕ
-pair_of span = (span.address, span.count)
+-- What of it the source decides.
+pub record Verdict : Type 0 where
+  pub image : List (Option ℕ)
+  pub places : List (ℕ × ℕ)
+  pub names : Definitions
 
-abbrev pub pairs_of : List Span → List (ℕ × ℕ)
-pairs_of spans = map pair_of spans
+abbrev pub verdict_of : Judged → Verdict
+verdict_of j = record { image = j.image; places = extents_of j.placed; names = j.all.names }
+
+abbrev pub verdict : Map → List ℕ → Result Verdict AsmFault
+verdict bus_map source = judged bus_map source >>= λ j. Ok (verdict_of j)
+
+abbrev pub seen_verdict : Assembled → Verdict
+seen_verdict a = record { image = a.image; places = a.places; names = a.names }
 
 -- A request for memory was refused. No line is at fault.
 abbrev pub out_of_memory : AsmFault
 out_of_memory = record { line = 0; kind = OutOfMemory }
+
+-- What was answered is what a definition gives, memory aside.
+abbrev pub Answers : {A B : Type 0} → (A → B) → Result A AsmFault → Result B AsmFault → Type 0
+Answers shown (Ok a) given = given ≡ Ok (shown a)
+Answers shown (Err fault) given = (fault ≡ out_of_memory) ⊎ (given ≡ Err fault)
+
+-- The answer is this image, or memory was refused.
+abbrev pub IsImageOrMemory : Result Assembled AsmFault → List (Option ℕ) → Type 0
+IsImageOrMemory (Ok a) image = a.image ≡ image
+IsImageOrMemory (Err fault) image = fault ≡ out_of_memory
+
+-- The listing of what an assembly shows: of its source's lines, as many as have a place, and of its names.
+abbrev pub listing_of : Assembled → List ℕ
+listing_of a = listing_text (lines_of a.source) (map (shown_in a.image) a.places) a.names

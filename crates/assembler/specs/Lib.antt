@@ -1,6 +1,6 @@
+pub mod Sites
+pub mod Gathering
+pub mod Found
+pub mod Kept
+pub mod Located
 pub mod Assembly
-pub mod Lists
-pub mod Pointers
-pub mod Placing
-pub mod Judging
-pub mod Seen

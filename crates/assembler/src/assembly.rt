@@ -1,20 +1,27 @@
 //! A source assembled.
 
-ghost use Rattle.std.specs.Prelude.{◌≡◌, ◌⊎◌, ℕ, List, Option, Err, IfOk, IfErr, false};
-ghost use Rattle.assembler.specs.Assembly.{out_of_memory};
-ghost use Rattle.assembler.specs.Judging.{Answers, IsImageOrMemory, judged, seen_judged};
+ghost use Rattle.std.specs.Prelude.{◌≡◌, ◌⊎◌, ℕ, List, Option, Err, IfOk, IfErr, false, length, slice_get};
+ghost use Rattle.assembler.specs.Assembly.{Answers, IsImageOrMemory, listing_of, out_of_memory, seen_verdict, verdict};
+ghost use Rattle.model.specs.Layout.{Fixed, LaidOut, Placed, extents_of};
+ghost use Rattle.model.specs.Listing.{IsListing};
+ghost use Rattle.model.specs.Names.{number_in};
+ghost use Rattle.model.specs.Source.{Denotes, HasFault, nothing_fixed, read_lines};
 ghost use Rattle.model.specs.Image.{IsImage};
-ghost use Rattle.model.specs.Layout.{LaidOut, Placed, extents_of};
-ghost use Rattle.model.specs.Lines.{lines_of};
-ghost use Rattle.model.specs.Source.{Denotes, HasFault, no_numbers};
 ghost use Rattle.model.specs.State.{has_port_byte};
 ghost use Rattle.model.specs.declared.source_fault.AsmFault.{AsmFault};
+ghost use Rattle.symbols.specs.Entries.{shown};
 
-use crate::pass::{OUT_OF_MEMORY, Span, lay_out, make_image};
+use crate::fault::OUT_OF_MEMORY;
+use crate::first_pass::lay_out;
+use crate::kept::Span;
+use crate::listed::listing_of;
+use crate::second_pass::make_image;
 use bus::{Image, MapSpec};
 use model::{AsmFault, AsmFaultKind};
+use source_laws::{judging_is_right, one_assignment};
 use std::alloc::Global;
 use std::marker::Model;
+use symbols::Symbols;
 
 /// The most bytes that a source has (profile).
 const SOURCE_SIZE: usize = 1_048_576;
@@ -25,14 +32,16 @@ pub struct Assembly {
     image: Image,
     source: Vec<u8>,
     spans: Vec<Span>,
+    symbols: Symbols,
 }
 
 impl Model for Assembly {
-    ghost use Rattle.assembler.specs.Assembly.{Assembled, pairs_of};
+    ghost use Rattle.assembler.specs.Assembly.{Assembled};
+    ghost use Rattle.assembler.specs.Kept.{pairs_of};
 
     ghost Value = { Assembled };
 
-    ghost view = { λ a. record { image = a.image; source = a.source.items; places = pairs_of a.spans.items } };
+    ghost view = { λ a. record { image = a.image; source = a.source.items; places = pairs_of a.spans.items; names = a.symbols } };
 }
 
 impl Assembly {
@@ -42,27 +51,62 @@ impl Assembly {
     {
         &self.image
     }
+
+    /// How many names the source defines.
+    pub fn symbol_count(&self) -> usize
+        ensures { result ≡ length self.now.names }
+    {
+        self.symbols.count()
+    }
+
+    /// A name and its number, by its place in the order of definition, counted from 0.
+    pub fn symbol(&self, index: usize) -> Option<(&[u8], i32)>
+        ensures { shown result ≡ slice_get self.now.names index }
+    {
+        self.symbols.symbol(index)
+    }
+
+    /// The number of a name, if the source defines it.
+    pub fn value_of(&self, name: &[u8]) -> Option<i32>
+        ensures { result ≡ number_in self.now.names name.now }
+    {
+        self.symbols.value_of(name)
+    }
+
+    /// The listing: each line that was read with its address and its bytes, and then the names in order of definition.
+    /// The only error is `OutOfMemory` with line 0, where a request for memory was refused.
+    pub fn listing(&self, alloc: Global) -> Result<Vec<u8>, AsmFault>
+        ensures rows { IfOk result (λ text. text.items ≡ listing_of self.now) }
+        ensures only { IfErr result (λ fault. fault ≡ out_of_memory) }
+    {
+        listing_of(alloc, &self.source, &self.spans, &self.image, &self.symbols).map_err(
+            |_| OUT_OF_MEMORY,
+        )
+    }
 }
 
 /// Assembles a source: lines that end with LF or CR LF, and after the last LF one more if it is not empty.
 ///
 /// The answer is the image that the source denotes, or its fault. Lines are counted from 1. A fault of the layout comes before
-/// any fault of a value; within each group the lowest line decides, then the lowest number on it.
+/// any fault of a value; within each group the lowest line decides, then the lowest number on it. Nothing behind the line of `.END`
+/// is read.
 ///
 /// - `TooLarge`, with line 0 and before all others: the source has more than 1,048,576 bytes.
 /// - Layout, of a line's text: `LineTooLong` above 255 bytes without its end; `NotAscii` where a byte is neither $20..$7E nor a tab
 ///   (as a CR that is not right before an LF); `Syntax` where the line is none of the grammar; `ReservedName` where a mnemonic, A, X
 ///   or Y stands for a name.
-/// - Layout, of its place and its size: `UnknownHere` where `*=` uses a name that is not known; `NoSuchForm` where the instruction has
-///   no form for the operand; `OriginRange` where the value of `*=` is outside 0..65535; `ExprRange` (11) and `DivideByZero` (12) in
-///   an expression that places or sizes.
+/// - Layout, of its name, its place and its size: `DuplicateName` where an earlier line defines its name; `UnknownHere` where `*=`,
+///   `.RES` or the definition of a name uses a name that neither an earlier line nor its own label defines; `NoSuchForm` where the
+///   instruction has no form for the operand; `TooManyNames` where its name is the 8,193rd; `OriginRange` where the value of `*=` is
+///   outside 0..65535, or `.RES` goes below its line's address or past 65536; `ExprRange` (11) and `DivideByZero` (12) in an
+///   expression that places, sizes or defines.
 /// - Values: `UndefinedName` for a name that no line defines; `ByteRange` and `WordRange` for a value that its byte or its two bytes
 ///   do not take; `BranchRange` for a target farther than -128..127 from the next instruction; `PastEnd` for a byte past address
 ///   65535; `Overlap` for a byte where an earlier line has one; `PortAddress` for a byte at an address of the map's port;
 ///   `ExprRange` (27) and `DivideByZero` (28) in any other expression. The line's address and its size alone decide `PastEnd`,
 ///   `Overlap` and `PortAddress`.
 ///
-/// `OutOfMemory` with line 0 says that a request for memory was refused. No line defines a name yet.
+/// `OutOfMemory` with line 0 says that a request for memory was refused.
 /// Source: profile.
 pub fn assemble(alloc: Global, source: &[u8], map: &MapSpec) -> Result<Assembly, AsmFault>
     // The image is what the source denotes.
@@ -76,17 +120,22 @@ pub fn assemble(alloc: Global, source: &[u8], map: &MapSpec) -> Result<Assembly,
     // No byte stands at a port address, so a machine can load the image.
     ensures spared { IfOk result (λ a. has_port_byte map.now a.image ≡ false) }
     ensures cells { IfOk result (λ a. IsImage a.image) }
-    // The source is kept, and where its lines stand and how many bytes each has.
+    // The source is kept, where its lines stand and how many bytes each has, and its names with their numbers.
     ensures kept { IfOk result (λ a. a.source ≡ source.now) }
-    ensures places { IfOk result (λ a. (placed : List Placed) (end : ℕ) → LaidOut no_numbers 0 (lines_of source.now) placed end → a.places ≡ extents_of placed) }
+    ensures places { IfOk result (λ a. (placed : List Placed) (all : Fixed) → LaidOut nothing_fixed (read_lines source.now) placed all → a.places ≡ extents_of placed) }
+    ensures names { IfOk result (λ a. (placed : List Placed) (all : Fixed) → LaidOut nothing_fixed (read_lines source.now) placed all → a.names ≡ all.names) }
+    // The listing of these is that of the source.
+    ensures listed { IfOk result (λ a. IsListing map.now source.now (listing_of a)) }
 {
+    // For the proof: what two passes compute is what the source denotes.
+    judging_is_right();
+    one_assignment();
     assemble_lines(alloc, source, map)
 }
 
 /// The source laid out, and then its bytes put.
-#[tactic(auto, unfolding(crate::specs::Judging::judged, crate::specs::Judging::judged_lines))]
 fn assemble_lines(alloc: Global, source: &[u8], map: &MapSpec) -> Result<Assembly, AsmFault>
-    ensures exact { Answers seen_judged result (judged map.now source.now) }
+    ensures exact { Answers seen_verdict result (verdict map.now source.now) }
     ensures cells { IfOk result (λ a. IsImage a.image) }
     ensures kept { IfOk result (λ a. a.source ≡ source.now) }
 {
@@ -96,14 +145,17 @@ fn assemble_lines(alloc: Global, source: &[u8], map: &MapSpec) -> Result<Assembl
             kind: AsmFaultKind::TooLarge,
         });
     }
-    let spans = lay_out(alloc, source)?;
-    let image = make_image(alloc, source, map)?;
+    let mut symbols = Symbols::new(alloc);
+    let lines = lay_out(alloc, &mut symbols, source)?;
+    let image = make_image(alloc, map, &symbols, lines.kept())?;
     // For the proof: what `cells` says of each image.
     let _ = image.cells();
+    let spans = lines.into_spans();
     let source = Vec::from_slice(alloc, source).map_err(|_| OUT_OF_MEMORY)?;
     Ok(Assembly {
         image,
         source,
         spans,
+        symbols,
     })
 }

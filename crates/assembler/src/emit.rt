@@ -1,22 +1,30 @@
 //! The bytes of a line in its place, or its value fault.
 
-ghost use Rattle.std.specs.Prelude.{◌≡◌, ◌+◌, ◌<◌, ◌≤◌, ◌^◌, ◌-◌, ◌∷◌, [], pos, length, map, IfErr, IfOk, OnOk, Ok, Some, Err};
+ghost use Rattle.std.specs.Prelude.{◌≡◌, ◌+◌, ◌<◌, ◌≤◌, ◌^◌, ◌-◌, ◌∷◌, [], nat_lt, pos, length, map, IfErr, IfOk, OnOk, Ok, Some, Err};
 ghost use Rattle.asm_expr.specs.Trees.{view};
-ghost use Rattle.assembler.specs.Judging.{Stores, added, byte_pieces, gathered, line_gathered, noted, noted_all, nothing_gathered, put, refused, seen_encoded, seen_piece, word_pieces};
-ghost use Rattle.assembler.specs.Placing.{seen_content, shown};
-ghost use Rattle.model.specs.Bytes.{address_piece, behind_opcode, branch_piece, byte_piece, distance_piece, has_bytes, has_port, kind_if, lower, lowest, modulo, operand_piece, pieces_of, place_kinds, value_fault, within, word_bytes, word_piece, zero_page_piece};
+ghost use Rattle.assembler.specs.Gathering.{Stores, added, gathered, item_pieces, line_gathered, noted, noted_all, nothing_gathered, refused, seen_encoded, seen_piece, value_pieces};
+ghost use Rattle.assembler.specs.Kept.{placed_of};
+ghost use Rattle.asm_line.specs.Seen.{seen, seen_item};
+ghost use Rattle.assembler.specs.Sites.{content_by, shown};
+ghost use Rattle.model.specs.Bytes.{item_piece, pieces_of, word_bytes_high_first, word_piece_high_first, address_piece, behind_opcode, branch_piece, byte_piece, distance_piece, has_bytes, has_port, kind_if, lower, lowest, modulo, operand_piece, place_kinds, within, word_bytes, word_piece, zero_page_piece};
+ghost use Rattle.source_laws.specs.Judging.{put};
+ghost use Rattle.model.specs.Names.{number_in};
+ghost use Rattle.model.specs.OneLine.{no_numbers};
+ghost use Rattle.model.specs.declared.source_fault.AsmFaultKind.TheVariants.{PastEnd};
 ghost use Rattle.model.specs.Image.{has_byte, with_bytes};
-ghost use Rattle.model.specs.Layout.{size_of};
-ghost use Rattle.model.specs.Source.{no_numbers};
 ghost use Rattle.model.specs.Value.{eval_of};
 
-use crate::fault::LineError;
-use crate::layout::{Content, value_at};
+use crate::forms::term_of;
+use crate::kept::Kept;
+use crate::layout::{Site, value_at};
 use asm_expr::Expr;
+use asm_line::{Item, LineError, Statement};
 use bus::{Image, MapSpec};
 use model::{AsmFaultKind, ExprFault, Mode};
+use optable::encode;
 use std::alloc::{AllocError, Global};
 use std::marker::Model;
+use symbols::Symbols;
 
 /// The bytes that one expression gives.
 #[derive(Clone, Copy, Debug, PartialEq, Eq)]
@@ -25,6 +33,14 @@ pub enum Encoded {
     Byte(u8),
     /// The first byte and the second.
     Word(u8, u8),
+}
+
+/// The number that an expression on a line at an address gives under the numbers of all names, or its first fault.
+fn number_at(value: &Expr<'_>, names: &Symbols, here: u32) -> Result<i32, ExprFault>
+    requires { here < 2 ^ 31 }
+    ensures { result ≡ eval_of (number_in names.now) (pos here) (view value.now) }
+{
+    value_at(value, names, here)
 }
 
 /// A value within bounds.
@@ -65,6 +81,14 @@ fn word_of(number: i32) -> Encoded
     Encoded::Word((word % 256) as u8, (word / 256) as u8)
 }
 
+/// A number modulo 65536, the high byte first.
+fn word_of_high_first(number: i32) -> Encoded
+    ensures { seen_encoded result ≡ word_bytes_high_first (modulo number 65536) }
+{
+    let word = number.rem_euclid(65536) as u16;
+    Encoded::Word((word / 256) as u8, (word % 256) as u8)
+}
+
 /// One byte: -128..255.
 #[tactic(auto, unfolding(model::specs::Bytes::byte_piece))]
 fn byte(value: Result<i32, ExprFault>) -> Result<Encoded, AsmFaultKind>
@@ -90,6 +114,15 @@ fn word(value: Result<i32, ExprFault>) -> Result<Encoded, AsmFaultKind>
 {
     let number = within(value, -32768, 65535, AsmFaultKind::WordRange)?;
     Ok(word_of(number))
+}
+
+/// Two bytes, the high one first: -32768..65535.
+#[tactic(auto, unfolding(model::specs::Bytes::word_piece_high_first))]
+fn word_high_first(value: Result<i32, ExprFault>) -> Result<Encoded, AsmFaultKind>
+    ensures { seen_piece result ≡ word_piece_high_first value }
+{
+    let number = within(value, -32768, 65535, AsmFaultKind::WordRange)?;
+    Ok(word_of_high_first(number))
 }
 
 /// An address: 0..65535.
@@ -168,13 +201,13 @@ fn lower(first: Option<AsmFaultKind>, second: Option<AsmFaultKind>) -> Option<As
 
 /// A line's bytes so far, and the lowest kind of its faults so far.
 #[derive(Drop)]
-struct Gathered {
+pub struct Gathered {
     bytes: Vec<u8>,
     kind: Option<AsmFaultKind>,
 }
 
 impl Model for Gathered {
-    ghost use Rattle.assembler.specs.Judging.{Gathering};
+    ghost use Rattle.assembler.specs.Gathering.{Gathering};
 
     ghost Value = { Gathering };
 
@@ -183,7 +216,7 @@ impl Model for Gathered {
 
 impl Gathered {
     /// Nothing yet.
-    fn new(alloc: Global) -> Gathered
+    pub fn new(alloc: Global) -> Gathered
         ensures { result ≡ nothing_gathered }
     {
         Gathered {
@@ -192,15 +225,23 @@ impl Gathered {
         }
     }
 
+    /// Nothing again. What room there is stays, so that the next line takes none.
+    fn clear(&mut self)
+        ensures { self.new ≡ nothing_gathered }
+    {
+        self.bytes.clear();
+        self.kind = None;
+    }
+
     /// The lowest kind of its faults.
-    fn kind(&self) -> Option<AsmFaultKind>
+    pub fn kind(&self) -> Option<AsmFaultKind>
         ensures { result ≡ self.now.kind }
     {
         self.kind
     }
 
     /// Its bytes.
-    fn bytes(&self) -> &[u8]
+    pub fn bytes(&self) -> &[u8]
         ensures { result.now ≡ self.now.bytes }
     {
         &self.bytes
@@ -251,59 +292,115 @@ impl Gathered {
         }
     }
 
-    /// The bytes of `.BYTE`.
-    fn add_bytes(&mut self, here: u32, values: &[Expr<'_>]) -> Result<(), AllocError>
-        requires { here < 2 ^ 31 }
-        ensures { OnOk result (self.new ≡ gathered self.old (byte_pieces here (map view values.now))) }
+    /// The bytes between the quotes of a string.
+    fn push_text(&mut self, text: &[u8]) -> Result<(), AllocError>
+        ensures { OnOk result (self.new ≡ added self.old (Ok text.now)) }
     {
-        for value in values {
-            self.add(byte(value_at(value, here)))?;
+        self.bytes.extend_from_slice(text)
+    }
+
+    /// An item of `.BYTE`.
+    fn add_item(&mut self, names: &Symbols, here: u32, item: &Item<'_>) -> Result<(), AllocError>
+        requires { here < 2 ^ 31 - 510 }
+        ensures { OnOk result (self.new ≡ added self.old (item_piece (number_in names.now) here (seen_item item.now))) }
+    {
+        match item {
+            Item::Value(value) => self.add(byte(number_at(value, names, here))),
+            Item::Text(text) => self.push_text(text),
+        }
+    }
+
+    /// The bytes of `.BYTE`.
+    fn add_items(
+        &mut self,
+        names: &Symbols,
+        here: u32,
+        items: &[Item<'_>],
+    ) -> Result<(), AllocError>
+        requires { here < 2 ^ 31 - 510 }
+        ensures { OnOk result (self.new ≡ gathered self.old (item_pieces (number_in names.now) here (map seen_item items.now))) }
+    {
+        for item in items {
+            self.add_item(names, here, item)?;
         }
         Ok(())
     }
 
     /// The bytes of `.WORD`.
-    fn add_words(&mut self, here: u32, values: &[Expr<'_>]) -> Result<(), AllocError>
-        requires { here < 2 ^ 31 }
-        ensures { OnOk result (self.new ≡ gathered self.old (word_pieces here (map view values.now))) }
+    fn add_words(
+        &mut self,
+        names: &Symbols,
+        here: u32,
+        values: &[Expr<'_>],
+    ) -> Result<(), AllocError>
+        requires { here < 2 ^ 31 - 510 }
+        ensures { OnOk result (self.new ≡ gathered self.old (value_pieces word_piece (number_in names.now) here (map view values.now))) }
     {
         for value in values {
-            self.add(word(value_at(value, here)))?;
+            self.add(word(number_at(value, names, here)))?;
+        }
+        Ok(())
+    }
+
+    /// The bytes of `.DBYTE`.
+    fn add_words_high_first(
+        &mut self,
+        names: &Symbols,
+        here: u32,
+        values: &[Expr<'_>],
+    ) -> Result<(), AllocError>
+        requires { here < 2 ^ 31 - 510 }
+        ensures { OnOk result (self.new ≡ gathered self.old (value_pieces word_piece_high_first (number_in names.now) here (map view values.now))) }
+    {
+        for value in values {
+            self.add(word_high_first(number_at(value, names, here)))?;
         }
         Ok(())
     }
 
     /// What stands behind an opcode.
-    #[tactic(auto, unfolding(crate::specs::Judging::gathered))]
+    #[tactic(auto, unfolding(crate::specs::Gathering::gathered))]
     fn add_operand(
         &mut self,
+        names: &Symbols,
         here: u32,
         mode: Mode,
         value: Option<&Expr<'_>>,
     ) -> Result<(), AllocError>
         requires { here < 2 ^ 31 - 510 }
-        ensures { OnOk result (self.new ≡ gathered self.old (behind_opcode no_numbers here mode (shown (λ e. view e.now) value.entry))) }
+        ensures { OnOk result (self.new ≡ gathered self.old (behind_opcode (number_in names.now) here mode (shown (λ e. view e.now) value.entry))) }
     {
         match value {
             None => Ok(()),
-            Some(value) => self.add(operand(here, mode, value_at(value, here))),
+            Some(value) => self.add(operand(here, mode, number_at(value, names, here))),
         }
     }
 
-    /// All pieces of a line.
-    #[tactic(auto, unfolding(model::specs::Bytes::pieces_of, crate::specs::Judging::gathered))]
-    fn add_content(&mut self, here: u32, content: Content<'_, '_>) -> Result<(), AllocError>
+    /// All pieces of a statement in its mode.
+    #[tactic(auto, unfolding(model::specs::Bytes::pieces_of, crate::specs::Gathering::gathered))]
+    fn add_statement(
+        &mut self,
+        names: &Symbols,
+        here: u32,
+        mode: Option<Mode>,
+        statement: &Statement<'_>,
+    ) -> Result<(), AllocError>
         requires { here < 2 ^ 31 - 510 }
-        ensures { OnOk result (self.new ≡ gathered self.old (pieces_of no_numbers here (seen_content content.entry))) }
+        ensures { OnOk result (self.new ≡ gathered self.old (pieces_of (number_in names.now) here (content_by mode (seen statement.now)))) }
     {
-        match content {
-            Content::NoBytes => Ok(()),
-            Content::Bytes(values) => self.add_bytes(here, values),
-            Content::Words(values) => self.add_words(here, values),
-            Content::Code(opcode, mode, value) => {
-                self.push(Encoded::Byte(opcode))?;
-                self.add_operand(here, mode, value)
-            }
+        match statement {
+            Statement::Bytes(items) => self.add_items(names, here, items),
+            Statement::Words(values) => self.add_words(names, here, values),
+            Statement::WordsHighFirst(values) => self.add_words_high_first(names, here, values),
+            Statement::Instruction(mnemonic, operand) => match mode {
+                Some(mode) => {
+                    self.push(Encoded::Byte(encode(*mnemonic, mode).unwrap_or(0)))?;
+                    self.add_operand(names, here, mode, term_of(operand))
+                }
+                None => Ok(()),
+            },
+            Statement::Nothing | Statement::Origin(_) | Statement::Reserve(_) | Statement::Finish =>
+                Ok(()),
         }
     }
 }
@@ -369,42 +466,53 @@ fn store(image: &mut Image, address: u32, bytes: &[u8])
 
 /// The bytes of a line, and the lowest kind of all its value faults.
 fn gather(
-    alloc: Global,
+    gathered: &mut Gathered,
     map: &MapSpec,
     image: &Image,
+    names: &Symbols,
+    line: &Kept<'_>,
+) -> Result<(), AllocError>
+    ensures { OnOk result (gathered.new ≡ line_gathered map.now (number_in names.now) image.now (placed_of line.now)) }
+{
+    gathered.clear();
+    gathered.add_statement(names, line.address, line.mode, &line.statement)?;
+    judge_place(gathered, map, image, line.address, line.count);
+    Ok(())
+}
+
+/// The bytes of a statement that stands alone at an address, and the lowest kind of its value faults: no port and no other line
+/// stands in the way.
+pub fn gather_alone(
+    alloc: Global,
     address: u32,
-    content: Content<'_, '_>,
-) -> Result<Gathered, LineError>
-    requires room { address < 2 ^ 31 - 510 }
-    requires small { size_of (seen_content content) ≤ 510 }
-    ensures found { IfOk result (λ g. g ≡ line_gathered map.now image.now (record { address = address; content = seen_content content.entry })) }
-    ensures refused { IfErr result (λ e. e ≡ LineError.Memory) }
+    site: Site,
+    statement: &Statement<'_>,
+) -> Result<Gathered, AllocError>
+    requires near { address < 2 ^ 31 - 510 }
+    requires small { site.count ≤ 510 }
+    ensures { IfOk result (λ g. g ≡ noted (gathered nothing_gathered (pieces_of no_numbers address (content_by site.mode (seen statement.now)))) (kind_if (nat_lt 65536 (address + site.count)) PastEnd)) }
 {
     let mut gathered = Gathered::new(alloc);
-    gathered
-        .add_content(address, content)
-        .map_err(|_| LineError::Memory)?;
-    judge_place(&mut gathered, map, image, address, content.size());
+    gathered.add_statement(&Symbols::new(alloc), address, site.mode, statement)?;
+    gathered.refuse_if(65536 < address + site.count, AsmFaultKind::PastEnd);
     Ok(gathered)
 }
 
 /// Puts the bytes of a line into an image, or answers its value fault.
 pub fn put_line(
-    alloc: Global,
+    gathered: &mut Gathered,
     map: &MapSpec,
     image: &mut Image,
-    address: u32,
-    content: Content<'_, '_>,
+    names: &Symbols,
+    line: &Kept<'_>,
 ) -> Result<(), LineError>
-    requires room { address < 2 ^ 31 - 510 }
-    requires small { size_of (seen_content content) ≤ 510 }
-    ensures { Stores result image.new (put map.now image.old (record { address = address; content = seen_content content.entry })) }
+    ensures { Stores result image.new (put map.now (number_in names.now) image.old (placed_of line.now)) }
 {
-    let gathered = gather(alloc, map, image, address, content)?;
+    gather(gathered, map, image, names, line)?;
     match gathered.kind() {
         Some(kind) => Err(LineError::Kind(kind)),
         None => {
-            store(image, address, gathered.bytes());
+            store(image, line.address, gathered.bytes());
             Ok(())
         }
     }

@@ -1,49 +1,23 @@
-//! Why a line is refused.
+//! What is answered of a line that is refused.
 
-use model::{AsmFaultKind, LineFault};
-use std::alloc::{AllocError, AllocFailed};
+ghost use Rattle.std.specs.Prelude.{◌≡◌};
+ghost use Rattle.assembler.specs.Located.{located};
 
-/// Why nothing comes of a line.
-#[derive(Clone, Copy, Debug, PartialEq, Eq)]
-pub enum LineError {
-    /// A request for memory was refused.
-    Memory,
-    /// The line has a fault of this kind.
-    Kind(AsmFaultKind),
-}
+use asm_line::LineError;
+use model::{AsmFault, AsmFaultKind};
 
-impl From<AllocError> for LineError {
-    ghost use Rattle.std.specs.Prelude.{◌≡◌};
-    ghost use Rattle.assembler.specs.declared.fault.LineError.TheVariants.{Memory};
+/// What is answered where a request for memory was refused.
+pub const OUT_OF_MEMORY: AsmFault = AsmFault {
+    line: 0,
+    kind: AsmFaultKind::OutOfMemory,
+};
 
-    ghost from_gives = { λ _ e. e ≡ Memory };
-
-    fn from(_error: AllocError) -> LineError {
-        LineError::Memory
-    }
-}
-
-impl<T: Drop> From<AllocFailed<T>> for LineError {
-    ghost use Rattle.std.specs.Prelude.{◌≡◌};
-    ghost use Rattle.assembler.specs.declared.fault.LineError.TheVariants.{Memory};
-
-    ghost from_gives = { λ _ e. e ≡ Memory };
-
-    fn from(_refused: AllocFailed<T>) -> LineError {
-        LineError::Memory
-    }
-}
-
-impl From<LineFault> for LineError {
-    ghost use Rattle.std.specs.Prelude.{◌≡◌};
-    ghost use Rattle.assembler.specs.Seen.{error_of};
-
-    ghost from_gives = { λ fault e. e ≡ error_of fault };
-
-    fn from(fault: LineFault) -> LineError {
-        match fault {
-            LineFault::Syntax => LineError::Kind(AsmFaultKind::Syntax),
-            LineFault::OutOfMemory => LineError::Memory,
-        }
+/// The fault of a line with a number.
+pub fn located(number: u32, error: LineError) -> AsmFault
+    ensures { result ≡ located number error }
+{
+    match error {
+        LineError::Memory => OUT_OF_MEMORY,
+        LineError::Kind(kind) => AsmFault { line: number, kind },
     }
 }

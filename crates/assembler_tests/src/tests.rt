@@ -3,8 +3,9 @@
 use assembler::assemble;
 use bus::MapSpec;
 use model::AsmFaultKind::{
-    ByteRange, DivideByZero, LineTooLong, NoSuchForm, NotAscii, OriginRange, Overlap, PastEnd,
-    PortAddress, ReservedName, Syntax, TooLarge, UndefinedName, UnknownHere, ValueDivideByZero,
+    BranchRange, ByteRange, DivideByZero, DuplicateName, ExprRange, LineTooLong, NoSuchForm,
+    NotAscii, OriginRange, Overlap, PastEnd, PortAddress, ReservedName, Syntax, TooLarge,
+    TooManyNames, UndefinedName, UnknownHere, ValueDivideByZero, ValueExprRange, WordRange,
 };
 use model::{AsmFault, AsmFaultKind, BusFault};
 use std::alloc::{AllocError, Global};
@@ -93,7 +94,7 @@ fn assembles_instructions_and_data(rt: HostRuntime) -> Result<(), Fail> {
 
 #[test]
 fn answers_the_first_fault(rt: HostRuntime) -> Result<(), Fail> {
-    let faulty: [(&[u8], u32, AsmFaultKind); 22] = [
+    let faulty: [(&[u8], u32, AsmFaultKind); 21] = [
         (b".BYTE 256", 1, ByteRange),
         (b"*=$FFFF\nJMP $0000\n", 2, PastEnd),
         (b"*=$0200\nNOP\n*=$0200\nNOP\n", 4, Overlap),
@@ -109,7 +110,6 @@ fn answers_the_first_fault(rt: HostRuntime) -> Result<(), Fail> {
         (b"STX $1234,Y", 1, ByteRange),
         (b"INC A", 1, NoSuchForm),
         (b"LDA", 1, NoSuchForm),
-        (b"\n.BYTE X\n", 2, ReservedName),
         (b"*=$F000\n.BYTE 1/0", 2, PortAddress),
         (b"NOP\n*=0\n.BYTE 1/0", 3, Overlap),
         (b".BYTE 1/0,256,undefd", 1, UndefinedName),
@@ -120,6 +120,147 @@ fn answers_the_first_fault(rt: HostRuntime) -> Result<(), Fail> {
     for (source, line, kind) in faulty {
         assert_eq!(rt; fault_of(rt.alloc(), source)?, at(line, kind));
     }
+    Ok(())
+}
+
+#[test]
+fn assembles_names_and_directives(rt: HostRuntime) -> Result<(), Fail> {
+    let right: [(&[u8], u16, &[u8]); 15] = [
+        // A name takes the zero page form where an earlier line defines it.
+        (
+            b"*=$20\nLDA zpname\nzpname = $10",
+            0x20,
+            &[0xad, 0x10, 0x00],
+        ),
+        (b"*=$20\nzpname = $10\nLDA zpname", 0x20, &[0xa5, 0x10]),
+        (b"*=$FF\nfoo: LDA foo", 0xff, &[0xa5, 0xff]),
+        (b"*=$100\nfoo: LDA foo", 0x100, &[0xad, 0x00, 0x01]),
+        (
+            b"*=$20\nLDA $10,Y\nLDA !$10",
+            0x20,
+            &[0xb9, 0x10, 0x00, 0xad, 0x10, 0x00],
+        ),
+        (
+            b"*=$0200\nloop: DEX\n bne loop ; again",
+            0x200,
+            &[0xca, 0xd0, 0xfd],
+        ),
+        (
+            b"*=$0200\nJMP end\nend: RTS",
+            0x200,
+            &[0x4c, 0x03, 0x02, 0x60],
+        ),
+        (
+            b"*=$0300\n.DBYTE $1234,-2\n.WORD -2",
+            0x300,
+            &[0x12, 0x34, 0xff, 0xfe, 0xfe, 0xff],
+        ),
+        (
+            b"*=$20\n.byte \"a;B\",'c',1+1",
+            0x20,
+            &[0x61, 0x3b, 0x42, 0x63, 0x02],
+        ),
+        (
+            b"*=$20\nn1 = 3\n.RES n1-3\n.BYTE n1,N1\nN1 = n1*2",
+            0x20,
+            &[3, 6],
+        ),
+        (b"*=$20\n.RES 2\nNOP", 0x22, &[0xea]),
+        (b"*=$20\nNOP\n.END\n?\nNOP", 0x20, &[0xea]),
+        (
+            b".RES 65536\nlast:\n*=$20\n.BYTE <last,>last-1",
+            0x20,
+            &[0x00, 0xff],
+        ),
+        (b"*=$20\n.BYTE [[[[[[[[1]]]]]]]]", 0x20, &[1]),
+        (b"*=$20\nnmi: .WORD nmi,*", 0x20, &[0x20, 0x00, 0x20, 0x00]),
+    ];
+    for (source, from, bytes) in right {
+        assert_eq!(rt; denotes(rt.alloc(), source, from, bytes)?, true);
+    }
+    Ok(())
+}
+
+#[test]
+fn answers_the_first_fault_of_names(rt: HostRuntime) -> Result<(), Fail> {
+    let faulty: [(&[u8], u32, AsmFaultKind); 32] = [
+        (b"a1 = 1\na1 = 2", 2, DuplicateName),
+        (b"a1: NOP 5\na1: NOP 5", 1, NoSuchForm),
+        (b"a1:\na1: NOP 5", 2, DuplicateName),
+        (b"n=1\nn=X", 2, ReservedName),
+        (b"n1 = n2\nn2 = 1", 1, UnknownHere),
+        (b"n = n", 1, UnknownHere),
+        (b".RES later\nlater = 1", 1, UnknownHere),
+        (b"JMP undefd\nn = undefd", 2, UnknownHere),
+        (b"LDA foo\n.END\nfoo = 1", 1, UndefinedName),
+        (b".BYTE 300\n?", 2, Syntax),
+        (b".BYTE 256\nNOP 5", 2, NoSuchForm),
+        (b"STX !$10,Y", 1, NoSuchForm),
+        (b"BNE !5", 1, NoSuchForm),
+        (b"X = 1", 1, ReservedName),
+        (b"LDA X", 1, ReservedName),
+        (b"lda: NOP", 1, ReservedName),
+        (b"NOP = 1", 1, ReservedName),
+        (b"l: n = 1", 1, Syntax),
+        (b".END 5", 1, Syntax),
+        (b".BYTE \"\"", 1, Syntax),
+        (b".BYTE [[[[[[[[[1]]]]]]]]]", 1, Syntax),
+        (b".RES 65537", 1, OriginRange),
+        (b".RES -1", 1, OriginRange),
+        (b"*=$FFFF\nJMP 0\n.RES 0", 3, OriginRange),
+        (b".RES 1/0", 1, DivideByZero),
+        (b"x1 = 2147483647+1", 1, ExprRange),
+        (b".BYTE -2147483648", 1, ValueExprRange),
+        (b".BYTE [-2147483647-1]/-1", 1, ValueExprRange),
+        (b".BYTE 65536&[1/0]", 1, ValueDivideByZero),
+        (b"LDA -1", 1, WordRange),
+        (b"*=$0200\nBNE $0282", 2, BranchRange),
+        (b"*=$FFFF\nNOP\nend: NOP", 3, PastEnd),
+    ];
+    for (source, line, kind) in faulty {
+        assert_eq!(rt; fault_of(rt.alloc(), source)?, at(line, kind));
+    }
+    Ok(())
+}
+
+#[test]
+fn tells_the_names(rt: HostRuntime) -> Result<(), Fail> {
+    let map = MapSpec::new(None, 0xf000)?;
+    let source = b"start: NOP\nn1 = -1\n*=$FFFF\nbig: NOP\nend:";
+    let assembly = assemble(rt.alloc(), source, &map).map_err(|_| BusFault::OutOfMemory)?;
+    let names: [(&[u8], i32); 4] = [(b"start", 0), (b"n1", -1), (b"big", 65535), (b"end", 65536)];
+    assert_eq!(rt; assembly.symbol_count(), 4);
+    for (i, (name, number)) in names.iter().enumerate() {
+        assert_eq!(rt; assembly.symbol(i), Some((*name, *number)));
+        assert_eq!(rt; assembly.value_of(name), Some(*number));
+    }
+    assert_eq!(rt; assembly.symbol(4), None);
+    assert_eq!(rt; assembly.value_of(b"START"), None);
+    Ok(())
+}
+
+/// Lines `nK = 0` with K from 1 on.
+fn names(alloc: Global, count: u32) -> Result<Vec<u8>, AllocError> {
+    let mut source = Vec::new(alloc);
+    for k in 0..count {
+        source.extend_from_slice(b"n")?;
+        source.extend_from_slice(format!(in alloc; "{}", k + 1)?.as_bytes())?;
+        source.extend_from_slice(b" = 0\n")?;
+    }
+    Ok(source)
+}
+
+#[test]
+fn takes_as_many_names_as_there_may_be(rt: HostRuntime) -> Result<(), Fail> {
+    assert_eq!(rt; fault_of(rt.alloc(), &names(rt.alloc(), 8192)?)?, None);
+    assert_eq!(rt;
+        fault_of(rt.alloc(), &names(rt.alloc(), 8193)?)?,
+        at(8193, TooManyNames)
+    );
+    let longest = line_of(rt.alloc(), 31, b'n', b" = 1")?;
+    assert_eq!(rt; fault_of(rt.alloc(), &longest)?, None);
+    let longer = line_of(rt.alloc(), 32, b'n', b" = 1")?;
+    assert_eq!(rt; fault_of(rt.alloc(), &longer)?, at(1, Syntax));
     Ok(())
 }
 

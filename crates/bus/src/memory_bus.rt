@@ -1,14 +1,17 @@
 //! Memory, ROM and the port.
 
 ghost use Rattle.std.specs.Prelude.{◌≡◌, ◌+◌, ◌-◌, ◌<◌, ◌≤◌, ◌↔◌, length, slice_index, slice_get, slice_set, IsErr, OnOk, OnErr, IfErr, IfOk, true, false, not, ◌||◌, ◌++◌, ◌∷◌, [], if◌then◌else◌, ℕ, List};
+ghost use Rattle.std.specs.List.{list_all};
 ghost use Rattle.model.specs.State.{console_size, is_port, is_rom, byte_read, after_read, overflows, after_write, stored, input_waits, loaded_bus, has_port_byte};
 ghost use Rattle.model.specs.Event.{meets_port, patched};
 ghost use Rattle.model.specs.Image.{empty_image, has_byte};
-ghost use Rattle.model.specs.Undo.{CanRestore, restored, cells_of};
+ghost use Rattle.model.specs.Undo.{CanRestore, restored, cells_of, put_cells};
+ghost use Rattle.model.specs.Checkpoint.{saved, put_back, CanPutBack};
 ghost use Rattle.bus.specs.Memory.{zeros};
 
 use crate::image::Image;
 use crate::map_spec::MapSpec;
+use crate::saved::Saved;
 use circular_buffer::HeapCircularBuffer;
 use model::{BusFault, Change};
 use std::alloc::{AllocError, Global};
@@ -87,6 +90,7 @@ impl Bus {
     pub fn peek(&self, address: u16) -> u8
         ensures value { result ≡ slice_index self.now.memory address }
         ensures within { address < length self.now.memory }
+        ensures size { length self.now.memory ≡ 65536 }
     {
         let place = address as usize;
         self.memory[place]
@@ -191,6 +195,13 @@ impl Bus {
         65536 - self.given.len() as u32
     }
 
+    /// Whether the port has this address.
+    pub fn is_port(&self, address: u16) -> bool
+        ensures { result ≡ is_port self.now.map address }
+    {
+        self.map.is_port(address)
+    }
+
     /// How many bytes of input were taken.
     pub fn taken(&self) -> u32
         ensures { result ≡ self.now.taken }
@@ -272,6 +283,59 @@ impl Bus {
         }
     }
 
+    /// Whether a change can be put back here.
+    #[tactic(auto, unfolding(model::specs::Undo::spares_port))]
+    pub fn can_restore(&self, change: &Change) -> bool
+        ensures { (result ≡ true) ↔ CanRestore change.now self.now }
+    {
+        if change.count > 3 || change.taken > change.given_len {
+            return false;
+        }
+        if change.given_len as usize > self.given.len()
+            || change.out_len as usize > self.out.len()
+        {
+            return false;
+        }
+        spares_port(&self.map, &change.cells[..change.count as usize])
+    }
+
+    /// Puts back what a change holds: its bytes in their order, in ROM too, the number taken, and both lists of the console cut
+    /// to their old lengths.
+    #[tactic(auto, unfolding(model::specs::Undo::restored))]
+    pub fn restore(&mut self, change: Change)
+        requires { CanRestore change self.old }
+        ensures { self.new ≡ restored change self.old }
+    {
+        put_cells(&mut self.memory, &change.cells[..change.count as usize]);
+        self.given.truncate_back(change.given_len as usize);
+        self.out.truncate_back(change.out_len as usize);
+        self.taken = change.taken;
+    }
+
+    /// Notes what leads back to this bus. It takes no memory.
+    #[tactic(auto, unfolding(model::specs::Checkpoint::saved))]
+    pub fn save(&self, into: &mut Saved)
+        ensures { into.new ≡ saved self.now }
+    {
+        into.memory.copy_from_slice(&self.memory);
+        into.map = Some(self.map);
+        into.taken = self.taken;
+        into.given_len = self.given.len() as u32;
+        into.out_len = self.out.len() as u32;
+    }
+
+    /// Puts back what was saved, and cuts both lists of the console to their old lengths. It takes no memory.
+    #[tactic(auto, unfolding(model::specs::Checkpoint::put_back))]
+    pub fn restore_saved(&mut self, old: &Saved)
+        requires { CanPutBack old.now self.old }
+        ensures { self.new ≡ put_back old.now self.old }
+    {
+        self.memory.copy_from_slice(&old.memory);
+        self.given.truncate_back(old.given_len as usize);
+        self.out.truncate_back(old.out_len as usize);
+        self.taken = old.taken;
+    }
+
     /// A store into the stack's page, where neither port nor ROM stands. The change notes the byte that was there.
     pub fn push(&mut self, change: &mut Change, s: u8, value: u8)
         requires count { change.old.count < 3 }
@@ -343,6 +407,28 @@ impl Bus {
         ensures port { is_port self.old.map address ≡ false }
     {
         self.memory[address as usize] = value;
+    }
+}
+
+/// Whether none of some cells stands at the port.
+fn spares_port(map: &MapSpec, cells: &[(u16, u8)]) -> bool
+    ensures { result ≡ list_all (λ cell. not (is_port map.now cell.0)) cells.now }
+{
+    for (address, _) in cells {
+        if map.is_port(*address) {
+            return false;
+        }
+    }
+    true
+}
+
+/// Bytes put into a memory, in their order.
+fn put_cells(memory: &mut Vec<u8>, cells: &[(u16, u8)])
+    requires { length memory.old.items ≡ 65536 }
+    ensures { memory.new.items ≡ put_cells cells.now memory.old.items }
+{
+    for (address, byte) in cells {
+        memory[*address as usize] = *byte;
     }
 }
 

@@ -4,12 +4,17 @@ use Rattle.std.specs.Prelude.{nat_lt, slice_set}
 use Rattle.std.specs.Str.{bytes_eq}
 use Rattle.std.proofs.lemmas.Slice.Eq.{bytes_eq-Decides}
 use Rattle.std.proofs.lemmas.Bool.{le-leb, lt-leb}
-use Rattle.model.specs.Commands.{byte_of, byte_before, bytes_of, input_command, no_input, command_of, command_of_words, pair_command, triple_command, long_command, words_of}
+use Rattle.model.specs.declared.command.Command.{Command}
+use Rattle.model.specs.Commands.{address_of, asm_command, is_asm, rest_of, second_word, text_of, unspaced, byte_of, byte_before, bytes_of, input_command, no_input, command_of, command_of_words, pair_command, triple_command, long_command, words_of}
 use Rattle.model.specs.declared.command.Command.TheVariants.{Bad, Input}
 use Rattle.commands.specs.Words.{IsNextWord}
 use Rattle.commands.proofs.Patches.{next}
 
 -- ---- lines that begin with `in`
+
+-- what a line that begins with `asm` asks for
+abbrev assembled : List ℕ → List (List ℕ) → Command
+assembled line words = asm_command (address_of (second_word words)) (text_of line)
 
 same : (w : List ℕ) → bytes_eq w (codes "in") ≡ true → w ≡ codes "in"
 same w e = (bytes_eq-Decides w (codes "in")).0 e
@@ -20,16 +25,41 @@ input_words a [] = refl
 input_words a (b ∷ []) = refl
 input_words a (b ∷ c ∷ ws) = refl
 
-short_line : (line : List ℕ) → nat_lt 255 (length line) ≡ false → command_of line ≡ command_of_words (words_of line)
+-- a line that is short and no `asm` is what its words are
+other_line : (line first behind : List ℕ) → nat_lt 255 (length line) ≡ false → IsNextWord line first behind → bytes_eq first (codes "asm") ≡ false → command_of line ≡ command_of_words (words_of line)
 unfolding command_of
-short_line line e = ap (λ t. if t then Bad else command_of_words (words_of line)) e
+other_line line [] behind short p no_asm = ap (λ t. if t then Bad else if is_asm (words_of line) then assembled line (words_of line) else command_of_words (words_of line)) short
+    ∙ ap (λ ws. if is_asm ws then assembled line ws else command_of_words ws) p.0 ∙ ap command_of_words (sym p.0)
+other_line line (b ∷ w) behind short p no_asm = ap (λ t. if t then Bad else if is_asm (words_of line) then assembled line (words_of line) else command_of_words (words_of line)) short
+    ∙ ap (λ t. if t then assembled line (words_of line) else command_of_words (words_of line)) (ap is_asm p ∙ no_asm)
 
 pub in_line : (line first behind second rest : List ℕ) → nat_lt 255 (length line) ≡ false → IsNextWord line first behind → (length first ≡ 0 → ⊥) → IsNextWord behind second rest → (length second ≡ 0 → ⊥)
-    → bytes_eq first (codes "in") ≡ true → input_command (bytes_of (words_of behind)) ≡ command_of line
-in_line line first behind second rest short p some q more is_in =
+    → bytes_eq first (codes "asm") ≡ false → bytes_eq first (codes "in") ≡ true → input_command (bytes_of (words_of behind)) ≡ command_of line
+in_line line first behind second rest short p some q more no_asm is_in =
     let words = next line first behind p some in
     let words_behind = next behind second rest q more in
-    ap (λ ws. input_command (bytes_of ws)) words_behind ∙ sym (short_line line short ∙ ap command_of_words (words ∙ ap (λ w. w ∷ words_of behind) (same first is_in) ∙ ap (λ ws. codes "in" ∷ ws) words_behind) ∙ input_words second (words_of rest))
+    ap (λ ws. input_command (bytes_of ws)) words_behind ∙ sym (other_line line first behind short p no_asm ∙ ap command_of_words (words ∙ ap (λ w. w ∷ words_of behind) (same first is_in) ∙ ap (λ ws. codes "in" ∷ ws) words_behind) ∙ input_words second (words_of rest))
+
+-- ---- lines that begin with `asm`
+
+second_of : (behind second rest : List ℕ) → (first : List ℕ) → IsNextWord behind second rest → second_word (first ∷ words_of behind) ≡ second
+second_of behind [] rest first q = ap (λ ws. second_word (first ∷ ws)) q.0
+second_of behind (b ∷ w) rest first q = ap (λ ws. second_word (first ∷ ws)) q
+
+is_first : (line first behind : List ℕ) → IsNextWord line first behind → bytes_eq first (codes "asm") ≡ true → words_of line ≡ first ∷ words_of behind
+is_first line [] behind p e = cc
+is_first line (b ∷ w) behind p e = p
+
+pub asm_line : (line first behind second rest text : List ℕ) → nat_lt 255 (length line) ≡ false → IsNextWord line first behind → IsNextWord behind second rest → behind ≡ rest_of line → rest ≡ rest_of behind
+    → text ≡ unspaced rest → bytes_eq first (codes "asm") ≡ true → asm_command (address_of second) text ≡ command_of line
+unfolding command_of
+asm_line line first behind second rest text short p q e f t yes_asm =
+    let words = is_first line first behind p yes_asm in
+    let is_text : text ≡ text_of line = t ∙ ap unspaced (f ∙ ap rest_of e) in
+    let is_second : second ≡ second_word (words_of line) = sym (ap second_word words ∙ second_of behind second rest first q) in
+    ap (λ x. asm_command (address_of second) x) is_text ∙ ap (λ x. asm_command (address_of x) (text_of line)) is_second
+    ∙ sym (ap (λ b. if b then Bad else if is_asm (words_of line) then assembled line (words_of line) else command_of_words (words_of line)) short
+    ∙ ap (λ b. if b then assembled line (words_of line) else command_of_words (words_of line)) (ap is_asm words ∙ yes_asm))
 
 -- ---- bytes with zeros behind them
 

@@ -1,4 +1,5 @@
-pub mod Digits
+pub mod Decimal
 pub mod Inputs
 pub mod Patches
 pub mod Spaces
+pub mod Texts

@@ -1,15 +1,61 @@
 -- The words of a line, from its front.
-use Rattle.std.proofs.Common.{◌≡◌, ◌≢◌, ℕ, ◌+◌, ◌-◌, ◌<◌, ◌≤◌, Bool, true, false, eqb, List, [], ◌∷◌, ◌++◌, refl, sym, ap, ◌∙◌, take, drop, length, get_or, arith, drop-cons, add-one, true≢false, take-append-drop, inl, inr, ◌&&◌, length-drop, length-take, drop-drop, ◌⊎◌}
+use Rattle.std.proofs.Common.{subst, ◌≡◌, ◌≢◌, ℕ, ◌+◌, ◌-◌, ◌<◌, ◌≤◌, Bool, true, false, eqb, List, [], ◌∷◌, ◌++◌, refl, sym, ap, ◌∙◌, take, drop, length, get_or, arith, drop-cons, add-one, true≢false, take-append-drop, inl, inr, ◌&&◌, length-drop, length-take, drop-drop, ◌⊎◌}
 use Rattle.std.proofs.lemmas.List.{take_all, drop_all, take_more, get_or-drop}
 use Rattle.std.proofs.lemmas.List.Folds.{list_all-append}
 use Rattle.std.proofs.lemmas.Bool.Decides.{eqb_tells}
 use Rattle.std.specs.List.{list_all}
-use Rattle.model.specs.Commands.{words_of, attached, goes_on}
+use Rattle.model.specs.Commands.{words_of, attached, goes_on, unspaced, behind_word, rest_of}
 use Rattle.commands.specs.Words.{no_space, IsNextWord}
 
--- a space before the words changes nothing
-pub skip_space : (line : List ℕ) (i : ℕ) → i < length line → get_or line i 0 ≡ 32 → words_of (drop (i + 1) line) ≡ words_of (drop i line)
+-- ---- spaces in front
+
+-- a space in front is left out
+pub skip_space : (line : List ℕ) (i : ℕ) → i < length line → get_or line i 0 ≡ 32 → unspaced (drop (i + 1) line) ≡ unspaced (drop i line)
 skip_space line i h e = rw (drop-cons line i 0, e, add-one) refl
+
+unspaced_byte : (b : ℕ) (bs : List ℕ) → b ≢ 32 → unspaced (b ∷ bs) ≡ b ∷ bs
+unspaced_byte b bs ne = elim (eqb_tells b 32) [
+  | inl e ↦ absurd (ne e.1)
+  | inr e ↦ rw e.0 refl
+]
+
+-- what begins with another byte, or is empty, stays
+pub front_stays : (line : List ℕ) (i : ℕ) → ((i < length line) × (get_or line i 0 ≢ 32)) ⊎ (length line ≤ i) → unspaced (drop i line) ≡ drop i line
+front_stays line i (inl h) = let within : i < length line = h.0 in rw (drop-cons line i 0) (unspaced_byte _ _ h.1)
+front_stays line i (inr h) = rw (drop_all i line h) refl
+
+-- the words are the same
+words_unspaced : (line : List ℕ) → words_of (unspaced line) ≡ words_of line
+words_unspaced [] = refl
+words_unspaced (b ∷ bs) = elim (eqb_tells b 32) [
+  | inl e ↦ rw e.0 (words_unspaced bs)
+  | inr e ↦ rw (e.0, e.0) refl
+]
+
+-- and no space is in front of them
+front_starts : (line : List ℕ) → (length (unspaced line) ≡ 0) ⊎ (get_or (unspaced line) 0 0 ≢ 32)
+front_starts [] = inl refl
+front_starts (b ∷ bs) = elim (eqb_tells b 32) [
+  | inl e ↦ rw e.0 (front_starts bs)
+  | inr e ↦ rw e.0 (inr e.1)
+]
+
+-- ---- what stands behind a word
+
+behind_byte : (b : ℕ) (bs : List ℕ) → b ≢ 32 → behind_word (b ∷ bs) ≡ behind_word bs
+behind_byte b bs ne = elim (eqb_tells b 32) [
+  | inl e ↦ absurd (ne e.1)
+  | inr e ↦ rw e.0 refl
+]
+
+pub behind_more : (line : List ℕ) (i : ℕ) → i < length line → get_or line i 0 ≢ 32 → behind_word (drop (i + 1) line) ≡ behind_word (drop i line)
+behind_more line i h ne = rw (drop-cons line i 0, add-one) (sym (behind_byte _ _ ne))
+
+pub behind_ends : (line : List ℕ) (i : ℕ) → ((i < length line) × (get_or line i 0 ≡ 32)) ⊎ (length line ≤ i) → behind_word (drop i line) ≡ drop i line
+behind_ends line i (inl h) = let within : i < length line = h.0 in rw (drop-cons line i 0, h.1) refl
+behind_ends line i (inr h) = rw (drop_all i line h) refl
+
+-- ---- words
 
 other : (b : ℕ) → b ≢ 32 → no_space b ≡ true
 other b ne = elim (eqb_tells b 32) [
@@ -17,12 +63,10 @@ other b ne = elim (eqb_tells b 32) [
   | inr e ↦ rw e.0 refl
 ]
 
-pub all_more : (line : List ℕ) (i n : ℕ) → i + n < length line → get_or line (i + n) 0 ≢ 32 → list_all no_space (take n (drop i line)) ≡ true → list_all no_space (take (n + 1) (drop i line)) ≡ true
-all_more line i n h ne all =
-    let within : n < length (drop i line) = omega (arith, length-drop i line) in
-    let at : get_or (drop i line) n 0 ≡ get_or line (i + n) 0 = get_or-drop i line n 0 in
-    let test : no_space (get_or (drop i line) n 0) ≡ true = rw at (other _ ne) in
-    rw (take_more (drop i line) n 0 within, list_all-append) (rw (all, test) refl)
+pub all_more : (line : List ℕ) (n : ℕ) → n < length line → get_or line n 0 ≢ 32 → list_all no_space (take n line) ≡ true → list_all no_space (take (n + 1) line) ≡ true
+all_more line n h ne all =
+    let test : no_space (get_or line n 0) ≡ true = other _ ne in
+    rw (take_more line n 0 h, list_all-append) (rw (all, test) refl)
 
 both : (x y : Bool) → (x && y) ≡ true → (x ≡ true) × (y ≡ true)
 both true y h = (refl, h)
@@ -62,26 +106,29 @@ goes_end line e h = rw (drop_all e line h) refl
 words_end : (line : List ℕ) (e : ℕ) → length line ≤ e → words_of (drop e line) ≡ []
 words_end line e h = rw (drop_all e line h) refl
 
--- what the two loops end with: a space or the line's end behind the word, and no space before it
-pub ends_by : (line : List ℕ) (i e : ℕ) → ((e < length line) × (get_or line e 0 ≡ 32)) ⊎ (length line ≤ e) → goes_on (drop e line) ≡ false
-ends_by line i e (inl h) = goes_space line e h.0 h.1
-ends_by line i e (inr h) = goes_end line e h
+-- what the loop ends with: a space or the line's end behind the word
+ends_by : (line : List ℕ) (e : ℕ) → ((e < length line) × (get_or line e 0 ≡ 32)) ⊎ (length line ≤ e) → goes_on (drop e line) ≡ false
+ends_by line e (inl h) = goes_space line e h.0 h.1
+ends_by line e (inr h) = goes_end line e h
 
-pub none_by : (line : List ℕ) (i e : ℕ) → ((i < length line) × (get_or line i 0 ≢ 32)) ⊎ (length line ≤ i) → ((e < length line) × (get_or line e 0 ≡ 32)) ⊎ (length line ≤ e) → e ≡ i → words_of (drop e line) ≡ []
-none_by line i e (inr h) k same = words_end line e (omega arith)
-none_by line i e (inl h) (inr k) same = words_end line e k
-none_by line i e (inl h) (inl k) same = absurd (h.1 (ap (λ n. get_or line n 0) (sym same) ∙ k.1))
+-- where there is no word, there is nothing
+none_by : (line : List ℕ) (e : ℕ) → (length line ≡ 0) ⊎ (get_or line 0 0 ≢ 32) → ((e < length line) × (get_or line e 0 ≡ 32)) ⊎ (length line ≤ e) → e ≡ 0 → words_of (drop e line) ≡ []
+none_by line e starts (inr h) same = words_end line e h
+none_by line e (inl none) (inl h) same = absurd (omega (arith, h.0))
+none_by line e (inr some) (inl h) same = absurd (some (ap (λ n. get_or line n 0) (sym same) ∙ h.1))
 
-of_rest : (a b w rest : List ℕ) → words_of a ≡ words_of b → IsNextWord a w rest → IsNextWord b w rest
-of_rest a b [] rest e h = (sym e ∙ h.0, h.1)
-of_rest a b (x ∷ w) rest e h = sym e ∙ h
+of_line : (a b w rest : List ℕ) → words_of a ≡ words_of b → IsNextWord a w rest → IsNextWord b w rest
+of_line a b [] rest e h = (sym e ∙ h.0, h.1)
+of_line a b (x ∷ w) rest e h = sym e ∙ h
 
-pub found_word : (line : List ℕ) (i e : ℕ) → i ≤ e → e ≤ length line → words_of (drop i line) ≡ words_of line → list_all no_space (take (e - i) (drop i line)) ≡ true
-    → goes_on (drop e line) ≡ false → (e ≡ i → words_of (drop e line) ≡ []) → IsNextWord line (take (e - i) (drop i line)) (take (length line - e) (drop e line))
-found_word line i e after within same all ends none =
-    let w = take (e - i) (drop i line) in
-    let back : take (length line - e) (drop e line) ≡ drop e line = take_all (length line - e) (drop e line) (omega (arith, length-drop e line)) in
-    let sum : i + (e - i) ≡ e = omega arith in
-    let cut : w ++ drop e line ≡ drop i line = ap (λ l. w ++ l) (ap (λ n. drop n line) (sym sum) ∙ sym (drop-drop (e - i) i line)) ∙ take-append-drop (e - i) (drop i line) in
-    let long : length w ≡ e - i = omega (arith, length-take (e - i) (drop i line), length-drop i line) in
-    rw back (of_rest (w ++ drop e line) line w (drop e line) (ap words_of cut ∙ same) (next_word w (drop e line) all ends (λ empty. none (let z : length w ≡ 0 = ap length empty in omega arith))))
+pub found_word : (line front : List ℕ) (e : ℕ) → front ≡ unspaced line → e ≤ length front → list_all no_space (take e front) ≡ true
+    → ((e < length front) × (get_or front e 0 ≡ 32)) ⊎ (length front ≤ e) → IsNextWord line (take e front) (drop e front)
+found_word line front e is within all last =
+    let long : length (take e front) ≡ e = omega (arith, length-take e front) in
+    let starts : (length front ≡ 0) ⊎ (get_or front 0 0 ≢ 32) = subst (λ f. (length f ≡ 0) ⊎ (get_or f 0 0 ≢ 32)) (sym is) (front_starts line) in
+    of_line front line (take e front) (drop e front) (ap words_of is ∙ words_unspaced line) (subst (λ l. IsNextWord l (take e front) (drop e front)) (take-append-drop e front)
+    (next_word (take e front) (drop e front) all (ends_by front e last) (λ empty. none_by front e starts last (let z : length (take e front) ≡ 0 = ap length empty in omega arith))))
+
+-- the whole rest
+pub rest_all : (line : List ℕ) (i : ℕ) → take (length line - i) (drop i line) ≡ drop i line
+rest_all line i = take_all (length line - i) (drop i line) (omega (arith, length-drop i line))

@@ -1,11 +1,11 @@
 //! What a command line asks for.
 
-ghost use Rattle.std.specs.Prelude.{◌≡◌, ◌∷◌, [], MatchOption, codes, false};
+ghost use Rattle.std.specs.Prelude.{◌≡◌, ◌≤◌, ◌∷◌, ◌++◌, [], MatchOption, codes, drop, false, length, replicate, take};
 ghost use Rattle.std.specs.Str.{bytes_eq};
-ghost use Rattle.model.specs.Commands.{address_of, bytes_of, command_of, input_command, long_command, mem_command, pair_command, patch_command, plain_command, set_command, triple_command, words_of};
+ghost use Rattle.model.specs.Commands.{address_of, asm_command, bytes_of, command_of, decimal_of, dis_command, from_1_to, input_command, irq_command, long_command, mem_command, most_steps, number_command, pair_command, patch_command, plain_command, set_command, triple_command, unspaced, words_of};
 
-use crate::numbers::{address_of, byte_of};
-use crate::words::next_word;
+use crate::numbers::{address_of, byte_of, number_up_to};
+use crate::words::{next_word, unspaced};
 use model::{Command, Setting};
 
 /// What a line asks for, its end taken off (profile). A line of more than 255 bytes is bad as a
@@ -19,6 +19,9 @@ pub fn parse(line: &[u8]) -> Command
     }
     let (first, behind) = next_word(line);
     let (second, rest) = next_word(behind);
+    if is_text(first, b"asm") {
+        return asm_command(address_of(second), unspaced(rest));
+    }
     let (third, rest) = next_word(rest);
     let (fourth, rest) = next_word(rest);
     if first.is_empty() {
@@ -57,6 +60,8 @@ fn plain_command(word: &[u8]) -> Command
         Command::Nmi
     } else if is_text(word, b"out") {
         Command::Out
+    } else if is_text(word, b"breaks") {
+        Command::Breaks
     } else if is_text(word, b"quit") {
         Command::Quit
     } else {
@@ -64,21 +69,101 @@ fn plain_command(word: &[u8]) -> Command
     }
 }
 
-/// A command of two words, but for `in`: the IRQ line's level.
+/// A command of two words, but for `in`: the IRQ line's level, a number or an address.
 #[tactic(auto, unfolding(model::specs::Commands::pair_command))]
-fn pair_command(word: &[u8], level: &[u8]) -> Command
+fn pair_command(word: &[u8], value: &[u8]) -> Command
     requires { bytes_eq word.now (codes "in") ≡ false }
-    ensures { result ≡ pair_command word.now level.now }
+    ensures { result ≡ pair_command word.now value.now }
 {
-    if !is_text(word, b"irq") {
-        return Command::Bad;
+    if is_text(word, b"irq") {
+        irq_command(value)
+    } else if is_text(word, b"run") {
+        run_command(number_up_to(1_000_000, value))
+    } else if is_text(word, b"back") {
+        back_command(number_up_to(1_000_000, value))
+    } else if is_text(word, b"break") {
+        break_command(address_of(value))
+    } else if is_text(word, b"unbreak") {
+        unbreak_command(address_of(value))
+    } else if is_text(word, b"watch") {
+        watch_command(address_of(value))
+    } else if is_text(word, b"unwatch") {
+        unwatch_command(address_of(value))
+    } else {
+        Command::Bad
     }
+}
+
+/// The IRQ line's level.
+fn irq_command(level: &[u8]) -> Command
+    ensures { result ≡ irq_command level.now }
+{
     if is_text(level, b"0") {
         Command::Irq(false)
     } else if is_text(level, b"1") {
         Command::Irq(true)
     } else {
         Command::Bad
+    }
+}
+
+/// A run of so many steps.
+fn run_command(value: Option<u32>) -> Command
+    ensures { result ≡ number_command Command.Run value }
+{
+    match value {
+        Some(value) => Command::Run(value),
+        None => Command::Bad,
+    }
+}
+
+/// So many events gone back over.
+fn back_command(value: Option<u32>) -> Command
+    ensures { result ≡ number_command Command.Back value }
+{
+    match value {
+        Some(value) => Command::Back(value),
+        None => Command::Bad,
+    }
+}
+
+/// A breakpoint set.
+fn break_command(value: Option<u16>) -> Command
+    ensures { result ≡ number_command Command.Break value }
+{
+    match value {
+        Some(value) => Command::Break(value),
+        None => Command::Bad,
+    }
+}
+
+/// A breakpoint cleared.
+fn unbreak_command(value: Option<u16>) -> Command
+    ensures { result ≡ number_command Command.Unbreak value }
+{
+    match value {
+        Some(value) => Command::Unbreak(value),
+        None => Command::Bad,
+    }
+}
+
+/// A watch set.
+fn watch_command(value: Option<u16>) -> Command
+    ensures { result ≡ number_command Command.Watch value }
+{
+    match value {
+        Some(value) => Command::Watch(value),
+        None => Command::Bad,
+    }
+}
+
+/// A watch cleared.
+fn unwatch_command(value: Option<u16>) -> Command
+    ensures { result ≡ number_command Command.Unwatch value }
+{
+    match value {
+        Some(value) => Command::Unwatch(value),
+        None => Command::Bad,
     }
 }
 
@@ -119,6 +204,8 @@ fn triple_command(word: &[u8], second: &[u8], third: &[u8]) -> Command
         set_command(second, third)
     } else if is_text(word, b"patch") {
         patch_of_one(second, third)
+    } else if is_text(word, b"dis") {
+        dis_command(address_of(second), number_up_to(256, third))
     } else {
         Command::Bad
     }
@@ -152,6 +239,49 @@ fn mem_command(first: Option<u16>, last: Option<u16>) -> Command
         (Some(first), Some(last)) if first <= last => Command::Mem { first, last },
         _ => Command::Bad,
     }
+}
+
+/// At most so many instructions as text, from an address on.
+fn dis_command(address: Option<u16>, count: Option<u32>) -> Command
+    ensures { result ≡ dis_command address count }
+{
+    match (address, count) {
+        (Some(address), Some(count)) => Command::Dis { address, count },
+        _ => Command::Bad,
+    }
+}
+
+/// A text to be assembled at an address. It must not be empty.
+fn asm_command(address: Option<u16>, text: &[u8]) -> Command
+    requires { length text.now ≤ 255 }
+    ensures { result ≡ asm_command address text.now }
+{
+    match address {
+        Some(address) if !text.is_empty() => Command::Asm {
+            address,
+            text: padded(text),
+            count: text.len() as u8,
+        },
+        _ => Command::Bad,
+    }
+}
+
+/// A text with zeros behind it.
+fn padded(text: &[u8]) -> [u8; 255]
+    requires { length text.now ≤ 255 }
+    ensures { result ≡ take 255 (text.now ++ replicate 255 0) }
+{
+    let mut bytes = [0u8; 255];
+    put_front(&mut bytes, text);
+    bytes
+}
+
+/// Puts a text in the place of the first of some bytes.
+fn put_front(bytes: &mut [u8], text: &[u8])
+    requires { length text.now ≤ length bytes.old }
+    ensures { bytes.new ≡ text.now ++ drop (length text.now) bytes.old }
+{
+    bytes[..text.len()].copy_from_slice(text);
 }
 
 /// A register and its new value.

@@ -1,7 +1,7 @@
 //! The numbers of a command line.
 
-ghost use Rattle.std.specs.Prelude.{◌≡◌, ◌≤◌};
-ghost use Rattle.model.specs.Commands.{address_of, byte_of, hex_value};
+ghost use Rattle.std.specs.Prelude.{◌≡◌, ◌≤◌, length};
+ghost use Rattle.model.specs.Commands.{address_of, byte_of, decimal_from, decimal_of, digit_of, from_1_to, hex_value};
 
 /// The value of a hex digit in either letter case, and 16 for any other byte.
 fn hex_value(digit: u8) -> u8
@@ -42,4 +42,52 @@ pub fn byte_of(word: &[u8]) -> Option<u8>
         return None;
     }
     Some(a * 16 + b)
+}
+
+/// The value of a decimal digit, and 10 for any other byte.
+fn digit_value(byte: u8) -> u8
+    ensures value { result ≡ digit_of byte }
+    ensures within { result ≤ 10 }
+{
+    match byte {
+        b'0'..=b'9' => byte - b'0',
+        _ => 10,
+    }
+}
+
+/// The number that at most seven digits write, or `None` where a byte is no digit (profile).
+pub fn digits(word: &[u8]) -> Option<u32>
+    requires { length word.now ≤ 7 }
+    ensures { result ≡ decimal_from 0 word.now }
+{
+    let mut value = 0u32;
+    for byte in word {
+        let digit = digit_value(*byte);
+        if digit == 10 {
+            return None;
+        }
+        value = value * 10 + digit as u32;
+    }
+    Some(value)
+}
+
+/// The number that one to seven decimal digits write.
+#[tactic(auto, unfolding(model::specs::Commands::decimal_of))]
+fn decimal_of(word: &[u8]) -> Option<u32>
+    ensures { result ≡ decimal_of word.now }
+{
+    if word.is_empty() || word.len() > 7 {
+        return None;
+    }
+    digits(word)
+}
+
+/// The number that one to seven decimal digits write, if it is at least 1 and no more than `highest`.
+pub fn number_up_to(highest: u32, word: &[u8]) -> Option<u32>
+    ensures { result ≡ from_1_to highest (decimal_of word.now) }
+{
+    match decimal_of(word) {
+        Some(number) if 1 <= number && number <= highest => Some(number),
+        _ => None,
+    }
 }

@@ -5,21 +5,12 @@ ghost use Rattle.model.specs.Text.{hex_byte, hex_word};
 ghost use Rattle.model.specs.Effect.{status};
 
 use arrayvec::ArrayVec;
+use hexdigits::{digits_of, digits_of_word};
 use model::Flags;
 
 /// A text of at most 65 bytes, as one line of a reply: the register line has at most 58 bytes, a
 /// row of memory at most 54, a row of output at most 65.
 pub type Text = ArrayVec<u8, 65>;
-
-/// The two upper case hex digits of a byte.
-fn hex_digits(byte: u8) -> [u8; 2]
-    ensures { result ≡ hex_byte byte }
-{
-    let mut digits = [0u8; 2];
-    let _ = hex::encode_to_slice([byte], &mut digits);
-    digits.make_ascii_uppercase();
-    digits
-}
 
 /// Appends bytes.
 pub fn push_bytes(text: &mut Text, bytes: &[u8])
@@ -34,7 +25,7 @@ pub fn push_hex_byte(text: &mut Text, byte: u8)
     requires { length text.old.items + 2 ≤ 65 }
     ensures { text.new.items ≡ text.old.items ++ hex_byte byte }
 {
-    push_bytes(text, &hex_digits(byte));
+    push_bytes(text, &digits_of(byte));
 }
 
 /// Appends an address as four upper case hex digits.
@@ -42,9 +33,7 @@ pub fn push_hex_word(text: &mut Text, word: u16)
     requires { length text.old.items + 4 ≤ 65 }
     ensures { text.new.items ≡ text.old.items ++ hex_word word }
 {
-    let [high, low] = word.to_be_bytes();
-    push_hex_byte(text, high);
-    push_hex_byte(text, low);
+    push_bytes(text, &digits_of_word(word));
 }
 
 /// Appends a number in decimal, without leading zeros.

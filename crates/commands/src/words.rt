@@ -1,19 +1,30 @@
 //! The words of a line.
 
+ghost use Rattle.std.specs.Prelude.{◌≡◌};
+ghost use Rattle.model.specs.Commands.{rest_of, unspaced};
 ghost use Rattle.commands.specs.Words.{IsNextWord};
 
-/// The first word of a line and what stands behind it. The word is empty where the line has none.
-/// Only spaces separate words (profile).
-pub fn next_word(line: &[u8]) -> (&[u8], &[u8])
-    ensures { IsNextWord line.now result.0.now result.1.now }
+/// A line without the spaces in front of it.
+pub fn unspaced(line: &[u8]) -> &[u8]
+    ensures { result.now ≡ unspaced line.now }
 {
     let mut start = 0;
     while start < line.len() && line[start] == b' ' {
         start += 1;
     }
-    let mut end = start;
-    while end < line.len() && line[end] != b' ' {
+    &line[start..]
+}
+
+/// The first word of a line and what stands behind it. The word is empty where the line has none.
+/// Only spaces separate words (profile).
+pub fn next_word(line: &[u8]) -> (&[u8], &[u8])
+    ensures word { IsNextWord line.now result.0.now result.1.now }
+    ensures behind { result.1.now ≡ rest_of line.now }
+{
+    let front = unspaced(line);
+    let mut end = 0;
+    while end < front.len() && front[end] != b' ' {
         end += 1;
     }
-    (&line[start..end], &line[end..])
+    (&front[..end], &front[end..])
 }

@@ -1,7 +1,10 @@
 //! The debugger's session: a machine with the history of its whole states.
 #![tactic(auto)]
 
-pub use model::{Event, EventFault, Flags, Regs, SessionFault, Setting};
+pub use model::{Event, EventFault, Flags, Regs, RunEnd, SessionFault, Setting, Why};
 pub use session::Session;
 
+mod marks;
 mod session;
+mod stops;
+mod trail;

@@ -1,41 +1,63 @@
 //! A session.
 
-ghost use Rattle.std.specs.Prelude.{◌≡◌, ◌+◌, ◌<◌, ◌≤◌, ◌⊎◌, true, false, length, slice_get, slice_index, OnOk, IfOk, IfErr, IsErrOf, Ok, Err};
+ghost use Rattle.std.specs.Prelude.{◌≡◌, ◌≢◌, ◌+◌, ◌-◌, ◌<◌, ◌≤◌, ◌⊎◌, ◌++◌, ◌∷◌, [], true, false, length, take, slice_get, slice_index, OnOk, IfOk, IfErr, IsErrOf, Ok, Err};
 ghost use Rattle.model.specs.State.{has_port_byte, State};
 ghost use Rattle.model.specs.Event.{event_of, start};
 ghost use Rattle.model.specs.Undo.{Undoes};
 ghost use Rattle.model.specs.Session.{appended, fresh};
+ghost use Rattle.model.specs.Back.{back_of, gone_back};
+ghost use Rattle.model.specs.Run.{run_end, after_steps};
+ghost use Rattle.model.specs.Tables.{break_set, break_cleared, watch_set, watch_cleared};
+ghost use Rattle.debugger.specs.Replay.{IsHistory, held_states};
+ghost use Rattle.debugger.specs.Trail.{HasRoom, StepsTo};
 
-use bus::{BusFault, Image, MapSpec};
-use circular_buffer::HeapCircularBuffer;
+use crate::marks::Marks;
+use crate::stops::stop_after;
+use crate::trail::{Trail, begin, happen, note, rewind};
+use bus::{BusFault, Change, Image, MapSpec};
 use cpu::Machine;
-use model::{Event, EventFault, Regs, SessionFault, Undo};
+use model::{Event, EventFault, Regs, RunEnd, SessionFault, Why};
 use std::alloc::Global;
 use std::marker::Model;
 
-/// A machine and the records that lead back to its earlier states (profile).
+/// A change that notes nothing.
+const NO_CHANGE: Change = Change {
+    cells: [(0, 0); 3],
+    count: 0,
+    taken: 0,
+    given_len: 0,
+    out_len: 0,
+};
+
+/// A machine, and the events that lead to its earlier states from checkpoints before them (profile).
 #[derive(Drop)]
 pub struct Session {
     machine: Machine,
-    records: HeapCircularBuffer<Undo>,
+    trail: Trail,
+    replayed: u32,
+    breaks: Marks,
+    watches: Marks,
 }
 
 impl Model for Session {
-    ghost use Rattle.std.specs.Prelude.{◌≤◌, []};
+    ghost use Rattle.std.specs.Prelude.{◌<◌, ◌%◌, length};
     ghost use Rattle.model.specs.Session.{Session as Seen};
-    ghost use Rattle.debugger.specs.History.{earlier_of, AllFit};
+    ghost use Rattle.debugger.specs.Replay.{IsHistory, held_states};
+    ghost use Rattle.debugger.specs.Trail.{HasRoom};
 
     ghost Value = { Seen };
 
     ghost view = { λ s. record {
-      earlier = earlier_of s.records.items s.machine;
+      earlier = held_states s.trail.held s.trail.kept.items s.trail.events.items s.machine;
       current = s.machine;
-      history = s.records.capacity;
-      breaks = [];
-      watches = [];
+      history = s.trail.history;
+      breaks = s.breaks;
+      watches = s.watches;
+      number = length s.trail.events.items % 1024;
+      replayed = s.replayed;
     } };
 
-    ghost invariant = { λ s. (s.records.capacity ≤ 65536) × AllFit s.records.items s.machine };
+    ghost invariant = { λ s. HasRoom s.trail × IsHistory 1024 s.trail.kept.items s.trail.events.items s.machine × (s.replayed < 1024) };
 }
 
 impl Session {
@@ -59,10 +81,22 @@ impl Session {
             Err(BusFault::PortAddress) => return Err(SessionFault::PortAddress),
             Err(_) => return Err(SessionFault::OutOfMemory),
         };
-        match HeapCircularBuffer::with_capacity(alloc, history as usize) {
-            Ok(records) => Ok(Session { machine, records }),
-            Err(_) => Err(SessionFault::OutOfMemory),
-        }
+        let Ok(trail) = begin(alloc, &machine, history) else {
+            return Err(SessionFault::OutOfMemory);
+        };
+        let Ok(breaks) = Marks::new(alloc) else {
+            return Err(SessionFault::OutOfMemory);
+        };
+        let Ok(watches) = Marks::new(alloc) else {
+            return Err(SessionFault::OutOfMemory);
+        };
+        Ok(Session {
+            machine,
+            trail,
+            replayed: 0,
+            breaks,
+            watches,
+        })
     }
 
     /// One event. An accepted event is held until it is older than the last `history` events; a refused one changes nothing,
@@ -72,12 +106,138 @@ impl Session {
         ensures err { IfErr result (λ fault. (event_of self.old.current event ≡ Err fault) × (self.new ≡ self.old)) }
     {
         match happen(&mut self.machine, event) {
-            Ok(undo) => {
-                self.records.push_back(undo);
+            Ok(_) => {
+                note(&mut self.trail, &self.machine, event);
                 Ok(())
             }
             Err(fault) => Err(fault),
         }
+    }
+
+    /// Steps until the first of: one that changes a watched byte of memory, one that leads to a breakpoint, `count` of them, one that
+    /// is refused, which is not counted. Where several come after one step, the reason is the first of these. It takes no memory.
+    pub fn run(&mut self, count: u32) -> RunEnd
+        ensures end { result ≡ run_end count self.old }
+        ensures after { self.new ≡ after_steps result.did self.old }
+    {
+        let mut change = NO_CHANGE;
+        for did in 0..count {
+            match self.watched_step(&mut change) {
+                Ok(None) => {}
+                Ok(Some(why)) => return RunEnd { did: did + 1, why },
+                Err(fault) => {
+                    return RunEnd {
+                        did,
+                        why: Why::Refused(fault),
+                    };
+                }
+            }
+        }
+        RunEnd {
+            did: count,
+            why: Why::Limit,
+        }
+    }
+
+    /// One step of a run, and why the run ends with it, if it does.
+    #[inline(always)]
+    fn watched_step(&mut self, change: &mut Change) -> Result<Option<Why>, EventFault>
+        ensures { StepsTo self.old result self.new }
+    {
+        match self.machine.step_noting(change) {
+            Ok(()) => {
+                let why = stop_after(&self.machine, &self.watches, &self.breaks, change);
+                note(&mut self.trail, &self.machine, Event::Step);
+                Ok(why)
+            }
+            Err(fault) => Err(fault),
+        }
+    }
+
+    /// Goes back over the last `count` events. `NoHistory` where fewer are held; nothing is changed then. It takes no memory.
+    pub fn back(&mut self, count: u32) -> Result<(), SessionFault>
+        ensures ok { OnOk result (back_of count self.old ≡ Ok self.new) }
+        ensures err { IfErr result (λ fault. (back_of count self.old ≡ Err fault) × (self.new ≡ self.old)) }
+    {
+        let held = self.held();
+        if count > held {
+            return Err(SessionFault::NoHistory { held });
+        }
+        if count > 0 {
+            self.replayed = rewind(&mut self.trail, &mut self.machine, count);
+        }
+        Ok(())
+    }
+
+    /// How many events the last accepted going back over one event or more has replayed, which is the number of the state then
+    /// reached; 0 before the first.
+    pub fn replayed(&self) -> u32
+        ensures number { result ≡ self.now.replayed }
+        ensures within { result < 1024 }
+    {
+        self.replayed
+    }
+
+    /// How many events can be gone back over.
+    pub fn held(&self) -> u32
+        ensures held { result ≡ length self.now.earlier }
+        ensures within { result ≤ self.now.history }
+    {
+        self.trail.held
+    }
+
+    /// Sets a breakpoint. `AlreadySet`, then `TableFull` where 256 are set, then `OutOfMemory`; nothing is changed then.
+    #[tactic(auto, unfolding(model::specs::Tables::break_set))]
+    pub fn set_break(&mut self, address: u16) -> Result<(), SessionFault>
+        ensures ok { OnOk result (break_set address self.old ≡ Ok self.new) }
+        ensures err { IfErr result (λ fault. (self.new ≡ self.old) × (fault ≢ SessionFault.OutOfMemory → break_set address self.old ≡ Err fault)) }
+    {
+        self.breaks.set(address)
+    }
+
+    /// Clears a breakpoint. `NotSet` where it is not set; nothing is changed then.
+    #[tactic(auto, unfolding(model::specs::Tables::break_cleared))]
+    pub fn clear_break(&mut self, address: u16) -> Result<(), SessionFault>
+        ensures ok { OnOk result (break_cleared address self.old ≡ Ok self.new) }
+        ensures err { IfErr result (λ fault. (break_cleared address self.old ≡ Err fault) × (self.new ≡ self.old)) }
+    {
+        self.breaks.clear(address)
+    }
+
+    /// Sets a watch. `PortAddress` at a port address, then `AlreadySet`, then `TableFull` where 256 are set, then `OutOfMemory`;
+    /// nothing is changed then.
+    #[tactic(auto, unfolding(model::specs::Tables::watch_set))]
+    pub fn set_watch(&mut self, address: u16) -> Result<(), SessionFault>
+        ensures ok { OnOk result (watch_set address self.old ≡ Ok self.new) }
+        ensures err { IfErr result (λ fault. (self.new ≡ self.old) × (fault ≢ SessionFault.OutOfMemory → watch_set address self.old ≡ Err fault)) }
+    {
+        if self.machine.is_port(address) {
+            return Err(SessionFault::PortAddress);
+        }
+        self.watches.set(address)
+    }
+
+    /// Clears a watch. `NotSet` where it is not set; nothing is changed then.
+    #[tactic(auto, unfolding(model::specs::Tables::watch_cleared))]
+    pub fn clear_watch(&mut self, address: u16) -> Result<(), SessionFault>
+        ensures ok { OnOk result (watch_cleared address self.old ≡ Ok self.new) }
+        ensures err { IfErr result (λ fault. (watch_cleared address self.old ≡ Err fault) × (self.new ≡ self.old)) }
+    {
+        self.watches.clear(address)
+    }
+
+    /// How many breakpoints are set.
+    pub fn break_count(&self) -> u32
+        ensures { result ≡ length self.now.breaks }
+    {
+        self.breaks.len()
+    }
+
+    /// The breakpoint at an index in order of setting, counted from 0.
+    pub fn break_at(&self, index: u32) -> Option<u16>
+        ensures { result ≡ slice_get self.now.breaks index }
+    {
+        self.breaks.at(index)
     }
 
     /// The registers of the current state.
@@ -98,6 +258,7 @@ impl Session {
     pub fn peek(&self, address: u16) -> u8
         ensures value { result ≡ slice_index self.now.current.bus.memory address }
         ensures within { address < length self.now.current.bus.memory }
+        ensures size { length self.now.current.bus.memory ≡ 65536 }
     {
         self.machine.peek(address)
     }
@@ -121,28 +282,5 @@ impl Session {
         ensures { result + length self.now.current.bus.given ≡ 65536 }
     {
         self.machine.input_room()
-    }
-}
-
-/// What an event does to a machine, with the record that leads back.
-#[tactic(auto, unfolding(model::specs::Event::event_of))]
-fn happen(machine: &mut Machine, event: Event) -> Result<Undo, EventFault>
-    ensures ok { OnOk result (event_of machine.old event ≡ Ok machine.new) }
-    ensures err { IfErr result (λ fault. (event_of machine.old event ≡ Err fault) × (machine.new ≡ machine.old)) }
-    ensures undo { IfOk result (λ undo. Undoes undo machine.old machine.new) }
-{
-    match event {
-        Event::Step => machine.step(),
-        Event::Reset => machine.reset(),
-        Event::Irq(level) => machine.set_irq(level),
-        Event::Nmi => machine.nmi(),
-        Event::Set(setting) => machine.set_register(setting),
-        Event::Patch { count, .. } if count > 3 => Err(EventFault::BadLength),
-        Event::Patch {
-            address,
-            bytes,
-            count,
-        } => machine.patch(address, &bytes[..count as usize]),
-        Event::Input(byte) => machine.give_input(byte),
     }
 }

@@ -1,6 +1,7 @@
 pub mod Feeds
-pub mod Inputs
-pub mod Serving
-pub mod Writing
+pub mod Outcomes
 pub mod Refused
-pub mod Rows
+pub mod Serving
+pub mod Said
+pub mod TapeReads
+pub mod Assembling

@@ -64,7 +64,7 @@ pub tape_memory : {X : Type 0} (result : Result X EngineFault) (f : TapeFault) (
 tape_memory (Ok x) f cells h only = absurd h
 tape_memory (Err e) f cells h only = ap Err (h ∙ ap of_tape (only_memory f cells only))
 
-tape_either : (kind : TapeFaultKind) (f : TapeFault) → (of_tape_kind kind f ≡ Tape f) ⊎ (of_tape_kind kind f ≡ OutOfMemory)
+pub tape_either : (kind : TapeFaultKind) (f : TapeFault) → (of_tape_kind kind f ≡ Tape f) ⊎ (of_tape_kind kind f ≡ OutOfMemory)
 tape_either tape_fault.OutOfMemory f = inr refl
 tape_either _ f = inl refl
 
@@ -89,7 +89,7 @@ pub source_memory : {X : Type 0} (result : Result X EngineFault) (f : AsmFault) 
 source_memory (Ok x) f h memory = absurd h
 source_memory (Err e) f h memory = ap Err (h ∙ ap of_source memory)
 
-source_either : (kind : AsmFaultKind) (f : AsmFault) → (of_source_kind kind f ≡ Source f) ⊎ (of_source_kind kind f ≡ OutOfMemory)
+pub source_either : (kind : AsmFaultKind) (f : AsmFault) → (of_source_kind kind f ≡ Source f) ⊎ (of_source_kind kind f ≡ OutOfMemory)
 source_either source_fault.OutOfMemory f = inr refl
 source_either _ f = inl refl
 

@@ -1,4 +1,5 @@
 pub mod FaultNames
 pub mod Feeding
-pub mod Output
+pub mod Outcome
 pub mod Refusals
+pub mod TapeReads

@@ -9,7 +9,9 @@ use Rattle.model.specs.declared.tape.TapeFault.{TapeFault}
 use Rattle.model.specs.declared.tape.TapeFaultKind.{TapeFaultKind}
 use Rattle.model.specs.declared.tape.TapeFaultKind.TheVariants as tape_fault
 use Rattle.engine.specs.declared.fault.EngineFault.{EngineFault}
-use Rattle.engine.specs.declared.fault.EngineFault.TheVariants.{Source, Tape, Session, OutOfMemory}
+use Rattle.replies.specs.declared.fault.ReplyFault.{ReplyFault}
+use Rattle.replies.specs.declared.fault.ReplyFault.TheVariants as reply_fault
+use Rattle.engine.specs.declared.fault.EngineFault.TheVariants.{Source, Tape, Session, Write, OutOfMemory}
 
 abbrev pub of_source_kind : AsmFaultKind → AsmFault → EngineFault
 of_source_kind source_fault.OutOfMemory fault = OutOfMemory
@@ -29,6 +31,11 @@ of_tape fault = of_tape_kind fault.kind fault
 abbrev pub of_session : SessionFault → EngineFault
 of_session session_fault.OutOfMemory = OutOfMemory
 of_session fault = Session fault
+
+-- A reply that could not be written to its end ends the engine.
+abbrev pub of_reply : ReplyFault → EngineFault
+of_reply reply_fault.Write = Write
+of_reply reply_fault.OutOfMemory = OutOfMemory
 
 -- What holds where the source is refused.
 abbrev pub IfSource : {X : Type 0} → Result X EngineFault → (AsmFault → Type 0) → Type 0

@@ -4,12 +4,13 @@
 pub use fault::EngineFault;
 pub use source::debug_source;
 pub use tape::debug_tape;
+pub use tape_from::debug_tape_from;
 
+mod asm;
+mod command;
 mod fault;
 mod image;
 mod lines;
-mod output;
-mod replies;
 mod source;
 mod tape;
-mod texts;
+mod tape_from;

@@ -1,15 +1,13 @@
 //! The engine's call on a tape.
 
-ghost use Rattle.std.specs.Prelude.{◌≡◌, ◌≤◌, ◌⊎◌, true, false, ℕ, List, Option, OnOk, IfSome, IsErrOf, Err};
-ghost use Rattle.std.specs.Io.KnownBytes.{Appends, Consumes};
-ghost use Rattle.model.specs.Written.{AppendsFront};
+ghost use Rattle.std.specs.Prelude.{◌≡◌, ◌≤◌, ◌⊎◌, true, false, ℕ, List, Option, Err};
 ghost use Rattle.model.specs.Event.{start};
 ghost use Rattle.model.specs.Session.{fresh};
 ghost use Rattle.model.specs.State.{has_port_byte};
 ghost use Rattle.model.specs.Tape.{Denotes, FirstFault};
-ghost use Rattle.model.specs.Transcript.{transcript, transcript_so_far};
 ghost use Rattle.model.specs.declared.session_fault.SessionFault.TheVariants.{PortAddress};
 ghost use Rattle.model.specs.declared.tape.TapeFaultKind.{TapeFaultKind};
+ghost use Rattle.engine.specs.Outcome.{Reaches, Serves};
 ghost use Rattle.engine.specs.Refusals.{IfSession, IfSource, IfTape};
 
 use crate::fault::EngineFault;
@@ -31,8 +29,8 @@ use std::io::{Read, Write};
 /// - `Read`: a read failed. The lines whose end was told have been served.
 /// - `Write`: a write or a flush failed, or a write took no byte. A beginning of the replies was
 ///   written.
-/// - `OutOfMemory`: a request for memory was refused. Nothing was read or written: once the session
-///   stands, nothing takes memory.
+/// - `OutOfMemory`: a request for memory was refused. Before the session stood nothing was read or
+///   written, and then a beginning of the replies was written.
 pub fn debug_tape<R: Read, W: Write>(
     alloc: Global,
     map: MapSpec,
@@ -43,41 +41,29 @@ pub fn debug_tape<R: Read, W: Write>(
 ) -> Result<(), EngineFault>
     requires { history ≤ 65536 }
 
-    // For the image that the tape denotes the replies are the transcript of the input, where the reader's bytes are known.
-    ensures ok { (image : List (Option ℕ)) → Denotes tape.now image → OnOk result (IfSome (R.remaining reader.old) (λ input.
-        Appends (W.contents writer.old) (W.contents writer.new) (transcript (fresh history (start map image)) input).written)) }
+    // The session that starts with the image that the tape denotes is served.
+    ensures serves { (image : List (Option ℕ)) → Denotes tape.now image
+        → Serves (fresh history (start map image)) (R.remaining reader.old) (R.remaining reader.new) (W.contents writer.old) (W.contents writer.new) result }
 
-    // What was told so far was consumed, and the replies are those to the lines whose end was told.
-    ensures read { (image : List (Option ℕ)) → Denotes tape.now image → IsErrOf result EngineFault.Read → ((told : List ℕ)
-        × Consumes (R.remaining reader.old) (R.remaining reader.new) told
-        × Appends (W.contents writer.old) (W.contents writer.new) (transcript_so_far (fresh history (start map image)) told).written) }
-
-    // A beginning of the transcript was written.
-    ensures write { (image : List (Option ℕ)) → Denotes tape.now image → IsErrOf result EngineFault.Write → IfSome (R.remaining reader.old) (λ input.
-        AppendsFront (W.contents writer.old) (W.contents writer.new) (transcript (fresh history (start map image)) input).written) }
-
-    // Where lines were served, the tape denotes an image.
-    ensures denoted { OnOk result ((image : List (Option ℕ)) × Denotes tape.now image) }
-    ensures denoted_read { IsErrOf result EngineFault.Read → ((image : List (Option ℕ)) × Denotes tape.now image) }
-    ensures denoted_write { IsErrOf result EngineFault.Write → ((image : List (Option ℕ)) × Denotes tape.now image) }
+    // Where a session stood, the tape denotes an image, and where none did, neither reader nor writer was asked.
+    ensures reaches { Reaches result ((image : List (Option ℕ)) × Denotes tape.now image) ((reader.new ≡ reader.old) × (writer.new ≡ writer.old)) }
 
     // A tape with a fault is refused with it, and one that denotes an image is not, memory aside.
     ensures faulty { (kind : TapeFaultKind) (offset : ℕ) → FirstFault tape.now kind offset
         → (result ≡ Err (EngineFault.Tape (record { offset = offset; kind = kind }))) ⊎ (result ≡ Err EngineFault.OutOfMemory) }
     ensures right { (image : List (Option ℕ)) → Denotes tape.now image → IfTape result (λ _. ⊥) }
 
-    // A refused tape is answered with its first fault, and neither reader nor writer was asked.
-    ensures refused { IfTape result (λ fault. FirstFault tape.now fault.kind fault.offset × (reader.new ≡ reader.old) × (writer.new ≡ writer.old)) }
+    // A refused tape is answered with its first fault.
+    ensures refused { IfTape result (λ fault. FirstFault tape.now fault.kind fault.offset) }
 
-    // A tape with a byte at a port address is refused, and one without is not, memory aside; then neither reader nor writer was asked.
+    // A tape with a byte at a port address is refused, and one without is not, memory aside.
     ensures port { (image : List (Option ℕ)) → Denotes tape.now image → has_port_byte map image ≡ true
         → (result ≡ Err (EngineFault.Session PortAddress)) ⊎ (result ≡ Err EngineFault.OutOfMemory) }
     ensures spared { (image : List (Option ℕ)) → Denotes tape.now image → has_port_byte map image ≡ false → IfSession result (λ _. ⊥) }
-    ensures session { IfSession result (λ fault. (fault ≡ PortAddress) × (reader.new ≡ reader.old) × (writer.new ≡ writer.old)
+    ensures session { IfSession result (λ fault. (fault ≡ PortAddress)
         × ((image : List (Option ℕ)) × Denotes tape.now image × (has_port_byte map image ≡ true))) }
 
     ensures source { IfSource result (λ _. ⊥) }
-    ensures memory { IsErrOf result EngineFault.OutOfMemory → ((reader.new ≡ reader.old) × (writer.new ≡ writer.old)) }
 {
     let image = read_tape(alloc, tape)?;
     debug_image(alloc, map, history, &image, reader, writer)

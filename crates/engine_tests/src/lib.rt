@@ -2,4 +2,8 @@
 #![tactic(auto)]
 
 #[cfg(test)]
+mod sessions;
+#[cfg(test)]
+mod tape_pieces;
+#[cfg(test)]
 mod tests;

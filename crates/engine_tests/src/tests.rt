@@ -1,6 +1,8 @@
 //! Replies as the profile's worked examples and an independent program give them, and readers and
 //! writers that tell or take little, or fail.
 
+ghost use Rattle.std.specs.Prelude.{◌≤◌};
+
 use bus::MapSpec;
 use engine::{EngineFault, debug_source, debug_tape};
 use model::{AsmFault, AsmFaultKind, SessionFault, TapeFault, TapeFaultKind};
@@ -115,6 +117,19 @@ fn replied(alloc: Global, commands: &[u8]) -> Result<Vec<u8>, Fail> {
 
 /// What is replied to some commands, where nothing fails and the machine starts with this source.
 fn replied_on_source(alloc: Global, source: &[u8], commands: &[u8]) -> Result<Vec<u8>, Fail> {
+    replied_with(alloc, MapSpec::new(None, 0xF000)?, 1024, source, commands)
+}
+
+/// What is replied to some commands, where nothing fails, under this map and with so much history, at most 65,536.
+pub fn replied_with(
+    alloc: Global,
+    map: MapSpec,
+    history: u32,
+    source: &[u8],
+    commands: &[u8],
+) -> Result<Vec<u8>, Fail>
+    requires { history ≤ 65536 }
+{
     let flushed = Cell::new(0);
     let mut reader = Teller {
         rest: commands,
@@ -122,7 +137,7 @@ fn replied_on_source(alloc: Global, source: &[u8], commands: &[u8]) -> Result<Ve
         fails: false,
     };
     let mut writer = wide_taker(alloc, &flushed);
-    run(alloc, source, &mut reader, &mut writer)??;
+    debug_source(alloc, map, history, source, &mut reader, &mut writer)?;
     Ok(writer.taken)
 }
 

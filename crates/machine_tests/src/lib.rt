@@ -1,5 +1,7 @@
-//! Worked examples of the machine and its session. Each is a test; no code stands here.
+//! Worked examples of the machine and its session, as calls. Each is a test; no code stands here.
 #![tactic(auto)]
 
+#[cfg(test)]
+mod history;
 #[cfg(test)]
 mod tests;

@@ -1,5 +1,1 @@
-pub mod Examples
-pub mod SourceExamples
-pub mod Encoding
-pub mod ValueExamples
-pub mod TokenExamples
+pub mod Cells

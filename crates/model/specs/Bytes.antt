@@ -7,7 +7,8 @@ use Rattle.model.specs.Image.{has_byte, with_bytes}
 use Rattle.model.specs.FaultNames.{source_fault_number}
 use Rattle.model.specs.Expression.{Term}
 use Rattle.model.specs.Value.{Numbers, eval_of}
-use Rattle.model.specs.Layout.{Placed, Content, no_bytes, byte_list, word_list, code, size_of, ◌>>>◌}
+use Rattle.model.specs.Line.{Item, value, string}
+use Rattle.model.specs.Layout.{Placed, Content, no_bytes, byte_list, word_list, word_list_high_first, code, size_of, ◌>>>◌}
 use Rattle.model.specs.declared.expression.ExprFault.{ExprFault}
 use Rattle.model.specs.declared.expression.ExprFault.TheVariants as expression
 use Rattle.model.specs.declared.instruction.Mode.{Mode}
@@ -48,6 +49,13 @@ zero_page_piece r = within (pos 0) (pos 255) ByteRange r >>> λ v. Ok (modulo v 
 unfoldable pub word_piece : Result ℤ ExprFault → Piece
 word_piece r = within (negsuc 32767) (pos 65535) WordRange r >>> λ v. Ok (word_bytes (modulo v 65536))
 
+-- The same two bytes, the high one first.
+abbrev pub word_bytes_high_first : ℕ → List ℕ
+word_bytes_high_first n = n / 256 ∷ n % 256 ∷ []
+
+unfoldable pub word_piece_high_first : Result ℤ ExprFault → Piece
+word_piece_high_first r = within (negsuc 32767) (pos 65535) WordRange r >>> λ v. Ok (word_bytes_high_first (modulo v 65536))
+
 -- An address, the low byte first: 0..65535.
 unfoldable pub address_piece : Result ℤ ExprFault → Piece
 address_piece r = within (pos 0) (pos 65535) WordRange r >>> λ v. Ok (word_bytes (modulo v 65536))
@@ -80,11 +88,17 @@ abbrev pub behind_opcode : Numbers → ℕ → Mode → Option Term → List Pie
 behind_opcode numbers address mode None = []
 behind_opcode numbers address mode (Some e) = operand_piece address mode (eval_of numbers (pos address) e) ∷ []
 
+-- An item of `.BYTE`: one byte, or the bytes of a string.
+abbrev pub item_piece : Numbers → ℕ → Item → Piece
+item_piece numbers address (value e) = byte_piece (eval_of numbers (pos address) e)
+item_piece numbers address (string text) = Ok text
+
 -- The pieces of a line, in order.
 unfoldable pub pieces_of : Numbers → ℕ → Content → List Piece
 pieces_of numbers address no_bytes = []
-pieces_of numbers address (byte_list es) = map (λ e. byte_piece (eval_of numbers (pos address) e)) es
+pieces_of numbers address (byte_list items) = map (λ i. item_piece numbers address i) items
 pieces_of numbers address (word_list es) = map (λ e. word_piece (eval_of numbers (pos address) e)) es
+pieces_of numbers address (word_list_high_first es) = map (λ e. word_piece_high_first (eval_of numbers (pos address) e)) es
 pieces_of numbers address (code opcode mode e) = Ok (opcode ∷ []) ∷ behind_opcode numbers address mode e
 
 abbrev pub bytes_in : Piece → List ℕ

@@ -1,8 +1,8 @@
 -- What a command line asks for. Source: profile.
-use Rattle.std.specs.Prelude.{ℕ, ◌+◌, ◌-◌, ◌*◌, Bool, true, false, List, [], ◌∷◌, ◌++◌, length, take, nat_lt, nat_le, ◌==◌, ◌&&◌, ◌||◌, if◌then◌else◌, codes, Option, Some, None}
+use Rattle.std.specs.Prelude.{ℕ, ◌+◌, ◌-◌, ◌*◌, Bool, true, false, List, [], ◌∷◌, ◌++◌, length, take, nat_lt, nat_le, ◌==◌, ◌&&◌, ◌||◌, if◌then◌else◌, codes, replicate, Option, Some, None}
 use Rattle.std.specs.Str.{bytes_eq}
 use Rattle.model.specs.declared.command.Command.{Command}
-use Rattle.model.specs.declared.command.Command.TheVariants.{Regs, Step, Mem, Out, Set, Patch, Reset, Irq, Nmi, Input, Quit, Nothing, Bad}
+use Rattle.model.specs.declared.command.Command.TheVariants.{Regs, Step, Mem, Out, Set, Patch, Reset, Irq, Nmi, Input, Run, Back, Break, Unbreak, Watch, Unwatch, Breaks, Dis, Asm, Quit, Nothing, Bad}
 use Rattle.model.specs.declared.event.Setting.{Setting}
 use Rattle.model.specs.declared.event.Setting.TheVariants.{A, X, Y, S, P, Pc}
 
@@ -23,6 +23,20 @@ attached b true (w ∷ ws) = (b ∷ w) ∷ ws
 abbrev pub words_of : List ℕ → List (List ℕ)
 words_of [] = []
 words_of (b ∷ bs) = if b == 32 then words_of bs else attached b (goes_on bs) (words_of bs)
+
+-- A line without the spaces in front of it.
+abbrev pub unspaced : List ℕ → List ℕ
+unspaced [] = []
+unspaced (b ∷ bs) = if b == 32 then unspaced bs else b ∷ bs
+
+-- What stands behind the word with which some bytes begin.
+abbrev pub behind_word : List ℕ → List ℕ
+behind_word [] = []
+behind_word (b ∷ bs) = if b == 32 then b ∷ bs else behind_word bs
+
+-- What stands behind the first word of a line.
+abbrev pub rest_of : List ℕ → List ℕ
+rest_of line = behind_word (unspaced line)
 
 -- ---- numbers
 
@@ -56,6 +70,24 @@ abbrev pub bytes_of : List (List ℕ) → Option (List ℕ)
 bytes_of [] = Some []
 bytes_of (w ∷ ws) = byte_before (byte_of w) (bytes_of ws)
 
+-- The value of a decimal digit, and 10 for any other byte.
+abbrev pub digit_of : ℕ → ℕ
+digit_of byte = if nat_le 48 byte && nat_le byte 57 then byte - 48 else 10
+
+-- The number that decimal digits write behind those of another number.
+unfoldable pub decimal_from : ℕ → List ℕ → Option ℕ
+decimal_from number [] = Some number
+decimal_from number (byte ∷ bytes) = if digit_of byte == 10 then None else decimal_from (number * 10 + digit_of byte) bytes
+
+-- The number that 1 to 7 decimal digits write, leading zeros among them.
+unfoldable pub decimal_of : List ℕ → Option ℕ
+decimal_of word = if nat_le 1 (length word) && nat_le (length word) 7 then decimal_from 0 word else None
+
+-- A number that is at least 1 and no more than a highest one.
+abbrev pub from_1_to : ℕ → Option ℕ → Option ℕ
+from_1_to highest (Some number) = if nat_le 1 number && nat_le number highest then Some number else None
+from_1_to highest None = None
+
 -- ---- commands
 
 -- A command of one word.
@@ -66,6 +98,7 @@ plain_command w =
     else if bytes_eq w (codes "reset") then Reset
     else if bytes_eq w (codes "nmi") then Nmi
     else if bytes_eq w (codes "out") then Out
+    else if bytes_eq w (codes "breaks") then Breaks
     else if bytes_eq w (codes "quit") then Quit
     else Bad
 
@@ -119,12 +152,33 @@ abbrev pub input_command : Option (List ℕ) → Command
 input_command (Some bytes) = if nat_le (length bytes) 16 then Input (take 16 (bytes ++ no_input)) (length bytes) else Bad
 input_command None = Bad
 
+-- A command with a number, if the word writes one.
+abbrev pub number_command : (ℕ → Command) → Option ℕ → Command
+number_command command (Some number) = command number
+number_command command None = Bad
+
+-- How many steps are made at most, or events gone back over.
+abbrev pub most_steps : ℕ
+most_steps = 1000000
+
 -- A command of two words.
 unfoldable pub pair_command : List ℕ → List ℕ → Command
 pair_command w a =
     if bytes_eq w (codes "irq") then irq_command a
     else if bytes_eq w (codes "in") then input_command (bytes_of (a ∷ []))
+    else if bytes_eq w (codes "run") then number_command Run (from_1_to most_steps (decimal_of a))
+    else if bytes_eq w (codes "back") then number_command Back (from_1_to most_steps (decimal_of a))
+    else if bytes_eq w (codes "break") then number_command Break (address_of a)
+    else if bytes_eq w (codes "unbreak") then number_command Unbreak (address_of a)
+    else if bytes_eq w (codes "watch") then number_command Watch (address_of a)
+    else if bytes_eq w (codes "unwatch") then number_command Unwatch (address_of a)
     else Bad
+
+-- At most so many instructions as text, from an address on.
+abbrev pub dis_command : Option ℕ → Option ℕ → Command
+dis_command (Some address) (Some count) = Dis address count
+dis_command (Some address) None = Bad
+dis_command None count = Bad
 
 -- A command of three words.
 unfoldable pub triple_command : List ℕ → List ℕ → List ℕ → Command
@@ -133,6 +187,7 @@ triple_command w a b =
     else if bytes_eq w (codes "set") then set_command a b
     else if bytes_eq w (codes "patch") then patch_command (address_of a) (bytes_of (b ∷ []))
     else if bytes_eq w (codes "in") then input_command (bytes_of (a ∷ b ∷ []))
+    else if bytes_eq w (codes "dis") then dis_command (address_of a) (from_1_to 256 (decimal_of b))
     else Bad
 
 -- A command of more than three words.
@@ -149,6 +204,33 @@ command_of_words (w ∷ a ∷ []) = pair_command w a
 command_of_words (w ∷ a ∷ b ∷ []) = triple_command w a b
 command_of_words (w ∷ a ∷ b ∷ c ∷ ws) = long_command w a (b ∷ c ∷ ws)
 
+-- ---- assembly
+
+-- Whether the first of a line's words is `asm`.
+abbrev pub is_asm : List (List ℕ) → Bool
+is_asm [] = false
+is_asm (w ∷ ws) = bytes_eq w (codes "asm")
+
+-- The second of a line's words, which is empty where there is none.
+abbrev pub second_word : List (List ℕ) → List ℕ
+second_word (w ∷ a ∷ ws) = a
+second_word ws = []
+
+-- A text to be assembled at an address. It is not empty. Zeros fill the place of the bytes that are not there.
+abbrev pub asm_command : Option ℕ → List ℕ → Command
+asm_command (Some address) (b ∷ bs) = Asm address (take 255 ((b ∷ bs) ++ replicate 255 0)) (length (b ∷ bs))
+asm_command (Some address) [] = Bad
+asm_command None text = Bad
+
+-- The text of `asm`: the rest of the line behind the address and its spaces.
+abbrev pub text_of : List ℕ → List ℕ
+text_of line = unspaced (rest_of (rest_of line))
+
+-- ---- lines
+
 -- What a line asks for. A line of more than 255 bytes is bad as a whole.
 unfoldable pub command_of : List ℕ → Command
-command_of line = if nat_lt 255 (length line) then Bad else command_of_words (words_of line)
+command_of line =
+    if nat_lt 255 (length line) then Bad
+    else if is_asm (words_of line) then asm_command (address_of (second_word (words_of line))) (text_of line)
+    else command_of_words (words_of line)

@@ -1,5 +1,5 @@
--- Where the lines of a source stand, and which form each instruction takes. Source: profile.
-use Rattle.std.specs.Prelude.{◌≡◌, ℕ, ◌+◌, ◌*◌, nat_le, ℤ, pos, negsuc, Bool, true, false, ◌&&◌, if◌then◌else◌, List, [], ◌∷◌, length, map, Option, Some, None, is_some, unwrap_or, Result, Ok, Err}
+-- Where the lines of a source stand, which form each instruction takes, and which names have which numbers. Source: profile.
+use Rattle.std.specs.Prelude.{◌≡◌, ℕ, ◌+◌, ◌*◌, ◌<◌, nat_le, ℤ, pos, negsuc, Bool, true, false, ◌&&◌, ◌==◌, if◌then◌else◌, List, [], ◌∷◌, ◌++◌, length, map, Option, Some, None, is_some, unwrap_or, Result, Ok, Err}
 use Rattle.model.specs.declared.expression.ExprFault.{ExprFault}
 use Rattle.model.specs.declared.expression.ExprFault.TheVariants as expression
 use Rattle.model.specs.declared.line.Index.{Index}
@@ -7,12 +7,15 @@ use Rattle.model.specs.declared.line.Index.TheVariants.{Unindexed, X, Y}
 use Rattle.model.specs.declared.instruction.Mnemonic.{Mnemonic}
 use Rattle.model.specs.declared.instruction.Mode.{Mode}
 use Rattle.model.specs.declared.instruction.Mode.TheVariants.{Imp, Acc, Imm, Zp, ZpX, ZpY, Abs, AbsX, AbsY, IndX, IndY, Ind, Rel}
+use Rattle.model.specs.declared.instruction.Row.{Row}
 use Rattle.model.specs.declared.source_fault.AsmFaultKind.{AsmFaultKind}
-use Rattle.model.specs.declared.source_fault.AsmFaultKind.TheVariants.{UnknownHere, NoSuchForm, OriginRange, ExprRange, DivideByZero}
-use Rattle.model.specs.Table.{encoded}
+use Rattle.model.specs.declared.source_fault.AsmFaultKind.TheVariants.{DuplicateName, UnknownHere, NoSuchForm, TooManyNames, OriginRange, ExprRange, DivideByZero}
+use Rattle.model.specs.FaultNames.{source_fault_number}
+use Rattle.model.specs.Table.{row_at, encoded}
 use Rattle.model.specs.Expression.{Term}
 use Rattle.model.specs.Value.{Numbers, eval_of}
-use Rattle.model.specs.Line.{Statement, nothing, origin, bytes, words, instruction, Operand, absent, accumulator, immediate, direct, pointer, pointer_by_x, pointer_by_y, read_line}
+use Rattle.model.specs.Names.{Definitions, number_in}
+use Rattle.model.specs.Line.{Operand, absent, accumulator, immediate, direct, pointer, pointer_by_x, pointer_by_y, Item, value, string, Statement, nothing, origin, bytes, words, words_high_first, reserve, finish, instruction, Line, labelled, definition, read_line}
 
 -- A right part goes on, a fault ends.
 infixl 10 ◌>>>◌
@@ -37,6 +40,10 @@ length_in IndX = 2
 length_in IndY = 2
 length_in Ind = 3
 length_in Rel = 2
+
+-- These are the lengths that the opcode table gives its rows.
+abbrev pub LengthsAreTheTables : Type 0
+LengthsAreTheTables = (opcode : ℕ) (row : Row) → opcode < 256 → row_at opcode ≡ Some row → row.len ≡ length_in row.mode
 
 -- The zero page mode and the absolute mode with an index.
 abbrev pub zero_page_mode : Index → Mode
@@ -112,26 +119,50 @@ mode_by numbers address e (Some (one mode)) = Ok mode
 mode_by numbers address (Some e) (Some (by_size short long)) = sized short long (eval_of numbers (pos address) e)
 mode_by numbers address None (Some (by_size short long)) = Ok long
 
--- ---- lines
+-- ---- what a line denotes
 
 -- What a line will denote, its values still open: bytes, words, or an opcode and what stands behind it in a mode.
 pub data Content : Type 0 where
   no_bytes : Content
-  byte_list : List Term → Content
+  byte_list : List Item → Content
   word_list : List Term → Content
+  word_list_high_first : List Term → Content
   code : ℕ → Mode → Option Term → Content
+
+abbrev pub item_size : Item → ℕ
+item_size (value e) = 1
+item_size (string text) = length text
+
+abbrev pub items_size : List Item → ℕ
+items_size [] = 0
+items_size (i ∷ is) = item_size i + items_size is
 
 -- How many bytes it has.
 unfoldable pub size_of : Content → ℕ
 size_of no_bytes = 0
-size_of (byte_list es) = length es
+size_of (byte_list items) = items_size items
 size_of (word_list es) = 2 * length es
+size_of (word_list_high_first es) = 2 * length es
 size_of (code opcode mode e) = length_in mode
 
 -- A line in its place.
 pub record Placed : Type 0 where
   pub address : ℕ
   pub content : Content
+
+-- ---- the statement of a line
+
+-- A statement in its place, and the address of the next line.
+abbrev pub Place : Type 0
+Place = Placed × ℕ
+
+-- What has a size stands at its line's address, and the next line behind it.
+abbrev pub standing : ℕ → Content → Place
+standing address content = (record { address = address; content = content }, address + size_of content)
+
+-- What has no bytes, and the address to go on from.
+abbrev pub going_on : ℕ → ℕ → Place
+going_on address next = (record { address = address; content = no_bytes }, next)
 
 -- An expression that places: its names have to be known here.
 abbrev pub placing : Result ℤ ExprFault → Result ℤ AsmFaultKind
@@ -145,35 +176,103 @@ abbrev pub in_memory : ℤ → Result ℕ AsmFaultKind
 in_memory (pos n) = if nat_le n 65535 then Ok n else Err OriginRange
 in_memory (negsuc n) = Err OriginRange
 
--- A line at an address, and the address of the next line.
-abbrev pub Place : Type 0
-Place = Placed × ℕ
-
--- What has a size stands at its line's address, and the next line behind it.
-abbrev pub standing : ℕ → Content → Place
-standing address content = (record { address = address; content = content }, address + size_of content)
-
 abbrev pub in_mode : Mnemonic → ℕ → Option Term → Mode → Place
 in_mode m address e mode = standing address (code (unwrap_or (encoded m mode) 0) mode e)
+
+-- The address behind so many bytes, none of them past 65535.
+abbrev pub behind_room : ℕ → ℤ → Result ℕ AsmFaultKind
+behind_room address (pos n) = if nat_le (address + n) 65536 then Ok (address + n) else Err OriginRange
+behind_room address (negsuc n) = Err OriginRange
 
 -- A statement at an address, under the numbers of the names that are known there, and the next line's address; or its layout fault.
 -- The next line's address is the line's and its size, behind `*= e` the value of e.
 unfoldable pub laid : Numbers → ℕ → Statement → Result Place AsmFaultKind
 laid numbers address nothing = Ok (standing address no_bytes)
-laid numbers address (origin e) = placing (eval_of numbers (pos address) e) >>> λ v. in_memory v >>> λ n. Ok (record { address = address; content = no_bytes }, n)
-laid numbers address (bytes es) = Ok (standing address (byte_list es))
+laid numbers address (origin e) = placing (eval_of numbers (pos address) e) >>> λ v. in_memory v >>> λ n. Ok (going_on address n)
+laid numbers address (bytes items) = Ok (standing address (byte_list items))
 laid numbers address (words es) = Ok (standing address (word_list es))
+laid numbers address (words_high_first es) = Ok (standing address (word_list_high_first es))
+laid numbers address (reserve e) = placing (eval_of numbers (pos address) e) >>> λ v. behind_room address v >>> λ n. Ok (going_on address n)
+laid numbers address finish = Ok (standing address no_bytes)
 laid numbers address (instruction m operand) = mode_by numbers address (term_of operand) (form_of m operand) >>> λ mode. Ok (in_mode m address (term_of operand) mode)
 
--- A line's bytes read and laid out.
-unfoldable pub layout_of : Numbers → ℕ → List ℕ → Result Place AsmFaultKind
-layout_of numbers address line = read_line line >>> λ s. laid numbers address s
+-- ---- the line
 
--- These lines stand so, from an address on up to another: each one meets its own equation.
-abbrev pub LaidOut : Numbers → ℕ → List (List ℕ) → List Placed → ℕ → Type 0
-LaidOut numbers address [] placed end = (placed ≡ []) × (end ≡ address)
-LaidOut numbers address (line ∷ lines) [] end = ⊥
-LaidOut numbers address (line ∷ lines) (p ∷ ps) end = (next : ℕ) × (layout_of numbers address line ≡ Ok (p, next)) × LaidOut numbers next lines ps end
+-- The most names that a source defines.
+abbrev pub most_names : ℕ
+most_names = 8192
+
+-- What the lines before a line fix: its address, and the names that they define, with their numbers.
+pub record Fixed : Type 0 where
+  pub address : ℕ
+  pub names : Definitions
+
+-- The name that a line defines, if it defines one.
+abbrev pub name_of : Line → Option (List ℕ)
+name_of (labelled label s) = label
+name_of (definition name e) = Some name
+
+-- A label's number is its line's address.
+abbrev pub label_at : ℕ → Option (List ℕ) → Definitions
+label_at address None = []
+label_at address (Some name) = (name, pos address) ∷ []
+
+-- A line in its place, and what it and the lines before it fix.
+abbrev pub Standing : Type 0
+Standing = Placed × Fixed
+
+abbrev pub fixing : Definitions → Place → Standing
+fixing names place = (place.0, record { address = place.1; names = names })
+
+-- A line behind lines that fix so much: its own equation. A name is known where an earlier line defines it or it is the line's label.
+abbrev pub line_at : Fixed → Line → Result Standing AsmFaultKind
+line_at before (labelled label s) =
+    let names = before.names ++ label_at before.address label in
+    laid (number_in names) before.address s >>> λ place. Ok (fixing names place)
+line_at before (definition name e) =
+    placing (eval_of (number_in before.names) (pos before.address) e) >>> λ v. Ok (fixing (before.names ++ (name, v) ∷ []) (going_on before.address before.address))
+
+-- Whether a name is defined.
+abbrev pub is_defined : Definitions → Option (List ℕ) → Bool
+is_defined names None = false
+is_defined names (Some name) = is_some (number_in names name)
+
+-- Whether a name is one too many.
+abbrev pub is_full : Definitions → Option (List ℕ) → Bool
+is_full names None = false
+is_full names (Some name) = length names == most_names
+
+-- The answer, unless there is a fault.
+abbrev pub unless : {A : Type 0} → Option AsmFaultKind → Result A AsmFaultKind → Result A AsmFaultKind
+unless None r = r
+unless (Some kind) r = Err kind
+
+-- Of a kind and TooManyNames the lower one.
+abbrev pub or_too_many : AsmFaultKind → AsmFaultKind
+or_too_many kind = if nat_le (source_fault_number kind) (source_fault_number TooManyNames) then kind else TooManyNames
+
+-- An answer about a line whose name may be one too many.
+abbrev pub unless_full : {A : Type 0} → Bool → Result A AsmFaultKind → Result A AsmFaultKind
+unless_full false r = r
+unless_full true (Ok a) = Err TooManyNames
+unless_full true (Err kind) = Err (or_too_many kind)
+
+-- The same with the rules for names: a name has no earlier definition, which comes before all else that is wrong with the line's
+-- operation, and it is none too many; of that and what else is wrong the lower kind is the fault.
+unfoldable pub line_fixed : Fixed → Line → Result Standing AsmFaultKind
+line_fixed before l =
+    if is_defined before.names (name_of l) then Err DuplicateName
+    else unless_full (is_full before.names (name_of l)) (line_at before l)
+
+-- A line's bytes read and laid out.
+unfoldable pub layout_of : Fixed → List ℕ → Result Standing AsmFaultKind
+layout_of before line = read_line line >>> λ l. line_fixed before l
+
+-- Behind lines that fix so much these lines stand so, and then so much is fixed: each one meets its own equation.
+abbrev pub LaidOut : Fixed → List (List ℕ) → List Placed → Fixed → Type 0
+LaidOut before [] placed after = (placed ≡ []) × (after ≡ before)
+LaidOut before (line ∷ lines) [] after = ⊥
+LaidOut before (line ∷ lines) (p ∷ ps) after = (next : Fixed) × (layout_of before line ≡ Ok (p, next)) × LaidOut next lines ps after
 
 -- A line's address and how many bytes it has.
 abbrev pub extent_of : Placed → ℕ × ℕ

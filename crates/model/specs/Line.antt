@@ -1,9 +1,12 @@
 -- What a line of a source says. Source: profile.
--- line      = [operation]
--- operation = mnemonic [operand] | "*" "=" expr | ".BYTE" expr {"," expr} | ".WORD" expr {"," expr}
+-- line      = [name ":"] [operation] | name "=" expr
+-- operation = mnemonic [operand] | "*" "=" expr | ".BYTE" item {"," item} | ".WORD" expr {"," expr} | ".DBYTE" expr {"," expr}
+--             | ".RES" expr | ".END"
+-- item      = expr | string
 -- operand   = "A" | "#" expr | ["!"] expr ["," ("X" | "Y")] | "(" expr ")" | "(" expr "," "X" ")" | "(" expr ")" "," "Y"
--- Mnemonics, directives, A, X and Y are read in either letter case. Lines that define names, and the other directives, are no lines yet.
-use Rattle.std.specs.Prelude.{ℕ, zero, suc, Bool, true, false, not, ◌||◌, ◌&&◌, nat_lt, if◌then◌else◌, List, [], ◌∷◌, length, codes, Option, Some, None, is_some, Result, Ok, Err}
+-- Mnemonics, directives, A, X and Y are read in either letter case; names keep theirs. A word before `:` or `=` at a line's start
+-- stands where a name stands, a mnemonic too.
+use Rattle.std.specs.Prelude.{ℕ, zero, suc, ◌-◌, Bool, true, false, not, ◌||◌, ◌&&◌, nat_lt, if◌then◌else◌, List, [], ◌∷◌, length, take, drop, codes, Option, Some, None, is_some, Result, Ok, Err}
 use Rattle.std.specs.List.{list_all, list_any}
 use Rattle.std.specs.Option.{option_map, option_and_then}
 use Rattle.std.specs.Str.{bytes_eq, str_to_ascii_uppercase}
@@ -29,13 +32,26 @@ pub data Operand : Type 0 where
   pointer_by_x : Term → Operand
   pointer_by_y : Term → Operand
 
--- What a line says.
+-- An item of `.BYTE`: an expression, or the bytes of a string.
+pub data Item : Type 0 where
+  value : Term → Item
+  string : List ℕ → Item
+
+-- What stands behind a line's label.
 pub data Statement : Type 0 where
   nothing : Statement
   origin : Term → Statement
-  bytes : List Term → Statement
+  bytes : List Item → Statement
   words : List Term → Statement
+  words_high_first : List Term → Statement
+  reserve : Term → Statement
+  finish : Statement
   instruction : Mnemonic → Operand → Statement
+
+-- A line: a statement behind a label, if there is one; or the definition of a name.
+pub data Line : Type 0 where
+  labelled : Option (List ℕ) → Statement → Line
+  definition : List ℕ → Term → Line
 
 -- ---- operands
 
@@ -100,24 +116,55 @@ operand_of (t ∷ ts) =
 
 -- ---- statements
 
--- An expression, and behind a comma the expressions that go on.
-abbrev pub list_behind : (List Lexeme → Option (List Term)) → Term → List Lexeme → Option (List Term)
-list_behind more e [] = Some (e ∷ [])
-list_behind more e (c ∷ ts) = if is_symbol 44 c then option_map (λ es. e ∷ es) (more ts) else None
+-- What was read, and behind a comma what goes on.
+abbrev pub list_behind : {A : Type 0} → (List Lexeme → Option (List A)) → A → List Lexeme → Option (List A)
+list_behind more a [] = Some (a ∷ [])
+list_behind more a (c ∷ ts) = if is_symbol 44 c then option_map (λ rest. a ∷ rest) (more ts) else None
 
--- At most so many expressions, separated by commas.
-unfoldable pub expressions_within : ℕ → List Lexeme → Option (List Term)
-expressions_within zero ts = None
-expressions_within (suc n) ts = option_and_then (λ p. list_behind (λ more. expressions_within n more) p.0 p.1) (expression_of ts)
+-- At most so many of what is read, separated by commas.
+unfoldable pub list_within : {A : Type 0} → (List Lexeme → Option (A × List Lexeme)) → ℕ → List Lexeme → Option (List A)
+list_within read zero ts = None
+list_within read (suc n) ts = option_and_then (λ p. list_behind (λ more. list_within read n more) p.0 p.1) (read ts)
 
 -- The expressions, separated by commas, that some tokens are. There are no more of them than tokens.
 abbrev pub expressions_of : List Lexeme → Option (List Term)
-expressions_of ts = expressions_within (length ts) ts
+expressions_of ts = list_within expression_of (length ts) ts
+
+-- The bytes between the quotes of a string.
+abbrev pub string_in : TokenKind → List ℕ → Option (List ℕ)
+string_in Str text = Some (take (length text - 2) (drop 1 text))
+string_in Word text = None
+string_in Directive text = None
+string_in Number text = None
+string_in Char text = None
+string_in Symbol text = None
+
+abbrev pub item_or : Option (List ℕ) → List Lexeme → Option (Term × List Lexeme) → Option (Item × List Lexeme)
+item_or (Some text) ts read = Some (string text, ts)
+item_or None ts read = option_map (λ p. (value p.0, p.1)) read
+
+-- The item with which some tokens begin.
+abbrev pub item_of : List Lexeme → Option (Item × List Lexeme)
+item_of [] = None
+item_of (t ∷ ts) = item_or (string_in t.kind t.text) ts (expression_of (t ∷ ts))
+
+abbrev pub items_of : List Lexeme → Option (List Item)
+items_of ts = list_within item_of (length ts) ts
+
+abbrev pub finish_alone : List Lexeme → Option Statement
+finish_alone [] = Some finish
+finish_alone (t ∷ ts) = None
+
+abbrev pub is_directive : List ℕ → List ℕ → Bool
+is_directive text capitals = bytes_eq (str_to_ascii_uppercase text) capitals
 
 unfoldable pub directive_of : List ℕ → List Lexeme → Option Statement
 directive_of text ts =
-    if bytes_eq (str_to_ascii_uppercase text) (codes ".BYTE") then option_map bytes (expressions_of ts)
-    else if bytes_eq (str_to_ascii_uppercase text) (codes ".WORD") then option_map words (expressions_of ts)
+    if is_directive text (codes ".BYTE") then option_map bytes (items_of ts)
+    else if is_directive text (codes ".WORD") then option_map words (expressions_of ts)
+    else if is_directive text (codes ".DBYTE") then option_map words_high_first (expressions_of ts)
+    else if is_directive text (codes ".RES") then option_map reserve (whole_expression ts)
+    else if is_directive text (codes ".END") then finish_alone ts
     else None
 
 abbrev pub origin_behind : List Lexeme → Option Statement
@@ -133,10 +180,36 @@ operation_by Number t ts = None
 operation_by Char t ts = None
 operation_by Str t ts = None
 
--- What the tokens of a line say.
+-- What the tokens of an operation say.
 unfoldable pub statement_of : List Lexeme → Option Statement
 statement_of [] = Some nothing
 statement_of (t ∷ ts) = operation_by t.kind t ts
+
+-- ---- lines
+
+abbrev pub unlabelled : List Lexeme → Option Line
+unlabelled ts = option_map (labelled None) (statement_of ts)
+
+-- A line that begins with a word: a label, a definition, or neither.
+abbrev pub word_line : Lexeme → List Lexeme → Option Line
+word_line w [] = unlabelled (w ∷ [])
+word_line w (s ∷ ts) =
+    if is_symbol 58 s then option_map (labelled (Some w.text)) (statement_of ts)
+    else if is_symbol 61 s then option_map (definition w.text) (whole_expression ts)
+    else unlabelled (w ∷ s ∷ ts)
+
+abbrev pub line_by : TokenKind → Lexeme → List Lexeme → Option Line
+line_by Word t ts = word_line t ts
+line_by Directive t ts = unlabelled (t ∷ ts)
+line_by Number t ts = unlabelled (t ∷ ts)
+line_by Char t ts = unlabelled (t ∷ ts)
+line_by Str t ts = unlabelled (t ∷ ts)
+line_by Symbol t ts = unlabelled (t ∷ ts)
+
+-- What the tokens of a line say.
+unfoldable pub line_of : List Lexeme → Option Line
+line_of [] = Some (labelled None nothing)
+line_of (t ∷ ts) = line_by t.kind t ts
 
 -- ---- reserved words
 
@@ -165,22 +238,35 @@ operand_reserves (pointer e) = term_reserves e
 operand_reserves (pointer_by_x e) = term_reserves e
 operand_reserves (pointer_by_y e) = term_reserves e
 
+abbrev pub item_reserves : Item → Bool
+item_reserves (value e) = term_reserves e
+item_reserves (string text) = false
+
 abbrev pub reserves : Statement → Bool
 reserves nothing = false
 reserves (origin e) = term_reserves e
-reserves (bytes es) = list_any term_reserves es
+reserves (bytes items) = list_any item_reserves items
 reserves (words es) = list_any term_reserves es
+reserves (words_high_first es) = list_any term_reserves es
+reserves (reserve e) = term_reserves e
+reserves finish = false
 reserves (instruction m operand) = operand_reserves operand
+
+-- Whether a reserved word stands where a name stands.
+abbrev pub line_reserves : Line → Bool
+line_reserves (labelled None s) = reserves s
+line_reserves (labelled (Some text) s) = is_reserved text || reserves s
+line_reserves (definition text e) = is_reserved text || term_reserves e
 
 -- ---- the line
 
-abbrev pub unreserved : Option Statement → Result Statement AsmFaultKind
+abbrev pub unreserved : Option Line → Result Line AsmFaultKind
 unreserved None = Err Syntax
-unreserved (Some s) = if reserves s then Err ReservedName else Ok s
+unreserved (Some l) = if line_reserves l then Err ReservedName else Ok l
 
 -- What a line says, or the fault of its text: too many bytes come before a wrong byte, that before a wrong form, that before a reserved word.
-unfoldable pub read_line : List ℕ → Result Statement AsmFaultKind
+unfoldable pub read_line : List ℕ → Result Line AsmFaultKind
 read_line line =
     if nat_lt 255 (length line) then Err LineTooLong
     else if not (list_all is_source_byte line) then Err NotAscii
-    else unreserved (option_and_then statement_of (tokens_of line))
+    else unreserved (option_and_then line_of (tokens_of line))

@@ -4,7 +4,7 @@ use Rattle.std.specs.Prelude.{◌≡◌, ◌≢◌, ℕ, ◌+◌, ◌*◌, ◌%�
 use Rattle.std.specs.List.{flat_map, list_all, AllByRecursion}
 use Rattle.hex.specs.Hex.{hex_digit_value, is_hex_digit}
 use Rattle.model.specs.declared.tape.TapeFaultKind.{TapeFaultKind}
-use Rattle.model.specs.declared.tape.TapeFaultKind.TheVariants.{NoRecord, BadHex, BadChecksum, PastEnd, Truncated, BadCount, JunkAfterEnd, JunkBetween, OutOfMemory}
+use Rattle.model.specs.declared.tape.TapeFaultKind.TheVariants.{NoRecord, BadHex, BadChecksum, PastEnd, Truncated, BadCount, JunkAfterEnd, JunkBetween, OutOfMemory, TooLong}
 use Rattle.model.specs.Image.{empty_image, with_bytes}
 
 -- ---- the digits of a record
@@ -133,7 +133,7 @@ pub record Denotes (text : List ℕ) (cells : List (Option ℕ)) : Type 0 where
 -- BadCount: an end record whose checksum is right has another number than there are data records; told at its `;`.
 -- JunkAfterEnd: behind the end record and skipped bytes stands a byte that is not skipped; told at that byte.
 -- JunkBetween: the next byte is neither skipped nor a `;`; told there.
--- OutOfMemory: no text has this fault.
+-- OutOfMemory, TooLong: no text has this fault.
 abbrev pub Breaks : TapeFaultKind → ℕ → List ℕ → ℕ → Type 0
 Breaks NoRecord count rest place = (count ≡ 0) × (rest ≡ []) × (place ≡ 0)
 Breaks BadHex count rest place =
@@ -151,6 +151,7 @@ Breaks JunkAfterEnd count rest place =
 Breaks JunkBetween count rest place =
     (b : ℕ) × (more : List ℕ) × (rest ≡ b ∷ more) × (is_skipped b ≡ Bool.false) × (b ≢ 59) × (place ≡ 0)
 Breaks OutOfMemory count rest place = ⊥
+Breaks TooLong count rest place = ⊥
 
 -- The first fault of a text, from left to right: pieces, and then a rest that breaks; the offset is counted from the text's begin. Source: profile.
 pub record FirstFault (text : List ℕ) (kind : TapeFaultKind) (offset : ℕ) : Type 0 where

@@ -2,7 +2,7 @@
 use Rattle.std.specs.Prelude.{ℕ, List, codes}
 use Rattle.model.specs.declared.tape.TapeFault.{TapeFault}
 use Rattle.model.specs.declared.tape.TapeFaultKind.{TapeFaultKind}
-use Rattle.model.specs.declared.tape.TapeFaultKind.TheVariants.{NoRecord, BadHex, BadChecksum, PastEnd, Truncated, BadCount, JunkAfterEnd, JunkBetween, OutOfMemory}
+use Rattle.model.specs.declared.tape.TapeFaultKind.TheVariants.{NoRecord, BadHex, BadChecksum, PastEnd, Truncated, BadCount, JunkAfterEnd, JunkBetween, OutOfMemory, TooLong}
 
 -- The number of each kind. Source: profile.
 abbrev pub number_of : TapeFaultKind → ℕ
@@ -15,6 +15,7 @@ number_of BadCount = 6
 number_of JunkAfterEnd = 7
 number_of JunkBetween = 8
 number_of OutOfMemory = 9
+number_of TooLong = 10
 
 -- The name of each kind, in ASCII. Source: profile.
 abbrev pub name_of : TapeFaultKind → List ℕ
@@ -27,6 +28,7 @@ name_of BadCount = codes "BadCount"
 name_of JunkAfterEnd = codes "JunkAfterEnd"
 name_of JunkBetween = codes "JunkBetween"
 name_of OutOfMemory = codes "OutOfMemory"
+name_of TooLong = codes "TooLong"
 
 -- The answer where a request for memory was refused, at offset 0. Source: profile.
 abbrev pub out_of_memory : TapeFault

@@ -48,3 +48,11 @@ output_row out from = flat_map hex_byte (take 32 (drop from out)) ++ 10 ∷ []
 unfoldable pub output_text : List ℕ → List ℕ
 output_text out =
     codes "OUT " ++ decimal (length out) ++ 10 ∷ flat_map (λ k. output_row out (32 * k)) (range_with_len 0 ((length out + 31) / 32))
+
+-- An address behind a space.
+unfoldable pub address_part : ℕ → List ℕ
+address_part address = 32 ∷ hex_word address
+
+-- The breakpoints in order of setting.
+unfoldable pub breaks_line : List ℕ → List ℕ
+breaks_line breaks = codes "BREAKS" ++ flat_map address_part breaks ++ 10 ∷ []

@@ -35,6 +35,31 @@ pub enum Command {
         bytes: [u8; 16],
         count: u8,
     },
+    /// `run N`: at most N steps, 1 to 1,000,000.
+    Run(u32),
+    /// `back N`: the last N events gone back over, 1 to 1,000,000.
+    Back(u32),
+    /// `break A`: a breakpoint set.
+    Break(u16),
+    /// `unbreak A`: a breakpoint cleared.
+    Unbreak(u16),
+    /// `watch A`: a watch set.
+    Watch(u16),
+    /// `unwatch A`: a watch cleared.
+    Unwatch(u16),
+    /// `breaks`: the breakpoints in order of setting.
+    Breaks,
+    /// `dis A N`: at most `count` instructions, 1 to 256, as text from an address on.
+    Dis {
+        address: u16,
+        count: u32,
+    },
+    /// `asm A text`: the first `count` bytes of the text, at least 1, assembled at an address.
+    Asm {
+        address: u16,
+        text: [u8; 255],
+        count: u8,
+    },
     /// `quit`: the end of the session.
     Quit,
     /// A line without a word.

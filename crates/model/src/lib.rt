@@ -1,6 +1,6 @@
 //! The plain data that the definitions of `specs/` and the crates above share.
-//! Nothing runs here but the names and numbers of faults, which are themselves part of the definition, and the status
-//! register as a byte.
+//! Nothing runs here but the names and numbers of faults, which are themselves part of the definition, the status
+//! register as a byte, and the cells of an undo record by their index.
 #![tactic(auto)]
 
 pub use bus_fault::BusFault;
@@ -11,6 +11,7 @@ pub use instruction::{Mnemonic, Mode, Place, Row};
 pub use line::Index;
 pub use operation::{BranchOp, InherentOp, LoadOp, ModifyOp, Operation, StoreOp};
 pub use registers::{Flags, Regs, Sum};
+pub use run_end::{RunEnd, Why};
 pub use session_fault::SessionFault;
 pub use source_fault::{AsmFault, AsmFaultKind};
 pub use tape::{TAPE_OUT_OF_MEMORY, TapeFault, TapeFaultKind};
@@ -24,6 +25,7 @@ pub mod instruction;
 pub mod line;
 pub mod operation;
 pub mod registers;
+pub mod run_end;
 pub mod session_fault;
 pub mod source_fault;
 pub mod tape;

@@ -145,7 +145,8 @@ impl AsmFaultKind {
 }
 
 /// Why a source is refused, and where.
-#[derive(Clone, Copy, Debug, PartialEq, Eq)]
+#[derive(Clone, Copy, Debug, PartialEq, Eq, Error)]
+#[error("line {line} {kind}")]
 pub struct AsmFault {
     /// The line, counted from 1; 0 where it is the source as a whole.
     pub line: u32,

@@ -33,13 +33,16 @@ pub enum TapeFaultKind {
     /// A request for memory was refused.
     #[error("OutOfMemory 9")]
     OutOfMemory,
+    /// A tape that is read in pieces goes on behind 4,294,967,295 bytes.
+    #[error("TooLong 10")]
+    TooLong,
 }
 
 impl TapeFaultKind {
     ghost use Rattle.std.specs.Prelude.{◌≡◌};
     ghost use Rattle.model.specs.TapeFault.{number_of, name_of};
 
-    /// The number that stands for the kind, 1 to 9 (profile).
+    /// The number that stands for the kind, 1 to 10 (profile).
     pub fn number(self) -> u8
         ensures { result ≡ number_of self }
     {
@@ -53,6 +56,7 @@ impl TapeFaultKind {
             TapeFaultKind::JunkAfterEnd => 7,
             TapeFaultKind::JunkBetween => 8,
             TapeFaultKind::OutOfMemory => 9,
+            TapeFaultKind::TooLong => 10,
         }
     }
 
@@ -70,6 +74,7 @@ impl TapeFaultKind {
             TapeFaultKind::JunkAfterEnd => "JunkAfterEnd",
             TapeFaultKind::JunkBetween => "JunkBetween",
             TapeFaultKind::OutOfMemory => "OutOfMemory",
+            TapeFaultKind::TooLong => "TooLong",
         }
     }
 }

@@ -1,5 +1,8 @@
 //! What an event puts on record, so that it can be gone back over.
 
+ghost use Rattle.std.specs.Prelude.{◌≡◌, slice_get};
+ghost use Rattle.model.specs.Undo.{cells_of};
+
 use crate::registers::Regs;
 
 /// What puts a bus back: up to three memory cells with their old bytes, the newest first, how much
@@ -22,4 +25,18 @@ pub struct Undo {
     pub nmi: bool,
     pub cycles: u64,
     pub change: Change,
+}
+
+impl Undo {
+    /// The record's cell at an index, counted from 0: an address and its old byte, the newest first. None past the last in use.
+    #[tactic(auto, using(crate::proofs::Cells::cell_within, crate::proofs::Cells::cell_past))]
+    pub fn cell(&self, index: u8) -> Option<(u16, u8)>
+        ensures { result ≡ slice_get (cells_of self.now.change) index }
+    {
+        if index < self.change.count {
+            self.change.cells.get(index as usize).copied()
+        } else {
+            None
+        }
+    }
 }

@@ -1,10 +1,5 @@
-//! The program `mos65`.
+//! The program `mos65`: it collects the process's words and hands them, with the standard streams, to `program`.
 #![tactic(auto)]
-
-mod program;
-mod refusal;
-#[cfg(test)]
-mod tests;
 
 use program::{program, unreadable_words};
 use std::process::ExitCode;

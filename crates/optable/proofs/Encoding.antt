@@ -7,7 +7,7 @@ use Rattle.model.specs.declared.instruction.Mode.{Mode}
 use Rattle.model.specs.Table.{encoded, find_opcode, table, row_at, IsRowOf}
 use Rattle.model.specs.Mnemonics.{all_mnemonics}
 use Rattle.model.specs.Effect.{operation_of}
-use Rattle.model.proofs.Encoding.{all_modes, same_at_each, row_of_encoded, encoded_of_row}
+use Rattle.table_laws.proofs.Encoding.{all_modes, same_at_each, row_of_encoded, encoded_of_row}
 use Rattle.optable.specs.Codes.{code_of}
 
 all_codes : map (λ m. map (code_of (operation_of m)) all_modes) all_mnemonics ≡ map (λ m. map (encoded m) all_modes) all_mnemonics

@@ -8,7 +8,7 @@ use Rattle.std.proofs.lemmas.List.{length-map}
 use Rattle.std.proofs.lemmas.Slice.Eq.{bytes_eq-Decides}
 use Rattle.model.specs.declared.instruction.Mnemonic.{Mnemonic}
 use Rattle.model.specs.Mnemonics.{mnemonic_named, named_among, mnemonic_text, all_mnemonics}
-use Rattle.model.proofs.Encoding.{length-mnemonic_text}
+use Rattle.table_laws.proofs.Encoding.{length-mnemonic_text}
 use Rattle.optable.specs.declared.names.TheConstants.{NAMES}
 use Rattle.optable.specs.Names.{looked_up}
 

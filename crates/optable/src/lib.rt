@@ -1,4 +1,4 @@
-//! The opcode table: the row of an opcode by its bit fields, the opcode of a mnemonic in a mode, the names of mnemonics,
+//! The opcode table: the row of an opcode, the opcode of a mnemonic in a mode, the names of mnemonics,
 //! and the operation of each.
 #![tactic(auto)]
 
@@ -6,7 +6,7 @@ pub use codes::encode;
 pub use model::{Mnemonic, Mode, Operation, Row};
 pub use names::mnemonic_of;
 pub use operations::operation;
-pub use rows::decode;
+pub use rows::{OpTable, decode};
 
 mod codes;
 mod names;

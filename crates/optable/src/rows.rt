@@ -2,7 +2,6 @@
 
 ghost use Rattle.std.specs.Prelude.{◌≡◌, ◌<◌, ◌≤◌, IfSome};
 ghost use Rattle.model.specs.Table.{row_at};
-ghost use Rattle.optable.specs.Fields.{arithmetic_mnemonic, arithmetic_row, shift_mnemonic, shift_row, control_row, plain, plus, no_operand, first_row, index_row, branch_mnemonic, flag_mnemonic, stack_mnemonic};
 
 use model::{Mnemonic, Mode, Row};
 
@@ -13,234 +12,330 @@ pub fn decode(opcode: u8) -> Option<Row>
     ensures small { IfSome result (λ row. row.cycles < 8) }
     ensures len { IfSome result (λ row. (1 ≤ row.len) × (row.len ≤ 3)) }
 {
-    let group = opcode >> 5;
-    let place = (opcode >> 2) & 7;
-    match opcode & 3 {
-        0 => decode_control(group, place),
-        1 => decode_arithmetic(group, place),
-        2 => decode_shift(group, place),
-        _ => None,
+    OpTable::new().row(opcode)
+}
+
+/// The rows of all 256 bytes, each found in one step.
+#[derive(Clone, Copy)]
+pub struct OpTable;
+
+impl OpTable {
+    /// The table. Its rows are a constant of the program, so it takes no memory.
+    #[inline(always)]
+    pub fn new() -> OpTable {
+        OpTable
+    }
+
+    /// The row of an opcode, which is that of `decode`.
+    #[inline(always)]
+    pub fn row(self, opcode: u8) -> Option<Row>
+        ensures row { result ≡ row_at opcode }
+        ensures small { IfSome result (λ row. row.cycles < 8) }
+        ensures len { IfSome result (λ row. (1 ≤ row.len) × (row.len ≤ 3)) }
+    {
+        let rows = &ROWS;
+        rows[opcode as usize]
     }
 }
 
-fn make_row(mnemonic: Mnemonic, mode: Mode, len: u8, cycles: u8) -> Option<Row>
-    ensures { result ≡ plain mnemonic mode len cycles }
-{
-    Some(Row {
-        mnemonic,
-        mode,
-        len,
-        cycles,
-        penalty: false,
-    })
+/// A row whose cycles are always the same.
+macro_rules! row {
+    ($mnemonic:ident, $mode:ident, $len:literal, $cycles:literal) => {
+        Some(Row {
+            mnemonic: Mnemonic::$mnemonic,
+            mode: Mode::$mode,
+            len: $len,
+            cycles: $cycles,
+            penalty: false,
+        })
+    };
 }
 
-fn make_row_plus(mnemonic: Mnemonic, mode: Mode, len: u8, cycles: u8) -> Option<Row>
-    ensures { result ≡ plus mnemonic mode len cycles }
-{
-    Some(Row {
-        mnemonic,
-        mode,
-        len,
-        cycles,
-        penalty: true,
-    })
+/// A row that a page crossing costs one cycle more.
+macro_rules! plus {
+    ($mnemonic:ident, $mode:ident, $len:literal, $cycles:literal) => {
+        Some(Row {
+            mnemonic: Mnemonic::$mnemonic,
+            mode: Mode::$mode,
+            len: $len,
+            cycles: $cycles,
+            penalty: true,
+        })
+    };
 }
 
-fn arithmetic(group: u8) -> Mnemonic
-    requires { group < 8 }
-    ensures { result ≡ arithmetic_mnemonic group }
-{
-    match group {
-        0 => Mnemonic::Ora,
-        1 => Mnemonic::And,
-        2 => Mnemonic::Eor,
-        3 => Mnemonic::Adc,
-        4 => Mnemonic::Sta,
-        5 => Mnemonic::Lda,
-        6 => Mnemonic::Cmp,
-        _ => Mnemonic::Sbc,
-    }
-}
-
-/// Opcodes that end in the bits 01.
-fn decode_arithmetic(group: u8, place: u8) -> Option<Row>
-    requires group_in { group < 8 }
-    requires place_in { place < 8 }
-    ensures { result ≡ arithmetic_row group place }
-{
-    let mnemonic = arithmetic(group);
-    match place {
-        0 => make_row(mnemonic, Mode::IndX, 2, 6),
-        1 => make_row(mnemonic, Mode::Zp, 2, 3),
-        2 if group == 4 => None,
-        2 => make_row(mnemonic, Mode::Imm, 2, 2),
-        3 => make_row(mnemonic, Mode::Abs, 3, 4),
-        4 if group == 4 => make_row(mnemonic, Mode::IndY, 2, 6),
-        4 => make_row_plus(mnemonic, Mode::IndY, 2, 5),
-        5 => make_row(mnemonic, Mode::ZpX, 2, 4),
-        6 if group == 4 => make_row(mnemonic, Mode::AbsY, 3, 5),
-        6 => make_row_plus(mnemonic, Mode::AbsY, 3, 4),
-        _ if group == 4 => make_row(mnemonic, Mode::AbsX, 3, 5),
-        _ => make_row_plus(mnemonic, Mode::AbsX, 3, 4),
-    }
-}
-
-fn shift(group: u8) -> Mnemonic
-    requires { group < 8 }
-    ensures { result ≡ shift_mnemonic group }
-{
-    match group {
-        0 => Mnemonic::Asl,
-        1 => Mnemonic::Rol,
-        2 => Mnemonic::Lsr,
-        3 => Mnemonic::Ror,
-        4 => Mnemonic::Stx,
-        5 => Mnemonic::Ldx,
-        6 => Mnemonic::Dec,
-        _ => Mnemonic::Inc,
-    }
-}
-
-fn no_operand_mnemonic(group: u8) -> Mnemonic
-    requires { group < 8 }
-    ensures { result ≡ no_operand group }
-{
-    match group {
-        4 => Mnemonic::Txa,
-        5 => Mnemonic::Tax,
-        6 => Mnemonic::Dex,
-        _ => Mnemonic::Nop,
-    }
-}
-
-/// Opcodes that end in the bits 10.
-fn decode_shift(group: u8, place: u8) -> Option<Row>
-    requires group_in { group < 8 }
-    requires place_in { place < 8 }
-    ensures { result ≡ shift_row group place }
-{
-    let mnemonic = shift(group);
-    let is_index = group == 4 || group == 5;
-    match place {
-        0 if group == 5 => make_row(mnemonic, Mode::Imm, 2, 2),
-        1 if is_index => make_row(mnemonic, Mode::Zp, 2, 3),
-        1 => make_row(mnemonic, Mode::Zp, 2, 5),
-        2 if group < 4 => make_row(mnemonic, Mode::Acc, 1, 2),
-        2 => make_row(no_operand_mnemonic(group), Mode::Imp, 1, 2),
-        3 if is_index => make_row(mnemonic, Mode::Abs, 3, 4),
-        3 => make_row(mnemonic, Mode::Abs, 3, 6),
-        5 if is_index => make_row(mnemonic, Mode::ZpY, 2, 4),
-        5 => make_row(mnemonic, Mode::ZpX, 2, 6),
-        6 if group == 4 => make_row(Mnemonic::Txs, Mode::Imp, 1, 2),
-        6 if group == 5 => make_row(Mnemonic::Tsx, Mode::Imp, 1, 2),
-        7 if group == 5 => make_row_plus(mnemonic, Mode::AbsY, 3, 4),
-        7 if group != 4 => make_row(mnemonic, Mode::AbsX, 3, 7),
-        _ => None,
-    }
-}
-
-fn stack(group: u8) -> Mnemonic
-    requires { group < 8 }
-    ensures { result ≡ stack_mnemonic group }
-{
-    match group {
-        0 => Mnemonic::Php,
-        1 => Mnemonic::Plp,
-        2 => Mnemonic::Pha,
-        3 => Mnemonic::Pla,
-        4 => Mnemonic::Dey,
-        5 => Mnemonic::Tay,
-        6 => Mnemonic::Iny,
-        _ => Mnemonic::Inx,
-    }
-}
-
-fn branch(group: u8) -> Mnemonic
-    requires { group < 8 }
-    ensures { result ≡ branch_mnemonic group }
-{
-    match group {
-        0 => Mnemonic::Bpl,
-        1 => Mnemonic::Bmi,
-        2 => Mnemonic::Bvc,
-        3 => Mnemonic::Bvs,
-        4 => Mnemonic::Bcc,
-        5 => Mnemonic::Bcs,
-        6 => Mnemonic::Bne,
-        _ => Mnemonic::Beq,
-    }
-}
-
-fn flag(group: u8) -> Mnemonic
-    requires { group < 8 }
-    ensures { result ≡ flag_mnemonic group }
-{
-    match group {
-        0 => Mnemonic::Clc,
-        1 => Mnemonic::Sec,
-        2 => Mnemonic::Cli,
-        3 => Mnemonic::Sei,
-        4 => Mnemonic::Tya,
-        5 => Mnemonic::Clv,
-        6 => Mnemonic::Cld,
-        _ => Mnemonic::Sed,
-    }
-}
-
-/// The load and the compares that end in the bits 00, and BIT.
-fn decode_index(group: u8, mode: Mode, len: u8, cycles: u8) -> Option<Row>
-    requires { group < 8 }
-    ensures { result ≡ index_row group mode len cycles }
-{
-    match group {
-        1 => make_row(Mnemonic::Bit, mode, len, cycles),
-        4 => make_row(Mnemonic::Sty, mode, len, cycles),
-        5 => make_row(Mnemonic::Ldy, mode, len, cycles),
-        6 => make_row(Mnemonic::Cpy, mode, len, cycles),
-        7 => make_row(Mnemonic::Cpx, mode, len, cycles),
-        _ => None,
-    }
-}
-
-/// Opcodes of the form ggg00000.
-fn decode_first(group: u8) -> Option<Row>
-    requires { group < 8 }
-    ensures { result ≡ first_row group }
-{
-    match group {
-        0 => make_row(Mnemonic::Brk, Mode::Imp, 1, 7),
-        1 => make_row(Mnemonic::Jsr, Mode::Abs, 3, 6),
-        2 => make_row(Mnemonic::Rti, Mode::Imp, 1, 6),
-        3 => make_row(Mnemonic::Rts, Mode::Imp, 1, 6),
-        4 => None,
-        _ => decode_index(group, Mode::Imm, 2, 2),
-    }
-}
-
-/// Opcodes that end in the bits 00.
-fn decode_control(group: u8, place: u8) -> Option<Row>
-    requires group_in { group < 8 }
-    requires place_in { place < 8 }
-    ensures { result ≡ control_row group place }
-{
-    match place {
-        0 => decode_first(group),
-        1 => decode_index(group, Mode::Zp, 2, 3),
-        2 if group < 2 || group == 3 => make_row(
-            stack(group),
-            Mode::Imp,
-            1,
-            if group == 0 { 3 } else { 4 },
-        ),
-        2 => make_row(stack(group), Mode::Imp, 1, if group == 2 { 3 } else { 2 }),
-        3 if group == 2 => make_row(Mnemonic::Jmp, Mode::Abs, 3, 3),
-        3 if group == 3 => make_row(Mnemonic::Jmp, Mode::Ind, 3, 5),
-        3 => decode_index(group, Mode::Abs, 3, 4),
-        4 => make_row(branch(group), Mode::Rel, 2, 2),
-        5 if group == 4 || group == 5 => decode_index(group, Mode::ZpX, 2, 4),
-        6 => make_row(flag(group), Mode::Imp, 1, 2),
-        7 if group == 5 => make_row_plus(Mnemonic::Ldy, Mode::AbsX, 3, 4),
-        _ => None,
-    }
-}
+/// The row of each byte, from $00 on.
+pub const ROWS: [Option<Row>; 256] = [
+    // $00
+    row!(Brk, Imp, 1, 7),
+    row!(Ora, IndX, 2, 6),
+    None,
+    None,
+    None,
+    row!(Ora, Zp, 2, 3),
+    row!(Asl, Zp, 2, 5),
+    None,
+    row!(Php, Imp, 1, 3),
+    row!(Ora, Imm, 2, 2),
+    row!(Asl, Acc, 1, 2),
+    None,
+    None,
+    row!(Ora, Abs, 3, 4),
+    row!(Asl, Abs, 3, 6),
+    None,
+    // $10
+    row!(Bpl, Rel, 2, 2),
+    plus!(Ora, IndY, 2, 5),
+    None,
+    None,
+    None,
+    row!(Ora, ZpX, 2, 4),
+    row!(Asl, ZpX, 2, 6),
+    None,
+    row!(Clc, Imp, 1, 2),
+    plus!(Ora, AbsY, 3, 4),
+    None,
+    None,
+    None,
+    plus!(Ora, AbsX, 3, 4),
+    row!(Asl, AbsX, 3, 7),
+    None,
+    // $20
+    row!(Jsr, Abs, 3, 6),
+    row!(And, IndX, 2, 6),
+    None,
+    None,
+    row!(Bit, Zp, 2, 3),
+    row!(And, Zp, 2, 3),
+    row!(Rol, Zp, 2, 5),
+    None,
+    row!(Plp, Imp, 1, 4),
+    row!(And, Imm, 2, 2),
+    row!(Rol, Acc, 1, 2),
+    None,
+    row!(Bit, Abs, 3, 4),
+    row!(And, Abs, 3, 4),
+    row!(Rol, Abs, 3, 6),
+    None,
+    // $30
+    row!(Bmi, Rel, 2, 2),
+    plus!(And, IndY, 2, 5),
+    None,
+    None,
+    None,
+    row!(And, ZpX, 2, 4),
+    row!(Rol, ZpX, 2, 6),
+    None,
+    row!(Sec, Imp, 1, 2),
+    plus!(And, AbsY, 3, 4),
+    None,
+    None,
+    None,
+    plus!(And, AbsX, 3, 4),
+    row!(Rol, AbsX, 3, 7),
+    None,
+    // $40
+    row!(Rti, Imp, 1, 6),
+    row!(Eor, IndX, 2, 6),
+    None,
+    None,
+    None,
+    row!(Eor, Zp, 2, 3),
+    row!(Lsr, Zp, 2, 5),
+    None,
+    row!(Pha, Imp, 1, 3),
+    row!(Eor, Imm, 2, 2),
+    row!(Lsr, Acc, 1, 2),
+    None,
+    row!(Jmp, Abs, 3, 3),
+    row!(Eor, Abs, 3, 4),
+    row!(Lsr, Abs, 3, 6),
+    None,
+    // $50
+    row!(Bvc, Rel, 2, 2),
+    plus!(Eor, IndY, 2, 5),
+    None,
+    None,
+    None,
+    row!(Eor, ZpX, 2, 4),
+    row!(Lsr, ZpX, 2, 6),
+    None,
+    row!(Cli, Imp, 1, 2),
+    plus!(Eor, AbsY, 3, 4),
+    None,
+    None,
+    None,
+    plus!(Eor, AbsX, 3, 4),
+    row!(Lsr, AbsX, 3, 7),
+    None,
+    // $60
+    row!(Rts, Imp, 1, 6),
+    row!(Adc, IndX, 2, 6),
+    None,
+    None,
+    None,
+    row!(Adc, Zp, 2, 3),
+    row!(Ror, Zp, 2, 5),
+    None,
+    row!(Pla, Imp, 1, 4),
+    row!(Adc, Imm, 2, 2),
+    row!(Ror, Acc, 1, 2),
+    None,
+    row!(Jmp, Ind, 3, 5),
+    row!(Adc, Abs, 3, 4),
+    row!(Ror, Abs, 3, 6),
+    None,
+    // $70
+    row!(Bvs, Rel, 2, 2),
+    plus!(Adc, IndY, 2, 5),
+    None,
+    None,
+    None,
+    row!(Adc, ZpX, 2, 4),
+    row!(Ror, ZpX, 2, 6),
+    None,
+    row!(Sei, Imp, 1, 2),
+    plus!(Adc, AbsY, 3, 4),
+    None,
+    None,
+    None,
+    plus!(Adc, AbsX, 3, 4),
+    row!(Ror, AbsX, 3, 7),
+    None,
+    // $80
+    None,
+    row!(Sta, IndX, 2, 6),
+    None,
+    None,
+    row!(Sty, Zp, 2, 3),
+    row!(Sta, Zp, 2, 3),
+    row!(Stx, Zp, 2, 3),
+    None,
+    row!(Dey, Imp, 1, 2),
+    None,
+    row!(Txa, Imp, 1, 2),
+    None,
+    row!(Sty, Abs, 3, 4),
+    row!(Sta, Abs, 3, 4),
+    row!(Stx, Abs, 3, 4),
+    None,
+    // $90
+    row!(Bcc, Rel, 2, 2),
+    row!(Sta, IndY, 2, 6),
+    None,
+    None,
+    row!(Sty, ZpX, 2, 4),
+    row!(Sta, ZpX, 2, 4),
+    row!(Stx, ZpY, 2, 4),
+    None,
+    row!(Tya, Imp, 1, 2),
+    row!(Sta, AbsY, 3, 5),
+    row!(Txs, Imp, 1, 2),
+    None,
+    None,
+    row!(Sta, AbsX, 3, 5),
+    None,
+    None,
+    // $A0
+    row!(Ldy, Imm, 2, 2),
+    row!(Lda, IndX, 2, 6),
+    row!(Ldx, Imm, 2, 2),
+    None,
+    row!(Ldy, Zp, 2, 3),
+    row!(Lda, Zp, 2, 3),
+    row!(Ldx, Zp, 2, 3),
+    None,
+    row!(Tay, Imp, 1, 2),
+    row!(Lda, Imm, 2, 2),
+    row!(Tax, Imp, 1, 2),
+    None,
+    row!(Ldy, Abs, 3, 4),
+    row!(Lda, Abs, 3, 4),
+    row!(Ldx, Abs, 3, 4),
+    None,
+    // $B0
+    row!(Bcs, Rel, 2, 2),
+    plus!(Lda, IndY, 2, 5),
+    None,
+    None,
+    row!(Ldy, ZpX, 2, 4),
+    row!(Lda, ZpX, 2, 4),
+    row!(Ldx, ZpY, 2, 4),
+    None,
+    row!(Clv, Imp, 1, 2),
+    plus!(Lda, AbsY, 3, 4),
+    row!(Tsx, Imp, 1, 2),
+    None,
+    plus!(Ldy, AbsX, 3, 4),
+    plus!(Lda, AbsX, 3, 4),
+    plus!(Ldx, AbsY, 3, 4),
+    None,
+    // $C0
+    row!(Cpy, Imm, 2, 2),
+    row!(Cmp, IndX, 2, 6),
+    None,
+    None,
+    row!(Cpy, Zp, 2, 3),
+    row!(Cmp, Zp, 2, 3),
+    row!(Dec, Zp, 2, 5),
+    None,
+    row!(Iny, Imp, 1, 2),
+    row!(Cmp, Imm, 2, 2),
+    row!(Dex, Imp, 1, 2),
+    None,
+    row!(Cpy, Abs, 3, 4),
+    row!(Cmp, Abs, 3, 4),
+    row!(Dec, Abs, 3, 6),
+    None,
+    // $D0
+    row!(Bne, Rel, 2, 2),
+    plus!(Cmp, IndY, 2, 5),
+    None,
+    None,
+    None,
+    row!(Cmp, ZpX, 2, 4),
+    row!(Dec, ZpX, 2, 6),
+    None,
+    row!(Cld, Imp, 1, 2),
+    plus!(Cmp, AbsY, 3, 4),
+    None,
+    None,
+    None,
+    plus!(Cmp, AbsX, 3, 4),
+    row!(Dec, AbsX, 3, 7),
+    None,
+    // $E0
+    row!(Cpx, Imm, 2, 2),
+    row!(Sbc, IndX, 2, 6),
+    None,
+    None,
+    row!(Cpx, Zp, 2, 3),
+    row!(Sbc, Zp, 2, 3),
+    row!(Inc, Zp, 2, 5),
+    None,
+    row!(Inx, Imp, 1, 2),
+    row!(Sbc, Imm, 2, 2),
+    row!(Nop, Imp, 1, 2),
+    None,
+    row!(Cpx, Abs, 3, 4),
+    row!(Sbc, Abs, 3, 4),
+    row!(Inc, Abs, 3, 6),
+    None,
+    // $F0
+    row!(Beq, Rel, 2, 2),
+    plus!(Sbc, IndY, 2, 5),
+    None,
+    None,
+    None,
+    row!(Sbc, ZpX, 2, 4),
+    row!(Inc, ZpX, 2, 6),
+    None,
+    row!(Sed, Imp, 1, 2),
+    plus!(Sbc, AbsY, 3, 4),
+    None,
+    None,
+    None,
+    plus!(Sbc, AbsX, 3, 4),
+    row!(Inc, AbsX, 3, 7),
+    None,
+];

@@ -1,6 +1,6 @@
 -- From the reading machine's answer to what the grammar says of it.
 use Rattle.std.proofs.Common.{◌≡◌, ℕ, List, Option, Result, Ok, Err, sym, ◌∙◌, ap, subst, inl, inr, ◌⊎◌}
-use Rattle.std.specs.Prelude.{IfOk, IfErr}
+use Rattle.std.specs.Prelude.{IfOk, IfErr, IsErrAnd}
 use Rattle.model.specs.declared.tape.TapeFault.{TapeFault}
 use Rattle.model.specs.Tape.{Denotes, FirstFault}
 use Rattle.model.specs.TapeFault.{out_of_memory}
@@ -12,6 +12,9 @@ use Rattle.papertape.proofs.Again.{read_again}
 
 abbrev Read : Type 0
 Read = Result (List (Option ℕ)) TapeFault
+
+abbrev read_err : TapeFault → Read
+read_err f = Err f
 
 pub found_from : (text : List ℕ) (r : Read) → Answers r (read_of text) → IfOk r (λ image. Denotes text image)
 found_from text (Ok image) h = subst (λ (x : Read). SoundRead text x) h (read_sound text)
@@ -31,3 +34,11 @@ pub refused_from : (text : List ℕ) (r : Read) → Answers r (read_of text) →
 refused_from text (Ok image) h kind offset f = inl (sym h ∙ fault_again text kind offset f)
 refused_from text (Err e) (inl m) kind offset f = inr (ap Err m)
 refused_from text (Err e) (inr h) kind offset f = inl (sym h ∙ fault_again text kind offset f)
+
+pub answers_of : (gives r : Read) → gives ≡ r → Answers r gives
+answers_of gives (Ok cells) e = e
+answers_of gives (Err f) e = inr e
+
+pub answers_fault : (gives r : Read) (f : TapeFault) → IsErrAnd r (λ e. e ≡ f) → gives ≡ Err f → Answers r gives
+answers_fault gives (Ok cells) f h e = absurd h
+answers_fault gives (Err g) f h e = inr (e ∙ ap (λ (x : TapeFault). read_err x) (sym h))

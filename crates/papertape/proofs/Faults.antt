@@ -118,6 +118,7 @@ breaks_answer kinds.JunkAfterEnd n count s rest place b c (ds, tail, x, more, e,
     ∙ byte_fault n s t (59 ∷ (ds ++ tail)) x more (record { offset = n + length (59 ∷ (ds ++ tail)); kind = kinds.JunkAfterEnd }) behind (after_step (n + length (59 ∷ (ds ++ tail))) x t refl k)
     ∙ ap (fault kinds.JunkAfterEnd) (omega (arith, length-append ds tail))
 breaks_answer kinds.OutOfMemory n count s rest place b c h = absurd h
+breaks_answer kinds.TooLong n count s rest place b c h = absurd h
 
 pub fault_again : (text : List ℕ) (kind : TapeFaultKind) (offset : ℕ) → FirstFault text kind offset → read_of text ≡ fault kind offset
 unfolding read_of

@@ -12,3 +12,5 @@ pub mod Faults
 pub mod Texts
 pub mod Changed
 pub mod OneReading
+pub mod Pieces
+pub mod Told

@@ -1,44 +1,13 @@
 -- The texts that the writer appends.
-use Rattle.std.proofs.Common.{◌≡◌, ℕ, zero, suc, ◌+◌, ◌<◌, ◌≤◌, ◌/◌, ◌%◌, ◌==◌, ◌&&◌, Bool, true, List, [], ◌∷◌, ◌++◌, map, length, drop, slice_index, sum, Option, None, Result, Ok, Err, refl, sym, ap, ◌∙◌, arith, append_assoc, inl, inr, is_ok}
-use Rattle.std.specs.Prelude.{IfOk, OnOk, IsOk, if◌then◌else◌}
+use Rattle.std.proofs.Common.{◌≡◌, ℕ, zero, suc, ◌+◌, ◌≤◌, ◌/◌, ◌%◌, List, [], ◌∷◌, ◌++◌, length, drop, slice_index, sum, Option, None, Result, Ok, Err, refl, sym, ap, ◌∙◌, arith, append_assoc, is_ok}
+use Rattle.std.specs.Prelude.{IfOk, if◌then◌else◌}
 use Rattle.std.specs.List.{fold, flat_map}
-use Rattle.std.specs.Char.{to_ascii_uppercase}
-use Rattle.std.proofs.lemmas.Bool.{and_parts, cases_lt, eqb-true}
 use Rattle.std.proofs.lemmas.List.{append-nil}
-use Rattle.hex.specs.Hex.{encode_with, encode_lower, encode_upper, lower_digits, upper_digits}
+use Rattle.hex.specs.Hex.{encode_with, encode_upper, upper_digits}
 use Rattle.model.specs.TapeText.{word, with_sum, line, end_line, data_line, tape_text}
 use Rattle.papertape.specs.Writing.{cuts, IsNext}
 use Rattle.papertape.proofs.Runs.{cuts_pieces}
 use Rattle.papertape.proofs.Written.{cut_text}
-
--- the test of one place of the table of digits, which computes
-abbrev is_capital : ℕ → Bool
-is_capital d = to_ascii_uppercase (slice_index lower_digits d) == slice_index upper_digits d
-
-abbrev are_capitals : ℕ → Bool
-are_capitals zero = true
-are_capitals (suc n) = is_capital n && are_capitals n
-
-capital_at : (n d : ℕ) → are_capitals n ≡ true → d < n → is_capital d ≡ true
-capital_at zero d h lt = absurd (omega arith)
-capital_at (suc n) d h lt =
-    let parts = and_parts (is_capital n) (are_capitals n) h in
-    elim (cases_lt d n) [
-      | inl below ↦ capital_at n d parts.1 below
-      | inr top ↦
-          let e : d ≡ n = omega arith in
-          rw e parts.0
-    ]
-
-capital : (d : ℕ) → d < 16 → to_ascii_uppercase (slice_index lower_digits d) ≡ slice_index upper_digits d
-capital d lt = eqb-true (to_ascii_uppercase (slice_index lower_digits d)) (slice_index upper_digits d) (capital_at 16 d refl lt)
-
--- the digits of a byte in capitals
-pub capitals : (b : ℕ) → b < 256 → map to_ascii_uppercase (encode_lower (b ∷ [])) ≡ encode_upper (b ∷ [])
-unfolding encode_with
-capitals b lt =
-    ap (λ (x : ℕ). x ∷ to_ascii_uppercase (slice_index lower_digits (b % 16)) ∷ []) (capital (b / 16) (omega (arith, lt)))
-    ∙ ap (λ (x : ℕ). slice_index upper_digits (b / 16) ∷ x ∷ []) (capital (b % 16) (omega arith))
 
 encode-append : (xs ys : List ℕ) → encode_upper (xs ++ ys) ≡ encode_upper xs ++ encode_upper ys
 unfolding encode_with
@@ -104,10 +73,6 @@ record_text n number check bytes a b c d e f sum_is hb hc hd he hf =
 pub ended : {E : Type 0} (r : Result Unit E) (f g t : List ℕ) → g ≡ (if is_ok r then f ++ 13 ∷ 10 ∷ [] else f) → f ++ 13 ∷ 10 ∷ [] ≡ t → IfOk r (λ _. g ≡ t)
 ended (Err e) f g t h k = tt
 ended (Ok u) f g t h k = h ∙ k
-
-pub on_ok : {E : Type 0} (r : Result Unit E) (P : Type 0) → IsOk r → OnOk r P → P
-on_ok (Ok u) P h k = k
-on_ok (Err e) P h k = absurd cc
 
 -- no piece is left
 pub text_done : (cells : List (Option ℕ)) (out new : List ℕ) (from count : ℕ) → IsNext cells from None

@@ -1,12 +1,17 @@
 //! Laws of tapes.
 
-ghost use Rattle.std.specs.Prelude.{◌≡◌, ℕ, List, Option, IfOk, IfErr};
+ghost use Rattle.std.specs.Prelude.{◌≡◌, ◌≤◌, ◌++◌, ◌⊎◌, ◌↔◌, ℕ, List, Option, Ok, Err, IfOk, IfErr, length, map};
+ghost use Rattle.std.specs.List.{concat};
 ghost use Rattle.model.specs.Image.{IsImage};
 ghost use Rattle.model.specs.Tape.{Denotes, EachTextIsRead, ImageOrFault, OneDigitIsRefused, OneFault, OneImage};
 ghost use Rattle.model.specs.TapeFault.{out_of_memory};
+ghost use Rattle.model.specs.TapePieces.{IsReadInPieces, IsRefusedInPieces, Tells, longest};
 ghost use Rattle.model.specs.TapeText.{tape_text};
+ghost use Rattle.model.specs.declared.tape.TapeFault.{TapeFault};
+ghost use Rattle.papertape.specs.Feeding.{Fed, ended, fed, unfed};
+ghost use Rattle.papertape.specs.Reading.{Answers};
 
-use crate::reader::read_tape;
+use crate::reader::{TapeReader, read_tape};
 use crate::writer::write_tape;
 use bus::Image;
 use model::TapeFault;
@@ -29,6 +34,46 @@ pub fn each_text_has_one_reading()
 pub fn one_digit_is_refused()
     ensures { OneDigitIsRefused }
 {}
+
+/// A tape that comes in pieces has the answer of the whole text, however it is cut. A law for proofs: it does nothing.
+pub fn pieces_are_the_whole()
+    // Only what was fed counts, and not where it was cut.
+    ensures cut { (a b : List ℕ) (reader : Fed) → fed reader (a ++ b) ≡ fed (fed reader a) b }
+    // A reader that has failed answers its fault for each text still to come.
+    ensures failed { (fault : TapeFault) (piece : List ℕ) → (fed (Err fault) piece ≡ Err fault) × (ended (Err fault) ≡ Err fault) }
+    // A text that is not too long is refused while it is fed exactly where what was fed tells its fault.
+    ensures told { (text : List ℕ) (fault : TapeFault) → length text ≤ longest → (fed unfed text ≡ Err fault) ↔ Tells text fault }
+    // At the end there is an image exactly where the text denotes it and is not too long.
+    ensures image { (text : List ℕ) (cells : List (Option ℕ)) → (ended (fed unfed text) ≡ Ok cells) ↔ IsReadInPieces text cells }
+    // And a fault exactly where it is the text's first one, or that of a text that is too long.
+    ensures fault { (text : List ℕ) (fault : TapeFault) → (ended (fed unfed text) ≡ Err fault) ↔ IsRefusedInPieces text fault }
+{}
+
+/// The image of a tape that comes in these pieces, as `TapeReader` reads it.
+///
+/// The errors are those of `read_tape` for the pieces one behind the other, and `TooLong` at offset 4,294,967,295 where they have more bytes than that and the bytes before tell no fault.
+pub fn read_pieces(alloc: Global, pieces: &[&[u8]]) -> Result<Image, TapeFault>
+    // What is read is what the pieces denote together.
+    ensures found { IfOk result (λ image. IsReadInPieces (concat (map (λ piece. piece.now) pieces.entry.now)) image) }
+    // What denotes an image is read, unless memory is refused.
+    ensures only { (cells : List (Option ℕ)) → IsReadInPieces (concat (map (λ piece. piece.now) pieces.entry.now)) cells → (result ≡ Ok cells) ⊎ (result ≡ Err out_of_memory) }
+    // Each refusal is the fault of the text, or that memory was refused.
+    ensures fault { IfErr result (λ f. (f ≡ out_of_memory) ⊎ IsRefusedInPieces (concat (map (λ piece. piece.now) pieces.entry.now)) f) }
+    // A text with a fault is refused with it, unless memory is refused.
+    ensures refused { (fault : TapeFault) → IsRefusedInPieces (concat (map (λ piece. piece.now) pieces.entry.now)) fault → (result ≡ Err fault) ⊎ (result ≡ Err out_of_memory) }
+{
+    read_each(alloc, pieces)
+}
+
+fn read_each(alloc: Global, pieces: &[&[u8]]) -> Result<Image, TapeFault>
+    ensures { Answers result (ended (fed unfed (concat (map (λ piece. piece.now) pieces.entry.now)))) }
+{
+    let mut reader = TapeReader::new(alloc)?;
+    for piece in pieces {
+        reader.feed(piece)?;
+    }
+    reader.finish()
+}
 
 /// The image that is read from the tape written for an image: the same image.
 /// The only error is `OutOfMemory`, at offset 0, where a request for memory was refused.

@@ -9,7 +9,10 @@ mod reading;
 mod record;
 mod writer;
 
-pub use law::{each_text_has_one_reading, one_digit_is_refused, through_tape, written_is_read};
+pub use law::{
+    each_text_has_one_reading, one_digit_is_refused, pieces_are_the_whole, read_pieces,
+    through_tape, written_is_read,
+};
 pub use model::{TapeFault, TapeFaultKind};
-pub use reader::read_tape;
+pub use reader::{TapeReader, read_tape};
 pub use writer::write_tape;

@@ -4,17 +4,8 @@ ghost use Rattle.std.specs.Prelude.{◌≡◌, ◌++◌, ◌∷◌, ◌≤◌, [
 ghost use Rattle.hex.specs.Hex.{encode_upper};
 ghost use Rattle.model.specs.TapeText.{line, word};
 
+use hexdigits::digits_of;
 use std::alloc::AllocError;
-
-/// The two capital hex digits of a byte.
-fn digits_of(byte: u8) -> [u8; 2]
-    ensures { result ≡ encode_upper (byte ∷ []) }
-{
-    let mut digits = [0u8; 2];
-    let _ = hex::encode_to_slice([byte], &mut digits);
-    digits.make_ascii_uppercase();
-    digits
-}
 
 fn push_byte(out: &mut Vec<u8>, byte: u8) -> Result<(), AllocError>
     ensures { IfOk result (λ _. out.new.items ≡ out.old.items ++ encode_upper (byte ∷ [])) }

@@ -1,7 +1,9 @@
 //! Tapes whose texts and faults are known from outside.
 
 use bus::Image;
-use papertape::{TapeFault, TapeFaultKind, read_tape, through_tape, write_tape};
+use papertape::{
+    TapeFault, TapeFaultKind, TapeReader, read_pieces, read_tape, through_tape, write_tape,
+};
 use std::alloc::Global;
 use std::test::Fail;
 
@@ -20,6 +22,15 @@ fn program(alloc: Global) -> Result<Image, Fail> {
 
 fn fault(kind: TapeFaultKind, offset: u64) -> Option<TapeFault> {
     Some(TapeFault { offset, kind })
+}
+
+/// What a reader says that is fed one byte at a time: the fault of the first call that meets it.
+fn read_by_bytes(alloc: Global, text: &[u8]) -> Result<Image, TapeFault> {
+    let mut reader = TapeReader::new(alloc)?;
+    for byte in text {
+        reader.feed(&[*byte])?;
+    }
+    reader.finish()
 }
 
 #[test]
@@ -113,6 +124,7 @@ fn first_faults(rt: HostRuntime) {
     ];
     for (text, kind, offset) in rows {
         assert_eq!(rt; read_tape(alloc, text).err(), fault(kind, offset));
+        assert_eq!(rt; read_by_bytes(alloc, text).err(), fault(kind, offset));
     }
 }
 
@@ -126,8 +138,11 @@ fn a_tape_cut_short(rt: HostRuntime) {
         } else {
             None
         };
-        let read = read_tape(rt.alloc(), &PROGRAM_TAPE[..length]);
+        let cut = &PROGRAM_TAPE[..length];
+        let read = read_tape(rt.alloc(), cut);
         assert_eq!(rt; read.err(), wanted, "cut to {length}");
+        let read = read_by_bytes(rt.alloc(), cut);
+        assert_eq!(rt; read.err(), wanted, "cut to {length}, byte by byte");
     }
 }
 
@@ -141,13 +156,45 @@ fn one_digit_changed(rt: HostRuntime) {
         let mut text = *PROGRAM_TAPE;
         text[place] = if text[place] == b'7' { b'8' } else { b'7' };
         let start = if place < 25 { 0 } else { 25 };
+        let wanted = fault(TapeFaultKind::BadChecksum, start);
         let read = read_tape(rt.alloc(), &text);
-        assert_eq!(rt;
-            read.err(),
-            fault(TapeFaultKind::BadChecksum, start),
-            "at {place}"
-        );
+        assert_eq!(rt; read.err(), wanted, "at {place}");
+        let read = read_by_bytes(rt.alloc(), &text);
+        assert_eq!(rt; read.err(), wanted, "at {place}, byte by byte");
     }
+}
+
+/// The first fault is answered by the call that meets it and by each later one, also where nothing is fed.
+#[test]
+fn a_failed_reader(rt: HostRuntime) -> Result<(), Fail> {
+    let mut reader = TapeReader::new(rt.alloc())?;
+    let wanted = fault(TapeFaultKind::BadHex, 3);
+    assert_eq!(rt; reader.feed(b";01").err(), None);
+    assert_eq!(rt; reader.feed(b"G").err(), wanted);
+    assert_eq!(rt; reader.feed(b";").err(), wanted);
+    assert_eq!(rt; reader.feed(b"").err(), wanted);
+    assert_eq!(rt; reader.finish().err(), wanted);
+    Ok(())
+}
+
+/// A tape that ends in a record is refused at its end alone.
+#[test]
+fn pieces_of_a_record(rt: HostRuntime) -> Result<(), Fail> {
+    let mut reader = TapeReader::new(rt.alloc())?;
+    for piece in [b";0100".as_slice(), b"10ff01", b"", b"10"] {
+        reader.feed(piece)?;
+    }
+    assert_eq!(rt; reader.finish().err(), fault(TapeFaultKind::Truncated, 13));
+    let pieces = [
+        b";0100".as_slice(),
+        b"10ff01",
+        b"10\r",
+        b"\n;00000100",
+        b"01",
+    ];
+    let image = read_pieces(rt.alloc(), &pieces)?;
+    assert_eq!(rt; image.get(0x10), Some(0xFF));
+    Ok(())
 }
 
 #[test]
@@ -177,6 +224,7 @@ fn numbers_and_names(rt: HostRuntime) -> Result<(), Fail> {
         (TapeFaultKind::JunkAfterEnd, 7, "JunkAfterEnd 7"),
         (TapeFaultKind::JunkBetween, 8, "JunkBetween 8"),
         (TapeFaultKind::OutOfMemory, 9, "OutOfMemory 9"),
+        (TapeFaultKind::TooLong, 10, "TooLong 10"),
     ];
     for (kind, number, text) in rows {
         assert_eq!(rt; kind.number(), number);

@@ -8,15 +8,17 @@ use assembler::AsmFaultKind;
 use bus::{Bus, BusFault, Image, MapSpec};
 use cpu::Machine;
 use debugger::{Session, SessionFault};
-use papertape::{TapeFault, TapeFaultKind, read_tape, through_tape, write_tape};
+use papertape::{
+    TapeFault, TapeFaultKind, TapeReader, read_pieces, read_tape, through_tape, write_tape,
+};
 use std::alloc::Global;
 use std::process::ExitCode;
 use std::{env, io};
 use thiserror::Error;
 
-/// A source with tokens and expressions of each kind.
+/// A source with tokens, expressions, names and data of each kind.
 const SOURCE: &[u8] =
-    b"; nothing\n*=$0200\n LDA #[1+2]*4/$4|%101\n STA <$1234,X\n.BYTE 1,'c',*&255\n\n";
+    b"; nothing\nname = [1+2]*4\n*=$0200\nlabel: LDA #name/$4|%101\n STA <$1234,X\n.BYTE 1,'c',*&255,\"text\"\n.WORD label,later\n.DBYTE -2\nlater: .RES 2\n\n";
 
 /// A source whose last line is none.
 const FAULTY_SOURCE: &[u8] = b"*=$0200\n LDA #[1+2]*3\n.WORD [4^5],>$1234\n?\n";
@@ -69,6 +71,14 @@ fn assemble(alloc: Global, map: &MapSpec, source: &[u8]) -> Result<(), Fault> {
     }
 }
 
+/// Assembles a text at $0200.
+fn assemble_line(alloc: Global, text: &[u8]) -> Result<(), Fault> {
+    match assembler::assemble_line(alloc, 0x0200, text) {
+        Ok(_) => Ok(()),
+        Err(fault) => Err(Fault::Source(fault.kind)),
+    }
+}
+
 /// Makes the call that a word names, on the map without ROM, and lets its value go.
 fn make(alloc: Global, word: &str) -> Result<(), Fault> {
     let map = MapSpec::new(None, 0xf000)?;
@@ -89,8 +99,22 @@ fn make(alloc: Global, word: &str) -> Result<(), Fault> {
         "assemble" => assemble(alloc, &map, SOURCE)?,
         "assemble_faulty" => assemble(alloc, &map, FAULTY_SOURCE)?,
         "assemble_value" => assemble(alloc, &map, FAULTY_VALUE)?,
+        "assemble_line" => assemble_line(alloc, b"LDA #[1+2]*4/$4|%101")?,
+        "assemble_line_faulty" => assemble_line(alloc, b".BYTE 1,2,[3*4],name")?,
+        "set_break" => {
+            Session::new(alloc, map, &Image::new(alloc)?, 8)?.set_break(0x0200)?;
+        }
+        "set_watch" => {
+            Session::new(alloc, map, &Image::new(alloc)?, 8)?.set_watch(0x0200)?;
+        }
         "read_tape" => {
             read_tape(alloc, b";0000000000")?;
+        }
+        "read_pieces" => {
+            read_pieces(alloc, &[b";00000".as_slice(), b"", b"00000"])?;
+        }
+        "tape_reader_new" => {
+            TapeReader::new(alloc)?;
         }
         "write_tape" => {
             write_tape(alloc, &Image::new(alloc)?)?;

@@ -1,14 +1,21 @@
 -- What the words ask for, by the values that clap's definition of a parse finds among them.
-use Rattle.std.specs.Prelude.{ℕ, Bool, false, List, Option, Some, None, codes, if◌then◌else◌, option_and_then, option_map}
+use Rattle.std.specs.Prelude.{ℕ, Bool, false, List, Option, Some, None, codes, nat_le, ◌||◌, if◌then◌else◌, option_and_then, option_map}
 use Rattle.std.specs.Str.{bytes_eq}
 use Rattle.clap.specs.Words.{Row, Text, first_of, subcommand_of}
 use Rattle.words.specs.CommandLine.{mos65}
+use Rattle.model.specs.Commands.{address_of}
 use Rattle.words.specs.Values.{history_asked, port_asked, rom_asked}
 
 pub record AsmAsked : Type 0 where
   pub source : Text
   pub tape : Text
+  pub listing : Option Text
   pub port : ℕ
+
+pub record DisAsked : Type 0 where
+  pub tape : Text
+  pub first : ℕ
+  pub last : ℕ
 
 pub record DebugAsked : Type 0 where
   pub file : Text
@@ -19,11 +26,29 @@ pub record DebugAsked : Type 0 where
 
 pub data Asked : Type 0 where
   asm : AsmAsked → Asked
+  dis : DisAsked → Asked
   debug : DebugAsked → Asked
 
-abbrev pub asm_of : Option Text → Option Text → Option ℕ → Option AsmAsked
-asm_of (Some source) (Some tape) (Some port) = Some (record { source = source; tape = tape; port = port })
-asm_of source tape port = None
+-- a file that is asked for has this name
+abbrev pub is_named : Option Text → Text → Bool
+is_named None name = false
+is_named (Some file) name = bytes_eq file name
+
+-- a file to write has the name of the source, or of the other file to write
+abbrev pub overwrites : Text → Text → Option Text → Bool
+overwrites source tape listing = bytes_eq tape source || is_named listing source || is_named listing tape
+
+abbrev pub asm_of : Option Text → Option Text → Option Text → Option ℕ → Option AsmAsked
+asm_of (Some source) (Some tape) listing (Some port) =
+    if overwrites source tape listing then None
+    else Some (record { source = source; tape = tape; listing = listing; port = port })
+asm_of source tape listing port = None
+
+-- the first address is at most the last
+abbrev pub dis_of : Option Text → Option ℕ → Option ℕ → Option DisAsked
+dis_of (Some tape) (Some first) (Some last) =
+    if nat_le first last then Some (record { tape = tape; first = first; last = last }) else None
+dis_of tape first last = None
 
 -- clap gives a flag that is there the value `true`
 abbrev pub is_flag : Option Text → Bool
@@ -37,7 +62,11 @@ debug_of file is_tape history port rom = None
 
 -- what the values of the names of `asm` ask for, where each is one that its name can have
 abbrev pub asm_asked : (Text → Option Text) → Option AsmAsked
-asm_asked value = asm_of (value (codes "SOURCE")) (value (codes "TAPE")) (port_asked (value (codes "port")))
+asm_asked value = asm_of (value (codes "SOURCE")) (value (codes "TAPE")) (value (codes "listing")) (port_asked (value (codes "port")))
+
+-- what the values of the names of `dis` ask for, where each is one that its name can have
+abbrev pub dis_asked : (Text → Option Text) → Option DisAsked
+dis_asked value = dis_of (value (codes "TAPE")) (option_and_then address_of (value (codes "LO"))) (option_and_then address_of (value (codes "HI")))
 
 -- what the values of the names of `debug` ask for, where each is one that its name can have
 abbrev pub debug_asked : (Text → Option Text) → Option DebugAsked
@@ -48,6 +77,7 @@ debug_asked value = debug_of (value (codes "FILE")) (is_flag (value (codes "tape
 abbrev pub asked_by : Text → (Text → Option Text) → Option Asked
 asked_by name value =
     if bytes_eq name (codes "asm") then option_map asm (asm_asked value)
+    else if bytes_eq name (codes "dis") then option_map dis (dis_asked value)
     else if bytes_eq name (codes "debug") then option_map debug (debug_asked value)
     else None
 

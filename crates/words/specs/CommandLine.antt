@@ -1,4 +1,4 @@
--- The program's command line, `asm SOURCE TAPE [--port HHHH]` or
+-- The program's command line, `asm SOURCE TAPE [--listing FILE] [--port HHHH]`, `dis TAPE LO HI` or
 -- `debug FILE [--tape] [--history N] [--port HHHH] [--rom LO-HI]`, as clap's definitions describe
 -- one. How words are matched with it is clap's to say.
 use Rattle.std.specs.Prelude.{true, Some, codes}
@@ -18,8 +18,12 @@ abbrev pub option_rule : Text → Rule
 option_rule name = record (new_rule name) { long = Some name; action = Some Set; value_names = 1 }
 
 abbrev pub asm : App
-asm = with_rule (with_rule (with_rule (new_app (codes "asm"))
-    (file_rule (codes "SOURCE"))) (file_rule (codes "TAPE"))) (option_rule (codes "port"))
+asm = with_rule (with_rule (with_rule (with_rule (new_app (codes "asm"))
+    (file_rule (codes "SOURCE"))) (file_rule (codes "TAPE"))) (option_rule (codes "listing"))) (option_rule (codes "port"))
+
+abbrev pub dis : App
+dis = with_rule (with_rule (with_rule (new_app (codes "dis"))
+    (file_rule (codes "TAPE"))) (file_rule (codes "LO"))) (file_rule (codes "HI"))
 
 abbrev pub debug : App
 debug = with_rule (with_rule (with_rule (with_rule (with_rule (new_app (codes "debug"))
@@ -31,4 +35,4 @@ abbrev pub above : App
 above = let new = new_app (codes "mos65") in record new { top = record new.top { no_binary_name = true; subcommand_required = true } }
 
 abbrev pub mos65 : App
-mos65 = with_subcommand (with_subcommand above asm.top) debug.top
+mos65 = with_subcommand (with_subcommand (with_subcommand above asm.top) dis.top) debug.top

@@ -6,19 +6,34 @@ ghost use Rattle.std.specs.Prelude.{◌≤◌};
 pub enum Words<'a> {
     /// `asm SOURCE TAPE`: a source is to be assembled, and its tape written.
     Asm(AsmWords<'a>),
+    /// `dis TAPE LO HI`: what a tape has between two addresses is to be listed as text.
+    Dis(DisWords<'a>),
     /// `debug FILE`: a source or a tape is to be debugged.
     Debug(DebugWords<'a>),
 }
 
-/// What the words of `asm SOURCE TAPE [--port HHHH]` ask for.
+/// What the words of `asm SOURCE TAPE [--listing FILE] [--port HHHH]` ask for. No two of the files have the same name.
 #[derive(Clone, Copy, Debug, PartialEq, Eq)]
 pub struct AsmWords<'a> {
     /// The file to read.
     pub source: &'a str,
-    /// The file to write.
+    /// The file to write the tape to.
     pub tape: &'a str,
+    /// The file to write the listing to, where one is asked for.
+    pub listing: Option<&'a str>,
     /// The first of the port's four addresses.
     pub port: u16,
+}
+
+/// What the words of `dis TAPE LO HI` ask for.
+#[derive(Clone, Copy, Debug, PartialEq, Eq)]
+pub struct DisWords<'a> {
+    /// The file to read.
+    pub tape: &'a str,
+    /// The first address to list, at most the last one.
+    pub first: u16,
+    /// The address behind which no row begins.
+    pub last: u16,
 }
 
 /// What the words of `debug FILE [--tape] [--history N] [--port HHHH] [--rom LO-HI]` ask for.

@@ -2,13 +2,13 @@
 ghost use Rattle.std.specs.Prelude.{◌≡◌, IfErr, IfOk, codes, false};
 ghost use Rattle.clap.specs.Words.{app_of, kind_of, rule_of};
 ghost use Rattle.clap.specs.declared.builder.command.Command.TheViews.{out-Command};
-ghost use Rattle.words.specs.CommandLine.{asm, debug, file_rule, flag_rule, mos65, option_rule};
+ghost use Rattle.words.specs.CommandLine.{asm, debug, dis, file_rule, flag_rule, mos65, option_rule};
 
 use clap::error::ErrorKind;
 use clap::{Arg, ArgAction, Command, Error};
 use std::alloc::Global;
 
-/// A file's name, which has to be there.
+/// A word that has to be there.
 fn file<'a>(alloc: Global, name: &'a str, help: &'a str) -> Arg<'a>
     ensures rule { rule_of result ≡ file_rule name.entry.now }
     ensures local { result.global ≡ false }
@@ -59,7 +59,21 @@ fn asm_command<'a>(alloc: Global) -> Result<Command<'a>, Error>
         .about("Assembles a source, and writes its tape")
         .arg(file(alloc, "SOURCE", "The source to assemble"))?
         .arg(file(alloc, "TAPE", "The file to write the tape to"))?
+        .arg(option(alloc, "listing", "FILE", "The file to write the listing to"))?
         .arg(port(alloc))?;
+    Ok(command)
+}
+
+fn dis_command<'a>(alloc: Global) -> Result<Command<'a>, Error>
+    ensures shape { IfOk result (λ c. app_of c ≡ dis) }
+    ensures local { IfOk result (λ c. (out-Command c).has_globals ≡ false) }
+    ensures memory { IfErr result (λ e. kind_of e ≡ ErrorKind.OutOfMemory) }
+{
+    let command = Command::new(alloc, "dis")
+        .about("Lists what a tape has between two addresses as instructions")
+        .arg(file(alloc, "TAPE", "The tape to read"))?
+        .arg(file(alloc, "LO", "The first address, four hex digits"))?
+        .arg(file(alloc, "HI", "The last address, four hex digits"))?;
     Ok(command)
 }
 
@@ -95,6 +109,7 @@ pub fn command<'a>(alloc: Global) -> Result<Command<'a>, Error>
         .subcommand_required(true)
         .bin_name("mos65")?
         .subcommand(asm_command(alloc)?)?
+        .subcommand(dis_command(alloc)?)?
         .subcommand(debug_command(alloc)?)?;
     Ok(program)
 }

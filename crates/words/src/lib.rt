@@ -7,6 +7,6 @@ mod fault;
 mod read;
 mod value;
 
-pub use asked::{AsmWords, DebugWords, Words};
+pub use asked::{AsmWords, DebugWords, DisWords, Words};
 pub use fault::WordsFault;
 pub use read::read_words;

@@ -1,14 +1,14 @@
 //! Words read as what they ask for.
 ghost use Rattle.std.specs.Prelude.{◌≡◌, ◌⊎◌, Err, None, Some, IsOkUnless, IfErr, IfOk, codes, map, option_map};
 ghost use Rattle.clap.specs.Words.{first_value, found_of, subcommand_rows_of};
-ghost use Rattle.words.specs.Asked.{Asked, asked, asked_of, asm_asked, debug_asked, is_flag};
+ghost use Rattle.words.specs.Asked.{Asked, asked, asked_of, asm_asked, debug_asked, dis_asked, is_flag, overwrites};
 ghost use Rattle.words.specs.Refused.{IsRightRefusal, IsTaken};
-ghost use Rattle.words.specs.Views.{asm_view, debug_view, view};
+ghost use Rattle.words.specs.Views.{asm_view, debug_view, dis_view, view};
 
-use crate::asked::{AsmWords, DebugWords, Words};
+use crate::asked::{AsmWords, DebugWords, DisWords, Words};
 use crate::command::command;
 use crate::fault::WordsFault;
-use crate::value::{history_asked, port_asked, rom_asked};
+use crate::value::{address_asked, history_asked, port_asked, rom_asked};
 use clap::ArgMatches;
 use std::alloc::Global;
 
@@ -22,15 +22,46 @@ fn is_given(matches: &ArgMatches<'_>, name: &str) -> bool
     }
 }
 
+/// Whether a file to write has the name of the source, or of the other file to write. The names are compared as they stand.
+fn overwrites(source: &str, tape: &str, listing: Option<&str>) -> bool
+    ensures { result ≡ overwrites source.now tape.now (option_map (λ s. s.now) listing.entry) }
+{
+    match listing {
+        None => tape == source,
+        Some(listing) => tape == source || listing == source || listing == tape,
+    }
+}
+
 /// What the values that were found ask for, or `None` where one is no value of its option.
 fn asm_words<'a>(matches: &ArgMatches<'a>) -> Option<AsmWords<'a>>
     ensures { option_map asm_view result ≡ asm_asked (first_value (found_of matches.now)) }
 {
+    let source = matches.get_str("SOURCE")?;
+    let tape = matches.get_str("TAPE")?;
+    let listing = matches.get_str("listing");
+    let port = port_asked(matches.get_str("port"))?;
+    if overwrites(source, tape, listing) {
+        return None;
+    }
     Some(AsmWords {
-        source: matches.get_str("SOURCE")?,
-        tape: matches.get_str("TAPE")?,
-        port: port_asked(matches.get_str("port"))?,
+        source,
+        tape,
+        listing,
+        port,
     })
+}
+
+/// What the values that were found ask for, or `None` where one is no address, or the first is above the last.
+fn dis_words<'a>(matches: &ArgMatches<'a>) -> Option<DisWords<'a>>
+    ensures { option_map dis_view result ≡ dis_asked (first_value (found_of matches.now)) }
+{
+    let tape = matches.get_str("TAPE")?;
+    let first = address_asked(matches.get_str("LO"))?;
+    let last = address_asked(matches.get_str("HI"))?;
+    if first > last {
+        return None;
+    }
+    Some(DisWords { tape, first, last })
 }
 
 /// What the values that were found ask for, or `None` where one is no value of its option.
@@ -56,6 +87,7 @@ fn asked<'a>(matches: &ArgMatches<'a>) -> Option<Words<'a>>
 {
     match matches.subcommand()? {
         ("asm", found) => Some(Words::Asm(asm_words(found)?)),
+        ("dis", found) => Some(Words::Dis(dis_words(found)?)),
         ("debug", found) => Some(Words::Debug(debug_words(found)?)),
         _ => None,
     }
@@ -71,7 +103,8 @@ fn asked<'a>(matches: &ArgMatches<'a>) -> Option<Words<'a>>
 ///   many. The text is `clap`'s.
 /// - `Value`: `clap` takes the words, and a value is none that its option can have: `--port` with
 ///   anything but four hex digits, `--history` with anything but one to five decimal digits of a
-///   number up to 65,536, or `--rom` with anything but two such addresses with `-` between.
+///   number up to 65,536, or `--rom` with anything but two such addresses with `-` between; LO or HI
+///   of `dis` with anything but such an address, or LO above HI; two files of `asm` with one name.
 /// - `OutOfMemory`: a request for memory was refused.
 pub fn read_words<'a>(alloc: Global, words: &'a [&'a str]) -> Result<Words<'a>, WordsFault>
     ensures asked { IfOk result (λ w. asked (map (λ s. s.now) words.entry.now) ≡ Some (view w)) }

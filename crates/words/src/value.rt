@@ -1,5 +1,6 @@
 //! Values as words.
-ghost use Rattle.std.specs.Prelude.{◌≡◌, ◌≤◌, length, option_map};
+ghost use Rattle.std.specs.Prelude.{◌≡◌, ◌≤◌, length, option_and_then, option_map};
+ghost use Rattle.model.specs.Commands.{address_of};
 ghost use Rattle.words.specs.Values.{decimal_from, digit_of, history_asked, history_of, port_asked, range_of, rom_asked};
 
 use commands::address_of;
@@ -88,5 +89,15 @@ pub fn rom_asked(word: Option<&str>) -> Option<Option<(u16, u16)>>
             None => None,
             Some(rom) => Some(Some(rom)),
         },
+    }
+}
+
+/// The address that a word writes, or `None` where there is none, or it writes none.
+pub fn address_asked(word: Option<&str>) -> Option<u16>
+    ensures { result ≡ option_and_then address_of (option_map (λ w. w.now) word.entry) }
+{
+    match word {
+        None => None,
+        Some(word) => address_of(word.as_bytes()),
     }
 }

@@ -1,6 +1,7 @@
 //! What shows of a machine.
 
 ghost use Rattle.std.specs.Prelude.{◌≡◌, ◌+◌, ◌<◌, length, slice_get, slice_index};
+ghost use Rattle.model.specs.State.{is_port};
 
 use crate::machine::Machine;
 use model::Regs;
@@ -10,7 +11,15 @@ impl Machine {
     pub fn regs(&self) -> Regs
         ensures { result ≡ self.now.regs }
     {
-        self.regs
+        self.regs.seen()
+    }
+
+    /// The program counter.
+    #[inline(always)]
+    pub fn pc(&self) -> u16
+        ensures { result ≡ self.now.regs.pc }
+    {
+        self.regs.pc
     }
 
     /// The cycles since load.
@@ -24,8 +33,16 @@ impl Machine {
     pub fn peek(&self, address: u16) -> u8
         ensures value { result ≡ slice_index self.now.bus.memory address }
         ensures within { address < length self.now.bus.memory }
+        ensures size { length self.now.bus.memory ≡ 65536 }
     {
         self.bus.peek(address)
+    }
+
+    /// Whether the port has this address.
+    pub fn is_port(&self, address: u16) -> bool
+        ensures { result ≡ is_port self.now.bus.map address }
+    {
+        self.bus.is_port(address)
     }
 
     /// How many bytes the output holds, 0 to 65,536.

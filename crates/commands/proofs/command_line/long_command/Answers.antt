@@ -6,4 +6,4 @@ use Rattle.commands.proofs.command_line.long_command.Goals as goal
 pub returns-else-is_empty-2 : goal.returns-else-is_empty-2
 returns-else-is_empty-2 c =
     sym (six c.args.word.now c.args.second.now c.args.third.now c.args.fourth.now c.args.rest.now _ _ _ _
-    c.next_word.ensures (eqb-false _ _ (sym c.if-is_empty.ensures)) c.next_word-2.ensures (eqb-false _ _ (sym c.if-is_empty-2.ensures)) c.requires)
+    c.next_word.ensures.word (eqb-false _ _ (sym c.if-is_empty.ensures)) c.next_word-2.ensures.word (eqb-false _ _ (sym c.if-is_empty-2.ensures)) c.requires)

@@ -5,76 +5,72 @@ use Rattle.std.specs.Io.KnownBytes.{Appends}
 use Rattle.model.specs.Written.{AppendsFront}
 use Rattle.model.specs.Transcript.{transcript}
 use Rattle.engine.specs.Feeding.{feed}
-use Rattle.engine.proofs.Writing.{front_after, front_more, front_all}
+use Rattle.engine.proofs.Outcomes.{replying_serves, replying_serving}
+use Rattle.replies.proofs.Writing.{front_after, front_more}
 use Rattle.engine.proofs.Feeds.{IsServed, served_start}
-use Rattle.engine.proofs.Serving.{known, served_more, served_quit, served_bytes, served_front, so_far, served_all, served_last, length_zero, length_some}
+use Rattle.engine.proofs.Serving.{known, served_more, served_quit, served_bytes, so_far, served_all, served_last, length_zero, length_some}
 use Rattle.engine.proofs.lines.serve.Goals as goal
 
 pub loop-init : goal.loop-init
 loop-init g c = ([], [], Consumes-nil _, Appends-nil _, subst (IsServed c.args.session.now [] [] c.args.session.now) (sym c.new-begun.ensures) (served_start c.args.session.now))
 
-pub returns-then-is_empty-clause-ok : goal.returns-then-is_empty-clause-ok
-returns-then-is_empty-clause-ok g c =
+pub returns-then-is_empty-clause-serves : goal.returns-then-is_empty-clause-serves
+returns-then-is_empty-clause-serves g c =
     let inv = c.loop.invariant in
     let bytes = rw c.in-Ok-eq0.field-0-test at c.in-Ok-eq0.ensures.bytes in
     let none : c.loop.begun.items ≡ [] = length_zero c.loop.begun.items (eqb-true _ _ (sym c.if-is_empty.ensures)) in
     let all = served_all _ _ inv.0 inv.1 _ inv.4 none in
     let told = Consumes-trans _ _ _ inv.0 [] inv.2 bytes.0 in
-    Consumes-whole _ _ _ (λ input. Appends (g.W.Write.contents c.args.writer.now) (g.W.Write.contents c.loop.writer) (transcript c.args.session.now input).written × (c.loop.session ≡ (transcript c.args.session.now input).session))
-    told (bytes.1 refl (omega arith)) (rw (append-nil inv.0, all) (inv.3, refl))
+    Consumes-whole _ _ _ (λ input. Appends (g.W.Write.contents c.args.writer.now) (g.W.Write.contents c.loop.writer) (transcript c.args.session.now input).written)
+    told (bytes.1 refl (omega arith)) (rw (append-nil inv.0, all) inv.3)
 
-pub returns-in-Ok-serve_line-clause-ok : goal.returns-in-Ok-serve_line-clause-ok
-returns-in-Ok-serve_line-clause-ok g c =
+pub returns-in-Ok-serve_line-clause-serves : goal.returns-in-Ok-serve_line-clause-serves
+returns-in-Ok-serve_line-clause-serves g c =
     let inv = c.loop.invariant in
     let bytes = rw c.in-Ok-eq0.field-0-test at c.in-Ok-eq0.ensures.bytes in
     let line = rw c.as_slice.ensures.value at c.in-Ok-serve_line.ensures in
     let some : 0 < length c.loop.begun.items = length_some c.loop.begun.items (eqb-false _ _ (sym c.if-is_empty.ensures)) in
     let all = served_last _ _ inv.0 inv.1 _ inv.4 some in
     let told = Consumes-trans _ _ _ inv.0 [] inv.2 bytes.0 in
-    Consumes-whole _ _ _ (λ input. Appends (g.W.Write.contents c.args.writer.now) (g.W.Write.contents c.serve_line.new.writer) (transcript c.args.session.now input).written × (c.serve_line.new.session ≡ (transcript c.args.session.now input).session))
-    told (bytes.1 refl (omega arith)) (rw (append-nil inv.0, all) (Appends-trans _ _ _ _ _ inv.3 line.writes, line.ok.1))
+    Consumes-whole _ _ _ (λ input. Appends (g.W.Write.contents c.args.writer.now) (g.W.Write.contents c.serve_line.new.writer) (transcript c.args.session.now input).written)
+    told (bytes.1 refl (omega arith)) (rw (append-nil inv.0, all) (Appends-trans _ _ _ _ _ inv.3 line.writes))
 
-pub returns-in-Err-serve_line-clause-err : goal.returns-in-Err-serve_line-clause-err
-returns-in-Err-serve_line-clause-err g c =
+pub returns-in-Err-serve_line-clause-serves : goal.returns-in-Err-serve_line-clause-serves
+returns-in-Err-serve_line-clause-serves g c =
     let inv = c.loop.invariant in
     let bytes = rw c.in-Ok-eq0.field-0-test at c.in-Ok-eq0.ensures.bytes in
     let line = rw c.as_slice.ensures.value at c.in-Err-serve_line.ensures in
     let some : 0 < length c.loop.begun.items = length_some c.loop.begun.items (eqb-false _ _ (sym c.if-is_empty.ensures)) in
     let all = served_last _ _ inv.0 inv.1 _ inv.4 some in
     let told = Consumes-trans _ _ _ inv.0 [] inv.2 bytes.0 in
-    Consumes-whole _ _ _ (λ input. AppendsFront (g.W.Write.contents c.args.writer.now) (g.W.Write.contents c.serve_line.new.writer) (transcript c.args.session.now input).written)
-    told (bytes.1 refl (omega arith)) (rw (append-nil inv.0, all) (front_after _ _ _ _ _ inv.3 line.writes))
+    replying_serves (Unit {0}) c.args.session.now (g.R.Read.remaining c.args.reader.now) _ (g.W.Write.contents c.args.writer.now) _ c.in-Err-serve_line.fault c.in-Err-serve_line.ensures.fault
+    (Consumes-whole _ _ _ (λ input. AppendsFront (g.W.Write.contents c.args.writer.now) (g.W.Write.contents c.serve_line.new.writer) (transcript c.args.session.now input).written)
+    told (bytes.1 refl (omega arith)) (rw (append-nil inv.0, all) (front_after _ _ _ _ _ inv.3 line.writes)))
 
-pub returns-in-Ok-true-clause-ok : goal.returns-in-Ok-true-clause-ok
-returns-in-Ok-true-clause-ok g c =
+pub returns-in-Ok-true-clause-serves : goal.returns-in-Ok-true-clause-serves
+returns-in-Ok-true-clause-serves g c =
     let inv = c.loop.invariant in
     let bs = take c.in-Ok.n c.read.new.buf in
     let fed_is = rw c.in-Ok-true.field-0-test at c.in-Ok-true.ensures.ok in
     let off : (feed c.loop.session c.loop.begun.items bs).quit ≡ true = ap (λ r. r.quit) fed_is in
-    let now : (feed c.loop.session c.loop.begun.items bs).session ≡ c.serve_bytes.new.session = ap (λ r. r.session) fed_is in
     let told = Consumes-trans _ _ _ inv.0 bs inv.2 c.in-Ok.ensures.bytes.0 in
-    known _ _ (inv.0 ++ bs) (λ input. Appends (g.W.Write.contents c.args.writer.now) (g.W.Write.contents c.serve_bytes.new.writer) (transcript c.args.session.now input).written × (c.serve_bytes.new.session ≡ (transcript c.args.session.now input).session))
-    told (λ left. rw (served_quit _ _ inv.0 inv.1 _ inv.4 bs left off) (Appends-trans _ _ _ _ _ inv.3 c.in-Ok-true.ensures.writes, sym now))
+    known _ _ (inv.0 ++ bs) (λ input. Appends (g.W.Write.contents c.args.writer.now) (g.W.Write.contents c.serve_bytes.new.writer) (transcript c.args.session.now input).written)
+    told (λ left. rw (served_quit _ _ inv.0 inv.1 _ inv.4 bs left off) (Appends-trans _ _ _ _ _ inv.3 c.in-Ok-true.ensures.writes))
 
-pub returns-in-Err-serve_bytes-clause-err : goal.returns-in-Err-serve_bytes-clause-err
-returns-in-Err-serve_bytes-clause-err g c =
+pub returns-in-Err-serve_bytes-clause-serves : goal.returns-in-Err-serve_bytes-clause-serves
+returns-in-Err-serve_bytes-clause-serves g c =
     let inv = c.loop.invariant in
     let bs = take c.in-Ok.n c.read.new.buf in
     let told = Consumes-trans _ _ _ inv.0 bs inv.2 c.in-Ok.ensures.bytes.0 in
-    known _ _ (inv.0 ++ bs) (λ input. AppendsFront (g.W.Write.contents c.args.writer.now) (g.W.Write.contents c.serve_bytes.new.writer) (transcript c.args.session.now input).written)
+    replying_serves (Unit {0}) c.args.session.now (g.R.Read.remaining c.args.reader.now) _ (g.W.Write.contents c.args.writer.now) _ c.in-Err-serve_bytes.fault c.in-Err-serve_bytes.ensures.fault
+    (known _ _ (inv.0 ++ bs) (λ input. AppendsFront (g.W.Write.contents c.args.writer.now) (g.W.Write.contents c.serve_bytes.new.writer) (transcript c.args.session.now input).written)
     told (λ left. let more = served_bytes _ _ inv.0 inv.1 _ inv.4 bs left in
-    rw more.1 (front_after _ _ _ inv.1 _ inv.3 (front_more _ _ _ more.0 c.in-Err-serve_bytes.ensures.writes)))
+    rw more.1 (front_after _ _ _ inv.1 _ inv.3 (front_more _ _ _ more.0 c.in-Err-serve_bytes.ensures.writes))))
 
-pub returns-in-Err-clause-read : goal.returns-in-Err-clause-read
-returns-in-Err-clause-read g c =
+pub returns-in-Err-clause-serves : goal.returns-in-Err-clause-serves
+returns-in-Err-clause-serves g c =
     let inv = c.loop.invariant in
-    λ _. (inv.0, Consumes-kept _ _ _ _ inv.2 c.in-Err.ensures.bytes, rw (so_far _ _ inv.0 inv.1 _ inv.4) inv.3)
-
-pub returns-in-Err-clause-err : goal.returns-in-Err-clause-err
-returns-in-Err-clause-err g c =
-    let inv = c.loop.invariant in
-    known _ _ inv.0 (λ input. AppendsFront (g.W.Write.contents c.args.writer.now) (g.W.Write.contents c.loop.writer) (transcript c.args.session.now input).written)
-    inv.2 (λ left. let more = served_front _ _ inv.0 inv.1 _ inv.4 left in rw more.1 (front_more _ _ inv.1 more.0 (front_all _ _ inv.1 inv.3)))
+    (inv.0, Consumes-kept _ _ _ _ inv.2 c.in-Err.ensures.bytes, rw (so_far _ _ inv.0 inv.1 _ inv.4) inv.3)
 
 pub loop-preserved : goal.loop-preserved
 loop-preserved g c =
@@ -91,11 +87,11 @@ loop-preserved g c =
           (subst (λ k. IsServed c.args.session.now (inv.0 ++ bs) (inv.1 ++ (feed c.loop.session c.loop.begun.items bs).written) (feed c.loop.session c.loop.begun.items bs).session k) (ap (λ r. r.kept) fed_is) now),
     )
 
-pub returns-clause-read : goal.returns-clause-read
-returns-clause-read g c = let inv = c.loop.invariant in λ _. (inv.0, inv.2, rw (so_far _ _ inv.0 inv.1 _ inv.4) inv.3)
+pub returns-clause-serves : goal.returns-clause-serves
+returns-clause-serves g c = let inv = c.loop.invariant in (inv.0, inv.2, rw (so_far _ _ inv.0 inv.1 _ inv.4) inv.3)
 
-pub returns-clause-err : goal.returns-clause-err
-returns-clause-err g c =
-    let inv = c.loop.invariant in
-    known _ _ inv.0 (λ input. AppendsFront (g.W.Write.contents c.args.writer.now) (g.W.Write.contents c.loop.writer) (transcript c.args.session.now input).written)
-    inv.2 (λ left. let more = served_front _ _ inv.0 inv.1 _ inv.4 left in rw more.1 (front_more _ _ inv.1 more.0 (front_all _ _ inv.1 inv.3)))
+pub returns-in-Err-serve_line-clause-only : goal.returns-in-Err-serve_line-clause-only
+returns-in-Err-serve_line-clause-only g c = replying_serving c.in-Err-serve_line.fault c.in-Err-serve_line.ensures.fault
+
+pub returns-in-Err-serve_bytes-clause-only : goal.returns-in-Err-serve_bytes-clause-only
+returns-in-Err-serve_bytes-clause-only g c = replying_serving c.in-Err-serve_bytes.fault c.in-Err-serve_bytes.ensures.fault

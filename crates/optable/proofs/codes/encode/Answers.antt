@@ -1,5 +1,5 @@
 use Rattle.std.proofs.Common.{◌∙◌, ap}
-use Rattle.model.proofs.Encoding.{encoded_of_row}
+use Rattle.table_laws.proofs.Encoding.{encoded_of_row}
 use Rattle.optable.specs.Codes.{code_of}
 use Rattle.optable.proofs.Encoding.{code_is, found, none}
 use Rattle.optable.proofs.codes.encode.Goals as goal

@@ -1,7 +1,7 @@
 use Rattle.std.proofs.Common.{ap, ap₂, codes, true, ◌≡◌, ◌∙◌}
 use Rattle.clap.specs.Simple.{app_of_fields}
 use Rattle.clap.specs.Words.{App, Shape, app_of, new_app, with_subcommand}
-use Rattle.words.specs.CommandLine.{above, asm}
+use Rattle.words.specs.CommandLine.{above, asm, dis}
 use Rattle.words.proofs.command.command.Goals as goal
 
 abbrev with_subcommand_required : App → App
@@ -21,4 +21,6 @@ returns-clause-shape c =
     let above_is : app_of c.in_ok-bin_name.field-0 ≡ above = ap app_of_fields c.in_ok-bin_name.ensures.0 ∙ required in
     let with_asm : app_of c.in_ok-subcommand.field-0 ≡ with_subcommand above asm.top
     = c.in_ok-subcommand.ensures.shape c.in_ok-asm_command.ensures.local ∙ ap₂ with_subcommand above_is (ap top c.in_ok-asm_command.ensures.shape) in
-    c.in_ok-program.ensures.shape c.in_ok-debug_command.ensures.local ∙ ap₂ with_subcommand with_asm (ap top c.in_ok-debug_command.ensures.shape)
+    let with_dis : app_of c.in_ok-subcommand-2.field-0 ≡ with_subcommand (with_subcommand above asm.top) dis.top
+    = c.in_ok-subcommand-2.ensures.shape c.in_ok-dis_command.ensures.local ∙ ap₂ with_subcommand with_asm (ap top c.in_ok-dis_command.ensures.shape) in
+    c.in_ok-program.ensures.shape c.in_ok-debug_command.ensures.local ∙ ap₂ with_subcommand with_dis (ap top c.in_ok-debug_command.ensures.shape)

@@ -1,16 +1,19 @@
-use Rattle.std.proofs.Common.{ap, ◌∙◌, []}
-use Rattle.debugger.specs.History.{earlier_of}
-use Rattle.debugger.proofs.Histories.{earlier_of-event, AllFit-event}
+use Rattle.std.proofs.Common.{◌≡◌, ◌∙◌, sym}
+use Rattle.debugger.proofs.Replays.{follows_of}
 use Rattle.debugger.proofs.session.Session.event.Goals as goal
 
 pub invariant_of-self : goal.invariant_of-self
-invariant_of-self c = rw c.push_back.ensures.items (c.self.invariant.0, AllFit-event _ _ _ _ _ c.in-Ok.ensures.undo c.self.invariant.1)
+invariant_of-self c =
+    let follows = follows_of c.in-Ok.field-0 c.self.inside.machine c.happen.new.machine c.args.event c.in-Ok.ensures.ok c.in-Ok.ensures.undo in
+    let noted = c.note.ensures.noted c.self.inside.machine c.self.invariant.1 follows in
+    (c.note.ensures.room, noted.history, c.self.invariant.2)
 
 pub returns-in-Ok-clause-ok : goal.returns-in-Ok-clause-ok
 returns-in-Ok-clause-ok c =
-    let before = c.self.inside in
-    let after = c.happen.new.machine in
-    let earlier = ap (λ b. earlier_of b.items after) c.push_back.ensures.items
-    ∙ earlier_of-event before.records.items before.records.capacity c.in-Ok.undo before.machine after c.in-Ok.ensures.undo in
-    let capacity = ap (λ b. b.capacity) c.push_back.ensures.items in
-    rw (← c.self.view_is) (after, c.in-Ok.ensures.ok, λ i. record { earlier = earlier i; current = after; history = capacity i; breaks = []; watches = [] })
+    let follows = follows_of c.in-Ok.field-0 c.self.inside.machine c.happen.new.machine c.args.event c.in-Ok.ensures.ok c.in-Ok.ensures.undo in
+    let noted = c.note.ensures.noted c.self.inside.machine c.self.invariant.1 follows in
+    rw (← c.self.view_is) (
+      c.happen.new.machine,
+      c.in-Ok.ensures.ok,
+      λ i. record { earlier = noted.states i; current = c.happen.new.machine; history = c.note.ensures.size i; breaks = c.self.inside.breaks; watches = c.self.inside.watches; number = c.note.ensures.number i; replayed = c.self.inside.replayed },
+    )

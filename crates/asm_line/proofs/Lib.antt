@@ -1,0 +1,7 @@
+pub mod Behind
+pub mod Capitals
+pub mod Rest
+pub mod Tokens
+pub mod FewBytes
+pub mod Foreign
+pub mod GrammarIsRead

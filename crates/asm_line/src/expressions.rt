@@ -1,0 +1,119 @@
+//! Expressions and items among the tokens of a line.
+
+ghost use Rattle.std.specs.Prelude.{◌≡◌, ◌<◌, ◌≤◌, ◌-◌, IfOk, IfErr, None, Some, drop, length, map, take, true};
+ghost use Rattle.model.specs.Line.{expressions_of, item_of, items_of, whole_expression};
+ghost use Rattle.model.specs.Reading.{expression_of};
+ghost use Rattle.asm_expr.specs.Lexemes.{lexemes};
+ghost use Rattle.asm_expr.specs.Trees.{view};
+ghost use Rattle.asm_line.specs.Lists.{goes_on};
+ghost use Rattle.asm_line.specs.Seen.{Reads, seen_behind, seen_item};
+ghost use Rattle.model.specs.declared.expression.LineFault.TheVariants.{Syntax};
+
+use crate::statement::Item;
+use crate::token_tests::is_symbol;
+use asm_expr::{Expr, Token, parse_expr};
+use model::{LineFault, TokenKind};
+use std::alloc::Global;
+
+/// The longest expression with which some tokens begin, and the tokens after it.
+pub fn expression<'a, 't>(
+    alloc: Global,
+    tokens: &'t [Token<'a>],
+) -> Result<(Expr<'a>, &'t [Token<'a>]), LineFault>
+    ensures { Reads seen_behind result (expression_of (lexemes tokens.now)) }
+{
+    let (value, taken) = parse_expr(alloc, tokens)?;
+    Ok((value, &tokens[taken..]))
+}
+
+/// The expression that some tokens are all together.
+#[tactic(auto, unfolding(model::specs::Line::whole_expression))]
+pub fn whole_expression<'a>(alloc: Global, tokens: &[Token<'a>]) -> Result<Expr<'a>, LineFault>
+    ensures { Reads view result (whole_expression (lexemes tokens.now)) }
+{
+    let (value, behind) = expression(alloc, tokens)?;
+    if behind.is_empty() {
+        return Ok(value);
+    }
+    Err(LineFault::Syntax)
+}
+
+/// Whether a comma comes next, and so one more expression; not where no token is left.
+fn goes_on(tokens: &[Token<'_>]) -> Result<bool, LineFault>
+    ensures read { Reads (λ more. more) result (goes_on (lexemes tokens.now)) }
+    ensures some { IfOk result (λ more. more ≡ true → 0 < length tokens.now) }
+{
+    match tokens {
+        [] => Ok(false),
+        [comma, ..] if is_symbol(comma, b',') => Ok(true),
+        _ => Err(LineFault::Syntax),
+    }
+}
+
+/// The expressions, separated by commas, that some tokens are.
+pub fn expressions<'a>(alloc: Global, tokens: &[Token<'a>]) -> Result<Vec<Expr<'a>>, LineFault>
+    ensures { Reads (λ found. map view found.items) result (expressions_of (lexemes tokens.now)) }
+{
+    let mut found = Vec::new(alloc);
+    let mut at = 0;
+    for _ in 0..tokens.len() {
+        let (value, taken) = parse_expr(alloc, &tokens[at..])?;
+        found.push(value)?;
+        at += taken;
+        if !goes_on(&tokens[at..])? {
+            return Ok(found);
+        }
+        at += 1;
+    }
+    Err(LineFault::Syntax)
+}
+
+/// The bytes of a text without the first and the last.
+fn inside(text: &[u8]) -> &[u8]
+    ensures { result.now ≡ take (length text.now - 2) (drop 1 text.now) }
+{
+    match text {
+        [_, inside @ .., _] => inside,
+        _ => &text[..0],
+    }
+}
+
+/// The item with which some tokens begin, and how many tokens it is.
+fn item<'a>(alloc: Global, tokens: &[Token<'a>]) -> Result<(Item<'a>, usize), LineFault>
+    ensures found { IfOk result (λ p. item_of (lexemes tokens.now) ≡ Some (seen_item p.0, drop p.1 (lexemes tokens.now))) }
+    ensures within { IfOk result (λ p. p.1 ≤ length tokens.now) }
+    ensures syntax { IfErr result (λ f. f ≡ Syntax → item_of (lexemes tokens.now) ≡ None) }
+{
+    let Some(first) = tokens.first() else {
+        return Err(LineFault::Syntax);
+    };
+    match first.kind {
+        TokenKind::Str => Ok((Item::Text(inside(first.text)), 1)),
+        TokenKind::Word
+        | TokenKind::Directive
+        | TokenKind::Number
+        | TokenKind::Char
+        | TokenKind::Symbol => {
+            let (value, taken) = parse_expr(alloc, tokens)?;
+            Ok((Item::Value(value), taken))
+        }
+    }
+}
+
+/// The items, separated by commas, that some tokens are.
+pub fn items<'a>(alloc: Global, tokens: &[Token<'a>]) -> Result<Vec<Item<'a>>, LineFault>
+    ensures { Reads (λ found. map seen_item found.items) result (items_of (lexemes tokens.now)) }
+{
+    let mut found = Vec::new(alloc);
+    let mut at = 0;
+    for _ in 0..tokens.len() {
+        let (value, taken) = item(alloc, &tokens[at..])?;
+        found.push(value)?;
+        at += taken;
+        if !goes_on(&tokens[at..])? {
+            return Ok(found);
+        }
+        at += 1;
+    }
+    Err(LineFault::Syntax)
+}

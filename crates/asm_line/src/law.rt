@@ -1,0 +1,13 @@
+//! The law of a line's grammar.
+
+ghost use Rattle.model.specs.Grammar.{EachLineIsRead};
+
+use asm_expr::{expressions_are_longest, one_expression};
+
+/// Each line of the grammar is read, to what the grammar says of it; so it says one thing only. A law for proofs: it does nothing.
+pub fn each_line_is_read()
+    ensures { EachLineIsRead }
+{
+    expressions_are_longest();
+    one_expression();
+}

@@ -1,0 +1,226 @@
+//! What the text of a line says.
+
+ghost use Rattle.std.specs.Prelude.{◌≡◌, ◌∷◌, IfOk};
+ghost use Rattle.std.specs.List.{list_all};
+ghost use Rattle.model.specs.Line.{directive_of, line_of, operation_by, origin_behind, read_line, statement_of, unlabelled, unreserved, word_line};
+ghost use Rattle.model.specs.Token.{is_source_byte};
+ghost use Rattle.asm_expr.specs.Lexemes.{lexeme_of, lexemes};
+ghost use Rattle.asm_line.specs.Seen.{Gives, Reads, seen, seen_line};
+ghost use Rattle.asm_line.specs.Small.{IsSmallLine};
+ghost use Rattle.asm_line.specs.Tokens.{fault_of_bytes, line_tokens, said_by};
+
+use crate::expressions::{expressions, items, whole_expression};
+use crate::fault::LineError;
+use crate::operand::operand;
+use crate::reserved::line_reserves;
+use crate::statement::{Line, Statement};
+use crate::token_tests::{is_in_capitals, is_symbol};
+use asm_expr::{Token, expressions_are_longest, tokens_are_slices, tokens_into};
+use model::{AsmFaultKind, LineFault, TokenKind};
+use optable::mnemonic_of;
+use std::alloc::Global;
+
+/// The most bytes that a line has without its end (profile).
+const LINE_SIZE: usize = 255;
+
+/// What a directive and the tokens after it say.
+#[tactic(auto, unfolding(model::specs::Line::directive_of))]
+fn directive<'a>(
+    alloc: Global,
+    name: &[u8],
+    after: &[Token<'a>],
+) -> Result<Statement<'a>, LineFault>
+    ensures { Reads seen result (directive_of name.now (lexemes after.now)) }
+{
+    if is_in_capitals(name, b".BYTE") {
+        return Ok(Statement::Bytes(items(alloc, after)?));
+    }
+    if is_in_capitals(name, b".WORD") {
+        return Ok(Statement::Words(expressions(alloc, after)?));
+    }
+    if is_in_capitals(name, b".DBYTE") {
+        return Ok(Statement::WordsHighFirst(expressions(alloc, after)?));
+    }
+    if is_in_capitals(name, b".RES") {
+        return Ok(Statement::Reserve(whole_expression(alloc, after)?));
+    }
+    if is_in_capitals(name, b".END") & after.is_empty() {
+        return Ok(Statement::Finish);
+    }
+    Err(LineFault::Syntax)
+}
+
+/// What the tokens after a `*` say.
+fn origin<'a>(alloc: Global, after: &[Token<'a>]) -> Result<Statement<'a>, LineFault>
+    ensures { Reads seen result (origin_behind (lexemes after.now)) }
+{
+    let Some((equals, rest)) = after.split_first() else {
+        return Err(LineFault::Syntax);
+    };
+    if !is_symbol(equals, b'=') {
+        return Err(LineFault::Syntax);
+    }
+    Ok(Statement::Origin(whole_expression(alloc, rest)?))
+}
+
+/// What a word and the tokens after it say.
+fn instruction<'a>(
+    alloc: Global,
+    word: &Token<'a>,
+    after: &[Token<'a>],
+) -> Result<Statement<'a>, LineFault>
+    ensures { Reads seen result (operation_by TokenKind.Word (lexeme_of word.now) (lexemes after.now)) }
+{
+    let mnemonic = mnemonic_of(word.text).ok_or(LineFault::Syntax)?;
+    Ok(Statement::Instruction(mnemonic, operand(alloc, after)?))
+}
+
+/// What the tokens of an operation say.
+#[tactic(auto, unfolding(model::specs::Line::statement_of))]
+fn statement<'a>(alloc: Global, tokens: &[Token<'a>]) -> Result<Statement<'a>, LineFault>
+    ensures { Reads seen result (statement_of (lexemes tokens.now)) }
+{
+    let Some((first, after)) = tokens.split_first() else {
+        return Ok(Statement::Nothing);
+    };
+    match first.kind {
+        TokenKind::Word => instruction(alloc, first, after),
+        TokenKind::Directive => directive(alloc, first.text, after),
+        TokenKind::Symbol if is_symbol(first, b'*') => origin(alloc, after),
+        TokenKind::Symbol | TokenKind::Number | TokenKind::Char | TokenKind::Str => {
+            Err(LineFault::Syntax)
+        }
+    }
+}
+
+/// What the tokens of a line without a label say.
+fn unlabelled<'a>(alloc: Global, tokens: &[Token<'a>]) -> Result<Line<'a>, LineFault>
+    ensures { Reads seen_line result (unlabelled (lexemes tokens.now)) }
+{
+    Ok(Line::Labelled(None, statement(alloc, tokens)?))
+}
+
+/// What a line's first word and the tokens after it say: a label, a definition, or neither.
+fn word_line<'a>(
+    alloc: Global,
+    tokens: &[Token<'a>],
+    word: &Token<'a>,
+    after: &[Token<'a>],
+) -> Result<Line<'a>, LineFault>
+    requires { lexemes tokens.now ≡ lexeme_of word.now ∷ lexemes after.now }
+    ensures { Reads seen_line result (word_line (lexeme_of word.now) (lexemes after.now)) }
+{
+    let Some((mark, rest)) = after.split_first() else {
+        return unlabelled(alloc, tokens);
+    };
+    if is_symbol(mark, b':') {
+        return Ok(Line::Labelled(Some(word.text), statement(alloc, rest)?));
+    }
+    if is_symbol(mark, b'=') {
+        return Ok(Line::Definition(word.text, whole_expression(alloc, rest)?));
+    }
+    unlabelled(alloc, tokens)
+}
+
+/// What the tokens of a line say.
+#[tactic(auto, unfolding(model::specs::Line::line_of))]
+fn line_of<'a>(alloc: Global, tokens: &[Token<'a>]) -> Result<Line<'a>, LineFault>
+    ensures { Reads seen_line result (line_of (lexemes tokens.now)) }
+{
+    let Some((first, after)) = tokens.split_first() else {
+        return Ok(Line::Labelled(None, Statement::Nothing));
+    };
+    match first.kind {
+        TokenKind::Word => word_line(alloc, tokens, first, after),
+        TokenKind::Directive
+        | TokenKind::Number
+        | TokenKind::Char
+        | TokenKind::Str
+        | TokenKind::Symbol => unlabelled(alloc, tokens),
+    }
+}
+
+/// Whether each byte of a line is $20..$7E or a tab.
+fn may_stand(line: &[u8]) -> bool
+    ensures { result ≡ list_all is_source_byte line.now }
+{
+    line.iter().all(|byte| matches!(*byte, b' '..=b'~' | b'\t'))
+}
+
+/// The fault of a line that has no tokens, by its bytes.
+fn fault_of_bytes(line: &[u8]) -> AsmFaultKind
+    ensures { result ≡ fault_of_bytes line.now }
+{
+    if may_stand(line) {
+        AsmFaultKind::Syntax
+    } else {
+        AsmFaultKind::NotAscii
+    }
+}
+
+/// The tokens of a line put into a list, or the fault of its text so far.
+#[tactic(auto, unfolding(crate::specs::Tokens::line_tokens))]
+fn line_tokens<'a>(room: &mut Vec<Token<'a>>, line: &'a [u8]) -> Result<(), LineError>
+    ensures { Gives (λ _. lexemes room.new.items) result (line_tokens line.now) }
+{
+    if line.len() > LINE_SIZE {
+        return Err(LineError::Kind(AsmFaultKind::LineTooLong));
+    }
+    match tokens_into(room, line) {
+        Ok(()) => Ok(()),
+        Err(LineFault::OutOfMemory) => Err(LineError::Memory),
+        Err(LineFault::Syntax) => Err(LineError::Kind(fault_of_bytes(line))),
+    }
+}
+
+/// What the tokens of a line say, or the fault of a reserved word among them.
+fn said<'a>(alloc: Global, tokens: &[Token<'a>]) -> Result<Line<'a>, LineError>
+    ensures { Gives seen_line result (unreserved (line_of (lexemes tokens.now))) }
+{
+    let line = line_of(alloc, tokens)?;
+    if line_reserves(&line) {
+        return Err(LineError::Kind(AsmFaultKind::ReservedName));
+    }
+    Ok(line)
+}
+
+/// What a line says.
+fn read<'a>(alloc: Global, room: &mut Vec<Token<'a>>, line: &'a [u8]) -> Result<Line<'a>, LineError>
+    ensures { Gives seen_line result (said_by (line_tokens line.now)) }
+{
+    match line_tokens(room, line) {
+        Ok(()) => said(alloc, room),
+        Err(error) => Err(error),
+    }
+}
+
+/// What a line says, without its end. Its tokens are put into `room` in place of what that holds, so that the memory of one
+/// list serves line after line.
+///
+/// `Kind` has the first fault of its text, in this order: `LineTooLong` above 255 bytes; `NotAscii` where a byte is
+/// neither $20..$7E nor a tab; `Syntax` where the line is none of the grammar, with reserved words read as names;
+/// `ReservedName` where a mnemonic, A, X or Y stands where a name stands. `Memory`: a request for memory was refused.
+/// Source: profile.
+pub fn read_line_with<'a>(
+    alloc: Global,
+    room: &mut Vec<Token<'a>>,
+    line: &'a [u8],
+) -> Result<Line<'a>, LineError>
+    ensures exact { Gives seen_line result (read_line line.now) }
+    // What it denotes has few bytes, since it has few itself.
+    ensures small { IfOk result (λ l. IsSmallLine (seen_line l)) }
+{
+    // For the proof: tokens are slices of the line, and expressions are beginnings of its tokens.
+    tokens_are_slices();
+    expressions_are_longest();
+    read(alloc, room, line)
+}
+
+/// What one line says, as `read_line_with`.
+pub fn read_line<'a>(alloc: Global, line: &'a [u8]) -> Result<Line<'a>, LineError>
+    ensures exact { Gives seen_line result (read_line line.now) }
+    ensures small { IfOk result (λ l. IsSmallLine (seen_line l)) }
+{
+    let mut room = Vec::new(alloc);
+    read_line_with(alloc, &mut room, line)
+}

@@ -1,7 +1,0 @@
-use Rattle.std.proofs.Common.{◌≡◌, drop, map}
-use Rattle.asm_expr.specs.Trees.{view}
-use Rattle.assembler.specs.Judging.{byte_pieces, gathered}
-use Rattle.assembler.proofs.emit.Gathered.add_bytes.Given as goal
-
-abbrev pub invariant-loop-value : goal.invariant-loop-value
-invariant-loop-value l = gathered l.self (byte_pieces l.here (map view (drop l.value-index l.values))) ≡ gathered l.fn.self (byte_pieces l.here (map view l.values))

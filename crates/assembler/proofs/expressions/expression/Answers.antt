@@ -1,9 +1,0 @@
-use Rattle.std.proofs.Common.{◌∙◌, ap, sym, Some}
-use Rattle.asm_expr.specs.Trees.{view}
-use Rattle.assembler.proofs.Behind.{lexemes_behind}
-use Rattle.assembler.proofs.expressions.expression.Goals as goal
-
-pub returns : goal.returns
-returns c =
-    c.in_ok-value.ensures.found
-    ∙ ap (λ ts. Some (view c.in_ok-value.value, ts)) (sym (lexemes_behind c.in_ok-value.taken c.args.tokens.now))

@@ -1,0 +1,85 @@
+-- What the first pass finds of a line, seen as the definitions see it.
+use Rattle.std.specs.Prelude.{◌≡◌, ℕ, ◌≤◌, ⊤, length, Option, Some, None, unwrap_or, ◌&&◌, if◌then◌else◌, Result, Ok, Err}
+use Rattle.model.specs.declared.instruction.Mode.{Mode}
+use Rattle.model.specs.declared.source_fault.AsmFaultKind.{AsmFaultKind}
+use Rattle.model.specs.Table.{encoded}
+use Rattle.model.specs.Layout as model_layout
+use Rattle.model.specs.Layout.{one, by_size, term_of, either, has_row, is_unindexed, zero_page_mode, absolute_mode, Content, no_bytes, byte_list, word_list, word_list_high_first, code, Place, Placed, Fixed, Standing, items_size}
+use Rattle.model.specs.declared.instruction.Mnemonic.{Mnemonic}
+use Rattle.model.specs.declared.instruction.Mode.TheVariants.{Rel}
+use Rattle.model.specs.declared.line.Index.{Index}
+use Rattle.assembler.specs.declared.forms.Form.{Form}
+use Rattle.assembler.specs.declared.forms.Form.TheVariants.{One, BySize}
+use Rattle.assembler.specs.declared.layout.Site.{Site}
+use Rattle.asm_line.specs.declared.fault.LineError.{LineError}
+use Rattle.asm_line.specs.declared.fault.LineError.TheVariants as errors
+use Rattle.model.specs.Names.{Definitions}
+use Rattle.model.specs.Line.{Statement, nothing, origin, bytes, words, words_high_first, reserve, finish, instruction, Line, labelled, definition}
+
+abbrev pub shown : {A B : Type 0} → (A → B) → Option A → Option B
+shown f None = None
+shown f (Some a) = Some (f a)
+
+-- What was answered is what a definition gives.
+abbrev pub Shows : {A B : Type 0} → (A → B) → Result A AsmFaultKind → Result B AsmFaultKind → Type 0
+Shows f (Ok a) given = given ≡ Ok (f a)
+Shows f (Err kind) given = given ≡ Err kind
+
+abbrev pub seen_form : Form → model_layout.Form
+seen_form (One mode) = one mode
+seen_form (BySize short long) = by_size short long
+
+-- The form for an unmarked operand that may have an index.
+abbrev pub direct_form : Mnemonic → Index → Option model_layout.Form
+direct_form m by =
+    if is_unindexed by && has_row m Rel then Some (one Rel)
+    else either m (zero_page_mode by) (absolute_mode by)
+
+abbrev pub code_by : Option Mode → Statement → Content
+code_by (Some mode) (instruction m operand) = code (unwrap_or (encoded m mode) 0) mode (term_of operand)
+code_by mode s = no_bytes
+
+-- What a statement denotes, where an instruction has this mode.
+abbrev pub content_by : Option Mode → Statement → Content
+content_by mode (bytes items) = byte_list items
+content_by mode (words es) = word_list es
+content_by mode (words_high_first es) = word_list_high_first es
+content_by mode (instruction m operand) = code_by mode (instruction m operand)
+content_by mode nothing = no_bytes
+content_by mode (origin e) = no_bytes
+content_by mode (reserve e) = no_bytes
+content_by mode finish = no_bytes
+
+abbrev pub line_content : Option Mode → Line → Content
+line_content mode (labelled name s) = content_by mode s
+line_content mode (definition name e) = no_bytes
+
+abbrev pub site_of : ℕ → Statement → Site → Place
+site_of address s site = (record { address = address; content = content_by site.mode s }, site.next)
+
+-- What was answered, and the names that are left, are what a definition gives, memory aside.
+abbrev pub Fixes : ℕ → Line → Result Site LineError → Definitions → Result Standing AsmFaultKind → Type 0
+Fixes address l (Ok site) names given = given ≡ Ok (record { address = address; content = line_content site.mode l }, record { address = site.next; names = names })
+Fixes address l (Err errors.Memory) names given = ⊤
+Fixes address l (Err (errors.Kind kind)) names given = given ≡ Err kind
+
+-- Few enough bytes.
+abbrev pub IsSmall : Statement → Type 0
+IsSmall (bytes items) = items_size items ≤ 510
+IsSmall (words es) = length es ≤ 255
+IsSmall (words_high_first es) = length es ≤ 255
+IsSmall nothing = ⊤
+IsSmall (origin e) = ⊤
+IsSmall (reserve e) = ⊤
+IsSmall finish = ⊤
+IsSmall (instruction m operand) = ⊤
+
+abbrev pub IsSmallLine : Line → Type 0
+IsSmallLine (labelled name s) = IsSmall s
+IsSmallLine (definition name e) = ⊤
+
+-- What was answered, memory aside.
+abbrev pub unlocated : {A : Type 0} → Result A LineError → Option (Result A AsmFaultKind)
+unlocated (Ok a) = Some (Ok a)
+unlocated (Err errors.Memory) = None
+unlocated (Err (errors.Kind kind)) = Some (Err kind)

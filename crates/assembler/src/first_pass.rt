@@ -1,0 +1,104 @@
+//! The first pass: where each line stands, and which names have which numbers.
+
+ghost use Rattle.std.specs.Prelude.{◌≡◌, ◌+◌, ◌-◌, ◌<◌, ◌≤◌, ◌^◌, [], max, length, IfOk};
+ghost use Rattle.assembler.specs.Found.{found_lines, nothing_found, taken};
+ghost use Rattle.assembler.specs.Kept.{Lays, Takes, ends_line, found_of};
+ghost use Rattle.asm_line.specs.Seen.{seen, seen_line};
+ghost use Rattle.model.specs.Layout.{layout_of};
+ghost use Rattle.model.specs.Source.{is_finish, nothing_fixed, read_lines};
+
+use crate::fault::{OUT_OF_MEMORY, located};
+use crate::fix::fix;
+use crate::found::Lines;
+use crate::line::next_line;
+use asm_line::{Line, LineError, Statement, Token, read_line_with};
+use model::AsmFault;
+use std::alloc::Global;
+use symbols::Symbols;
+
+/// Whether a statement is `.END`.
+fn is_finish(statement: &Statement<'_>) -> bool
+    ensures { result ≡ is_finish (seen statement.now) }
+{
+    match statement {
+        Statement::Finish => true,
+        Statement::Nothing
+        | Statement::Origin(_)
+        | Statement::Bytes(_)
+        | Statement::Words(_)
+        | Statement::WordsHighFirst(_)
+        | Statement::Reserve(_)
+        | Statement::Instruction(_, _) => false,
+    }
+}
+
+/// Whether nothing behind a line is read.
+fn ends(line: &Line<'_>) -> bool
+    ensures { result ≡ ends_line (seen_line line.now) }
+{
+    match line {
+        Line::Labelled(_, statement) => is_finish(statement),
+        Line::Definition(_, _) => false,
+    }
+}
+
+/// A line behind those that are found: read and laid out. The next line's address, and whether no more lines are read.
+#[tactic(auto, unfolding(model::specs::Layout::layout_of))]
+fn take_line<'a>(
+    alloc: Global,
+    symbols: &mut Symbols,
+    lines: &mut Lines<'a>,
+    room: &mut Vec<Token<'a>>,
+    number: u32,
+    address: u32,
+    text: &'a [u8],
+) -> Result<(u32, bool), LineError>
+    requires { address < 2 ^ 31 - 510 }
+    ensures exact { Takes text.now (found_of lines.new) result symbols.new (taken number (found_of lines.old) (layout_of (record { address = address; names = symbols.old }) text.now)) }
+    ensures near { IfOk result (λ r. r.0 ≤ max (address + 510) 65536) }
+{
+    let line = read_line_with(alloc, room, text)?;
+    let ended = ends(&line);
+    match fix(alloc, symbols, address, &line) {
+        Ok(site) => {
+            lines.note(number, address, line, site)?;
+            Ok((site.next, ended))
+        }
+        Err(error) => {
+            drop(line);
+            Err(error)
+        }
+    }
+}
+
+/// Each line that is read in its place, and all names with their numbers; or the first layout fault.
+pub fn lay_out<'a>(
+    alloc: Global,
+    symbols: &mut Symbols,
+    source: &'a [u8],
+) -> Result<Lines<'a>, AsmFault>
+    requires size { length source.now ≤ 1048576 }
+    requires empty { symbols.old ≡ [] }
+    ensures { Lays result symbols.new (found_lines 1 nothing_fixed nothing_found (read_lines source.now)) }
+{
+    let mut lines = Lines::new(alloc);
+    let mut room = Vec::new(alloc);
+    let mut rest = source;
+    let mut number = 1;
+    let mut address = 0;
+    while !rest.is_empty() {
+        let (text, behind) = next_line(rest);
+        match take_line(alloc, symbols, &mut lines, &mut room, number, address, text) {
+            Ok((next, ended)) => {
+                if ended {
+                    return Ok(lines);
+                }
+                address = next;
+            }
+            Err(error) => return Err(located(number, error)),
+        }
+        rest = behind;
+        number += 1;
+    }
+    Ok(lines)
+}

@@ -1,0 +1,96 @@
+//! What the first pass finds.
+
+ghost use Rattle.std.specs.Prelude.{◌≡◌, ◌<◌, ◌≤◌, ◌-◌, ◌^◌, OnOk};
+ghost use Rattle.assembler.specs.Found.{is_kept, noting, nothing_found};
+ghost use Rattle.assembler.specs.Kept.{counted_in, found_of, pairs_of};
+ghost use Rattle.asm_line.specs.Seen.{seen, seen_line};
+ghost use Rattle.assembler.specs.Sites.{content_by, line_content};
+ghost use Rattle.model.specs.Layout.{size_of};
+
+use crate::kept::{Kept, Span};
+use crate::layout::Site;
+use asm_line::{Line, Statement};
+use model::Mode;
+use std::alloc::{AllocError, Global};
+
+/// Where each line stands, and the lines that denote bytes.
+#[derive(Drop)]
+pub struct Lines<'a> {
+    spans: Vec<Span>,
+    kept: Vec<Kept<'a>>,
+}
+
+/// Whether a statement denotes bytes in its mode.
+fn is_kept(mode: Option<Mode>, statement: &Statement<'_>) -> bool
+    ensures { result ≡ is_kept (content_by mode (seen statement.now)) }
+{
+    match statement {
+        Statement::Nothing | Statement::Origin(_) | Statement::Reserve(_) | Statement::Finish => {
+            false
+        }
+        Statement::Bytes(_) | Statement::Words(_) | Statement::WordsHighFirst(_) => true,
+        Statement::Instruction(_, _) => mode.is_some(),
+    }
+}
+
+impl<'a> Lines<'a> {
+    /// None yet.
+    pub fn new(alloc: Global) -> Lines<'a>
+        ensures { found_of result ≡ nothing_found }
+    {
+        Lines {
+            spans: Vec::new(alloc),
+            kept: Vec::new(alloc),
+        }
+    }
+
+    /// The lines that denote bytes.
+    pub fn kept(&self) -> &[Kept<'a>]
+        ensures { counted_in result.now ≡ (found_of self.now).kept }
+    {
+        &self.kept
+    }
+
+    /// Where each line stands.
+    pub fn into_spans(self) -> Vec<Span>
+        ensures { pairs_of result.items ≡ (found_of self.entry).extents }
+    {
+        self.spans
+    }
+
+    /// A line behind those that are there, its place found.
+    pub fn note(
+        &mut self,
+        number: u32,
+        address: u32,
+        line: Line<'a>,
+        site: Site,
+    ) -> Result<(), AllocError>
+        requires near { address < 2 ^ 31 - 510 }
+        requires small { site.count ≤ 510 }
+        requires sized { site.count ≡ size_of (line_content site.mode (seen_line line)) }
+        ensures { OnOk result (found_of self.new ≡ noting number (found_of self.old) (record { address = address; content = line_content site.mode (seen_line line.entry) })) }
+    {
+        self.spans.push(Span {
+            address,
+            count: site.count,
+        })?;
+        match line {
+            Line::Labelled(_, statement) => {
+                if is_kept(site.mode, &statement) {
+                    self.kept.push(Kept {
+                        number,
+                        address,
+                        count: site.count,
+                        mode: site.mode,
+                        statement,
+                    })?;
+                } else {
+                    drop(statement);
+                }
+            }
+            Line::Definition(_, value) => drop(value),
+        }
+        Ok(())
+    }
+}

@@ -1,0 +1,33 @@
+//! What the first pass keeps of the lines.
+
+ghost use Rattle.std.specs.Prelude.{◌≡◌, ◌<◌, ◌≤◌, ◌-◌, ◌^◌};
+ghost use Rattle.asm_line.specs.Seen.{seen};
+ghost use Rattle.assembler.specs.Sites.{content_by};
+ghost use Rattle.model.specs.Layout.{size_of};
+
+use asm_line::Statement;
+use model::Mode;
+
+/// Where a line stands, and how many bytes it has.
+#[derive(Clone, Copy, Debug, PartialEq, Eq)]
+pub struct Span {
+    pub address: u32,
+    pub count: u32,
+    ghost near: { address < 2 ^ 31 - 510 },
+}
+
+/// A line that denotes bytes.
+#[derive(Drop)]
+pub struct Kept<'a> {
+    /// Its number, counted from 1.
+    pub number: u32,
+    pub address: u32,
+    /// How many bytes it has.
+    pub count: u32,
+    /// Its instruction's mode, if it has one.
+    pub mode: Option<Mode>,
+    pub statement: Statement<'a>,
+    ghost near: { address < 2 ^ 31 - 510 },
+    ghost small: { count ≤ 510 },
+    ghost sized: { count ≡ size_of (content_by mode (seen statement)) },
+}

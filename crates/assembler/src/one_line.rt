@@ -1,0 +1,124 @@
+//! One line alone.
+
+ghost use Rattle.std.specs.Prelude.{◌≡◌, ◌+◌, ◌-◌, ◌<◌, ◌≤◌, ◌^◌, IfOk, OnOk, length, take, drop, replicate, map};
+ghost use Rattle.asm_line.specs.Seen.{Gives, seen};
+ghost use Rattle.assembler.specs.Assembly.{Answers};
+ghost use Rattle.assembler.specs.Sites.{content_by};
+ghost use Rattle.assembler.specs.Gathering.{gathered, nothing_gathered, noted};
+ghost use Rattle.model.specs.Bytes.{kind_if, pieces_of};
+ghost use Rattle.model.specs.Layout.{size_of};
+ghost use Rattle.model.specs.Names.{number_in};
+ghost use Rattle.model.specs.OneLine.{bytes_alone, may_stand_alone, no_numbers, one_line};
+ghost use Rattle.source_laws.specs.Judging.{numbered};
+
+use crate::emit::gather_alone;
+use crate::fault::located;
+use crate::fix::fix;
+use crate::layout::Site;
+use asm_line::{LineError, Statement, read_line};
+use model::{AsmFault, AsmFaultKind};
+use std::alloc::Global;
+use symbols::Symbols;
+
+/// The bytes of one line: the first `count` of `bytes`, and 0 behind them.
+#[derive(Clone, Copy, Debug, PartialEq, Eq)]
+pub struct Line {
+    pub bytes: [u8; 3],
+    pub count: u8,
+}
+
+/// A line of at most three bytes.
+fn line_of(written: &[u8]) -> Line
+    requires { length written.now ≤ 3 }
+    ensures bytes { take result.count result.bytes ≡ written.now }
+    ensures rest { drop result.count result.bytes ≡ replicate (3 - result.count) 0 }
+    ensures few { result.count ≤ 3 }
+{
+    let mut bytes = [0u8; 3];
+    let count = written.len();
+    bytes[..count].copy_from_slice(written);
+    Line {
+        bytes,
+        count: count as u8,
+    }
+}
+
+/// Whether an operation may stand alone.
+fn may_stand_alone(statement: &Statement<'_>) -> bool
+    ensures { result ≡ may_stand_alone (seen statement.now) }
+{
+    match statement {
+        Statement::Bytes(_)
+        | Statement::Words(_)
+        | Statement::WordsHighFirst(_)
+        | Statement::Instruction(..) => true,
+        Statement::Nothing | Statement::Origin(_) | Statement::Reserve(_) | Statement::Finish => {
+            false
+        }
+    }
+}
+
+/// The bytes of a statement alone at an address, or its value fault.
+fn encode_alone(
+    alloc: Global,
+    address: u32,
+    site: Site,
+    statement: &Statement<'_>,
+) -> Result<Line, LineError>
+    requires near { address < 2 ^ 31 - 510 }
+    requires short { site.count ≤ 3 }
+    requires sized { site.count ≡ size_of (content_by site.mode (seen statement.now)) }
+    ensures bytes { Gives (λ l. take l.count l.bytes) result (bytes_alone (record { address = address; content = content_by site.mode (seen statement.now) })) }
+    ensures rest { IfOk result (λ l. drop l.count l.bytes ≡ replicate (3 - l.count) 0) }
+    ensures few { IfOk result (λ l. l.count ≤ 3) }
+{
+    let gathered = gather_alone(alloc, address, site, statement)?;
+    match gathered.kind() {
+        Some(kind) => Err(LineError::Kind(kind)),
+        None => Ok(line_of(gathered.bytes())),
+    }
+}
+
+/// The bytes of a line alone at an address, or its fault.
+#[tactic(auto, unfolding(model::specs::OneLine::one_line))]
+fn assemble_alone(alloc: Global, address: u32, text: &[u8]) -> Result<Line, LineError>
+    requires { address < 2 ^ 31 - 510 }
+    ensures bytes { Gives (λ l. take l.count l.bytes) result (one_line address text.now) }
+    ensures rest { IfOk result (λ l. drop l.count l.bytes ≡ replicate (3 - l.count) 0) }
+    ensures few { IfOk result (λ l. l.count ≤ 3) }
+{
+    let line = read_line(alloc, text)?;
+    let mut symbols = Symbols::new(alloc);
+    let site = fix(alloc, &mut symbols, address, &line)?;
+    match &line {
+        asm_line::Line::Labelled(None, statement) => {
+            if may_stand_alone(statement) && site.count <= 3 {
+                encode_alone(alloc, address, site, statement)
+            } else {
+                Err(LineError::Kind(AsmFaultKind::NotOneLine))
+            }
+        }
+        asm_line::Line::Labelled(Some(_), _) | asm_line::Line::Definition(..) => {
+            Err(LineError::Kind(AsmFaultKind::NotOneLine))
+        }
+    }
+}
+
+/// The bytes that a text denotes at an address, as one line of a source without names: 1 to 3 bytes.
+///
+/// The text is a line without its end, so that an LF or a CR in it is `NotAscii`, and more than 255 bytes are `LineTooLong`. Its
+/// faults are those of `assemble`, with line 1, but for three: `NotOneLine`, behind all faults of the layout and before those of
+/// values, where the text has a label, a definition, no operation, `*=`, `.RES` or `.END`, or more than 3 bytes; `Overlap` and
+/// `PortAddress` are no fault of one line. `OutOfMemory` with line 0 says that a request for memory was refused.
+/// Source: profile.
+pub fn assemble_line(alloc: Global, address: u16, text: &[u8]) -> Result<Line, AsmFault>
+    // The bytes or the fault are what the text denotes there, memory aside.
+    ensures exact { Answers (λ l. take l.count l.bytes) result (numbered 1 (one_line address text.now)) }
+    ensures rest { IfOk result (λ l. drop l.count l.bytes ≡ replicate (3 - l.count) 0) }
+    ensures few { IfOk result (λ l. l.count ≤ 3) }
+{
+    match assemble_alone(alloc, address as u32, text) {
+        Ok(line) => Ok(line),
+        Err(error) => Err(located(1, error)),
+    }
+}

@@ -1,0 +1,28 @@
+use Rattle.std.proofs.Common.{◌≡◌, ◌+◌, ◌-◌, ◌<◌, ◌∙◌, sym, ap, refl, arith, length, drop, length-append, length-drop, None}
+use Rattle.std.specs.Prelude.{slice_get}
+use Rattle.circular_buffer.proofs.Places.{slice_get-some}
+use Rattle.debugger.proofs.Noting.{kept_all}
+use Rattle.debugger.proofs.trail.let_go.Goals as goal
+
+pub returns-in-Some-clause-many : goal.returns-in-Some-clause-many
+returns-in-Some-clause-many c = λ many.
+    let old = c.args.trail.now in
+    let n : length old.events.items - (c.len-rest.result - 1024) ≡ 1024 = omega (arith, c.len-rest.ensures.len) in
+    record {
+      events = ap (λ b. b.items) c.truncate_front.ensures ∙ ap (λ m. drop m old.events.items) n;
+      kept = ap (λ b. b.items) c.pop_front.ensures.items;
+      spare = ap (λ b. length b.items) c.push_back.ensures.items ∙ ap length (kept_all old.spare.capacity old.spare.items c.in-Some.checkpoint c.requires.room) ∙ length-append old.spare.items _;
+      room = record {
+        kept = ap (λ b. b.capacity) c.pop_front.ensures.items;
+        spare = ap (λ b. b.capacity) c.push_back.ensures.items;
+        events = ap (λ b. b.capacity) c.truncate_front.ensures;
+        held = refl;
+        history = refl;
+      };
+    }
+
+pub returns-in_default-clause-many : goal.returns-in_default-clause-many
+returns-in_default-clause-many c = λ many.
+    let got = slice_get-some c.args.trail.now.kept.items 0 c.requires.kept in
+    let none : slice_get c.args.trail.now.kept.items 0 ≡ None = sym c.pop_front.ensures.value ∙ c.in_default.is in
+    cc

@@ -1,0 +1,118 @@
+//! Addresses in the order in which they were set.
+
+ghost use Rattle.std.specs.Prelude.{◌≡◌, ◌≢◌, ◌<◌, ◌≤◌, [], ◌∷◌, ◌++◌, length, nat_eq, slice_get, false, true, OnOk, OnErr, IfErr, IfOk, IsErrOf, Ok, Err};
+ghost use Rattle.std.specs.List.{list_any};
+ghost use Rattle.model.specs.Tables.{put_in, taken_out};
+
+use indexmap::IndexSet;
+use model::SessionFault;
+use std::alloc::{AllocError, Global};
+use std::marker::Model;
+
+/// The most addresses in a table.
+const TABLE_SIZE: usize = 256;
+
+/// A table of addresses.
+#[derive(Drop)]
+pub struct Marks {
+    set: IndexSet<u16>,
+    /// A byte for each address, which is 0 where the address is not in the table.
+    map: Vec<u8>,
+}
+
+impl Model for Marks {
+    ghost use Rattle.std.specs.Prelude.{List, ℕ, length, ◌≡◌, ◌≤◌, nat_eq, slice_index, false};
+    ghost use Rattle.std.specs.List.{list_any};
+
+    ghost Value = { List ℕ };
+
+    ghost view = { λ m. m.set.keys };
+
+    ghost invariant = { λ m. (length m.set.keys ≤ 256) × (length m.map.items ≡ 65536) × ((k : ℕ) → slice_index m.map.items k ≡ 0 → list_any (nat_eq k) m.set.keys ≡ false) };
+}
+
+impl Marks {
+    /// No addresses. `OutOfMemory` where a request for memory was refused.
+    pub fn new(alloc: Global) -> Result<Marks, SessionFault>
+        ensures ok { IfOk result (λ marks. marks ≡ []) }
+        ensures only { IfErr result (λ fault. fault ≡ SessionFault.OutOfMemory) }
+    {
+        match zeroed(alloc) {
+            Ok(map) => Ok(Marks {
+                set: IndexSet::new(alloc),
+                map,
+            }),
+            Err(_) => Err(SessionFault::OutOfMemory),
+        }
+    }
+
+    /// How many there are.
+    pub fn len(&self) -> u32
+        ensures { result ≡ length self.now }
+    {
+        self.set.len() as u32
+    }
+
+    /// The address at an index, counted from 0.
+    pub fn at(&self, index: u32) -> Option<u16>
+        ensures { result ≡ slice_get self.now index }
+    {
+        self.set.get_index(index as usize).copied()
+    }
+
+    /// Whether an address is among them.
+    #[inline(always)]
+    pub fn contains(&self, address: u16) -> bool
+        ensures { result ≡ list_any (nat_eq address) self.now }
+    {
+        if self.map[address as usize] == 0 {
+            return false;
+        }
+        self.set.contains(&address)
+    }
+
+    /// Puts an address at the end. `AlreadySet` where it is set, then `TableFull` where 256 are, then `OutOfMemory` where a request
+    /// for memory was refused; nothing is changed then.
+    #[tactic(auto, unfolding(model::specs::Tables::put_in))]
+    pub fn set(&mut self, address: u16) -> Result<(), SessionFault>
+        ensures ok { OnOk result (put_in self.old address ≡ Ok self.new) }
+        ensures err { IfErr result (λ fault. (self.new ≡ self.old) × (fault ≢ SessionFault.OutOfMemory → put_in self.old address ≡ Err fault)) }
+    {
+        if self.contains(address) {
+            return Err(SessionFault::AlreadySet);
+        }
+        if self.set.len() >= TABLE_SIZE {
+            return Err(SessionFault::TableFull);
+        }
+        match self.set.insert(address) {
+            Ok(_) => {
+                self.map[address as usize] = 1;
+                Ok(())
+            }
+            Err(_) => Err(SessionFault::OutOfMemory),
+        }
+    }
+
+    /// Takes an address out; the others keep their order. `NotSet` where it is not set; nothing is changed then.
+    #[tactic(auto, unfolding(model::specs::Tables::taken_out))]
+    pub fn clear(&mut self, address: u16) -> Result<(), SessionFault>
+        ensures ok { OnOk result (taken_out self.old address ≡ Ok self.new) }
+        ensures err { IfErr result (λ fault. (taken_out self.old address ≡ Err fault) × (self.new ≡ self.old)) }
+    {
+        if self.set.shift_remove(&address) {
+            if !self.set.contains(&address) {
+                self.map[address as usize] = 0;
+            }
+            Ok(())
+        } else {
+            Err(SessionFault::NotSet)
+        }
+    }
+}
+
+/// A byte of 0 for each address.
+fn zeroed(alloc: Global) -> Result<Vec<u8>, AllocError>
+    ensures len { IfOk result (λ map. length map.items ≡ 65536) }
+{
+    vec![in alloc; 0u8; 65536]
+}

@@ -1,0 +1,91 @@
+//! Why a run ends after a step.
+
+ghost use Rattle.std.specs.Prelude.{◌≡◌, ◌≤◌, ◌∷◌, slice_index, min};
+ghost use Rattle.std.specs.Option.{option_map_or};
+ghost use Rattle.model.specs.Undo.{restored, put_cells, cells_of};
+ghost use Rattle.model.specs.Run.{changed, lowest};
+ghost use Rattle.debugger.specs.Stops.{before_of, stop_after};
+
+use crate::marks::Marks;
+use bus::Change;
+use cpu::Machine;
+use model::Why;
+
+/// Why a run ends in this state after the step that the change is of, if it does.
+#[inline(always)]
+#[tactic(auto, unfolding(crate::specs::Stops::stop_after, model::specs::Run::watch_met, model::specs::Run::break_met))]
+pub fn stop_after(
+    machine: &Machine,
+    watches: &Marks,
+    breaks: &Marks,
+    change: &Change,
+) -> Option<Why>
+    requires { change.now.count ≤ 3 }
+    ensures { result ≡ stop_after watches.now breaks.now change.now machine.now }
+{
+    if let Some(address) = lowest_changed(machine, watches, change) {
+        return Some(Why::Watch(address));
+    }
+    let pc = machine.pc();
+    if breaks.contains(pc) {
+        Some(Why::Break(pc))
+    } else {
+        None
+    }
+}
+
+/// The lowest watched address whose byte of memory is not what it was before the step that the change is of.
+#[inline(always)]
+fn lowest_changed(machine: &Machine, watches: &Marks, change: &Change) -> Option<u16>
+    requires { change.now.count ≤ 3 }
+    ensures { result ≡ lowest (changed watches.now (before_of change.now machine.now) machine.now) }
+{
+    if change.count == 0 {
+        return None;
+    }
+    lowest_stored(machine, watches, change)
+}
+
+/// The same, where the step has stored something.
+#[inline(never)]
+fn lowest_stored(machine: &Machine, watches: &Marks, change: &Change) -> Option<u16>
+    requires { change.now.count ≤ 3 }
+    ensures { result ≡ lowest (changed watches.now (before_of change.now machine.now) machine.now) }
+{
+    let mut least = None;
+    let mut index = watches.len();
+    while index > 0 {
+        index -= 1;
+        if let Some(address) = watches.at(index) {
+            if byte_before(machine, change, address) != machine.peek(address) {
+                least = Some(lower(address, least));
+            }
+        }
+    }
+    least
+}
+
+/// The lower of two addresses, if there is a second one.
+fn lower(address: u16, other: Option<u16>) -> u16
+    ensures { result ≡ option_map_or (min address) other address }
+{
+    match other {
+        Some(other) if other < address => other,
+        _ => address,
+    }
+}
+
+/// The byte of memory before the step that the change is of.
+#[tactic(auto, unfolding(model::specs::Undo::restored))]
+fn byte_before(machine: &Machine, change: &Change, address: u16) -> u8
+    requires { change.now.count ≤ 3 }
+    ensures { result ≡ slice_index (before_of change.now machine.now).bus.memory address }
+{
+    let mut byte = machine.peek(address);
+    for (place, old) in &change.cells[..change.count as usize] {
+        if *place == address {
+            byte = *old;
+        }
+    }
+    byte
+}

@@ -1,0 +1,235 @@
+//! The events that led to the current state, and checkpoints along them.
+
+ghost use Rattle.std.specs.Prelude.{◌≡◌, ◌+◌, ◌-◌, ◌*◌, ◌/◌, ◌%◌, ◌<◌, ◌≤◌, ◌++◌, ◌∷◌, [], min, length, take, drop, Some, Ok, Err, OnOk, IfOk, IfErr};
+ghost use Rattle.model.specs.State.{State};
+ghost use Rattle.model.specs.Event.{event_of};
+ghost use Rattle.model.specs.Session.{keep_last};
+ghost use Rattle.model.specs.Undo.{Undoes};
+ghost use Rattle.model.specs.Checkpoint.{Checkpoint as Seen, CanPutBack, checkpoint_of, returned};
+ghost use Rattle.circular_buffer.specs.Buffer.{last_item};
+ghost use Rattle.debugger.specs.Replay.{AllFollow, Follows, IsHistory, held_states, replayed, base_of};
+ghost use Rattle.debugger.specs.Trail.{HasRoom, IsNoted, LetGo, Marked};
+
+use circular_buffer::HeapCircularBuffer;
+use cpu::{Checkpoint, Machine};
+use model::{Event, EventFault, SessionFault, Undo};
+use std::alloc::Global;
+
+/// How many events lie between two checkpoints (profile).
+pub const PART: usize = 1024;
+
+/// Events with the checkpoints along them, the oldest first: one at the first event, and one after each 1,024th.
+#[derive(Drop)]
+pub struct Trail {
+    pub events: HeapCircularBuffer<Event>,
+    pub kept: HeapCircularBuffer<Checkpoint>,
+    /// Checkpoints that are not in use.
+    pub spare: HeapCircularBuffer<Checkpoint>,
+    /// How many of the last events can be gone back over.
+    pub held: u32,
+    /// How many there may be.
+    pub history: u32,
+}
+
+/// What an event does to a machine, with the record that leads back.
+#[tactic(auto, unfolding(model::specs::Event::event_of))]
+pub fn happen(machine: &mut Machine, event: Event) -> Result<Undo, EventFault>
+    ensures ok { OnOk result (event_of machine.old event ≡ Ok machine.new) }
+    ensures err { IfErr result (λ fault. (event_of machine.old event ≡ Err fault) × (machine.new ≡ machine.old)) }
+    ensures undo { IfOk result (λ undo. Undoes undo machine.old machine.new) }
+{
+    match event {
+        Event::Step => machine.step(),
+        Event::Reset => machine.reset(),
+        Event::Irq(level) => machine.set_irq(level),
+        Event::Nmi => machine.nmi(),
+        Event::Set(setting) => machine.set_register(setting),
+        Event::Patch { count, .. } if count > 3 => Err(EventFault::BadLength),
+        Event::Patch {
+            address,
+            bytes,
+            count,
+        } => machine.patch(address, &bytes[..count as usize]),
+        Event::Input(byte) => machine.give_input(byte),
+    }
+}
+
+/// Events from one place to another, one after another.
+fn replay(machine: &mut Machine, events: &HeapCircularBuffer<Event>, from: usize, to: usize)
+    requires order { from ≤ to }
+    requires within { to ≤ length events.now.items }
+    ensures { (base : State) → AllFollow base events.now.items → machine.old ≡ replayed base (take from events.now.items) → machine.new ≡ replayed base (take to events.now.items) }
+{
+    for index in from..to {
+        if let Some(event) = events.get(index) {
+            let _ = happen(machine, *event);
+        }
+    }
+}
+
+/// The machine at the last of some checkpoints.
+fn return_to_last(machine: &mut Machine, kept: &HeapCircularBuffer<Checkpoint>)
+    requires { (c : Seen) → last_item kept.now.items ≡ Some c → CanPutBack c.bus machine.old.bus }
+    ensures { (c : Seen) → last_item kept.now.items ≡ Some c → machine.new ≡ returned c machine.old }
+{
+    if let Some(checkpoint) = kept.back() {
+        machine.restore(checkpoint);
+    }
+}
+
+/// Checkpoints past the first `count`, put aside.
+fn put_aside(
+    kept: &mut HeapCircularBuffer<Checkpoint>,
+    spare: &mut HeapCircularBuffer<Checkpoint>,
+    count: usize,
+)
+    requires few { count ≤ length kept.old.items }
+    requires room { length kept.old.items + length spare.old.items ≤ spare.old.capacity }
+    ensures kept { kept.new.items ≡ take count kept.old.items }
+    ensures spare { length kept.new.items + length spare.new.items ≡ length kept.old.items + length spare.old.items }
+    ensures kept_room { kept.new.capacity ≡ kept.old.capacity }
+    ensures spare_room { spare.new.capacity ≡ spare.old.capacity }
+{
+    while kept.len() > count {
+        if let Some(checkpoint) = kept.pop_back() {
+            spare.push_back(checkpoint);
+        }
+    }
+}
+
+/// Goes back over the last `count` events: to the last checkpoint that is not later, and over the events from there on.
+/// Answers how many these were.
+pub fn rewind(trail: &mut Trail, machine: &mut Machine, count: u32) -> u32
+    requires room { HasRoom trail.old }
+    requires held { count ≤ trail.old.held }
+    requires history { IsHistory 1024 trail.old.kept.items trail.old.events.items machine.old }
+    ensures room { HasRoom trail.new }
+    ensures size { trail.new.history ≡ trail.old.history }
+    ensures history { IsHistory 1024 trail.new.kept.items trail.new.events.items machine.new }
+    ensures states { held_states trail.new.held trail.new.kept.items trail.new.events.items machine.new ++ machine.new ∷ []
+        ≡ take (trail.old.held - count + 1) (held_states trail.old.held trail.old.kept.items trail.old.events.items machine.old ++ machine.old ∷ []) }
+    ensures number { result ≡ length trail.new.events.items % 1024 }
+    ensures fewer { length trail.new.events.items + count ≡ length trail.old.events.items }
+{
+    let target = trail.events.len() - count as usize;
+    let place = target / PART;
+    put_aside(&mut trail.kept, &mut trail.spare, place + 1);
+    return_to_last(machine, &trail.kept);
+    replay(machine, &trail.events, place * PART, target);
+    trail.events.truncate_back(target);
+    trail.held -= count;
+    (target % PART) as u32
+}
+
+/// Notes an accepted event, which led to the machine's state.
+#[inline(always)]
+pub fn note(trail: &mut Trail, machine: &Machine, event: Event)
+    requires { HasRoom trail.old }
+    ensures room { HasRoom trail.new }
+    ensures size { trail.new.history ≡ trail.old.history }
+    ensures number { length trail.new.events.items % 1024 ≡ (length trail.old.events.items % 1024 + 1) % 1024 }
+    ensures noted { (before : State) → IsHistory 1024 trail.old.kept.items trail.old.events.items before → Follows before event machine.now → IsNoted trail.old trail.new before machine.now }
+{
+    trail.events.push_back(event);
+    trail.held = one_more(trail.held, trail.history);
+    let_go(trail);
+    mark(trail, machine);
+}
+
+/// One more, but not more than a limit.
+#[inline(always)]
+fn one_more(held: u32, limit: u32) -> u32
+    requires { held ≤ limit }
+    ensures { result ≡ min (held + 1) limit }
+{
+    if held < limit { held + 1 } else { held }
+}
+
+/// The oldest events let go with their checkpoint, once there are as many between two checkpoints that can't be gone back over.
+#[inline(always)]
+fn let_go(trail: &mut Trail)
+    requires kept { 0 < length trail.old.kept.items }
+    requires room { length trail.old.spare.items < trail.old.spare.capacity }
+    ensures few { length trail.old.events.items < trail.old.held + 1024 → trail.new ≡ trail.old }
+    ensures many { trail.old.held + 1024 ≤ length trail.old.events.items → LetGo trail.old trail.new }
+{
+    if trail.events.len() < trail.held as usize + PART {
+        return;
+    }
+    let rest = trail.events.len() - PART;
+    trail.events.truncate_front(rest);
+    if let Some(checkpoint) = trail.kept.pop_front() {
+        trail.spare.push_back(checkpoint);
+    }
+}
+
+/// A checkpoint at the machine's state, where one is due.
+#[inline(always)]
+fn mark(trail: &mut Trail, machine: &Machine)
+    requires spare { length trail.old.events.items % 1024 ≡ 0 → 0 < length trail.old.spare.items }
+    requires room { length trail.old.events.items % 1024 ≡ 0 → length trail.old.kept.items < trail.old.kept.capacity }
+    ensures none { 0 < length trail.old.events.items % 1024 → trail.new ≡ trail.old }
+    ensures one { length trail.old.events.items % 1024 ≡ 0 → Marked trail.old trail.new (checkpoint_of machine.now) }
+{
+    if trail.events.len() % PART != 0 {
+        return;
+    }
+    if let Some(mut checkpoint) = trail.spare.pop_back() {
+        machine.save(&mut checkpoint);
+        trail.kept.push_back(checkpoint);
+    }
+}
+
+/// The trail of a machine to which nothing has happened yet. It takes all the room that events need.
+/// `OutOfMemory` where a request for memory was refused.
+pub fn begin(alloc: Global, machine: &Machine, history: u32) -> Result<Trail, SessionFault>
+    requires { history ≤ 65536 }
+    ensures room { IfOk result (λ trail. HasRoom trail) }
+    ensures size { IfOk result (λ trail. trail.history ≡ history) }
+    ensures history { IfOk result (λ trail. IsHistory 1024 trail.kept.items trail.events.items machine.now) }
+    ensures none { IfOk result (λ trail. length trail.events.items ≡ 0) }
+    ensures states { IfOk result (λ trail. held_states trail.held trail.kept.items trail.events.items machine.now ≡ []) }
+{
+    let size = history as usize / PART + 2;
+    let Ok(events) = HeapCircularBuffer::with_capacity(alloc, history as usize + PART) else {
+        return Err(SessionFault::OutOfMemory);
+    };
+    let Ok(mut kept) = HeapCircularBuffer::with_capacity(alloc, size) else {
+        return Err(SessionFault::OutOfMemory);
+    };
+    let Ok(mut first) = Checkpoint::new(alloc) else {
+        return Err(SessionFault::OutOfMemory);
+    };
+    machine.save(&mut first);
+    kept.push_back(first);
+    let Ok(spare) = checkpoints(alloc, size) else {
+        return Err(SessionFault::OutOfMemory);
+    };
+    Ok(Trail {
+        events,
+        kept,
+        spare,
+        held: 0,
+        history,
+    })
+}
+
+/// Checkpoints with nothing in them, one fewer than there is room for.
+fn checkpoints(alloc: Global, size: usize) -> Result<HeapCircularBuffer<Checkpoint>, SessionFault>
+    requires { 0 < size }
+    ensures count { IfOk result (λ spare. length spare.items + 1 ≡ size) }
+    ensures room { IfOk result (λ spare. spare.capacity ≡ size) }
+{
+    let Ok(mut spare) = HeapCircularBuffer::with_capacity(alloc, size) else {
+        return Err(SessionFault::OutOfMemory);
+    };
+    for _ in 1..size {
+        match Checkpoint::new(alloc) {
+            Ok(checkpoint) => {
+                spare.push_back(checkpoint);
+            }
+            Err(_) => return Err(SessionFault::OutOfMemory),
+        }
+    }
+    Ok(spare)
+}

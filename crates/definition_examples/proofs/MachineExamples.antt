@@ -1,0 +1,268 @@
+-- Worked examples, computed from the definitions. A list that ends early stands for memory: what is past its end reads as 0.
+use Rattle.std.proofs.Common.{◌≡◌, ℕ, Bool, true, false, List, [], ◌∷◌, ◌++◌, length, refl, codes}
+use Rattle.std.specs.Prelude.{◌==◌, ◌||◌, ◌&&◌, not, decimal, Ok, Err, None, Some}
+use Rattle.model.specs.State.{State, is_map, is_port, is_rom, overflows, byte_read, after_read, after_write}
+use Rattle.model.specs.Operand.{place_of, word_at}
+use Rattle.model.specs.Arithmetic.{adc, sbc}
+use Rattle.model.specs.Effect.{operation_of, loaded, load, operand, after_operand, moved, store, store_value, performed, status, flags_of_byte}
+use Rattle.model.specs.Table.{Entry, row_at, find_row, table}
+use Rattle.model.specs.Step.{step, attempted, executed, fetched, stores}
+use Rattle.model.specs.Event.{no_regs, no_flags, reset_of, reset_state}
+use Rattle.model.specs.Lines.{lines_from, lines_of}
+use Rattle.model.specs.Commands.{command_of, command_of_words, plain_command, pair_command, triple_command, long_command, set_command}
+use Rattle.model.specs.Text.{register_line, memory_row, memory_rows, spaced_bytes}
+use Rattle.model.specs.Transcript.{refused_text, fault_line}
+use Rattle.model.specs.declared.registers.Regs.{Regs}
+use Rattle.model.specs.declared.instruction.Row.{Row}
+use Rattle.model.specs.contracts.instruction.Mnemonic as mnemonic
+use Rattle.model.specs.contracts.instruction.Mode as mode
+use denote.Enum.Bare.{sameb}
+use Rattle.model.specs.declared.command.Command.TheVariants as command
+use Rattle.model.specs.declared.event.EventFault.TheVariants as event_fault
+use Rattle.model.specs.declared.event.Setting.TheVariants as setting
+
+-- ---- the opcode table
+
+table_lines : length table ≡ 151
+unfolding table
+table_lines = refl
+
+abbrev is_in : ℕ → List Entry → Bool
+is_in opcode [] = false
+is_in opcode (e ∷ es) = (opcode == e.0) || is_in opcode es
+
+-- whether no opcode stands twice
+abbrev opcodes_once : List Entry → Bool
+opcodes_once [] = true
+opcodes_once (e ∷ es) = not (is_in e.0 es) && opcodes_once es
+
+table_once : opcodes_once table ≡ true
+unfolding table
+table_once = refl
+
+abbrev same_pair : Row → Row → Bool
+same_pair r s = sameb mnemonic.the_type r.mnemonic s.mnemonic && sameb mode.the_type r.mode s.mode
+
+abbrev has_pair : Row → List Entry → Bool
+has_pair r [] = false
+has_pair r (e ∷ es) = same_pair r e.1 || has_pair r es
+
+-- whether no pair of mnemonic and mode stands twice
+abbrev pairs_once : List Entry → Bool
+pairs_once [] = true
+pairs_once (e ∷ es) = not (has_pair e.1 es) && pairs_once es
+
+table_pairs_once : pairs_once table ≡ true
+unfolding table
+table_pairs_once = refl
+
+-- ---- arithmetic
+
+-- decimal 99 + 1 is 00 and a carry; N and Z are not those of 00
+decimal_carry : adc 0x99 0x01 false true ≡ record { value = 0; n = true; v = false; z = false; c = true }
+unfolding adc
+decimal_carry = refl
+
+decimal_overflow : adc 0x79 0x00 true true ≡ record { value = 0x80; n = true; v = true; z = false; c = false }
+unfolding adc
+decimal_overflow = refl
+
+-- decimal 0 - 1 is 99 and a borrow
+decimal_borrow : sbc 0x00 0x01 true true ≡ record { value = 0x99; n = true; v = false; z = false; c = false }
+unfolding sbc
+decimal_borrow = refl
+
+-- with the carry in, 58 + 46 + 1 is 105
+decimal_sum : adc 0x58 0x46 true true ≡ record { value = 0x05; n = true; v = true; z = false; c = true }
+unfolding adc
+decimal_sum = refl
+
+-- 12 - 21 is -9, which is 91 and a borrow
+decimal_difference : sbc 0x12 0x21 true true ≡ record { value = 0x91; n = true; v = false; z = false; c = false }
+unfolding sbc
+decimal_difference = refl
+
+-- a digit above 9
+decimal_invalid : adc 0x0F 0x01 false true ≡ record { value = 0x16; n = false; v = false; z = false; c = false }
+unfolding adc
+decimal_invalid = refl
+
+binary_overflow : adc 0x7F 0x01 false false ≡ record { value = 0x80; n = true; v = true; z = false; c = false }
+unfolding adc
+binary_overflow = refl
+
+binary_borrow : sbc 0x80 0x01 true false ≡ record { value = 0x7F; n = false; v = true; z = false; c = true }
+unfolding sbc
+binary_borrow = refl
+
+-- the flags of a byte, and the byte of flags
+status_byte : status true (flags_of_byte 0xCF) ≡ 0xFF
+unfolding status flags_of_byte
+status_byte = refl
+
+status_ignored : flags_of_byte 0x30 ≡ no_flags
+unfolding flags_of_byte
+status_ignored = refl
+
+-- ---- steps
+
+abbrev with_memory : List ℕ → Regs → ℕ → State
+with_memory memory regs cycles = record {
+  bus = record { map = record { rom = None; port = 0xF000 }; memory = memory; given = []; taken = 0; out = [] };
+  regs = regs;
+  irq = false;
+  nmi = false;
+  cycles = cycles;
+}
+
+abbrev after_load : ℕ → Regs
+after_load pc = record no_regs { a = 0x80; pc = pc; flags = record no_flags { n = true } }
+
+-- LDA #$80 sets N and takes 2 cycles
+load_immediate : step (with_memory (0xA9 ∷ 0x80 ∷ 0x8D ∷ 0x06 ∷ 0x00 ∷ 0xEA ∷ 0x00 ∷ []) no_regs 7)
+    ≡ Ok (with_memory (0xA9 ∷ 0x80 ∷ 0x8D ∷ 0x06 ∷ 0x00 ∷ 0xEA ∷ 0x00 ∷ []) (after_load 2) 9)
+unfolding step attempted executed fetched stores performed load loaded operand after_operand place_of operation_of row_at find_row table
+load_immediate = refl
+
+-- STA $0006 stores A and takes 4
+store_absolute : step (with_memory (0xA9 ∷ 0x80 ∷ 0x8D ∷ 0x06 ∷ 0x00 ∷ 0xEA ∷ 0x00 ∷ []) (after_load 2) 9)
+    ≡ Ok (with_memory (0xA9 ∷ 0x80 ∷ 0x8D ∷ 0x06 ∷ 0x00 ∷ 0xEA ∷ 0x80 ∷ []) (after_load 5) 13)
+unfolding step attempted executed fetched stores performed store store_value after_write overflows is_port is_rom place_of word_at operation_of row_at find_row table
+store_absolute = refl
+
+-- NOP takes 2 cycles and changes nothing else
+no_operation : step (with_memory (0xEA ∷ []) no_regs 7) ≡ Ok (with_memory (0xEA ∷ []) (record no_regs { pc = 1 }) 9)
+unfolding step attempted executed fetched stores performed moved place_of operation_of row_at find_row table
+no_operation = refl
+
+abbrev with_x : ℕ → Regs
+with_x x = record no_regs { x = x }
+
+-- LDA $FF,X with X = 2 stays in the zero page: it reads $0001, in 4 cycles
+zero_page_wraps : step (with_memory (0xB5 ∷ 0xFF ∷ []) (with_x 2) 7)
+    ≡ Ok (with_memory (0xB5 ∷ 0xFF ∷ []) (record (with_x 2) { a = 0xFF; pc = 2; flags = record no_flags { n = true } }) 11)
+unfolding step attempted executed fetched stores performed load loaded operand after_operand place_of operation_of row_at find_row table is_port byte_read after_read
+zero_page_wraps = refl
+
+-- LDA $12FF,X with X = 1 leaves the page: 5 cycles
+page_left : step (with_memory (0xBD ∷ 0xFF ∷ 0x12 ∷ []) (with_x 1) 7)
+    ≡ Ok (with_memory (0xBD ∷ 0xFF ∷ 0x12 ∷ []) (record (with_x 1) { pc = 3; flags = record no_flags { z = true } }) 12)
+unfolding step attempted executed fetched stores performed load loaded operand after_operand place_of word_at operation_of row_at find_row table is_port byte_read after_read
+page_left = refl
+
+-- an opcode without a row
+undocumented : step (with_memory (0x02 ∷ []) no_regs 7) ≡ Err (event_fault.Undocumented 2 0)
+unfolding step attempted row_at find_row table
+undocumented = refl
+
+-- a count at which no step is made, and the highest at which one is
+cycles_full : step (with_memory (0xEA ∷ []) no_regs 18446744073709551600) ≡ Err event_fault.CyclesFull
+unfolding step
+cycles_full = refl
+
+cycles_not_full : step (with_memory (0xEA ∷ []) no_regs 18446744073709551599) ≡ Ok (with_memory (0xEA ∷ []) (record no_regs { pc = 1 }) 18446744073709551601)
+unfolding step attempted executed fetched stores performed moved place_of operation_of row_at find_row table
+cycles_not_full = refl
+
+-- the same of a reset
+reset_full : reset_of (with_memory (0xEA ∷ []) no_regs 18446744073709551600) ≡ Err event_fault.CyclesFull
+unfolding reset_of
+reset_full = refl
+
+reset_not_full : reset_of (with_memory (0xEA ∷ []) no_regs 18446744073709551599)
+    ≡ Ok (with_memory (0xEA ∷ []) (record no_regs { s = 0xFD; flags = record no_flags { i = true } }) 18446744073709551606)
+unfolding reset_of reset_state word_at
+reset_not_full = refl
+
+-- maps
+map_default : is_map None 0xF000 ≡ true
+unfolding is_map
+map_default = refl
+
+map_with_rom : is_map (Some (0x8000, 0x8FFF)) 0xF000 ≡ true
+unfolding is_map
+map_with_rom = refl
+
+map_port_too_high : is_map None 0xFFF8 ≡ false
+unfolding is_map
+map_port_too_high = refl
+
+map_rom_meets_port : is_map (Some (0xEF00, 0xF003)) 0xF000 ≡ false
+unfolding is_map
+map_rom_meets_port = refl
+
+-- lines: LF and CR LF end one, a lone CR does not, and the last needs no end
+cut_lines : lines_of (codes "a\nb\r\n\nc\rd") ≡ codes "a" ∷ codes "b" ∷ [] ∷ codes "c\rd" ∷ []
+unfolding lines_from
+cut_lines = refl
+
+-- commands
+command_regs : command_of (codes "  regs ") ≡ command.Regs
+unfolding command_of command_of_words plain_command
+command_regs = refl
+
+command_mem : command_of (codes "mem 01fb 01FD") ≡ command.Mem 0x01FB 0x01FD
+unfolding command_of command_of_words triple_command
+command_mem = refl
+
+command_mem_backwards : command_of (codes "mem 0300 0200") ≡ command.Bad
+unfolding command_of command_of_words triple_command
+command_mem_backwards = refl
+
+command_set : command_of (codes "set P 30") ≡ command.Set (setting.P 0x30)
+unfolding command_of command_of_words triple_command set_command
+command_set = refl
+
+command_patch : command_of (codes "patch 0200 4c 00 02") ≡ command.Patch 0x0200 (0x4C ∷ 0 ∷ 2 ∷ []) 3
+unfolding command_of command_of_words long_command
+command_patch = refl
+
+command_patch_of_four : command_of (codes "patch 0200 01 02 03 04") ≡ command.Bad
+unfolding command_of command_of_words long_command
+command_patch_of_four = refl
+
+command_small_register : command_of (codes "set a 01") ≡ command.Bad
+unfolding command_of command_of_words triple_command set_command
+command_small_register = refl
+
+command_irq : command_of (codes "irq 1") ≡ command.Irq true
+unfolding command_of command_of_words pair_command
+command_irq = refl
+
+command_irq_of_two : command_of (codes "irq 2") ≡ command.Bad
+unfolding command_of command_of_words pair_command
+command_irq_of_two = refl
+
+command_in : command_of (codes "in 41 0d") ≡ command.Input (0x41 ∷ 0x0D ∷ 0 ∷ 0 ∷ 0 ∷ 0 ∷ 0 ∷ 0 ∷ 0 ∷ 0 ∷ 0 ∷ 0 ∷ 0 ∷ 0 ∷ 0 ∷ 0 ∷ []) 2
+unfolding command_of command_of_words triple_command
+command_in = refl
+
+command_in_of_17 : command_of (codes "in 00 01 02 03 04 05 06 07 08 09 0A 0B 0C 0D 0E 0F 10") ≡ command.Bad
+unfolding command_of command_of_words long_command
+command_in_of_17 = refl
+
+command_upper_case : command_of (codes "STEP") ≡ command.Bad
+unfolding command_of command_of_words plain_command
+command_upper_case = refl
+
+-- replies
+print_undocumented : fault_line (event_fault.Undocumented 0x02 0x0200) ≡ codes "! FAULT 02 AT 0200\n"
+unfolding fault_line refused_text
+print_undocumented = refl
+
+print_console_full : fault_line event_fault.ConsoleFull ≡ codes "! CONSOLE FULL\n"
+unfolding fault_line refused_text
+print_console_full = refl
+
+print_cycles_full : fault_line event_fault.CyclesFull ≡ codes "! CYCLES FULL\n"
+unfolding fault_line refused_text
+print_cycles_full = refl
+
+print_registers : register_line (with_memory [] (record no_regs { s = 0xFD; flags = record no_flags { i = true } }) 7) ≡ codes "A=00 X=00 Y=00 S=FD P=24 PC=0000 CYC=" ++ decimal 7 ++ 10 ∷ []
+unfolding register_line status
+print_registers = refl
+
+print_memory : memory_rows (1 ∷ 2 ∷ 3 ∷ 4 ∷ 5 ∷ 6 ∷ 7 ∷ 8 ∷ 9 ∷ 10 ∷ 11 ∷ 12 ∷ 13 ∷ 14 ∷ 15 ∷ 16 ∷ 17 ∷ 18 ∷ 19 ∷ []) 1 17
+    ≡ codes "0001  02 03 04 05 06 07 08 09 0A 0B 0C 0D 0E 0F 10 11\n0011  12\n"
+unfolding memory_rows memory_row spaced_bytes
+print_memory = refl

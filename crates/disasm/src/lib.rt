@@ -1,0 +1,11 @@
+//! The disassembler: the text of the instructions in some memory. Nothing here takes memory.
+#![tactic(auto)]
+
+pub use line::{TextLine, line_at};
+pub use row::{RowText, row_text};
+
+mod letters;
+mod line;
+mod operand;
+mod row;
+mod text;

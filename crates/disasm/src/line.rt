@@ -1,0 +1,99 @@
+//! Rows of memory as text.
+
+ghost use Rattle.std.specs.Prelude.{◌≡◌, ◌<◌, ◌≤◌, ◌-◌, length, drop, replicate, slice_index};
+ghost use Rattle.model.specs.Instruction.{byte_row, instruction_text, row_of};
+ghost use Rattle.disasm.specs.Rows.{seen};
+
+use crate::letters::letters;
+use crate::operand::operand;
+use crate::text::{Text, push_bytes, text_of};
+use hexdigits::digits_of;
+use model::Row;
+use optable::decode;
+
+/// A row of memory: its length in bytes of memory, and its text, the first `text_len` bytes of `text`. The bytes behind are 0.
+#[derive(Clone, Copy, Debug, PartialEq, Eq)]
+pub struct TextLine {
+    pub len: u8,
+    pub text: [u8; 12],
+    pub text_len: u8,
+}
+
+/// A row of so many bytes of memory with a text.
+fn row(len: u8, written: &[u8]) -> TextLine
+    requires { length written.now ≤ 12 }
+    ensures text { seen result ≡ record { len = len; text = written.now } }
+    ensures rest { drop result.text_len result.text ≡ replicate (12 - result.text_len) 0 }
+    ensures short { result.text_len ≤ 12 }
+{
+    let mut text = [0u8; 12];
+    let text_len = written.len();
+    text[..text_len].copy_from_slice(written);
+    TextLine {
+        len,
+        text,
+        text_len: text_len as u8,
+    }
+}
+
+/// The text of an instruction.
+fn instruction(found: Row, address: u16, second: u8, third: u8) -> Text
+    ensures exact { result.items ≡ instruction_text found address second third }
+    ensures short { length result.items ≤ 12 }
+{
+    let mut text = text_of(&letters(found.mnemonic));
+    push_bytes(
+        &mut text,
+        &operand(found.mnemonic, found.mode, address, second, third),
+    );
+    text
+}
+
+/// The row of a byte that begins no instruction.
+fn byte_line(byte: u8) -> TextLine
+    ensures text { seen result ≡ byte_row byte }
+    ensures rest { drop result.text_len result.text ≡ replicate (12 - result.text_len) 0 }
+    ensures short { result.text_len ≤ 12 }
+{
+    let [high, low] = digits_of(byte);
+    row(1, &[b'.', b'B', b'Y', b'T', b'E', b' ', b'$', high, low])
+}
+
+/// The byte at a place, and 0 behind the last.
+fn byte_or_0(bytes: &[u8], place: usize) -> u8
+    ensures { result ≡ slice_index bytes.now place }
+{
+    match bytes.get(place) {
+        Some(byte) => *byte,
+        None => 0,
+    }
+}
+
+/// The row with which some bytes begin, at their address: an instruction, or `.BYTE` and the first byte where no documented
+/// instruction stands there, or where it needs a byte past $FFFF or past the last one. (The forms are those of the MCS6500
+/// manual; `!` and `.BYTE` are this profile's.)
+#[tactic(auto, unfolding(model::specs::Instruction::row_of))]
+pub fn line_at(bytes: &[u8], address: u16) -> TextLine
+    requires { 0 < length bytes.now }
+    ensures text { seen result ≡ row_of bytes.now address }
+    ensures rest { drop result.text_len result.text ≡ replicate (12 - result.text_len) 0 }
+    ensures short { result.text_len ≤ 12 }
+    // It shows at least one of the bytes, and no more than are there.
+    ensures some { 0 < result.len }
+    ensures within { result.len ≤ length bytes.now }
+{
+    let first = bytes[0];
+    match decode(first) {
+        None => byte_line(first),
+        Some(found) => {
+            let fits = (found.len as usize <= bytes.len())
+                & (address as u32 + found.len as u32 <= 65536);
+            if !fits {
+                return byte_line(first);
+            }
+            let second = byte_or_0(bytes, 1);
+            let third = byte_or_0(bytes, 2);
+            row(found.len, &instruction(found, address, second, third))
+        }
+    }
+}

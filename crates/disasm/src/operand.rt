@@ -1,0 +1,79 @@
+//! Operands as text.
+
+ghost use Rattle.std.specs.Prelude.{◌≡◌, ◌≤◌, ◌∷◌, ◌++◌, length};
+ghost use Rattle.model.specs.Instruction.{absolute_text, operand_text, target_of};
+ghost use Rattle.model.specs.Layout.{has_row};
+
+use crate::text::{Text, push_bytes, text_of};
+use hexdigits::{digits_of, digits_of_word};
+use model::{Mnemonic, Mode};
+use optable::encode;
+
+/// Whether an instruction has a mode.
+#[tactic(auto, unfolding(model::specs::Layout::has_row))]
+fn has_row(mnemonic: Mnemonic, mode: Mode) -> bool
+    ensures { result ≡ has_row mnemonic mode }
+{
+    encode(mnemonic, mode).is_some()
+}
+
+/// The target of a branch at an address, by its second byte.
+fn target(address: u16, second: u8) -> u16
+    ensures { result ≡ target_of address second }
+{
+    let next = address as u32 + 2;
+    let distance = if second < 128 {
+        second as u32
+    } else {
+        second as u32 + 65280
+    };
+    ((next + distance) % 65536) as u16
+}
+
+/// An address in an absolute mode, and what stands behind it.
+fn absolute(mnemonic: Mnemonic, short: Mode, word: u16, suffix: &[u8]) -> Text
+    requires { length suffix.now ≤ 2 }
+    ensures exact { result.items ≡ 32 ∷ (absolute_text mnemonic short word ++ suffix.now) }
+    ensures short { length result.items ≤ 9 }
+{
+    let [a, b, c, d] = digits_of_word(word);
+    if (word < 256) & has_row(mnemonic, short) {
+        let mut text = text_of(&[b' ', b'!', b'$', a, b, c, d]);
+        push_bytes(&mut text, suffix);
+        return text;
+    }
+    let mut text = text_of(&[b' ', b'$', a, b, c, d]);
+    push_bytes(&mut text, suffix);
+    text
+}
+
+/// The operand of an instruction at an address as text, by the bytes behind its opcode.
+#[tactic(auto, unfolding(model::specs::Instruction::operand_text))]
+pub fn operand(mnemonic: Mnemonic, mode: Mode, address: u16, second: u8, third: u8) -> Text
+    ensures exact { result.items ≡ operand_text mnemonic mode address second third }
+    ensures short { length result.items ≤ 9 }
+{
+    let word = second as u16 + 256 * third as u16;
+    let [h, l] = digits_of(second);
+    match mode {
+        Mode::Imp => Text::new(),
+        Mode::Acc => text_of(b" A"),
+        Mode::Imm => text_of(&[b' ', b'#', b'$', h, l]),
+        Mode::Zp => text_of(&[b' ', b'$', h, l]),
+        Mode::ZpX => text_of(&[b' ', b'$', h, l, b',', b'X']),
+        Mode::ZpY => text_of(&[b' ', b'$', h, l, b',', b'Y']),
+        Mode::Abs => absolute(mnemonic, Mode::Zp, word, b""),
+        Mode::AbsX => absolute(mnemonic, Mode::ZpX, word, b",X"),
+        Mode::AbsY => absolute(mnemonic, Mode::ZpY, word, b",Y"),
+        Mode::IndX => text_of(&[b' ', b'(', b'$', h, l, b',', b'X', b')']),
+        Mode::IndY => text_of(&[b' ', b'(', b'$', h, l, b')', b',', b'Y']),
+        Mode::Ind => {
+            let [a, b, c, d] = digits_of_word(word);
+            text_of(&[b' ', b'(', b'$', a, b, c, d, b')'])
+        }
+        Mode::Rel => {
+            let [a, b, c, d] = digits_of_word(target(address, second));
+            text_of(&[b' ', b'$', a, b, c, d])
+        }
+    }
+}

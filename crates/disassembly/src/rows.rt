@@ -1,0 +1,50 @@
+//! Rows of memory, one behind the other.
+
+ghost use Rattle.std.specs.Prelude.{◌≡◌, ◌++◌, IfOk, OnOk, length};
+ghost use Rattle.model.specs.Disassembly.{rows_in};
+ghost use Rattle.model.specs.State.{memory_of};
+
+use bus::Image;
+use disasm::row_text;
+use filled::memory_of;
+use std::alloc::{AllocError, Global};
+
+/// At most so many rows of memory from an address on, none of which begins past a last address.
+#[tactic(auto, using(crate::proofs::Turns::behind, crate::proofs::Turns::no_row))]
+fn push_rows(
+    out: &mut Vec<u8>,
+    memory: &[u8],
+    first: u16,
+    last: u16,
+    count: u32,
+) -> Result<(), AllocError>
+    requires { length memory.now ≡ 65536 }
+    ensures { OnOk result (out.new.items ≡ out.old.items ++ rows_in memory.now last first count) }
+{
+    let mut address = first as usize;
+    let mut left = count;
+    while left > 0 && address <= last as usize {
+        let rest = &memory[address..];
+        let row = row_text(&rest[..rest.len().min(3)], address as u16);
+        out.extend_from_slice(row.text.as_slice())?;
+        address += row.len as usize;
+        left -= 1;
+    }
+    Ok(())
+}
+
+/// The rows of an image from one address on, as long as they begin at or below another one; 0 stands where the image has no byte.
+/// The only error is that a request for memory was refused.
+pub fn disassembly(
+    alloc: Global,
+    image: &Image,
+    first: u16,
+    last: u16,
+) -> Result<Vec<u8>, AllocError>
+    ensures { IfOk result (λ text. text.items ≡ rows_in (memory_of image.now) last first 65536) }
+{
+    let memory = memory_of(alloc, image)?;
+    let mut out = Vec::new(alloc);
+    push_rows(&mut out, memory.as_slice(), first, last, 65536)?;
+    Ok(out)
+}

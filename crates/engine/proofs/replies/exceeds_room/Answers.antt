@@ -1,5 +1,0 @@
-use Rattle.engine.proofs.Inputs.{exceeds}
-use Rattle.engine.proofs.replies.exceeds_room.Goals as goal
-
-pub returns : goal.returns
-returns c = exceeds c.input_room.result _ _ c.input_room.ensures

@@ -1,0 +1,51 @@
+//! The command that assembles a text.
+
+ghost use Rattle.std.specs.Prelude.{◌≡◌, ◌≢◌, OnOk, Err};
+ghost use Rattle.model.specs.OneLine.{one_line};
+ghost use Rattle.model.specs.Transcript.{asm_answer, source_fault_line};
+ghost use Rattle.model.specs.Written.{Writes};
+
+use assembler::assemble_line;
+use debugger::Session;
+use model::{AsmFaultKind, Event};
+use replies::{ReplyFault, happen, put, source_fault_text};
+use std::alloc::Global;
+use std::io::Write;
+
+/// A text assembled at an address, and its bytes put there: the reply is that of a patch, or the fault for which the text is refused.
+/// Where memory runs out nothing is written.
+pub fn assembled<W: Write>(
+    alloc: Global,
+    session: &mut Session,
+    address: u16,
+    text: &[u8],
+    writer: &mut W,
+) -> Result<(), ReplyFault>
+    ensures writes { Writes (W.contents writer.old) (W.contents writer.new) (asm_answer session.old address (one_line address text.now)).written result }
+    ensures ok { OnOk result (session.new ≡ (asm_answer session.old address (one_line address text.now)).session) }
+{
+    match assemble_line(alloc, address, text) {
+        Ok(line) => {
+            let bytes = line.bytes;
+            let count = line.count;
+            let patch = Event::Patch {
+                address,
+                bytes,
+                count,
+            };
+            happen(session, patch, writer)
+        }
+        Err(fault) => refuse_text(fault.kind, writer),
+    }
+}
+
+/// Why a text is not assembled. Where memory ran out nothing is written.
+fn refuse_text<W: Write>(kind: AsmFaultKind, writer: &mut W) -> Result<(), ReplyFault>
+    ensures writes { kind ≢ AsmFaultKind.OutOfMemory → Writes (W.contents writer.old) (W.contents writer.new) (source_fault_line kind) result }
+    ensures memory { kind ≡ AsmFaultKind.OutOfMemory → ((result ≡ Err ReplyFault.OutOfMemory) × (writer.new ≡ writer.old)) }
+{
+    match kind {
+        AsmFaultKind::OutOfMemory => Err(ReplyFault::OutOfMemory),
+        kind => put(writer, source_fault_text(kind).as_slice()),
+    }
+}

@@ -1,0 +1,111 @@
+//! What the engine does with a command, and what it replies.
+
+ghost use Rattle.std.specs.Prelude.{◌≡◌, take, MatchResult, IfErr, IfOk, Ok, Err, false};
+ghost use Rattle.model.specs.Written.{Writes};
+ghost use Rattle.engine.specs.Outcome.{EndsReply};
+ghost use Rattle.engine.specs.Refusals.{of_reply};
+ghost use Rattle.model.specs.Transcript.{answer_to};
+
+use crate::asm::assembled;
+use crate::fault::EngineFault;
+use debugger::Session;
+use model::{Command, Event};
+use replies::{
+    ReplyFault, clear_break, clear_watch, go_back, happen, put, put_breaks, put_instructions,
+    put_output, put_registers, put_rows, run, set_break, set_watch, step, take_input,
+};
+use std::alloc::Global;
+use std::io::Write;
+
+/// Does what a command asks for and writes the reply. It says whether the engine is to end.
+///
+/// # Errors
+///
+/// - `Write`: the reply could not be written. A beginning of it was.
+/// - `OutOfMemory`: a request for memory was refused. A beginning of the reply was written.
+#[tactic(auto, using(crate::proofs::Said::said_writes, crate::proofs::Said::said_ends, crate::proofs::Said::said_ok), unfolding(model::specs::Transcript::answer_to))]
+pub fn execute<W: Write>(
+    alloc: Global,
+    session: &mut Session,
+    command: Command,
+    writer: &mut W,
+) -> Result<bool, EngineFault>
+    ensures writes { Writes (W.contents writer.old) (W.contents writer.new) (answer_to command session.old).written result }
+    ensures ok { IfOk result (λ quit. (quit ≡ (answer_to command session.old).quit) × (session.new ≡ (answer_to command session.old).session)) }
+    ensures fault { IfErr result EndsReply }
+{
+    match command {
+        Command::Regs => said(put_registers(session, writer)),
+        Command::Step => said(step(session, writer)),
+        Command::Mem { first, last } => said(put_rows(session, first, last, writer)),
+        Command::Out => said(put_output(session, writer)),
+        Command::Set(setting) => said(happen(session, Event::Set(setting), writer)),
+        Command::Patch {
+            address,
+            bytes,
+            count,
+        } => said(happen(
+            session,
+            Event::Patch {
+                address,
+                bytes,
+                count,
+            },
+            writer,
+        )),
+        Command::Reset => said(happen(session, Event::Reset, writer)),
+        Command::Irq(level) => said(happen(session, Event::Irq(level), writer)),
+        Command::Nmi => said(happen(session, Event::Nmi, writer)),
+        Command::Input { bytes, count } => said(take_input(
+            session,
+            first_bytes(&bytes, count),
+            writer,
+        )),
+        Command::Run(count) => said(run(session, count, writer)),
+        Command::Back(count) => said(go_back(session, count, writer)),
+        Command::Break(address) => said(set_break(session, address, writer)),
+        Command::Unbreak(address) => said(clear_break(session, address, writer)),
+        Command::Watch(address) => said(set_watch(session, address, writer)),
+        Command::Unwatch(address) => said(clear_watch(session, address, writer)),
+        Command::Breaks => said(put_breaks(session, writer)),
+        Command::Dis { address, count } => said(put_instructions(session, address, count, writer)),
+        Command::Asm {
+            address,
+            text,
+            count,
+        } => said(assembled(alloc, session, address, first_of_text(&text, count), writer)),
+        Command::Quit => Ok(true),
+        Command::Nothing => Ok(false),
+        Command::Bad => said(put(writer, b"? BAD COMMAND\n")),
+    }
+}
+
+/// The first of some bytes, or all where there are no more than `count`.
+#[tactic(auto, using(crate::proofs::Said::first_all))]
+fn first_bytes(bytes: &[u8; 16], count: u8) -> &[u8]
+    ensures { result.now ≡ take count bytes.now }
+{
+    if count < 16 {
+        &bytes[..count as usize]
+    } else {
+        bytes
+    }
+}
+
+/// The first of a text's bytes, or all where there are no more than `count`.
+fn first_of_text(text: &[u8; 255], count: u8) -> &[u8]
+    ensures { result.now ≡ take count text.now }
+{
+    &text[..count as usize]
+}
+
+/// A reply that does not end the engine.
+fn said(written: Result<(), ReplyFault>) -> Result<bool, EngineFault>
+    ensures { MatchResult written (λ _. result ≡ Ok false) (λ e. result ≡ Err (of_reply e)) }
+{
+    match written {
+        Ok(()) => Ok(false),
+        Err(ReplyFault::Write) => Err(EngineFault::Write),
+        Err(ReplyFault::OutOfMemory) => Err(EngineFault::OutOfMemory),
+    }
+}

@@ -1,0 +1,94 @@
+//! The engine's call on a tape that it reads itself.
+
+ghost use Rattle.std.specs.Prelude.{◌≡◌, ◌≤◌, ◌⊎◌, true, false, ℕ, List, Option, Err, IfErr, IfOk, IfSome};
+ghost use Rattle.model.specs.Event.{start};
+ghost use Rattle.model.specs.Session.{fresh};
+ghost use Rattle.model.specs.State.{has_port_byte};
+ghost use Rattle.model.specs.TapePieces.{IsReadInPieces, IsRefusedInPieces};
+ghost use Rattle.model.specs.declared.session_fault.SessionFault.TheVariants.{PortAddress};
+ghost use Rattle.model.specs.declared.tape.TapeFault.{TapeFault};
+ghost use Rattle.engine.specs.Outcome.{Serves};
+ghost use Rattle.engine.specs.Refusals.{IfSession, IfSource, IfTape};
+ghost use Rattle.engine.specs.TapeReads.{EndsTape, IsImageOf, IsRefusalOf, ReachesFrom};
+
+use crate::fault::EngineFault;
+use crate::image::debug_image;
+use bus::{Image, MapSpec};
+use papertape::TapeReader;
+use std::alloc::Global;
+use std::io::{Read, Write};
+
+/// Reads a tape in pieces of at most 4,096 bytes, until its end or its first fault, and debugs its
+/// image as `debug_tape` does. How long the tape is makes no difference to the memory that is taken.
+///
+/// # Errors
+///
+/// - `Tape`: the tape has a fault, or goes on behind 4,294,967,295 bytes that have none (`TooLong`).
+///   No command line was read, and nothing was written.
+/// - `Session`: the tape has a byte at a port address (`PortAddress`). No command line was read, and
+///   nothing was written.
+/// - `Read`: a read failed. Where it was one of the tape, no command line was read, and nothing was
+///   written; where it was one of command lines, those whose end was told have been served.
+/// - `Write`: a write or a flush failed, or a write took no byte. A beginning of the replies was
+///   written.
+/// - `OutOfMemory`: a request for memory was refused. Before the session stood no command line was
+///   read and nothing was written, and then a beginning of the replies was written.
+pub fn debug_tape_from<T: Read, R: Read, W: Write>(
+    alloc: Global,
+    map: MapSpec,
+    history: u32,
+    tape: &mut T,
+    reader: &mut R,
+    writer: &mut W,
+) -> Result<(), EngineFault>
+    requires { history ≤ 65536 }
+
+    // Where a session stood, it started with the image that the tape denotes, and is served. Where none did, neither reader nor writer was asked.
+    ensures serves { ReachesFrom result
+        ((image : List (Option ℕ)) × IsImageOf (T.remaining tape.old) image
+        × Serves (fresh history (start map image)) (R.remaining reader.old) (R.remaining reader.new) (W.contents writer.old) (W.contents writer.new) result)
+        ((reader.new ≡ reader.old) × (writer.new ≡ writer.old)) }
+
+    // A tape with a fault is refused with it, and one that denotes an image is not, unless a read of it fails or memory is refused.
+    ensures faulty { IfSome (T.remaining tape.old) (λ text. (fault : TapeFault) → IsRefusedInPieces text fault
+        → (result ≡ Err (EngineFault.Tape fault)) ⊎ ((result ≡ Err EngineFault.Read) ⊎ (result ≡ Err EngineFault.OutOfMemory))) }
+    ensures right { IfSome (T.remaining tape.old) (λ text. (image : List (Option ℕ)) → IsReadInPieces text image → IfTape result (λ _. ⊥)) }
+
+    // A refused tape is answered with its fault.
+    ensures refused { IfTape result (IsRefusalOf (T.remaining tape.old)) }
+
+    // A tape with a byte at a port address is refused, and one without is not, unless a read of it fails or memory is refused.
+    ensures port { IfSome (T.remaining tape.old) (λ text. (image : List (Option ℕ)) → IsReadInPieces text image → has_port_byte map image ≡ true
+        → (result ≡ Err (EngineFault.Session PortAddress)) ⊎ ((result ≡ Err EngineFault.Read) ⊎ (result ≡ Err EngineFault.OutOfMemory))) }
+    ensures spared { IfSome (T.remaining tape.old) (λ text. (image : List (Option ℕ)) → IsReadInPieces text image → has_port_byte map image ≡ false → IfSession result (λ _. ⊥)) }
+    ensures session { IfSession result (λ fault. (fault ≡ PortAddress)
+        × ((image : List (Option ℕ)) × IsImageOf (T.remaining tape.old) image × (has_port_byte map image ≡ true))) }
+
+    ensures source { IfSource result (λ _. ⊥) }
+{
+    let image = read_from(alloc, tape)?;
+    debug_image(alloc, map, history, &image, reader, writer)
+}
+
+/// The image of a tape, read in pieces.
+///
+/// # Errors
+///
+/// `Tape`: the tape is refused. `Read`: a read failed. `OutOfMemory`: a request for memory was
+/// refused.
+fn read_from<T: Read>(alloc: Global, tape: &mut T) -> Result<Image, EngineFault>
+    ensures image { IfOk result (IsImageOf (T.remaining tape.old)) }
+    ensures refused { IfTape result (IsRefusalOf (T.remaining tape.old)) }
+    ensures only { IfErr result EndsTape }
+{
+    let mut reader = TapeReader::new(alloc)?;
+    let mut piece = [0u8; 4096];
+    for _ in 0..u64::MAX {
+        match tape.read(&mut piece) {
+            Ok(0) => return Ok(reader.finish()?),
+            Ok(n) => reader.feed(&piece[..n])?,
+            Err(_) => return Err(EngineFault::Read),
+        }
+    }
+    Err(EngineFault::Read)
+}

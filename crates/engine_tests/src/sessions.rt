@@ -1,0 +1,174 @@
+//! Worked examples of sessions as command lines: each is named by what it shows. The replies come from the profile's own tables and
+//! from an independent program.
+
+use crate::tests::replied_with;
+use bus::MapSpec;
+use std::test::Fail;
+
+/// An example: a source, command lines and the replies.
+type Example = (&'static [u8], &'static [u8], &'static [u8]);
+
+/// Sources and sessions on them: going back over output, interrupts, faults and input; runs with their ends; breakpoints and watches.
+const SESSIONS: [Example; 12] = [
+    // output is taken back
+    (
+        b"*=$0200\nLDA #$41\nSTA $F000\nBRK\n*=$FFFC\n.WORD $0200\n",
+        b"step\nstep\nout\nback 1\nout\n",
+        b"A=41 X=00 Y=00 S=FD P=24 PC=0202 CYC=9\nA=41 X=00 Y=00 S=FD P=24 PC=0205 CYC=13\nOUT 1\n41\nA=41 X=00 Y=00 S=FD P=24 PC=0202 CYC=9\nOUT 0\n",
+    ),
+    // an indirect jump stays in its page
+    (
+        b"*=$0200\n.BYTE $12\n*=$02FF\n.BYTE $34,$99\n*=$0400\nJMP ($02FF)\n*=$FFFC\n.WORD $0400\n",
+        b"step\n",
+        b"A=00 X=00 Y=00 S=FD P=24 PC=1234 CYC=12\n",
+    ),
+    // an interrupt's pushes wrap in the stack page and are taken back
+    (
+        b"",
+        b"set PC 0210\nset S 01\nset P 00\nirq 1\nstep\nmem 0100 0101\nmem 01FF 01FF\nback 1\nmem 0100 0101\nmem 01FF 01FF\n",
+        b"OK\nOK\nOK\nOK\nA=00 X=00 Y=00 S=FE P=24 PC=0000 CYC=14\n0100  10 02\n01FF  20\nA=00 X=00 Y=00 S=01 P=20 PC=0210 CYC=7\n0100  00 00\n01FF  00\n",
+    ),
+    // input that was taken comes back
+    (
+        b"",
+        b"set PC 0200\npatch 0200 EE 01 F0\npatch 0203 EE 00 F0\nin 41\nstep\nstep\nout\nback 2\nout\npatch 0200 AD 02 F0\nstep\n",
+        b"OK\nOK\nOK\nOK\nA=00 X=00 Y=00 S=FD P=24 PC=0203 CYC=13\nA=00 X=00 Y=00 S=FD P=24 PC=0206 CYC=19\nOUT 1\n01\nA=00 X=00 Y=00 S=FD P=24 PC=0200 CYC=7\nOUT 0\nOK\nA=01 X=00 Y=00 S=FD P=24 PC=0203 CYC=11\n",
+    ),
+    // a breakpoint where a run begins does not stop it, and no breakpoint is written into memory
+    (
+        b"",
+        b"set PC 0200\npatch 0200 EA 4C 00\npatch 0203 02\nbreak 0200\nrun 1\nrun 100\nrun 100\nmem 0200 0203\n",
+        b"OK\nOK\nOK\nOK\nDID 1 LIMIT\nDID 1 BREAK 0200\nDID 2 BREAK 0200\n0200  EA 4C 00 02\n",
+    ),
+    // a branch past the end wraps, and no row stands past $FFFF
+    (
+        b"*=$FFFD\nBNE $0001\n.BYTE $AD\n",
+        b"dis FFFD 9\n",
+        b"FFFD  D0 02     BNE $0001\nFFFF  AD        .BYTE $AD\n",
+    ),
+    // a full console ends a run
+    (
+        b"",
+        b"set PC 0200\npatch 0200 8D 00 F0\npatch 0203 4C 00 02\nrun 1000000\nstep\nback 2\n",
+        b"OK\nOK\nOK\nDID 131072 CONSOLE FULL\n! CONSOLE FULL\nA=00 X=00 Y=00 S=FD P=24 PC=0200 CYC=458752\n",
+    ),
+    // what is refused, and for which reason
+    (
+        b"",
+        b"stepp\nrun 0\n\npatch F000 01\npatch FFFF 01 02\nasm 0200 LDA #$100\nasm 0200 LDA foo\nbreak 0200\nbreak 0200\nunwatch 0010\n",
+        b"? BAD COMMAND\n? BAD COMMAND\n! PortAddress 5\n! PastEnd 4\n! ByteRange 21\n! UndefinedName 20\nOK\n! AlreadySet 3\n! NotSet 4\n",
+    ),
+    // a watch names the changed byte
+    (
+        b"",
+        b"set PC 0200\nset X 02\npatch 0200 FE FF FF\nwatch 0001\nrun 5\nregs\n",
+        b"OK\nOK\nOK\nOK\nDID 1 WATCH 0001\nA=00 X=02 Y=00 S=FD P=24 PC=0203 CYC=14\n",
+    ),
+    // of several watches the lowest is named, whichever was set first
+    (
+        b"",
+        b"watch 01FC\nwatch 01FB\nwatch 01FD\nrun 9\nrun 9\nregs\n",
+        b"OK\nOK\nOK\nDID 1 WATCH 01FB\nDID 9 LIMIT\nA=00 X=00 Y=00 S=DF P=24 PC=0000 CYC=77\n",
+    ),
+    // a watch is named before a breakpoint
+    (
+        b"",
+        b"set PC 0200\npatch 0200 E6 10\nwatch 0010\nbreak 0202\nrun 5\n",
+        b"OK\nOK\nOK\nOK\nDID 1 WATCH 0010\n",
+    ),
+    // breakpoints keep their order of setting
+    (
+        b"",
+        b"breaks\nbreak 0300\nbreak 0100\nbreak 0200\nunbreak 0100\nbreaks\n",
+        b"BREAKS\nOK\nOK\nOK\nOK\nBREAKS 0300 0200\n",
+    ),
+];
+
+fn port_alone() -> Result<MapSpec, Fail> {
+    Ok(MapSpec::new(None, 0xF000)?)
+}
+
+#[test]
+fn runs_sessions(rt: HostRuntime) -> Result<(), Fail> {
+    for (source, commands, want) in SESSIONS {
+        let told = replied_with(rt.alloc(), port_alone()?, 1024, source, commands)?;
+        assert_eq!(rt; told.as_slice(), want);
+    }
+    Ok(())
+}
+
+/// Texts assembled one line at a time: what is listed assembles back, and what is no one line is refused.
+const LINES: [Example; 3] = [
+    (
+        b"",
+        b"asm 0200 LDA !$10\nmem 0200 0202\nasm 0200 BNE $0281\nmem 0200 0201\ndis 0200 1\nasm 0200  \tlda $10 ; low\ndis 0200 2\n",
+        b"OK\n0200  AD 10 00\nOK\n0200  D0 7F\n0200  D0 7F     BNE $0281\nOK\n0200  A5 10     LDA $10\n0202  00        BRK\n",
+    ),
+    (
+        b"",
+        b"asm 0200 foo: NOP\nasm 0200 .RES 1\nasm 0200 .BYTE 1,2,3,4\nasm 0200 ;x\nasm F000 NOP\nasm FFFF JMP $0000\nasm 0200 BNE $0282\n",
+        b"! NotOneLine 13\n! NotOneLine 13\n! NotOneLine 13\n! NotOneLine 13\n! PortAddress 5\n! PastEnd 24\n! BranchRange 23\n",
+    ),
+    (
+        b"",
+        b"patch 0300 AD 10 00\npatch 0303 A5 10\npatch 0305 02\ndis 0300 3\nback 1\nasm 0305 NOP\nback 1\ndis 0305 1\n",
+        b"OK\nOK\nOK\n0300  AD 10 00  LDA !$0010\n0303  A5 10     LDA $10\n0305  02        .BYTE $02\nA=00 X=00 Y=00 S=FD P=24 PC=0000 CYC=7\nOK\nA=00 X=00 Y=00 S=FD P=24 PC=0000 CYC=7\n0305  00        BRK\n",
+    ),
+];
+
+#[test]
+fn lists_and_assembles(rt: HostRuntime) -> Result<(), Fail> {
+    for (source, commands, want) in LINES {
+        let told = replied_with(rt.alloc(), port_alone()?, 1024, source, commands)?;
+        assert_eq!(rt; told.as_slice(), want);
+    }
+    Ok(())
+}
+
+/// Lines that look like commands and are none; and two that are.
+const BAD: &[u8] =
+    b"run 1000001\nrun 00000001\nback 0\nbreak 200\ndis 0200 0\ndis 0200 257\nbreaks x\nasm 0200\nasm 0200  \nasm 0200\tNOP\nquit x\nrun\nwatch\n";
+
+#[test]
+fn takes_no_bad_line(rt: HostRuntime) -> Result<(), Fail> {
+    let told = replied_with(rt.alloc(), port_alone()?, 1024, b"", BAD)?;
+    for line in told.split(|byte| *byte == b'\n') {
+        assert!(rt; line.is_empty() || line == b"? BAD COMMAND".as_slice());
+    }
+    assert_eq!(rt; told.len(), 13 * 14);
+    let right = replied_with(rt.alloc(), port_alone()?, 1024, b"", b"run 0000001\n")?;
+    assert_eq!(rt; right.as_slice(), b"DID 1 LIMIT\n".as_slice());
+    Ok(())
+}
+
+#[test]
+fn holds_so_much_history(rt: HostRuntime) -> Result<(), Fail> {
+    let two = replied_with(
+        rt.alloc(),
+        port_alone()?,
+        2,
+        b"",
+        b"step\nstep\nstep\nback 3\nback 2\nback 1\n",
+    )?;
+    let want =
+        b"A=00 X=00 Y=00 S=FA P=24 PC=0000 CYC=14\nA=00 X=00 Y=00 S=F7 P=24 PC=0000 CYC=21\nA=00 X=00 Y=00 S=F4 P=24 PC=0000 CYC=28\n! HISTORY 2\nA=00 X=00 Y=00 S=FA P=24 PC=0000 CYC=14\n! HISTORY 0\n";
+    assert_eq!(rt; two.as_slice(), want.as_slice());
+    let none = replied_with(rt.alloc(), port_alone()?, 0, b"", b"step\nback 1\n")?;
+    assert!(rt; none.ends_with(b"! HISTORY 0\n"));
+    Ok(())
+}
+
+#[test]
+fn keeps_stores_off_rom(rt: HostRuntime) -> Result<(), Fail> {
+    let map = MapSpec::new(Some((0x8000, 0x8FFF)), 0xF000)?;
+    let told = replied_with(
+        rt.alloc(),
+        map,
+        1024,
+        b"",
+        b"set A 55\nset PC 0200\npatch 0200 8D 00 80\nstep\nmem 8000 8000\npatch 8000 AA\nmem 8000 8000\n",
+    )?;
+    let want = b"OK\nOK\nOK\nA=55 X=00 Y=00 S=FD P=24 PC=0203 CYC=11\n8000  00\nOK\n8000  AA\n";
+    assert_eq!(rt; told.as_slice(), want.as_slice());
+    Ok(())
+}

@@ -1,0 +1,22 @@
+//! The memory that an image fills.
+#![tactic(auto)]
+
+ghost use Rattle.std.specs.Prelude.{◌≡◌, IfOk, length};
+ghost use Rattle.model.specs.State.{memory_of};
+
+use bus::Image;
+use std::alloc::{AllocError, Global};
+
+/// The 65,536 bytes of a memory with the bytes of an image, and 0 where it has none. The only error is that a request for memory
+/// was refused.
+#[tactic(auto, using(crate::proofs::Bytes::memory_size), unfolding(model::specs::State::memory_of))]
+pub fn memory_of(alloc: Global, image: &Image) -> Result<Vec<u8>, AllocError>
+    ensures items { IfOk result (λ memory. memory.items ≡ memory_of image.now) }
+    ensures size { IfOk result (λ memory. length memory.items ≡ 65536) }
+{
+    let mut memory = Vec::new(alloc);
+    for cell in image.cells() {
+        memory.push(cell.unwrap_or(0))?;
+    }
+    Ok(memory)
+}

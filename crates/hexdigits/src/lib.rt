@@ -1,0 +1,28 @@
+//! Numbers as capital hex digits, without memory: the one place where digits are made. Replies, tapes, listings and the
+//! disassembler take theirs from here. The proof's idea stands in `proofs/Digits.antt`: sixteen places of a table, computed.
+#![tactic(auto)]
+
+ghost use Rattle.std.specs.Prelude.{◌≡◌, ◌∷◌, [], length};
+ghost use Rattle.hex.specs.Hex.{encode_upper};
+ghost use Rattle.model.specs.Text.{hex_byte, hex_word};
+
+/// The two capital hex digits of a byte.
+pub fn digits_of(byte: u8) -> [u8; 2]
+    ensures digits { result ≡ hex_byte byte }
+    ensures encoded { result ≡ encode_upper (byte ∷ []) }
+{
+    let mut digits = [0u8; 2];
+    let _ = hex::encode_to_slice([byte], &mut digits);
+    digits.make_ascii_uppercase();
+    digits
+}
+
+/// The four capital hex digits of an address.
+pub fn digits_of_word(word: u16) -> [u8; 4]
+    ensures { result ≡ hex_word word }
+{
+    let [high, low] = word.to_be_bytes();
+    let [a, b] = digits_of(high);
+    let [c, d] = digits_of(low);
+    [a, b, c, d]
+}

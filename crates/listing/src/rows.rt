@@ -1,0 +1,103 @@
+//! The rows of a line, and of a name.
+
+ghost use Rattle.std.specs.Prelude.{◌≡◌, ◌+◌, ◌-◌, ◌≤◌, ◌<◌, ◌^◌, ◌++◌, ◌∷◌, OnOk, length};
+ghost use Rattle.model.specs.Listing.{group_row, group_rows, line_rows, name_row, number_text, separated};
+ghost use Rattle.model.specs.Text.{spaced_bytes};
+
+use columns::{address_text, byte_columns};
+use hexdigits::{digits_of, digits_of_word};
+use itoa::Buffer;
+use std::alloc::AllocError;
+
+/// One to three bytes with a space between them.
+#[tactic(auto, unfolding(model::specs::Text::spaced_bytes))]
+fn push_separated(out: &mut Vec<u8>, bytes: &[u8]) -> Result<(), AllocError>
+    requires { length bytes.now ≤ 3 }
+    ensures { OnOk result (out.new.items ≡ out.old.items ++ separated bytes.now) }
+{
+    match bytes {
+        [a] => out.extend_from_slice(&digits_of(*a)),
+        [a, b] => {
+            let [i, j] = digits_of(*b);
+            out.extend_from_slice(&digits_of(*a))?;
+            out.extend_from_slice(&[b' ', i, j])
+        }
+        [a, b, c] => {
+            let [i, j] = digits_of(*b);
+            let [k, l] = digits_of(*c);
+            out.extend_from_slice(&digits_of(*a))?;
+            out.extend_from_slice(&[b' ', i, j, b' ', k, l])
+        }
+        _ => Ok(()),
+    }
+}
+
+/// A row of one to three further bytes.
+fn push_group(out: &mut Vec<u8>, address: u32, bytes: &[u8]) -> Result<(), AllocError>
+    requires { length bytes.now ≤ 3 }
+    ensures { OnOk result (out.new.items ≡ out.old.items ++ group_row address bytes.now) }
+{
+    out.extend_from_slice(&address_text(address))?;
+    out.extend_from_slice(b"  ")?;
+    push_separated(out, bytes)?;
+    out.push(b'\n')?;
+    Ok(())
+}
+
+/// The rows of all further bytes.
+#[tactic(auto, using(crate::proofs::Groups::next_group, crate::proofs::Groups::no_group))]
+fn push_groups(out: &mut Vec<u8>, address: u32, bytes: &[u8]) -> Result<(), AllocError>
+    requires { address + length bytes.now < 2 ^ 32 - 3 }
+    ensures { OnOk result (out.new.items ≡ out.old.items ++ group_rows address bytes.now) }
+{
+    let mut at = address;
+    let mut rest = bytes;
+    while !rest.is_empty() {
+        let (group, behind) = rest.split_at(rest.len().min(3));
+        push_group(out, at, group)?;
+        at += 3;
+        rest = behind;
+    }
+    Ok(())
+}
+
+/// A line's rows: its address, its first three bytes and its text, and then its further bytes.
+pub fn push_line(
+    out: &mut Vec<u8>,
+    address: u32,
+    bytes: &[u8],
+    line: &[u8],
+) -> Result<(), AllocError>
+    requires { address + length bytes.now < 2 ^ 32 - 6 }
+    ensures { OnOk result (out.new.items ≡ out.old.items ++ line_rows address bytes.now line.now) }
+{
+    out.extend_from_slice(&address_text(address))?;
+    out.extend_from_slice(b"  ")?;
+    out.extend_from_slice(&byte_columns(bytes))?;
+    out.extend_from_slice(b"  ")?;
+    out.extend_from_slice(line)?;
+    out.push(b'\n')?;
+    push_groups(out, address + 3, &bytes[bytes.len().min(3)..])
+}
+
+/// A number as an address where it is one, and in decimal elsewhere.
+fn push_number(out: &mut Vec<u8>, number: i32) -> Result<(), AllocError>
+    ensures { OnOk result (out.new.items ≡ out.old.items ++ number_text number) }
+{
+    if number >= 0 && number < 65536 {
+        let [a, b, c, d] = digits_of_word(number as u16);
+        return out.extend_from_slice(&[b'$', a, b, c, d]);
+    }
+    out.extend_from_slice(Buffer::new().format(number).as_bytes())
+}
+
+/// A name's row.
+pub fn push_name(out: &mut Vec<u8>, name: &[u8], number: i32) -> Result<(), AllocError>
+    ensures { OnOk result (out.new.items ≡ out.old.items ++ name_row (name.now, number)) }
+{
+    out.extend_from_slice(name)?;
+    out.extend_from_slice(b" = ")?;
+    push_number(out, number)?;
+    out.push(b'\n')?;
+    Ok(())
+}

@@ -1,0 +1,26 @@
+-- Memory as text: rows of an address, the bytes of an instruction and its text. Source: profile.
+use Rattle.std.specs.Prelude.{ℕ, zero, suc, ◌+◌, nat_le, if◌then◌else◌, List, [], ◌∷◌, ◌++◌, take, drop}
+use Rattle.model.specs.Text.{hex_word}
+use Rattle.model.specs.Instruction.{TextRow, row_of}
+use Rattle.model.specs.Listing.{padded, separated}
+
+-- The address of a row, its bytes in 8 columns and its text, with two spaces between them.
+unfoldable pub row_line : ℕ → List ℕ → TextRow → List ℕ
+row_line address bytes row =
+    hex_word address ++ 32 ∷ 32 ∷ (padded (separated (take row.len bytes)) ++ 32 ∷ 32 ∷ (row.text ++ 10 ∷ []))
+
+-- The bytes from an address on that an instruction can have: three, or those up to $FFFF.
+abbrev pub bytes_from : List ℕ → ℕ → List ℕ
+bytes_from memory address = take 3 (drop address memory)
+
+-- The row of memory at an address.
+abbrev pub row_in : List ℕ → ℕ → TextRow
+row_in memory address = row_of (bytes_from memory address) address
+
+-- Rows from an address on, each behind the one before it: at most so many, and none that begins past a last address.
+unfoldable pub rows_in : List ℕ → ℕ → ℕ → ℕ → List ℕ
+rows_in memory last address zero = []
+rows_in memory last address (suc n) =
+    if nat_le address last
+    then row_line address (bytes_from memory address) (row_in memory address) ++ rows_in memory last (address + (row_in memory address).len) n
+    else []

@@ -1,0 +1,44 @@
+-- Looking changes no state. Source: profile.
+use Rattle.std.specs.Prelude.{◌≡◌, ℕ, ◌==◌, Bool, true, false, if◌then◌else◌, List, [], ◌∷◌, map}
+use Rattle.model.specs.Session.{Session}
+use Rattle.model.specs.Run.{run_end, bare}
+use Rattle.model.specs.Back.{states}
+use Rattle.model.specs.Commands.{command_of}
+use Rattle.model.specs.Transcript.{answer_to, served}
+use Rattle.model.specs.declared.command.Command.{Command}
+use Rattle.model.specs.declared.command.Command.TheVariants.{Regs, Mem, Out, Run, Break, Unbreak, Watch, Unwatch, Breaks, Dis, Nothing, Bad}
+
+-- Whether a command only looks: it is a view, it sets or clears a breakpoint or a watch, or it is an empty or a bad line.
+unfoldable pub is_look : Command → Bool
+is_look Regs = true
+is_look (Mem first last) = true
+is_look Out = true
+is_look (Dis address count) = true
+is_look Breaks = true
+is_look (Break address) = true
+is_look (Unbreak address) = true
+is_look (Watch address) = true
+is_look (Unwatch address) = true
+is_look Nothing = true
+is_look Bad = true
+is_look command = false
+
+-- A run of as many steps, if there are any.
+abbrev pub run_again : ℕ → List Command → List Command
+run_again k rest = if k == 0 then rest else Run k ∷ rest
+
+-- What a command leaves of itself before the rest: nothing of a look, and of a run the steps that it made.
+unfoldable pub kept_of : Command → Session → List Command → List Command
+kept_of (Run n) s rest = run_again (run_end n s).did rest
+kept_of command s rest = if is_look command then rest else command ∷ rest
+
+-- What is left of some commands, from a session on.
+unfoldable pub kept : Session → List Command → List Command
+kept s [] = []
+kept s (command ∷ commands) = kept_of command s (kept (answer_to command s).session commands)
+
+-- Looking is harmless: lines that ask for what is left of other lines, and are served with no breakpoint and no watch set, lead to
+-- the same states.
+abbrev pub LooksAreHarmless : Type 0
+LooksAreHarmless = (s : Session) (lines others : List (List ℕ)) → map command_of others ≡ kept s (map command_of lines) →
+    states (served (bare s) others).session ≡ states (served s lines).session

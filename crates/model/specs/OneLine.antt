@@ -1,0 +1,48 @@
+-- What one line denotes at an address, in a source without names. Source: profile.
+use Rattle.std.specs.Prelude.{ℕ, ◌+◌, nat_le, Bool, true, false, ◌&&◌, not, if◌then◌else◌, List, [], ◌∷◌, ◌++◌, Some, None, Result, Ok, Err}
+use Rattle.model.specs.declared.source_fault.AsmFaultKind.{AsmFaultKind}
+use Rattle.model.specs.declared.source_fault.AsmFaultKind.TheVariants.{NotOneLine, PastEnd}
+use Rattle.model.specs.Layout.{◌>>>◌, Fixed, Placed, size_of, unless, line_fixed}
+use Rattle.model.specs.Bytes.{kind_if, kinds_in, lowest, bytes_of, pieces_of}
+use Rattle.model.specs.Value.{Numbers}
+use Rattle.model.specs.Names.{number_in}
+use Rattle.model.specs.Line.{Statement, nothing, origin, bytes, words, words_high_first, reserve, finish, instruction, Line, labelled, definition, read_line}
+
+-- An operation that may stand alone.
+abbrev pub may_stand_alone : Statement → Bool
+may_stand_alone nothing = false
+may_stand_alone (origin e) = false
+may_stand_alone (bytes items) = true
+may_stand_alone (words es) = true
+may_stand_alone (words_high_first es) = true
+may_stand_alone (reserve e) = false
+may_stand_alone finish = false
+may_stand_alone (instruction m operand) = true
+
+-- No label, no definition, and an operation that may stand alone.
+abbrev pub is_one_line : Line → Bool
+is_one_line (labelled None s) = may_stand_alone s
+is_one_line (labelled (Some name) s) = false
+is_one_line (definition name e) = false
+
+-- No name has a number.
+abbrev pub no_numbers : Numbers
+no_numbers = number_in []
+
+abbrev pub begun_at : ℕ → Fixed
+begun_at address = record { address = address; names = [] }
+
+-- The bytes of a line in its place, at most 3; or its value fault, no port and no other line standing in the way.
+abbrev pub bytes_alone : Placed → Result (List ℕ) AsmFaultKind
+bytes_alone p =
+    unless (lowest (kinds_in (pieces_of no_numbers p.address p.content) ++ kind_if (not (nat_le (p.address + size_of p.content) 65536)) PastEnd ∷ []))
+    (Ok (bytes_of no_numbers p))
+
+-- Whether it has 1 to 3 bytes.
+abbrev pub is_short : Line → Placed → Bool
+is_short l p = is_one_line l && nat_le (size_of p.content) 3
+
+-- The bytes that a text denotes at an address, or its fault: a layout fault before NotOneLine, that before a value fault.
+unfoldable pub one_line : ℕ → List ℕ → Result (List ℕ) AsmFaultKind
+one_line address text =
+    read_line text >>> λ l. line_fixed (begun_at address) l >>> λ q. if is_short l q.0 then bytes_alone q.0 else Err NotOneLine

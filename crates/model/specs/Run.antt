@@ -1,0 +1,105 @@
+-- A run of steps: how it ends, and where it leads. Source: profile.
+use Rattle.std.specs.Prelude.{ℕ, ◌≡◌, ◌+◌, ◌-◌, zero, suc, Bool, not, ◌==◌, nat_eq, nat_le, if◌then◌else◌, min, List, [], ◌∷◌, filter, slice_index, Option, Some, None, unwrap_or, Result, Ok, Err}
+use Rattle.std.specs.List.{list_any}
+use Rattle.std.specs.Option.{option_map, option_map_or, option_or}
+use Rattle.model.specs.State.{State}
+use Rattle.model.specs.Step.{step}
+use Rattle.model.specs.Session.{Session, appended}
+use Rattle.model.specs.declared.event.EventFault.{EventFault}
+use Rattle.model.specs.declared.run_end.Why.{Why}
+use Rattle.model.specs.declared.run_end.Why.TheVariants.{Watch, Break, Limit, Refused}
+use Rattle.model.specs.declared.run_end.RunEnd.{RunEnd}
+
+-- ---- what ends a run after a step
+
+-- The lowest of some addresses.
+abbrev pub lowest : List ℕ → Option ℕ
+lowest [] = None
+lowest (a ∷ rest) = Some (option_map_or (min a) (lowest rest) a)
+
+-- The watched addresses whose byte of memory differs between two states.
+abbrev pub changed : List ℕ → State → State → List ℕ
+changed watches before after = filter (λ a. not (slice_index before.bus.memory a == slice_index after.bus.memory a)) watches
+
+-- A step that changes a watched byte: the lowest such address is named.
+unfoldable pub watch_met : List ℕ → State → State → Option Why
+watch_met watches before after = option_map Watch (lowest (changed watches before after))
+
+-- A step that leads to a breakpoint.
+unfoldable pub break_met : List ℕ → State → State → Option Why
+break_met breaks before after = if list_any (nat_eq after.regs.pc) breaks then Some (Break after.regs.pc) else None
+
+-- Why a run ends after a step that leads from one state to another, if it does: a watch is named before a breakpoint.
+unfoldable pub stop_of : Session → State → State → Option Why
+stop_of s before after = option_or (watch_met s.watches before after) (break_met s.breaks before after)
+
+-- ---- the four ends
+
+-- One step more before an end.
+abbrev pub one_later : RunEnd → RunEnd
+one_later end = record { did = suc end.did; why = end.why }
+
+-- The first of n steps that meets something. A refused step meets nothing, and no step comes after it.
+abbrev pub met_now_or_later : Option Why → Option RunEnd → Option RunEnd
+met_now_or_later (Some why) rest = Some (record { did = 1; why = why })
+met_now_or_later None rest = option_map one_later rest
+
+abbrev pub met_if_made : (State → State → Option Why) → State → Result State EventFault → (State → Option RunEnd) → Option RunEnd
+met_if_made met before (Ok after) rest = met_now_or_later (met before after) (rest after)
+met_if_made met before (Err fault) rest = None
+
+unfoldable pub first_met : (State → State → Option Why) → ℕ → State → Option RunEnd
+first_met met zero s = None
+first_met met (suc n) s = met_if_made met s (step s) (λ t. first_met met n t)
+
+-- The first refused step of n, which is not counted.
+abbrev pub refused_now_or_later : Result State EventFault → (State → Option RunEnd) → Option RunEnd
+refused_now_or_later (Ok after) rest = option_map one_later (rest after)
+refused_now_or_later (Err fault) rest = Some (record { did = 0; why = Refused fault })
+
+unfoldable pub first_refused : ℕ → State → Option RunEnd
+first_refused zero s = None
+first_refused (suc n) s = refused_now_or_later (step s) (λ t. first_refused n t)
+
+-- ---- the run
+
+-- The end that comes after fewer steps, the first of both where they come after equally many.
+abbrev pub sooner : Option RunEnd → RunEnd → RunEnd
+sooner None b = b
+sooner (Some a) b = if nat_le a.did b.did then a else b
+
+-- How a run of n steps ends: with the first of a step that changes a watched byte, a step that leads to a breakpoint, a refused step,
+-- and the limit of n steps. Of several that come after equally many steps, the reason is the first in this order.
+unfoldable pub run_end : ℕ → Session → RunEnd
+run_end n s =
+    sooner (first_met (watch_met s.watches) n s.current)
+    (sooner (first_met (break_met s.breaks) n s.current)
+    (unwrap_or (first_refused n s.current) (record { did = n; why = Limit })))
+
+-- The session after k steps, or after as many as are made before a refused one.
+abbrev pub after_step : Session → Result State EventFault → (Session → Session) → Session
+after_step s (Ok state) rest = rest (appended s state)
+after_step s (Err fault) rest = s
+
+unfoldable pub after_steps : ℕ → Session → Session
+after_steps zero s = s
+after_steps (suc k) s = after_step s (step s.current) (λ t. after_steps k t)
+
+-- The session after a run of n steps.
+abbrev pub after_run : ℕ → Session → Session
+after_run n s = after_steps (run_end n s).did s
+
+-- The session with no breakpoint and no watch set.
+abbrev pub bare : Session → Session
+bare s = record s { breaks = []; watches = [] }
+
+-- A run that was cut short and goes on with no breakpoint and no watch set ends where one run with none set ends, and for its reason.
+abbrev pub CutRunGoesOn : Type 0
+CutRunGoesOn = (n : ℕ) (s : Session) →
+    (after_run (n - (run_end n s).did) (bare (after_run n s)) ≡ after_run n (bare s))
+    × ((run_end (n - (run_end n s).did) (bare (after_run n s))).why ≡ (run_end n (bare s)).why)
+
+-- As many steps as a run made, asked for with no breakpoint and no watch set, are made, and lead to the same states.
+abbrev pub RunCanBeRepeated : Type 0
+RunCanBeRepeated = (n : ℕ) (s : Session) →
+    (run_end (run_end n s).did (bare s) ≡ record { did = (run_end n s).did; why = Limit }) × (after_run (run_end n s).did (bare s) ≡ bare (after_run n s))

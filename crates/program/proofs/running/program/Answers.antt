@@ -1,0 +1,25 @@
+use Rattle.std.proofs.Common.{◌≡◌, Err, arith, inl, refl, subst}
+use Rattle.program.specs.Statuses.{IsStatusOf}
+use Rattle.program.specs.declared.refusal.Refusal.TheVariants.{OutOfMemory}
+use Rattle.words.specs.Asked.{debug, dis}
+use Rattle.words.specs.Views.{debug_view}
+use Rattle.program.proofs.Transcripts.{ended_served, one_debug}
+use Rattle.program.proofs.running.program.Goals as goal
+
+-- the words were right, so memory ran out
+pub returns-in-Err-clause-debugged : goal.returns-in-Err-clause-debugged
+returns-in-Err-clause-debugged g c d h taken =
+    let memory = c.in-Err.ensures.served (debug d) taken h in
+    let three : c.refused_words.result ≡ 3 = subst (λ f. IsStatusOf f c.refused_words.result) memory c.refused_words.ensures.status in
+    (Err OutOfMemory, three, inl (refl, c.refused_words.ensures.untouched (omega (arith, three)) (omega (arith, three))))
+
+pub returns-in-Err-clause-listed : goal.returns-in-Err-clause-listed
+returns-in-Err-clause-listed g c d h taken =
+    let memory = c.in-Err.ensures.served (dis d) taken h in
+    let three : c.refused_words.result ≡ 3 = subst (λ f. IsStatusOf f c.refused_words.result) memory c.refused_words.ensures.status in
+    (Err OutOfMemory, three, refl, c.refused_words.ensures.untouched (omega (arith, three)) (omega (arith, three)))
+
+pub returns-in-Ok-Debug-clause-served : goal.returns-in-Ok-Debug-clause-served
+returns-in-Ok-Debug-clause-served g c zero d h taken =
+    let same = one_debug _ (debug_view c.in-Ok-Debug.words) d (rw c.in-Ok-Debug.field-0-is at c.in-Ok-Debug.ensures.asked) h in
+    ended_served (debug_view c.in-Ok-Debug.words) d _ _ _ _ _ c.debug.result c.ended-in-Ok-Debug.result same c.debug.ensures.served c.ended-in-Ok-Debug.ensures zero

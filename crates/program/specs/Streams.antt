@@ -1,0 +1,38 @@
+-- What `debug` and `dis` do to their streams. Source: profile.
+use Rattle.std.specs.Prelude.{⊤, ◌≡◌, ◌⊎◌, ℕ, List, Option, Result, Ok, Err, MatchResult}
+use Rattle.std.specs.Io.KnownBytes.{Appends}
+use Rattle.bus.specs.declared.map_spec.MapSpec.{MapSpec}
+use Rattle.engine.specs.Outcome.{Serves}
+use Rattle.engine.specs.declared.fault.EngineFault.{EngineFault}
+use Rattle.engine.specs.declared.fault.EngineFault.TheVariants as engine_fault
+use Rattle.model.specs.Disassembly.{rows_in}
+use Rattle.model.specs.Event.{start}
+use Rattle.model.specs.Session.{fresh}
+use Rattle.model.specs.State.{memory_of}
+use Rattle.model.specs.Written.{AppendsFront}
+use Rattle.program.specs.Statuses.{status_of}
+use Rattle.program.specs.declared.refusal.Refusal.{Refusal}
+use Rattle.program.specs.declared.refusal.Refusal.TheVariants.{OutOfMemory, Read, Write}
+
+-- A session that starts with some image was served, and its serving ended so. Which image a file stands for no clause can say.
+abbrev pub FromImage : MapSpec → ℕ → Option (List ℕ) → Option (List ℕ) → Option (List ℕ) → Option (List ℕ) → Result ⊤ EngineFault → Type 0
+FromImage map history input left held now ended = (image : List (Option ℕ)) × Serves (fresh history (start map image)) input left held now ended
+
+-- How the streams stand by the outcome of `debug`: a session was served to its end or to a failure, or none stood and the streams
+-- were left alone, `Alone`. `Read` may tell of the file, and memory may run out before and after.
+abbrev pub IsServed : MapSpec → ℕ → Option (List ℕ) → Option (List ℕ) → Option (List ℕ) → Option (List ℕ) → Result ⊤ Refusal → Type 0 → Type 0
+IsServed map history input left held now (Ok done) Alone = FromImage map history input left held now (Ok done)
+IsServed map history input left held now (Err Read) Alone = Alone ⊎ FromImage map history input left held now (Err engine_fault.Read)
+IsServed map history input left held now (Err Write) Alone = FromImage map history input left held now (Err engine_fault.Write)
+IsServed map history input left held now (Err OutOfMemory) Alone = Alone ⊎ FromImage map history input left held now (Err engine_fault.OutOfMemory)
+IsServed map history input left held now (Err refusal) Alone = Alone
+
+-- How the output stands by the outcome of `dis`: the rows of some image were written, or a beginning of them, or it was left alone.
+abbrev pub IsListed : ℕ → ℕ → Option (List ℕ) → Option (List ℕ) → Result ⊤ Refusal → Type 0 → Type 0
+IsListed first last held now (Ok done) Alone = (image : List (Option ℕ)) × Appends held now (rows_in (memory_of image) last first 65536)
+IsListed first last held now (Err Write) Alone = (image : List (Option ℕ)) × AppendsFront held now (rows_in (memory_of image) last first 65536)
+IsListed first last held now (Err refusal) Alone = Alone
+
+-- The exit status says how it ended.
+abbrev pub IsStatus : Result ⊤ Refusal → ℕ → Type 0
+IsStatus outcome status = MatchResult outcome (λ _. status ≡ 0) (λ refusal. status ≡ status_of refusal)

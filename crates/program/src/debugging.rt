@@ -1,0 +1,51 @@
+//! `debug`: a session on the image of a file.
+ghost use Rattle.std.specs.Prelude.{◌≡◌, Ok, Err, IfErr, MatchResult, false};
+ghost use Rattle.model.specs.State.{is_map};
+ghost use Rattle.model.specs.declared.bus_fault.BusFault.TheVariants.{BadMap};
+ghost use Rattle.program.specs.Refusals.{EndsDebug, of_engine};
+ghost use Rattle.program.specs.Streams.{IsServed};
+
+use crate::assembling::read_source;
+use crate::refusal::Refusal;
+use bus::MapSpec;
+use engine::{EngineFault, debug_source, debug_tape_from};
+use std::fs::File;
+use std::io::{Read, Write};
+use std::rt::Files;
+use words::DebugWords;
+
+/// Debugs a source or a tape: the replies to the lines of `input` go to `output`. A tape is read in pieces, so that a long one
+/// takes no more memory than a short one.
+pub fn debug<H: Files + AllocGlobal, R: Read, O: Write>(
+    rt: &H,
+    words: &DebugWords<'_>,
+    input: &mut R,
+    output: &mut O,
+) -> Result<(), Refusal>
+    ensures bad_map { is_map words.now.rom words.now.port ≡ false → result ≡ Err (Refusal.Map BadMap) }
+    ensures refused { IfErr result (EndsDebug words.now.is_tape words.now.rom words.now.port) }
+    // A session on some image and the map of the words was served, or none stood.
+    ensures served { IsServed (record { rom = words.now.rom; port = words.now.port }) words.now.history
+        (R.remaining input.old) (R.remaining input.new) (O.contents output.old) (O.contents output.new) result ((input.new ≡ input.old) × (output.new ≡ output.old)) }
+{
+    let map = MapSpec::new(words.rom, words.port)?;
+    let alloc = rt.alloc();
+    let history = words.history;
+    if words.is_tape {
+        let mut tape = File::open(rt, words.file).map_err(|error| Refusal::unreadable(&error))?;
+        answered(debug_tape_from(alloc, map, history, &mut tape, input, output))
+    } else {
+        let source = read_source(rt, words.file).map_err(|error| Refusal::unreadable(&error))?;
+        answered(debug_source(alloc, map, history, source.as_slice(), input, output))
+    }
+}
+
+/// What the engine answered, as the program's own answer.
+fn answered(answer: Result<(), EngineFault>) -> Result<(), Refusal>
+    ensures { MatchResult answer (λ _. result ≡ Ok tt) (λ fault. result ≡ Err (of_engine fault)) }
+{
+    match answer {
+        Ok(()) => Ok(()),
+        Err(fault) => Err(Refusal::from(fault)),
+    }
+}

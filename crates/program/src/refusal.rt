@@ -1,0 +1,120 @@
+//! Refusals, and what each part's fault is answered as.
+ghost use Rattle.std.specs.Prelude.{◌≡◌};
+ghost use Rattle.std.specs.IoError.{error_kind};
+ghost use Rattle.engine.specs.Refusals.{of_source, of_tape};
+ghost use Rattle.program.specs.Refusals.{of_engine};
+ghost use Rattle.program.specs.declared.refusal.Refusal.TheVariants.{Map};
+
+use engine::EngineFault;
+use model::{AsmFault, BusFault, SessionFault, TapeFault};
+use std::io;
+use std::io::ErrorKind;
+use thiserror::Error;
+
+/// Why the program ends without having done what it was asked for. Each but `OutOfMemory`, `Read` and
+/// `Write` is found before anything is written.
+#[derive(Clone, Copy, Debug, PartialEq, Eq, Error)]
+pub enum Refusal {
+    /// A word is none that the program takes.
+    #[error("WORDS")]
+    Words,
+    /// The port and the ROM make no map.
+    #[error("MAP {0}")]
+    Map(BusFault),
+    /// The source has a fault.
+    #[error("SOURCE line {} {}", .0.line, .0.kind)]
+    Source(AsmFault),
+    /// The tape has a fault.
+    #[error("TAPE {0}")]
+    Tape(TapeFault),
+    /// The image has bytes at the port's addresses, as only a tape can bring it.
+    #[error("TAPE {0}")]
+    Session(SessionFault),
+    /// Memory ran out.
+    #[error("OutOfMemory")]
+    OutOfMemory,
+    /// A file or the standard input cannot be read.
+    #[error("READ")]
+    Read,
+    /// A file or the standard output cannot be written.
+    #[error("WRITE")]
+    Write,
+}
+
+impl Refusal {
+    ghost use Rattle.program.specs.Statuses.{status_of};
+
+    /// The exit status: 1 for a source or tape, 2 for the words or the map, 3 for memory, 4 for
+    /// reading and writing.
+    pub fn status(&self) -> u8
+        ensures { result ≡ status_of self.now }
+    {
+        match self {
+            Refusal::Source(_) | Refusal::Tape(_) | Refusal::Session(_) => 1,
+            Refusal::Words | Refusal::Map(_) => 2,
+            Refusal::OutOfMemory => 3,
+            Refusal::Read | Refusal::Write => 4,
+        }
+    }
+
+    /// Why a file could not be read.
+    pub fn unreadable(error: &io::Error) -> Refusal
+        ensures memory { error_kind error.now ≡ ErrorKind.OutOfMemory → result ≡ Refusal.OutOfMemory }
+        ensures other { ¬ (error_kind error.now ≡ ErrorKind.OutOfMemory) → result ≡ Refusal.Read }
+    {
+        match error.kind() {
+            ErrorKind::OutOfMemory => Refusal::OutOfMemory,
+            _ => Refusal::Read,
+        }
+    }
+
+    /// Why a file could not be written.
+    pub fn unwritable(error: &io::Error) -> Refusal
+        ensures memory { error_kind error.now ≡ ErrorKind.OutOfMemory → result ≡ Refusal.OutOfMemory }
+        ensures other { ¬ (error_kind error.now ≡ ErrorKind.OutOfMemory) → result ≡ Refusal.Write }
+    {
+        match error.kind() {
+            ErrorKind::OutOfMemory => Refusal::OutOfMemory,
+            _ => Refusal::Write,
+        }
+    }
+}
+
+impl From<BusFault> for Refusal {
+    ghost from_gives = { λ fault refusal. refusal ≡ Map fault };
+
+    fn from(fault: BusFault) -> Refusal {
+        Refusal::Map(fault)
+    }
+}
+
+impl From<AsmFault> for Refusal {
+    ghost from_gives = { λ fault refusal. refusal ≡ of_engine (of_source fault) };
+
+    fn from(fault: AsmFault) -> Refusal {
+        Refusal::from(EngineFault::from(fault))
+    }
+}
+
+impl From<TapeFault> for Refusal {
+    ghost from_gives = { λ fault refusal. refusal ≡ of_engine (of_tape fault) };
+
+    fn from(fault: TapeFault) -> Refusal {
+        Refusal::from(EngineFault::from(fault))
+    }
+}
+
+impl From<EngineFault> for Refusal {
+    ghost from_gives = { λ fault refusal. refusal ≡ of_engine fault };
+
+    fn from(fault: EngineFault) -> Refusal {
+        match fault {
+            EngineFault::Source(fault) => Refusal::Source(fault),
+            EngineFault::Tape(fault) => Refusal::Tape(fault),
+            EngineFault::Session(fault) => Refusal::Session(fault),
+            EngineFault::Read => Refusal::Read,
+            EngineFault::Write => Refusal::Write,
+            EngineFault::OutOfMemory => Refusal::OutOfMemory,
+        }
+    }
+}

@@ -1,0 +1,126 @@
+//! What the program does with its words.
+ghost use Rattle.std.specs.Prelude.{◌≡◌, ◌≤◌, ◌⊎◌, ℕ, List, [], ◌∷◌, Option, Result, Some, None, IfSome, MatchResult, ⊤, true, false, map};
+ghost use Rattle.std.specs.IoError.{error_kind};
+ghost use Rattle.std.specs.Io.KnownBytes.{Appends};
+ghost use Rattle.clap.specs.Words.{IsAmong, fault_of};
+ghost use Rattle.clap.specs.declared.error.kind.ErrorKind.TheVariants.{DisplayHelp};
+ghost use Rattle.model.specs.Event.{start};
+ghost use Rattle.model.specs.Session.{fresh};
+ghost use Rattle.model.specs.State.{is_map};
+ghost use Rattle.model.specs.Transcript.{transcript};
+ghost use Rattle.program.specs.Statuses.{IsStatusOf, status_of};
+ghost use Rattle.program.specs.Streams.{IsListed, IsServed, IsStatus};
+ghost use Rattle.program.specs.declared.refusal.Refusal.{Refusal};
+ghost use Rattle.words.specs.Asked.{AsmAsked, DebugAsked, DisAsked, asked, asm, debug, dis};
+ghost use Rattle.words.specs.CommandLine.{mos65};
+ghost use Rattle.words.specs.Refused.{IsTaken};
+
+use crate::assembling::asm;
+use crate::debugging::debug;
+use crate::disassembling::dis;
+use crate::refusal::Refusal;
+use std::io;
+use std::io::{ErrorKind, Read, Write};
+use std::rt::Files;
+use words::{Words, WordsFault, read_words};
+
+/// Writes the fault line, and gives the exit status, also where it cannot be written.
+fn refused<E: Write>(refusal: Refusal, errors: &mut E) -> u8
+    ensures { result ≡ status_of refusal }
+{
+    let _ = writeln!(errors, "mos65: {refusal}");
+    refusal.status()
+}
+
+/// The exit status of what was tried, 0 where it is done; a refusal is said by a fault line.
+fn ended<E: Write>(outcome: Result<(), Refusal>, errors: &mut E) -> u8
+    ensures { MatchResult outcome (λ _. result ≡ 0) (λ refusal. result ≡ status_of refusal) }
+{
+    match outcome {
+        Ok(()) => 0,
+        Err(refusal) => refused(refusal, errors),
+    }
+}
+
+/// Says why words are refused, or gives the help that they ask for, and gives the exit status.
+fn refused_words<O: Write, E: Write>(fault: WordsFault, output: &mut O, errors: &mut E) -> u8
+    ensures status { IsStatusOf fault result }
+    ensures untouched { 1 ≤ result → result ≤ 3 → output.new ≡ output.old }
+{
+    match fault {
+        WordsFault::Help(text) => match write!(output, "{text}") {
+            Ok(()) => 0,
+            Err(_) => refused(Refusal::Write, errors),
+        },
+        WordsFault::Usage(text) => {
+            let _ = write!(errors, "{text}");
+            2
+        }
+        WordsFault::Value => refused(Refusal::Words, errors),
+        WordsFault::OutOfMemory => refused(Refusal::OutOfMemory, errors),
+    }
+}
+
+/// Says why the process's words could not be collected, and gives the exit status: 3 where memory
+/// ran out, and else 2.
+pub fn unreadable_words<E: Write>(error: &io::Error, errors: &mut E) -> u8
+    ensures memory { error_kind error.now ≡ ErrorKind.OutOfMemory → result ≡ 3 }
+    ensures other { ¬ (error_kind error.now ≡ ErrorKind.OutOfMemory) → result ≡ 2 }
+{
+    match error.kind() {
+        ErrorKind::OutOfMemory => refused(Refusal::OutOfMemory, errors),
+        _ => refused(Refusal::Words, errors),
+    }
+}
+
+/// Does what the words ask for, the program's own name left out, and gives the exit status: 0 where
+/// it is done, 1 where the source or the tape is refused, 2 where the words or the map are wrong, 3
+/// where memory ran out, 4 where reading or writing failed. For each but 0 a line on `errors` says
+/// why; that it cannot be written changes no status. Faults are found in this order: words, map, a
+/// file to read, its content, a file to write. `asm` makes the whole text of the tape before it
+/// makes the tape's file.
+pub fn program<H: Files + AllocGlobal, R: Read, O: Write, E: Write>(
+    rt: &H,
+    words: &[&str],
+    input: &mut R,
+    output: &mut O,
+    errors: &mut E,
+) -> u8
+    ensures status { result ≤ 4 }
+    // A source, a tape, words or a map that are refused leave the input and the output as they were.
+    ensures untouched { 1 ≤ result → result ≤ 2 → (input.new ≡ input.old) × (output.new ≡ output.old) }
+    // Words that fit nothing have the status 2, memory aside, where help is not asked for; help that is asked for has 0 where it was written.
+    ensures usage { ¬ IsTaken (map (λ s. s.now) words.entry.now) → ¬ IsAmong DisplayHelp (fault_of mos65 (map (λ s. s.now) words.entry.now)) → (result ≡ 2) ⊎ (result ≡ 3) }
+    ensures help { fault_of mos65 (map (λ s. s.now) words.entry.now) ≡ DisplayHelp ∷ [] → (result ≡ 0) ⊎ (result ≡ 3) ⊎ (result ≡ 4) }
+    // A wrong value has the status 2, memory aside.
+    ensures value { IsTaken (map (λ s. s.now) words.entry.now) → asked (map (λ s. s.now) words.entry.now) ≡ None → (result ≡ 2) ⊎ (result ≡ 3) }
+    // So has a wrong map, whatever the file.
+    ensures asm_map { (a : AsmAsked) → asked (map (λ s. s.now) words.entry.now) ≡ Some (asm a) → IsTaken (map (λ s. s.now) words.entry.now) → is_map None a.port ≡ false → (result ≡ 2) ⊎ (result ≡ 3) }
+    ensures debug_map { (d : DebugAsked) → asked (map (λ s. s.now) words.entry.now) ≡ Some (debug d) → IsTaken (map (λ s. s.now) words.entry.now) → is_map d.rom d.port ≡ false → (result ≡ 2) ⊎ (result ≡ 3) }
+    // Where the words and the map are right, the status is another one.
+    ensures asm_right { (a : AsmAsked) → asked (map (λ s. s.now) words.entry.now) ≡ Some (asm a) → IsTaken (map (λ s. s.now) words.entry.now) → a.listing ≡ None → is_map None a.port ≡ true → ¬ (result ≡ 2) }
+    ensures debug_right { (d : DebugAsked) → asked (map (λ s. s.now) words.entry.now) ≡ Some (debug d) → IsTaken (map (λ s. s.now) words.entry.now) → is_map d.rom d.port ≡ true → ¬ (result ≡ 2) }
+    // `asm` leaves the input and the output as they were, whatever comes of it.
+    ensures asm_alone { (a : AsmAsked) → asked (map (λ s. s.now) words.entry.now) ≡ Some (asm a) → IsTaken (map (λ s. s.now) words.entry.now) → (input.new ≡ input.old) × (output.new ≡ output.old) }
+    // No listing is written so far: words that ask for one are wrong.
+    ensures asm_listing { (a : AsmAsked) → asked (map (λ s. s.now) words.entry.now) ≡ Some (asm a) → IsTaken (map (λ s. s.now) words.entry.now) → ¬ (a.listing ≡ None) → (result ≡ 2) ⊎ (result ≡ 3) }
+    // `dis` leaves the input as it was, and wrote the rows of some image, or a beginning of them, or nothing, as the status says.
+    ensures listed { (d : DisAsked) → asked (map (λ s. s.now) words.entry.now) ≡ Some (dis d) → IsTaken (map (λ s. s.now) words.entry.now) → (outcome : Result ⊤ Refusal) × IsStatus outcome result
+        × (input.new ≡ input.old) × IsListed d.first d.last (O.contents output.old) (O.contents output.new) outcome (output.new ≡ output.old) }
+    // `debug` served a session, to its end or to a failure that the status says, or left both as they were.
+    ensures debugged { (d : DebugAsked) → asked (map (λ s. s.now) words.entry.now) ≡ Some (debug d) → IsTaken (map (λ s. s.now) words.entry.now) → (outcome : Result ⊤ Refusal) × IsStatus outcome result
+        × IsServed (record { rom = d.rom; port = d.port }) d.history (R.remaining input.old) (R.remaining input.new) (O.contents output.old) (O.contents output.new) outcome ((input.new ≡ input.old) × (output.new ≡ output.old)) }
+    // Where a session has ended, the output has the transcript of the input, from some image on the map of the words.
+    ensures served { result ≡ 0 → (d : DebugAsked) → asked (map (λ s. s.now) words.entry.now) ≡ Some (debug d) → IsTaken (map (λ s. s.now) words.entry.now) → (image : List (Option ℕ)) × IfSome (R.remaining input.old) (λ given.
+        Appends (O.contents output.old) (O.contents output.new) (transcript (fresh d.history (start (record { rom = d.rom; port = d.port }) image)) given).written) }
+{
+    match read_words(rt.alloc(), words) {
+        Ok(Words::Asm(words)) => match words.listing {
+            None => ended(asm(rt, &words), errors),
+            Some(_) => refused(Refusal::Words, errors),
+        },
+        Ok(Words::Dis(words)) => ended(dis(rt, &words, output), errors),
+        Ok(Words::Debug(words)) => ended(debug(rt, &words, input, output), errors),
+        Err(fault) => refused_words(fault, output, errors),
+    }
+}

@@ -1,0 +1,4 @@
+pub mod Inputs
+pub mod Rows
+pub mod Writing
+pub mod Lists

@@ -1,0 +1,114 @@
+//! Calls of the session that are no events, and the replies to them.
+
+ghost use Rattle.std.specs.Prelude.{◌≡◌, ◌≢◌, OnErr, OnOk, Ok, Err};
+ghost use Rattle.model.specs.Written.{Writes};
+ghost use Rattle.model.specs.Run.{after_steps, run_end};
+ghost use Rattle.model.specs.Back.{back_of};
+ghost use Rattle.model.specs.Tables.{break_cleared, break_set, watch_cleared, watch_set};
+ghost use Rattle.model.specs.Transcript.{back_answer, refusal_line, run_line, table_answer};
+
+use crate::fault::ReplyFault;
+use crate::output::put;
+use crate::texts::{refusal_text, register_text, run_text};
+use debugger::Session;
+use model::SessionFault;
+use std::io::Write;
+
+/// A run of at most so many steps: the reply is how many were made, and why it ended.
+pub fn run<W: Write>(session: &mut Session, count: u32, writer: &mut W) -> Result<(), ReplyFault>
+    ensures writes { Writes (W.contents writer.old) (W.contents writer.new) (run_line (run_end count session.old)) result }
+    ensures ok { OnOk result (session.new ≡ after_steps (run_end count session.old).did session.old) }
+    ensures fault { OnErr result (result ≡ Err ReplyFault.Write) }
+{
+    let end = session.run(count);
+    put(writer, run_text(end).as_slice())
+}
+
+/// So many events gone back over: the reply is the register line then, or how many are held.
+pub fn go_back<W: Write>(
+    session: &mut Session,
+    count: u32,
+    writer: &mut W,
+) -> Result<(), ReplyFault>
+    ensures writes { Writes (W.contents writer.old) (W.contents writer.new) (back_answer session.old (back_of count session.old)).written result }
+    ensures ok { OnOk result (session.new ≡ (back_answer session.old (back_of count session.old)).session) }
+    ensures fault { OnErr result (result ≡ Err ReplyFault.Write) }
+{
+    match session.back(count) {
+        Ok(()) => put(writer, register_text(session).as_slice()),
+        Err(fault) => put(writer, refusal_text(fault).as_slice()),
+    }
+}
+
+/// A breakpoint set: the reply is `OK`, or why it was refused. Where memory runs out nothing is written.
+pub fn set_break<W: Write>(
+    session: &mut Session,
+    address: u16,
+    writer: &mut W,
+) -> Result<(), ReplyFault>
+    ensures writes { Writes (W.contents writer.old) (W.contents writer.new) (table_answer session.old (break_set address session.old)).written result }
+    ensures ok { OnOk result (session.new ≡ (table_answer session.old (break_set address session.old)).session) }
+{
+    match session.set_break(address) {
+        Ok(()) => put(writer, b"OK\n"),
+        Err(fault) => refuse(fault, writer),
+    }
+}
+
+/// A watch set: the reply is `OK`, or why it was refused. Where memory runs out nothing is written.
+pub fn set_watch<W: Write>(
+    session: &mut Session,
+    address: u16,
+    writer: &mut W,
+) -> Result<(), ReplyFault>
+    ensures writes { Writes (W.contents writer.old) (W.contents writer.new) (table_answer session.old (watch_set address session.old)).written result }
+    ensures ok { OnOk result (session.new ≡ (table_answer session.old (watch_set address session.old)).session) }
+{
+    match session.set_watch(address) {
+        Ok(()) => put(writer, b"OK\n"),
+        Err(fault) => refuse(fault, writer),
+    }
+}
+
+/// A breakpoint cleared: the reply is `OK`, or why it was refused.
+pub fn clear_break<W: Write>(
+    session: &mut Session,
+    address: u16,
+    writer: &mut W,
+) -> Result<(), ReplyFault>
+    ensures writes { Writes (W.contents writer.old) (W.contents writer.new) (table_answer session.old (break_cleared address session.old)).written result }
+    ensures ok { OnOk result (session.new ≡ (table_answer session.old (break_cleared address session.old)).session) }
+    ensures fault { OnErr result (result ≡ Err ReplyFault.Write) }
+{
+    match session.clear_break(address) {
+        Ok(()) => put(writer, b"OK\n"),
+        Err(fault) => put(writer, refusal_text(fault).as_slice()),
+    }
+}
+
+/// A watch cleared: the reply is `OK`, or why it was refused.
+pub fn clear_watch<W: Write>(
+    session: &mut Session,
+    address: u16,
+    writer: &mut W,
+) -> Result<(), ReplyFault>
+    ensures writes { Writes (W.contents writer.old) (W.contents writer.new) (table_answer session.old (watch_cleared address session.old)).written result }
+    ensures ok { OnOk result (session.new ≡ (table_answer session.old (watch_cleared address session.old)).session) }
+    ensures fault { OnErr result (result ≡ Err ReplyFault.Write) }
+{
+    match session.clear_watch(address) {
+        Ok(()) => put(writer, b"OK\n"),
+        Err(fault) => put(writer, refusal_text(fault).as_slice()),
+    }
+}
+
+/// Why a breakpoint or a watch is not set. Where memory ran out nothing is written.
+fn refuse<W: Write>(fault: SessionFault, writer: &mut W) -> Result<(), ReplyFault>
+    ensures writes { fault ≢ SessionFault.OutOfMemory → Writes (W.contents writer.old) (W.contents writer.new) (refusal_line fault) result }
+    ensures memory { fault ≡ SessionFault.OutOfMemory → ((result ≡ Err ReplyFault.OutOfMemory) × (writer.new ≡ writer.old)) }
+{
+    match fault {
+        SessionFault::OutOfMemory => Err(ReplyFault::OutOfMemory),
+        fault => put(writer, refusal_text(fault).as_slice()),
+    }
+}

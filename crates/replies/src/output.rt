@@ -1,0 +1,28 @@
+//! How bytes are written.
+
+ghost use Rattle.std.specs.Prelude.{◌≡◌, Err, OnErr};
+ghost use Rattle.model.specs.Written.{Writes};
+
+use crate::fault::ReplyFault;
+use std::io::Write;
+
+/// Writes all of the bytes.
+///
+/// # Errors
+///
+/// `Write` where a write fails, of whatever kind its error is, or takes no byte: then a beginning of
+/// the bytes was written.
+pub fn put<W: Write>(writer: &mut W, bytes: &[u8]) -> Result<(), ReplyFault>
+    ensures writes { Writes (W.contents writer.old) (W.contents writer.new) bytes.now result }
+    ensures fault { OnErr result (result ≡ Err ReplyFault.Write) }
+{
+    let mut done = 0;
+    while done < bytes.len() {
+        match writer.write(&bytes[done..]) {
+            Ok(0) => return Err(ReplyFault::Write),
+            Ok(n) => done += n,
+            Err(_) => return Err(ReplyFault::Write),
+        }
+    }
+    Ok(())
+}

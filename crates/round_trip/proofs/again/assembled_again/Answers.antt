@@ -1,0 +1,21 @@
+use Rattle.std.proofs.Common.{◌≡◌, ℕ, List, Ok, take, ap, sym, ◌∙◌, arith}
+use Rattle.std.specs.Prelude.{Result}
+use Rattle.model.specs.Instruction.{TextRow, row_of}
+use Rattle.model.specs.OneLine.{one_line}
+use Rattle.model.specs.declared.source_fault.AsmFaultKind.{AsmFaultKind}
+use Rattle.round_trip.proofs.Answered.{right, only_memory}
+use Rattle.round_trip.proofs.again.assembled_again.Goals as goal
+
+pub returns-clause-same : goal.returns-clause-same
+returns-clause-same c =
+    let read : one_line c.args.address (row_of c.args.bytes.now c.args.address).text ≡ Ok (take (row_of c.args.bytes.now c.args.address).len c.args.bytes.now)
+    = c.text_is_read_again.ensures c.args.bytes.now c.args.address c.requires (λ i. (c.type_inv.bytes i).fits) c.ranges.address.fits in
+    let text : take c.line_at-row.result.text_len c.line_at-row.result.text ≡ (row_of c.args.bytes.now c.args.address).text = ap (λ (r : TextRow). r.text) c.line_at-row.ensures.text in
+    right c.assemble_line.result _ _ (ap (one_line c.args.address) text ∙ read) c.assemble_line.ensures.exact
+
+pub returns-clause-only : goal.returns-clause-only
+returns-clause-only c =
+    let read : one_line c.args.address (row_of c.args.bytes.now c.args.address).text ≡ Ok (take (row_of c.args.bytes.now c.args.address).len c.args.bytes.now)
+    = c.text_is_read_again.ensures c.args.bytes.now c.args.address c.requires (λ i. (c.type_inv.bytes i).fits) c.ranges.address.fits in
+    let text : take c.line_at-row.result.text_len c.line_at-row.result.text ≡ (row_of c.args.bytes.now c.args.address).text = ap (λ (r : TextRow). r.text) c.line_at-row.ensures.text in
+    only_memory c.assemble_line.result _ _ (ap (one_line c.args.address) text ∙ read) c.assemble_line.ensures.exact

@@ -1,0 +1,24 @@
+//! The text of a row, assembled.
+
+ghost use Rattle.std.specs.Prelude.{◌≡◌, ◌<◌, IfErr, IfOk, length, take};
+ghost use Rattle.assembler.specs.Assembly.{out_of_memory};
+ghost use Rattle.model.specs.Instruction.{row_of};
+
+use assembler::{AsmFault, Line, assemble_line};
+use disasm::line_at;
+use std::alloc::Global;
+use text_laws::text_is_read_again;
+
+/// Lists the row with which some bytes begin, at their address, and assembles its text at that address: the bytes are those that
+/// were listed, of an instruction all of them, of a `.BYTE` row its one. The only fault is `OutOfMemory`, where a request for
+/// memory was refused.
+pub fn assembled_again(alloc: Global, bytes: &[u8], address: u16) -> Result<Line, AsmFault>
+    requires { 0 < length bytes.now }
+    ensures same { IfOk result (λ l. take l.count l.bytes ≡ take (row_of bytes.now address).len bytes.now) }
+    ensures only { IfErr result (λ f. f ≡ out_of_memory) }
+{
+    // For the proof: what a row's text denotes.
+    text_is_read_again();
+    let row = line_at(bytes, address);
+    assemble_line(alloc, address, &row.text[..row.text_len as usize])
+}

@@ -1,0 +1,27 @@
+//! The laws. Each is the contract of a function that does nothing.
+
+ghost use Rattle.model.specs.Back.{BackIsExact};
+ghost use Rattle.model.specs.Looking.{LooksAreHarmless};
+ghost use Rattle.model.specs.Run.{CutRunGoesOn, RunCanBeRepeated};
+
+/// Going back over as many events as were accepted gives the states before them exactly where the history has room for them; else it
+/// is refused, and the number of events held is the history size.
+pub fn going_back_is_exact()
+    ensures { BackIsExact }
+{}
+
+/// A run that is cut short and goes on ends as one run does that nothing cuts.
+pub fn cut_run_goes_on()
+    ensures { CutRunGoesOn }
+{}
+
+/// The steps that a run made are made again where no breakpoint and no watch is set.
+pub fn run_can_be_repeated()
+    ensures { RunCanBeRepeated }
+{}
+
+/// Views, breakpoints, watches and bad lines change no state: command lines without them, with each run cut to the steps that it made,
+/// lead to the same states.
+pub fn looks_are_harmless()
+    ensures { LooksAreHarmless }
+{}

@@ -1,0 +1,5 @@
+pub mod Meaning
+pub mod OneMeaning
+pub mod Values
+pub mod Holding
+pub mod Lengths

@@ -1,0 +1,71 @@
+-- What a source denotes and its fault, computed: one pass lays the lines out, a second one puts their bytes.
+-- That it is what the definitions mean is a law of this crate.
+use Rattle.std.specs.Prelude.{◌≡◌, ℕ, ◌+◌, nat_lt, if◌then◌else◌, List, [], ◌∷◌, length, Option, Result, Ok, Err}
+use Rattle.model.specs.State.{Map}
+use Rattle.model.specs.Image.{empty_image, with_bytes}
+use Rattle.model.specs.Value.{Numbers}
+use Rattle.model.specs.Layout.{Fixed, Placed, unless, layout_of, LaidOut}
+use Rattle.model.specs.declared.source_fault.AsmFault.{AsmFault}
+use Rattle.model.specs.declared.source_fault.AsmFaultKind.{AsmFaultKind}
+use Rattle.model.specs.declared.source_fault.AsmFaultKind.TheVariants.{TooLarge}
+use Rattle.model.specs.Names.{number_in}
+use Rattle.model.specs.Bytes.{bytes_of, value_fault}
+use Rattle.model.specs.Source.{most_bytes, nothing_fixed, read_lines, Denotes, HasFault}
+
+abbrev pub numbered : {A : Type 0} → ℕ → Result A AsmFaultKind → Result A AsmFault
+numbered number (Ok a) = Ok a
+numbered number (Err kind) = Err (record { line = number; kind = kind })
+
+infixl 10 ◌>>=◌
+abbrev pub ◌>>=◌ : {A B : Type 0} → Result A AsmFault → (A → Result B AsmFault) → Result B AsmFault
+(Ok a) >>= f = f a
+(Err fault) >>= f = Err fault
+
+-- The lines from a line's number on laid out behind lines that fix so much: their places, and what is fixed in the end.
+abbrev pub laid_lines : ℕ → Fixed → List (List ℕ) → Result (List Placed × Fixed) AsmFault
+laid_lines number before [] = Ok ([], before)
+laid_lines number before (line ∷ lines) =
+    numbered number (layout_of before line) >>= λ p. laid_lines (number + 1) p.1 lines >>= λ rest. Ok (p.0 ∷ rest.0, rest.1)
+
+unfoldable pub put : Map → Numbers → List (Option ℕ) → Placed → Result (List (Option ℕ)) AsmFaultKind
+put bus_map numbers image p = unless (value_fault bus_map numbers image p) (Ok (with_bytes image p.address (bytes_of numbers p)))
+
+-- The image behind lines in their places.
+abbrev pub made_lines : Map → Numbers → ℕ → List (Option ℕ) → List Placed → Result (List (Option ℕ)) AsmFault
+made_lines bus_map numbers number image [] = Ok image
+made_lines bus_map numbers number image (p ∷ ps) =
+    numbered number (put bus_map numbers image p) >>= λ i. made_lines bus_map numbers (number + 1) i ps
+
+pub record Judged : Type 0 where
+  pub placed : List Placed
+  pub all : Fixed
+  pub image : List (Option ℕ)
+
+abbrev pub too_large : AsmFault
+too_large = record { line = 0; kind = TooLarge }
+
+unfoldable pub judged_lines : Map → List (List ℕ) → Result Judged AsmFault
+judged_lines bus_map lines =
+    laid_lines 1 nothing_fixed lines >>= λ l. made_lines bus_map (number_in l.1.names) 1 empty_image l.0 >>= λ image. Ok (record { placed = l.0; all = l.1; image = image })
+
+unfoldable pub judged : Map → List ℕ → Result Judged AsmFault
+judged bus_map source = if nat_lt most_bytes (length source) then Err too_large else judged_lines bus_map (read_lines source)
+
+-- ---- that this is what a source denotes, or its fault
+
+-- What an answer says of a source: it denotes the image, and its lines stand so and its names have these numbers; or it has the fault.
+abbrev pub Says : Map → List ℕ → Result Judged AsmFault → Type 0
+Says bus_map source (Ok j) = (Denotes bus_map source j.image) × LaidOut nothing_fixed (read_lines source) j.placed j.all
+Says bus_map source (Err fault) = HasFault bus_map source fault
+
+abbrev pub JudgedIsMeant : Type 0
+JudgedIsMeant = (bus_map : Map) (source : List ℕ) → Says bus_map source (judged bus_map source)
+
+abbrev pub judged_as : List Placed → Fixed → List (Option ℕ) → Judged
+judged_as placed all image = record { placed = placed; all = all; image = image }
+
+abbrev pub DenotedIsJudged : Type 0
+DenotedIsJudged = (bus_map : Map) (source : List ℕ) (image : List (Option ℕ)) (d : Denotes bus_map source image) → judged bus_map source ≡ Ok (judged_as d.placed d.all image)
+
+abbrev pub FaultIsJudged : Type 0
+FaultIsJudged = (bus_map : Map) (source : List ℕ) (fault : AsmFault) → HasFault bus_map source fault → judged bus_map source ≡ Err fault

@@ -1,0 +1,11 @@
+//! Laws over the definitions of sources: no function here does anything, each one's contract is a law, and its proof is
+//! in `proofs`. They stand on `model` alone, so that they are checked beside the assembler and not before it.
+//! Who needs a law calls its function.
+#![tactic(auto)]
+
+mod law;
+
+pub use law::{
+    each_source_has_one_meaning, judging_is_right, lengths_are_the_tables,
+    names_have_their_numbers, one_assignment,
+};

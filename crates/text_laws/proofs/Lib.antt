@@ -1,0 +1,9 @@
+pub mod Letters
+pub mod Digits
+pub mod Steps
+pub mod Said
+pub mod Forms
+pub mod Alone
+pub mod Texts
+pub mod Again
+pub mod Rows
