@@ -68,11 +68,11 @@ record_run (b ∷ es) offset s place all =
 not_semicolon : (b : ℕ) → is_skipped b ≡ true → (b == 59) ≡ false
 not_semicolon b h = ne_eqb b 59 (λ e. false≢true (rw e at h))
 
-gap_step : (offset b : ℕ) (s : Progress) → s.place ≡ Between → is_skipped b ≡ true → step offset s b ≡ Ok s
+pub gap_step : (offset b : ℕ) (s : Progress) → s.place ≡ Between → is_skipped b ≡ true → step offset s b ≡ Ok s
 unfolding step
 gap_step offset b s place h = rw (place, not_semicolon b h, h) refl
 
-tail_step : (offset b : ℕ) (s : Progress) → s.place ≡ After → is_skipped b ≡ true → step offset s b ≡ Ok s
+pub tail_step : (offset b : ℕ) (s : Progress) → s.place ≡ After → is_skipped b ≡ true → step offset s b ≡ Ok s
 unfolding step
 tail_step offset b s place h = rw (place, h) refl
 

@@ -14,3 +14,4 @@ pub mod Changed
 pub mod OneReading
 pub mod Pieces
 pub mod Told
+pub mod Skipped

@@ -1,12 +1,12 @@
 //! Reading a tape.
 
-ghost use Rattle.std.specs.Prelude.{◌≡◌, Ok, Err, IfOk, IfErr, ◌⊎◌, ℕ, List, Option, [], ◌∷◌};
+ghost use Rattle.std.specs.Prelude.{◌≡◌, Ok, Err, IfOk, IfErr, ◌⊎◌, ℕ, List, Option, [], ◌∷◌, true, false};
 ghost use Rattle.papertape.specs.Reading.{Answers, read_of};
 ghost use Rattle.model.specs.Tape.{Denotes, FirstFault};
 ghost use Rattle.model.specs.declared.tape.TapeFaultKind.{TapeFaultKind};
 ghost use Rattle.model.specs.TapeFault.{out_of_memory};
 
-use crate::reading::Reading;
+use crate::reading::{Reading, all_are_skipped};
 use bus::Image;
 use model::{TAPE_OUT_OF_MEMORY, TapeFault, TapeFaultKind};
 use std::alloc::Global;
@@ -96,12 +96,39 @@ impl TapeReader {
         }
     }
 
-    /// Takes bytes, so many in all.
-    fn take_up_to(&mut self, limit: u64, bytes: &[u8])
+    /// Takes bytes one after another, so many in all.
+    fn take_each(&mut self, limit: u64, bytes: &[u8])
         ensures { self.new ≡ fed_up_to limit self.old bytes.now }
     {
         for byte in bytes {
             self.take(limit, *byte);
+        }
+    }
+
+    /// Takes bytes at once where each of them may stand between records, no record is begun and no limit met; else none.
+    fn skip(&mut self, limit: u64, bytes: &[u8]) -> bool
+        ensures all { result ≡ true → self.new ≡ fed_up_to limit self.old bytes.now }
+        ensures none { result ≡ false → self.new ≡ self.old }
+    {
+        let None = self.failed else {
+            return false;
+        };
+        if self.reading.is_in_record() {
+            return false;
+        }
+        if bytes.len() as u64 > limit.saturating_sub(self.offset) || !all_are_skipped(bytes) {
+            return false;
+        }
+        self.offset += bytes.len() as u64;
+        true
+    }
+
+    /// Takes bytes, so many in all.
+    fn take_up_to(&mut self, limit: u64, bytes: &[u8])
+        ensures { self.new ≡ fed_up_to limit self.old bytes.now }
+    {
+        if !self.skip(limit, bytes) {
+            self.take_each(limit, bytes);
         }
     }
 

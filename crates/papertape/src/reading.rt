@@ -1,6 +1,7 @@
 //! What was read of a tape so far, and the step for one byte.
 
-ghost use Rattle.std.specs.Prelude.{◌≡◌, [], true};
+ghost use Rattle.std.specs.Prelude.{◌≡◌, ◌≢◌, [], true, false};
+ghost use Rattle.std.specs.List.{list_all};
 ghost use Rattle.hex.specs.Hex.{is_hex_digit};
 ghost use Rattle.model.specs.Tape.{is_skipped};
 
@@ -24,6 +25,17 @@ pub fn is_skipped(byte: u8) -> bool
     ensures { result ≡ is_skipped byte }
 {
     byte == 0 || byte == 13 || byte == 10 || byte == 19
+}
+
+/// Whether all of some bytes are skipped. Each is looked at, so that no branch depends on one.
+pub fn all_are_skipped(bytes: &[u8]) -> bool
+    ensures { result ≡ list_all is_skipped bytes.now }
+{
+    let mut all = true;
+    for byte in bytes {
+        all &= is_skipped(*byte);
+    }
+    all
 }
 
 /// What was read of a tape.
@@ -51,6 +63,13 @@ impl Model for Reading {
 impl Reading {
     ghost use Rattle.papertape.specs.Reading.{Gives, start, step, settled, with_digit, finished};
     ghost use Rattle.papertape.specs.declared.reading.Place.TheVariants.{Within};
+
+    /// Whether a record is begun and not ended.
+    pub fn is_in_record(&self) -> bool
+        ensures { result ≡ false → self.now.place ≢ Within }
+    {
+        self.place == Place::Within
+    }
 
     fn begin(&mut self, offset: u64)
         ensures { self.new ≡ record self.old { place = Within; start = offset; digits = [] } }
