@@ -55,11 +55,13 @@ fn asm_command<'a>(alloc: Global) -> Result<Command<'a>, Error>
     ensures local { IfOk result (λ c. (out-Command c).has_globals ≡ false) }
     ensures memory { IfErr result (λ e. kind_of e ≡ ErrorKind.OutOfMemory) }
 {
+    let listing = "The file to write lines, addresses, bytes and names to [default: none]";
     let command = Command::new(alloc, "asm")
         .about("Assembles a source, and writes its tape")
+        .after_help("Example:\n  mos65 asm hello.a65 hello.tape --listing hello.lst")
         .arg(file(alloc, "SOURCE", "The source to assemble"))?
         .arg(file(alloc, "TAPE", "The file to write the tape to"))?
-        .arg(option(alloc, "listing", "FILE", "The file to write the listing to"))?
+        .arg(option(alloc, "listing", "FILE", listing))?
         .arg(port(alloc))?;
     Ok(command)
 }
@@ -71,11 +73,24 @@ fn dis_command<'a>(alloc: Global) -> Result<Command<'a>, Error>
 {
     let command = Command::new(alloc, "dis")
         .about("Lists what a tape has between two addresses as instructions")
+        .after_help("Example:\n  mos65 dis hello.tape 0200 020F")
         .arg(file(alloc, "TAPE", "The tape to read"))?
         .arg(file(alloc, "LO", "The first address, four hex digits"))?
         .arg(file(alloc, "HI", "The last address, four hex digits"))?;
     Ok(command)
 }
+
+/// What is shown below the options of `debug`.
+const COMMANDS: &str = "Commands:
+  regs  mem LO HI  dis A N  out  breaks      look
+  step  run N  back N                        go on, and back over N events
+  break A  unbreak A  watch A  unwatch A     stop runs
+  set R V  patch A HH ..  asm A TEXT         change registers (A X Y S P PC) and memory
+  in HH ..  reset  irq 0  irq 1  nmi         input and signals
+  quit
+
+Example:
+  mos65 debug hello.a65 --history 4096 --rom 8000-8FFF";
 
 fn debug_command<'a>(alloc: Global) -> Result<Command<'a>, Error>
     ensures shape { IfOk result (λ c. app_of c ≡ debug) }
@@ -86,6 +101,7 @@ fn debug_command<'a>(alloc: Global) -> Result<Command<'a>, Error>
     let rom = "The addresses that the program cannot write [default: none]";
     let command = Command::new(alloc, "debug")
         .about("Debugs a source: commands on standard input, replies on standard output")
+        .after_help(COMMANDS)
         .arg(file(alloc, "FILE", "The source to assemble and load"))?
         .arg(flag(alloc, "tape", "FILE is a tape, and no source"))?
         .arg(option(alloc, "history", "N", history))?
@@ -93,6 +109,9 @@ fn debug_command<'a>(alloc: Global) -> Result<Command<'a>, Error>
         .arg(option(alloc, "rom", "LO-HI", rom))?;
     Ok(command)
 }
+
+/// What is shown below the words of the program.
+const STATUSES: &str = "Exit status: 0 done, 1 source or tape refused, 2 words or map wrong, 3 memory, 4 reading or writing";
 
 /// The program's command line.
 ///
@@ -105,6 +124,7 @@ pub fn command<'a>(alloc: Global) -> Result<Command<'a>, Error>
 {
     let program = Command::new(alloc, "mos65")
         .about("A development system for the MOS 6502")
+        .after_help(STATUSES)
         .no_binary_name(true)
         .subcommand_required(true)
         .bin_name("mos65")?
