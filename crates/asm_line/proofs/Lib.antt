@@ -5,3 +5,4 @@ pub mod Tokens
 pub mod FewBytes
 pub mod Foreign
 pub mod GrammarIsRead
+pub mod ReadIsGrammar

@@ -1,6 +1,6 @@
 //! The law of a line's grammar.
 
-ghost use Rattle.model.specs.Grammar.{EachLineIsRead};
+ghost use Rattle.model.specs.Grammar.{EachLineIsRead, EachReadLineIsALine};
 
 use asm_expr::{expressions_are_longest, one_expression};
 
@@ -10,4 +10,11 @@ pub fn each_line_is_read()
 {
     expressions_are_longest();
     one_expression();
+}
+
+/// What is read is a line of the grammar, and says what was read. A law for proofs: it does nothing.
+pub fn each_read_line_is_a_line()
+    ensures { EachReadLineIsALine }
+{
+    expressions_are_longest();
 }

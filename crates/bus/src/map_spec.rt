@@ -43,6 +43,13 @@ impl MapSpec {
         Ok(MapSpec { rom, port })
     }
 
+    /// A port and a ROM that make a map. A law for proofs: it does nothing.
+    pub fn is_map(&self)
+        ensures { is_map self.now.rom self.now.port ≡ true }
+    {
+        let _ = &self.port;
+    }
+
     /// Whether the address is one of the port's four.
     #[tactic(auto, unfolding(model::specs::State::is_port))]
     pub fn is_port(&self, address: u16) -> bool

@@ -2,7 +2,7 @@
 
 ghost use Rattle.std.specs.Prelude.{◌≡◌, ◌+◌, ◌-◌, ◌<◌, ◌≤◌, ◌↔◌, length, slice_index, slice_get, slice_set, IsErr, OnOk, OnErr, IfErr, IfOk, true, false, not, ◌||◌, ◌++◌, ◌∷◌, [], if◌then◌else◌, ℕ, List};
 ghost use Rattle.std.specs.List.{list_all};
-ghost use Rattle.model.specs.State.{console_size, is_port, is_rom, byte_read, after_read, overflows, after_write, stored, input_waits, loaded_bus, has_port_byte};
+ghost use Rattle.model.specs.State.{console_size, is_port, is_rom, byte_read, after_read, overflows, after_write, stored, input_waits, loaded_bus, has_port_byte, AreBytes, IsBus};
 ghost use Rattle.model.specs.Event.{meets_port, patched};
 ghost use Rattle.model.specs.Image.{empty_image, has_byte};
 ghost use Rattle.model.specs.Undo.{CanRestore, restored, cells_of, put_cells};
@@ -94,6 +94,21 @@ impl Bus {
     {
         let place = address as usize;
         self.memory[place]
+    }
+
+    /// What every bus is: memory of 65,536 bytes, 0 at the port's addresses, and a console within its room. A law for proofs: it
+    /// does nothing.
+    pub fn is_bus(&self)
+        ensures { IsBus self.now }
+    {
+        self.map.is_map();
+        are_bytes(self.memory.as_slice());
+        let (given, given_behind) = self.given.as_slices();
+        are_bytes(given);
+        are_bytes(given_behind);
+        let (out, out_behind) = self.out.as_slices();
+        are_bytes(out);
+        are_bytes(out_behind);
     }
 
     /// A byte as the processor reads it, which at base+1 takes the next byte of input.
@@ -476,3 +491,8 @@ fn has_port_byte(map: &MapSpec, image: &Image) -> bool
         | has_byte(image, port + 2)
         | has_byte(image, port + 3)
 }
+
+/// Each of some bytes is below 256, as their type says. A law for proofs: it does nothing.
+fn are_bytes(bytes: &[u8])
+    ensures { AreBytes bytes.now }
+{}

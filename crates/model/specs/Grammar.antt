@@ -5,7 +5,8 @@
 -- item      = expr | string
 -- operand   = "A" | "#" expr | ["!"] expr ["," ("X" | "Y")] | "(" expr ")" | "(" expr "," "X" ")" | "(" expr ")" "," "Y"
 -- Any word may stand where a name stands: that it is no reserved word is asked of the whole line afterwards.
--- `Line.antt` reads a line by functions; that each line of this grammar is read so is a law that is proved.
+-- `Line.antt` reads a line by functions; that each line of this grammar is read so, and that what is read is such a line, are laws
+-- that are proved.
 use Rattle.std.specs.Prelude.{◌≡◌, ℕ, Bool, true, false, ◌&&◌, List, [], ◌∷◌, ◌++◌, codes, Some, None}
 use Rattle.std.specs.Str.{bytes_eq, str_to_ascii_uppercase}
 use Rattle.model.specs.declared.expression.TokenKind.TheVariants.{Word, Directive}
@@ -124,3 +125,7 @@ pub data IsLine : Line → List Lexeme → Type 0 where
 -- Each line of the grammar is read so, and so it says one thing only.
 abbrev pub EachLineIsRead : Type 0
 EachLineIsRead = (l : Line) (ts : List Lexeme) → IsLine l ts → line_of ts ≡ Some l
+
+-- And what is read is a line of the grammar.
+abbrev pub EachReadLineIsALine : Type 0
+EachReadLineIsALine = (l : Line) (ts : List Lexeme) → line_of ts ≡ Some l → IsLine l ts

@@ -1,2 +1,1 @@
-mod Decimal
 mod Found

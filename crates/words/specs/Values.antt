@@ -1,16 +1,6 @@
 -- What the words that stand for values mean.
-use Rattle.model.specs.Commands.{address_of}
-use Rattle.std.specs.Prelude.{ℕ, ◌+◌, ◌-◌, ◌*◌, List, [], ◌∷◌, length, take, drop, get_or, nat_lt, nat_le, ◌==◌, ◌&&◌, if◌then◌else◌, Option, Some, None, option_map}
-
--- the value of a decimal digit, or 10
-abbrev pub digit_of : ℕ → ℕ
-digit_of byte = if nat_le 48 byte && nat_le byte 57 then byte - 48 else 10
-
--- the number that decimal digits write behind a value
-unfoldable pub decimal_from : ℕ → List ℕ → Option ℕ
-decimal_from value [] = Some value
-decimal_from value (byte ∷ bytes) =
-    if digit_of byte == 10 then None else decimal_from (value * 10 + digit_of byte) bytes
+use Rattle.model.specs.Commands.{address_of, decimal_from}
+use Rattle.std.specs.Prelude.{ℕ, List, length, take, drop, get_or, nat_lt, nat_le, ◌==◌, ◌&&◌, if◌then◌else◌, Option, Some, None, option_map}
 
 -- a number of at most 65,536
 abbrev pub at_most_65536 : Option ℕ → Option ℕ

@@ -1,36 +1,9 @@
 //! Values as words.
-ghost use Rattle.std.specs.Prelude.{◌≡◌, ◌≤◌, length, option_and_then, option_map};
+ghost use Rattle.std.specs.Prelude.{◌≡◌, option_and_then, option_map};
 ghost use Rattle.model.specs.Commands.{address_of};
-ghost use Rattle.words.specs.Values.{decimal_from, digit_of, history_asked, history_of, port_asked, range_of, rom_asked};
+ghost use Rattle.words.specs.Values.{history_asked, history_of, port_asked, range_of, rom_asked};
 
-use commands::address_of;
-
-/// The value of a decimal digit, or 10.
-fn digit_value(byte: u8) -> u8
-    ensures value { result ≡ digit_of byte }
-    ensures within { result ≤ 10 }
-{
-    match byte {
-        b'0'..=b'9' => byte - b'0',
-        _ => 10,
-    }
-}
-
-/// The number that at most five digits write, or `None` where a byte is no digit.
-fn digits(word: &[u8]) -> Option<u32>
-    requires { length word.now ≤ 5 }
-    ensures { result ≡ decimal_from 0 word.now }
-{
-    let mut value = 0u32;
-    for byte in word {
-        let digit = digit_value(*byte);
-        if digit == 10 {
-            return None;
-        }
-        value = value * 10 + digit as u32;
-    }
-    Some(value)
-}
+use commands::{address_of, digits};
 
 /// The number of events to hold, of one to five decimal digits and at most 65,536, or `None` for
 /// any other word.

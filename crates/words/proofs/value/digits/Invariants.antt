@@ -1,9 +1,0 @@
-use Rattle.std.proofs.Common.{◌≡◌, ◌<◌, ◌^◌, drop}
-use Rattle.words.specs.Values.{decimal_from}
-use Rattle.words.proofs.value.digits.Given as goal
-
-abbrev pub invariant-loop-byte : goal.invariant-loop-byte
-invariant-loop-byte l = record {
-  small : l.value < 10 ^ l.byte-index;
-  rest : decimal_from 0 l.word ≡ decimal_from l.value (drop l.byte-index l.word);
-}
