@@ -239,6 +239,41 @@ fn tells_the_names(rt: HostRuntime) -> Result<(), Fail> {
     Ok(())
 }
 
+/// Each line's address, its bytes and its text, and the names behind; nothing behind the line of `.END`.
+#[test]
+fn lists_lines_and_names(rt: HostRuntime) -> Result<(), Fail> {
+    let map = MapSpec::new(None, 0xf000)?;
+    let listings: [(&[u8], &[u8]); 7] = [
+        (b"", b""),
+        (b"\n", b"0000            \n"),
+        (b"NOP", b"0000  EA        NOP\n"),
+        (
+            b"start: NOP\nn1 = -1\nbig: .BYTE 1,2,3,4\n",
+            b"0000  EA        start: NOP\n0001            n1 = -1\n0001  01 02 03  big: .BYTE 1,2,3,4\n0004  04\n\nstart = $0000\nn1 = -1\nbig = $0001\n",
+        ),
+        (
+            b"*=$FFFE\r\nNOP\t \r\nlast: NOP\r\nend:\r\n\tn = end-65537 ; x\n",
+            b"0000            *=$FFFE\nFFFE  EA        NOP\t \nFFFF  EA        last: NOP\n----            end:\n----            \tn = end-65537 ; x\n\nlast = $FFFF\nend = 65536\nn = -1\n",
+        ),
+        (
+            b"*=$0200\n.BYTE 1,2,3,4,5,6\n.BYTE \"ABCDEFG\"\n.RES 2\nNOP\n.END\nx = 1\n",
+            b"0000            *=$0200\n0200  01 02 03  .BYTE 1,2,3,4,5,6\n0203  04 05 06\n0206  41 42 43  .BYTE \"ABCDEFG\"\n0209  44 45 46\n020C  47\n020D            .RES 2\n020F  EA        NOP\n0210            .END\n",
+        ),
+        (
+            b"*=$10\nA1: .BYTE 255\n*=$8\nn3 = 65535\nn4=65536\nJMP !$1\n",
+            b"0000            *=$10\n0010  FF        A1: .BYTE 255\n0011            *=$8\n0008            n3 = 65535\n0008            n4=65536\n0008  4C 01 00  JMP !$1\n\nA1 = $0010\nn3 = $FFFF\nn4 = 65536\n",
+        ),
+    ];
+    for (source, text) in listings {
+        let assembly = assemble(rt.alloc(), source, &map).map_err(|_| BusFault::OutOfMemory)?;
+        let listing = assembly
+            .listing(rt.alloc())
+            .map_err(|_| BusFault::OutOfMemory)?;
+        assert_eq!(rt; listing.as_slice(), text);
+    }
+    Ok(())
+}
+
 /// Lines `nK = 0` with K from 1 on.
 fn names(alloc: Global, count: u32) -> Result<Vec<u8>, AllocError> {
     let mut source = Vec::new(alloc);

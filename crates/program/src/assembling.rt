@@ -1,15 +1,16 @@
-//! `asm`: a source to the text of its tape.
-ghost use Rattle.std.specs.Prelude.{◌≡◌, ◌⊎◌, ℕ, List, None, Option, Err, IfErr, IfOk, MatchResult, false};
-ghost use Rattle.assembler.specs.Assembly.{out_of_memory};
+//! `asm`: a source to the text of its tape, and to its listing.
+ghost use Rattle.std.specs.Prelude.{◌≡◌, ◌⊎◌, ℕ, List, None, Option, Some, Err, IfErr, IfOk, MatchResult, false, if◌then◌else◌, option_map};
+ghost use Rattle.assembler.specs.Assembly.{listing_of, out_of_memory};
 ghost use Rattle.model.specs.Source.{Denotes, HasFault};
 ghost use Rattle.model.specs.State.{is_map};
 ghost use Rattle.model.specs.TapeText.{tape_text};
 ghost use Rattle.model.specs.declared.bus_fault.BusFault.TheVariants.{BadMap};
 ghost use Rattle.model.specs.declared.source_fault.AsmFault.{AsmFault};
 ghost use Rattle.program.specs.Refusals.{EndsAsm};
+ghost use Rattle.program.specs.Texts.{IsAsked};
 
 use crate::refusal::Refusal;
-use assembler::assemble;
+use assembler::{Assembly, assemble};
 use bus::MapSpec;
 use model::{AsmFault, AsmFaultKind};
 use papertape::write_tape;
@@ -33,23 +34,28 @@ pub fn read_source<H: Files + AllocGlobal>(rt: &H, path: &str) -> io::Result<Vec
     Ok(source)
 }
 
-/// The text of the tape of the image that a source denotes on a map: what `mos65 asm` writes.
-///
-/// # Errors
-///
-/// The source's own fault with its line, or `OutOfMemory` at line 0.
-pub fn asm_text(alloc: Global, source: &[u8], map: &MapSpec) -> Result<Vec<u8>, AsmFault>
-    // The text is that of an image that the source denotes.
-    ensures denoted { IfOk result (λ tape. (image : List (Option ℕ)) × Denotes map.now source.now image × (tape.items ≡ tape_text image)) }
-    // A source that denotes an image has its text, memory aside.
-    ensures only { (image : List (Option ℕ)) → Denotes map.now source.now image → MatchResult result (λ tape. tape.items ≡ tape_text image) (λ f. f ≡ out_of_memory) }
-    // A source with a fault is refused with it, memory aside, and no other is.
-    ensures faulty { (f : AsmFault) → HasFault map.now source.now f → (result ≡ Err f) ⊎ (result ≡ Err out_of_memory) }
-    ensures refused { IfErr result (λ f. (f ≡ out_of_memory) ⊎ HasFault map.now source.now f) }
+/// The texts that `mos65 asm` writes.
+#[derive(Debug, Drop)]
+pub struct AsmTexts {
+    /// The text of the tape.
+    pub tape: Vec<u8>,
+    /// The listing, where one is asked for.
+    pub listing: Option<Vec<u8>>,
+}
+
+/// The texts of an assembly, with its listing where that is asked for. The only error is `OutOfMemory` with line 0.
+fn texts_of(alloc: Global, assembly: &Assembly, is_listed: bool) -> Result<AsmTexts, AsmFault>
+    ensures tape { IfOk result (λ t. t.tape.items ≡ tape_text assembly.now.image) }
+    ensures listing { IfOk result (λ t. option_map (λ l. l.items) t.listing ≡ (if is_listed then Some (listing_of assembly.now) else None)) }
+    ensures only { IfErr result (λ f. f ≡ out_of_memory) }
 {
-    let assembly = assemble(alloc, source, map)?;
+    let listing = if is_listed {
+        Some(assembly.listing(alloc)?)
+    } else {
+        None
+    };
     match write_tape(alloc, assembly.image()) {
-        Ok(tape) => Ok(tape),
+        Ok(tape) => Ok(AsmTexts { tape, listing }),
         Err(_) => Err(AsmFault {
             line: 0,
             kind: AsmFaultKind::OutOfMemory,
@@ -57,13 +63,64 @@ pub fn asm_text(alloc: Global, source: &[u8], map: &MapSpec) -> Result<Vec<u8>, 
     }
 }
 
-/// Assembles a file and writes its tape. The text is whole before the tape's file is made.
+/// What `mos65 asm` writes of a source on a map: the text of the tape of the image that it denotes, and its listing where that is
+/// asked for.
+///
+/// # Errors
+///
+/// The source's own fault with its line, or `OutOfMemory` at line 0.
+pub fn asm_texts(
+    alloc: Global,
+    source: &[u8],
+    map: &MapSpec,
+    is_listed: bool,
+) -> Result<AsmTexts, AsmFault>
+    // The tape is that of an image that the source denotes.
+    ensures denoted { IfOk result (λ t. (image : List (Option ℕ)) × Denotes map.now source.now image × (t.tape.items ≡ tape_text image)) }
+    // A source that denotes an image has its tape, memory aside.
+    ensures only { (image : List (Option ℕ)) → Denotes map.now source.now image → MatchResult result (λ t. t.tape.items ≡ tape_text image) (λ f. f ≡ out_of_memory) }
+    // The listing is that of the source where one is asked for, and else there is none.
+    ensures listed { IfOk result (λ t. IsAsked map.now source.now is_listed (option_map (λ l. l.items) t.listing)) }
+    // A source with a fault is refused with it, memory aside, and no other is.
+    ensures faulty { (f : AsmFault) → HasFault map.now source.now f → (result ≡ Err f) ⊎ (result ≡ Err out_of_memory) }
+    ensures refused { IfErr result (λ f. (f ≡ out_of_memory) ⊎ HasFault map.now source.now f) }
+{
+    let assembly = assemble(alloc, source, map)?;
+    match texts_of(alloc, &assembly, is_listed) {
+        Ok(texts) => Ok(texts),
+        Err(_) => Err(AsmFault {
+            line: 0,
+            kind: AsmFaultKind::OutOfMemory,
+        }),
+    }
+}
+
+/// Writes a text to a file of that name. One that stands there is replaced.
+fn write_file<H: Files>(rt: &H, file: &str, text: &[u8]) -> Result<(), Refusal>
+    ensures only { IfErr result (λ e. (e ≡ Refusal.OutOfMemory) ⊎ (e ≡ Refusal.Write)) }
+{
+    fs::write(rt, file, text).map_err(|error| Refusal::unwritable(&error))
+}
+
+/// Writes the tape's file, and then the listing's where there is a listing.
+fn write_texts<H: Files>(rt: &H, words: &AsmWords<'_>, texts: &AsmTexts) -> Result<(), Refusal>
+    ensures only { IfErr result (λ e. (e ≡ Refusal.OutOfMemory) ⊎ (e ≡ Refusal.Write)) }
+{
+    write_file(rt, words.tape, texts.tape.as_slice())?;
+    match (words.listing, &texts.listing) {
+        (Some(file), Some(listing)) => write_file(rt, file, listing.as_slice()),
+        _ => Ok(()),
+    }
+}
+
+/// Assembles a file and writes its tape and, where it is asked for, its listing. Both texts are whole before a file is made.
 pub fn asm<H: Files + AllocGlobal>(rt: &H, words: &AsmWords<'_>) -> Result<(), Refusal>
     ensures bad_map { is_map None words.now.port ≡ false → result ≡ Err (Refusal.Map BadMap) }
     ensures refused { IfErr result (EndsAsm words.now.port) }
 {
     let map = MapSpec::new(None, words.port)?;
     let source = read_source(rt, words.source).map_err(|error| Refusal::unreadable(&error))?;
-    let tape = asm_text(rt.alloc(), source.as_slice(), &map)?;
-    fs::write(rt, words.tape, tape.as_slice()).map_err(|error| Refusal::unwritable(&error))
+    let is_listed = words.listing.is_some();
+    let texts = asm_texts(rt.alloc(), source.as_slice(), &map, is_listed)?;
+    write_texts(rt, words, &texts)
 }

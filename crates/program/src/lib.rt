@@ -1,9 +1,9 @@
 //! The program `mos65` as a library: what its words do to its files and streams, its fault lines and its exit status.
-//! `mos65` is its main. A caller may use `program`, which does all, and `asm_text` and `dis_text`, which make the texts that `asm` and `dis` write.
+//! `mos65` is its main. A caller may use `program`, which does all, and `asm_texts` and `dis_text`, which make the texts that `asm` and `dis` write.
 //! What stands in a file no clause can say: the contracts speak of the words, the streams and the status.
 #![tactic(auto)]
 
-pub use assembling::asm_text;
+pub use assembling::{AsmTexts, asm_texts};
 pub use disassembling::dis_text;
 pub use refusal::Refusal;
 pub use running::{program, unreadable_words};

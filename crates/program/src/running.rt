@@ -77,8 +77,8 @@ pub fn unreadable_words<E: Write>(error: &io::Error, errors: &mut E) -> u8
 /// it is done, 1 where the source or the tape is refused, 2 where the words or the map are wrong, 3
 /// where memory ran out, 4 where reading or writing failed. For each but 0 a line on `errors` says
 /// why; that it cannot be written changes no status. Faults are found in this order: words, map, a
-/// file to read, its content, a file to write. `asm` makes the whole text of the tape before it
-/// makes the tape's file.
+/// file to read, its content, a file to write. `asm` makes the whole texts of the tape and
+/// of the listing before it makes the tape's file, and then the listing's.
 pub fn program<H: Files + AllocGlobal, R: Read, O: Write, E: Write>(
     rt: &H,
     words: &[&str],
@@ -98,12 +98,10 @@ pub fn program<H: Files + AllocGlobal, R: Read, O: Write, E: Write>(
     ensures asm_map { (a : AsmAsked) → asked (map (λ s. s.now) words.entry.now) ≡ Some (asm a) → IsTaken (map (λ s. s.now) words.entry.now) → is_map None a.port ≡ false → (result ≡ 2) ⊎ (result ≡ 3) }
     ensures debug_map { (d : DebugAsked) → asked (map (λ s. s.now) words.entry.now) ≡ Some (debug d) → IsTaken (map (λ s. s.now) words.entry.now) → is_map d.rom d.port ≡ false → (result ≡ 2) ⊎ (result ≡ 3) }
     // Where the words and the map are right, the status is another one.
-    ensures asm_right { (a : AsmAsked) → asked (map (λ s. s.now) words.entry.now) ≡ Some (asm a) → IsTaken (map (λ s. s.now) words.entry.now) → a.listing ≡ None → is_map None a.port ≡ true → ¬ (result ≡ 2) }
+    ensures asm_right { (a : AsmAsked) → asked (map (λ s. s.now) words.entry.now) ≡ Some (asm a) → IsTaken (map (λ s. s.now) words.entry.now) → is_map None a.port ≡ true → ¬ (result ≡ 2) }
     ensures debug_right { (d : DebugAsked) → asked (map (λ s. s.now) words.entry.now) ≡ Some (debug d) → IsTaken (map (λ s. s.now) words.entry.now) → is_map d.rom d.port ≡ true → ¬ (result ≡ 2) }
     // `asm` leaves the input and the output as they were, whatever comes of it.
     ensures asm_alone { (a : AsmAsked) → asked (map (λ s. s.now) words.entry.now) ≡ Some (asm a) → IsTaken (map (λ s. s.now) words.entry.now) → (input.new ≡ input.old) × (output.new ≡ output.old) }
-    // No listing is written so far: words that ask for one are wrong.
-    ensures asm_listing { (a : AsmAsked) → asked (map (λ s. s.now) words.entry.now) ≡ Some (asm a) → IsTaken (map (λ s. s.now) words.entry.now) → ¬ (a.listing ≡ None) → (result ≡ 2) ⊎ (result ≡ 3) }
     // `dis` leaves the input as it was, and wrote the rows of some image, or a beginning of them, or nothing, as the status says.
     ensures listed { (d : DisAsked) → asked (map (λ s. s.now) words.entry.now) ≡ Some (dis d) → IsTaken (map (λ s. s.now) words.entry.now) → (outcome : Result ⊤ Refusal) × IsStatus outcome result
         × (input.new ≡ input.old) × IsListed d.first d.last (O.contents output.old) (O.contents output.new) outcome (output.new ≡ output.old) }
@@ -115,10 +113,7 @@ pub fn program<H: Files + AllocGlobal, R: Read, O: Write, E: Write>(
         Appends (O.contents output.old) (O.contents output.new) (transcript (fresh d.history (start (record { rom = d.rom; port = d.port }) image)) given).written) }
 {
     match read_words(rt.alloc(), words) {
-        Ok(Words::Asm(words)) => match words.listing {
-            None => ended(asm(rt, &words), errors),
-            Some(_) => refused(Refusal::Words, errors),
-        },
+        Ok(Words::Asm(words)) => ended(asm(rt, &words), errors),
         Ok(Words::Dis(words)) => ended(dis(rt, &words, output), errors),
         Ok(Words::Debug(words)) => ended(debug(rt, &words, input, output), errors),
         Err(fault) => refused_words(fault, output, errors),

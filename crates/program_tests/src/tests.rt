@@ -99,7 +99,7 @@ fn refuses_values_before_the_map(rt: HostRuntime) {
 
 #[test]
 fn refuses_maps_before_the_file(rt: HostRuntime) {
-    let cases: [&[&str]; 8] = [
+    let cases: [&[&str]; 9] = [
         &["debug", "none", "--port", "F001"],
         &["debug", "none", "--port", "01FC"],
         &["debug", "none", "--port", "FFF8", "--tape"],
@@ -108,6 +108,7 @@ fn refuses_maps_before_the_file(rt: HostRuntime) {
         &["debug", "none", "--rom", "01FF-8000"],
         &["asm", "none", "other", "--port", "F001"],
         &["asm", "none", "other", "--port=FFF8"],
+        &["asm", "none", "other", "--port=FFF8", "--listing=third"],
     ];
     for words in cases {
         assert_refused(&rt, &run(&rt, words), 2, "mos65: MAP BadMap 1\n");
@@ -119,7 +120,7 @@ fn refuses_files_that_are_not_there(rt: HostRuntime) {
     let cases: [&[&str]; 3] = [
         &["debug", "none"],
         &["debug", "none", "--tape"],
-        &["asm", "none", "no/such/folder"],
+        &["asm", "none", "no/such/folder", "--listing=no/such/file"],
     ];
     for words in cases {
         assert_refused(&rt, &run(&rt, words), 4, "mos65: READ\n");
@@ -186,6 +187,107 @@ fn writes_the_tape_of_a_source(rt: HostRuntime) -> Result<(), Fail> {
     );
     assert_refused(&rt, &unwritable, 4, "mos65: WRITE\n");
     Ok(())
+}
+
+/// What is in a file, which is then removed.
+fn take(rt: &HostRuntime, file: &str) -> io::Result<Vec<u8>> {
+    let text = fs::read(rt, file)?;
+    fs::remove_file(rt, file)?;
+    Ok(text)
+}
+
+/// A label, a number and more bytes than a row takes. The tape is the same with a listing and without.
+#[test]
+fn writes_the_listing_of_a_source(rt: HostRuntime) -> Result<(), Fail> {
+    fs::write(
+        &rt,
+        "listed.a65",
+        "start: NOP\nn1 = -1\nbig: .BYTE 1,2,3,4\n",
+    )?;
+    let words = [
+        "asm",
+        "listed.a65",
+        "listed.tape",
+        "--listing",
+        "listed.text",
+    ];
+    let ran = run(&rt, &words);
+    let without = run(&rt, &["asm", "listed.a65", "bare.tape"]);
+    fs::remove_file(&rt, "listed.a65")?;
+    for ran in [&ran, &without] {
+        assert_eq!(rt; ran.status, 0);
+        assert!(rt; ran.output.is_empty() && ran.errors.is_empty());
+    }
+    assert_eq!(rt;
+        take(&rt, "listed.text")?.as_slice(),
+        b"0000  EA        start: NOP\n\
+          0001            n1 = -1\n\
+          0001  01 02 03  big: .BYTE 1,2,3,4\n\
+          0004  04\n\
+          \n\
+          start = $0000\n\
+          n1 = -1\n\
+          big = $0001\n"
+            .as_slice()
+    );
+    let tape = b";050000EA0102030400F9\r\n;0000010001\r\n".as_slice();
+    assert_eq!(rt; take(&rt, "listed.tape")?.as_slice(), tape);
+    assert_eq!(rt; take(&rt, "bare.tape")?.as_slice(), tape);
+    Ok(())
+}
+
+/// The tape's file comes first: where it cannot be written there is no listing, and where the listing's cannot the tape stands.
+#[test]
+fn writes_the_tape_before_the_listing(rt: HostRuntime) -> Result<(), Fail> {
+    fs::write(&rt, "first.a65", "NOP\n")?;
+    let no_tape = run(
+        &rt,
+        &["asm", "first.a65", "no/such/folder", "--listing=first.text"],
+    );
+    let no_listing = run(
+        &rt,
+        &["asm", "first.a65", "first.tape", "--listing=no/such/folder"],
+    );
+    fs::remove_file(&rt, "first.a65")?;
+    assert_refused(&rt, &no_tape, 4, "mos65: WRITE\n");
+    assert_refused(&rt, &no_listing, 4, "mos65: WRITE\n");
+    assert!(rt; !fs::exists(&rt, "first.text")?);
+    assert_eq!(rt;
+        take(&rt, "first.tape")?.as_slice(),
+        b";010000EA00EB\r\n;0000010001\r\n".as_slice()
+    );
+    Ok(())
+}
+
+/// A source that is refused has neither a tape nor a listing.
+#[test]
+fn lists_no_faulty_source(rt: HostRuntime) -> Result<(), Fail> {
+    for source in ["NOP\n?\n", "NOP\nLDA none\n"] {
+        fs::write(&rt, "faulty.a65", source)?;
+        let ran = run(
+            &rt,
+            &["asm", "faulty.a65", "faulty.tape", "--listing=faulty.text"],
+        );
+        fs::remove_file(&rt, "faulty.a65")?;
+        assert_eq!(rt; ran.status, 1, "{source}");
+        assert!(rt; !fs::exists(&rt, "faulty.tape")?, "{source}");
+        assert!(rt; !fs::exists(&rt, "faulty.text")?, "{source}");
+    }
+    Ok(())
+}
+
+/// Two files of one name, also where the map is wrong and no file is there.
+#[test]
+fn refuses_outputs_over_other_files(rt: HostRuntime) {
+    let cases: [&[&str]; 4] = [
+        &["asm", "none", "none", "--port=F001"],
+        &["asm", "none", "other", "--listing", "none"],
+        &["asm", "none", "other", "--listing=other"],
+        &["asm", "none", "none", "--listing=none"],
+    ];
+    for words in cases {
+        assert_refused(&rt, &run(&rt, words), 2, "mos65: WORDS\n");
+    }
 }
 
 /// The same with a reset vector, as a tape: what it prints comes out.

@@ -71,6 +71,14 @@ fn assemble(alloc: Global, map: &MapSpec, source: &[u8]) -> Result<(), Fault> {
     }
 }
 
+/// Assembles a source, and lets its listing go.
+fn list(alloc: Global, map: &MapSpec, source: &[u8]) -> Result<(), Fault> {
+    match assembler::assemble(alloc, source, map).and_then(|assembly| assembly.listing(alloc)) {
+        Ok(_) => Ok(()),
+        Err(fault) => Err(Fault::Source(fault.kind)),
+    }
+}
+
 /// Assembles a text at $0200.
 fn assemble_line(alloc: Global, text: &[u8]) -> Result<(), Fault> {
     match assembler::assemble_line(alloc, 0x0200, text) {
@@ -99,6 +107,7 @@ fn make(alloc: Global, word: &str) -> Result<(), Fault> {
         "assemble" => assemble(alloc, &map, SOURCE)?,
         "assemble_faulty" => assemble(alloc, &map, FAULTY_SOURCE)?,
         "assemble_value" => assemble(alloc, &map, FAULTY_VALUE)?,
+        "listing" => list(alloc, &map, SOURCE)?,
         "assemble_line" => assemble_line(alloc, b"LDA #[1+2]*4/$4|%101")?,
         "assemble_line_faulty" => assemble_line(alloc, b".BYTE 1,2,[3*4],name")?,
         "set_break" => {
