@@ -10,7 +10,7 @@ loop-did-init c =
     let all : c.args.count ≡ c.args.count - 0 = omega arith in
     let none = run_end (c.args.count - 0) c.args.self.now in
     let z : none.did ≡ 0 + none.did = omega arith in
-    record { end = ap (λ n. run_end n c.args.self.now) all ∙ (λ i. record { did = z i; why = none.why }); after = sym (after_steps-zero _); mark = rw (← c.self.view_is) (record { count = c.mark.ensures.count; fits = c.mark.ensures.fits; back = c.mark.ensures.undo }) }
+    record { end = ap (λ n. run_end n c.args.self.now) all ∙ (λ i. record { did = z i; why = none.why }); after = sym (after_steps-zero _); mark = rw (← c.self.view_is) (record { count = c.mark-change.ensures.count; fits = c.mark-change.ensures.fits; back = c.mark-change.ensures.undo }) }
 
 pub returns-in-Ok-Some-clause-end : goal.returns-in-Ok-Some-clause-end
 returns-in-Ok-Some-clause-end c =

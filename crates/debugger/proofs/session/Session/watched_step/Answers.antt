@@ -1,9 +1,10 @@
-use Rattle.std.proofs.Common.{◌≡◌, ◌∙◌, sym, refl, ap, true}
+use Rattle.std.proofs.Common.{◌≡◌, ◌∙◌, sym, refl, ap, subst}
 use Rattle.model.specs.Step.{step}
 use Rattle.model.specs.State.{State}
 use Rattle.model.specs.Undo.{restored}
 use Rattle.model.specs.Event.{event_of}
 use Rattle.model.specs.declared.event.Event.TheVariants.{Step}
+use Rattle.debugger.specs.Replay.{IsHistory}
 use Rattle.debugger.proofs.Replays.{follows_of}
 use Rattle.debugger.proofs.Runs.{stop_is, undoes_by, event_is_step}
 use Rattle.debugger.proofs.session.Session.watched_step.Goals as goal
@@ -15,9 +16,15 @@ forget-requires-clause-plain c = λ none.
 
 pub invariant_of-self : goal.invariant_of-self
 invariant_of-self c =
+    let t = c.self.inside.trail in
+    let same = (c.quick_step.ensures.not c.if-not-quick_step.true).0 in
+    (c.self.invariant.0, subst (λ m. IsHistory 1024 t.kept.items t.events.items m) (sym same) c.self.invariant.1, c.self.invariant.2)
+
+pub invariant_of-self-2 : goal.invariant_of-self-2
+invariant_of-self-2 c =
     let before = c.self.inside.machine in
     let after = c.quick_step.new.self in
-    let made = c.quick_step.ensures.made c.if-quick_step.true in
+    let made = c.quick_step.ensures.made c.if-not-quick_step.false in
     let back = c.quick_step.ensures.undo ∙ rw (← c.self.view_is) at c.requires.mark.back in
     let follows = follows_of _ before after Step (event_is_step before ∙ made) (undoes_by c.quick_step.new.change before after c.quick_step.ensures.fits back) in
     let noted = c.note.ensures.noted before c.self.invariant.1 follows in
@@ -27,7 +34,7 @@ pub returns-clause-steps : goal.returns-clause-steps
 returns-clause-steps c =
     let before = c.self.inside in
     let after = c.quick_step.new.self in
-    let made = c.quick_step.ensures.made c.if-quick_step.true in
+    let made = c.quick_step.ensures.made c.if-not-quick_step.false in
     let back = c.quick_step.ensures.undo ∙ rw (← c.self.view_is) at c.requires.mark.back in
     let follows = follows_of _ before.machine after Step (event_is_step before.machine ∙ made) (undoes_by c.quick_step.new.change before.machine after c.quick_step.ensures.fits back) in
     let noted = c.note.ensures.noted before.machine c.self.invariant.1 follows in
