@@ -7,6 +7,7 @@ use model::Sum;
 
 /// A register compared with a byte, as CMP, CPX and CPY do: the value is their difference modulo 256, with N and Z of it,
 /// and C is set where the register is not below the byte. V is false. (MCS6500 manual, chapter 4 and appendix A.)
+#[inline(always)]
 #[tactic(auto, unfolding(model::specs::Arithmetic::compared))]
 pub fn compare(reg: u8, m: u8) -> Sum
     ensures { result ≡ compared reg m }
@@ -16,6 +17,7 @@ pub fn compare(reg: u8, m: u8) -> Sum
 
 /// A byte shifted left by one place, 0 coming in and bit 7 going into C, with N and Z of the result. V is false.
 /// (MCS6500 manual, chapter 10 and appendix A.)
+#[inline(always)]
 #[tactic(auto, unfolding(model::specs::Arithmetic::asl))]
 pub fn asl(m: u8) -> Sum
     ensures { result ≡ asl m }
@@ -25,6 +27,7 @@ pub fn asl(m: u8) -> Sum
 
 /// A byte shifted right by one place, 0 coming in and bit 0 going into C, with N and Z of the result; so N is false.
 /// V is false. (MCS6500 manual, chapter 10 and appendix A.)
+#[inline(always)]
 #[tactic(auto, unfolding(model::specs::Arithmetic::lsr))]
 pub fn lsr(m: u8) -> Sum
     ensures { result ≡ lsr m }
@@ -34,6 +37,7 @@ pub fn lsr(m: u8) -> Sum
 
 /// A byte rotated left by one place through the carry: `c` comes in, bit 7 goes into C, with N and Z of the result.
 /// V is false. (MCS6500 manual, chapter 10 and appendix A.)
+#[inline(always)]
 #[tactic(auto, unfolding(model::specs::Arithmetic::rol))]
 pub fn rol(m: u8, c: bool) -> Sum
     ensures { result ≡ rol m c }
@@ -43,6 +47,7 @@ pub fn rol(m: u8, c: bool) -> Sum
 
 /// A byte rotated right by one place through the carry: `c` comes in at bit 7, bit 0 goes into C, with N and Z of the
 /// result. V is false. (MCS6500 manual, chapter 10 and appendix A.)
+#[inline(always)]
 #[tactic(auto, unfolding(model::specs::Arithmetic::ror))]
 pub fn ror(m: u8, c: bool) -> Sum
     ensures { result ≡ ror m c }
@@ -52,6 +57,7 @@ pub fn ror(m: u8, c: bool) -> Sum
 
 /// The accumulator and a byte, as BIT tests them: the value is their common bits, Z is of it, N and V are bits 7 and 6 of
 /// the byte. C is false. (MCS6500 manual, chapter 4 and appendix A.)
+#[inline(always)]
 #[tactic(auto, unfolding(model::specs::Arithmetic::bit_test))]
 pub fn bit_test(a: u8, m: u8) -> Sum
     ensures { result ≡ bit_test a m }
@@ -67,6 +73,7 @@ pub fn bit_test(a: u8, m: u8) -> Sum
 }
 
 /// A value with N and Z of it, and a carry. V is false.
+#[inline(always)]
 pub fn with_carry(value: u8, carry: bool) -> Sum
     ensures { result ≡ with_carry value carry }
 {

@@ -9,6 +9,7 @@ use model::Sum;
 /// and V where the signed sum leaves -128..127. In decimal Z is that of the binary sum, and N and V those of the sum before
 /// its last correction. For operands whose digits are all 0..9 the decimal sum is that of the numbers that they write,
 /// modulo 100, and C tells whether it is above 99. (MCS6500 manual, chapter 2; Bruce Clark, "Decimal Mode", 6502.org.)
+#[inline(always)]
 #[tactic(auto, unfolding(model::specs::Arithmetic::adc))]
 pub fn adc(a: u8, m: u8, c: bool, d: bool) -> Sum
     ensures sum { result ≡ adc a m c d }
@@ -22,6 +23,7 @@ pub fn adc(a: u8, m: u8, c: bool, d: bool) -> Sum
     }
 }
 
+#[inline(always)]
 fn adc_binary(a: u8, m: u8, c: bool) -> Sum
     ensures { result ≡ adc_binary a m c }
 {
@@ -51,6 +53,7 @@ fn adjusted_up(digits: u8) -> u8
 }
 
 /// The decimal sum, digit by digit.
+#[inline(never)]
 #[tactic(auto, using(crate::proofs::Parts::bool_byte_is))]
 fn adc_decimal(a: u8, m: u8, c: bool) -> Sum
     ensures value { result.value ≡ (adc_decimal a m c).value }
@@ -77,6 +80,7 @@ fn adc_decimal(a: u8, m: u8, c: bool) -> Sum
 /// else binary. C is set where there is no borrow, V where the signed difference leaves -128..127; all four flags are those
 /// of the binary difference. For operands whose digits are all 0..9 the decimal difference is that of the numbers that they
 /// write, modulo 100. (MCS6500 manual, chapter 2; Bruce Clark, "Decimal Mode", 6502.org.)
+#[inline(always)]
 #[tactic(auto, unfolding(model::specs::Arithmetic::sbc))]
 pub fn sbc(a: u8, m: u8, c: bool, d: bool) -> Sum
     ensures difference { result ≡ sbc a m c d }
@@ -94,6 +98,7 @@ pub fn sbc(a: u8, m: u8, c: bool, d: bool) -> Sum
     }
 }
 
+#[inline(always)]
 fn sbc_binary(a: u8, m: u8, c: bool) -> Sum
     ensures { result ≡ sbc_binary a m c }
 {
@@ -122,6 +127,7 @@ fn adjusted_down(digits: u8) -> u8
     }
 }
 
+#[inline(never)]
 fn sbc_digits(a: u8, m: u8, c: bool) -> u8
     ensures { result ≡ (sbc_decimal a m c).value }
 {

@@ -103,3 +103,7 @@ pub CanRestore-given : (change : Change) (bus : Bus) (value : ℕ) → CanRestor
 unfolding spares_port
 CanRestore-given change bus value fits =
     record { given = omega (arith, fits.given, length-append bus.given (value ∷ [])); out = fits.out; taken = fits.taken; count = fits.count; port = fits.port }
+
+-- a change that has noted nothing
+pub none_noted : (change : Change) → change.count ≡ 0 → cells_of change ≡ []
+none_noted change none = rw none refl

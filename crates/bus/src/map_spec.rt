@@ -51,15 +51,20 @@ impl MapSpec {
     }
 
     /// Whether the address is one of the port's four.
+    #[inline(always)]
     #[tactic(auto, unfolding(model::specs::State::is_port))]
     pub fn is_port(&self, address: u16) -> bool
         ensures { result ≡ is_port self.now address }
     {
         let port = self.port;
+        if address < 0x0200 {
+            return false;
+        }
         (port <= address) & (address < port + 4)
     }
 
     /// Whether the address lies in the ROM.
+    #[inline(always)]
     #[tactic(auto, unfolding(model::specs::State::is_rom))]
     pub fn is_rom(&self, address: u16) -> bool
         ensures { result ≡ is_rom self.now address }
@@ -71,6 +76,7 @@ impl MapSpec {
     }
 
     /// The base of the port, a multiple of 4 in $0200..$FFF4.
+    #[inline(always)]
     pub fn port(&self) -> u16
         ensures value { result ≡ self.now.port }
         ensures within { (512 ≤ result) × (result ≤ 65524) }

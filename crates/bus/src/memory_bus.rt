@@ -87,6 +87,7 @@ impl Bus {
     }
 
     /// A byte of memory, with no effect: 0 at a port address.
+    #[inline(always)]
     pub fn peek(&self, address: u16) -> u8
         ensures value { result ≡ slice_index self.now.memory address }
         ensures within { address < length self.now.memory }
@@ -211,6 +212,7 @@ impl Bus {
     }
 
     /// Whether the port has this address.
+    #[inline(always)]
     pub fn is_port(&self, address: u16) -> bool
         ensures { result ≡ is_port self.now.map address }
     {
@@ -247,6 +249,7 @@ impl Bus {
     }
 
     /// Whether a store at this address would append to an output of 65,536 bytes.
+    #[inline(always)]
     #[tactic(auto, unfolding(model::specs::State::overflows))]
     pub fn overflows(&self, address: u16) -> bool
         ensures { result ≡ overflows self.now address }
@@ -255,7 +258,8 @@ impl Bus {
     }
 
     /// Whether a store at this address changes memory.
-    fn is_plain(&self, address: u16) -> bool
+    #[inline(always)]
+    pub fn is_plain(&self, address: u16) -> bool
         ensures { result ≡ not (is_port self.now.map address || is_rom self.now.map address) }
     {
         !(self.map.is_port(address) || self.map.is_rom(address))
@@ -275,6 +279,7 @@ impl Bus {
     }
 
     /// A byte put into memory.
+    #[inline(always)]
     fn set(&mut self, address: u16, value: u8)
         requires { is_port self.old.map address ≡ false }
         ensures { self.new ≡ stored self.old address value }
@@ -283,6 +288,7 @@ impl Bus {
     }
 
     /// The change that puts this bus back to what it is now.
+    #[inline(always)]
     #[tactic(auto, unfolding(model::specs::Undo::restored, model::specs::Undo::spares_port))]
     pub fn mark(&self) -> Change
         ensures undo { restored result self.now ≡ self.now }
@@ -352,6 +358,7 @@ impl Bus {
     }
 
     /// A store into the stack's page, where neither port nor ROM stands. The change notes the byte that was there.
+    #[inline(always)]
     pub fn push(&mut self, change: &mut Change, s: u8, value: u8)
         requires count { change.old.count < 3 }
         requires fits { CanRestore change.old self.old }
@@ -381,6 +388,23 @@ impl Bus {
             *change = noting(*change, address, old);
         }
         self.put(address, value);
+    }
+
+    /// A byte that the processor stores where a store changes memory, as the first of its step. The change notes the byte that was
+    /// there.
+    #[inline(always)]
+    pub fn store_plain(&mut self, change: &mut Change, address: u16, value: u8)
+        requires plain { not (is_port self.old.map address || is_rom self.old.map address) ≡ true }
+        requires count { change.old.count ≡ 0 }
+        requires fits { CanRestore change.old self.old }
+        ensures after { self.new ≡ after_write self.old address value }
+        ensures count { change.new.count ≡ change.old.count + 1 }
+        ensures undo { restored change.new self.new ≡ restored change.old self.old }
+        ensures fits { CanRestore change.new self.new }
+    {
+        let old = self.peek(address);
+        note_first(change, address, old);
+        self.set(address, value);
     }
 
     /// The bytes of a patch, put into memory and ROM alike from an address on, none of them past 65535 and none at the port.
@@ -415,6 +439,7 @@ impl Bus {
     }
 
     /// A byte put into memory below $0200, where neither port nor ROM stands.
+    #[inline(always)]
     #[tactic(auto, unfolding(model::specs::State::is_port))]
     fn set_low(&mut self, address: u16, value: u8)
         requires { address < 512 }
@@ -460,6 +485,19 @@ fn noting(change: Change, address: u16, old: u8) -> Change
         count: change.count + 1,
         ..change
     }
+}
+
+/// One cell, put into a change that has none.
+#[inline(always)]
+fn note_first(change: &mut Change, address: u16, old: u8)
+    requires { change.old.count ≡ 0 }
+    ensures cells { cells_of change.new ≡ (address, old) ∷ cells_of change.old }
+    ensures count { change.new.count ≡ change.old.count + 1 }
+    ensures rest { (change.new.taken ≡ change.old.taken) × (change.new.given_len ≡ change.old.given_len) × (change.new.out_len ≡ change.old.out_len) }
+{
+    let cells = [(address, old), (0, 0), (0, 0)];
+    change.cells = cells;
+    change.count = 1;
 }
 
 /// Memory of this size that is all 0.

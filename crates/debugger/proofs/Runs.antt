@@ -3,6 +3,8 @@ use Rattle.std.proofs.Common.{◌≡◌, ℕ, ◌+◌, ◌-◌, ◌<◌, zero, s
 use Rattle.std.specs.Option.{option_or}
 use Rattle.model.specs.State.{Bus, State}
 use Rattle.model.specs.Step.{step}
+use Rattle.model.specs.Event.{event_of}
+use Rattle.model.specs.declared.event.Event.TheVariants.{Step}
 use Rattle.model.specs.Session.{Session, appended}
 use Rattle.model.specs.declared.event.EventFault.{EventFault}
 use Rattle.model.specs.declared.run_end.Why.{Why}
@@ -53,6 +55,10 @@ run_none n s h = ap (λ m. run_end m s) h ∙ run_end-zero s
 pub step_after : (k : ℕ) (s u : Session) (t : State) → u ≡ after_steps k s → step u.current ≡ Ok t → appended u t ≡ after_steps (k + 1) s
 step_after k s u t at made =
     sym (after_steps-zero (appended u t)) ∙ sym (after_steps-made zero u t made) ∙ ap (after_steps 1) at ∙ sym (after_steps-add k 1 s (step s.current) refl)
+
+pub event_is_step : (s : State) → event_of s Step ≡ step s
+unfolding event_of
+event_is_step s = refl
 
 -- the record of a step of which only the change is there
 abbrev pub record_of : Change → State → Undo

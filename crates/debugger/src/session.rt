@@ -3,13 +3,13 @@
 ghost use Rattle.std.specs.Prelude.{◌≡◌, ◌≢◌, ◌+◌, ◌-◌, ◌<◌, ◌≤◌, ◌⊎◌, ◌++◌, ◌∷◌, [], true, false, length, take, slice_get, slice_index, OnOk, IfOk, IfErr, IsErrOf, Ok, Err};
 ghost use Rattle.model.specs.State.{has_port_byte, State};
 ghost use Rattle.model.specs.Event.{event_of, start};
-ghost use Rattle.model.specs.Undo.{Undoes};
+ghost use Rattle.model.specs.Undo.{CanRestore, restored, Undoes};
 ghost use Rattle.model.specs.Session.{appended, fresh};
 ghost use Rattle.model.specs.Back.{back_of, gone_back};
 ghost use Rattle.model.specs.Run.{run_end, after_steps};
 ghost use Rattle.model.specs.Tables.{break_set, break_cleared, watch_set, watch_cleared};
 ghost use Rattle.debugger.specs.Replay.{IsHistory, held_states};
-ghost use Rattle.debugger.specs.Trail.{HasRoom, StepsTo};
+ghost use Rattle.debugger.specs.Trail.{HasRoom, IsMark, StepsTo};
 
 use crate::marks::Marks;
 use crate::stops::stop_after;
@@ -19,15 +19,6 @@ use cpu::Machine;
 use model::{Event, EventFault, Regs, RunEnd, SessionFault, Why};
 use std::alloc::Global;
 use std::marker::Model;
-
-/// A change that notes nothing.
-const NO_CHANGE: Change = Change {
-    cells: [(0, 0); 3],
-    count: 0,
-    taken: 0,
-    given_len: 0,
-    out_len: 0,
-};
 
 /// A machine, and the events that lead to its earlier states from checkpoints before them (profile).
 #[derive(Drop)]
@@ -120,7 +111,7 @@ impl Session {
         ensures end { result ≡ run_end count self.old }
         ensures after { self.new ≡ after_steps result.did self.old }
     {
-        let mut change = NO_CHANGE;
+        let mut change = self.machine.mark();
         for did in 0..count {
             match self.watched_step(&mut change) {
                 Ok(None) => {}
@@ -139,15 +130,33 @@ impl Session {
         }
     }
 
-    /// One step of a run, and why the run ends with it, if it does.
+    /// One step of a run, and why the run ends with it, if it does. The change notes what the step stored, and nothing after it.
     #[inline(always)]
     fn watched_step(&mut self, change: &mut Change) -> Result<Option<Why>, EventFault>
-        ensures { StepsTo self.old result self.new }
+        requires mark { IsMark change.old self.old.current.bus }
+        ensures steps { StepsTo self.old result self.new }
+        ensures mark { OnOk result (IsMark change.new self.new.current.bus) }
+    {
+        if !self.machine.quick_step(change) {
+            return self.slow_step(change);
+        }
+        let why = stop_after(&self.machine, &self.watches, &self.breaks, change);
+        note(&mut self.trail, &self.machine, Event::Step);
+        forget(&self.machine, change);
+        Ok(why)
+    }
+
+    /// The same for any step.
+    #[inline(never)]
+    fn slow_step(&mut self, change: &mut Change) -> Result<Option<Why>, EventFault>
+        ensures steps { StepsTo self.old result self.new }
+        ensures mark { OnOk result (IsMark change.new self.new.current.bus) }
     {
         match self.machine.step_noting(change) {
             Ok(()) => {
                 let why = stop_after(&self.machine, &self.watches, &self.breaks, change);
                 note(&mut self.trail, &self.machine, Event::Step);
+                *change = self.machine.mark();
                 Ok(why)
             }
             Err(fault) => Err(fault),
@@ -282,5 +291,17 @@ impl Session {
         ensures { result + length self.now.current.bus.given ≡ 65536 }
     {
         self.machine.input_room()
+    }
+}
+
+/// A change that notes what a step stored, made to note nothing.
+#[inline(always)]
+fn forget(machine: &Machine, change: &mut Change)
+    requires fits { CanRestore change.old machine.now.bus }
+    requires plain { change.old.count ≡ 0 → restored change.old machine.now.bus ≡ machine.now.bus }
+    ensures { IsMark change.new machine.now.bus }
+{
+    if change.count != 0 {
+        *change = machine.mark();
     }
 }

@@ -4,6 +4,8 @@
 #[cfg(test)]
 mod borders;
 #[cfg(test)]
+mod flags;
+#[cfg(test)]
 mod history;
 #[cfg(test)]
 mod tests;

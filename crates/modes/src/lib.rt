@@ -10,6 +10,7 @@ pub use model::{Mode, Place, Regs};
 /// Where the operand of the instruction at PC stands, and whether a page was left on the way there: the next byte for
 /// an immediate operand, the target of a branch, 0 where there is none. It reads plain memory alone, never the port
 /// (MCS6500 manual, chapters 4 to 6).
+#[inline(always)]
 #[tactic(auto, unfolding(model::specs::Operand::place_of))]
 pub fn resolve(bus: &Bus, regs: &Regs, mode: Mode) -> Place
     ensures { result ≡ place_of bus.now regs.now mode }
@@ -35,6 +36,7 @@ pub fn resolve(bus: &Bus, regs: &Regs, mode: Mode) -> Place
 }
 
 /// Two bytes of plain memory as an address, the low byte first. After $FFFF comes $0000.
+#[inline(always)]
 #[tactic(auto, unfolding(model::specs::Operand::word_at))]
 pub fn word(bus: &Bus, address: u16) -> u16
     ensures { result ≡ word_at bus.now address }
@@ -45,6 +47,7 @@ pub fn word(bus: &Bus, address: u16) -> u16
 }
 
 /// The same without leaving the page: after its last byte comes its first.
+#[inline(always)]
 #[tactic(auto, unfolding(model::specs::Operand::word_in_page))]
 fn word_in_page(bus: &Bus, address: u16) -> u16
     ensures { result ≡ word_in_page bus.now address }
@@ -55,6 +58,7 @@ fn word_in_page(bus: &Bus, address: u16) -> u16
 }
 
 /// An address that leaves no page.
+#[inline(always)]
 fn straight(address: u16) -> Place
     ensures { result ≡ straight address }
 {
@@ -65,6 +69,7 @@ fn straight(address: u16) -> Place
 }
 
 /// An index added to a base.
+#[inline(always)]
 fn indexed(base: u16, index: u8) -> Place
     ensures { result ≡ indexed base index }
 {
@@ -76,6 +81,7 @@ fn indexed(base: u16, index: u8) -> Place
 }
 
 /// A branch's target, from the next instruction's address and the distance, a signed byte.
+#[inline(always)]
 fn target(next: u16, byte: u8) -> Place
     ensures { result ≡ target next byte }
 {

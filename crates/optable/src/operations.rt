@@ -6,6 +6,7 @@ ghost use Rattle.model.specs.Effect.{operation_of};
 use model::{BranchOp, InherentOp, LoadOp, Mnemonic, ModifyOp, Operation, StoreOp};
 
 /// The operation of a mnemonic, by the way in which it uses its operand. (MCS6500 manual, appendix A.)
+#[inline(always)]
 #[tactic(auto, unfolding(model::specs::Effect::operation_of))]
 pub fn operation(mnemonic: Mnemonic) -> Operation
     ensures { result ≡ operation_of mnemonic }

@@ -1,31 +1,46 @@
-use Rattle.std.proofs.Common.{◌≡◌, ◌∙◌, sym, refl, ap}
+use Rattle.std.proofs.Common.{◌≡◌, ◌∙◌, sym, refl, ap, subst}
 use Rattle.model.specs.Step.{step}
 use Rattle.model.specs.State.{State}
+use Rattle.model.specs.Undo.{restored}
 use Rattle.model.specs.Event.{event_of}
 use Rattle.model.specs.declared.event.Event.TheVariants.{Step}
+use Rattle.debugger.specs.Replay.{IsHistory}
 use Rattle.debugger.proofs.Replays.{follows_of}
-use Rattle.debugger.proofs.Runs.{stop_is, undoes_by}
+use Rattle.debugger.proofs.Runs.{stop_is, undoes_by, event_is_step}
 use Rattle.debugger.proofs.session.Session.watched_step.Goals as goal
 
-step_is : (s : State) → event_of s Step ≡ step s
-unfolding event_of
-step_is s = refl
+pub forget-requires-clause-plain : goal.forget-requires-clause-plain
+forget-requires-clause-plain c = λ none.
+    let plain = c.quick_step.ensures.plain none in
+    ap (λ change. restored change c.quick_step.new.self.bus) plain.0 ∙ ap (restored c.args.change.now) plain.1 ∙ rw (← c.self.view_is) at c.requires.mark.back ∙ sym plain.1
 
 pub invariant_of-self : goal.invariant_of-self
 invariant_of-self c =
-    let follows = follows_of _ c.self.inside.machine c.step_noting.new.self Step (step_is c.self.inside.machine ∙ c.in-Ok.ensures.ok) (undoes_by c.step_noting.new.change c.self.inside.machine c.step_noting.new.self c.step_noting.ensures.fits c.step_noting.ensures.undo) in
-    let noted = c.note.ensures.noted c.self.inside.machine c.self.invariant.1 follows in
+    let t = c.self.inside.trail in
+    let same = (c.quick_step.ensures.not c.if-not-quick_step.true).0 in
+    (c.self.invariant.0, subst (λ m. IsHistory 1024 t.kept.items t.events.items m) (sym same) c.self.invariant.1, c.self.invariant.2)
+
+pub invariant_of-self-2 : goal.invariant_of-self-2
+invariant_of-self-2 c =
+    let before = c.self.inside.machine in
+    let after = c.quick_step.new.self in
+    let made = c.quick_step.ensures.made c.if-not-quick_step.false in
+    let back = c.quick_step.ensures.undo ∙ rw (← c.self.view_is) at c.requires.mark.back in
+    let follows = follows_of _ before after Step (event_is_step before ∙ made) (undoes_by c.quick_step.new.change before after c.quick_step.ensures.fits back) in
+    let noted = c.note.ensures.noted before c.self.invariant.1 follows in
     (c.note.ensures.room, noted.history, c.self.invariant.2)
 
-pub returns-in-Ok : goal.returns-in-Ok
-returns-in-Ok c =
+pub returns-clause-steps : goal.returns-clause-steps
+returns-clause-steps c =
     let before = c.self.inside in
-    let after = c.step_noting.new.self in
-    let follows = follows_of _ before.machine after Step (step_is before.machine ∙ c.in-Ok.ensures.ok) (undoes_by c.step_noting.new.change before.machine after c.step_noting.ensures.fits c.step_noting.ensures.undo) in
+    let after = c.quick_step.new.self in
+    let made = c.quick_step.ensures.made c.if-not-quick_step.false in
+    let back = c.quick_step.ensures.undo ∙ rw (← c.self.view_is) at c.requires.mark.back in
+    let follows = follows_of _ before.machine after Step (event_is_step before.machine ∙ made) (undoes_by c.quick_step.new.change before.machine after c.quick_step.ensures.fits back) in
     let noted = c.note.ensures.noted before.machine c.self.invariant.1 follows in
     rw (← c.self.view_is) (
       after,
-      c.in-Ok.ensures.ok,
-      c.stop_after-why.ensures ∙ stop_is _ c.step_noting.new.change after c.step_noting.ensures.undo,
+      made,
+      c.stop_after-why.ensures ∙ stop_is _ c.quick_step.new.change after back,
       λ i. record { earlier = noted.states i; current = after; history = c.note.ensures.size i; breaks = before.breaks; watches = before.watches; number = c.note.ensures.number i; replayed = before.replayed },
     )
