@@ -91,7 +91,7 @@ fn full_tables(rt: HostRuntime) -> Result<(), Fail> {
     assert_eq!(rt; session.set_watch(0x0300), Err(SessionFault::TableFull));
     assert_eq!(rt; session.set_break(0x0200), Err(SessionFault::AlreadySet));
     assert_eq!(rt; session.set_watch(0x02ff), Err(SessionFault::AlreadySet));
-    assert_eq!(rt; session.set_break(0xf003), Err(SessionFault::PortAddress));
+    assert_eq!(rt; session.set_watch(0xf003), Err(SessionFault::PortAddress));
     assert_eq!(rt; session.clear_break(0x0280), Ok(()));
     assert_eq!(rt; session.set_break(0x0300), Ok(()));
     assert_eq!(rt; (session.break_count(), session.break_at(255)), (256, Some(0x0300)));
