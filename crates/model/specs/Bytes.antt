@@ -1,5 +1,5 @@
 -- The bytes of a line in its place, or its value fault. Source: profile.
-use Rattle.std.specs.Prelude.{◌≡◌, ℕ, zero, suc, ◌+◌, ◌-◌, ◌/◌, ◌%◌, nat_lt, nat_le, ℤ, pos, negsuc, ◌-ℤ◌, Bool, false, ◌||◌, ◌&&◌, if◌then◌else◌, List, [], ◌∷◌, ◌++◌, map, Option, Some, None, Result, Ok, Err}
+use Rattle.std.specs.Prelude.{◌≡◌, ℕ, zero, suc, ◌+◌, ◌-◌, ◌/◌, ◌%◌, nat_lt, nat_le, ℤ, pos, negsuc, ◌-ℤ◌, Bool, false, ◌||◌, ◌&&◌, if◌then◌else◌, List, [], ◌∷◌, ◌++◌, length, map, Option, Some, None, Result, Ok, Err}
 use Rattle.std.specs.List.{flat_map}
 use Rattle.std.specs.Int.Signed.{lt_z}
 use Rattle.model.specs.State.{Map, is_port}
@@ -8,7 +8,7 @@ use Rattle.model.specs.FaultNames.{source_fault_number}
 use Rattle.model.specs.Expression.{Term}
 use Rattle.model.specs.Value.{Numbers, eval_of}
 use Rattle.model.specs.Line.{Item, value, string}
-use Rattle.model.specs.Layout.{Placed, Content, no_bytes, byte_list, word_list, word_list_high_first, code, size_of, ◌>>>◌}
+use Rattle.model.specs.Layout.{Fixed, Placed, Content, no_bytes, byte_list, word_list, word_list_high_first, code, size_of, layout_of, ◌>>>◌}
 use Rattle.model.specs.declared.expression.ExprFault.{ExprFault}
 use Rattle.model.specs.declared.expression.ExprFault.TheVariants as expression
 use Rattle.model.specs.declared.instruction.Mode.{Mode}
@@ -160,3 +160,8 @@ value_fault bus_map numbers image p =
 abbrev pub Makes : Map → Numbers → List (Option ℕ) → List Placed → List (Option ℕ) → Type 0
 Makes bus_map numbers image [] final = final ≡ image
 Makes bus_map numbers image (p ∷ ps) final = (value_fault bus_map numbers image p ≡ None) × Makes bus_map numbers (with_bytes image p.address (bytes_of numbers p)) ps final
+
+-- A line that is laid out and has no value fault has as many bytes as its size says.
+abbrev pub BytesFillTheirSize : Type 0
+BytesFillTheirSize = (bus_map : Map) (numbers : Numbers) (image : List (Option ℕ)) (before next : Fixed) (line : List ℕ) (p : Placed)
+    → layout_of before line ≡ Ok (p, next) → value_fault bus_map numbers image p ≡ None → length (bytes_of numbers p) ≡ size_of p.content

@@ -3,3 +3,4 @@ pub mod OneMeaning
 pub mod Values
 pub mod Holding
 pub mod Lengths
+pub mod Sizes

@@ -1,5 +1,6 @@
 //! Laws of sources.
 
+ghost use Rattle.model.specs.Bytes.{BytesFillTheirSize};
 ghost use Rattle.model.specs.Layout.{LengthsAreTheTables};
 ghost use Rattle.model.specs.Source.{EachSourceIsJudged, ImageOrFault, NamesHaveTheirNumbers, OneAssignment, OneFault, OneImage};
 ghost use Rattle.source_laws.specs.Judging.{DenotedIsJudged, FaultIsJudged, JudgedIsMeant};
@@ -33,4 +34,9 @@ pub fn judging_is_right()
 /// An instruction is as long as its opcode's row in the table says. A law for proofs: it does nothing.
 pub fn lengths_are_the_tables()
     ensures { LengthsAreTheTables }
+{}
+
+/// A line that is laid out and has no value fault has as many bytes as its size says. A law for proofs: it does nothing.
+pub fn bytes_fill_their_size()
+    ensures { BytesFillTheirSize }
 {}

@@ -6,6 +6,6 @@
 mod law;
 
 pub use law::{
-    each_source_has_one_meaning, judging_is_right, lengths_are_the_tables,
+    bytes_fill_their_size, each_source_has_one_meaning, judging_is_right, lengths_are_the_tables,
     names_have_their_numbers, one_assignment,
 };
