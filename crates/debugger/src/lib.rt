@@ -4,6 +4,7 @@
 pub use model::{Event, EventFault, Flags, Regs, RunEnd, SessionFault, Setting, Why};
 pub use session::Session;
 
+mod course;
 mod marks;
 mod session;
 mod stops;

@@ -11,9 +11,10 @@ ghost use Rattle.model.specs.Tables.{break_set, break_cleared, watch_set, watch_
 ghost use Rattle.debugger.specs.Replay.{IsHistory, held_states};
 ghost use Rattle.debugger.specs.Trail.{HasRoom, IsMark, StepsTo};
 
+use crate::course::{Course, begin, note, note_step, rewind};
 use crate::marks::Marks;
 use crate::stops::stop_after;
-use crate::trail::{Trail, begin, happen, note, rewind};
+use crate::trail::happen;
 use bus::{BusFault, Change, Image, MapSpec};
 use cpu::Machine;
 use model::{Event, EventFault, Regs, RunEnd, SessionFault, Why};
@@ -24,7 +25,7 @@ use std::marker::Model;
 #[derive(Drop)]
 pub struct Session {
     machine: Machine,
-    trail: Trail,
+    trail: Course,
     replayed: u32,
     breaks: Marks,
     watches: Marks,
@@ -141,7 +142,7 @@ impl Session {
             return self.slow_step(change);
         }
         let why = stop_after(&self.machine, &self.watches, &self.breaks, change);
-        note(&mut self.trail, &self.machine, Event::Step);
+        note_step(&mut self.trail, &self.machine);
         forget(&self.machine, change);
         Ok(why)
     }
@@ -155,7 +156,7 @@ impl Session {
         match self.machine.step_noting(change) {
             Ok(()) => {
                 let why = stop_after(&self.machine, &self.watches, &self.breaks, change);
-                note(&mut self.trail, &self.machine, Event::Step);
+                note_step(&mut self.trail, &self.machine);
                 *change = self.machine.mark();
                 Ok(why)
             }
@@ -192,7 +193,7 @@ impl Session {
         ensures held { result ≡ length self.now.earlier }
         ensures within { result ≤ self.now.history }
     {
-        self.trail.held
+        self.trail.held()
     }
 
     /// Sets a breakpoint. `AlreadySet`, then `TableFull` where 256 are set, then `OutOfMemory`; nothing is changed then.

@@ -20,7 +20,7 @@ returns-then-count-gt0-clause-ok c =
     let all : length (held_states t.held t.kept.items t.events.items s) ≡ length c.args.self.now.earlier = ap (λ v. length v.earlier) c.self.view_is in
     let few : k ≤ length (held_states t.held t.kept.items t.events.items s) = omega (arith, c.held-held.ensures.held) in
     let fewer = c.rewind-self-inside.ensures.fewer in
-    let number : length c.rewind-self-inside.new.trail.events.items % 1024 ≡ number_back k (length t.events.items % 1024) = omega arith in
+    let number : length c.rewind-self-inside.new.course.events.items % 1024 ≡ number_back k (length t.events.items % 1024) = omega arith in
     let n : t.held - k + 1 ≡ length (held_states t.held t.kept.items t.events.items s) - k + 1 = omega arith in
     rw (← c.self.view_is) (back_of-held k _ few ∙ ap Ok (sym (is_gone_back k _ _ few (rest-gone_back k _ _ c.if-count-gt0.true c.rewind-self-inside.ensures.size refl refl number (c.rewind-self-inside.ensures.number ∙ number))
     (c.rewind-self-inside.ensures.states ∙ ap (λ m. take m (held_states t.held t.kept.items t.events.items s ++ s ∷ [])) n))))

@@ -1,8 +1,8 @@
-use Rattle.std.proofs.Common.{sym}
+use Rattle.std.proofs.Common.{sym, ◌∙◌}
 use Rattle.debugger.proofs.Trails.{length-held_states}
 use Rattle.debugger.proofs.session.Session.held.Goals as goal
 
 pub returns-clause-held : goal.returns-clause-held
 returns-clause-held c =
     let t = c.self.inside.trail in
-    rw (← c.self.view_is) (sym (length-held_states t.held t.kept.items t.events.items c.self.inside.machine c.self.invariant.0.few))
+    rw (← c.self.view_is) (c.held.ensures ∙ sym (length-held_states t.held t.kept.items t.events.items c.self.inside.machine c.self.invariant.0.few))

@@ -27,8 +27,8 @@ invariant_of-self-2 c =
     let made = c.quick_step.ensures.made c.if-not-quick_step.false in
     let back = c.quick_step.ensures.undo ∙ rw (← c.self.view_is) at c.requires.mark.back in
     let follows = follows_of _ before after Step (event_is_step before ∙ made) (undoes_by c.quick_step.new.change before after c.quick_step.ensures.fits back) in
-    let noted = c.note.ensures.noted before c.self.invariant.1 follows in
-    (c.note.ensures.room, noted.history, c.self.invariant.2)
+    let noted = c.note_step.ensures.noted before c.self.invariant.1 follows in
+    (c.note_step.ensures.room, noted.history, c.self.invariant.2)
 
 pub returns-clause-steps : goal.returns-clause-steps
 returns-clause-steps c =
@@ -37,10 +37,10 @@ returns-clause-steps c =
     let made = c.quick_step.ensures.made c.if-not-quick_step.false in
     let back = c.quick_step.ensures.undo ∙ rw (← c.self.view_is) at c.requires.mark.back in
     let follows = follows_of _ before.machine after Step (event_is_step before.machine ∙ made) (undoes_by c.quick_step.new.change before.machine after c.quick_step.ensures.fits back) in
-    let noted = c.note.ensures.noted before.machine c.self.invariant.1 follows in
+    let noted = c.note_step.ensures.noted before.machine c.self.invariant.1 follows in
     rw (← c.self.view_is) (
       after,
       made,
       c.stop_after-why.ensures ∙ stop_is _ c.quick_step.new.change after back,
-      λ i. record { earlier = noted.states i; current = after; history = c.note.ensures.size i; breaks = before.breaks; watches = before.watches; number = c.note.ensures.number i; replayed = before.replayed },
+      λ i. record { earlier = noted.states i; current = after; history = c.note_step.ensures.size i; breaks = before.breaks; watches = before.watches; number = c.note_step.ensures.number i; replayed = before.replayed },
     )

@@ -1,0 +1,143 @@
+//! The trail of a session, with the last steps of a run only counted: they are noted together, before anything else happens.
+
+ghost use Rattle.std.specs.Prelude.{◌≡◌, ◌+◌, ◌-◌, ◌*◌, ◌<◌, ◌≤◌, ◌++◌, ◌∷◌, ◌%◌, [], min, length, take, IfOk};
+ghost use Rattle.model.specs.State.{State};
+ghost use Rattle.model.specs.declared.event.Event.TheVariants.{Step};
+ghost use Rattle.circular_buffer.specs.Buffer.{buffer};
+ghost use Rattle.debugger.specs.Course.{IsQuiet, with_steps};
+ghost use Rattle.debugger.specs.Replay.{Follows, IsHistory, held_states};
+ghost use Rattle.debugger.specs.Trail.{HasRoom, IsNoted};
+
+use crate::trail;
+use crate::trail::{PART, Trail};
+use cpu::Machine;
+use model::{Event, SessionFault};
+use std::alloc::Global;
+use std::marker::Model;
+
+/// As many steps as may be noted together.
+const STEPS: [Event; PART] = [Event::Step; PART];
+
+/// A trail, and steps after it.
+#[derive(Drop)]
+pub struct Course {
+    trail: Trail,
+    /// How many steps come after the trail.
+    steps: u32,
+    /// How many steps more may come before one that makes a checkpoint or lets the oldest part go.
+    quiet: u32,
+}
+
+impl Model for Course {
+    ghost use Rattle.debugger.specs.declared.trail.Trail as declared;
+    ghost use Rattle.debugger.specs.Course.{IsQuiet, with_steps};
+    ghost use Rattle.debugger.specs.Trail.{HasRoom};
+
+    ghost Value = { declared.Trail };
+
+    ghost view = { λ c. with_steps c.trail c.steps };
+
+    ghost invariant = { λ c. HasRoom (with_steps c.trail c.steps) × IsQuiet c.trail c.steps c.quiet };
+}
+
+/// The trail of a machine to which nothing has happened yet. It takes all the room that events need.
+/// `OutOfMemory` where a request for memory was refused.
+pub fn begin(alloc: Global, machine: &Machine, history: u32) -> Result<Course, SessionFault>
+    requires { history ≤ 65536 }
+    ensures room { IfOk result (λ course. HasRoom course) }
+    ensures size { IfOk result (λ course. course.history ≡ history) }
+    ensures history { IfOk result (λ course. IsHistory 1024 course.kept.items course.events.items machine.now) }
+    ensures none { IfOk result (λ course. length course.events.items ≡ 0) }
+    ensures states { IfOk result (λ course. held_states course.held course.kept.items course.events.items machine.now ≡ []) }
+{
+    match trail::begin(alloc, machine, history) {
+        Ok(trail) => Ok(Course {
+            trail,
+            steps: 0,
+            quiet: 0,
+        }),
+        Err(fault) => Err(fault),
+    }
+}
+
+impl Course {
+    /// How many of the last events can be gone back over.
+    pub fn held(&self) -> u32
+        ensures { result ≡ self.now.held }
+    {
+        let held = self.trail.held + self.steps;
+        held.min(self.trail.history)
+    }
+}
+
+/// Goes back over the last `count` events: to the last checkpoint that is not later, and over the events from there on.
+/// Answers how many these were.
+pub fn rewind(course: &mut Course, machine: &mut Machine, count: u32) -> u32
+    requires held { count ≤ course.old.held }
+    requires history { IsHistory 1024 course.old.kept.items course.old.events.items machine.old }
+    ensures room { HasRoom course.new }
+    ensures size { course.new.history ≡ course.old.history }
+    ensures history { IsHistory 1024 course.new.kept.items course.new.events.items machine.new }
+    ensures states { held_states course.new.held course.new.kept.items course.new.events.items machine.new ++ machine.new ∷ []
+        ≡ take (course.old.held - count + 1) (held_states course.old.held course.old.kept.items course.old.events.items machine.old ++ machine.old ∷ []) }
+    ensures number { result ≡ length course.new.events.items % 1024 }
+    ensures fewer { length course.new.events.items + count ≡ length course.old.events.items }
+{
+    settle(&mut course.trail, course.steps);
+    course.steps = 0;
+    course.quiet = 0;
+    trail::rewind(&mut course.trail, machine, count)
+}
+
+/// Notes an accepted event, which led to the machine's state.
+#[inline(never)]
+pub fn note(course: &mut Course, machine: &Machine, event: Event)
+    ensures room { HasRoom course.new }
+    ensures size { course.new.history ≡ course.old.history }
+    ensures number { length course.new.events.items % 1024 ≡ (length course.old.events.items % 1024 + 1) % 1024 }
+    ensures noted { (before : State) → IsHistory 1024 course.old.kept.items course.old.events.items before → Follows before event machine.now → IsNoted course.old course.new before machine.now }
+{
+    settle(&mut course.trail, course.steps);
+    course.steps = 0;
+    trail::note(&mut course.trail, machine, event);
+    course.quiet = quiet_steps(&course.trail);
+}
+
+/// Notes a step, which led to the machine's state.
+#[inline(always)]
+pub fn note_step(course: &mut Course, machine: &Machine)
+    ensures room { HasRoom course.new }
+    ensures size { course.new.history ≡ course.old.history }
+    ensures number { length course.new.events.items % 1024 ≡ (length course.old.events.items % 1024 + 1) % 1024 }
+    ensures noted { (before : State) → IsHistory 1024 course.old.kept.items course.old.events.items before → Follows before Step machine.now → IsNoted course.old course.new before machine.now }
+{
+    if course.quiet == 0 {
+        note(course, machine, Event::Step);
+        return;
+    }
+    course.quiet -= 1;
+    course.steps += 1;
+}
+
+/// Notes some steps, none of which makes a checkpoint or lets the oldest part go.
+#[inline(never)]
+fn settle(trail: &mut Trail, steps: u32)
+    requires few { steps ≤ 1024 }
+    requires room { length trail.old.events.items + steps ≤ trail.old.events.capacity }
+    requires size { trail.old.held + steps < 2000000 }
+    ensures { trail.new ≡ with_steps trail.old steps }
+{
+    trail.events.fill_from_slice(&STEPS[..steps as usize]);
+    let held = trail.held + steps;
+    trail.held = held.min(trail.history);
+}
+
+/// How many steps may come before one that makes a checkpoint or lets the oldest part go.
+fn quiet_steps(trail: &Trail) -> u32
+    requires { HasRoom trail.now }
+    ensures { IsQuiet trail.now 0 result }
+{
+    let part = (PART - 1 - trail.events.len() % PART) as u32;
+    let room = (trail.held as usize + PART - 1 - trail.events.len()) as u32;
+    part.min(room)
+}
