@@ -125,7 +125,7 @@ fn answers_the_first_fault(rt: HostRuntime) -> Result<(), Fail> {
 
 #[test]
 fn assembles_names_and_directives(rt: HostRuntime) -> Result<(), Fail> {
-    let right: [(&[u8], u16, &[u8]); 15] = [
+    let right: [(&[u8], u16, &[u8]); 16] = [
         // A name takes the zero page form where an earlier line defines it.
         (
             b"*=$20\nLDA zpname\nzpname = $10",
@@ -174,6 +174,7 @@ fn assembles_names_and_directives(rt: HostRuntime) -> Result<(), Fail> {
         ),
         (b"*=$20\n.BYTE [[[[[[[[1]]]]]]]]", 0x20, &[1]),
         (b"*=$20\nnmi: .WORD nmi,*", 0x20, &[0x20, 0x00, 0x20, 0x00]),
+        (b".RES 65536", 0, &[]),
     ];
     for (source, from, bytes) in right {
         assert_eq!(rt; denotes(rt.alloc(), source, from, bytes)?, true);
@@ -309,6 +310,14 @@ fn answers_long_lines_and_sources(rt: HostRuntime) -> Result<(), Fail> {
         );
         assert_eq!(rt;
             fault_of(rt.alloc(), &line_of(rt.alloc(), 256, b' ', end)?)?,
+            at(1, LineTooLong)
+        );
+        assert_eq!(rt;
+            fault_of(rt.alloc(), &line_of(rt.alloc(), 255, b'\x80', end)?)?,
+            at(1, NotAscii)
+        );
+        assert_eq!(rt;
+            fault_of(rt.alloc(), &line_of(rt.alloc(), 256, b'\x80', end)?)?,
             at(1, LineTooLong)
         );
     }

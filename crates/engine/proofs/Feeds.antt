@@ -1,11 +1,14 @@
 -- Bytes fed one after another are served as the lines that they make.
-use Rattle.std.proofs.Common.{◌≡◌, ℕ, ◌+◌, ◌-◌, ◌<◌, ◌≤◌, Bool, true, false, cond, ltb, eqb, List, [], ◌∷◌, ◌++◌, refl, sym, ap, ◌∙◌, subst, append_assoc, append-nil, take, drop, length, arith, length-append, get_or, drop-cons, add-one, if◌then◌else◌, length-take, lt-ltb, inl, inr, true≢false}
+use Rattle.std.proofs.Common.{◌≡◌, ◌≢◌, ℕ, ◌+◌, ◌-◌, ◌<◌, ◌≤◌, Bool, true, false, cond, ltb, eqb, List, [], ◌∷◌, ◌++◌, refl, sym, ap, ◌∙◌, subst, append_assoc, append-nil, take, drop, length, arith, length-append, get_or, drop-cons, add-one, if◌then◌else◌, length-take, lt-ltb, inl, inr, true≢false}
 use Rattle.std.proofs.lemmas.List.{take_all, take-append-le, drop_all}
 use Rattle.std.proofs.lemmas.Bool.{le-ltb}
 use Rattle.std.proofs.lemmas.Bool.Decides.{eqb_tells}
 use Rattle.std.proofs.lemmas.Bool.{cases_lt}
+use Rattle.std.proofs.lemmas.List.Elements.{All-nil, All-cons, All-append}
+use Rattle.std.specs.List.{All}
 use Rattle.std.specs.Io.BufRead.{ends_with_byte}
-use Rattle.model.specs.declared.command.Command.TheVariants.{Bad}
+use Rattle.model.specs.declared.command.Command.{Command}
+use Rattle.model.specs.declared.command.Command.TheVariants.{Bad, Quit}
 use Rattle.std.specs.Io.BufRead.{strip_last}
 use Rattle.model.specs.Session.{Session}
 use Rattle.model.specs.Commands.{command_of}
@@ -13,15 +16,45 @@ use Rattle.model.specs.Lines.{lines_from}
 use Rattle.model.specs.Transcript.{Answer, answer_to, after_text, served_on, served}
 use Rattle.engine.specs.Feeding.{Fed, fed, fed_after, fed_on, kept_with, feed}
 
+-- what some bytes make of a line begun: lines of which none is `quit`, and another line begun
+pub record Cuts (begun bytes more : List ℕ) : Type 0 where
+  pub lines : List (List ℕ)
+  pub cut : (ending : List ℕ → List (List ℕ)) (rest : List ℕ) → lines_from ending begun (bytes ++ rest) ≡ lines ++ lines_from ending more rest
+  pub none : All (λ line. command_of line ≢ Quit) lines
+
+cuts_nothing : (begun : List ℕ) → Cuts begun [] begun
+cuts_nothing begun = record { lines = []; cut = λ ending rest. refl; none = All-nil (λ line. command_of line ≢ Quit) }
+
+cuts_line : (begun bs more : List ℕ) → command_of (strip_last 13 begun) ≢ Quit → Cuts [] bs more → Cuts begun (10 ∷ bs) more
+unfolding lines_from
+cuts_line begun bs more stays c = record {
+  lines = strip_last 13 begun ∷ c.lines;
+  cut = λ ending rest. ap (λ l. strip_last 13 begun ∷ l) (c.cut ending rest);
+  none = All-cons (λ line. command_of line ≢ Quit) (strip_last 13 begun) c.lines stays c.none;
+}
+
+cuts_byte : (begun bs more : List ℕ) (b : ℕ) → eqb b 10 ≡ false → Cuts (begun ++ b ∷ []) bs more → Cuts begun (b ∷ bs) more
+unfolding lines_from
+cuts_byte begun bs more b e c = record { lines = c.lines; cut = λ ending rest. rw e (c.cut ending rest); none = c.none }
+
+pub cuts_then : (begun bs middle cs more : List ℕ) → Cuts begun bs middle → Cuts middle cs more → Cuts begun (bs ++ cs) more
+cuts_then begun bs middle cs more c d = record {
+  lines = c.lines ++ d.lines;
+  cut = λ ending rest. ap (lines_from ending begun) (append_assoc bs cs rest) ∙ c.cut ending (cs ++ rest) ∙ ap (λ l. c.lines ++ l) (d.cut ending rest)
+      ∙ sym (append_assoc c.lines d.lines (lines_from ending more rest));
+  none = All-append (λ line. command_of line ≢ Quit) c.lines d.lines c.none d.none;
+}
+
 -- the bytes told were served up to the line begun, of which `kept` is the beginning: with more bytes, and at either end,
--- the transcript is the text so far and the transcript of what is left
+-- the transcript is the text so far and the transcript of what is left; no line was `quit`
 pub record IsServed (start : Session) (told text : List ℕ) (s : Session) (kept : List ℕ) : Type 0 where
   pub begun : List ℕ
   pub front : kept ≡ take 257 begun
   pub goes_on : (ending : List ℕ → List (List ℕ)) (rest : List ℕ) → served start (lines_from ending [] (told ++ rest)) ≡ after_text text (served s (lines_from ending begun rest))
+  pub cuts : Cuts [] told begun
 
 pub served_start : (s : Session) → IsServed s [] [] s []
-served_start s = record { begun = []; front = refl; goes_on = λ ending rest. refl }
+served_start s = record { begun = []; front = refl; goes_on = λ ending rest. refl; cuts = cuts_nothing [] }
 
 -- a line that is too long is a bad command, and its kept beginning is one too
 too_long : (line : List ℕ) → 255 < length line → command_of line ≡ Bad
@@ -66,6 +99,12 @@ pub record Feeds (s : Session) (begun bytes : List ℕ) (r : Fed) : Type 0 where
   pub front : r.kept ≡ take 257 more
   pub goes_on : r.quit ≡ false → (ending : List ℕ → List (List ℕ)) (rest : List ℕ) → served s (lines_from ending begun (bytes ++ rest)) ≡ after_text r.written (served r.session (lines_from ending more rest))
   pub ends : r.quit ≡ true → (ending : List ℕ → List (List ℕ)) (rest : List ℕ) → served s (lines_from ending begun (bytes ++ rest)) ≡ record { written = r.written; session = r.session }
+  pub cuts : r.quit ≡ false → Cuts begun bytes more
+
+-- a line that does not end the engine is not `quit`
+not_quit : (command : Command) (s : Session) → (answer_to command s).quit ≡ false → command ≢ Quit
+unfolding answer_to
+not_quit command s on is = true≢false (sym (ap (λ (c : Command). (answer_to c s).quit) is) ∙ on)
 
 -- one line or one byte of it
 served_line : (s : Session) (begun bs : List ℕ) (ending : List ℕ → List (List ℕ)) → served s (lines_from ending begun (10 ∷ bs)) ≡ served_on (answer_to (command_of (strip_last 13 begun)) s) (λ t. served t (lines_from ending [] bs))
@@ -89,30 +128,32 @@ unfolding feed
 feed_none s kept = refl
 
 -- a line served, and then what comes after it
-after_line : (a : Answer) (s : Session) (begun bs : List ℕ) → ((ending : List ℕ → List (List ℕ)) (rest : List ℕ) → served s (lines_from ending begun (10 ∷ bs ++ rest)) ≡ served_on a (λ t. served t (lines_from ending [] (bs ++ rest))))
+after_line : (a : Answer) (s : Session) (begun bs : List ℕ) → (a.quit ≡ false → command_of (strip_last 13 begun) ≢ Quit) → ((ending : List ℕ → List (List ℕ)) (rest : List ℕ) → served s (lines_from ending begun (10 ∷ bs ++ rest)) ≡ served_on a (λ t. served t (lines_from ending [] (bs ++ rest))))
     → ((t : Session) → Feeds t [] bs (feed t [] bs)) → Feeds s begun (10 ∷ bs) (fed_on a (λ t. feed t [] bs))
-after_line a s begun bs h rest = by a.quit refl
+after_line a s begun bs stays h rest = by a.quit refl
   where
     by : (q : Bool) → a.quit ≡ q → Feeds s begun (10 ∷ bs) (cond a.quit (fed a.written a.session [] true) (fed_after a.written (feed a.session [] bs)))
-    by true e = rw e (record { more = []; front = refl; goes_on = λ no. absurd (true≢false no); ends = λ _ ending more. h ending more ∙ rw e refl })
+    by true e = rw e (record { more = []; front = refl; goes_on = λ no. absurd (true≢false no); ends = λ _ ending more. h ending more ∙ rw e refl; cuts = λ no. absurd (true≢false no) })
     by false e = let r = rest a.session in rw e (record {
       more = r.more;
       front = r.front;
       goes_on = λ no ending more. h ending more ∙ rw e (ap (after_text a.written) (r.goes_on no ending more) ∙ ap (λ w. record { written = w; session = (served (feed a.session [] bs).session (lines_from ending r.more more)).session }) (sym (append_assoc a.written (feed a.session [] bs).written (served (feed a.session [] bs).session (lines_from ending r.more more)).written)));
       ends = λ yes ending more. h ending more ∙ rw e (ap (after_text a.written) (r.ends yes ending more));
+      cuts = λ no. cuts_line begun bs r.more (stays e) (r.cuts no);
     })
 
 pub feeds : (s : Session) (begun bytes : List ℕ) → Feeds s begun bytes (feed s (take 257 begun) bytes)
-feeds s begun [] = rw feed_none (record { more = begun; front = refl; goes_on = λ _ ending rest. refl; ends = λ no. absurd (true≢false (sym no)) })
+feeds s begun [] = rw feed_none (record { more = begun; front = refl; goes_on = λ _ ending rest. refl; ends = λ no. absurd (true≢false (sym no)); cuts = λ _. cuts_nothing begun })
 feeds s begun (b ∷ bs) = elim (eqb_tells b 10) [
   | inl h ↦ subst (λ x. Feeds s begun (x ∷ bs) (feed s (take 257 begun) (x ∷ bs))) (sym h.1)
-      (rw (feed_line, command-kept_line begun) (after_line (answer_to (command_of (strip_last 13 begun)) s) s begun bs (λ ending rest. served_line s begun (bs ++ rest) ending) (λ t. feeds t [] bs)))
+      (rw (feed_line, command-kept_line begun) (after_line (answer_to (command_of (strip_last 13 begun)) s) s begun bs (not_quit (command_of (strip_last 13 begun)) s) (λ ending rest. served_line s begun (bs ++ rest) ending) (λ t. feeds t [] bs)))
   | inr h ↦ let r = feeds s (begun ++ b ∷ []) bs in
       rw (feed_byte s (take 257 begun) bs b h.0, kept-more begun b) (record {
         more = r.more;
         front = r.front;
         goes_on = λ no ending rest. served_byte s begun (bs ++ rest) b ending h.0 ∙ r.goes_on no ending rest;
         ends = λ yes ending rest. served_byte s begun (bs ++ rest) b ending h.0 ∙ r.ends yes ending rest;
+        cuts = λ no. cuts_byte begun bs r.more b h.0 (r.cuts no);
       })
 ]
 

@@ -1,17 +1,16 @@
 -- How a call of the engine ends, before a session stands and while it is served.
-use Rattle.std.proofs.Common.{◌≡◌, ◌∙◌, ℕ, List, Option, Some, None, IfSome, Result, Ok, Err, IfErr, refl, sym, subst, inl, inr}
+use Rattle.std.proofs.Common.{◌≡◌, ◌∙◌, ℕ, List, [], Option, Result, Ok, Err, IfErr, refl, sym, subst, inl, inr}
+use Rattle.std.proofs.KnownBytes.{Consumes-nil}
 use Rattle.std.specs.Prelude.{⊤}
 use Rattle.std.specs.Result.{IsErrAnd}
 use Rattle.model.specs.Session.{Session}
-use Rattle.model.specs.Transcript.{transcript}
-use Rattle.model.specs.Written.{AppendsFront}
 use Rattle.model.specs.declared.source_fault.AsmFault.{AsmFault}
 use Rattle.model.specs.declared.session_fault.SessionFault.{SessionFault}
 use Rattle.model.specs.declared.session_fault.SessionFault.TheVariants as session_fault
 use Rattle.model.specs.declared.tape.TapeFault.{TapeFault}
 use Rattle.engine.specs.declared.fault.EngineFault.{EngineFault}
 use Rattle.engine.specs.declared.fault.EngineFault.TheVariants as engine_fault
-use Rattle.engine.specs.Outcome.{EndsReply, EndsServing, Reaches, Serves}
+use Rattle.engine.specs.Outcome.{Begins, EndsReply, EndsServing, Reaches, Serves}
 use Rattle.engine.specs.Refusals.{IfSession, IfSource, IfTape, of_session, of_source, of_tape}
 use Rattle.engine.proofs.Refused.{source_either, tape_either}
 use Rattle.replies.proofs.Writing.{front_none}
@@ -46,9 +45,8 @@ pub early_session : {X : Type 0} (result : Result X EngineFault) (f : SessionFau
 early_session (Ok x) f h = h
 early_session (Err e) f h = subst IsEarly (sym h) (of_session_early f)
 
-none_written : (s : Session) (input held : Option (List ℕ)) → IfSome input (λ bytes. AppendsFront held held (transcript s bytes).written)
-none_written s None held = tt
-none_written s (Some bytes) held = front_none held _
+none_written : (s : Session) (input held : Option (List ℕ)) → Begins s input input held held
+none_written s input held = ([], Consumes-nil input, inl (front_none held _))
 
 -- Nothing was written, which is a beginning of the transcript.
 pub early_serves : {X : Type 0} (result : Result X EngineFault) (s : Session) (input held : Option (List ℕ)) → IsErrAnd result IsEarly → Serves s input input held held result
@@ -80,9 +78,9 @@ replying_serving engine_fault.Write h = tt
 replying_serving engine_fault.OutOfMemory h = tt
 replying_serving fault h = absurd h
 
--- A reply that was cut short leaves a beginning of the transcript.
+-- A reply that was cut short leaves a beginning of the transcript of what was told.
 pub replying_serves : (X : Type 0) (s : Session) (input left held now : Option (List ℕ)) (fault : EngineFault) → EndsReply fault
-    → IfSome input (λ bytes. AppendsFront held now (transcript s bytes).written) → Serves {X = X} s input left held now (Err fault)
+    → Begins s input left held now → Serves {X = X} s input left held now (Err fault)
 replying_serves X s input left held now engine_fault.Write h front = front
 replying_serves X s input left held now engine_fault.OutOfMemory h front = front
 replying_serves X s input left held now fault h front = absurd h

@@ -1,12 +1,15 @@
 -- What was served of an input that came in pieces.
-use Rattle.std.proofs.Common.{◌≡◌, ℕ, ◌<◌, Bool, true, false, List, [], ◌∷◌, ◌++◌, Option, Some, None, IfSome, refl, sym, ap, ◌∙◌, subst, append_assoc, append-nil, take, length, arith, length-take}
+use Rattle.std.proofs.Common.{◌≡◌, ◌≢◌, ℕ, ◌<◌, Bool, true, false, List, [], ◌∷◌, ◌++◌, Option, Some, None, IfSome, refl, sym, ap, ◌∙◌, subst, append_assoc, append-nil, take, length, arith, length-take}
+use Rattle.std.proofs.lemmas.List.Elements.{All-same}
 use Rattle.std.specs.Io.KnownBytes.{Consumes}
 use Rattle.model.specs.Session.{Session}
 use Rattle.model.specs.Commands.{command_of}
-use Rattle.model.specs.Lines.{lines_from, last_line, no_line}
+use Rattle.model.specs.Lines.{lines_from, ended_lines_of, last_line, no_line}
+use Rattle.model.specs.declared.command.Command.TheVariants.{Quit}
 use Rattle.model.specs.Transcript.{Answer, answer_to, after_text, served_on, served, transcript, transcript_so_far}
 use Rattle.engine.specs.Feeding.{feed}
-use Rattle.engine.proofs.Feeds.{IsServed, Feeds, feeds, command-kept}
+use Rattle.engine.specs.Outcome.{NoneQuits}
+use Rattle.engine.proofs.Feeds.{IsServed, Feeds, feeds, Cuts, cuts_then, command-kept}
 
 -- what holds of the bytes told and any that are left holds of all that was known
 pub known : (a b : Option (List ℕ)) (told : List ℕ) (P : List ℕ → Type 0) → Consumes a b told → ((left : List ℕ) → P (told ++ left)) → IfSome a P
@@ -36,23 +39,29 @@ module _ (start s : Session) (told text kept : List ℕ) (i : IsServed start tol
         goes_on = λ ending rest.
             ap (λ l. served start (lines_from ending [] l)) (append_assoc told bytes rest) ∙ i.goes_on ending (bytes ++ rest) ∙ ap (after_text text) (f.goes_on on ending rest)
             ∙ (let t = served r.session (lines_from ending f.more rest) in ap (λ w. record { written = w; session = t.session }) (sym (append_assoc text r.written t.written)));
+        cuts = cuts_then [] told i.begun bytes f.more i.cuts (f.cuts on);
       }
 
-  pub served_quit : (bytes rest : List ℕ) → (feed s kept bytes).quit ≡ true → transcript start (told ++ bytes ++ rest) ≡ record { written = text ++ (feed s kept bytes).written; session = (feed s kept bytes).session }
-  served_quit bytes rest off =
+  pub served_quit : (ending : List ℕ → List (List ℕ)) (bytes rest : List ℕ) → (feed s kept bytes).quit ≡ true
+      → served start (lines_from ending [] (told ++ bytes ++ rest)) ≡ record { written = text ++ (feed s kept bytes).written; session = (feed s kept bytes).session }
+  served_quit ending bytes rest off =
       let f = feeds_kept s i.begun kept bytes i.front in
-      ap (λ l. served start (lines_from last_line [] l)) (append_assoc told bytes rest) ∙ i.goes_on last_line (bytes ++ rest) ∙ ap (after_text text) (f.ends off last_line rest)
+      ap (λ l. served start (lines_from ending [] l)) (append_assoc told bytes rest) ∙ i.goes_on ending (bytes ++ rest) ∙ ap (after_text text) (f.ends off ending rest)
 
-  -- what bytes give is written in any case
-  pub served_bytes : (bytes rest : List ℕ) → (more : List ℕ) × ((transcript start (told ++ bytes ++ rest)).written ≡ text ++ ((feed s kept bytes).written ++ more))
-  served_bytes bytes rest = by (feed s kept bytes).quit refl
+  -- what bytes give is what the lines give whose end they tell
+  pub served_bytes : (bytes : List ℕ) → (more : List ℕ) × ((transcript_so_far start (told ++ bytes)).written ≡ text ++ ((feed s kept bytes).written ++ more))
+  served_bytes bytes = by (feed s kept bytes).quit refl
     where
-      by : (q : Bool) → (feed s kept bytes).quit ≡ q → (more : List ℕ) × ((transcript start (told ++ bytes ++ rest)).written ≡ text ++ ((feed s kept bytes).written ++ more))
-      by true e = ([], ap (λ r. r.written) (served_quit bytes rest e) ∙ ap (λ w. text ++ w) (sym (append-nil (feed s kept bytes).written)))
-      by false e = let n = served_more bytes e in (_, ap (λ r. r.written) (n.goes_on last_line rest) ∙ append_assoc text (feed s kept bytes).written _)
+      whole : (transcript_so_far start (told ++ bytes)).written ≡ (served start (lines_from no_line [] (told ++ bytes ++ []))).written
+      whole = ap (λ l. (served start (lines_from no_line [] l)).written) (sym (append-nil (told ++ bytes)))
 
-  pub served_front : (rest : List ℕ) → (more : List ℕ) × ((transcript start (told ++ rest)).written ≡ text ++ more)
-  served_front rest = (_, ap (λ r. r.written) (i.goes_on last_line rest))
+      by : (q : Bool) → (feed s kept bytes).quit ≡ q → (more : List ℕ) × ((transcript_so_far start (told ++ bytes)).written ≡ text ++ ((feed s kept bytes).written ++ more))
+      by true e = ([], whole ∙ ap (λ r. r.written) (served_quit no_line bytes [] e) ∙ ap (λ w. text ++ w) (sym (append-nil (feed s kept bytes).written)))
+      by false e = let n = served_more bytes e in (_, whole ∙ ap (λ r. r.written) (n.goes_on no_line []) ∙ append_assoc text (feed s kept bytes).written _)
+
+  pub none_quits : NoneQuits told
+  unfolding lines_from
+  none_quits = let c = i.cuts in All-same (λ line. command_of line ≢ Quit) (ended_lines_of told) c.lines (ap ended_lines_of (sym (append-nil told)) ∙ c.cut no_line [] ∙ append-nil c.lines) c.none
 
   pub so_far : transcript_so_far start told ≡ record { written = text; session = s }
   unfolding served lines_from

@@ -2,6 +2,8 @@
 #![tactic(auto)]
 
 #[cfg(test)]
+mod failing;
+#[cfg(test)]
 mod sessions;
 #[cfg(test)]
 mod tape_pieces;

@@ -10,6 +10,7 @@ use crate::refusal::Refusal;
 use bus::MapSpec;
 use engine::{EngineFault, debug_source, debug_tape_from};
 use std::fs::File;
+use std::io;
 use std::io::{Read, Write};
 use std::rt::Files;
 use words::DebugWords;
@@ -32,12 +33,21 @@ pub fn debug<H: Files + AllocGlobal, R: Read, O: Write>(
     let alloc = rt.alloc();
     let history = words.history;
     if words.is_tape {
-        let mut tape = File::open(rt, words.file).map_err(|error| Refusal::unreadable(&error))?;
+        let mut tape = opened(rt, words.file).map_err(|error| Refusal::unreadable(&error))?;
         answered(debug_tape_from(alloc, map, history, &mut tape, input, output))
     } else {
         let source = read_source(rt, words.file).map_err(|error| Refusal::unreadable(&error))?;
         answered(debug_source(alloc, map, history, source.as_slice(), input, output))
     }
+}
+
+/// A file opened to be read while the standard input is. Where that is closed, a file takes its number and would be read in its
+/// place: an empty one takes it first, and is closed again.
+fn opened<H: Files>(rt: &H, path: &str) -> io::Result<H::File> {
+    let empty = File::open(rt, "/dev/null");
+    let file = File::open(rt, path);
+    drop(empty);
+    file
 }
 
 /// What the engine answered, as the program's own answer.

@@ -1,14 +1,14 @@
 use Rattle.std.proofs.KnownBytes.{Appends-nil, Appends-trans, Consumes-nil, Consumes-trans, Consumes-whole, Consumes-kept}
-use Rattle.std.proofs.Common.{◌≡◌, [], ◌++◌, sym, ap, subst, take, length, refl, append-nil, arith, true, false, ◌<◌}
+use Rattle.std.proofs.Common.{◌≡◌, [], ◌++◌, sym, ap, subst, take, length, refl, append-nil, arith, true, false, ◌<◌, inl, inr}
 use Rattle.std.proofs.lemmas.Bool.{eqb-true, eqb-false}
 use Rattle.std.specs.Io.KnownBytes.{Appends}
-use Rattle.model.specs.Written.{AppendsFront}
+use Rattle.model.specs.Lines.{last_line}
 use Rattle.model.specs.Transcript.{transcript}
 use Rattle.engine.specs.Feeding.{feed}
 use Rattle.engine.proofs.Outcomes.{replying_serves, replying_serving}
 use Rattle.replies.proofs.Writing.{front_after, front_more}
 use Rattle.engine.proofs.Feeds.{IsServed, served_start}
-use Rattle.engine.proofs.Serving.{known, served_more, served_quit, served_bytes, so_far, served_all, served_last, length_zero, length_some}
+use Rattle.engine.proofs.Serving.{known, served_more, served_quit, served_bytes, none_quits, so_far, served_all, served_last, length_zero, length_some}
 use Rattle.engine.proofs.lines.serve.Goals as goal
 
 pub loop-init : goal.loop-init
@@ -44,8 +44,7 @@ returns-in-Err-serve_line-clause-serves g c =
     let all = served_last _ _ inv.0 inv.1 _ inv.4 some in
     let told = Consumes-trans _ _ _ inv.0 [] inv.2 bytes.0 in
     replying_serves (Unit {0}) c.args.session.now (g.R.Read.remaining c.args.reader.now) _ (g.W.Write.contents c.args.writer.now) _ c.in-Err-serve_line.fault c.in-Err-serve_line.ensures.fault
-    (Consumes-whole _ _ _ (λ input. AppendsFront (g.W.Write.contents c.args.writer.now) (g.W.Write.contents c.serve_line.new.writer) (transcript c.args.session.now input).written)
-    told (bytes.1 refl (omega arith)) (rw (append-nil inv.0, all) (front_after _ _ _ _ _ inv.3 line.writes)))
+    (inv.0, rw (append-nil inv.0) at told, inr (bytes.1 refl (omega arith), rw all (front_after _ _ _ _ _ inv.3 line.writes)))
 
 pub returns-in-Ok-true-clause-serves : goal.returns-in-Ok-true-clause-serves
 returns-in-Ok-true-clause-serves g c =
@@ -55,7 +54,7 @@ returns-in-Ok-true-clause-serves g c =
     let off : (feed c.loop.session c.loop.begun.items bs).quit ≡ true = ap (λ r. r.quit) fed_is in
     let told = Consumes-trans _ _ _ inv.0 bs inv.2 c.in-Ok.ensures.bytes.0 in
     known _ _ (inv.0 ++ bs) (λ input. Appends (g.W.Write.contents c.args.writer.now) (g.W.Write.contents c.serve_bytes.new.writer) (transcript c.args.session.now input).written)
-    told (λ left. rw (served_quit _ _ inv.0 inv.1 _ inv.4 bs left off) (Appends-trans _ _ _ _ _ inv.3 c.in-Ok-true.ensures.writes))
+    told (λ left. rw (served_quit _ _ inv.0 inv.1 _ inv.4 last_line bs left off) (Appends-trans _ _ _ _ _ inv.3 c.in-Ok-true.ensures.writes))
 
 pub returns-in-Err-serve_bytes-clause-serves : goal.returns-in-Err-serve_bytes-clause-serves
 returns-in-Err-serve_bytes-clause-serves g c =
@@ -63,14 +62,12 @@ returns-in-Err-serve_bytes-clause-serves g c =
     let bs = take c.in-Ok.n c.read.new.buf in
     let told = Consumes-trans _ _ _ inv.0 bs inv.2 c.in-Ok.ensures.bytes.0 in
     replying_serves (Unit {0}) c.args.session.now (g.R.Read.remaining c.args.reader.now) _ (g.W.Write.contents c.args.writer.now) _ c.in-Err-serve_bytes.fault c.in-Err-serve_bytes.ensures.fault
-    (known _ _ (inv.0 ++ bs) (λ input. AppendsFront (g.W.Write.contents c.args.writer.now) (g.W.Write.contents c.serve_bytes.new.writer) (transcript c.args.session.now input).written)
-    told (λ left. let more = served_bytes _ _ inv.0 inv.1 _ inv.4 bs left in
-    rw more.1 (front_after _ _ _ inv.1 _ inv.3 (front_more _ _ _ more.0 c.in-Err-serve_bytes.ensures.writes))))
+    (inv.0 ++ bs, told, inl (let more = served_bytes _ _ inv.0 inv.1 _ inv.4 bs in rw more.1 (front_after _ _ _ inv.1 _ inv.3 (front_more _ _ _ more.0 c.in-Err-serve_bytes.ensures.writes))))
 
 pub returns-in-Err-clause-serves : goal.returns-in-Err-clause-serves
 returns-in-Err-clause-serves g c =
     let inv = c.loop.invariant in
-    (inv.0, Consumes-kept _ _ _ _ inv.2 c.in-Err.ensures.bytes, rw (so_far _ _ inv.0 inv.1 _ inv.4) inv.3)
+    (inv.0, Consumes-kept _ _ _ _ inv.2 c.in-Err.ensures.bytes, none_quits _ _ inv.0 inv.1 _ inv.4, rw (so_far _ _ inv.0 inv.1 _ inv.4) inv.3)
 
 pub loop-preserved : goal.loop-preserved
 loop-preserved g c =
@@ -88,7 +85,7 @@ loop-preserved g c =
     )
 
 pub returns-clause-serves : goal.returns-clause-serves
-returns-clause-serves g c = let inv = c.loop.invariant in (inv.0, inv.2, rw (so_far _ _ inv.0 inv.1 _ inv.4) inv.3)
+returns-clause-serves g c = let inv = c.loop.invariant in (inv.0, inv.2, none_quits _ _ inv.0 inv.1 _ inv.4, rw (so_far _ _ inv.0 inv.1 _ inv.4) inv.3)
 
 pub returns-in-Err-serve_line-clause-only : goal.returns-in-Err-serve_line-clause-only
 returns-in-Err-serve_line-clause-only g c = replying_serving c.in-Err-serve_line.fault c.in-Err-serve_line.ensures.fault

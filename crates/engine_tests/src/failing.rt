@@ -1,0 +1,478 @@
+//! One session that uses every command, with each read, each write and each flush failing in turn; `quit` before a failure; and lines
+//! that are no commands. The replies come from an independent program.
+
+use crate::tests::replied_with;
+use bus::MapSpec;
+use engine::{EngineFault, debug_tape, debug_tape_from};
+use std::alloc::Global;
+use std::io;
+use std::io::{ErrorKind, Read, Write};
+use std::test::Fail;
+
+/// The lines of a session, each with its reply. Each command stands among them, an empty line and a bad one too.
+const SESSION: [(&[u8], &[u8]); 27] = [
+    (b"set PC 0200\n", b"OK\n"),
+    (b"patch 0200 A9 41 8D\n", b"OK\n"),
+    (b"patch 0203 00 F0\r\n", b"OK\n"),
+    (b"asm 0205 JMP $0200\n", b"OK\n"),
+    (b"set X 02\n", b"OK\n"),
+    (
+        b"dis 0200 3\n",
+        b"0200  A9 41     LDA #$41\n0202  8D 00 F0  STA $F000\n0205  4C 00 02  JMP $0200\n",
+    ),
+    (b"in 01 02\n", b"OK\n"),
+    (b"irq 1\n", b"OK\n"),
+    (b"irq 0\n", b"OK\n"),
+    (b"break 0205\n", b"OK\n"),
+    (b"watch 0010\n", b"OK\n"),
+    (b"breaks\n", b"BREAKS 0205\n"),
+    (b"step\n", b"A=41 X=02 Y=00 S=FD P=24 PC=0202 CYC=9\n"),
+    (b"run 5\n", b"DID 1 BREAK 0205\n"),
+    (b"regs\n", b"A=41 X=02 Y=00 S=FD P=24 PC=0205 CYC=13\n"),
+    (b"out\n", b"OUT 1\n41\n"),
+    (b"mem 0200 0207\n", b"0200  A9 41 8D 00 F0 4C 00 02\n"),
+    (b"unbreak 0205\n", b"OK\n"),
+    (b"unwatch 0010\n", b"OK\n"),
+    (b"nmi\n", b"OK\n"),
+    (b"run 3\n", b"DID 3 LIMIT\n"),
+    (b"back 2\n", b"A=41 X=02 Y=00 S=FA P=24 PC=0000 CYC=20\n"),
+    (b"reset\n", b"OK\n"),
+    (b"\n", b""),
+    (b"stepp\n", b"? BAD COMMAND\n"),
+    (b"out\n", b"OUT 1\n41\n"),
+    (b"quit\n", b""),
+];
+
+/// The first lines of the session, and the replies to them.
+fn first_lines(alloc: Global, count: usize) -> Result<(Vec<u8>, Vec<u8>), Fail> {
+    let mut lines = Vec::new(alloc);
+    let mut replies = Vec::new(alloc);
+    for (line, reply) in SESSION.iter().take(count) {
+        lines.extend_from_slice(line)?;
+        replies.extend_from_slice(reply)?;
+    }
+    Ok((lines, replies))
+}
+
+/// More than the bytes and the calls of the session.
+const MANY: usize = 100_000;
+
+/// Tells its bytes: no more than some at a time, and of no two lines at once where it goes by lines. A read fails where none is left.
+#[derive(Drop)]
+struct Teller<'a> {
+    rest: &'a [u8],
+    at_once: usize,
+    by_lines: bool,
+    reads: usize,
+}
+
+impl<'a> Read for Teller<'a> {
+    fn read(&mut self, buf: &mut [u8]) -> io::Result<usize> {
+        if self.reads == 0 {
+            return Err(io::Error::from(ErrorKind::Other));
+        }
+        self.reads -= 1;
+        let line = match self.rest.iter().position(|byte| *byte == b'\n') {
+            Some(end) if self.by_lines => end + 1,
+            _ => self.rest.len(),
+        };
+        let count = line.min(self.at_once).min(buf.len());
+        let (now, later) = self.rest.split_at(count);
+        buf[..count].copy_from_slice(now);
+        self.rest = later;
+        Ok(count)
+    }
+}
+
+/// Takes bytes, no more than some at a time. Where no write is left, one takes no byte or fails, and where no flush is left, one fails.
+#[derive(Drop)]
+struct Taker {
+    taken: Vec<u8>,
+    at_once: usize,
+    writes: usize,
+    takes_none: bool,
+    flushes: usize,
+}
+
+impl Write for Taker {
+    fn write(&mut self, buf: &[u8]) -> io::Result<usize> {
+        if self.writes == 0 {
+            if self.takes_none {
+                return Ok(0);
+            }
+            return Err(io::Error::from(ErrorKind::Other));
+        }
+        self.writes -= 1;
+        let count = self.at_once.min(buf.len());
+        for byte in &buf[..count] {
+            self.taken.push(*byte)?;
+        }
+        Ok(count)
+    }
+
+    fn flush(&mut self) -> io::Result<()> {
+        if self.flushes == 0 {
+            return Err(io::Error::from(ErrorKind::Other));
+        }
+        self.flushes -= 1;
+        Ok(())
+    }
+}
+
+/// Tells these bytes a line at a time, and does not fail.
+fn by_lines<'a>(rest: &'a [u8]) -> Teller<'a> {
+    Teller {
+        rest,
+        at_once: MANY,
+        by_lines: true,
+        reads: MANY,
+    }
+}
+
+/// Takes all, and does not fail.
+fn wide_taker(alloc: Global) -> Taker {
+    Taker {
+        taken: Vec::new(alloc),
+        at_once: MANY,
+        writes: MANY,
+        takes_none: false,
+        flushes: MANY,
+    }
+}
+
+/// How a session ends that starts with an empty tape.
+fn served(
+    alloc: Global,
+    reader: &mut Teller<'_>,
+    writer: &mut Taker,
+) -> Result<Result<(), EngineFault>, Fail> {
+    let map = MapSpec::new(None, 0xF000)?;
+    Ok(debug_tape(alloc, map, 16, b";0000000000\r\n", reader, writer))
+}
+
+#[test]
+fn serves_bytes_one_by_one(rt: HostRuntime) -> Result<(), Fail> {
+    let (lines, replies) = first_lines(rt.alloc(), SESSION.len())?;
+    for (at_once, taken_at_once) in [(1, 1), (1, MANY), (MANY, 1), (7, 5), (MANY, MANY)] {
+        let mut reader = Teller {
+            at_once,
+            by_lines: false,
+            ..by_lines(&lines)
+        };
+        let mut writer = Taker {
+            at_once: taken_at_once,
+            ..wide_taker(rt.alloc())
+        };
+        let ended = served(rt.alloc(), &mut reader, &mut writer)?;
+        assert_eq!(rt; ended, Ok(()));
+        assert_eq!(rt; writer.taken.as_slice(), replies.as_slice());
+    }
+    Ok(())
+}
+
+/// Each read fails that is made where the lines come one by one.
+#[test]
+fn each_read_of_a_line_fails(rt: HostRuntime) -> Result<(), Fail> {
+    let (lines, _) = first_lines(rt.alloc(), SESSION.len())?;
+    for reads in 0..SESSION.len() {
+        let mut reader = Teller {
+            reads,
+            ..by_lines(&lines)
+        };
+        let mut writer = wide_taker(rt.alloc());
+        let ended = served(rt.alloc(), &mut reader, &mut writer)?;
+        let (told, replies) = first_lines(rt.alloc(), reads)?;
+        assert_eq!(rt; ended, Err(EngineFault::Read), "after {reads} lines");
+        assert_eq!(rt;
+            writer.taken.as_slice(),
+            replies.as_slice(),
+            "after {reads} lines"
+        );
+        assert!(rt; lines.ends_with(reader.rest));
+        assert_eq!(rt; reader.rest.len().saturating_add(told.len()), lines.len());
+    }
+    Ok(())
+}
+
+/// Each read fails that is made where the lines come in pieces: those whose end was told are served, and no line begun is.
+#[test]
+fn each_read_of_a_piece_fails(rt: HostRuntime) -> Result<(), Fail> {
+    let (lines, _) = first_lines(rt.alloc(), SESSION.len())?;
+    for reads in 0..lines.len() {
+        let mut reader = Teller {
+            reads,
+            at_once: 3,
+            by_lines: false,
+            ..by_lines(&lines)
+        };
+        let mut writer = wide_taker(rt.alloc());
+        let ended = served(rt.alloc(), &mut reader, &mut writer)?;
+        let told = lines.len().saturating_sub(reader.rest.len());
+        if told == lines.len() {
+            assert_eq!(rt; ended, Ok(()));
+            break;
+        }
+        let whole = lines
+            .iter()
+            .take(told)
+            .filter(|byte| **byte == b'\n')
+            .count();
+        let (_, replies) = first_lines(rt.alloc(), whole)?;
+        assert_eq!(rt; ended, Err(EngineFault::Read), "after {told} bytes");
+        assert_eq!(rt; told, reads.saturating_mul(3));
+        assert_eq!(rt;
+            writer.taken.as_slice(),
+            replies.as_slice(),
+            "after {told} bytes"
+        );
+    }
+    Ok(())
+}
+
+/// How many bytes are taken in the first of the two tests that follow.
+const HALF: usize = 170;
+
+/// A write fails where so many bytes of the session's replies have been taken, one by one.
+fn fails_after(alloc: Global, writes: usize) -> Result<(Result<(), EngineFault>, Vec<u8>), Fail> {
+    let (lines, _) = first_lines(alloc, SESSION.len())?;
+    let mut reader = by_lines(&lines);
+    let mut writer = Taker {
+        at_once: 1,
+        writes,
+        ..wide_taker(alloc)
+    };
+    let ended = served(alloc, &mut reader, &mut writer)?;
+    Ok((ended, writer.taken))
+}
+
+#[test]
+fn each_write_of_an_early_byte_fails(rt: HostRuntime) -> Result<(), Fail> {
+    let (_, replies) = first_lines(rt.alloc(), SESSION.len())?;
+    for writes in 0..HALF {
+        let (ended, taken) = fails_after(rt.alloc(), writes)?;
+        assert_eq!(rt; ended, Err(EngineFault::Write), "after {writes} bytes");
+        assert_eq!(rt;
+            taken.as_slice(),
+            replies.get(..writes).unwrap_or(b""),
+            "after {writes} bytes"
+        );
+    }
+    Ok(())
+}
+
+#[test]
+fn each_write_of_a_late_byte_fails(rt: HostRuntime) -> Result<(), Fail> {
+    let (_, replies) = first_lines(rt.alloc(), SESSION.len())?;
+    for writes in HALF..replies.len() {
+        let (ended, taken) = fails_after(rt.alloc(), writes)?;
+        assert_eq!(rt; ended, Err(EngineFault::Write), "after {writes} bytes");
+        assert_eq!(rt;
+            taken.as_slice(),
+            replies.get(..writes).unwrap_or(b""),
+            "after {writes} bytes"
+        );
+    }
+    let (ended, taken) = fails_after(rt.alloc(), replies.len())?;
+    assert_eq!(rt; ended, Ok(()));
+    assert_eq!(rt; taken.as_slice(), replies.as_slice());
+    Ok(())
+}
+
+/// Each write that the engine makes fails, or takes no byte: of the lines told the last one's reply is begun at most, and the others are
+/// answered.
+#[test]
+fn each_write_fails(rt: HostRuntime) -> Result<(), Fail> {
+    let (lines, replies) = first_lines(rt.alloc(), SESSION.len())?;
+    for takes_none in [false, true] {
+        let mut failed = 0u32;
+        for writes in 0..replies.len() {
+            let mut reader = by_lines(&lines);
+            let mut writer = Taker {
+                writes,
+                takes_none,
+                ..wide_taker(rt.alloc())
+            };
+            let ended = served(rt.alloc(), &mut reader, &mut writer)?;
+            if ended == Ok(()) {
+                break;
+            }
+            failed = failed.saturating_add(1);
+            let told = MANY.saturating_sub(reader.reads);
+            let (_, answered) = first_lines(rt.alloc(), told.saturating_sub(1))?;
+            let (_, most) = first_lines(rt.alloc(), told)?;
+            assert_eq!(rt; ended, Err(EngineFault::Write), "after {writes} writes");
+            assert!(rt;
+                writer.taken.starts_with(&answered),
+                "after {writes} writes"
+            );
+            assert!(rt; most.starts_with(&writer.taken), "after {writes} writes");
+            assert!(rt; writer.taken.len() < most.len(), "after {writes} writes");
+        }
+        // each of the 25 lines with a reply has a write at least
+        assert!(rt; failed >= 25);
+    }
+    Ok(())
+}
+
+/// Each flush fails that the engine makes: all lines told are answered.
+#[test]
+fn each_flush_fails(rt: HostRuntime) -> Result<(), Fail> {
+    let (lines, _) = first_lines(rt.alloc(), SESSION.len())?;
+    let mut failed = 0u32;
+    for flushes in 0..SESSION.len() {
+        let mut reader = by_lines(&lines);
+        let mut writer = Taker {
+            flushes,
+            ..wide_taker(rt.alloc())
+        };
+        let ended = served(rt.alloc(), &mut reader, &mut writer)?;
+        if ended == Ok(()) {
+            break;
+        }
+        failed = failed.saturating_add(1);
+        let told = MANY.saturating_sub(reader.reads);
+        let (_, replies) = first_lines(rt.alloc(), told)?;
+        assert_eq!(rt; ended, Err(EngineFault::Write), "after {flushes} flushes");
+        assert_eq!(rt;
+            writer.taken.as_slice(),
+            replies.as_slice(),
+            "after {flushes} flushes"
+        );
+    }
+    // each of the 25 lines with a reply is flushed
+    assert!(rt; failed >= 25);
+    Ok(())
+}
+
+/// `quit` ends the engine before the read that would fail, wherever it stands and whatever was told with it.
+#[test]
+fn quit_comes_before_a_failure(rt: HostRuntime) -> Result<(), Fail> {
+    for count in 0..SESSION.len() {
+        let (mut lines, replies) = first_lines(rt.alloc(), count)?;
+        lines.extend_from_slice(b"quit\n")?;
+        let reads = lines.len();
+        for at_once in [1, MANY] {
+            let mut reader = Teller {
+                reads,
+                at_once,
+                ..by_lines(&lines)
+            };
+            let mut writer = wide_taker(rt.alloc());
+            let ended = served(rt.alloc(), &mut reader, &mut writer)?;
+            assert_eq!(rt; ended, Ok(()), "after {count} lines");
+            assert_eq!(rt;
+                writer.taken.as_slice(),
+                replies.as_slice(),
+                "after {count} lines"
+            );
+        }
+    }
+    let mut reader = Teller {
+        reads: 1,
+        by_lines: false,
+        ..by_lines(b"stepp\nquit\nregs\nquit\nre")
+    };
+    let mut writer = wide_taker(rt.alloc());
+    let ended = served(rt.alloc(), &mut reader, &mut writer)?;
+    assert_eq!(rt; ended, Ok(()));
+    assert_eq!(rt; writer.taken.as_slice(), b"? BAD COMMAND\n".as_slice());
+    Ok(())
+}
+
+/// `LDA #$41`, `STA $F000`, `BRK` at $0200, and the reset vector.
+const TAPE: &[u8] = b";060200A9418D00F000026F\r\n;02FFFC000201FF\r\n;0000020002\r\n";
+
+/// Each read of a tape fails, the one behind its end too: no line is read, and nothing is written.
+#[test]
+fn each_read_of_a_tape_fails(rt: HostRuntime) -> Result<(), Fail> {
+    for reads in 0..=TAPE.len() {
+        let mut tape = Teller {
+            reads,
+            at_once: 1,
+            ..by_lines(TAPE)
+        };
+        let mut reader: &[u8] = b"regs\n";
+        let mut writer = wide_taker(rt.alloc());
+        let map = MapSpec::new(None, 0xF000)?;
+        let ended = debug_tape_from(rt.alloc(), map, 16, &mut tape, &mut reader, &mut writer);
+        assert_eq!(rt; ended, Err(EngineFault::Read), "after {reads} bytes");
+        assert!(rt; writer.taken.is_empty(), "after {reads} bytes");
+        assert_eq!(rt; reader.len(), 5, "after {reads} bytes");
+    }
+    Ok(())
+}
+
+/// A session with output, input, a line, a breakpoint, a watch and a history.
+const BEFORE: &[u8] =
+    b"set PC 0200\npatch 0200 E8\nbreak 0300\nwatch 0010\nin 41\nirq 1\nnmi\nstep\nstep\n";
+
+const BEFORE_REPLIES: &[u8] = b"OK\nOK\nOK\nOK\nOK\nOK\nOK\n\
+    A=00 X=00 Y=00 S=FA P=24 PC=0000 CYC=14\n\
+    A=00 X=00 Y=00 S=F7 P=24 PC=0000 CYC=21\n";
+
+/// What shows that session: registers, tables, memory, and how far it can go back.
+const AFTER: &[u8] =
+    b"regs\nbreaks\nout\nmem 0200 0203\nmem 01F8 01FF\nrun 1\nback 3\nback 9\nback 1000000\n";
+
+const AFTER_REPLIES: &[u8] = b"A=00 X=00 Y=00 S=F7 P=24 PC=0000 CYC=21\n\
+    BREAKS 0300\nOUT 0\n0200  E8 00 00 00\n01F8  34 02 00 24 00 02 00 00\nDID 1 LIMIT\n\
+    A=00 X=00 Y=00 S=FD P=24 PC=0200 CYC=7\n! HISTORY 5\n! HISTORY 5\n";
+
+/// Lines that are no commands.
+const BAD: [&[u8]; 21] = [
+    b"run 1000001",
+    b"run 00000001",
+    b"back 0",
+    b"mem 0300 0200",
+    b"in",
+    b"in 1",
+    b"patch 0200",
+    b"patch 0200 01 02 03 04",
+    b"set a 01",
+    b"STEP",
+    b"step 1",
+    b"irq 2",
+    b"break 200",
+    b"dis 0200 0",
+    b"dis 0200 257",
+    b"breaks x",
+    b"asm 0200",
+    b"quit x",
+    b"step\t",
+    b"\xFF",
+    &[b' '; 256],
+];
+
+#[test]
+fn bad_lines_change_nothing(rt: HostRuntime) -> Result<(), Fail> {
+    let mut want = Vec::new(rt.alloc());
+    want.extend_from_slice(BEFORE_REPLIES)?;
+    want.extend_from_slice(b"? BAD COMMAND\n")?;
+    want.extend_from_slice(AFTER_REPLIES)?;
+    for line in BAD {
+        let mut lines = Vec::new(rt.alloc());
+        lines.extend_from_slice(BEFORE)?;
+        lines.extend_from_slice(line)?;
+        lines.extend_from_slice(b"\n")?;
+        lines.extend_from_slice(AFTER)?;
+        let map = MapSpec::new(None, 0xF000)?;
+        let told = replied_with(rt.alloc(), map, 16, b"", &lines)?;
+        assert_eq!(rt; told.as_slice(), want.as_slice(), "{line:?}");
+    }
+    Ok(())
+}
+
+#[test]
+fn lines_that_are_just_right(rt: HostRuntime) -> Result<(), Fail> {
+    let right: [(&[u8], &[u8]); 3] = [
+        (b"run 0000001\n", b"DID 1 LIMIT\n"),
+        (&[b' '; 255], b""),
+        (b"\nregs", b"A=00 X=00 Y=00 S=FD P=24 PC=0000 CYC=7\n"),
+    ];
+    for (line, reply) in right {
+        let map = MapSpec::new(None, 0xF000)?;
+        let told = replied_with(rt.alloc(), map, 16, b"", line)?;
+        assert_eq!(rt; told.as_slice(), reply, "{line:?}");
+    }
+    Ok(())
+}
