@@ -100,6 +100,7 @@ fn full_tables(rt: HostRuntime) -> Result<(), Fail> {
 }
 
 /// What a machine shows where 55 was put into A, and where what it had saved before is put back.
+#[tactic(auto, unfolding(model::specs::Checkpoint::checkpoint_of, model::specs::Checkpoint::saved))]
 fn saved_machine(machine: &mut Machine, into: &mut Checkpoint) -> (u8, u8) {
     machine.save(into);
     let Ok(_) = machine.set_register(Setting::A(0x55)) else {
@@ -120,6 +121,7 @@ fn restores_a_machine(rt: HostRuntime) -> Result<(), Fail> {
 }
 
 /// What stands at an address where a byte was put, and where what was saved before is put back.
+#[tactic(auto, unfolding(model::specs::Checkpoint::saved, model::specs::State::stored))]
 fn saved_bus(bus: &mut Bus, into: &mut Saved, address: u16) -> Result<(u8, u8), BusFault> {
     bus.save(into);
     bus.poke(address, 0x55)?;
