@@ -10,8 +10,8 @@ use crate::token::Token;
 use crate::tree::Expr;
 use model::{Operator, TokenKind};
 
-/// The byte of a symbol.
-pub(crate) fn symbol(token: &Token<'_>) -> Option<u8>
+/// The byte of a token that is a symbol.
+pub fn symbol(token: &Token<'_>) -> Option<u8>
     ensures { result ≡ symbol_of (lexeme_of token.now) }
 {
     match token.kind {

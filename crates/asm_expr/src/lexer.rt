@@ -120,7 +120,7 @@ fn first_token(bytes: &[u8]) -> Option<(TokenKind, &[u8])>
 }
 
 /// Whether each byte of a line is $20..$7E or a tab.
-fn all_may_stand(line: &[u8]) -> bool
+pub fn all_may_stand(line: &[u8]) -> bool
     ensures { result ≡ list_all is_source_byte line.now }
 {
     line.iter().all(|byte| may_stand(*byte))

@@ -11,8 +11,9 @@ mod token_law;
 mod tree;
 mod value;
 
+pub use atom::symbol;
 pub use law::{expressions_are_longest, one_expression};
-pub use lexer::{tokens, tokens_into};
+pub use lexer::{all_may_stand, tokens, tokens_into};
 pub use model::{ExprFault, LineFault, Operator, TokenKind};
 pub use parse::parse_expr;
 pub use token::Token;

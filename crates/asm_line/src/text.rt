@@ -1,9 +1,7 @@
 //! What the text of a line says.
 
 ghost use Rattle.std.specs.Prelude.{◌≡◌, ◌∷◌, IfOk};
-ghost use Rattle.std.specs.List.{list_all};
 ghost use Rattle.model.specs.Line.{directive_of, line_of, operation_by, origin_behind, read_line, statement_of, unlabelled, unreserved, word_line};
-ghost use Rattle.model.specs.Token.{is_source_byte};
 ghost use Rattle.asm_expr.specs.Lexemes.{lexeme_of, lexemes};
 ghost use Rattle.asm_line.specs.Seen.{Gives, Reads, seen, seen_line};
 ghost use Rattle.asm_line.specs.Small.{IsSmallLine};
@@ -15,7 +13,7 @@ use crate::operand::operand;
 use crate::reserved::line_reserves;
 use crate::statement::{Line, Statement};
 use crate::token_tests::{is_in_capitals, is_symbol};
-use asm_expr::{Token, expressions_are_longest, tokens_are_slices, tokens_into};
+use asm_expr::{Token, all_may_stand, expressions_are_longest, tokens_are_slices, tokens_into};
 use model::{AsmFaultKind, LineFault, TokenKind};
 use optable::mnemonic_of;
 use std::alloc::Global;
@@ -140,18 +138,11 @@ fn line_of<'a>(alloc: Global, tokens: &[Token<'a>]) -> Result<Line<'a>, LineFaul
     }
 }
 
-/// Whether each byte of a line is $20..$7E or a tab.
-fn may_stand(line: &[u8]) -> bool
-    ensures { result ≡ list_all is_source_byte line.now }
-{
-    line.iter().all(|byte| matches!(*byte, b' '..=b'~' | b'\t'))
-}
-
 /// The fault of a line that has no tokens, by its bytes.
 fn fault_of_bytes(line: &[u8]) -> AsmFaultKind
     ensures { result ≡ fault_of_bytes line.now }
 {
-    if may_stand(line) {
+    if all_may_stand(line) {
         AsmFaultKind::Syntax
     } else {
         AsmFaultKind::NotAscii

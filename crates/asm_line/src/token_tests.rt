@@ -6,7 +6,7 @@ ghost use Rattle.model.specs.Reading.{is_symbol};
 ghost use Rattle.model.specs.Line.{is_word};
 ghost use Rattle.asm_expr.specs.Lexemes.{lexeme_of};
 
-use asm_expr::Token;
+use asm_expr::{Token, symbol};
 use model::TokenKind;
 
 /// Whether a text is some capitals, in either letter case.
@@ -42,15 +42,8 @@ pub fn is_word(token: &Token<'_>, capitals: &[u8]) -> bool
 pub fn is_symbol(token: &Token<'_>, byte: u8) -> bool
     ensures { result ≡ is_symbol byte (lexeme_of token.now) }
 {
-    match token.kind {
-        TokenKind::Symbol => match token.text.first() {
-            Some(symbol) => *symbol == byte,
-            None => false,
-        },
-        TokenKind::Word
-        | TokenKind::Directive
-        | TokenKind::Number
-        | TokenKind::Char
-        | TokenKind::Str => false,
+    match symbol(token) {
+        Some(symbol) => symbol == byte,
+        None => false,
     }
 }

@@ -1,5 +1,5 @@
 -- What the first pass finds of a line, seen as the definitions see it.
-use Rattle.std.specs.Prelude.{◌≡◌, ℕ, ◌≤◌, ⊤, length, Option, Some, None, unwrap_or, ◌&&◌, if◌then◌else◌, Result, Ok, Err}
+use Rattle.std.specs.Prelude.{◌≡◌, ℕ, ⊤, Option, Some, None, unwrap_or, ◌&&◌, if◌then◌else◌, Result, Ok, Err}
 use Rattle.model.specs.declared.instruction.Mode.{Mode}
 use Rattle.model.specs.declared.source_fault.AsmFaultKind.{AsmFaultKind}
 use Rattle.model.specs.Table.{encoded}
@@ -62,21 +62,6 @@ abbrev pub Fixes : ℕ → Line → Result Site LineError → Definitions → Re
 Fixes address l (Ok site) names given = given ≡ Ok (record { address = address; content = line_content site.mode l }, record { address = site.next; names = names })
 Fixes address l (Err errors.Memory) names given = ⊤
 Fixes address l (Err (errors.Kind kind)) names given = given ≡ Err kind
-
--- Few enough bytes.
-abbrev pub IsSmall : Statement → Type 0
-IsSmall (bytes items) = items_size items ≤ 510
-IsSmall (words es) = length es ≤ 255
-IsSmall (words_high_first es) = length es ≤ 255
-IsSmall nothing = ⊤
-IsSmall (origin e) = ⊤
-IsSmall (reserve e) = ⊤
-IsSmall finish = ⊤
-IsSmall (instruction m operand) = ⊤
-
-abbrev pub IsSmallLine : Line → Type 0
-IsSmallLine (labelled name s) = IsSmall s
-IsSmallLine (definition name e) = ⊤
 
 -- What was answered, memory aside.
 abbrev pub unlocated : {A : Type 0} → Result A LineError → Option (Result A AsmFaultKind)

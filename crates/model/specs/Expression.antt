@@ -2,6 +2,7 @@
 -- expr = ["<" | ">"] sum, sum = unary {operator unary}, unary = ["-"] primary,
 -- primary = number | char | name | "*" | "[" sum "]", with brackets nested at most 8 deep.
 use Rattle.std.specs.Prelude.{◌≡◌, ℕ, suc, ◌+◌, ◌-◌, ◌*◌, ◌^◌, ◌≤◌, ℤ, pos, ◌==◌, nat_lt, nat_le, if◌then◌else◌, List, [], ◌∷◌, ◌++◌, length, slice_get, Option, Some, None}
+use Rattle.std.specs.Str.{byte}
 use Rattle.std.specs.Option.{option_map, option_and_then}
 use Rattle.model.specs.declared.expression.TokenKind.{TokenKind}
 use Rattle.model.specs.declared.expression.TokenKind.TheVariants.{Word, Directive, Number, Char, Str, Symbol}
@@ -34,8 +35,8 @@ number_behind base n (b ∷ digits) = number_behind base (n * base + digit_value
 abbrev pub number_of_text : List ℕ → ℕ
 number_of_text [] = 0
 number_of_text (b ∷ digits) =
-    if b == 36 then number_behind 16 0 digits
-    else if b == 37 then number_behind 2 0 digits
+    if b == byte "$" then number_behind 16 0 digits
+    else if b == byte "%" then number_behind 2 0 digits
     else number_behind 10 0 (b ∷ digits)
 
 -- A literal's number, where it is at most 2^31 - 1.
@@ -56,13 +57,13 @@ symbol_of t = symbol_in t.kind t.text
 
 abbrev pub operator_for : ℕ → Option Operator
 operator_for b =
-    if b == 43 then Some Add
-    else if b == 45 then Some Subtract
-    else if b == 42 then Some Multiply
-    else if b == 47 then Some Divide
-    else if b == 38 then Some And
-    else if b == 124 then Some Or
-    else if b == 94 then Some ExclusiveOr
+    if b == byte "+" then Some Add
+    else if b == byte "-" then Some Subtract
+    else if b == byte "*" then Some Multiply
+    else if b == byte "/" then Some Divide
+    else if b == byte "&" then Some And
+    else if b == byte "|" then Some Or
+    else if b == byte "^" then Some ExclusiveOr
     else None
 
 -- The operator that a token is, if it is one.
@@ -70,7 +71,7 @@ abbrev pub operator_of : Lexeme → Option Operator
 operator_of t = option_and_then operator_for (symbol_of t)
 
 abbrev pub star_term : ℕ → Option Term
-star_term b = if b == 42 then Some here else None
+star_term b = if b == byte "*" then Some here else None
 
 -- A token that is an expression by itself: a number, a character, a name, or `*`, the line's address.
 abbrev pub atom_in : TokenKind → List ℕ → Option Term
@@ -95,14 +96,14 @@ pub data Level : Type 0 where
 -- These tokens are an expression of a level, with brackets nested at most so deep. Operators apply strictly from left to right.
 pub data Derives : Level → ℕ → Term → List Lexeme → Type 0 where
   atom : {d : ℕ} (t : Lexeme) {e : Term} → atom_of t ≡ Some e → Derives primary d e (t ∷ [])
-  group : {d : ℕ} (t u : Lexeme) {e : Term} {ts : List Lexeme} → symbol_of t ≡ Some 91 → symbol_of u ≡ Some 93 → Derives sum d e ts → Derives primary (suc d) e (t ∷ ts ++ u ∷ [])
+  group : {d : ℕ} (t u : Lexeme) {e : Term} {ts : List Lexeme} → symbol_of t ≡ Some (byte "[") → symbol_of u ≡ Some (byte "]") → Derives sum d e ts → Derives primary (suc d) e (t ∷ ts ++ u ∷ [])
   plain : {d : ℕ} {e : Term} {ts : List Lexeme} → Derives primary d e ts → Derives unary d e ts
-  minus : {d : ℕ} (t : Lexeme) {e : Term} {ts : List Lexeme} → symbol_of t ≡ Some 45 → Derives primary d e ts → Derives unary d (negated e) (t ∷ ts)
+  minus : {d : ℕ} (t : Lexeme) {e : Term} {ts : List Lexeme} → symbol_of t ≡ Some (byte "-") → Derives primary d e ts → Derives unary d (negated e) (t ∷ ts)
   single : {d : ℕ} {e : Term} {ts : List Lexeme} → Derives unary d e ts → Derives sum d e ts
   chain : {d : ℕ} (t : Lexeme) {op : Operator} {a b : Term} {ls rs : List Lexeme} → operator_of t ≡ Some op → Derives sum d a ls → Derives unary d b rs → Derives sum d (binary op a b) (ls ++ t ∷ rs)
   bare : {d : ℕ} {e : Term} {ts : List Lexeme} → Derives sum d e ts → Derives whole d e ts
-  low_byte : {d : ℕ} (t : Lexeme) {e : Term} {ts : List Lexeme} → symbol_of t ≡ Some 60 → Derives sum d e ts → Derives whole d (low e) (t ∷ ts)
-  high_byte : {d : ℕ} (t : Lexeme) {e : Term} {ts : List Lexeme} → symbol_of t ≡ Some 62 → Derives sum d e ts → Derives whole d (high e) (t ∷ ts)
+  low_byte : {d : ℕ} (t : Lexeme) {e : Term} {ts : List Lexeme} → symbol_of t ≡ Some (byte "<") → Derives sum d e ts → Derives whole d (low e) (t ∷ ts)
+  high_byte : {d : ℕ} (t : Lexeme) {e : Term} {ts : List Lexeme} → symbol_of t ≡ Some (byte ">") → Derives sum d e ts → Derives whole d (high e) (t ∷ ts)
 
 -- These tokens are an expression.
 abbrev pub IsExpression : Term → List Lexeme → Type 0

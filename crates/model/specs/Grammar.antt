@@ -8,7 +8,7 @@
 -- `Line.antt` reads a line by functions; that each line of this grammar is read so, and that what is read is such a line, are laws
 -- that are proved.
 use Rattle.std.specs.Prelude.{◌≡◌, ℕ, Bool, true, false, ◌&&◌, List, [], ◌∷◌, ◌++◌, codes, Some, None}
-use Rattle.std.specs.Str.{bytes_eq, str_to_ascii_uppercase}
+use Rattle.std.specs.Str.{byte, bytes_eq, str_to_ascii_uppercase}
 use Rattle.model.specs.declared.expression.TokenKind.TheVariants.{Word, Directive}
 use Rattle.model.specs.declared.line.Index.{Index}
 use Rattle.model.specs.declared.line.Index.TheVariants.{Unindexed, X, Y}
@@ -25,28 +25,28 @@ abbrev pub IsSymbol : ℕ → Lexeme → Type 0
 IsSymbol b t = symbol_of t ≡ Some b
 
 abbrev pub IsColon : Lexeme → Type 0
-IsColon t = IsSymbol 58 t
+IsColon t = IsSymbol (byte ":") t
 
 abbrev pub IsEquals : Lexeme → Type 0
-IsEquals t = IsSymbol 61 t
+IsEquals t = IsSymbol (byte "=") t
 
 abbrev pub IsComma : Lexeme → Type 0
-IsComma t = IsSymbol 44 t
+IsComma t = IsSymbol (byte ",") t
 
 abbrev pub IsHash : Lexeme → Type 0
-IsHash t = IsSymbol 35 t
+IsHash t = IsSymbol (byte "#") t
 
 abbrev pub IsMark : Lexeme → Type 0
-IsMark t = IsSymbol 33 t
+IsMark t = IsSymbol (byte "!") t
 
 abbrev pub IsStar : Lexeme → Type 0
-IsStar t = IsSymbol 42 t
+IsStar t = IsSymbol (byte "*") t
 
 abbrev pub Opens : Lexeme → Type 0
-Opens t = IsSymbol 40 t
+Opens t = IsSymbol (byte "(") t
 
 abbrev pub Closes : Lexeme → Type 0
-Closes t = IsSymbol 41 t
+Closes t = IsSymbol (byte ")") t
 
 -- The token is this word, in either letter case.
 abbrev pub IsWord : List ℕ → Lexeme → Type 0

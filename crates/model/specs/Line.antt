@@ -9,7 +9,7 @@
 use Rattle.std.specs.Prelude.{ℕ, zero, suc, ◌-◌, Bool, true, false, not, ◌||◌, ◌&&◌, nat_lt, if◌then◌else◌, List, [], ◌∷◌, length, take, drop, codes, Option, Some, None, is_some, Result, Ok, Err}
 use Rattle.std.specs.List.{list_all, list_any}
 use Rattle.std.specs.Option.{option_map, option_and_then}
-use Rattle.std.specs.Str.{bytes_eq, str_to_ascii_uppercase}
+use Rattle.std.specs.Str.{byte, bytes_eq, str_to_ascii_uppercase}
 use Rattle.model.specs.declared.expression.TokenKind.{TokenKind}
 use Rattle.model.specs.declared.expression.TokenKind.TheVariants.{Word, Directive, Number, Char, Str, Symbol}
 use Rattle.model.specs.declared.line.Index.{Index}
@@ -80,18 +80,18 @@ whole_expression ts = option_and_then (λ p. alone p.0 p.1) (expression_of ts)
 abbrev pub direct_behind : Bool → Term → List Lexeme → Option Operand
 direct_behind marked e [] = Some (direct marked e index.Unindexed)
 direct_behind marked e (c ∷ w ∷ []) =
-    if is_symbol 44 c && is_word (codes "X") w then Some (direct marked e index.X)
-    else if is_symbol 44 c && is_word (codes "Y") w then Some (direct marked e index.Y)
+    if is_symbol (byte ",") c && is_word (codes "X") w then Some (direct marked e index.X)
+    else if is_symbol (byte ",") c && is_word (codes "Y") w then Some (direct marked e index.Y)
     else None
 direct_behind marked e (c ∷ []) = None
 direct_behind marked e (c ∷ w ∷ t ∷ ts) = None
 
 -- What closes a round bracket behind its expression: `)`, `,X)` or `),Y`.
 abbrev pub pointer_behind : Term → List Lexeme → Option Operand
-pointer_behind e (c ∷ []) = if is_symbol 41 c then Some (pointer e) else None
+pointer_behind e (c ∷ []) = if is_symbol (byte ")") c then Some (pointer e) else None
 pointer_behind e (a ∷ b ∷ c ∷ []) =
-    if is_symbol 44 a && is_word (codes "X") b && is_symbol 41 c then Some (pointer_by_x e)
-    else if is_symbol 41 a && is_symbol 44 b && is_word (codes "Y") c then Some (pointer_by_y e)
+    if is_symbol (byte ",") a && is_word (codes "X") b && is_symbol (byte ")") c then Some (pointer_by_x e)
+    else if is_symbol (byte ")") a && is_symbol (byte ",") b && is_word (codes "Y") c then Some (pointer_by_y e)
     else None
 pointer_behind e [] = None
 pointer_behind e (a ∷ b ∷ []) = None
@@ -109,9 +109,9 @@ unfoldable pub operand_of : List Lexeme → Option Operand
 operand_of [] = Some absent
 operand_of (t ∷ ts) =
     if is_alone ts && is_word (codes "A") t then Some accumulator
-    else if is_symbol 35 t then option_map immediate (whole_expression ts)
-    else if is_symbol 40 t then option_and_then (λ p. pointer_behind p.0 p.1) (expression_of ts)
-    else if is_symbol 33 t then direct_operand true ts
+    else if is_symbol (byte "#") t then option_map immediate (whole_expression ts)
+    else if is_symbol (byte "(") t then option_and_then (λ p. pointer_behind p.0 p.1) (expression_of ts)
+    else if is_symbol (byte "!") t then direct_operand true ts
     else direct_operand false (t ∷ ts)
 
 -- ---- statements
@@ -119,7 +119,7 @@ operand_of (t ∷ ts) =
 -- What was read, and behind a comma what goes on.
 abbrev pub list_behind : {A : Type 0} → (List Lexeme → Option (List A)) → A → List Lexeme → Option (List A)
 list_behind more a [] = Some (a ∷ [])
-list_behind more a (c ∷ ts) = if is_symbol 44 c then option_map (λ rest. a ∷ rest) (more ts) else None
+list_behind more a (c ∷ ts) = if is_symbol (byte ",") c then option_map (λ rest. a ∷ rest) (more ts) else None
 
 -- At most so many of what is read, separated by commas.
 unfoldable pub list_within : {A : Type 0} → (List Lexeme → Option (A × List Lexeme)) → ℕ → List Lexeme → Option (List A)
@@ -169,13 +169,13 @@ directive_of text ts =
 
 abbrev pub origin_behind : List Lexeme → Option Statement
 origin_behind [] = None
-origin_behind (t ∷ ts) = if is_symbol 61 t then option_map origin (whole_expression ts) else None
+origin_behind (t ∷ ts) = if is_symbol (byte "=") t then option_map origin (whole_expression ts) else None
 
 -- The operation that begins with a token.
 abbrev pub operation_by : TokenKind → Lexeme → List Lexeme → Option Statement
 operation_by Word t ts = option_and_then (λ m. option_map (instruction m) (operand_of ts)) (mnemonic_named t.text)
 operation_by Directive t ts = directive_of t.text ts
-operation_by Symbol t ts = if is_symbol 42 t then origin_behind ts else None
+operation_by Symbol t ts = if is_symbol (byte "*") t then origin_behind ts else None
 operation_by Number t ts = None
 operation_by Char t ts = None
 operation_by Str t ts = None
@@ -194,8 +194,8 @@ unlabelled ts = option_map (labelled None) (statement_of ts)
 abbrev pub word_line : Lexeme → List Lexeme → Option Line
 word_line w [] = unlabelled (w ∷ [])
 word_line w (s ∷ ts) =
-    if is_symbol 58 s then option_map (labelled (Some w.text)) (statement_of ts)
-    else if is_symbol 61 s then option_map (definition w.text) (whole_expression ts)
+    if is_symbol (byte ":") s then option_map (labelled (Some w.text)) (statement_of ts)
+    else if is_symbol (byte "=") s then option_map (definition w.text) (whole_expression ts)
     else unlabelled (w ∷ s ∷ ts)
 
 abbrev pub line_by : TokenKind → Lexeme → List Lexeme → Option Line

@@ -1,5 +1,6 @@
 -- The longest beginning of some tokens that is an expression, computed. That this is what the grammar says of it is a law that is proved.
 use Rattle.std.specs.Prelude.{◌≡◌, ℕ, zero, suc, ◌==◌, Bool, false, if◌then◌else◌, List, [], ◌∷◌, ◌++◌, length, Option, Some, None, IfSome, IfNone}
+use Rattle.std.specs.Str.{byte}
 use Rattle.std.specs.Option.{option_map, option_and_then, option_map_or}
 use Rattle.model.specs.declared.expression.Operator.{Operator}
 use Rattle.model.specs.Token.{Lexeme}
@@ -15,15 +16,15 @@ is_symbol b t = option_map_or (λ s. s == b) (symbol_of t) false
 -- What was read inside a bracket, where the next token closes it.
 abbrev pub closed_by : Term → List Lexeme → Read
 closed_by e [] = None
-closed_by e (t ∷ ts) = if is_symbol 93 t then Some (e, ts) else None
+closed_by e (t ∷ ts) = if is_symbol (byte "]") t then Some (e, ts) else None
 
 abbrev pub primary_with : (List Lexeme → Read) → List Lexeme → Read
 primary_with inner [] = None
-primary_with inner (t ∷ ts) = if is_symbol 91 t then option_and_then (λ p. closed_by p.0 p.1) (inner ts) else option_map (λ e. (e, ts)) (atom_of t)
+primary_with inner (t ∷ ts) = if is_symbol (byte "[") t then option_and_then (λ p. closed_by p.0 p.1) (inner ts) else option_map (λ e. (e, ts)) (atom_of t)
 
 abbrev pub unary_with : (List Lexeme → Read) → List Lexeme → Read
 unary_with inner [] = None
-unary_with inner (t ∷ ts) = if is_symbol 45 t then option_map (λ p. (negated p.0, p.1)) (primary_with inner ts) else primary_with inner (t ∷ ts)
+unary_with inner (t ∷ ts) = if is_symbol (byte "-") t then option_map (λ p. (negated p.0, p.1)) (primary_with inner ts) else primary_with inner (t ∷ ts)
 
 -- An operator and its right side, and the tokens behind them.
 abbrev pub next_with : (List Lexeme → Read) → List Lexeme → Option (Operator × Term × List Lexeme)
@@ -51,8 +52,8 @@ inner_at (suc d) ts = sum_with (inner_at d) ts
 abbrev pub whole_with : (List Lexeme → Read) → List Lexeme → Read
 whole_with inner [] = None
 whole_with inner (t ∷ ts) =
-    if is_symbol 60 t then option_map (λ p. (low p.0, p.1)) (sum_with inner ts)
-    else if is_symbol 62 t then option_map (λ p. (high p.0, p.1)) (sum_with inner ts)
+    if is_symbol (byte "<") t then option_map (λ p. (low p.0, p.1)) (sum_with inner ts)
+    else if is_symbol (byte ">") t then option_map (λ p. (high p.0, p.1)) (sum_with inner ts)
     else sum_with inner (t ∷ ts)
 
 -- The expression with which some tokens begin, as long as possible, and the tokens left behind it.

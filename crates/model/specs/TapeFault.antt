@@ -5,30 +5,30 @@ use Rattle.model.specs.declared.tape.TapeFaultKind.{TapeFaultKind}
 use Rattle.model.specs.declared.tape.TapeFaultKind.TheVariants.{NoRecord, BadHex, BadChecksum, PastEnd, Truncated, BadCount, JunkAfterEnd, JunkBetween, OutOfMemory, TooLong}
 
 -- The number of each kind. Source: profile.
-abbrev pub number_of : TapeFaultKind → ℕ
-number_of NoRecord = 1
-number_of BadHex = 2
-number_of BadChecksum = 3
-number_of PastEnd = 4
-number_of Truncated = 5
-number_of BadCount = 6
-number_of JunkAfterEnd = 7
-number_of JunkBetween = 8
-number_of OutOfMemory = 9
-number_of TooLong = 10
+abbrev pub tape_fault_number : TapeFaultKind → ℕ
+tape_fault_number NoRecord = 1
+tape_fault_number BadHex = 2
+tape_fault_number BadChecksum = 3
+tape_fault_number PastEnd = 4
+tape_fault_number Truncated = 5
+tape_fault_number BadCount = 6
+tape_fault_number JunkAfterEnd = 7
+tape_fault_number JunkBetween = 8
+tape_fault_number OutOfMemory = 9
+tape_fault_number TooLong = 10
 
 -- The name of each kind, in ASCII. Source: profile.
-abbrev pub name_of : TapeFaultKind → List ℕ
-name_of NoRecord = codes "NoRecord"
-name_of BadHex = codes "BadHex"
-name_of BadChecksum = codes "BadChecksum"
-name_of PastEnd = codes "PastEnd"
-name_of Truncated = codes "Truncated"
-name_of BadCount = codes "BadCount"
-name_of JunkAfterEnd = codes "JunkAfterEnd"
-name_of JunkBetween = codes "JunkBetween"
-name_of OutOfMemory = codes "OutOfMemory"
-name_of TooLong = codes "TooLong"
+abbrev pub tape_fault_name : TapeFaultKind → List ℕ
+tape_fault_name NoRecord = codes "NoRecord"
+tape_fault_name BadHex = codes "BadHex"
+tape_fault_name BadChecksum = codes "BadChecksum"
+tape_fault_name PastEnd = codes "PastEnd"
+tape_fault_name Truncated = codes "Truncated"
+tape_fault_name BadCount = codes "BadCount"
+tape_fault_name JunkAfterEnd = codes "JunkAfterEnd"
+tape_fault_name JunkBetween = codes "JunkBetween"
+tape_fault_name OutOfMemory = codes "OutOfMemory"
+tape_fault_name TooLong = codes "TooLong"
 
 -- The answer where a request for memory was refused, at offset 0. Source: profile.
 abbrev pub out_of_memory : TapeFault

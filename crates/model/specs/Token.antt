@@ -1,5 +1,6 @@
 -- The tokens of a source line. Source: profile.
 use Rattle.std.specs.Prelude.{◌≡◌, ℕ, zero, suc, ◌+◌, ◌-◌, ◌<◌, ◌≤◌, Bool, false, not, ◌||◌, ◌&&◌, ◌==◌, nat_le, if◌then◌else◌, List, [], ◌∷◌, ◌++◌, length, take, drop, Option, Some, None}
+use Rattle.std.specs.Str.{byte}
 use Rattle.std.specs.List.{list_all}
 use Rattle.std.specs.Option.{option_map}
 use Rattle.model.specs.declared.expression.TokenKind.{TokenKind}
@@ -26,21 +27,21 @@ abbrev pub is_source_byte : ℕ → Bool
 is_source_byte b = is_printable b || (b == 9)
 
 abbrev pub is_digit : ℕ → Bool
-is_digit b = nat_le 48 b && nat_le b 57
+is_digit b = nat_le (byte "0") b && nat_le b (byte "9")
 
 abbrev pub is_letter : ℕ → Bool
-is_letter b = (nat_le 65 b && nat_le b 90) || (nat_le 97 b && nat_le b 122)
+is_letter b = (nat_le (byte "A") b && nat_le b (byte "Z")) || (nat_le (byte "a") b && nat_le b (byte "z"))
 
 -- A letter, a digit or `_`.
 abbrev pub is_word_byte : ℕ → Bool
-is_word_byte b = is_letter b || is_digit b || (b == 95)
+is_word_byte b = is_letter b || is_digit b || (b == byte "_")
 
 -- A hex digit, in either letter case.
 abbrev pub is_hex_byte : ℕ → Bool
-is_hex_byte b = is_digit b || (nat_le 65 b && nat_le b 70) || (nat_le 97 b && nat_le b 102)
+is_hex_byte b = is_digit b || (nat_le (byte "A") b && nat_le b (byte "F")) || (nat_le (byte "a") b && nat_le b (byte "f"))
 
 abbrev pub is_binary_byte : ℕ → Bool
-is_binary_byte b = (b == 48) || (b == 49)
+is_binary_byte b = (b == byte "0") || (b == byte "1")
 
 -- A byte of a string: $20..$7E other than `"`.
 abbrev pub is_string_byte : ℕ → Bool
@@ -49,8 +50,8 @@ is_string_byte b = is_printable b && not (b == 34)
 -- : * = , # ! ( ) [ ] < > + - / & | ^
 abbrev pub is_symbol_byte : ℕ → Bool
 is_symbol_byte b =
-    (b == 58) || (b == 42) || (b == 61) || (b == 44) || (b == 35) || (b == 33) || (b == 40) || (b == 41) || (b == 91) || (b == 93)
-    || (b == 60) || (b == 62) || (b == 43) || (b == 45) || (b == 47) || (b == 38) || (b == 124) || (b == 94)
+    (b == byte ":") || (b == byte "*") || (b == byte "=") || (b == byte ",") || (b == byte "#") || (b == byte "!") || (b == byte "(") || (b == byte ")") || (b == byte "[") || (b == byte "]")
+    || (b == byte "<") || (b == byte ">") || (b == byte "+") || (b == byte "-") || (b == byte "/") || (b == byte "&") || (b == byte "|") || (b == byte "^")
 
 -- ---- one token
 
@@ -86,13 +87,13 @@ number_at mark passes bytes =
 abbrev pub directive_at : List ℕ → Found
 directive_at bytes =
     let letters = run_of is_letter bytes in
-    if length letters == 0 then None else Some (Directive, 46 ∷ letters)
+    if length letters == 0 then None else Some (Directive, byte "." ∷ letters)
 
 -- One byte $20..$7E and a `'`, behind a `'`.
 abbrev pub char_at : List ℕ → Found
 char_at [] = None
 char_at (b ∷ []) = None
-char_at (b ∷ c ∷ bytes) = if is_printable b && (c == 39) then Some (Char, 39 ∷ b ∷ 39 ∷ []) else None
+char_at (b ∷ c ∷ bytes) = if is_printable b && (c == byte "'") then Some (Char, byte "'" ∷ b ∷ byte "'" ∷ []) else None
 
 -- One or more bytes $20..$7E other than `"`, and a `"`, behind a `"`.
 abbrev pub string_at : List ℕ → Found
@@ -108,10 +109,10 @@ token_at [] = None
 token_at (b ∷ bytes) =
     if is_letter b then word_at (b ∷ bytes)
     else if is_digit b then number_at [] is_digit (b ∷ bytes)
-    else if b == 36 then number_at (36 ∷ []) is_hex_byte bytes
-    else if b == 37 then number_at (37 ∷ []) is_binary_byte bytes
-    else if b == 46 then directive_at bytes
-    else if b == 39 then char_at bytes
+    else if b == byte "$" then number_at (byte "$" ∷ []) is_hex_byte bytes
+    else if b == byte "%" then number_at (byte "%" ∷ []) is_binary_byte bytes
+    else if b == byte "." then directive_at bytes
+    else if b == byte "'" then char_at bytes
     else if b == 34 then string_at bytes
     else if is_symbol_byte b then Some (Symbol, b ∷ [])
     else None
@@ -133,7 +134,7 @@ tokens_from place covered [] = Some []
 tokens_from place (suc covered) (b ∷ bytes) = tokens_from (place + 1) covered bytes
 tokens_from place zero (b ∷ bytes) =
     if is_blank b then tokens_from (place + 1) 0 bytes
-    else if b == 59 then Some []
+    else if b == byte ";" then Some []
     else found_before place (λ rest. tokens_from (place + 1) rest bytes) (token_at (b ∷ bytes))
 
 -- The tokens of a line, in order; none where a byte may not stand in a source, in a comment too.

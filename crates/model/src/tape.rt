@@ -40,11 +40,11 @@ pub enum TapeFaultKind {
 
 impl TapeFaultKind {
     ghost use Rattle.std.specs.Prelude.{◌≡◌};
-    ghost use Rattle.model.specs.TapeFault.{number_of, name_of};
+    ghost use Rattle.model.specs.TapeFault.{tape_fault_name, tape_fault_number};
 
     /// The number that stands for the kind, 1 to 10 (profile).
-    pub fn number(self) -> u8
-        ensures { result ≡ number_of self }
+    pub fn number(&self) -> u8
+        ensures { result ≡ tape_fault_number self.now }
     {
         match self {
             TapeFaultKind::NoRecord => 1,
@@ -61,8 +61,8 @@ impl TapeFaultKind {
     }
 
     /// The name of the kind, as it is printed (profile).
-    pub fn name(self) -> &'static str
-        ensures { result.now ≡ name_of self }
+    pub fn name(&self) -> &'static str
+        ensures { result.now ≡ tape_fault_name self.now }
     {
         match self {
             TapeFaultKind::NoRecord => "NoRecord",

@@ -2,11 +2,15 @@
 use Rattle.std.proofs.Common.{◌≡◌, ℕ, zero, suc, ◌+◌, ◌-◌, ◌≤◌, List, [], ◌∷◌, ◌++◌, map, length, take, replicate, set, Option, None, Some, refl, sym, ap, ◌∙◌, arith, append_assoc}
 use Rattle.std.proofs.lemmas.List.{set_at, length-append}
 use Rattle.model.specs.Image.{empty_image, with_bytes}
-use Rattle.bus.proofs.Images.{empty_image_is}
 use Rattle.papertape.specs.Writing.{front_bytes, cuts, cut_writes}
 
 abbrev none : ℕ → List (Option ℕ)
 none n = replicate n None
+
+-- the image with no byte, whose size is met here alone
+empty_is : (n : ℕ) → n ≡ 65536 → none n ≡ empty_image
+unfolding empty_image
+empty_is n e = ap none e
 
 abbrev some : List ℕ → List (Option ℕ)
 some bytes = map (λ b. Some b) bytes
@@ -69,5 +73,5 @@ cuts_write (Some b ∷ cells) front address zero h le =
 -- the cuts of a whole image write it
 pub whole_write : (cells : List (Option ℕ)) → length cells ≡ 65536 → cut_writes empty_image (cuts 0 0 cells) ≡ cells
 whole_write cells h =
-    ap (λ (x : List (Option ℕ)). cut_writes x (cuts 0 0 cells)) (sym (empty_image_is (length cells - 0) (omega arith)))
+    ap (λ (x : List (Option ℕ)). cut_writes x (cuts 0 0 cells)) (sym (empty_is (length cells - 0) (omega arith)))
     ∙ cuts_write cells [] 0 0 refl (omega arith)

@@ -49,6 +49,13 @@ pub fn pieces_are_the_whole()
     ensures fault { (text : List ℕ) (fault : TapeFault) → (ended (fed unfed text) ≡ Err fault) ↔ IsRefusedInPieces text fault }
 {}
 
+/// No text that comes in pieces has two images, or two faults, or an image and a fault. A law for proofs: it does nothing.
+pub fn pieces_have_one_reading()
+    ensures image { (text : List ℕ) (a b : List (Option ℕ)) → IsReadInPieces text a → IsReadInPieces text b → a ≡ b }
+    ensures fault { (text : List ℕ) (f g : TapeFault) → IsRefusedInPieces text f → IsRefusedInPieces text g → f ≡ g }
+    ensures either { (text : List ℕ) (cells : List (Option ℕ)) (fault : TapeFault) → IsReadInPieces text cells → IsRefusedInPieces text fault → ⊥ }
+{}
+
 /// The image of a tape that comes in these pieces, as `TapeReader` reads it.
 ///
 /// The errors are those of `read_tape` for the pieces one behind the other, and `TooLong` at offset 4,294,967,295 where they have more bytes than that and the bytes before tell no fault.

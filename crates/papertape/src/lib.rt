@@ -10,8 +10,8 @@ mod record;
 mod writer;
 
 pub use law::{
-    each_text_has_one_reading, one_digit_is_refused, pieces_are_the_whole, read_pieces,
-    through_tape, written_is_read,
+    each_text_has_one_reading, one_digit_is_refused, pieces_are_the_whole, pieces_have_one_reading,
+    read_pieces, through_tape, written_is_read,
 };
 pub use model::{TapeFault, TapeFaultKind};
 pub use reader::{TapeReader, read_tape};

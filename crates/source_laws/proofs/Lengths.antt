@@ -1,10 +1,12 @@
 -- How long each row of the table is, computed for all 256 bytes.
-use Rattle.std.proofs.Common.{◌≡◌, ℕ, ◌<◌, map, refl, ap, sym, ◌∙◌, arith, get_or}
+use Rattle.std.proofs.Common.{◌≡◌, ℕ, ◌<◌, ◌≤◌, map, refl, ap, sym, ◌∙◌, arith, get_or}
 use Rattle.std.specs.Prelude.{None, Some, Option, Bool, true, ◌==◌}
 use Rattle.std.specs.List.{range_with_len}
 use Rattle.std.proofs.lemmas.Bool.{eqb-true}
 use Rattle.std.proofs.lemmas.List.FromFn.{get_or-map-range_with_len}
 use Rattle.model.specs.declared.instruction.Row.{Row}
+use Rattle.model.specs.declared.instruction.Mode.{Mode}
+use Rattle.model.specs.declared.instruction.Mode.TheVariants.{Imp, Acc, Imm, Zp, ZpX, ZpY, Abs, AbsX, AbsY, IndX, IndY, Ind, Rel}
 use Rattle.model.specs.Table.{row_at, find_row, table}
 use Rattle.model.specs.Layout.{length_in, LengthsAreTheTables}
 
@@ -25,3 +27,19 @@ right opcode below =
 -- a row is as long as its mode
 pub len_is : LengthsAreTheTables
 len_is opcode row below e = let h : is_right (Some row) ≡ true = rw e at (right opcode below) in eqb-true _ _ h
+
+-- no instruction is longer than three bytes
+pub length_in_small : (mode : Mode) → length_in mode ≤ 3
+length_in_small Imp = omega arith
+length_in_small Acc = omega arith
+length_in_small Imm = omega arith
+length_in_small Zp = omega arith
+length_in_small ZpX = omega arith
+length_in_small ZpY = omega arith
+length_in_small Abs = omega arith
+length_in_small AbsX = omega arith
+length_in_small AbsY = omega arith
+length_in_small IndX = omega arith
+length_in_small IndY = omega arith
+length_in_small Ind = omega arith
+length_in_small Rel = omega arith

@@ -17,7 +17,7 @@ use Rattle.table_laws.proofs.Encoding.{encoded_of_row}
 use Rattle.model.specs.Instruction.{TextRow, word_text, absolute_text, operand_text, row_of, row_by, byte_row}
 use Rattle.model.specs.OneLine.{one_line, no_numbers}
 use Rattle.text_laws.specs.Law.{TextIsReadAgain}
-use Rattle.source_laws.proofs.Lengths.{len_is}
+use Rattle.source_laws.proofs.Lengths.{len_is, length_in_small}
 use Rattle.text_laws.proofs.Texts as texts
 use Rattle.text_laws.proofs.Forms as forms
 use Rattle.text_laws.proofs.Forms.{of_number}
@@ -99,21 +99,6 @@ front_of bs = slice_index bs 0 ∷ slice_index bs 1 ∷ slice_index bs 2 ∷ []
 take_front : (mode : Mode) (bs : List ℕ) → length_in mode ≤ length bs → take (length_in mode) (front_of bs) ≡ take (length_in mode) bs
 take_front mode bs long = go (length_in mode) bs long (length_in_small mode)
   where
-    length_in_small : (mode : Mode) → length_in mode ≤ 3
-    length_in_small Imp = omega arith
-    length_in_small Acc = omega arith
-    length_in_small Imm = omega arith
-    length_in_small Zp = omega arith
-    length_in_small ZpX = omega arith
-    length_in_small ZpY = omega arith
-    length_in_small Abs = omega arith
-    length_in_small AbsX = omega arith
-    length_in_small AbsY = omega arith
-    length_in_small IndX = omega arith
-    length_in_small IndY = omega arith
-    length_in_small Ind = omega arith
-    length_in_small Rel = omega arith
-
     go : (n : ℕ) (bs : List ℕ) → n ≤ length bs → n ≤ 3 → take n (slice_index bs 0 ∷ slice_index bs 1 ∷ slice_index bs 2 ∷ []) ≡ take n bs
     go zero bs long small = refl
     go (suc n) [] long small = absurd (omega (arith, long))
