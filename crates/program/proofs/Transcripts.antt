@@ -1,5 +1,5 @@
 -- A program that ended with 0 after a session wrote the session's transcript.
-use Rattle.std.proofs.Common.{◌≡◌, ◌∙◌, ℕ, List, Option, Some, IfSome, Result, Ok, Err, MatchResult, refl, sym, subst, arith}
+use Rattle.std.proofs.Common.{◌≡◌, ◌∙◌, ℕ, List, Option, Some, IfSome, Result, Ok, Err, MatchResult, sym, subst, arith}
 use Rattle.std.specs.Prelude.{⊤}
 use Rattle.std.specs.Io.KnownBytes.{Appends}
 use Rattle.model.specs.Event.{start}

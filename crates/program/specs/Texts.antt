@@ -1,5 +1,5 @@
 -- The texts that `asm` makes of a source.
-use Rattle.std.specs.Prelude.{◌≡◌, ⊤, ℕ, Bool, true, false, List, Option, Some, None}
+use Rattle.std.specs.Prelude.{⊤, ℕ, Bool, true, false, List, Option, Some, None}
 use Rattle.model.specs.Listing.{IsListing}
 use Rattle.model.specs.State.{Map}
 

@@ -1,6 +1,7 @@
 //! `asm`: a source to the text of its tape, and to its listing.
 ghost use Rattle.std.specs.Prelude.{◌≡◌, ◌≤◌, ◌⊎◌, ℕ, List, length, take, None, Option, Some, Err, IfErr, IfOk, IfSome, MatchResult, false, if◌then◌else◌, option_map};
 ghost use Rattle.assembler.specs.Assembly.{listing_of, out_of_memory};
+ghost use Rattle.model.specs.Listing.{IsListing};
 ghost use Rattle.model.specs.Source.{Denotes, HasFault};
 ghost use Rattle.model.specs.State.{is_map};
 ghost use Rattle.model.specs.TapeText.{tape_text};
@@ -14,6 +15,7 @@ use assembler::{Assembly, assemble};
 use bus::MapSpec;
 use model::{AsmFault, AsmFaultKind};
 use papertape::write_tape;
+use source_laws::{each_source_has_one_meaning, one_assignment};
 use std::alloc::Global;
 use std::fs::File;
 use std::io::Read;
@@ -90,10 +92,15 @@ pub fn asm_texts(
     ensures only { (image : List (Option ℕ)) → Denotes map.now source.now image → MatchResult result (λ t. t.tape.items ≡ tape_text image) (λ f. f ≡ out_of_memory) }
     // The listing is that of the source where one is asked for, and else there is none.
     ensures listed { IfOk result (λ t. IsAsked map.now source.now is_listed (option_map (λ l. l.items) t.listing)) }
+    // No other text is a listing of the source.
+    ensures only_listing { IfOk result (λ t. IfSome t.listing (λ l. (other : List ℕ) → IsListing map.now source.now other → l.items ≡ other)) }
     // A source with a fault is refused with it, memory aside, and no other is.
     ensures faulty { (f : AsmFault) → HasFault map.now source.now f → (result ≡ Err f) ⊎ (result ≡ Err out_of_memory) }
     ensures refused { IfErr result (λ f. (f ≡ out_of_memory) ⊎ HasFault map.now source.now f) }
 {
+    // For the proof: a source has one image, and one address for each line and number for each name.
+    each_source_has_one_meaning();
+    one_assignment();
     let assembly = assemble(alloc, source, map)?;
     match texts_of(alloc, &assembly, is_listed) {
         Ok(texts) => Ok(texts),
