@@ -1,2 +1,3 @@
 pub mod Lazy
 pub mod Plain
+pub mod Quick

@@ -50,3 +50,8 @@ same_memory change s none = ap (λ n. put_cells (take n change.cells) s.bus.memo
 
 pub no_cell : (ws : List ℕ) (change : Change) (s : State) → change.count ≡ 0 → lowest (changed ws (before_of change s) s) ≡ None
 no_cell ws change s none = ap lowest (none_changed ws (before_of change s) s (same_memory change s none))
+
+-- nothing is watched
+pub no_watch : (ws : List ℕ) (change : Change) (s : State) → length ws ≡ 0 → lowest (changed ws (before_of change s) s) ≡ None
+no_watch [] change s none = refl
+no_watch (w ∷ ws) change s none = absurd (omega arith)

@@ -127,7 +127,8 @@ fn settle(trail: &mut Trail, steps: u32)
     requires size { trail.old.held + steps < 2000000 }
     ensures { trail.new ≡ with_steps trail.old steps }
 {
-    trail.events.fill_from_slice(&STEPS[..steps as usize]);
+    let all = &STEPS;
+    trail.events.fill_from_slice(&all[..steps as usize]);
     let held = trail.held + steps;
     trail.held = held.min(trail.history);
 }

@@ -47,6 +47,7 @@ impl Marks {
     }
 
     /// How many there are.
+    #[inline(always)]
     pub fn len(&self) -> u32
         ensures { result ≡ length self.now }
     {

@@ -141,10 +141,18 @@ impl Session {
         if !self.machine.quick_step(change) {
             return self.slow_step(change);
         }
-        let why = stop_after(&self.machine, &self.watches, &self.breaks, change);
-        note_step(&mut self.trail, &self.machine);
-        forget(&self.machine, change);
-        Ok(why)
+        match stop_after(&self.machine, &self.watches, &self.breaks, change) {
+            None => {
+                note_step(&mut self.trail, &self.machine);
+                forget(&self.machine, change);
+                Ok(None)
+            }
+            Some(why) => {
+                note_step(&mut self.trail, &self.machine);
+                forget(&self.machine, change);
+                Ok(Some(why))
+            }
+        }
     }
 
     /// The same for any step.

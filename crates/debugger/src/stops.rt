@@ -43,6 +43,9 @@ fn lowest_changed(machine: &Machine, watches: &Marks, change: &Change) -> Option
     if change.count == 0 {
         return None;
     }
+    if watches.len() == 0 {
+        return None;
+    }
     lowest_stored(machine, watches, change)
 }
 
