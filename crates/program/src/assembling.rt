@@ -28,20 +28,11 @@ use words::AsmWords;
 const MOST_READ: u64 = 1_048_577;
 
 /// The bytes of a source's file, or the first of them where it is too long for a source.
-pub fn read_source<H: Files + AllocGlobal>(rt: &H, path: &str) -> io::Result<Vec<u8>>
-    ensures short { IfOk result (λ source. length source.items ≤ 1048577) }
-{
-    first_bytes(rt.alloc(), File::open(rt, path)?)
-}
-
-/// The bytes that a reader tells, or the first of them where they are too many for a source.
-fn first_bytes<R: Read>(alloc: Global, reader: R) -> io::Result<Vec<u8>>
-    ensures bytes { IfOk result (λ source. IfSome (R.remaining reader) (λ told. source.items ≡ take 1048577 told)) }
-    ensures short { IfOk result (λ source. length source.items ≤ 1048577) }
-{
-    let mut source = Vec::new(alloc);
-    let mut reader = reader.take(MOST_READ);
-    reader.read_to_end(&mut source)?;
+pub fn read_source<H: Files + AllocGlobal>(rt: &H, path: &str) -> io::Result<Vec<u8>> {
+    let mut source = Vec::new(rt.alloc());
+    File::open(rt, path)?
+        .take(MOST_READ)
+        .read_to_end(&mut source)?;
     Ok(source)
 }
 
