@@ -17,18 +17,38 @@ const BORDERS: [Border; 16] = [
     (1, 2049, 1, Ok((0xfd, 14343, 0))),
     (1, 2049, 2, Err(SessionFault::NoHistory { held: 1 })),
     (1023, 4000, 1023, Ok((0x1a, 20846, 929))),
-    (1023, 4000, 1024, Err(SessionFault::NoHistory { held: 1023 })),
+    (
+        1023,
+        4000,
+        1024,
+        Err(SessionFault::NoHistory { held: 1023 }),
+    ),
     (1024, 1024, 1024, Ok((0xfd, 7, 0))),
     (1024, 3071, 1024, Ok((0x00, 14336, 1023))),
     (1024, 3072, 1024, Ok((0xfd, 14343, 0))),
     (1024, 3072, 1, Ok((0x00, 21504, 1023))),
     (1025, 3072, 1025, Ok((0x00, 14336, 1023))),
     (1025, 3072, 1024, Ok((0xfd, 14343, 0))),
-    (1025, 3072, 1026, Err(SessionFault::NoHistory { held: 1025 })),
+    (
+        1025,
+        3072,
+        1026,
+        Err(SessionFault::NoHistory { held: 1025 }),
+    ),
     (4096, 10000, 4096, Ok((0xcd, 41335, 784))),
-    (4096, 10000, 4097, Err(SessionFault::NoHistory { held: 4096 })),
+    (
+        4096,
+        10000,
+        4097,
+        Err(SessionFault::NoHistory { held: 4096 }),
+    ),
     (65536, 70000, 65536, Ok((0xad, 31255, 368))),
-    (65536, 70000, 65537, Err(SessionFault::NoHistory { held: 65536 })),
+    (
+        65536,
+        70000,
+        65537,
+        Err(SessionFault::NoHistory { held: 65536 }),
+    ),
 ];
 
 fn port_alone() -> Result<MapSpec, Fail> {
@@ -94,7 +114,10 @@ fn full_tables(rt: HostRuntime) -> Result<(), Fail> {
     assert_eq!(rt; session.set_watch(0xf003), Err(SessionFault::PortAddress));
     assert_eq!(rt; session.clear_break(0x0280), Ok(()));
     assert_eq!(rt; session.set_break(0x0300), Ok(()));
-    assert_eq!(rt; (session.break_count(), session.break_at(255)), (256, Some(0x0300)));
+    assert_eq!(rt;
+        (session.break_count(), session.break_at(255)),
+        (256, Some(0x0300))
+    );
     drop(session);
     Ok(())
 }
@@ -135,6 +158,9 @@ fn restores_a_bus(rt: HostRuntime) -> Result<(), Fail> {
     let mut bus = Bus::new(rt.alloc(), port_alone()?)?;
     let mut saved = Saved::new(rt.alloc())?;
     assert_eq!(rt; saved_bus(&mut bus, &mut saved, 0x0200), Ok((0x55, 0x00)));
-    assert_eq!(rt; saved_bus(&mut bus, &mut saved, 0xf000), Err(BusFault::PortAddress));
+    assert_eq!(rt;
+        saved_bus(&mut bus, &mut saved, 0xf000),
+        Err(BusFault::PortAddress)
+    );
     Ok(())
 }

@@ -1,5 +1,5 @@
 //! `asm`: a source to the text of its tape, and to its listing.
-ghost use Rattle.std.specs.Prelude.{◌≡◌, ◌≤◌, ◌⊎◌, ℕ, List, length, take, None, Option, Some, Err, IfErr, IfOk, IfSome, MatchResult, false, if◌then◌else◌, option_map};
+ghost use Rattle.std.specs.Prelude.{◌≡◌, ◌⊎◌, ℕ, List, None, Option, Some, Err, IfErr, IfOk, IfSome, MatchResult, false, if◌then◌else◌, option_map};
 ghost use Rattle.assembler.specs.Assembly.{listing_of, out_of_memory};
 ghost use Rattle.model.specs.Listing.{IsListing};
 ghost use Rattle.model.specs.Source.{Denotes, HasFault};

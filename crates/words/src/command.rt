@@ -111,7 +111,8 @@ fn debug_command<'a>(alloc: Global) -> Result<Command<'a>, Error>
 }
 
 /// What is shown below the words of the program.
-const STATUSES: &str = "Exit status: 0 done, 1 source or tape refused, 2 words or map wrong, 3 memory, 4 reading or writing";
+const STATUSES: &str =
+    "Exit status: 0 done, 1 source or tape refused, 2 words or map wrong, 3 memory, 4 reading or writing";
 
 /// The program's command line.
 ///
