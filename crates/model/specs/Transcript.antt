@@ -1,5 +1,5 @@
 -- What the engine writes for some input, and where the session then stands. Source: profile.
-use Rattle.std.specs.Prelude.{ℕ, ◌+◌, Bool, true, false, List, [], ◌∷◌, ◌++◌, length, take, nat_lt, if◌then◌else◌, codes, decimal, Result, Ok, Err}
+use Rattle.std.specs.Prelude.{◌≡◌, ℕ, ◌+◌, Bool, true, false, List, [], ◌∷◌, ◌++◌, length, take, nat_lt, if◌then◌else◌, codes, decimal, Result, Ok, Err}
 use Rattle.model.specs.State.{State, console_size}
 use Rattle.model.specs.Event.{event_of, patch_of}
 use Rattle.model.specs.Session.{Session, appended}
@@ -153,3 +153,7 @@ transcript s input = served s (lines_of input)
 -- The transcript of the lines whose end was told, where the reader failed then.
 abbrev pub transcript_so_far : Session → List ℕ → Served
 transcript_so_far s input = served s (ended_lines_of input)
+
+-- The replies to what is told so far begin the transcript, whatever is still to be told.
+abbrev pub ToldBegins : Type 0
+ToldBegins = (s : Session) (told left : List ℕ) → (more : List ℕ) × ((transcript s (told ++ left)).written ≡ (transcript_so_far s told).written ++ more)

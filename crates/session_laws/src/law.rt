@@ -3,6 +3,7 @@
 ghost use Rattle.model.specs.Back.{BackIsExact};
 ghost use Rattle.model.specs.Looking.{LooksAreHarmless};
 ghost use Rattle.model.specs.Run.{CutRunGoesOn, RunCanBeRepeated};
+ghost use Rattle.model.specs.Transcript.{ToldBegins};
 
 /// Going back over as many events as were accepted gives the states before them exactly where the history has room for them; else it
 /// is refused, and the number of events held is the history size.
@@ -24,4 +25,9 @@ pub fn run_can_be_repeated()
 /// lead to the same states.
 pub fn looks_are_harmless()
     ensures { LooksAreHarmless }
+{}
+
+/// The replies to the lines whose end was told are a beginning of the replies to the whole input, whatever is still to be told.
+pub fn told_begins_the_transcript()
+    ensures { ToldBegins }
 {}
