@@ -89,6 +89,9 @@ pub fn program<H: Files + AllocGlobal, R: Read, O: Write, E: Write>(
     ensures status { result ≤ 4 }
     // A source, a tape, words or a map that are refused leave the input and the output as they were.
     ensures untouched { 1 ≤ result → result ≤ 2 → (input.new ≡ input.old) × (output.new ≡ output.old) }
+    // So do words that fit nothing, or one of whose values is wrong, where memory runs out too.
+    ensures untaken { ¬ IsTaken (map (λ s. s.now) words.entry.now) → 1 ≤ result → result ≤ 3 → (input.new ≡ input.old) × (output.new ≡ output.old) }
+    ensures unasked { asked (map (λ s. s.now) words.entry.now) ≡ None → 1 ≤ result → result ≤ 3 → (input.new ≡ input.old) × (output.new ≡ output.old) }
     // Words that fit nothing have the status 2, memory aside, where help is not asked for; help that is asked for has 0 where it was written.
     ensures usage { ¬ IsTaken (map (λ s. s.now) words.entry.now) → ¬ IsAmong DisplayHelp (fault_of mos65 (map (λ s. s.now) words.entry.now)) → (result ≡ 2) ⊎ (result ≡ 3) }
     ensures help { fault_of mos65 (map (λ s. s.now) words.entry.now) ≡ DisplayHelp ∷ [] → (result ≡ 0) ⊎ (result ≡ 3) ⊎ (result ≡ 4) }
