@@ -87,53 +87,92 @@ fn assemble_line(alloc: Global, text: &[u8]) -> Result<(), Fault> {
     }
 }
 
+fn new_image(alloc: Global) -> Result<(), Fault> {
+    Image::new(alloc)?;
+    Ok(())
+}
+
+fn new_bus(alloc: Global, map: MapSpec) -> Result<(), Fault> {
+    Bus::new(alloc, map)?;
+    Ok(())
+}
+
+fn new_machine(alloc: Global, map: MapSpec) -> Result<(), Fault> {
+    let image = Image::new(alloc)?;
+    Machine::new(alloc, map, &image)?;
+    Ok(())
+}
+
+/// A session on nothing, with a history of 8 events.
+fn new_session(alloc: Global, map: MapSpec) -> Result<Session, Fault> {
+    let image = Image::new(alloc)?;
+    Ok(Session::new(alloc, map, &image, 8)?)
+}
+
+fn let_go(session: Result<Session, Fault>) -> Result<(), Fault> {
+    session?;
+    Ok(())
+}
+
+fn set_break(alloc: Global, map: MapSpec) -> Result<(), Fault> {
+    Ok(new_session(alloc, map)?.set_break(0x0200)?)
+}
+
+fn set_watch(alloc: Global, map: MapSpec) -> Result<(), Fault> {
+    Ok(new_session(alloc, map)?.set_watch(0x0200)?)
+}
+
+fn read_at_once(alloc: Global) -> Result<(), Fault> {
+    read_tape(alloc, b";0000000000")?;
+    Ok(())
+}
+
+fn read_in_pieces(alloc: Global) -> Result<(), Fault> {
+    read_pieces(alloc, &[b";00000".as_slice(), b"", b"00000"])?;
+    Ok(())
+}
+
+fn new_reader(alloc: Global) -> Result<(), Fault> {
+    TapeReader::new(alloc)?;
+    Ok(())
+}
+
+fn write(alloc: Global) -> Result<(), Fault> {
+    let image = Image::new(alloc)?;
+    write_tape(alloc, &image)?;
+    Ok(())
+}
+
+fn write_and_read(alloc: Global) -> Result<(), Fault> {
+    let image = Image::new(alloc)?;
+    through_tape(alloc, &image)?;
+    Ok(())
+}
+
 /// Makes the call that a word names, on the map without ROM, and lets its value go.
 fn make(alloc: Global, word: &str) -> Result<(), Fault> {
     let map = MapSpec::new(None, 0xf000)?;
     match word {
-        "nothing" => {}
-        "image_new" => {
-            Image::new(alloc)?;
-        }
-        "bus_new" => {
-            Bus::new(alloc, map)?;
-        }
-        "machine_new" => {
-            Machine::new(alloc, map, &Image::new(alloc)?)?;
-        }
-        "session_new" => {
-            Session::new(alloc, map, &Image::new(alloc)?, 8)?;
-        }
-        "assemble" => assemble(alloc, &map, SOURCE)?,
-        "assemble_faulty" => assemble(alloc, &map, FAULTY_SOURCE)?,
-        "assemble_value" => assemble(alloc, &map, FAULTY_VALUE)?,
-        "listing" => list(alloc, &map, SOURCE)?,
-        "assemble_line" => assemble_line(alloc, b"LDA #[1+2]*4/$4|%101")?,
-        "assemble_line_faulty" => assemble_line(alloc, b".BYTE 1,2,[3*4],name")?,
-        "set_break" => {
-            Session::new(alloc, map, &Image::new(alloc)?, 8)?.set_break(0x0200)?;
-        }
-        "set_watch" => {
-            Session::new(alloc, map, &Image::new(alloc)?, 8)?.set_watch(0x0200)?;
-        }
-        "read_tape" => {
-            read_tape(alloc, b";0000000000")?;
-        }
-        "read_pieces" => {
-            read_pieces(alloc, &[b";00000".as_slice(), b"", b"00000"])?;
-        }
-        "tape_reader_new" => {
-            TapeReader::new(alloc)?;
-        }
-        "write_tape" => {
-            write_tape(alloc, &Image::new(alloc)?)?;
-        }
-        "through_tape" => {
-            through_tape(alloc, &Image::new(alloc)?)?;
-        }
-        _ => return Err(Fault::NoSuchCall),
+        "nothing" => Ok(()),
+        "image_new" => new_image(alloc),
+        "bus_new" => new_bus(alloc, map),
+        "machine_new" => new_machine(alloc, map),
+        "session_new" => let_go(new_session(alloc, map)),
+        "assemble" => assemble(alloc, &map, SOURCE),
+        "assemble_faulty" => assemble(alloc, &map, FAULTY_SOURCE),
+        "assemble_value" => assemble(alloc, &map, FAULTY_VALUE),
+        "listing" => list(alloc, &map, SOURCE),
+        "assemble_line" => assemble_line(alloc, b"LDA #[1+2]*4/$4|%101"),
+        "assemble_line_faulty" => assemble_line(alloc, b".BYTE 1,2,[3*4],name"),
+        "set_break" => set_break(alloc, map),
+        "set_watch" => set_watch(alloc, map),
+        "read_tape" => read_at_once(alloc),
+        "read_pieces" => read_in_pieces(alloc),
+        "tape_reader_new" => new_reader(alloc),
+        "write_tape" => write(alloc),
+        "through_tape" => write_and_read(alloc),
+        _ => Err(Fault::NoSuchCall),
     }
-    Ok(())
 }
 
 /// Makes the calls in order until one is refused, and gives the exit status: 3 where memory ran out,
