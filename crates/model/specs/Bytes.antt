@@ -12,7 +12,7 @@ use Rattle.model.specs.Layout.{Fixed, Placed, Content, no_bytes, byte_list, word
 use Rattle.model.specs.declared.expression.ExprFault.{ExprFault}
 use Rattle.model.specs.declared.expression.ExprFault.TheVariants as expression
 use Rattle.model.specs.declared.instruction.Mode.{Mode}
-use Rattle.model.specs.declared.instruction.Mode.TheVariants.{Imp, Acc, Imm, Zp, ZpX, ZpY, Abs, AbsX, AbsY, IndX, IndY, Ind, Rel}
+use Rattle.model.specs.declared.instruction.Mode.TheVariants.{Imp, Acc, Imm, Zp, ZpX, ZpY, Abs, AbsX, AbsY, IndX, IndY, Ind, Rel, IndZ}
 use Rattle.model.specs.declared.source_fault.AsmFaultKind.{AsmFaultKind}
 use Rattle.model.specs.declared.source_fault.AsmFaultKind.TheVariants.{UndefinedName, ByteRange, WordRange, BranchRange, PastEnd, Overlap, PortAddress, ValueExprRange, ValueDivideByZero}
 
@@ -83,6 +83,7 @@ operand_piece address IndX r = zero_page_piece r
 operand_piece address IndY r = zero_page_piece r
 operand_piece address Ind r = address_piece r
 operand_piece address Rel r = branch_piece address r
+operand_piece address IndZ r = zero_page_piece r
 
 abbrev pub behind_opcode : Numbers → ℕ → Mode → Option Term → List Piece
 behind_opcode numbers address mode None = []

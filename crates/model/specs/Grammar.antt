@@ -12,6 +12,7 @@ use Rattle.std.specs.Str.{byte, bytes_eq, str_to_ascii_uppercase}
 use Rattle.model.specs.declared.expression.TokenKind.TheVariants.{Word, Directive}
 use Rattle.model.specs.declared.line.Index.{Index}
 use Rattle.model.specs.declared.line.Index.TheVariants.{Unindexed, X, Y}
+use Rattle.model.specs.declared.instruction.Profile.TheVariants.{N}
 use Rattle.model.specs.declared.instruction.Mnemonic.{Mnemonic}
 use Rattle.model.specs.Mnemonics.{mnemonic_named}
 use Rattle.model.specs.Token.{Lexeme}
@@ -99,7 +100,7 @@ pub data IsItem : Item → List Lexeme → Type 0 where
 -- ---- operations
 
 pub data IsOperation : Statement → List Lexeme → Type 0 where
-  by_mnemonic : (t : Lexeme) {m : Mnemonic} {operand : Operand} {ts : List Lexeme} → t.kind ≡ Word → mnemonic_named t.text ≡ Some m → IsOperand operand ts → IsOperation (instruction m operand) (t ∷ ts)
+  by_mnemonic : (t : Lexeme) {m : Mnemonic} {operand : Operand} {ts : List Lexeme} → t.kind ≡ Word → mnemonic_named N t.text ≡ Some m → IsOperand operand ts → IsOperation (instruction m operand) (t ∷ ts)
   sets_address : (star equals : Lexeme) {e : Term} {ts : List Lexeme} → IsStar star → IsEquals equals → IsExpression e ts → IsOperation (origin e) (star ∷ equals ∷ ts)
   byte_directive : (t : Lexeme) {items : List Item} {ts : List Lexeme} → IsDirective (codes ".BYTE") t → AreListed IsItem items ts → IsOperation (bytes items) (t ∷ ts)
   word_directive : (t : Lexeme) {es : List Term} {ts : List Lexeme} → IsDirective (codes ".WORD") t → AreListed IsExpression es ts → IsOperation (words es) (t ∷ ts)

@@ -1,8 +1,9 @@
 -- The text of an instruction. Source: profile; the forms are those of the MCS6500 manual, chapters 4 to 6.
 use Rattle.std.specs.Prelude.{ℕ, ◌+◌, ◌*◌, ◌%◌, ◌&&◌, nat_lt, nat_le, if◌then◌else◌, List, [], ◌∷◌, ◌++◌, codes, length, Option, Some, None, slice_index}
+use Rattle.model.specs.declared.instruction.Profile.TheVariants.{N}
 use Rattle.model.specs.declared.instruction.Mnemonic.{Mnemonic}
 use Rattle.model.specs.declared.instruction.Mode.{Mode}
-use Rattle.model.specs.declared.instruction.Mode.TheVariants.{Imp, Acc, Imm, Zp, ZpX, ZpY, Abs, AbsX, AbsY, IndX, IndY, Ind, Rel}
+use Rattle.model.specs.declared.instruction.Mode.TheVariants.{Imp, Acc, Imm, Zp, ZpX, ZpY, Abs, AbsX, AbsY, IndX, IndY, Ind, Rel, IndZ}
 use Rattle.model.specs.declared.instruction.Row.{Row}
 use Rattle.model.specs.Table.{row_at}
 use Rattle.model.specs.Mnemonics.{mnemonic_text}
@@ -40,6 +41,7 @@ operand_text m IndX address b c = codes " (" ++ byte_text b ++ codes ",X)"
 operand_text m IndY address b c = codes " (" ++ byte_text b ++ codes "),Y"
 operand_text m Ind address b c = codes " (" ++ word_text (b + 256 * c) ++ codes ")"
 operand_text m Rel address b c = codes " " ++ word_text (target_of address b)
+operand_text m IndZ address b c = codes " (" ++ byte_text b ++ codes ")"
 
 -- A row of memory as text, and its length in bytes of memory.
 pub record TextRow : Type 0 where
@@ -64,4 +66,4 @@ row_by address opcode bytes (Some row) =
 
 -- The row with which bytes begin, at an address. There is a first byte.
 unfoldable pub row_of : List ℕ → ℕ → TextRow
-row_of bytes address = row_by address (slice_index bytes 0) bytes (row_at (slice_index bytes 0))
+row_of bytes address = row_by address (slice_index bytes 0) bytes (row_at N (slice_index bytes 0))

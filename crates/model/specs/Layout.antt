@@ -4,9 +4,10 @@ use Rattle.model.specs.declared.expression.ExprFault.{ExprFault}
 use Rattle.model.specs.declared.expression.ExprFault.TheVariants as expression
 use Rattle.model.specs.declared.line.Index.{Index}
 use Rattle.model.specs.declared.line.Index.TheVariants.{Unindexed, X, Y}
+use Rattle.model.specs.declared.instruction.Profile.TheVariants.{N}
 use Rattle.model.specs.declared.instruction.Mnemonic.{Mnemonic}
 use Rattle.model.specs.declared.instruction.Mode.{Mode}
-use Rattle.model.specs.declared.instruction.Mode.TheVariants.{Imp, Acc, Imm, Zp, ZpX, ZpY, Abs, AbsX, AbsY, IndX, IndY, Ind, Rel}
+use Rattle.model.specs.declared.instruction.Mode.TheVariants.{Imp, Acc, Imm, Zp, ZpX, ZpY, Abs, AbsX, AbsY, IndX, IndY, Ind, Rel, IndZ}
 use Rattle.model.specs.declared.instruction.Row.{Row}
 use Rattle.model.specs.declared.source_fault.AsmFaultKind.{AsmFaultKind}
 use Rattle.model.specs.declared.source_fault.AsmFaultKind.TheVariants.{DuplicateName, UnknownHere, NoSuchForm, TooManyNames, OriginRange, ExprRange, DivideByZero}
@@ -40,10 +41,11 @@ length_in IndX = 2
 length_in IndY = 2
 length_in Ind = 3
 length_in Rel = 2
+length_in IndZ = 2
 
 -- These are the lengths that the opcode table gives its rows.
 abbrev pub LengthsAreTheTables : Type 0
-LengthsAreTheTables = (opcode : ℕ) (row : Row) → opcode < 256 → row_at opcode ≡ Some row → row.len ≡ length_in row.mode
+LengthsAreTheTables = (opcode : ℕ) (row : Row) → opcode < 256 → row_at N opcode ≡ Some row → row.len ≡ length_in row.mode
 
 -- The zero page mode and the absolute mode with an index.
 abbrev pub zero_page_mode : Index → Mode
@@ -67,7 +69,7 @@ pub data Form : Type 0 where
   by_size : Mode → Mode → Form
 
 unfoldable pub has_row : Mnemonic → Mode → Bool
-has_row m mode = is_some (encoded m mode)
+has_row m mode = is_some (encoded N m mode)
 
 -- One mode, if the table has it.
 abbrev pub only : Mnemonic → Mode → Option Form
@@ -177,7 +179,7 @@ in_memory (pos n) = if nat_le n 65535 then Ok n else Err OriginRange
 in_memory (negsuc n) = Err OriginRange
 
 abbrev pub in_mode : Mnemonic → ℕ → Option Term → Mode → Place
-in_mode m address e mode = standing address (code (unwrap_or (encoded m mode) 0) mode e)
+in_mode m address e mode = standing address (code (unwrap_or (encoded N m mode) 0) mode e)
 
 -- The address behind so many bytes, none of them past 65535.
 abbrev pub behind_room : ℕ → ℤ → Result ℕ AsmFaultKind

@@ -14,6 +14,7 @@ use Rattle.model.specs.declared.expression.TokenKind.{TokenKind}
 use Rattle.model.specs.declared.expression.TokenKind.TheVariants.{Word, Directive, Number, Char, Str, Symbol}
 use Rattle.model.specs.declared.line.Index.{Index}
 use Rattle.model.specs.declared.line.Index.TheVariants as index
+use Rattle.model.specs.declared.instruction.Profile.TheVariants.{N}
 use Rattle.model.specs.declared.instruction.Mnemonic.{Mnemonic}
 use Rattle.model.specs.declared.source_fault.AsmFaultKind.{AsmFaultKind}
 use Rattle.model.specs.declared.source_fault.AsmFaultKind.TheVariants.{LineTooLong, NotAscii, Syntax, ReservedName}
@@ -173,7 +174,7 @@ origin_behind (t ∷ ts) = if is_symbol (byte "=") t then option_map origin (who
 
 -- The operation that begins with a token.
 abbrev pub operation_by : TokenKind → Lexeme → List Lexeme → Option Statement
-operation_by Word t ts = option_and_then (λ m. option_map (instruction m) (operand_of ts)) (mnemonic_named t.text)
+operation_by Word t ts = option_and_then (λ m. option_map (instruction m) (operand_of ts)) (mnemonic_named N t.text)
 operation_by Directive t ts = directive_of t.text ts
 operation_by Symbol t ts = if is_symbol (byte "*") t then origin_behind ts else None
 operation_by Number t ts = None
@@ -216,7 +217,7 @@ line_of (t ∷ ts) = line_by t.kind t ts
 -- A mnemonic, A, X or Y, in either letter case.
 unfoldable pub is_reserved : List ℕ → Bool
 is_reserved text =
-    is_some (mnemonic_named text) || bytes_eq (str_to_ascii_uppercase text) (codes "A")
+    is_some (mnemonic_named N text) || bytes_eq (str_to_ascii_uppercase text) (codes "A")
     || bytes_eq (str_to_ascii_uppercase text) (codes "X") || bytes_eq (str_to_ascii_uppercase text) (codes "Y")
 
 -- Whether a reserved word stands in an expression where a name stands.

@@ -1,12 +1,14 @@
 -- The mnemonics as a source writes them.
-use Rattle.std.specs.Prelude.{ℕ, List, [], ◌∷◌, Option, Some, None, if◌then◌else◌, codes}
+use Rattle.std.specs.Prelude.{ℕ, List, [], ◌∷◌, ◌++◌, Option, Some, None, if◌then◌else◌, codes}
 use Rattle.std.specs.Str.{bytes_eq, str_to_ascii_uppercase}
+use Rattle.model.specs.declared.instruction.Profile.{Profile}
+use Rattle.model.specs.declared.instruction.Profile.TheVariants.{N, C}
 use Rattle.model.specs.declared.instruction.Mnemonic.{Mnemonic}
-use Rattle.model.specs.declared.instruction.Mnemonic.TheVariants.{Adc, And, Asl, Bcc, Bcs, Beq, Bit, Bmi, Bne, Bpl, Brk, Bvc, Bvs, Clc, Cld, Cli, Clv, Cmp, Cpx, Cpy, Dec, Dex, Dey, Eor, Inc, Inx, Iny, Jmp, Jsr, Lda, Ldx, Ldy, Lsr, Nop, Ora, Pha, Php, Pla, Plp, Rol, Ror, Rti, Rts, Sbc, Sec, Sed, Sei, Sta, Stx, Sty, Tax, Tay, Tsx, Txa, Txs, Tya}
+use Rattle.model.specs.declared.instruction.Mnemonic.TheVariants.{Adc, And, Asl, Bcc, Bcs, Beq, Bit, Bmi, Bne, Bpl, Brk, Bvc, Bvs, Clc, Cld, Cli, Clv, Cmp, Cpx, Cpy, Dec, Dex, Dey, Eor, Inc, Inx, Iny, Jmp, Jsr, Lda, Ldx, Ldy, Lsr, Nop, Ora, Pha, Php, Pla, Plp, Rol, Ror, Rti, Rts, Sbc, Sec, Sed, Sei, Sta, Stx, Sty, Tax, Tay, Tsx, Txa, Txs, Tya, Bra, Phx, Phy, Plx, Ply, Stz}
 
--- All mnemonics. Source: MCS6500 manual, appendix B.
-abbrev pub all_mnemonics : List Mnemonic
-all_mnemonics =
+-- The mnemonics of the documented instructions. Source: MCS6500 manual, appendix B.
+abbrev pub documented_mnemonics : List Mnemonic
+documented_mnemonics =
     Adc ∷ And ∷ Asl ∷ Bcc ∷ Bcs ∷ Beq ∷ Bit ∷ Bmi ∷
     Bne ∷ Bpl ∷ Brk ∷ Bvc ∷ Bvs ∷ Clc ∷ Cld ∷ Cli ∷
     Clv ∷ Cmp ∷ Cpx ∷ Cpy ∷ Dec ∷ Dex ∷ Dey ∷ Eor ∷
@@ -16,7 +18,16 @@ all_mnemonics =
     Stx ∷ Sty ∷ Tax ∷ Tay ∷ Tsx ∷ Txa ∷ Txs ∷ Tya ∷
     []
 
--- The three letters of each mnemonic, in capitals. Source: MCS6500 manual, appendix B.
+-- Those that profile C adds. Source: profile.
+abbrev pub added_mnemonics : List Mnemonic
+added_mnemonics = Bra ∷ Phx ∷ Phy ∷ Plx ∷ Ply ∷ Stz ∷ []
+
+-- The mnemonics of each profile.
+unfoldable pub mnemonics : Profile → List Mnemonic
+mnemonics N = documented_mnemonics
+mnemonics C = documented_mnemonics ++ added_mnemonics
+
+-- The three letters of each mnemonic, in capitals. Source: MCS6500 manual, appendix B; profile for the last six.
 unfoldable pub mnemonic_text : Mnemonic → List ℕ
 mnemonic_text Adc = codes "ADC"
 mnemonic_text And = codes "AND"
@@ -74,12 +85,18 @@ mnemonic_text Tsx = codes "TSX"
 mnemonic_text Txa = codes "TXA"
 mnemonic_text Txs = codes "TXS"
 mnemonic_text Tya = codes "TYA"
+mnemonic_text Bra = codes "BRA"
+mnemonic_text Phx = codes "PHX"
+mnemonic_text Phy = codes "PHY"
+mnemonic_text Plx = codes "PLX"
+mnemonic_text Ply = codes "PLY"
+mnemonic_text Stz = codes "STZ"
 
 -- The first of some mnemonics whose letters a text has, in any letter case.
 unfoldable pub named_among : List ℕ → List Mnemonic → Option Mnemonic
 named_among text [] = None
 named_among text (m ∷ ms) = if bytes_eq (mnemonic_text m) (str_to_ascii_uppercase text) then Some m else named_among text ms
 
--- The mnemonic that a text names, in any letter case, if it names one. Source: profile.
-unfoldable pub mnemonic_named : List ℕ → Option Mnemonic
-mnemonic_named text = named_among text all_mnemonics
+-- The mnemonic of a profile that a text names, in any letter case, if it names one. Source: profile.
+unfoldable pub mnemonic_named : Profile → List ℕ → Option Mnemonic
+mnemonic_named profile text = named_among text (mnemonics profile)

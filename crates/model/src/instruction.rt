@@ -1,6 +1,15 @@
 //! What the opcode table says of an instruction.
 
-/// The 56 mnemonics of the documented instructions.
+/// Which processor a machine has, and its assembler, its listings and its session with it.
+#[derive(Clone, Copy, Debug, PartialEq, Eq)]
+pub enum Profile {
+    /// The NMOS 6502: its 151 documented opcodes.
+    N,
+    /// These and 19 more, with six more mnemonics and one more mode. It is mos65's own and claims nothing of any chip.
+    C,
+}
+
+/// The 56 mnemonics of the documented instructions, and the six that profile C adds.
 #[derive(Clone, Copy, Debug, PartialEq, Eq)]
 pub enum Mnemonic {
     Adc,
@@ -59,9 +68,21 @@ pub enum Mnemonic {
     Txa,
     Txs,
     Tya,
+    /// Profile C alone: branch always.
+    Bra,
+    /// Profile C alone: push X.
+    Phx,
+    /// Profile C alone: push Y.
+    Phy,
+    /// Profile C alone: pull X.
+    Plx,
+    /// Profile C alone: pull Y.
+    Ply,
+    /// Profile C alone: store 0.
+    Stz,
 }
 
-/// The 13 addressing modes.
+/// The 13 addressing modes, and the one that profile C adds.
 #[derive(Clone, Copy, Debug, PartialEq, Eq)]
 pub enum Mode {
     /// Implied: no operand.
@@ -90,6 +111,8 @@ pub enum Mode {
     Ind,
     /// Relative, of branches alone.
     Rel,
+    /// Zero page indirect, of profile C alone: the address at a pointer in the zero page.
+    IndZ,
 }
 
 /// What the opcode table says of one opcode.

@@ -7,7 +7,7 @@ pub use bus_fault::BusFault;
 pub use command::Command;
 pub use event::{Event, EventFault, Setting};
 pub use expression::{ExprFault, LineFault, Operator, TokenKind};
-pub use instruction::{Mnemonic, Mode, Place, Row};
+pub use instruction::{Mnemonic, Mode, Place, Profile, Row};
 pub use line::Index;
 pub use operation::{BranchOp, InherentOp, LoadOp, ModifyOp, Operation, StoreOp};
 pub use registers::{Flags, Regs, Sum};

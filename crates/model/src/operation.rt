@@ -10,10 +10,18 @@ pub enum Operation {
     Branch(BranchOp),
     /// PHA.
     PushA,
+    /// PHX.
+    PushX,
+    /// PHY.
+    PushY,
     /// PHP.
     PushStatus,
     /// PLA.
     PullA,
+    /// PLX.
+    PullX,
+    /// PLY.
+    PullY,
     /// PLP.
     PullStatus,
     /// JMP.
@@ -45,12 +53,13 @@ pub enum LoadOp {
     Bit,
 }
 
-/// Stores a register.
+/// Stores a register, or 0.
 #[derive(Clone, Copy, Debug, PartialEq, Eq)]
 pub enum StoreOp {
     Sta,
     Stx,
     Sty,
+    Stz,
 }
 
 /// Reads a byte, and writes another to the same place.
@@ -87,7 +96,7 @@ pub enum InherentOp {
     Nop,
 }
 
-/// Branches where a flag is clear, or where it is set.
+/// Branches where a flag is clear, or where it is set, or always.
 #[derive(Clone, Copy, Debug, PartialEq, Eq)]
 pub enum BranchOp {
     Bpl,
@@ -98,4 +107,5 @@ pub enum BranchOp {
     Bcs,
     Bne,
     Beq,
+    Bra,
 }
