@@ -1,5 +1,6 @@
 -- Memory as text: rows of an address, the bytes of an instruction and its text. Source: profile.
 use Rattle.std.specs.Prelude.{ℕ, zero, suc, ◌+◌, nat_le, if◌then◌else◌, List, [], ◌∷◌, ◌++◌, take, drop}
+use Rattle.model.specs.declared.instruction.Profile.{Profile}
 use Rattle.model.specs.Text.{hex_word}
 use Rattle.model.specs.Instruction.{TextRow, row_of}
 use Rattle.model.specs.Listing.{padded, separated}
@@ -14,13 +15,13 @@ abbrev pub bytes_from : List ℕ → ℕ → List ℕ
 bytes_from memory address = take 3 (drop address memory)
 
 -- The row of memory at an address.
-abbrev pub row_in : List ℕ → ℕ → TextRow
-row_in memory address = row_of (bytes_from memory address) address
+abbrev pub row_in : Profile → List ℕ → ℕ → TextRow
+row_in profile memory address = row_of profile (bytes_from memory address) address
 
 -- Rows from an address on, each behind the one before it: at most so many, and none that begins past a last address.
-unfoldable pub rows_in : List ℕ → ℕ → ℕ → ℕ → List ℕ
-rows_in memory last address zero = []
-rows_in memory last address (suc n) =
+unfoldable pub rows_in : Profile → List ℕ → ℕ → ℕ → ℕ → List ℕ
+rows_in profile memory last address zero = []
+rows_in profile memory last address (suc n) =
     if nat_le address last
-    then row_line address (bytes_from memory address) (row_in memory address) ++ rows_in memory last (address + (row_in memory address).len) n
+    then row_line address (bytes_from memory address) (row_in profile memory address) ++ rows_in profile memory last (address + (row_in profile memory address).len) n
     else []

@@ -12,7 +12,7 @@ use Rattle.std.specs.Str.{byte, bytes_eq, str_to_ascii_uppercase}
 use Rattle.model.specs.declared.expression.TokenKind.TheVariants.{Word, Directive}
 use Rattle.model.specs.declared.line.Index.{Index}
 use Rattle.model.specs.declared.line.Index.TheVariants.{Unindexed, X, Y}
-use Rattle.model.specs.declared.instruction.Profile.TheVariants.{N}
+use Rattle.model.specs.declared.instruction.Profile.{Profile}
 use Rattle.model.specs.declared.instruction.Mnemonic.{Mnemonic}
 use Rattle.model.specs.Mnemonics.{mnemonic_named}
 use Rattle.model.specs.Token.{Lexeme}
@@ -99,34 +99,34 @@ pub data IsItem : Item → List Lexeme → Type 0 where
 
 -- ---- operations
 
-pub data IsOperation : Statement → List Lexeme → Type 0 where
-  by_mnemonic : (t : Lexeme) {m : Mnemonic} {operand : Operand} {ts : List Lexeme} → t.kind ≡ Word → mnemonic_named N t.text ≡ Some m → IsOperand operand ts → IsOperation (instruction m operand) (t ∷ ts)
-  sets_address : (star equals : Lexeme) {e : Term} {ts : List Lexeme} → IsStar star → IsEquals equals → IsExpression e ts → IsOperation (origin e) (star ∷ equals ∷ ts)
-  byte_directive : (t : Lexeme) {items : List Item} {ts : List Lexeme} → IsDirective (codes ".BYTE") t → AreListed IsItem items ts → IsOperation (bytes items) (t ∷ ts)
-  word_directive : (t : Lexeme) {es : List Term} {ts : List Lexeme} → IsDirective (codes ".WORD") t → AreListed IsExpression es ts → IsOperation (words es) (t ∷ ts)
-  dbyte_directive : (t : Lexeme) {es : List Term} {ts : List Lexeme} → IsDirective (codes ".DBYTE") t → AreListed IsExpression es ts → IsOperation (words_high_first es) (t ∷ ts)
-  res_directive : (t : Lexeme) {e : Term} {ts : List Lexeme} → IsDirective (codes ".RES") t → IsExpression e ts → IsOperation (reserve e) (t ∷ ts)
-  end_directive : (t : Lexeme) → IsDirective (codes ".END") t → IsOperation finish (t ∷ [])
+pub data IsOperation (profile : Profile) : Statement → List Lexeme → Type 0 where
+  by_mnemonic : (t : Lexeme) {m : Mnemonic} {operand : Operand} {ts : List Lexeme} → t.kind ≡ Word → mnemonic_named profile t.text ≡ Some m → IsOperand operand ts → IsOperation profile (instruction m operand) (t ∷ ts)
+  sets_address : (star equals : Lexeme) {e : Term} {ts : List Lexeme} → IsStar star → IsEquals equals → IsExpression e ts → IsOperation profile (origin e) (star ∷ equals ∷ ts)
+  byte_directive : (t : Lexeme) {items : List Item} {ts : List Lexeme} → IsDirective (codes ".BYTE") t → AreListed IsItem items ts → IsOperation profile (bytes items) (t ∷ ts)
+  word_directive : (t : Lexeme) {es : List Term} {ts : List Lexeme} → IsDirective (codes ".WORD") t → AreListed IsExpression es ts → IsOperation profile (words es) (t ∷ ts)
+  dbyte_directive : (t : Lexeme) {es : List Term} {ts : List Lexeme} → IsDirective (codes ".DBYTE") t → AreListed IsExpression es ts → IsOperation profile (words_high_first es) (t ∷ ts)
+  res_directive : (t : Lexeme) {e : Term} {ts : List Lexeme} → IsDirective (codes ".RES") t → IsExpression e ts → IsOperation profile (reserve e) (t ∷ ts)
+  end_directive : (t : Lexeme) → IsDirective (codes ".END") t → IsOperation profile finish (t ∷ [])
 
 -- An operation, or none.
-pub data IsRest : Statement → List Lexeme → Type 0 where
-  nothing_more : IsRest nothing []
-  operation : {s : Statement} {ts : List Lexeme} → IsOperation s ts → IsRest s ts
+pub data IsRest (profile : Profile) : Statement → List Lexeme → Type 0 where
+  nothing_more : IsRest profile nothing []
+  operation : {s : Statement} {ts : List Lexeme} → IsOperation profile s ts → IsRest profile s ts
 
 -- ---- lines
 
 -- These tokens are a line, and say this.
-pub data IsLine : Line → List Lexeme → Type 0 where
-  no_label : {s : Statement} {ts : List Lexeme} → IsRest s ts → IsLine (labelled None s) ts
-  label : (w colon : Lexeme) {s : Statement} {ts : List Lexeme} → w.kind ≡ Word → IsColon colon → IsRest s ts → IsLine (labelled (Some w.text) s) (w ∷ colon ∷ ts)
-  defines : (w equals : Lexeme) {e : Term} {ts : List Lexeme} → w.kind ≡ Word → IsEquals equals → IsExpression e ts → IsLine (definition w.text e) (w ∷ equals ∷ ts)
+pub data IsLine (profile : Profile) : Line → List Lexeme → Type 0 where
+  no_label : {s : Statement} {ts : List Lexeme} → IsRest profile s ts → IsLine profile (labelled None s) ts
+  label : (w colon : Lexeme) {s : Statement} {ts : List Lexeme} → w.kind ≡ Word → IsColon colon → IsRest profile s ts → IsLine profile (labelled (Some w.text) s) (w ∷ colon ∷ ts)
+  defines : (w equals : Lexeme) {e : Term} {ts : List Lexeme} → w.kind ≡ Word → IsEquals equals → IsExpression e ts → IsLine profile (definition w.text e) (w ∷ equals ∷ ts)
 
 -- ---- that lines are read so
 
 -- Each line of the grammar is read so, and so it says one thing only.
 abbrev pub EachLineIsRead : Type 0
-EachLineIsRead = (l : Line) (ts : List Lexeme) → IsLine l ts → line_of ts ≡ Some l
+EachLineIsRead = (profile : Profile) (l : Line) (ts : List Lexeme) → IsLine profile l ts → line_of profile ts ≡ Some l
 
 -- And what is read is a line of the grammar.
 abbrev pub EachReadLineIsALine : Type 0
-EachReadLineIsALine = (l : Line) (ts : List Lexeme) → line_of ts ≡ Some l → IsLine l ts
+EachReadLineIsALine = (profile : Profile) (l : Line) (ts : List Lexeme) → line_of profile ts ≡ Some l → IsLine profile l ts

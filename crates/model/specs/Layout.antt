@@ -4,7 +4,7 @@ use Rattle.model.specs.declared.expression.ExprFault.{ExprFault}
 use Rattle.model.specs.declared.expression.ExprFault.TheVariants as expression
 use Rattle.model.specs.declared.line.Index.{Index}
 use Rattle.model.specs.declared.line.Index.TheVariants.{Unindexed, X, Y}
-use Rattle.model.specs.declared.instruction.Profile.TheVariants.{N}
+use Rattle.model.specs.declared.instruction.Profile.{Profile}
 use Rattle.model.specs.declared.instruction.Mnemonic.{Mnemonic}
 use Rattle.model.specs.declared.instruction.Mode.{Mode}
 use Rattle.model.specs.declared.instruction.Mode.TheVariants.{Imp, Acc, Imm, Zp, ZpX, ZpY, Abs, AbsX, AbsY, IndX, IndY, Ind, Rel, IndZ}
@@ -45,7 +45,7 @@ length_in IndZ = 2
 
 -- These are the lengths that the opcode table gives its rows.
 abbrev pub LengthsAreTheTables : Type 0
-LengthsAreTheTables = (opcode : ℕ) (row : Row) → opcode < 256 → row_at N opcode ≡ Some row → row.len ≡ length_in row.mode
+LengthsAreTheTables = (profile : Profile) (opcode : ℕ) (row : Row) → opcode < 256 → row_at profile opcode ≡ Some row → row.len ≡ length_in row.mode
 
 -- The zero page mode and the absolute mode with an index.
 abbrev pub zero_page_mode : Index → Mode
@@ -68,31 +68,31 @@ pub data Form : Type 0 where
   one : Mode → Form
   by_size : Mode → Mode → Form
 
-unfoldable pub has_row : Mnemonic → Mode → Bool
-has_row m mode = is_some (encoded N m mode)
+unfoldable pub has_row : Profile → Mnemonic → Mode → Bool
+has_row profile m mode = is_some (encoded profile m mode)
 
 -- One mode, if the table has it.
-abbrev pub only : Mnemonic → Mode → Option Form
-only m mode = if has_row m mode then Some (one mode) else None
+abbrev pub only : Profile → Mnemonic → Mode → Option Form
+only profile m mode = if has_row profile m mode then Some (one mode) else None
 
 -- Of two modes those that the table has.
-abbrev pub either : Mnemonic → Mode → Mode → Option Form
-either m short long =
-    if has_row m short then (if has_row m long then Some (by_size short long) else Some (one short))
-    else only m long
+abbrev pub either : Profile → Mnemonic → Mode → Mode → Option Form
+either profile m short long =
+    if has_row profile m short then (if has_row profile m long then Some (by_size short long) else Some (one short))
+    else only profile m long
 
--- The form for an operand, if the mnemonic has one. An unindexed operand of a branch is its target; `!` takes the absolute mode.
-unfoldable pub form_of : Mnemonic → Operand → Option Form
-form_of m absent = only m Imp
-form_of m accumulator = only m Acc
-form_of m (immediate e) = only m Imm
-form_of m (direct true e by) = only m (absolute_mode by)
-form_of m (direct false e by) =
-    if is_unindexed by && has_row m Rel then Some (one Rel)
-    else either m (zero_page_mode by) (absolute_mode by)
-form_of m (pointer e) = only m Ind
-form_of m (pointer_by_x e) = only m IndX
-form_of m (pointer_by_y e) = only m IndY
+-- The form for an operand, if the mnemonic has one in a profile. An unindexed operand of a branch is its target; `!` takes the absolute mode.
+unfoldable pub form_of : Profile → Mnemonic → Operand → Option Form
+form_of profile m absent = only profile m Imp
+form_of profile m accumulator = only profile m Acc
+form_of profile m (immediate e) = only profile m Imm
+form_of profile m (direct true e by) = only profile m (absolute_mode by)
+form_of profile m (direct false e by) =
+    if is_unindexed by && has_row profile m Rel then Some (one Rel)
+    else either profile m (zero_page_mode by) (absolute_mode by)
+form_of profile m (pointer e) = if has_row profile m Ind then Some (one Ind) else only profile m IndZ
+form_of profile m (pointer_by_x e) = only profile m IndX
+form_of profile m (pointer_by_y e) = only profile m IndY
 
 abbrev pub term_of : Operand → Option Term
 term_of absent = None
@@ -178,8 +178,8 @@ abbrev pub in_memory : ℤ → Result ℕ AsmFaultKind
 in_memory (pos n) = if nat_le n 65535 then Ok n else Err OriginRange
 in_memory (negsuc n) = Err OriginRange
 
-abbrev pub in_mode : Mnemonic → ℕ → Option Term → Mode → Place
-in_mode m address e mode = standing address (code (unwrap_or (encoded N m mode) 0) mode e)
+abbrev pub in_mode : Profile → Mnemonic → ℕ → Option Term → Mode → Place
+in_mode profile m address e mode = standing address (code (unwrap_or (encoded profile m mode) 0) mode e)
 
 -- The address behind so many bytes, none of them past 65535.
 abbrev pub behind_room : ℕ → ℤ → Result ℕ AsmFaultKind
@@ -188,15 +188,15 @@ behind_room address (negsuc n) = Err OriginRange
 
 -- A statement at an address, under the numbers of the names that are known there, and the next line's address; or its layout fault.
 -- The next line's address is the line's and its size, behind `*= e` the value of e.
-unfoldable pub laid : Numbers → ℕ → Statement → Result Place AsmFaultKind
-laid numbers address nothing = Ok (standing address no_bytes)
-laid numbers address (origin e) = placing (eval_of numbers (pos address) e) >>> λ v. in_memory v >>> λ n. Ok (going_on address n)
-laid numbers address (bytes items) = Ok (standing address (byte_list items))
-laid numbers address (words es) = Ok (standing address (word_list es))
-laid numbers address (words_high_first es) = Ok (standing address (word_list_high_first es))
-laid numbers address (reserve e) = placing (eval_of numbers (pos address) e) >>> λ v. behind_room address v >>> λ n. Ok (going_on address n)
-laid numbers address finish = Ok (standing address no_bytes)
-laid numbers address (instruction m operand) = mode_by numbers address (term_of operand) (form_of m operand) >>> λ mode. Ok (in_mode m address (term_of operand) mode)
+unfoldable pub laid : Profile → Numbers → ℕ → Statement → Result Place AsmFaultKind
+laid profile numbers address nothing = Ok (standing address no_bytes)
+laid profile numbers address (origin e) = placing (eval_of numbers (pos address) e) >>> λ v. in_memory v >>> λ n. Ok (going_on address n)
+laid profile numbers address (bytes items) = Ok (standing address (byte_list items))
+laid profile numbers address (words es) = Ok (standing address (word_list es))
+laid profile numbers address (words_high_first es) = Ok (standing address (word_list_high_first es))
+laid profile numbers address (reserve e) = placing (eval_of numbers (pos address) e) >>> λ v. behind_room address v >>> λ n. Ok (going_on address n)
+laid profile numbers address finish = Ok (standing address no_bytes)
+laid profile numbers address (instruction m operand) = mode_by numbers address (term_of operand) (form_of profile m operand) >>> λ mode. Ok (in_mode profile m address (term_of operand) mode)
 
 -- ---- the line
 
@@ -204,8 +204,9 @@ laid numbers address (instruction m operand) = mode_by numbers address (term_of 
 abbrev pub most_names : ℕ
 most_names = 8192
 
--- What the lines before a line fix: its address, and the names that they define, with their numbers.
+-- What is fixed before a line: the profile, by the lines before it its address, and the names that they define, with their numbers.
 pub record Fixed : Type 0 where
+  pub profile : Profile
   pub address : ℕ
   pub names : Definitions
 
@@ -223,16 +224,16 @@ label_at address (Some name) = (name, pos address) ∷ []
 abbrev pub Standing : Type 0
 Standing = Placed × Fixed
 
-abbrev pub fixing : Definitions → Place → Standing
-fixing names place = (place.0, record { address = place.1; names = names })
+abbrev pub fixing : Profile → Definitions → Place → Standing
+fixing profile names place = (place.0, record { profile = profile; address = place.1; names = names })
 
 -- A line behind lines that fix so much: its own equation. A name is known where an earlier line defines it or it is the line's label.
 abbrev pub line_at : Fixed → Line → Result Standing AsmFaultKind
 line_at before (labelled label s) =
     let names = before.names ++ label_at before.address label in
-    laid (number_in names) before.address s >>> λ place. Ok (fixing names place)
+    laid before.profile (number_in names) before.address s >>> λ place. Ok (fixing before.profile names place)
 line_at before (definition name e) =
-    placing (eval_of (number_in before.names) (pos before.address) e) >>> λ v. Ok (fixing (before.names ++ (name, v) ∷ []) (going_on before.address before.address))
+    placing (eval_of (number_in before.names) (pos before.address) e) >>> λ v. Ok (fixing before.profile (before.names ++ (name, v) ∷ []) (going_on before.address before.address))
 
 -- Whether a name is defined.
 abbrev pub is_defined : Definitions → Option (List ℕ) → Bool
@@ -268,7 +269,7 @@ line_fixed before l =
 
 -- A line's bytes read and laid out.
 unfoldable pub layout_of : Fixed → List ℕ → Result Standing AsmFaultKind
-layout_of before line = read_line line >>> λ l. line_fixed before l
+layout_of before line = read_line before.profile line >>> λ l. line_fixed before l
 
 -- Behind lines that fix so much these lines stand so, and then so much is fixed: each one meets its own equation.
 abbrev pub LaidOut : Fixed → List (List ℕ) → List Placed → Fixed → Type 0

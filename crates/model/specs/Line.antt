@@ -14,7 +14,7 @@ use Rattle.model.specs.declared.expression.TokenKind.{TokenKind}
 use Rattle.model.specs.declared.expression.TokenKind.TheVariants.{Word, Directive, Number, Char, Str, Symbol}
 use Rattle.model.specs.declared.line.Index.{Index}
 use Rattle.model.specs.declared.line.Index.TheVariants as index
-use Rattle.model.specs.declared.instruction.Profile.TheVariants.{N}
+use Rattle.model.specs.declared.instruction.Profile.{Profile}
 use Rattle.model.specs.declared.instruction.Mnemonic.{Mnemonic}
 use Rattle.model.specs.declared.source_fault.AsmFaultKind.{AsmFaultKind}
 use Rattle.model.specs.declared.source_fault.AsmFaultKind.TheVariants.{LineTooLong, NotAscii, Syntax, ReservedName}
@@ -173,101 +173,101 @@ origin_behind [] = None
 origin_behind (t ∷ ts) = if is_symbol (byte "=") t then option_map origin (whole_expression ts) else None
 
 -- The operation that begins with a token.
-abbrev pub operation_by : TokenKind → Lexeme → List Lexeme → Option Statement
-operation_by Word t ts = option_and_then (λ m. option_map (instruction m) (operand_of ts)) (mnemonic_named N t.text)
-operation_by Directive t ts = directive_of t.text ts
-operation_by Symbol t ts = if is_symbol (byte "*") t then origin_behind ts else None
-operation_by Number t ts = None
-operation_by Char t ts = None
-operation_by Str t ts = None
+abbrev pub operation_by : Profile → TokenKind → Lexeme → List Lexeme → Option Statement
+operation_by profile Word t ts = option_and_then (λ m. option_map (instruction m) (operand_of ts)) (mnemonic_named profile t.text)
+operation_by profile Directive t ts = directive_of t.text ts
+operation_by profile Symbol t ts = if is_symbol (byte "*") t then origin_behind ts else None
+operation_by profile Number t ts = None
+operation_by profile Char t ts = None
+operation_by profile Str t ts = None
 
 -- What the tokens of an operation say.
-unfoldable pub statement_of : List Lexeme → Option Statement
-statement_of [] = Some nothing
-statement_of (t ∷ ts) = operation_by t.kind t ts
+unfoldable pub statement_of : Profile → List Lexeme → Option Statement
+statement_of profile [] = Some nothing
+statement_of profile (t ∷ ts) = operation_by profile t.kind t ts
 
 -- ---- lines
 
-abbrev pub unlabelled : List Lexeme → Option Line
-unlabelled ts = option_map (labelled None) (statement_of ts)
+abbrev pub unlabelled : Profile → List Lexeme → Option Line
+unlabelled profile ts = option_map (labelled None) (statement_of profile ts)
 
 -- A line that begins with a word: a label, a definition, or neither.
-abbrev pub word_line : Lexeme → List Lexeme → Option Line
-word_line w [] = unlabelled (w ∷ [])
-word_line w (s ∷ ts) =
-    if is_symbol (byte ":") s then option_map (labelled (Some w.text)) (statement_of ts)
+abbrev pub word_line : Profile → Lexeme → List Lexeme → Option Line
+word_line profile w [] = unlabelled profile (w ∷ [])
+word_line profile w (s ∷ ts) =
+    if is_symbol (byte ":") s then option_map (labelled (Some w.text)) (statement_of profile ts)
     else if is_symbol (byte "=") s then option_map (definition w.text) (whole_expression ts)
-    else unlabelled (w ∷ s ∷ ts)
+    else unlabelled profile (w ∷ s ∷ ts)
 
-abbrev pub line_by : TokenKind → Lexeme → List Lexeme → Option Line
-line_by Word t ts = word_line t ts
-line_by Directive t ts = unlabelled (t ∷ ts)
-line_by Number t ts = unlabelled (t ∷ ts)
-line_by Char t ts = unlabelled (t ∷ ts)
-line_by Str t ts = unlabelled (t ∷ ts)
-line_by Symbol t ts = unlabelled (t ∷ ts)
+abbrev pub line_by : Profile → TokenKind → Lexeme → List Lexeme → Option Line
+line_by profile Word t ts = word_line profile t ts
+line_by profile Directive t ts = unlabelled profile (t ∷ ts)
+line_by profile Number t ts = unlabelled profile (t ∷ ts)
+line_by profile Char t ts = unlabelled profile (t ∷ ts)
+line_by profile Str t ts = unlabelled profile (t ∷ ts)
+line_by profile Symbol t ts = unlabelled profile (t ∷ ts)
 
 -- What the tokens of a line say.
-unfoldable pub line_of : List Lexeme → Option Line
-line_of [] = Some (labelled None nothing)
-line_of (t ∷ ts) = line_by t.kind t ts
+unfoldable pub line_of : Profile → List Lexeme → Option Line
+line_of profile [] = Some (labelled None nothing)
+line_of profile (t ∷ ts) = line_by profile t.kind t ts
 
 -- ---- reserved words
 
 -- A mnemonic, A, X or Y, in either letter case.
-unfoldable pub is_reserved : List ℕ → Bool
-is_reserved text =
-    is_some (mnemonic_named N text) || bytes_eq (str_to_ascii_uppercase text) (codes "A")
+unfoldable pub is_reserved : Profile → List ℕ → Bool
+is_reserved profile text =
+    is_some (mnemonic_named profile text) || bytes_eq (str_to_ascii_uppercase text) (codes "A")
     || bytes_eq (str_to_ascii_uppercase text) (codes "X") || bytes_eq (str_to_ascii_uppercase text) (codes "Y")
 
 -- Whether a reserved word stands in an expression where a name stands.
-abbrev pub term_reserves : Term → Bool
-term_reserves (literal v) = false
-term_reserves (name text) = is_reserved text
-term_reserves here = false
-term_reserves (negated e) = term_reserves e
-term_reserves (binary op a b) = term_reserves a || term_reserves b
-term_reserves (low e) = term_reserves e
-term_reserves (high e) = term_reserves e
+abbrev pub term_reserves : Profile → Term → Bool
+term_reserves profile (literal v) = false
+term_reserves profile (name text) = is_reserved profile text
+term_reserves profile here = false
+term_reserves profile (negated e) = term_reserves profile e
+term_reserves profile (binary op a b) = term_reserves profile a || term_reserves profile b
+term_reserves profile (low e) = term_reserves profile e
+term_reserves profile (high e) = term_reserves profile e
 
-abbrev pub operand_reserves : Operand → Bool
-operand_reserves absent = false
-operand_reserves accumulator = false
-operand_reserves (immediate e) = term_reserves e
-operand_reserves (direct marked e by) = term_reserves e
-operand_reserves (pointer e) = term_reserves e
-operand_reserves (pointer_by_x e) = term_reserves e
-operand_reserves (pointer_by_y e) = term_reserves e
+abbrev pub operand_reserves : Profile → Operand → Bool
+operand_reserves profile absent = false
+operand_reserves profile accumulator = false
+operand_reserves profile (immediate e) = term_reserves profile e
+operand_reserves profile (direct marked e by) = term_reserves profile e
+operand_reserves profile (pointer e) = term_reserves profile e
+operand_reserves profile (pointer_by_x e) = term_reserves profile e
+operand_reserves profile (pointer_by_y e) = term_reserves profile e
 
-abbrev pub item_reserves : Item → Bool
-item_reserves (value e) = term_reserves e
-item_reserves (string text) = false
+abbrev pub item_reserves : Profile → Item → Bool
+item_reserves profile (value e) = term_reserves profile e
+item_reserves profile (string text) = false
 
-abbrev pub reserves : Statement → Bool
-reserves nothing = false
-reserves (origin e) = term_reserves e
-reserves (bytes items) = list_any item_reserves items
-reserves (words es) = list_any term_reserves es
-reserves (words_high_first es) = list_any term_reserves es
-reserves (reserve e) = term_reserves e
-reserves finish = false
-reserves (instruction m operand) = operand_reserves operand
+abbrev pub reserves : Profile → Statement → Bool
+reserves profile nothing = false
+reserves profile (origin e) = term_reserves profile e
+reserves profile (bytes items) = list_any (item_reserves profile) items
+reserves profile (words es) = list_any (term_reserves profile) es
+reserves profile (words_high_first es) = list_any (term_reserves profile) es
+reserves profile (reserve e) = term_reserves profile e
+reserves profile finish = false
+reserves profile (instruction m operand) = operand_reserves profile operand
 
 -- Whether a reserved word stands where a name stands.
-abbrev pub line_reserves : Line → Bool
-line_reserves (labelled None s) = reserves s
-line_reserves (labelled (Some text) s) = is_reserved text || reserves s
-line_reserves (definition text e) = is_reserved text || term_reserves e
+abbrev pub line_reserves : Profile → Line → Bool
+line_reserves profile (labelled None s) = reserves profile s
+line_reserves profile (labelled (Some text) s) = is_reserved profile text || reserves profile s
+line_reserves profile (definition text e) = is_reserved profile text || term_reserves profile e
 
 -- ---- the line
 
-abbrev pub unreserved : Option Line → Result Line AsmFaultKind
-unreserved None = Err Syntax
-unreserved (Some l) = if line_reserves l then Err ReservedName else Ok l
+abbrev pub unreserved : Profile → Option Line → Result Line AsmFaultKind
+unreserved profile None = Err Syntax
+unreserved profile (Some l) = if line_reserves profile l then Err ReservedName else Ok l
 
 -- What a line says, or the fault of its text: too many bytes come before a wrong byte, that before a wrong form, that before a reserved word.
-unfoldable pub read_line : List ℕ → Result Line AsmFaultKind
-read_line line =
+unfoldable pub read_line : Profile → List ℕ → Result Line AsmFaultKind
+read_line profile line =
     if nat_lt 255 (length line) then Err LineTooLong
     else if not (list_all is_source_byte line) then Err NotAscii
-    else unreserved (option_and_then line_of (tokens_of line))
+    else unreserved profile (option_and_then (line_of profile) (tokens_of line))

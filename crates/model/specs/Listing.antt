@@ -80,7 +80,7 @@ pub record IsListing (bus_map : Map) (source text : List ℕ) : Type 0 where
   pub size : length source ≤ most_bytes
   pub placed : List Placed
   pub all : Fixed
-  pub laid : LaidOut nothing_fixed (read_lines source) placed all
+  pub laid : LaidOut (nothing_fixed bus_map.profile) (read_lines bus_map.profile source) placed all
   pub image : List (Option ℕ)
   pub made : Makes bus_map (number_in all.names) empty_image placed image
-  pub rows : text ≡ listing_text (read_lines source) (map (shown_in image) (extents_of placed)) all.names
+  pub rows : text ≡ listing_text (read_lines bus_map.profile source) (map (shown_in image) (extents_of placed)) all.names

@@ -1,5 +1,6 @@
 -- What one line denotes at an address, in a source without names. Source: profile.
 use Rattle.std.specs.Prelude.{ℕ, ◌+◌, nat_le, Bool, true, false, ◌&&◌, not, if◌then◌else◌, List, [], ◌∷◌, ◌++◌, Some, None, Result, Ok, Err}
+use Rattle.model.specs.declared.instruction.Profile.{Profile}
 use Rattle.model.specs.declared.source_fault.AsmFaultKind.{AsmFaultKind}
 use Rattle.model.specs.declared.source_fault.AsmFaultKind.TheVariants.{NotOneLine, PastEnd}
 use Rattle.model.specs.Layout.{◌>>>◌, Fixed, Placed, size_of, unless, line_fixed}
@@ -29,8 +30,8 @@ is_one_line (definition name e) = false
 abbrev pub no_numbers : Numbers
 no_numbers = number_in []
 
-abbrev pub begun_at : ℕ → Fixed
-begun_at address = record { address = address; names = [] }
+abbrev pub begun_at : Profile → ℕ → Fixed
+begun_at profile address = record { profile = profile; address = address; names = [] }
 
 -- The bytes of a line in its place, at most 3; or its value fault, no port and no other line standing in the way.
 abbrev pub bytes_alone : Placed → Result (List ℕ) AsmFaultKind
@@ -43,6 +44,6 @@ abbrev pub is_short : Line → Placed → Bool
 is_short l p = is_one_line l && nat_le (size_of p.content) 3
 
 -- The bytes that a text denotes at an address, or its fault: a layout fault before NotOneLine, that before a value fault.
-unfoldable pub one_line : ℕ → List ℕ → Result (List ℕ) AsmFaultKind
-one_line address text =
-    read_line text >>> λ l. line_fixed (begun_at address) l >>> λ q. if is_short l q.0 then bytes_alone q.0 else Err NotOneLine
+unfoldable pub one_line : Profile → ℕ → List ℕ → Result (List ℕ) AsmFaultKind
+one_line profile address text =
+    read_line profile text >>> λ l. line_fixed (begun_at profile address) l >>> λ q. if is_short l q.0 then bytes_alone q.0 else Err NotOneLine

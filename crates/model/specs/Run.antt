@@ -1,5 +1,5 @@
 -- A run of steps: how it ends, and where it leads. Source: profile.
-use Rattle.std.specs.Prelude.{ℕ, ◌≡◌, ◌+◌, ◌-◌, zero, suc, Bool, not, ◌==◌, nat_eq, nat_le, if◌then◌else◌, min, List, [], ◌∷◌, filter, slice_index, Option, Some, None, unwrap_or, Result, Ok, Err}
+use Rattle.std.specs.Prelude.{ℕ, ◌≡◌, ◌-◌, zero, suc, not, ◌==◌, nat_eq, nat_le, if◌then◌else◌, min, List, [], ◌∷◌, filter, slice_index, Option, Some, None, unwrap_or, Result, Ok, Err}
 use Rattle.std.specs.List.{list_any}
 use Rattle.std.specs.Option.{option_map, option_map_or, option_or}
 use Rattle.model.specs.State.{State}

@@ -3,6 +3,7 @@ use Rattle.std.specs.Prelude.{◌≡◌, ℕ, ℤ, pos, ⊤, ◌+◌, ◌<◌, �
 use Rattle.model.specs.State.{Map}
 use Rattle.model.specs.Lines.{lines_of}
 use Rattle.model.specs.Image.{empty_image}
+use Rattle.model.specs.declared.instruction.Profile.{Profile}
 use Rattle.model.specs.declared.source_fault.AsmFault.{AsmFault}
 use Rattle.model.specs.declared.source_fault.AsmFaultKind.{AsmFaultKind}
 use Rattle.model.specs.declared.source_fault.AsmFaultKind.TheVariants.{TooLarge}
@@ -35,19 +36,19 @@ is_end (Ok (definition name e)) = false
 is_end (Err kind) = false
 
 -- Of some lines those that are read: up to that of `.END`, and with it.
-abbrev pub up_to_end : List (List ℕ) → List (List ℕ)
-up_to_end [] = []
-up_to_end (line ∷ lines) = line ∷ (if is_end (read_line line) then [] else up_to_end lines)
+abbrev pub up_to_end : Profile → List (List ℕ) → List (List ℕ)
+up_to_end profile [] = []
+up_to_end profile (line ∷ lines) = line ∷ (if is_end (read_line profile line) then [] else up_to_end profile lines)
 
 -- The lines of a source that are read.
-unfoldable pub read_lines : List ℕ → List (List ℕ)
-read_lines source = up_to_end (lines_of source)
+unfoldable pub read_lines : Profile → List ℕ → List (List ℕ)
+read_lines profile source = up_to_end profile (lines_of source)
 
 -- ---- the denotation
 
 -- Before the first line: its address is 0, and no name is defined.
-abbrev pub nothing_fixed : Fixed
-nothing_fixed = record { address = 0; names = [] }
+abbrev pub nothing_fixed : Profile → Fixed
+nothing_fixed profile = record { profile = profile; address = 0; names = [] }
 
 -- A source denotes an image under a map: some assignment of an address to each line and of a number to each name meets each line's
 -- own equation, each line has its bytes, at free addresses that are in memory and not the port's, and the image is these bytes.
@@ -55,7 +56,7 @@ pub record Denotes (bus_map : Map) (source : List ℕ) (image : List (Option ℕ
   pub size : length source ≤ most_bytes
   pub placed : List Placed
   pub all : Fixed
-  pub laid : LaidOut nothing_fixed (read_lines source) placed all
+  pub laid : LaidOut (nothing_fixed bus_map.profile) (read_lines bus_map.profile source) placed all
   pub made : Makes bus_map (number_in all.names) empty_image placed image
 
 -- ---- faults
@@ -67,15 +68,15 @@ pub record IsTooLarge (source : List ℕ) (fault : AsmFault) : Type 0 where
   pub kind : fault.kind ≡ TooLarge
 
 -- The first line that has a layout fault behind what the lines before it fix. Lines are counted from 1.
-pub record HasLayoutFault (source : List ℕ) (fault : AsmFault) : Type 0 where
+pub record HasLayoutFault (profile : Profile) (source : List ℕ) (fault : AsmFault) : Type 0 where
   pub size : length source ≤ most_bytes
   pub front : List (List ℕ)
   pub line : List ℕ
   pub back : List (List ℕ)
-  pub cut : read_lines source ≡ front ++ line ∷ back
+  pub cut : read_lines profile source ≡ front ++ line ∷ back
   pub placed : List Placed
   pub before : Fixed
-  pub laid : LaidOut nothing_fixed front placed before
+  pub laid : LaidOut (nothing_fixed profile) front placed before
   pub number : fault.line ≡ length front + 1
   pub kind : layout_of before line ≡ Err fault.kind
 
@@ -84,7 +85,7 @@ pub record HasValueFault (bus_map : Map) (source : List ℕ) (fault : AsmFault) 
   pub size : length source ≤ most_bytes
   pub placed : List Placed
   pub all : Fixed
-  pub laid : LaidOut nothing_fixed (read_lines source) placed all
+  pub laid : LaidOut (nothing_fixed bus_map.profile) (read_lines bus_map.profile source) placed all
   pub front : List Placed
   pub line : Placed
   pub back : List Placed
@@ -96,7 +97,7 @@ pub record HasValueFault (bus_map : Map) (source : List ℕ) (fault : AsmFault) 
 
 -- The fault of a source: its size comes first, then the layout of all lines, then their values.
 abbrev pub HasFault : Map → List ℕ → AsmFault → Type 0
-HasFault bus_map source fault = IsTooLarge source fault ⊎ (HasLayoutFault source fault ⊎ HasValueFault bus_map source fault)
+HasFault bus_map source fault = IsTooLarge source fault ⊎ (HasLayoutFault bus_map.profile source fault ⊎ HasValueFault bus_map source fault)
 
 -- ---- that this is one meaning of each source
 
@@ -133,7 +134,7 @@ abbrev pub NamesHold : Numbers → Fixed → List (List ℕ) → List Placed →
 NamesHold numbers before [] placed = ⊤
 NamesHold numbers before (line ∷ lines) [] = ⊤
 NamesHold numbers before (line ∷ lines) (p ∷ ps) =
-    (next : Fixed) × (l : Line) × (layout_of before line ≡ Ok (p, next)) × (read_line line ≡ Ok l) × NameHolds numbers before l × NamesHold numbers next lines ps
+    (next : Fixed) × (l : Line) × (layout_of before line ≡ Ok (p, next)) × (read_line before.profile line ≡ Ok l) × NameHolds numbers before l × NamesHold numbers next lines ps
 
 -- Under the numbers of all names each name that a line defines has the number that the line gives it.
 abbrev pub NamesHaveTheirNumbers : Type 0

@@ -124,8 +124,8 @@ answer_to (Unbreak address) s = table_answer s (break_cleared address s)
 answer_to (Watch address) s = table_answer s (watch_set address s)
 answer_to (Unwatch address) s = table_answer s (watch_cleared address s)
 answer_to Breaks s = answer (breaks_line s.breaks) s
-answer_to (Dis address count) s = answer (rows_in s.current.bus.memory 65535 address count) s
-answer_to (Asm address text count) s = asm_answer s address (one_line address (take count text))
+answer_to (Dis address count) s = answer (rows_in s.current.bus.map.profile s.current.bus.memory 65535 address count) s
+answer_to (Asm address text count) s = asm_answer s address (one_line s.current.bus.map.profile address (take count text))
 answer_to Quit s = record { written = []; session = s; quit = true }
 answer_to Nothing s = answer [] s
 answer_to Bad s = answer (codes "? BAD COMMAND\n") s
