@@ -8,6 +8,7 @@ use Rattle.std.proofs.lemmas.Bool.{ltb-false}
 use Rattle.std.proofs.lemmas.List.{length-take}
 use Rattle.model.specs.declared.expression.TokenKind.{TokenKind}
 use Rattle.model.specs.declared.expression.TokenKind.TheVariants.{Word, Directive, Number, Char, Str, Symbol}
+use Rattle.model.specs.declared.instruction.Profile.{Profile}
 use Rattle.model.specs.declared.instruction.Mnemonic.{Mnemonic}
 use Rattle.model.specs.declared.source_fault.AsmFaultKind.{AsmFaultKind}
 use Rattle.model.specs.declared.source_fault.AsmFaultKind.TheVariants.{LineTooLong, NotAscii, ReservedName}
@@ -108,7 +109,7 @@ text_fits Number text = tt
 text_fits Char text = tt
 text_fits Symbol text = tt
 
-module _ (longest : ReadsLongest) where
+module _ (profile : Profile) (longest : ReadsLongest) where
   term_fits : (ts : List Lexeme) → TermFits ts (expression_of ts)
   term_fits ts = by (expression_of ts) (longest ts).0
     where
@@ -207,15 +208,15 @@ module _ (longest : ReadsLongest) where
   small_behind [] = tt
   small_behind (t ∷ ts) = small_if (is_symbol 61 t) (option_map origin (whole_expression ts)) None (small_origin (whole_expression ts)) tt
 
-  small_operation : (kind : TokenKind) (t : Lexeme) (ts : List Lexeme) → length ts ≤ 255 → weight ts ≤ 255 → Small (operation_by kind t ts)
-  small_operation Word t ts few light = small_named (mnemonic_named t.text) (operand_of ts)
+  small_operation : (kind : TokenKind) (t : Lexeme) (ts : List Lexeme) → length ts ≤ 255 → weight ts ≤ 255 → Small (operation_by profile kind t ts)
+  small_operation Word t ts few light = small_named (mnemonic_named profile t.text) (operand_of ts)
   small_operation Directive t ts few light = small_directive t.text ts few light
   small_operation Symbol t ts few light = small_if (is_symbol 42 t) (origin_behind ts) None (small_behind ts) tt
   small_operation Number t ts few light = tt
   small_operation Char t ts few light = tt
   small_operation Str t ts few light = tt
 
-  small_statement : (ts : List Lexeme) → length ts ≤ 255 → weight ts ≤ 255 → Small (statement_of ts)
+  small_statement : (ts : List Lexeme) → length ts ≤ 255 → weight ts ≤ 255 → Small (statement_of profile ts)
   unfolding statement_of
   small_statement [] few light = tt
   small_statement (t ∷ ts) few light = small_operation t.kind t ts (omega arith) (omega arith)
@@ -238,18 +239,18 @@ module _ (longest : ReadsLongest) where
   line_if true x y h k = h
   line_if false x y h k = k
 
-  small_unlabelled : (ts : List Lexeme) → length ts ≤ 255 → weight ts ≤ 255 → SmallLine (unlabelled ts)
-  small_unlabelled ts few light = small_labelled None (statement_of ts) (small_statement ts few light)
+  small_unlabelled : (ts : List Lexeme) → length ts ≤ 255 → weight ts ≤ 255 → SmallLine (unlabelled profile ts)
+  small_unlabelled ts few light = small_labelled None (statement_of profile ts) (small_statement ts few light)
 
-  small_word : (w : Lexeme) (ts : List Lexeme) → length (w ∷ ts) ≤ 255 → weight (w ∷ ts) ≤ 255 → SmallLine (word_line w ts)
+  small_word : (w : Lexeme) (ts : List Lexeme) → length (w ∷ ts) ≤ 255 → weight (w ∷ ts) ≤ 255 → SmallLine (word_line profile w ts)
   small_word w [] few light = small_unlabelled (w ∷ []) few light
   small_word w (s ∷ ts) few light =
-      line_if (is_symbol 58 s) (option_map (labelled (Some w.text)) (statement_of ts)) _
-      (small_labelled (Some w.text) (statement_of ts) (small_statement ts (omega arith) (omega arith)))
-      (line_if (is_symbol 61 s) (option_map (definition w.text) (whole_expression ts)) (unlabelled (w ∷ s ∷ ts))
+      line_if (is_symbol 58 s) (option_map (labelled (Some w.text)) (statement_of profile ts)) _
+      (small_labelled (Some w.text) (statement_of profile ts) (small_statement ts (omega arith) (omega arith)))
+      (line_if (is_symbol 61 s) (option_map (definition w.text) (whole_expression ts)) (unlabelled profile (w ∷ s ∷ ts))
       (small_definition w.text (whole_expression ts)) (small_unlabelled (w ∷ s ∷ ts) few light))
 
-  small_by : (kind : TokenKind) (t : Lexeme) (ts : List Lexeme) → length (t ∷ ts) ≤ 255 → weight (t ∷ ts) ≤ 255 → SmallLine (line_by kind t ts)
+  small_by : (kind : TokenKind) (t : Lexeme) (ts : List Lexeme) → length (t ∷ ts) ≤ 255 → weight (t ∷ ts) ≤ 255 → SmallLine (line_by profile kind t ts)
   small_by Word t ts few light = small_word t ts few light
   small_by Directive t ts few light = small_unlabelled (t ∷ ts) few light
   small_by Number t ts few light = small_unlabelled (t ∷ ts) few light
@@ -257,12 +258,12 @@ module _ (longest : ReadsLongest) where
   small_by Str t ts few light = small_unlabelled (t ∷ ts) few light
   small_by Symbol t ts few light = small_unlabelled (t ∷ ts) few light
 
-  small_line : (ts : List Lexeme) → length ts ≤ 255 → weight ts ≤ 255 → SmallLine (line_of ts)
+  small_line : (ts : List Lexeme) → length ts ≤ 255 → weight ts ≤ 255 → SmallLine (line_of profile ts)
   unfolding line_of
   small_line [] few light = tt
   small_line (t ∷ ts) few light = small_by t.kind t ts few light
 
-  small_tokens : TokensAreSlices → (line : List ℕ) → length line ≤ 255 → (o : Tokens) → tokens_of line ≡ o → SmallLine (option_and_then line_of o)
+  small_tokens : TokensAreSlices → (line : List ℕ) → length line ≤ 255 → (o : Tokens) → tokens_of line ≡ o → SmallLine (option_and_then (line_of profile) o)
   small_tokens slices line short None found = tt
   small_tokens slices line short (Some ts) found =
       let few = slices_few line 0 ts (omega arith) (slices line ts found) in
@@ -276,19 +277,19 @@ module _ (longest : ReadsLongest) where
   right_if true k r h = tt
   right_if false k r h = h refl
 
-  right_unreserved : (o : Option Line) → SmallLine o → Right (unreserved o)
+  right_unreserved : (o : Option Line) → SmallLine o → Right (unreserved profile o)
   right_unreserved None h = tt
-  right_unreserved (Some l) h = right_if (line_reserves l) ReservedName (Ok l) (λ _. h)
+  right_unreserved (Some l) h = right_if (line_reserves profile l) ReservedName (Ok l) (λ _. h)
 
-  right_line : TokensAreSlices → (line : List ℕ) → Right (read_line line)
+  right_line : TokensAreSlices → (line : List ℕ) → Right (read_line profile line)
   unfolding read_line
   right_line slices line =
       right_if (nat_lt 255 (length line)) LineTooLong _
       (λ short. right_if (not (list_all is_source_byte line)) NotAscii _
-      (λ ascii. right_unreserved (option_and_then line_of (tokens_of line))
+      (λ ascii. right_unreserved (option_and_then (line_of profile) (tokens_of line))
       (small_tokens slices line (ltb-false 255 (length line) short) (tokens_of line) refl)))
 
   -- what was read is small
-  pub small_read : TokensAreSlices → (line : List ℕ) (r : Result code.Line LineError) → Gives seen_line r (read_line line) → IfOk r (λ l. IsSmallLine (seen_line l))
+  pub small_read : TokensAreSlices → (line : List ℕ) (r : Result code.Line LineError) → Gives seen_line r (read_line profile line) → IfOk r (λ l. IsSmallLine (seen_line l))
   small_read slices line (Ok l) same = let all = right_line slices line in subst Right same all
   small_read slices line (Err e) same = tt

@@ -7,12 +7,13 @@ use Rattle.std.proofs.lemmas.Slice.Eq.{bytes_eq-Decides}
 use Rattle.model.specs.declared.expression.TokenKind.{TokenKind}
 use Rattle.model.specs.declared.expression.TokenKind.TheVariants.{Word, Directive, Number, Char, Str, Symbol}
 use Rattle.model.specs.declared.expression.Operator.{Operator}
+use Rattle.model.specs.declared.instruction.Profile.{Profile}
 use Rattle.model.specs.declared.line.Index.{Index}
 use Rattle.model.specs.Token.{Lexeme}
 use Rattle.model.specs.Expression.{Term, symbol_in, symbol_of, operator_for, operator_of, atom_in, Level, Derives, atom, group, plain as plain_unary, minus, single, chain, bare, low_byte, high_byte, IsExpression, OneExpression}
 use Rattle.model.specs.Reading.{ReadsLongest, is_symbol, expression_of}
-use Rattle.model.specs.Line.{Operand, direct, Item, value, Statement, is_word, is_word_in, direct_behind, operand_of, list_within, item_of, item_or, string_in, directive_of, operation_by, origin_behind, statement_of, unlabelled, word_line, line_by, line_of}
-use Rattle.model.specs.Grammar.{IsIndex, unindexed, by_x, by_y, IsOperand, none, letter_a, after_hash, plain, after_mark, in_brackets, in_brackets_by_x, in_brackets_by_y, AreListed, last, more, IsItem, expression, quoted, IsOperation, by_mnemonic, sets_address, byte_directive, word_directive, dbyte_directive, res_directive, end_directive, IsRest, nothing_more, operation, no_label, label, defines, is_a, EachLineIsRead}
+use Rattle.model.specs.Line.{Operand, direct, Item, value, Statement, Line, is_word, is_word_in, direct_behind, operand_of, list_within, item_of, item_or, string_in, directive_of, operation_by, origin_behind, statement_of, unlabelled, word_line, line_by, line_of}
+use Rattle.model.specs.Grammar.{IsIndex, unindexed, by_x, by_y, IsOperand, none, letter_a, after_hash, plain, after_mark, in_brackets, in_brackets_by_x, in_brackets_by_y, AreListed, last, more, IsItem, expression, quoted, IsOperation, by_mnemonic, sets_address, byte_directive, word_directive, dbyte_directive, res_directive, end_directive, IsRest, nothing_more, operation, no_label, label, defines, is_a, IsLine, EachLineIsRead}
 use Rattle.asm_line.proofs.Foreign as foreign
 use Rattle.asm_line.proofs.Foreign.{Ends, symbol_is, symbol_other, symbol_not, symbol_kind, not_a, none_is, read_before, read_whole, some_token}
 
@@ -121,26 +122,26 @@ word_symbol capitals t b h = symbol_not t b (λ s. bad (symbol_kind t b s)) wher
   bad e = let there : false ≡ true = rw e at h in cc
 
 -- what begins with a word before neither `:` nor `=` has no label
-word_is : (w : Lexeme) (ts : List Lexeme) → NoName ts → word_line w ts ≡ unlabelled (w ∷ ts)
-word_is w [] h = refl
-word_is w (s ∷ ts) h = rw (h.0, h.1) refl
+word_is : (profile : Profile) (w : Lexeme) (ts : List Lexeme) → NoName ts → word_line profile w ts ≡ unlabelled profile (w ∷ ts)
+word_is profile w [] h = refl
+word_is profile w (s ∷ ts) h = rw (h.0, h.1) refl
 
-symbol_line : (kind : TokenKind) (t : Lexeme) (ts : List Lexeme) → kind ≡ Symbol → line_by kind t ts ≡ unlabelled (t ∷ ts)
-symbol_line kind t ts e = rw e refl
+symbol_line : (profile : Profile) (kind : TokenKind) (t : Lexeme) (ts : List Lexeme) → kind ≡ Symbol → line_by profile kind t ts ≡ unlabelled profile (t ∷ ts)
+symbol_line profile kind t ts e = rw e refl
 
-directive_line : (kind : TokenKind) (t : Lexeme) (ts : List Lexeme) → kind ≡ Directive → line_by kind t ts ≡ unlabelled (t ∷ ts)
-directive_line kind t ts e = rw e refl
+directive_line : (profile : Profile) (kind : TokenKind) (t : Lexeme) (ts : List Lexeme) → kind ≡ Directive → line_by profile kind t ts ≡ unlabelled profile (t ∷ ts)
+directive_line profile kind t ts e = rw e refl
 
-word_kind : (kind : TokenKind) (t : Lexeme) (ts : List Lexeme) → kind ≡ Word → line_by kind t ts ≡ word_line t ts
-word_kind kind t ts e = rw e refl
+word_kind : (profile : Profile) (kind : TokenKind) (t : Lexeme) (ts : List Lexeme) → kind ≡ Word → line_by profile kind t ts ≡ word_line profile t ts
+word_kind profile kind t ts e = rw e refl
 
-star_operation : (kind : TokenKind) (t : Lexeme) (ts : List Lexeme) → kind ≡ Symbol → operation_by kind t ts ≡ (if is_symbol 42 t then origin_behind ts else None)
-star_operation kind t ts e = rw e refl
+star_operation : (profile : Profile) (kind : TokenKind) (t : Lexeme) (ts : List Lexeme) → kind ≡ Symbol → operation_by profile kind t ts ≡ (if is_symbol 42 t then origin_behind ts else None)
+star_operation profile kind t ts e = rw e refl
 
-directive_operation : (kind : TokenKind) (t : Lexeme) (ts : List Lexeme) → kind ≡ Directive → operation_by kind t ts ≡ directive_of t.text ts
-directive_operation kind t ts e = rw e refl
+directive_operation : (profile : Profile) (kind : TokenKind) (t : Lexeme) (ts : List Lexeme) → kind ≡ Directive → operation_by profile kind t ts ≡ directive_of t.text ts
+directive_operation profile kind t ts e = rw e refl
 
-module _ (longest : ReadsLongest) (one : OneExpression) where
+module _ (profile : Profile) (longest : ReadsLongest) (one : OneExpression) where
   expressions : ReadBy IsExpression expression_of
   expressions = record { reads = λ e ts us d ends. read_before longest one e ts us d ends; some = λ e ts d. some_token longest one e ts d }
 
@@ -230,18 +231,18 @@ module _ (longest : ReadsLongest) (one : OneExpression) where
 
   -- ---- operations
 
-  operation_read : {s : Statement} {ts : List Lexeme} → IsOperation s ts → statement_of ts ≡ Some s
+  operation_read : {s : Statement} {ts : List Lexeme} → IsOperation profile s ts → statement_of profile ts ≡ Some s
   unfolding statement_of directive_of
   operation_read (by_mnemonic t k m o) = rw (k, m, operand_read o) refl
   operation_read (sets_address t q {e = e} {ts = ts} h k d) =
-      star_operation t.kind t (q ∷ ts) (symbol_kind t 42 h) ∙ rw (symbol_is t 42 h, symbol_is q 61 k, read_whole longest one e ts d) refl
+      star_operation profile t.kind t (q ∷ ts) (symbol_kind t 42 h) ∙ rw (symbol_is t 42 h, symbol_is q 61 k, read_whole longest one e ts d) refl
   operation_read (byte_directive t {ts = ts} h l) =
-      directive_operation t.kind t ts h.kind ∙ rw (h.letters, list_read IsItem item_of items (length ts) l (omega arith)) refl
+      directive_operation profile t.kind t ts h.kind ∙ rw (h.letters, list_read IsItem item_of items (length ts) l (omega arith)) refl
   operation_read (word_directive t {ts = ts} h l) =
-      directive_operation t.kind t ts h.kind
+      directive_operation profile t.kind t ts h.kind
       ∙ rw (other_text t.text (codes ".WORD") (codes ".BYTE") refl h.letters, h.letters, list_read IsExpression expression_of expressions (length ts) l (omega arith)) refl
   operation_read (dbyte_directive t {ts = ts} h l) =
-      directive_operation t.kind t ts h.kind
+      directive_operation profile t.kind t ts h.kind
       ∙ rw (
         other_text t.text (codes ".DBYTE") (codes ".BYTE") refl h.letters,
         other_text t.text (codes ".DBYTE") (codes ".WORD") refl h.letters,
@@ -249,7 +250,7 @@ module _ (longest : ReadsLongest) (one : OneExpression) where
         list_read IsExpression expression_of expressions (length ts) l (omega arith),
       ) refl
   operation_read (res_directive t {e = e} {ts = ts} h d) =
-      directive_operation t.kind t ts h.kind
+      directive_operation profile t.kind t ts h.kind
       ∙ rw (
         other_text t.text (codes ".RES") (codes ".BYTE") refl h.letters,
         other_text t.text (codes ".RES") (codes ".WORD") refl h.letters,
@@ -258,7 +259,7 @@ module _ (longest : ReadsLongest) (one : OneExpression) where
         read_whole longest one e ts d,
       ) refl
   operation_read (end_directive t h) =
-      directive_operation t.kind t [] h.kind
+      directive_operation profile t.kind t [] h.kind
       ∙ rw (
         other_text t.text (codes ".END") (codes ".BYTE") refl h.letters,
         other_text t.text (codes ".END") (codes ".WORD") refl h.letters,
@@ -268,31 +269,34 @@ module _ (longest : ReadsLongest) (one : OneExpression) where
       ) refl
 
   -- an operation alone is a line without a label
-  operation_line : {s : Statement} {ts : List Lexeme} → IsOperation s ts → line_of ts ≡ unlabelled ts
+  operation_line : {s : Statement} {ts : List Lexeme} → IsOperation profile s ts → line_of profile ts ≡ unlabelled profile ts
   unfolding line_of
-  operation_line (by_mnemonic t {ts = ts} k m o) = word_kind t.kind t ts k ∙ word_is t ts (operand_first o)
-  operation_line (sets_address t q {ts = ts} h k d) = symbol_line t.kind t (q ∷ ts) (symbol_kind t 42 h)
-  operation_line (byte_directive t {ts = ts} h l) = directive_line t.kind t ts h.kind
-  operation_line (word_directive t {ts = ts} h l) = directive_line t.kind t ts h.kind
-  operation_line (dbyte_directive t {ts = ts} h l) = directive_line t.kind t ts h.kind
-  operation_line (res_directive t {ts = ts} h d) = directive_line t.kind t ts h.kind
-  operation_line (end_directive t h) = directive_line t.kind t [] h.kind
+  operation_line (by_mnemonic t {ts = ts} k m o) = word_kind profile t.kind t ts k ∙ word_is profile t ts (operand_first o)
+  operation_line (sets_address t q {ts = ts} h k d) = symbol_line profile t.kind t (q ∷ ts) (symbol_kind t 42 h)
+  operation_line (byte_directive t {ts = ts} h l) = directive_line profile t.kind t ts h.kind
+  operation_line (word_directive t {ts = ts} h l) = directive_line profile t.kind t ts h.kind
+  operation_line (dbyte_directive t {ts = ts} h l) = directive_line profile t.kind t ts h.kind
+  operation_line (res_directive t {ts = ts} h d) = directive_line profile t.kind t ts h.kind
+  operation_line (end_directive t h) = directive_line profile t.kind t [] h.kind
 
-  rest_read : {s : Statement} {ts : List Lexeme} → IsRest s ts → statement_of ts ≡ Some s
+  rest_read : {s : Statement} {ts : List Lexeme} → IsRest profile s ts → statement_of profile ts ≡ Some s
   unfolding statement_of
   rest_read nothing_more = refl
   rest_read (operation o) = operation_read o
 
-  rest_line : {s : Statement} {ts : List Lexeme} → IsRest s ts → line_of ts ≡ unlabelled ts
+  rest_line : {s : Statement} {ts : List Lexeme} → IsRest profile s ts → line_of profile ts ≡ unlabelled profile ts
   unfolding line_of statement_of
   rest_line nothing_more = refl
   rest_line (operation o) = operation_line o
 
   -- ---- lines
 
-  pub each_line : EachLineIsRead
+  line_is_read : (l : Line) (ts : List Lexeme) → IsLine profile l ts → line_of profile ts ≡ Some l
   unfolding line_of
-  each_line l ts (no_label {s = s} r) = rest_line r ∙ rw (rest_read r) refl
-  each_line l ts (label w colon {ts = us} k c r) = word_kind w.kind w (colon ∷ us) k ∙ rw (symbol_is colon 58 c, rest_read r) refl
-  each_line l ts (defines w equals {e = e} {ts = us} k q d) =
-      word_kind w.kind w (equals ∷ us) k ∙ rw (symbol_other equals 61 58 refl q, symbol_is equals 61 q, read_whole longest one e us d) refl
+  line_is_read l ts (no_label {s = s} r) = rest_line r ∙ rw (rest_read r) refl
+  line_is_read l ts (label w colon {ts = us} k c r) = word_kind profile w.kind w (colon ∷ us) k ∙ rw (symbol_is colon 58 c, rest_read r) refl
+  line_is_read l ts (defines w equals {e = e} {ts = us} k q d) =
+      word_kind profile w.kind w (equals ∷ us) k ∙ rw (symbol_other equals 61 58 refl q, symbol_is equals 61 q, read_whole longest one e us d) refl
+
+pub each_line : ReadsLongest → OneExpression → EachLineIsRead
+each_line longest one profile l ts h = line_is_read profile longest one l ts h

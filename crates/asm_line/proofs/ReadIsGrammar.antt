@@ -4,6 +4,7 @@ use Rattle.std.specs.Prelude.{codes, ◌&&◌, IfSome, IfNone, if◌then◌else�
 use Rattle.std.specs.Option.{option_and_then, option_map}
 use Rattle.model.specs.declared.expression.TokenKind.{TokenKind}
 use Rattle.model.specs.declared.expression.TokenKind.TheVariants.{Word, Directive, Number, Char, Str, Symbol}
+use Rattle.model.specs.declared.instruction.Profile.{Profile}
 use Rattle.model.specs.declared.line.Index.{Index}
 use Rattle.model.specs.Mnemonics.{mnemonic_named}
 use Rattle.model.specs.Token.{Lexeme}
@@ -106,7 +107,7 @@ list_is Is read r (suc n) ts xs h =
     let b = bound (λ p. list_behind (λ more. list_within read n more) p.0 p.1) (read ts) xs h in
     behind_is Is (λ more. list_within read n more) (list_is Is read r n) ts b.from.0 b.from.1 xs (r.part ts b.from b.is) b.to
 
-module _ (longest : ReadsLongest) where
+module _ (profile : Profile) (longest : ReadsLongest) where
   -- ---- expressions
 
   begins_by : (ts : List Lexeme) (r : Option (Term × List Lexeme))
@@ -232,8 +233,8 @@ module _ (longest : ReadsLongest) where
 
   -- ---- operations
 
-  finish_is : (t : Lexeme) (ts : List Lexeme) (s : Statement) → IsDirective (codes ".END") t → finish_alone ts ≡ Some s → IsOperation s (t ∷ ts)
-  finish_is t [] s d h = let same : finish ≡ s = cc in subst (λ (x : Statement). IsOperation x (t ∷ [])) same (end_directive t d)
+  finish_is : (t : Lexeme) (ts : List Lexeme) (s : Statement) → IsDirective (codes ".END") t → finish_alone ts ≡ Some s → IsOperation profile s (t ∷ ts)
+  finish_is t [] s d h = let same : finish ≡ s = cc in subst (λ (x : Statement). IsOperation profile x (t ∷ [])) same (end_directive t d)
   finish_is t (u ∷ ts) s d h = cc
 
   directive_by : (t : Lexeme) (ts : List Lexeme) (s : Statement) (a b c d e : Bool) → t.kind ≡ Directive
@@ -245,47 +246,47 @@ module _ (longest : ReadsLongest) where
       else if d then option_map reserve (whole_expression ts)
       else if e then finish_alone ts
       else None) ≡ Some s
-      → IsOperation s (t ∷ ts)
+      → IsOperation profile s (t ∷ ts)
   directive_by t ts s true b c d e k ha hb hc hd he h =
       let m = mapped bytes (items_of ts) s h in
-      subst (λ (x : Statement). IsOperation x (t ∷ ts)) m.to (byte_directive t (record { kind = k; letters = ha }) (list_is IsItem item_of items (length ts) ts m.from m.is))
+      subst (λ (x : Statement). IsOperation profile x (t ∷ ts)) m.to (byte_directive t (record { kind = k; letters = ha }) (list_is IsItem item_of items (length ts) ts m.from m.is))
   directive_by t ts s false true c d e k ha hb hc hd he h =
       let m = mapped words (expressions_of ts) s h in
-      subst (λ (x : Statement). IsOperation x (t ∷ ts)) m.to (word_directive t (record { kind = k; letters = hb }) (list_is IsExpression expression_of expressions (length ts) ts m.from m.is))
+      subst (λ (x : Statement). IsOperation profile x (t ∷ ts)) m.to (word_directive t (record { kind = k; letters = hb }) (list_is IsExpression expression_of expressions (length ts) ts m.from m.is))
   directive_by t ts s false false true d e k ha hb hc hd he h =
       let m = mapped words_high_first (expressions_of ts) s h in
-      subst (λ (x : Statement). IsOperation x (t ∷ ts)) m.to (dbyte_directive t (record { kind = k; letters = hc }) (list_is IsExpression expression_of expressions (length ts) ts m.from m.is))
+      subst (λ (x : Statement). IsOperation profile x (t ∷ ts)) m.to (dbyte_directive t (record { kind = k; letters = hc }) (list_is IsExpression expression_of expressions (length ts) ts m.from m.is))
   directive_by t ts s false false false true e k ha hb hc hd he h =
       let m = mapped reserve (whole_expression ts) s h in
-      subst (λ (x : Statement). IsOperation x (t ∷ ts)) m.to (res_directive t (record { kind = k; letters = hd }) (whole_is ts m.from m.is))
+      subst (λ (x : Statement). IsOperation profile x (t ∷ ts)) m.to (res_directive t (record { kind = k; letters = hd }) (whole_is ts m.from m.is))
   directive_by t ts s false false false false true k ha hb hc hd he h = finish_is t ts s (record { kind = k; letters = he }) h
   directive_by t ts s false false false false false k ha hb hc hd he h = cc
 
-  directive_read : (t : Lexeme) (ts : List Lexeme) (s : Statement) → t.kind ≡ Directive → directive_of t.text ts ≡ Some s → IsOperation s (t ∷ ts)
+  directive_read : (t : Lexeme) (ts : List Lexeme) (s : Statement) → t.kind ≡ Directive → directive_of t.text ts ≡ Some s → IsOperation profile s (t ∷ ts)
   unfolding directive_of
   directive_read t ts s k h = directive_by t ts s _ _ _ _ _ k refl refl refl refl refl h
 
-  origin_is : (t : Lexeme) (ts : List Lexeme) (s : Statement) → IsSymbol 42 t → origin_behind ts ≡ Some s → IsOperation s (t ∷ ts)
+  origin_is : (t : Lexeme) (ts : List Lexeme) (s : Statement) → IsSymbol 42 t → origin_behind ts ≡ Some s → IsOperation profile s (t ∷ ts)
   origin_is t [] s star h = cc
   origin_is t (u ∷ ts) s star h = by (is_symbol 61 u) refl h where
-    by : (b : Bool) → is_symbol 61 u ≡ b → (if b then option_map origin (whole_expression ts) else None) ≡ Some s → IsOperation s (t ∷ u ∷ ts)
+    by : (b : Bool) → is_symbol 61 u ≡ b → (if b then option_map origin (whole_expression ts) else None) ≡ Some s → IsOperation profile s (t ∷ u ∷ ts)
     by true x k =
         let m = mapped origin (whole_expression ts) s k in
-        subst (λ (y : Statement). IsOperation y (t ∷ u ∷ ts)) m.to (sets_address t u star (symbol_back u 61 x) (whole_is ts m.from m.is))
+        subst (λ (y : Statement). IsOperation profile y (t ∷ u ∷ ts)) m.to (sets_address t u star (symbol_back u 61 x) (whole_is ts m.from m.is))
     by false x k = cc
 
-  star_is : (t : Lexeme) (ts : List Lexeme) (s : Statement) (b : Bool) → is_symbol 42 t ≡ b → (if b then origin_behind ts else None) ≡ Some s → IsOperation s (t ∷ ts)
+  star_is : (t : Lexeme) (ts : List Lexeme) (s : Statement) (b : Bool) → is_symbol 42 t ≡ b → (if b then origin_behind ts else None) ≡ Some s → IsOperation profile s (t ∷ ts)
   star_is t ts s true x h = origin_is t ts s (symbol_back t 42 x) h
   star_is t ts s false x h = cc
 
-  instruction_is : (t : Lexeme) (ts : List Lexeme) (s : Statement) → t.kind ≡ Word → option_and_then (λ m. option_map (instruction m) (operand_of ts)) (mnemonic_named t.text) ≡ Some s
-      → IsOperation s (t ∷ ts)
+  instruction_is : (t : Lexeme) (ts : List Lexeme) (s : Statement) → t.kind ≡ Word → option_and_then (λ m. option_map (instruction m) (operand_of ts)) (mnemonic_named profile t.text) ≡ Some s
+      → IsOperation profile s (t ∷ ts)
   instruction_is t ts s k h =
-      let b = bound (λ m. option_map (instruction m) (operand_of ts)) (mnemonic_named t.text) s h in
+      let b = bound (λ m. option_map (instruction m) (operand_of ts)) (mnemonic_named profile t.text) s h in
       let m = mapped (instruction b.from) (operand_of ts) s b.to in
-      subst (λ (x : Statement). IsOperation x (t ∷ ts)) m.to (by_mnemonic t k b.is (operand_is ts m.from m.is))
+      subst (λ (x : Statement). IsOperation profile x (t ∷ ts)) m.to (by_mnemonic t k b.is (operand_is ts m.from m.is))
 
-  operation_is : (t : Lexeme) (ts : List Lexeme) (s : Statement) (kind : TokenKind) → t.kind ≡ kind → operation_by kind t ts ≡ Some s → IsOperation s (t ∷ ts)
+  operation_is : (t : Lexeme) (ts : List Lexeme) (s : Statement) (kind : TokenKind) → t.kind ≡ kind → operation_by profile kind t ts ≡ Some s → IsOperation profile s (t ∷ ts)
   operation_is t ts s Word k h = instruction_is t ts s k h
   operation_is t ts s Directive k h = directive_read t ts s k h
   operation_is t ts s Symbol k h = star_is t ts s (is_symbol 42 t) refl h
@@ -293,36 +294,36 @@ module _ (longest : ReadsLongest) where
   operation_is t ts s Char k h = cc
   operation_is t ts s Str k h = cc
 
-  rest_is : (ts : List Lexeme) (s : Statement) → statement_of ts ≡ Some s → IsRest s ts
+  rest_is : (ts : List Lexeme) (s : Statement) → statement_of profile ts ≡ Some s → IsRest profile s ts
   unfolding statement_of
-  rest_is [] s h = let same : nothing ≡ s = cc in subst (λ (x : Statement). IsRest x []) same nothing_more
+  rest_is [] s h = let same : nothing ≡ s = cc in subst (λ (x : Statement). IsRest profile x []) same nothing_more
   rest_is (t ∷ ts) s h = operation (operation_is t ts s t.kind refl h)
 
   -- ---- lines
 
-  unlabelled_is : (l : Line) (ts : List Lexeme) → unlabelled ts ≡ Some l → IsLine l ts
+  unlabelled_is : (l : Line) (ts : List Lexeme) → unlabelled profile ts ≡ Some l → IsLine profile l ts
   unlabelled_is l ts h =
-      let m = mapped (labelled None) (statement_of ts) l h in
-      subst (λ (x : Line). IsLine x ts) m.to (no_label (rest_is ts m.from m.is))
+      let m = mapped (labelled None) (statement_of profile ts) l h in
+      subst (λ (x : Line). IsLine profile x ts) m.to (no_label (rest_is ts m.from m.is))
 
   word_by : (w s : Lexeme) (ts : List Lexeme) (l : Line) (colon equals : Bool) → w.kind ≡ Word → is_symbol 58 s ≡ colon → is_symbol 61 s ≡ equals
-      → (if colon then option_map (labelled (Some w.text)) (statement_of ts)
+      → (if colon then option_map (labelled (Some w.text)) (statement_of profile ts)
       else if equals then option_map (definition w.text) (whole_expression ts)
-      else unlabelled (w ∷ s ∷ ts)) ≡ Some l
-      → IsLine l (w ∷ s ∷ ts)
+      else unlabelled profile (w ∷ s ∷ ts)) ≡ Some l
+      → IsLine profile l (w ∷ s ∷ ts)
   word_by w s ts l true equals k hc he h =
-      let m = mapped (labelled (Some w.text)) (statement_of ts) l h in
-      subst (λ (x : Line). IsLine x (w ∷ s ∷ ts)) m.to (label w s k (symbol_back s 58 hc) (rest_is ts m.from m.is))
+      let m = mapped (labelled (Some w.text)) (statement_of profile ts) l h in
+      subst (λ (x : Line). IsLine profile x (w ∷ s ∷ ts)) m.to (label w s k (symbol_back s 58 hc) (rest_is ts m.from m.is))
   word_by w s ts l false true k hc he h =
       let m = mapped (definition w.text) (whole_expression ts) l h in
-      subst (λ (x : Line). IsLine x (w ∷ s ∷ ts)) m.to (defines w s k (symbol_back s 61 he) (whole_is ts m.from m.is))
+      subst (λ (x : Line). IsLine profile x (w ∷ s ∷ ts)) m.to (defines w s k (symbol_back s 61 he) (whole_is ts m.from m.is))
   word_by w s ts l false false k hc he h = unlabelled_is l (w ∷ s ∷ ts) h
 
-  word_is : (w : Lexeme) (ts : List Lexeme) (l : Line) → w.kind ≡ Word → word_line w ts ≡ Some l → IsLine l (w ∷ ts)
+  word_is : (w : Lexeme) (ts : List Lexeme) (l : Line) → w.kind ≡ Word → word_line profile w ts ≡ Some l → IsLine profile l (w ∷ ts)
   word_is w [] l k h = unlabelled_is l (w ∷ []) h
   word_is w (s ∷ ts) l k h = word_by w s ts l (is_symbol 58 s) (is_symbol 61 s) k refl refl h
 
-  kind_is : (t : Lexeme) (ts : List Lexeme) (l : Line) (kind : TokenKind) → t.kind ≡ kind → line_by kind t ts ≡ Some l → IsLine l (t ∷ ts)
+  kind_is : (t : Lexeme) (ts : List Lexeme) (l : Line) (kind : TokenKind) → t.kind ≡ kind → line_by profile kind t ts ≡ Some l → IsLine profile l (t ∷ ts)
   kind_is t ts l Word k h = word_is t ts l k h
   kind_is t ts l Directive k h = unlabelled_is l (t ∷ ts) h
   kind_is t ts l Number k h = unlabelled_is l (t ∷ ts) h
@@ -330,7 +331,10 @@ module _ (longest : ReadsLongest) where
   kind_is t ts l Str k h = unlabelled_is l (t ∷ ts) h
   kind_is t ts l Symbol k h = unlabelled_is l (t ∷ ts) h
 
-  pub each_read : EachReadLineIsALine
+  read_is_line : (l : Line) (ts : List Lexeme) → line_of profile ts ≡ Some l → IsLine profile l ts
   unfolding line_of
-  each_read l [] h = let same : labelled None nothing ≡ l = cc in subst (λ (x : Line). IsLine x []) same (no_label nothing_more)
-  each_read l (t ∷ ts) h = kind_is t ts l t.kind refl h
+  read_is_line l [] h = let same : labelled None nothing ≡ l = cc in subst (λ (x : Line). IsLine profile x []) same (no_label nothing_more)
+  read_is_line l (t ∷ ts) h = kind_is t ts l t.kind refl h
+
+pub each_read : ReadsLongest → EachReadLineIsALine
+each_read longest profile l ts h = read_is_line profile longest l ts h

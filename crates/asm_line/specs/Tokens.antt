@@ -3,6 +3,7 @@ use Rattle.std.specs.Prelude.{ℕ, nat_lt, not, if◌then◌else◌, List, lengt
 use Rattle.std.specs.List.{list_all}
 use Rattle.model.specs.Line.{Line, line_of, unreserved}
 use Rattle.model.specs.Token.{Lexeme, is_source_byte, tokens_of}
+use Rattle.model.specs.declared.instruction.Profile.{Profile}
 use Rattle.model.specs.declared.source_fault.AsmFaultKind.{AsmFaultKind}
 use Rattle.model.specs.declared.source_fault.AsmFaultKind.TheVariants.{LineTooLong, NotAscii, Syntax}
 
@@ -17,7 +18,7 @@ tokens_or kind (Some ts) = Ok ts
 unfoldable pub line_tokens : List ℕ → Result (List Lexeme) AsmFaultKind
 line_tokens line = if nat_lt 255 (length line) then Err LineTooLong else tokens_or (fault_of_bytes line) (tokens_of line)
 
--- what they say, or the fault that there is already
-abbrev pub said_by : Result (List Lexeme) AsmFaultKind → Result Line AsmFaultKind
-said_by (Ok ts) = unreserved (line_of ts)
-said_by (Err kind) = Err kind
+-- what they say in a profile, or the fault that there is already
+abbrev pub said_by : Profile → Result (List Lexeme) AsmFaultKind → Result Line AsmFaultKind
+said_by profile (Ok ts) = unreserved profile (line_of profile ts)
+said_by profile (Err kind) = Err kind

@@ -9,34 +9,38 @@ ghost use Rattle.asm_line.specs.Seen.{seen, seen_item, seen_line, seen_operand};
 use crate::statement::{Item, Line, Operand, Statement};
 use crate::token_tests::is_in_capitals;
 use asm_expr::Expr;
-use optable::mnemonic_of;
+use model::Profile;
+use optable::mnemonic_in;
 
-/// Whether a word is a mnemonic, A, X or Y, in either letter case.
+/// Whether a word is a mnemonic of a profile, A, X or Y, in either letter case.
 #[tactic(auto, unfolding(model::specs::Line::is_reserved))]
-fn is_reserved(text: &[u8]) -> bool
-    ensures { result ≡ is_reserved text.now }
+fn is_reserved(profile: Profile, text: &[u8]) -> bool
+    ensures { result ≡ is_reserved profile text.now }
 {
-    mnemonic_of(text).is_some()
+    mnemonic_in(profile, text).is_some()
         || is_in_capitals(text, b"A")
         || is_in_capitals(text, b"X")
         || is_in_capitals(text, b"Y")
 }
 
 /// Whether a reserved word stands in an expression where a name stands.
-fn expr_reserves(expr: &Expr<'_>) -> bool
-    ensures { result ≡ term_reserves (view expr.now) }
+fn expr_reserves(profile: Profile, expr: &Expr<'_>) -> bool
+    ensures { result ≡ term_reserves profile (view expr.now) }
 {
     match expr {
         Expr::Literal(_) | Expr::Here => false,
-        Expr::Name(text) => is_reserved(text),
-        Expr::Negated(inner) | Expr::Low(inner) | Expr::High(inner) => expr_reserves(inner),
-        Expr::Binary(_, left, right) => expr_reserves(left) || expr_reserves(right),
+        Expr::Name(text) => is_reserved(profile, text),
+        Expr::Negated(inner) | Expr::Low(inner) | Expr::High(inner) => expr_reserves(
+            profile, inner,
+        ),
+        Expr::Binary(_, left, right) => expr_reserves(profile, left)
+            || expr_reserves(profile, right),
     }
 }
 
 /// The same of an operand.
-fn operand_reserves(operand: &Operand<'_>) -> bool
-    ensures { result ≡ operand_reserves (seen_operand operand.now) }
+fn operand_reserves(profile: Profile, operand: &Operand<'_>) -> bool
+    ensures { result ≡ operand_reserves profile (seen_operand operand.now) }
 {
     match operand {
         Operand::Absent | Operand::Accumulator => false,
@@ -44,55 +48,59 @@ fn operand_reserves(operand: &Operand<'_>) -> bool
         | Operand::Direct { value, .. }
         | Operand::Pointer(value)
         | Operand::PointerByX(value)
-        | Operand::PointerByY(value) => expr_reserves(value),
+        | Operand::PointerByY(value) => expr_reserves(profile, value),
     }
 }
 
 /// The same of an item.
-fn item_reserves(item: &Item<'_>) -> bool
-    ensures { result ≡ item_reserves (seen_item item.now) }
+fn item_reserves(profile: Profile, item: &Item<'_>) -> bool
+    ensures { result ≡ item_reserves profile (seen_item item.now) }
 {
     match item {
-        Item::Value(value) => expr_reserves(value),
+        Item::Value(value) => expr_reserves(profile, value),
         Item::Text(_) => false,
     }
 }
 
 /// The same of some expressions.
-fn any_reserves(values: &[Expr<'_>]) -> bool
-    ensures { result ≡ list_any (λ value. term_reserves (view value)) values.now }
+fn any_reserves(profile: Profile, values: &[Expr<'_>]) -> bool
+    ensures { result ≡ list_any (λ value. term_reserves profile (view value)) values.now }
 {
-    values.iter().any(|value| expr_reserves(value))
+    values.iter().any(|value| expr_reserves(profile, value))
 }
 
 /// The same of some items.
-fn any_item_reserves(items: &[Item<'_>]) -> bool
-    ensures { result ≡ list_any (λ item. item_reserves (seen_item item)) items.now }
+fn any_item_reserves(profile: Profile, items: &[Item<'_>]) -> bool
+    ensures { result ≡ list_any (λ item. item_reserves profile (seen_item item)) items.now }
 {
-    items.iter().any(|item| item_reserves(item))
+    items.iter().any(|item| item_reserves(profile, item))
 }
 
 /// The same of an operation.
 #[tactic(auto, using(crate::proofs::Behind::list_any_map))]
-fn reserves(statement: &Statement<'_>) -> bool
-    ensures { result ≡ reserves (seen statement.now) }
+fn reserves(profile: Profile, statement: &Statement<'_>) -> bool
+    ensures { result ≡ reserves profile (seen statement.now) }
 {
     match statement {
         Statement::Nothing | Statement::Finish => false,
-        Statement::Origin(value) | Statement::Reserve(value) => expr_reserves(value),
-        Statement::Bytes(items) => any_item_reserves(items),
-        Statement::Words(values) | Statement::WordsHighFirst(values) => any_reserves(values),
-        Statement::Instruction(_, operand) => operand_reserves(operand),
+        Statement::Origin(value) | Statement::Reserve(value) => expr_reserves(profile, value),
+        Statement::Bytes(items) => any_item_reserves(profile, items),
+        Statement::Words(values) | Statement::WordsHighFirst(values) => any_reserves(
+            profile, values,
+        ),
+        Statement::Instruction(_, operand) => operand_reserves(profile, operand),
     }
 }
 
 /// Whether a reserved word stands in a line where a name stands.
-pub fn line_reserves(line: &Line<'_>) -> bool
-    ensures { result ≡ line_reserves (seen_line line.now) }
+pub fn line_reserves(profile: Profile, line: &Line<'_>) -> bool
+    ensures { result ≡ line_reserves profile (seen_line line.now) }
 {
     match line {
-        Line::Labelled(None, statement) => reserves(statement),
-        Line::Labelled(Some(name), statement) => is_reserved(name) || reserves(statement),
-        Line::Definition(name, value) => is_reserved(name) || expr_reserves(value),
+        Line::Labelled(None, statement) => reserves(profile, statement),
+        Line::Labelled(Some(name), statement) => is_reserved(profile, name)
+            || reserves(profile, statement),
+        Line::Definition(name, value) => is_reserved(profile, name)
+            || expr_reserves(profile, value),
     }
 }

@@ -14,8 +14,8 @@ use crate::reserved::line_reserves;
 use crate::statement::{Line, Statement};
 use crate::token_tests::{is_in_capitals, is_symbol};
 use asm_expr::{Token, all_may_stand, expressions_are_longest, tokens_are_slices, tokens_into};
-use model::{AsmFaultKind, LineFault, TokenKind};
-use optable::mnemonic_of;
+use model::{AsmFaultKind, LineFault, Profile, TokenKind};
+use optable::mnemonic_in;
 use std::alloc::Global;
 
 /// The most bytes that a line has without its end (profile).
@@ -64,25 +64,30 @@ fn origin<'a>(alloc: Global, after: &[Token<'a>]) -> Result<Statement<'a>, LineF
 /// What a word and the tokens after it say.
 fn instruction<'a>(
     alloc: Global,
+    profile: Profile,
     word: &Token<'a>,
     after: &[Token<'a>],
 ) -> Result<Statement<'a>, LineFault>
-    ensures { Reads seen result (operation_by TokenKind.Word (lexeme_of word.now) (lexemes after.now)) }
+    ensures { Reads seen result (operation_by profile TokenKind.Word (lexeme_of word.now) (lexemes after.now)) }
 {
-    let mnemonic = mnemonic_of(word.text).ok_or(LineFault::Syntax)?;
+    let mnemonic = mnemonic_in(profile, word.text).ok_or(LineFault::Syntax)?;
     Ok(Statement::Instruction(mnemonic, operand(alloc, after)?))
 }
 
 /// What the tokens of an operation say.
 #[tactic(auto, unfolding(model::specs::Line::statement_of))]
-fn statement<'a>(alloc: Global, tokens: &[Token<'a>]) -> Result<Statement<'a>, LineFault>
-    ensures { Reads seen result (statement_of (lexemes tokens.now)) }
+fn statement<'a>(
+    alloc: Global,
+    profile: Profile,
+    tokens: &[Token<'a>],
+) -> Result<Statement<'a>, LineFault>
+    ensures { Reads seen result (statement_of profile (lexemes tokens.now)) }
 {
     let Some((first, after)) = tokens.split_first() else {
         return Ok(Statement::Nothing);
     };
     match first.kind {
-        TokenKind::Word => instruction(alloc, first, after),
+        TokenKind::Word => instruction(alloc, profile, first, after),
         TokenKind::Directive => directive(alloc, first.text, after),
         TokenKind::Symbol if is_symbol(first, b'*') => origin(alloc, after),
         TokenKind::Symbol | TokenKind::Number | TokenKind::Char | TokenKind::Str => {
@@ -92,49 +97,54 @@ fn statement<'a>(alloc: Global, tokens: &[Token<'a>]) -> Result<Statement<'a>, L
 }
 
 /// What the tokens of a line without a label say.
-fn unlabelled<'a>(alloc: Global, tokens: &[Token<'a>]) -> Result<Line<'a>, LineFault>
-    ensures { Reads seen_line result (unlabelled (lexemes tokens.now)) }
+fn unlabelled<'a>(
+    alloc: Global,
+    profile: Profile,
+    tokens: &[Token<'a>],
+) -> Result<Line<'a>, LineFault>
+    ensures { Reads seen_line result (unlabelled profile (lexemes tokens.now)) }
 {
-    Ok(Line::Labelled(None, statement(alloc, tokens)?))
+    Ok(Line::Labelled(None, statement(alloc, profile, tokens)?))
 }
 
 /// What a line's first word and the tokens after it say: a label, a definition, or neither.
 fn word_line<'a>(
     alloc: Global,
+    profile: Profile,
     tokens: &[Token<'a>],
     word: &Token<'a>,
     after: &[Token<'a>],
 ) -> Result<Line<'a>, LineFault>
     requires { lexemes tokens.now ≡ lexeme_of word.now ∷ lexemes after.now }
-    ensures { Reads seen_line result (word_line (lexeme_of word.now) (lexemes after.now)) }
+    ensures { Reads seen_line result (word_line profile (lexeme_of word.now) (lexemes after.now)) }
 {
     let Some((mark, rest)) = after.split_first() else {
-        return unlabelled(alloc, tokens);
+        return unlabelled(alloc, profile, tokens);
     };
     if is_symbol(mark, b':') {
-        return Ok(Line::Labelled(Some(word.text), statement(alloc, rest)?));
+        return Ok(Line::Labelled(Some(word.text), statement(alloc, profile, rest)?));
     }
     if is_symbol(mark, b'=') {
         return Ok(Line::Definition(word.text, whole_expression(alloc, rest)?));
     }
-    unlabelled(alloc, tokens)
+    unlabelled(alloc, profile, tokens)
 }
 
 /// What the tokens of a line say.
 #[tactic(auto, unfolding(model::specs::Line::line_of))]
-fn line_of<'a>(alloc: Global, tokens: &[Token<'a>]) -> Result<Line<'a>, LineFault>
-    ensures { Reads seen_line result (line_of (lexemes tokens.now)) }
+fn line_of<'a>(alloc: Global, profile: Profile, tokens: &[Token<'a>]) -> Result<Line<'a>, LineFault>
+    ensures { Reads seen_line result (line_of profile (lexemes tokens.now)) }
 {
     let Some((first, after)) = tokens.split_first() else {
         return Ok(Line::Labelled(None, Statement::Nothing));
     };
     match first.kind {
-        TokenKind::Word => word_line(alloc, tokens, first, after),
+        TokenKind::Word => word_line(alloc, profile, tokens, first, after),
         TokenKind::Directive
         | TokenKind::Number
         | TokenKind::Char
         | TokenKind::Str
-        | TokenKind::Symbol => unlabelled(alloc, tokens),
+        | TokenKind::Symbol => unlabelled(alloc, profile, tokens),
     }
 }
 
@@ -165,53 +175,59 @@ fn line_tokens<'a>(room: &mut Vec<Token<'a>>, line: &'a [u8]) -> Result<(), Line
 }
 
 /// What the tokens of a line say, or the fault of a reserved word among them.
-fn said<'a>(alloc: Global, tokens: &[Token<'a>]) -> Result<Line<'a>, LineError>
-    ensures { Gives seen_line result (unreserved (line_of (lexemes tokens.now))) }
+fn said<'a>(alloc: Global, profile: Profile, tokens: &[Token<'a>]) -> Result<Line<'a>, LineError>
+    ensures { Gives seen_line result (unreserved profile (line_of profile (lexemes tokens.now))) }
 {
-    let line = line_of(alloc, tokens)?;
-    if line_reserves(&line) {
+    let line = line_of(alloc, profile, tokens)?;
+    if line_reserves(profile, &line) {
         return Err(LineError::Kind(AsmFaultKind::ReservedName));
     }
     Ok(line)
 }
 
 /// What a line says.
-fn read<'a>(alloc: Global, room: &mut Vec<Token<'a>>, line: &'a [u8]) -> Result<Line<'a>, LineError>
-    ensures { Gives seen_line result (said_by (line_tokens line.now)) }
+fn read<'a>(
+    alloc: Global,
+    profile: Profile,
+    room: &mut Vec<Token<'a>>,
+    line: &'a [u8],
+) -> Result<Line<'a>, LineError>
+    ensures { Gives seen_line result (said_by profile (line_tokens line.now)) }
 {
     match line_tokens(room, line) {
-        Ok(()) => said(alloc, room),
+        Ok(()) => said(alloc, profile, room),
         Err(error) => Err(error),
     }
 }
 
-/// What a line says, without its end. Its tokens are put into `room` in place of what that holds, so that the memory of one
-/// list serves line after line.
+/// What a line says in a profile, without its end. Its tokens are put into `room` in place of what that holds, so that the
+/// memory of one list serves line after line.
 ///
 /// `Kind` has the first fault of its text, in this order: `LineTooLong` above 255 bytes; `NotAscii` where a byte is
 /// neither $20..$7E nor a tab; `Syntax` where the line is none of the grammar, with reserved words read as names;
-/// `ReservedName` where a mnemonic, A, X or Y stands where a name stands. `Memory`: a request for memory was refused.
-/// Source: profile.
+/// `ReservedName` where a mnemonic of the profile, A, X or Y stands where a name stands. `Memory`: a request for memory was
+/// refused. Source: profile.
 pub fn read_line_with<'a>(
     alloc: Global,
+    profile: Profile,
     room: &mut Vec<Token<'a>>,
     line: &'a [u8],
 ) -> Result<Line<'a>, LineError>
-    ensures exact { Gives seen_line result (read_line line.now) }
+    ensures exact { Gives seen_line result (read_line profile line.now) }
     // What it denotes has few bytes, since it has few itself.
     ensures small { IfOk result (λ l. IsSmallLine (seen_line l)) }
 {
     // For the proof: tokens are slices of the line, and expressions are beginnings of its tokens.
     tokens_are_slices();
     expressions_are_longest();
-    read(alloc, room, line)
+    read(alloc, profile, room, line)
 }
 
-/// What one line says, as `read_line_with`.
-pub fn read_line<'a>(alloc: Global, line: &'a [u8]) -> Result<Line<'a>, LineError>
-    ensures exact { Gives seen_line result (read_line line.now) }
+/// What one line says in a profile, as `read_line_with`.
+pub fn read_line<'a>(alloc: Global, profile: Profile, line: &'a [u8]) -> Result<Line<'a>, LineError>
+    ensures exact { Gives seen_line result (read_line profile line.now) }
     ensures small { IfOk result (λ l. IsSmallLine (seen_line l)) }
 {
     let mut room = Vec::new(alloc);
-    read_line_with(alloc, &mut room, line)
+    read_line_with(alloc, profile, &mut room, line)
 }

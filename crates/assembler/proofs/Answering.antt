@@ -37,7 +37,7 @@ passed r = r >>= λ j. Ok (verdict_of j)
 record Meant (m : Map) (source : List ℕ) (a : Assembled) : Type 0 where
   judgement : Judged
   denotes : Denotes m source judgement.image
-  laid : LaidOut nothing_fixed (read_lines source) judgement.placed judgement.all
+  laid : LaidOut (nothing_fixed m.profile) (read_lines m.profile source) judgement.placed judgement.all
   shown : verdict_of judgement ≡ seen_verdict a
 
 meant_by : (m : Map) (source : List ℕ) (a : Assembled) (r : Result Judged AsmFault) → Says m source r → passed r ≡ Ok (seen_verdict a) → Meant m source a
@@ -62,18 +62,18 @@ denoted_from meant m source (Ok a) h =
 denoted_from meant m source (Err f) h = tt
 
 pub places_from : JudgedIsMeant → OneAssignment → (m : Map) (source : List ℕ) (r : Given) → Answers seen_verdict r (verdict m source)
-    → IfOk r (λ a. (placed : List Placed) (all : Fixed) → LaidOut nothing_fixed (read_lines source) placed all → a.places ≡ extents_of placed)
+    → IfOk r (λ a. (placed : List Placed) (all : Fixed) → LaidOut (nothing_fixed m.profile) (read_lines m.profile source) placed all → a.places ≡ extents_of placed)
 places_from meant one m source (Ok a) h = λ placed all laid.
     let x = meant_as meant m source a h in
-    let same : x.judgement.placed ≡ placed = (one (read_lines source) nothing_fixed x.judgement.placed placed x.judgement.all all x.laid laid).0 in
+    let same : x.judgement.placed ≡ placed = (one (read_lines m.profile source) (nothing_fixed m.profile) x.judgement.placed placed x.judgement.all all x.laid laid).0 in
     sym (ap (λ (v : Verdict). v.places) x.shown) ∙ ap extents_of same
 places_from meant one m source (Err f) h = tt
 
 pub names_from : JudgedIsMeant → OneAssignment → (m : Map) (source : List ℕ) (r : Given) → Answers seen_verdict r (verdict m source)
-    → IfOk r (λ a. (placed : List Placed) (all : Fixed) → LaidOut nothing_fixed (read_lines source) placed all → a.names ≡ all.names)
+    → IfOk r (λ a. (placed : List Placed) (all : Fixed) → LaidOut (nothing_fixed m.profile) (read_lines m.profile source) placed all → a.names ≡ all.names)
 names_from meant one m source (Ok a) h = λ placed all laid.
     let x = meant_as meant m source a h in
-    let same : x.judgement.all ≡ all = (one (read_lines source) nothing_fixed x.judgement.placed placed x.judgement.all all x.laid laid).1 in
+    let same : x.judgement.all ≡ all = (one (read_lines m.profile source) (nothing_fixed m.profile) x.judgement.placed placed x.judgement.all all x.laid laid).1 in
     sym (ap (λ (v : Verdict). v.names) x.shown) ∙ ap (λ (f : Fixed). f.names) same
 names_from meant one m source (Err f) h = tt
 
@@ -118,7 +118,7 @@ listing_by : (m : Map) (source : List ℕ) (a : Assembled) (x : Meant m source a
 unfolding read_lines
 listing_by m source a x one =
     let d = x.denotes in
-    let both = one (read_lines source) nothing_fixed x.judgement.placed d.placed x.judgement.all d.all x.laid d.laid in
+    let both = one (read_lines m.profile source) (nothing_fixed m.profile) x.judgement.placed d.placed x.judgement.all d.all x.laid d.laid in
     let places : a.places ≡ extents_of d.placed = sym (ap (λ (v : Verdict). v.places) x.shown) ∙ ap extents_of both.0 in
     let names : a.names ≡ d.all.names = sym (ap (λ (v : Verdict). v.names) x.shown) ∙ ap (λ (f : Fixed). f.names) both.1 in
     record {
@@ -128,7 +128,7 @@ listing_by m source a x one =
       laid = d.laid;
       image = a.image;
       made = subst (λ (i : Cells). Makes m (number_in d.all.names) empty_image d.placed i) (image_is m source a x) d.made;
-      rows = rw (places, names, rows_of_read a.image (lines_of source) nothing_fixed d.placed d.all d.laid) refl;
+      rows = rw (places, names, rows_of_read m.profile a.image (lines_of source) (nothing_fixed m.profile) d.placed d.all d.laid) refl;
     }
 
 pub listed_from : JudgedIsMeant → OneAssignment → (m : Map) (source : List ℕ) (r : Given) → Answers seen_verdict r (verdict m source) → IfOk r (λ a. a.source ≡ source) → IfOk r (λ a. IsListing m source (listing_of a))

@@ -12,7 +12,7 @@ use Rattle.model.specs.Line.{Item, value, string}
 use Rattle.model.specs.Bytes.{Piece, modulo, word_bytes, within, byte_piece, zero_page_piece, word_piece, address_piece, distance_piece, branch_piece, operand_piece, bytes_in, kinds_in, kind_if, lower, lowest, place_kinds, has_bytes, has_port, word_bytes_high_first, word_piece_high_first, item_piece, pieces_of, bytes_of, value_fault}
 use Rattle.model.specs.declared.expression.ExprFault.{ExprFault}
 use Rattle.model.specs.declared.instruction.Mode.{Mode}
-use Rattle.model.specs.declared.instruction.Mode.TheVariants.{Imp, Acc, Imm, Zp, ZpX, ZpY, Abs, AbsX, AbsY, IndX, IndY, Ind, Rel}
+use Rattle.model.specs.declared.instruction.Mode.TheVariants.{Imp, Acc, Imm, Zp, ZpX, ZpY, Abs, AbsX, AbsY, IndX, IndY, Ind, Rel, IndZ}
 use Rattle.model.specs.declared.source_fault.AsmFaultKind.{AsmFaultKind}
 use Rattle.model.specs.declared.source_fault.AsmFaultKind.TheVariants.{WordRange, BranchRange, PastEnd, Overlap, PortAddress}
 use Rattle.assembler.specs.Gathering.{Gathering, line_gathered}
@@ -85,6 +85,7 @@ operand_size a IndX r = omega (arith, zero_page_size r)
 operand_size a IndY r = omega (arith, zero_page_size r)
 operand_size a Ind r = omega (arith, address_size r)
 operand_size a Rel r = omega (arith, branch_size a r)
+operand_size a IndZ r = omega (arith, zero_page_size r)
 
 items_fit : (numbers : Numbers) (a : ℕ) (is : List Item) → length (flat_map bytes_in (map (λ i. item_piece numbers a i) is)) ≤ items_size is
 items_fit numbers a [] = omega arith

@@ -8,6 +8,7 @@ use Rattle.std.proofs.lemmas.Option.{slice_get_within, slice_get_cases, get_or_f
 use Rattle.assembler.specs.declared.kept.Span.{Span}
 use Rattle.assembler.specs.Kept.{pairs_of}
 use Rattle.model.specs.Layout.{Fixed, Placed, LaidOut, extents_of, size_of}
+use Rattle.model.specs.declared.instruction.Profile.{Profile}
 use Rattle.model.specs.Line.{read_line}
 use Rattle.model.specs.Source.{is_end, up_to_end}
 use Rattle.model.specs.Lines.{lines_from, lines_of}
@@ -95,17 +96,17 @@ nothing_behind : (image : Cells) (lines : List (List ℕ)) (next : Fixed) (ps : 
 nothing_behind image [] next ps all laid = refl
 nothing_behind image (line ∷ lines) next ps all laid = let none : ps ≡ [] = laid.0 in rw none refl
 
-rows_behind : (image : Cells) (lines : List (List ℕ)) (ended : Bool) (next : Fixed) (ps : List Placed) (all : Fixed)
-    → (LaidOut next (up_to_end lines) ps all → rows_in image lines ps ≡ rows_in image (up_to_end lines) ps)
-    → LaidOut next (if ended then [] else up_to_end lines) ps all → rows_in image lines ps ≡ rows_in image (if ended then [] else up_to_end lines) ps
-rows_behind image lines true next ps all later laid = nothing_behind image lines next ps all laid
-rows_behind image lines false next ps all later laid = later laid
+rows_behind : (profile : Profile) (image : Cells) (lines : List (List ℕ)) (ended : Bool) (next : Fixed) (ps : List Placed) (all : Fixed)
+    → (LaidOut next (up_to_end profile lines) ps all → rows_in image lines ps ≡ rows_in image (up_to_end profile lines) ps)
+    → LaidOut next (if ended then [] else up_to_end profile lines) ps all → rows_in image lines ps ≡ rows_in image (if ended then [] else up_to_end profile lines) ps
+rows_behind profile image lines true next ps all later laid = nothing_behind image lines next ps all laid
+rows_behind profile image lines false next ps all later laid = later laid
 
 -- of a source's lines only those that are read have a place
-pub rows_of_read : (image : Cells) (lines : List (List ℕ)) (before : Fixed) (placed : List Placed) (all : Fixed) → LaidOut before (up_to_end lines) placed all
-    → rows_in image lines placed ≡ rows_in image (up_to_end lines) placed
-rows_of_read image [] before placed all laid = refl
-rows_of_read image (line ∷ lines) before [] all laid = refl
-rows_of_read image (line ∷ lines) before (p ∷ ps) all laid =
+pub rows_of_read : (profile : Profile) (image : Cells) (lines : List (List ℕ)) (before : Fixed) (placed : List Placed) (all : Fixed) → LaidOut before (up_to_end profile lines) placed all
+    → rows_in image lines placed ≡ rows_in image (up_to_end profile lines) placed
+rows_of_read profile image [] before placed all laid = refl
+rows_of_read profile image (line ∷ lines) before [] all laid = refl
+rows_of_read profile image (line ∷ lines) before (p ∷ ps) all laid =
     ap (λ (x : List ℕ). line_rows p.address (bytes_at image p.address (size_of p.content)) line ++ x)
-    (rows_behind image lines (is_end (read_line line)) laid.0 ps all (λ (rest : LaidOut laid.0 (up_to_end lines) ps all). rows_of_read image lines laid.0 ps all rest) laid.2)
+    (rows_behind profile image lines (is_end (read_line profile line)) laid.0 ps all (λ (rest : LaidOut laid.0 (up_to_end profile lines) ps all). rows_of_read profile image lines laid.0 ps all rest) laid.2)

@@ -9,6 +9,7 @@ use Rattle.model.specs.Value.{Numbers}
 use Rattle.model.specs.Layout.{Content, no_bytes, byte_list, word_list, word_list_high_first, code, size_of, Fixed, Placed, Standing, extent_of, extents_of, layout_of}
 use Rattle.model.specs.Bytes.{pieces_of, bytes_of, value_fault, has_bytes, has_port, place_kinds, lower, lowest}
 use Rattle.model.specs.Source.{most_bytes, nothing_fixed, read_lines}
+use Rattle.model.specs.declared.instruction.Profile.{Profile}
 use Rattle.model.specs.declared.source_fault.AsmFault.{AsmFault}
 use Rattle.model.specs.declared.source_fault.AsmFaultKind.{AsmFaultKind}
 use Rattle.source_laws.specs.Judging.{Judged, judged, judged_lines, laid_lines, made_lines, numbered, put, too_large, ◌>>=◌}
@@ -73,8 +74,8 @@ noting_is (p ∷ ps) n f =
 abbrev found_in : Laid → Found × Fixed
 found_in l = (found_as (extents_of l.0) (kept_from 1 l.0), l.1)
 
-found_all : (lines : List (List ℕ)) → found_lines 1 nothing_fixed nothing_found lines ≡ (laid_lines 1 nothing_fixed lines >>= λ l. Ok (found_in l))
-found_all lines = found_is lines 1 nothing_fixed nothing_found ∙ on (laid_lines 1 nothing_fixed lines)
+found_all : (profile : Profile) (lines : List (List ℕ)) → found_lines 1 (nothing_fixed profile) nothing_found lines ≡ (laid_lines 1 (nothing_fixed profile) lines >>= λ l. Ok (found_in l))
+found_all profile lines = found_is lines 1 (nothing_fixed profile) nothing_found ∙ on (laid_lines 1 (nothing_fixed profile) lines)
   where
     on : (r : Result Laid AsmFault) → (r >>= λ l. Ok (with_all 1 nothing_found l)) ≡ (r >>= λ l. Ok (found_in l))
     on (Ok l) = ap (λ (x : Found). Ok (x, l.1)) (noting_is l.0 1 nothing_found)
@@ -118,7 +119,7 @@ verdict_as image places names = record { image = image; places = places; names =
 abbrev judged_on : Map → Result Laid AsmFault → Result Verdict AsmFault
 judged_on m r = (r >>= λ l. made_lines m (number_in l.1.names) 1 empty_image l.0 >>= λ image. Ok (judged_as l image)) >>= λ j. Ok (verdict_of j)
 
-small_verdict : (m : Map) (source : List ℕ) → length source ≤ most_bytes → verdict m source ≡ judged_on m (laid_lines 1 nothing_fixed (read_lines source))
+small_verdict : (m : Map) (source : List ℕ) → length source ≤ most_bytes → verdict m source ≡ judged_on m (laid_lines 1 (nothing_fixed m.profile) (read_lines m.profile source))
 unfolding judged judged_lines
 small_verdict m source small = rw (le-ltb most_bytes (length source) small) refl
 
@@ -169,35 +170,35 @@ value_on m (Ok l) found all f e made =
     rw (made_from m l found all (Err f) same made) refl
 value_on m (Err g) found all f e made = absurd (not_both (found, all) g (Ok (found, all)) (Err g) refl refl (sym e))
 
-abbrev found_of_source : List ℕ → FoundIn
-found_of_source source = found_lines 1 nothing_fixed nothing_found (read_lines source)
+abbrev found_of_source : Map → List ℕ → FoundIn
+found_of_source m source = found_lines 1 (nothing_fixed m.profile) nothing_found (read_lines m.profile source)
 
 pub verdict_right : (m : Map) (source : List ℕ) (found : Found) (all : Fixed) (image : Cells) → length source ≤ most_bytes
-    → found_lines 1 nothing_fixed nothing_found (read_lines source) ≡ Ok (found, all) → made_kept m (number_in all.names) empty_image found.kept ≡ Ok image
+    → found_lines 1 (nothing_fixed m.profile) nothing_found (read_lines m.profile source) ≡ Ok (found, all) → made_kept m (number_in all.names) empty_image found.kept ≡ Ok image
     → verdict m source ≡ Ok (record { image = image; places = found.extents; names = all.names })
 verdict_right m source found all image small first second =
-    small_verdict m source small ∙ right_on m (laid_lines 1 nothing_fixed (read_lines source)) found all image (sym (found_all (read_lines source)) ∙ first) second
+    small_verdict m source small ∙ right_on m (laid_lines 1 (nothing_fixed m.profile) (read_lines m.profile source)) found all image (sym (found_all m.profile (read_lines m.profile source)) ∙ first) second
 
 pub verdict_layout : (m : Map) (source : List ℕ) (f : AsmFault) → length source ≤ most_bytes
-    → found_lines 1 nothing_fixed nothing_found (read_lines source) ≡ Err f → verdict m source ≡ Err f
+    → found_lines 1 (nothing_fixed m.profile) nothing_found (read_lines m.profile source) ≡ Err f → verdict m source ≡ Err f
 verdict_layout m source f small first =
-    small_verdict m source small ∙ layout_on m (laid_lines 1 nothing_fixed (read_lines source)) f (sym (found_all (read_lines source)) ∙ first)
+    small_verdict m source small ∙ layout_on m (laid_lines 1 (nothing_fixed m.profile) (read_lines m.profile source)) f (sym (found_all m.profile (read_lines m.profile source)) ∙ first)
 
 pub verdict_value : (m : Map) (source : List ℕ) (found : Found) (all : Fixed) (f : AsmFault) → length source ≤ most_bytes
-    → found_lines 1 nothing_fixed nothing_found (read_lines source) ≡ Ok (found, all) → made_kept m (number_in all.names) empty_image found.kept ≡ Err f
+    → found_lines 1 (nothing_fixed m.profile) nothing_found (read_lines m.profile source) ≡ Ok (found, all) → made_kept m (number_in all.names) empty_image found.kept ≡ Err f
     → verdict m source ≡ Err f
 verdict_value m source found all f small first second =
-    small_verdict m source small ∙ value_on m (laid_lines 1 nothing_fixed (read_lines source)) found all f (sym (found_all (read_lines source)) ∙ first) second
+    small_verdict m source small ∙ value_on m (laid_lines 1 (nothing_fixed m.profile) (read_lines m.profile source)) found all f (sym (found_all m.profile (read_lines m.profile source)) ∙ first) second
 
 -- ---- memory aside
 
 pub layout_answer : (m : Map) (source : List ℕ) (f : AsmFault) → length source ≤ most_bytes
-    → (f ≡ out_of_memory) ⊎ (found_lines 1 nothing_fixed nothing_found (read_lines source) ≡ Err f) → (f ≡ out_of_memory) ⊎ (verdict m source ≡ Err f)
+    → (f ≡ out_of_memory) ⊎ (found_lines 1 (nothing_fixed m.profile) nothing_found (read_lines m.profile source) ≡ Err f) → (f ≡ out_of_memory) ⊎ (verdict m source ≡ Err f)
 layout_answer m source f small (inl memory) = inl memory
 layout_answer m source f small (inr first) = inr (verdict_layout m source f small first)
 
 pub value_answer : (m : Map) (source : List ℕ) (found : Found) (all : Fixed) (f : AsmFault) → length source ≤ most_bytes
-    → found_lines 1 nothing_fixed nothing_found (read_lines source) ≡ Ok (found, all)
+    → found_lines 1 (nothing_fixed m.profile) nothing_found (read_lines m.profile source) ≡ Ok (found, all)
     → (f ≡ out_of_memory) ⊎ (made_kept m (number_in all.names) empty_image found.kept ≡ Err f) → (f ≡ out_of_memory) ⊎ (verdict m source ≡ Err f)
 value_answer m source found all f small first (inl memory) = inl memory
 value_answer m source found all f small first (inr second) = inr (verdict_value m source found all f small first second)

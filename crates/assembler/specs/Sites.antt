@@ -1,15 +1,15 @@
 -- What the first pass finds of a line, seen as the definitions see it.
-use Rattle.std.specs.Prelude.{◌≡◌, ℕ, ⊤, Option, Some, None, unwrap_or, ◌&&◌, if◌then◌else◌, Result, Ok, Err}
-use Rattle.model.specs.declared.instruction.Mode.{Mode}
+use Rattle.std.specs.Prelude.{◌≡◌, ℕ, ⊤, Option, Some, None, ◌&&◌, if◌then◌else◌, Result, Ok, Err}
+use Rattle.model.specs.declared.instruction.Profile.{Profile}
 use Rattle.model.specs.declared.source_fault.AsmFaultKind.{AsmFaultKind}
-use Rattle.model.specs.Table.{encoded}
 use Rattle.model.specs.Layout as model_layout
-use Rattle.model.specs.Layout.{one, by_size, term_of, either, has_row, is_unindexed, zero_page_mode, absolute_mode, Content, no_bytes, byte_list, word_list, word_list_high_first, code, Place, Placed, Fixed, Standing, items_size}
+use Rattle.model.specs.Layout.{one, by_size, term_of, only, either, has_row, is_unindexed, zero_page_mode, absolute_mode, Content, no_bytes, byte_list, word_list, word_list_high_first, code, Place, Placed, Fixed, Standing, items_size}
 use Rattle.model.specs.declared.instruction.Mnemonic.{Mnemonic}
-use Rattle.model.specs.declared.instruction.Mode.TheVariants.{Rel}
+use Rattle.model.specs.declared.instruction.Mode.TheVariants.{Ind, Rel, IndZ}
 use Rattle.model.specs.declared.line.Index.{Index}
 use Rattle.assembler.specs.declared.forms.Form.{Form}
 use Rattle.assembler.specs.declared.forms.Form.TheVariants.{One, BySize}
+use Rattle.assembler.specs.declared.layout.Code.{Code}
 use Rattle.assembler.specs.declared.layout.Site.{Site}
 use Rattle.asm_line.specs.declared.fault.LineError.{LineError}
 use Rattle.asm_line.specs.declared.fault.LineError.TheVariants as errors
@@ -30,38 +30,42 @@ seen_form (One mode) = one mode
 seen_form (BySize short long) = by_size short long
 
 -- The form for an unmarked operand that may have an index.
-abbrev pub direct_form : Mnemonic → Index → Option model_layout.Form
-direct_form m by =
-    if is_unindexed by && has_row m Rel then Some (one Rel)
-    else either m (zero_page_mode by) (absolute_mode by)
+abbrev pub direct_form : Profile → Mnemonic → Index → Option model_layout.Form
+direct_form profile m by =
+    if is_unindexed by && has_row profile m Rel then Some (one Rel)
+    else either profile m (zero_page_mode by) (absolute_mode by)
 
-abbrev pub code_by : Option Mode → Statement → Content
-code_by (Some mode) (instruction m operand) = code (unwrap_or (encoded m mode) 0) mode (term_of operand)
-code_by mode s = no_bytes
+-- The form for a pointer in round brackets.
+abbrev pub pointer_form : Profile → Mnemonic → Option model_layout.Form
+pointer_form profile m = if has_row profile m Ind then Some (one Ind) else only profile m IndZ
 
--- What a statement denotes, where an instruction has this mode.
-abbrev pub content_by : Option Mode → Statement → Content
-content_by mode (bytes items) = byte_list items
-content_by mode (words es) = word_list es
-content_by mode (words_high_first es) = word_list_high_first es
-content_by mode (instruction m operand) = code_by mode (instruction m operand)
-content_by mode nothing = no_bytes
-content_by mode (origin e) = no_bytes
-content_by mode (reserve e) = no_bytes
-content_by mode finish = no_bytes
+abbrev pub code_by : Option Code → Statement → Content
+code_by (Some c) (instruction m operand) = code c.opcode c.mode (term_of operand)
+code_by c s = no_bytes
 
-abbrev pub line_content : Option Mode → Line → Content
-line_content mode (labelled name s) = content_by mode s
-line_content mode (definition name e) = no_bytes
+-- What a statement denotes, where an instruction has this opcode and this mode.
+abbrev pub content_by : Option Code → Statement → Content
+content_by c (bytes items) = byte_list items
+content_by c (words es) = word_list es
+content_by c (words_high_first es) = word_list_high_first es
+content_by c (instruction m operand) = code_by c (instruction m operand)
+content_by c nothing = no_bytes
+content_by c (origin e) = no_bytes
+content_by c (reserve e) = no_bytes
+content_by c finish = no_bytes
+
+abbrev pub line_content : Option Code → Line → Content
+line_content c (labelled name s) = content_by c s
+line_content c (definition name e) = no_bytes
 
 abbrev pub site_of : ℕ → Statement → Site → Place
-site_of address s site = (record { address = address; content = content_by site.mode s }, site.next)
+site_of address s site = (record { address = address; content = content_by site.code s }, site.next)
 
 -- What was answered, and the names that are left, are what a definition gives, memory aside.
-abbrev pub Fixes : ℕ → Line → Result Site LineError → Definitions → Result Standing AsmFaultKind → Type 0
-Fixes address l (Ok site) names given = given ≡ Ok (record { address = address; content = line_content site.mode l }, record { address = site.next; names = names })
-Fixes address l (Err errors.Memory) names given = ⊤
-Fixes address l (Err (errors.Kind kind)) names given = given ≡ Err kind
+abbrev pub Fixes : Profile → ℕ → Line → Result Site LineError → Definitions → Result Standing AsmFaultKind → Type 0
+Fixes profile address l (Ok site) names given = given ≡ Ok (record { address = address; content = line_content site.code l }, record { profile = profile; address = site.next; names = names })
+Fixes profile address l (Err errors.Memory) names given = ⊤
+Fixes profile address l (Err (errors.Kind kind)) names given = given ≡ Err kind
 
 -- What was answered, memory aside.
 abbrev pub unlocated : {A : Type 0} → Result A LineError → Option (Result A AsmFaultKind)

@@ -85,7 +85,7 @@ impl Assembly {
     }
 }
 
-/// Assembles a source: lines that end with LF or CR LF, and after the last LF one more if it is not empty.
+/// Assembles a source in its map's profile: lines that end with LF or CR LF, and after the last LF one more if it is not empty.
 ///
 /// The answer is the image that the source denotes, or its fault. Lines are counted from 1. A fault of the layout comes before
 /// any fault of a value; within each group the lowest line decides, then the lowest number on it. Nothing behind the line of `.END`
@@ -122,8 +122,8 @@ pub fn assemble(alloc: Global, source: &[u8], map: &MapSpec) -> Result<Assembly,
     ensures cells { IfOk result (λ a. IsImage a.image) }
     // The source is kept, where its lines stand and how many bytes each has, and its names with their numbers.
     ensures kept { IfOk result (λ a. a.source ≡ source.now) }
-    ensures places { IfOk result (λ a. (placed : List Placed) (all : Fixed) → LaidOut nothing_fixed (read_lines source.now) placed all → a.places ≡ extents_of placed) }
-    ensures names { IfOk result (λ a. (placed : List Placed) (all : Fixed) → LaidOut nothing_fixed (read_lines source.now) placed all → a.names ≡ all.names) }
+    ensures places { IfOk result (λ a. (placed : List Placed) (all : Fixed) → LaidOut (nothing_fixed map.now.profile) (read_lines map.now.profile source.now) placed all → a.places ≡ extents_of placed) }
+    ensures names { IfOk result (λ a. (placed : List Placed) (all : Fixed) → LaidOut (nothing_fixed map.now.profile) (read_lines map.now.profile source.now) placed all → a.names ≡ all.names) }
     // The listing of these is that of the source.
     ensures listed { IfOk result (λ a. IsListing map.now source.now (listing_of a)) }
 {
@@ -146,7 +146,7 @@ fn assemble_lines(alloc: Global, source: &[u8], map: &MapSpec) -> Result<Assembl
         });
     }
     let mut symbols = Symbols::new(alloc);
-    let lines = lay_out(alloc, &mut symbols, source)?;
+    let lines = lay_out(alloc, map.profile(), &mut symbols, source)?;
     let image = make_image(alloc, map, &symbols, lines.kept())?;
     // For the proof: what `cells` says of each image.
     let _ = image.cells();

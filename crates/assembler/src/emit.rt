@@ -16,12 +16,11 @@ ghost use Rattle.model.specs.Value.{eval_of};
 
 use crate::forms::term_of;
 use crate::kept::Kept;
-use crate::layout::{Site, value_at};
+use crate::layout::{Code, Site, value_at};
 use asm_expr::Expr;
 use asm_line::{Item, LineError, Statement};
 use bus::{Image, MapSpec};
 use model::{AsmFaultKind, ExprFault, Mode};
-use optable::encode;
 use std::alloc::{AllocError, Global};
 use std::marker::Model;
 use symbols::Symbols;
@@ -176,6 +175,7 @@ fn operand(here: u32, mode: Mode, value: Result<i32, ExprFault>) -> Result<Encod
         Mode::IndY => zero_page(value),
         Mode::Ind => address(value),
         Mode::Rel => branch(here, value),
+        Mode::IndZ => zero_page(value),
     }
 }
 
@@ -376,26 +376,26 @@ impl Gathered {
         }
     }
 
-    /// All pieces of a statement in its mode.
+    /// All pieces of a statement, an instruction by its opcode.
     #[tactic(auto, unfolding(model::specs::Bytes::pieces_of, crate::specs::Gathering::gathered))]
     fn add_statement(
         &mut self,
         names: &Symbols,
         here: u32,
-        mode: Option<Mode>,
+        code: Option<Code>,
         statement: &Statement<'_>,
     ) -> Result<(), AllocError>
         requires { here < 2 ^ 31 - 510 }
-        ensures { OnOk result (self.new ≡ gathered self.old (pieces_of (number_in names.now) here (content_by mode (seen statement.now)))) }
+        ensures { OnOk result (self.new ≡ gathered self.old (pieces_of (number_in names.now) here (content_by code (seen statement.now)))) }
     {
         match statement {
             Statement::Bytes(items) => self.add_items(names, here, items),
             Statement::Words(values) => self.add_words(names, here, values),
             Statement::WordsHighFirst(values) => self.add_words_high_first(names, here, values),
-            Statement::Instruction(mnemonic, operand) => match mode {
-                Some(mode) => {
-                    self.push(Encoded::Byte(encode(*mnemonic, mode).unwrap_or(0)))?;
-                    self.add_operand(names, here, mode, term_of(operand))
+            Statement::Instruction(_, operand) => match code {
+                Some(code) => {
+                    self.push(Encoded::Byte(code.opcode))?;
+                    self.add_operand(names, here, code.mode, term_of(operand))
                 }
                 None => Ok(()),
             },
@@ -475,7 +475,7 @@ fn gather(
     ensures { OnOk result (gathered.new ≡ line_gathered map.now (number_in names.now) image.now (placed_of line.now)) }
 {
     gathered.clear();
-    gathered.add_statement(names, line.address, line.mode, &line.statement)?;
+    gathered.add_statement(names, line.address, line.code, &line.statement)?;
     judge_place(gathered, map, image, line.address, line.count);
     Ok(())
 }
@@ -490,10 +490,10 @@ pub fn gather_alone(
 ) -> Result<Gathered, AllocError>
     requires near { address < 2 ^ 31 - 510 }
     requires small { site.count ≤ 510 }
-    ensures { IfOk result (λ g. g ≡ noted (gathered nothing_gathered (pieces_of no_numbers address (content_by site.mode (seen statement.now)))) (kind_if (nat_lt 65536 (address + site.count)) PastEnd)) }
+    ensures { IfOk result (λ g. g ≡ noted (gathered nothing_gathered (pieces_of no_numbers address (content_by site.code (seen statement.now)))) (kind_if (nat_lt 65536 (address + site.count)) PastEnd)) }
 {
     let mut gathered = Gathered::new(alloc);
-    gathered.add_statement(&Symbols::new(alloc), address, site.mode, statement)?;
+    gathered.add_statement(&Symbols::new(alloc), address, site.code, statement)?;
     gathered.refuse_if(65536 < address + site.count, AsmFaultKind::PastEnd);
     Ok(gathered)
 }

@@ -12,7 +12,7 @@ use crate::fix::fix;
 use crate::found::Lines;
 use crate::line::next_line;
 use asm_line::{Line, LineError, Statement, Token, read_line_with};
-use model::AsmFault;
+use model::{AsmFault, Profile};
 use std::alloc::Global;
 use symbols::Symbols;
 
@@ -46,6 +46,7 @@ fn ends(line: &Line<'_>) -> bool
 #[tactic(auto, unfolding(model::specs::Layout::layout_of))]
 fn take_line<'a>(
     alloc: Global,
+    profile: Profile,
     symbols: &mut Symbols,
     lines: &mut Lines<'a>,
     room: &mut Vec<Token<'a>>,
@@ -54,12 +55,12 @@ fn take_line<'a>(
     text: &'a [u8],
 ) -> Result<(u32, bool), LineError>
     requires { address < 2 ^ 31 - 510 }
-    ensures exact { Takes text.now (found_of lines.new) result symbols.new (taken number (found_of lines.old) (layout_of (record { address = address; names = symbols.old }) text.now)) }
+    ensures exact { Takes profile text.now (found_of lines.new) result symbols.new (taken number (found_of lines.old) (layout_of (record { profile = profile; address = address; names = symbols.old }) text.now)) }
     ensures near { IfOk result (λ r. r.0 ≤ max (address + 510) 65536) }
 {
-    let line = read_line_with(alloc, room, text)?;
+    let line = read_line_with(alloc, profile, room, text)?;
     let ended = ends(&line);
-    match fix(alloc, symbols, address, &line) {
+    match fix(alloc, profile, symbols, address, &line) {
         Ok(site) => {
             lines.note(number, address, line, site)?;
             Ok((site.next, ended))
@@ -74,12 +75,13 @@ fn take_line<'a>(
 /// Each line that is read in its place, and all names with their numbers; or the first layout fault.
 pub fn lay_out<'a>(
     alloc: Global,
+    profile: Profile,
     symbols: &mut Symbols,
     source: &'a [u8],
 ) -> Result<Lines<'a>, AsmFault>
     requires size { length source.now ≤ 1048576 }
     requires empty { symbols.old ≡ [] }
-    ensures { Lays result symbols.new (found_lines 1 nothing_fixed nothing_found (read_lines source.now)) }
+    ensures { Lays profile result symbols.new (found_lines 1 (nothing_fixed profile) nothing_found (read_lines profile source.now)) }
 {
     let mut lines = Lines::new(alloc);
     let mut room = Vec::new(alloc);
@@ -88,7 +90,9 @@ pub fn lay_out<'a>(
     let mut address = 0;
     while !rest.is_empty() {
         let (text, behind) = next_line(rest);
-        match take_line(alloc, symbols, &mut lines, &mut room, number, address, text) {
+        match take_line(
+            alloc, profile, symbols, &mut lines, &mut room, number, address, text,
+        ) {
             Ok((next, ended)) => {
                 if ended {
                     return Ok(lines);

@@ -12,7 +12,7 @@ ghost use Rattle.model.specs.Layout.{line_fixed, or_too_many, size_of, unless_fu
 use crate::layout::{Site, lay, placing, value_at};
 use asm_expr::Expr;
 use asm_line::{Line, LineError, Statement};
-use model::AsmFaultKind;
+use model::{AsmFaultKind, Profile};
 use std::alloc::Global;
 use symbols::Symbols;
 
@@ -57,6 +57,7 @@ fn unless_full(full: bool, laid: Result<Site, AsmFaultKind>) -> Result<Site, Lin
 #[tactic(auto, unfolding(model::specs::Layout::line_fixed))]
 fn fix_label(
     alloc: Global,
+    profile: Profile,
     symbols: &mut Symbols,
     address: u32,
     name: &[u8],
@@ -65,20 +66,21 @@ fn fix_label(
     requires room { address < 2 ^ 31 - 510 }
     requires small { IsSmall (seen statement.now) }
     requires fresh { number_in symbols.old name.now ≡ None }
-    ensures exact { Fixes address (labelled (Some name.now) (seen statement.now)) result symbols.new (line_fixed (record { address = address; names = symbols.old }) (labelled (Some name.now) (seen statement.now))) }
+    ensures exact { Fixes profile address (labelled (Some name.now) (seen statement.now)) result symbols.new (line_fixed (record { profile = profile; address = address; names = symbols.old }) (labelled (Some name.now) (seen statement.now))) }
     ensures near { IfOk result (λ s. s.next ≤ max (address + 510) 65536) }
     ensures small { IfOk result (λ s. s.count ≤ 510) }
-    ensures sized { IfOk result (λ s. s.count ≡ size_of (line_content s.mode (labelled (Some name.now) (seen statement.now)))) }
+    ensures sized { IfOk result (λ s. s.count ≡ size_of (line_content s.code (labelled (Some name.now) (seen statement.now)))) }
 {
     let full = symbols.count() == MOST_NAMES;
     symbols.define(alloc, name, address as i32)?;
-    unless_full(full, lay(address, symbols, statement))
+    unless_full(full, lay(profile, address, symbols, statement))
 }
 
 /// A name, which is new, defined.
 #[tactic(auto, unfolding(model::specs::Layout::line_fixed, model::specs::Layout::size_of))]
 fn fix_definition(
     alloc: Global,
+    profile: Profile,
     symbols: &mut Symbols,
     address: u32,
     name: &[u8],
@@ -86,10 +88,10 @@ fn fix_definition(
 ) -> Result<Site, LineError>
     requires room { address < 2 ^ 31 - 510 }
     requires fresh { number_in symbols.old name.now ≡ None }
-    ensures exact { Fixes address (definition name.now (view value.now)) result symbols.new (line_fixed (record { address = address; names = symbols.old }) (definition name.now (view value.now))) }
+    ensures exact { Fixes profile address (definition name.now (view value.now)) result symbols.new (line_fixed (record { profile = profile; address = address; names = symbols.old }) (definition name.now (view value.now))) }
     ensures near { IfOk result (λ s. s.next ≤ max (address + 510) 65536) }
     ensures small { IfOk result (λ s. s.count ≤ 510) }
-    ensures sized { IfOk result (λ s. s.count ≡ size_of (line_content s.mode (definition name.now (view value.now)))) }
+    ensures sized { IfOk result (λ s. s.count ≡ size_of (line_content s.code (definition name.now (view value.now)))) }
 {
     let full = symbols.count() == MOST_NAMES;
     match placing(value_at(value, symbols, address)) {
@@ -113,30 +115,34 @@ fn fix_definition(
 #[tactic(auto, unfolding(model::specs::Layout::line_fixed))]
 pub fn fix(
     alloc: Global,
+    profile: Profile,
     symbols: &mut Symbols,
     address: u32,
     line: &Line<'_>,
 ) -> Result<Site, LineError>
     requires room { address < 2 ^ 31 - 510 }
     requires small { IsSmallLine (seen_line line.now) }
-    ensures exact { Fixes address (seen_line line.now) result symbols.new (line_fixed (record { address = address; names = symbols.old }) (seen_line line.now)) }
+    ensures exact { Fixes profile address (seen_line line.now) result symbols.new (line_fixed (record { profile = profile; address = address; names = symbols.old }) (seen_line line.now)) }
     ensures near { IfOk result (λ s. s.next ≤ max (address + 510) 65536) }
     ensures small { IfOk result (λ s. s.count ≤ 510) }
-    ensures sized { IfOk result (λ s. s.count ≡ size_of (line_content s.mode (seen_line line.now))) }
+    ensures sized { IfOk result (λ s. s.count ≡ size_of (line_content s.code (seen_line line.now))) }
 {
     match line {
-        Line::Labelled(None, statement) => unless_full(false, lay(address, symbols, statement)),
+        Line::Labelled(None, statement) => unless_full(
+            false,
+            lay(profile, address, symbols, statement),
+        ),
         Line::Labelled(Some(name), statement) => {
             if symbols.value_of(name).is_some() {
                 return Err(LineError::Kind(AsmFaultKind::DuplicateName));
             }
-            fix_label(alloc, symbols, address, name, statement)
+            fix_label(alloc, profile, symbols, address, name, statement)
         }
         Line::Definition(name, value) => {
             if symbols.value_of(name).is_some() {
                 return Err(LineError::Kind(AsmFaultKind::DuplicateName));
             }
-            fix_definition(alloc, symbols, address, name, value)
+            fix_definition(alloc, profile, symbols, address, name, value)
         }
     }
 }

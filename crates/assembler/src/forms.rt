@@ -3,13 +3,13 @@
 ghost use Rattle.std.specs.Prelude.{◌≡◌};
 ghost use Rattle.asm_expr.specs.Trees.{view};
 ghost use Rattle.asm_line.specs.Seen.{seen_operand};
-ghost use Rattle.assembler.specs.Sites.{direct_form, seen_form, shown};
+ghost use Rattle.assembler.specs.Sites.{direct_form, pointer_form, seen_form, shown};
 ghost use Rattle.model.specs.Layout.{absolute_mode, either, form_of, has_row, is_unindexed, only, term_of, zero_page_mode};
 
 use asm_expr::Expr;
 use asm_line::Operand;
-use model::{Index, Mnemonic, Mode};
-use optable::encode;
+use model::{Index, Mnemonic, Mode, Profile};
+use optable::encode_in;
 
 /// The form of an instruction: one mode, or by its operand's value one of two.
 #[derive(Clone, Copy, Debug, PartialEq, Eq)]
@@ -19,19 +19,19 @@ pub enum Form {
     BySize(Mode, Mode),
 }
 
-/// Whether an instruction has a mode.
+/// Whether an instruction has a mode in a profile.
 #[tactic(auto, unfolding(model::specs::Layout::has_row))]
-fn has_row(mnemonic: Mnemonic, mode: Mode) -> bool
-    ensures { result ≡ has_row mnemonic mode }
+fn has_row(profile: Profile, mnemonic: Mnemonic, mode: Mode) -> bool
+    ensures { result ≡ has_row profile mnemonic mode }
 {
-    encode(mnemonic, mode).is_some()
+    encode_in(profile, mnemonic, mode).is_some()
 }
 
 /// One mode, if the instruction has it.
-fn only(mnemonic: Mnemonic, mode: Mode) -> Option<Form>
-    ensures { shown seen_form result ≡ only mnemonic mode }
+fn only(profile: Profile, mnemonic: Mnemonic, mode: Mode) -> Option<Form>
+    ensures { shown seen_form result ≡ only profile mnemonic mode }
 {
-    if has_row(mnemonic, mode) {
+    if has_row(profile, mnemonic, mode) {
         Some(Form::One(mode))
     } else {
         None
@@ -39,13 +39,13 @@ fn only(mnemonic: Mnemonic, mode: Mode) -> Option<Form>
 }
 
 /// Of two modes those that the instruction has.
-fn either(mnemonic: Mnemonic, short: Mode, long: Mode) -> Option<Form>
-    ensures { shown seen_form result ≡ either mnemonic short long }
+fn either(profile: Profile, mnemonic: Mnemonic, short: Mode, long: Mode) -> Option<Form>
+    ensures { shown seen_form result ≡ either profile mnemonic short long }
 {
-    if !has_row(mnemonic, short) {
-        return only(mnemonic, long);
+    if !has_row(profile, mnemonic, short) {
+        return only(profile, mnemonic, long);
     }
-    if has_row(mnemonic, long) {
+    if has_row(profile, mnemonic, long) {
         Some(Form::BySize(short, long))
     } else {
         Some(Form::One(short))
@@ -86,37 +86,52 @@ fn is_unindexed(index: Index) -> bool
 }
 
 /// The form for an unmarked operand that may have an index.
-fn direct_form(mnemonic: Mnemonic, index: Index) -> Option<Form>
-    ensures { shown seen_form result ≡ direct_form mnemonic index }
+fn direct_form(profile: Profile, mnemonic: Mnemonic, index: Index) -> Option<Form>
+    ensures { shown seen_form result ≡ direct_form profile mnemonic index }
 {
-    if is_unindexed(index) & has_row(mnemonic, Mode::Rel) {
+    if is_unindexed(index) & has_row(profile, mnemonic, Mode::Rel) {
         return Some(Form::One(Mode::Rel));
     }
-    either(mnemonic, zero_page_mode(index), absolute_mode(index))
+    either(
+        profile,
+        mnemonic,
+        zero_page_mode(index),
+        absolute_mode(index),
+    )
+}
+
+/// The form for a pointer in round brackets: an address, or where the instruction has no such mode one in the zero page.
+fn pointer_form(profile: Profile, mnemonic: Mnemonic) -> Option<Form>
+    ensures { shown seen_form result ≡ pointer_form profile mnemonic }
+{
+    if has_row(profile, mnemonic, Mode::Ind) {
+        return Some(Form::One(Mode::Ind));
+    }
+    only(profile, mnemonic, Mode::IndZ)
 }
 
 /// The form for an operand, if the instruction has one.
 #[tactic(auto, unfolding(model::specs::Layout::form_of))]
-pub fn form_of(mnemonic: Mnemonic, operand: &Operand<'_>) -> Option<Form>
-    ensures { shown seen_form result ≡ form_of mnemonic (seen_operand operand.now) }
+pub fn form_of(profile: Profile, mnemonic: Mnemonic, operand: &Operand<'_>) -> Option<Form>
+    ensures { shown seen_form result ≡ form_of profile mnemonic (seen_operand operand.now) }
 {
     match operand {
-        Operand::Absent => only(mnemonic, Mode::Imp),
-        Operand::Accumulator => only(mnemonic, Mode::Acc),
-        Operand::Immediate(_) => only(mnemonic, Mode::Imm),
+        Operand::Absent => only(profile, mnemonic, Mode::Imp),
+        Operand::Accumulator => only(profile, mnemonic, Mode::Acc),
+        Operand::Immediate(_) => only(profile, mnemonic, Mode::Imm),
         Operand::Direct {
             marked: true,
             value: _,
             index,
-        } => only(mnemonic, absolute_mode(*index)),
+        } => only(profile, mnemonic, absolute_mode(*index)),
         Operand::Direct {
             marked: false,
             value: _,
             index,
-        } => direct_form(mnemonic, *index),
-        Operand::Pointer(_) => only(mnemonic, Mode::Ind),
-        Operand::PointerByX(_) => only(mnemonic, Mode::IndX),
-        Operand::PointerByY(_) => only(mnemonic, Mode::IndY),
+        } => direct_form(profile, mnemonic, *index),
+        Operand::Pointer(_) => pointer_form(profile, mnemonic),
+        Operand::PointerByX(_) => only(profile, mnemonic, Mode::IndX),
+        Operand::PointerByY(_) => only(profile, mnemonic, Mode::IndY),
     }
 }
 

@@ -8,9 +8,8 @@ ghost use Rattle.assembler.specs.Sites.{content_by, line_content};
 ghost use Rattle.model.specs.Layout.{size_of};
 
 use crate::kept::{Kept, Span};
-use crate::layout::Site;
+use crate::layout::{Code, Site};
 use asm_line::{Line, Statement};
-use model::Mode;
 use std::alloc::{AllocError, Global};
 
 /// Where each line stands, and the lines that denote bytes.
@@ -20,16 +19,16 @@ pub struct Lines<'a> {
     kept: Vec<Kept<'a>>,
 }
 
-/// Whether a statement denotes bytes in its mode.
-fn is_kept(mode: Option<Mode>, statement: &Statement<'_>) -> bool
-    ensures { result ≡ is_kept (content_by mode (seen statement.now)) }
+/// Whether a statement denotes bytes, an instruction by its opcode.
+fn is_kept(code: Option<Code>, statement: &Statement<'_>) -> bool
+    ensures { result ≡ is_kept (content_by code (seen statement.now)) }
 {
     match statement {
         Statement::Nothing | Statement::Origin(_) | Statement::Reserve(_) | Statement::Finish => {
             false
         }
         Statement::Bytes(_) | Statement::Words(_) | Statement::WordsHighFirst(_) => true,
-        Statement::Instruction(_, _) => mode.is_some(),
+        Statement::Instruction(_, _) => code.is_some(),
     }
 }
 
@@ -68,8 +67,8 @@ impl<'a> Lines<'a> {
     ) -> Result<(), AllocError>
         requires near { address < 2 ^ 31 - 510 }
         requires small { site.count ≤ 510 }
-        requires sized { site.count ≡ size_of (line_content site.mode (seen_line line)) }
-        ensures { OnOk result (found_of self.new ≡ noting number (found_of self.old) (record { address = address; content = line_content site.mode (seen_line line.entry) })) }
+        requires sized { site.count ≡ size_of (line_content site.code (seen_line line)) }
+        ensures { OnOk result (found_of self.new ≡ noting number (found_of self.old) (record { address = address; content = line_content site.code (seen_line line.entry) })) }
     {
         self.spans.push(Span {
             address,
@@ -77,12 +76,12 @@ impl<'a> Lines<'a> {
         })?;
         match line {
             Line::Labelled(_, statement) => {
-                if is_kept(site.mode, &statement) {
+                if is_kept(site.code, &statement) {
                     self.kept.push(Kept {
                         number,
                         address,
                         count: site.count,
-                        mode: site.mode,
+                        code: site.code,
                         statement,
                     })?;
                 } else {

@@ -5,8 +5,8 @@ ghost use Rattle.asm_line.specs.Seen.{seen};
 ghost use Rattle.assembler.specs.Sites.{content_by};
 ghost use Rattle.model.specs.Layout.{size_of};
 
+use crate::layout::Code;
 use asm_line::Statement;
-use model::Mode;
 
 /// Where a line stands, and how many bytes it has.
 #[derive(Clone, Copy, Debug, PartialEq, Eq)]
@@ -24,10 +24,10 @@ pub struct Kept<'a> {
     pub address: u32,
     /// How many bytes it has.
     pub count: u32,
-    /// Its instruction's mode, if it has one.
-    pub mode: Option<Mode>,
+    /// What its instruction is encoded by, if it has one.
+    pub code: Option<Code>,
     pub statement: Statement<'a>,
     ghost near: { address < 2 ^ 31 - 510 },
     ghost small: { count ≤ 510 },
-    ghost sized: { count ≡ size_of (content_by mode (seen statement)) },
+    ghost sized: { count ≡ size_of (content_by code (seen statement)) },
 }

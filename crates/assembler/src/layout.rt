@@ -12,12 +12,20 @@ ghost use Rattle.model.specs.Line.{instruction};
 use crate::forms::{Form, form_of, term_of};
 use asm_expr::{Expr, Names, eval};
 use asm_line::{Item, Operand, Statement};
-use model::{AsmFaultKind, ExprFault, Mnemonic, Mode};
+use model::{AsmFaultKind, ExprFault, Mnemonic, Mode, Profile};
+use optable::encode_in;
 
-/// The mode of a line's instruction, if it has one, its byte count, and the next line's address.
+/// An instruction's opcode, and the mode in which its operand stands behind it.
+#[derive(Clone, Copy)]
+pub struct Code {
+    pub opcode: u8,
+    pub mode: Mode,
+}
+
+/// What a line's instruction is encoded by, if it has one, its byte count, and the next line's address.
 #[derive(Clone, Copy)]
 pub struct Site {
-    pub mode: Option<Mode>,
+    pub code: Option<Code>,
     pub count: u32,
     pub next: u32,
 }
@@ -25,23 +33,23 @@ pub struct Site {
 impl Site {
     /// A line without bytes, and the next line's address.
     pub fn without_bytes(next: u32) -> Site
-        ensures { result ≡ record { mode = None; count = 0; next = next } }
+        ensures { result ≡ record { code = None; count = 0; next = next } }
     {
         Site {
-            mode: None,
+            code: None,
             count: 0,
             next,
         }
     }
 
     /// A line at an address with so many bytes.
-    fn standing(address: u32, mode: Option<Mode>, count: u32) -> Site
+    fn standing(address: u32, code: Option<Code>, count: u32) -> Site
         requires near { address < 2 ^ 31 - 510 }
         requires small { count ≤ 510 }
-        ensures { result ≡ record { mode = mode; count = count; next = address + count } }
+        ensures { result ≡ record { code = code; count = count; next = address + count } }
     {
         Site {
-            mode,
+            code,
             count,
             next: address + count,
         }
@@ -125,7 +133,7 @@ fn length_in(mode: Mode) -> u32
     match mode {
         Mode::Imp | Mode::Acc => 1,
         Mode::Imm | Mode::Zp | Mode::ZpX | Mode::ZpY => 2,
-        Mode::IndX | Mode::IndY | Mode::Rel => 2,
+        Mode::IndX | Mode::IndY | Mode::IndZ | Mode::Rel => 2,
         Mode::Abs | Mode::AbsX | Mode::AbsY | Mode::Ind => 3,
     }
 }
@@ -172,34 +180,42 @@ fn items_size(items: &[Item<'_>]) -> u32
 /// An instruction at an address.
 #[tactic(auto, using(source_laws::proofs::Lengths::length_in_small), unfolding(model::specs::Layout::laid, model::specs::Layout::size_of))]
 fn instruct<N: Names>(
+    profile: Profile,
     address: u32,
     names: &N,
     mnemonic: Mnemonic,
     operand: &Operand<'_>,
 ) -> Result<Site, AsmFaultKind>
     requires { address < 2 ^ 31 - 510 }
-    ensures exact { Shows (site_of address (instruction mnemonic (seen_operand operand.now))) result (laid (N.number_of names.now) address (instruction mnemonic (seen_operand operand.now))) }
+    ensures exact { Shows (site_of address (instruction mnemonic (seen_operand operand.now))) result (laid profile (N.number_of names.now) address (instruction mnemonic (seen_operand operand.now))) }
     ensures near { IfOk result (λ s. s.next ≤ address + 510) }
     ensures small { IfOk result (λ s. s.count ≤ 510) }
-    ensures sized { IfOk result (λ s. s.count ≡ size_of (content_by s.mode (instruction mnemonic (seen_operand operand.now)))) }
+    ensures sized { IfOk result (λ s. s.count ≡ size_of (content_by s.code (instruction mnemonic (seen_operand operand.now)))) }
 {
-    let mode = mode_of(address, names, term_of(operand), form_of(mnemonic, operand))?;
-    Ok(Site::standing(address, Some(mode), length_in(mode)))
+    let mode = mode_of(
+        address,
+        names,
+        term_of(operand),
+        form_of(profile, mnemonic, operand),
+    )?;
+    let opcode = encode_in(profile, mnemonic, mode).unwrap_or(0);
+    Ok(Site::standing(address, Some(Code { opcode, mode }), length_in(mode)))
 }
 
 /// A statement at an address, or its layout fault.
 #[tactic(auto, unfolding(model::specs::Layout::laid, model::specs::Layout::size_of))]
 pub fn lay<N: Names>(
+    profile: Profile,
     address: u32,
     names: &N,
     statement: &Statement<'_>,
 ) -> Result<Site, AsmFaultKind>
     requires room { address < 2 ^ 31 - 510 }
     requires small { IsSmall (seen statement.now) }
-    ensures exact { Shows (site_of address (seen statement.now)) result (laid (N.number_of names.now) address (seen statement.now)) }
+    ensures exact { Shows (site_of address (seen statement.now)) result (laid profile (N.number_of names.now) address (seen statement.now)) }
     ensures near { IfOk result (λ s. s.next ≤ max (address + 510) 65536) }
     ensures small { IfOk result (λ s. s.count ≤ 510) }
-    ensures sized { IfOk result (λ s. s.count ≡ size_of (content_by s.mode (seen statement.now))) }
+    ensures sized { IfOk result (λ s. s.count ≡ size_of (content_by s.code (seen statement.now))) }
 {
     match statement {
         Statement::Nothing | Statement::Finish => Ok(Site::without_bytes(address)),
@@ -215,6 +231,8 @@ pub fn lay<N: Names>(
             let next = behind_room(address, placing(value_at(value, names, address))?)?;
             Ok(Site::without_bytes(next))
         }
-        Statement::Instruction(mnemonic, operand) => instruct(address, names, *mnemonic, operand),
+        Statement::Instruction(mnemonic, operand) => instruct(
+            profile, address, names, *mnemonic, operand,
+        ),
     }
 }

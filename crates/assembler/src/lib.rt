@@ -21,5 +21,5 @@ mod one_line;
 mod second_pass;
 
 pub use assembly::{Assembly, assemble};
-pub use model::{AsmFault, AsmFaultKind};
-pub use one_line::{Line, assemble_line};
+pub use model::{AsmFault, AsmFaultKind, Profile};
+pub use one_line::{Line, assemble_line, assemble_line_in};

@@ -16,7 +16,7 @@ use crate::fault::located;
 use crate::fix::fix;
 use crate::layout::Site;
 use asm_line::{LineError, Statement, read_line};
-use model::{AsmFault, AsmFaultKind};
+use model::{AsmFault, AsmFaultKind, Profile};
 use std::alloc::Global;
 use symbols::Symbols;
 
@@ -67,8 +67,8 @@ fn encode_alone(
 ) -> Result<Line, LineError>
     requires near { address < 2 ^ 31 - 510 }
     requires short { site.count ≤ 3 }
-    requires sized { site.count ≡ size_of (content_by site.mode (seen statement.now)) }
-    ensures bytes { Gives (λ l. take l.count l.bytes) result (bytes_alone (record { address = address; content = content_by site.mode (seen statement.now) })) }
+    requires sized { site.count ≡ size_of (content_by site.code (seen statement.now)) }
+    ensures bytes { Gives (λ l. take l.count l.bytes) result (bytes_alone (record { address = address; content = content_by site.code (seen statement.now) })) }
     ensures rest { IfOk result (λ l. drop l.count l.bytes ≡ replicate (3 - l.count) 0) }
     ensures few { IfOk result (λ l. l.count ≤ 3) }
 {
@@ -81,15 +81,20 @@ fn encode_alone(
 
 /// The bytes of a line alone at an address, or its fault.
 #[tactic(auto, unfolding(model::specs::OneLine::one_line))]
-fn assemble_alone(alloc: Global, address: u32, text: &[u8]) -> Result<Line, LineError>
+fn assemble_alone(
+    alloc: Global,
+    profile: Profile,
+    address: u32,
+    text: &[u8],
+) -> Result<Line, LineError>
     requires { address < 2 ^ 31 - 510 }
-    ensures bytes { Gives (λ l. take l.count l.bytes) result (one_line address text.now) }
+    ensures bytes { Gives (λ l. take l.count l.bytes) result (one_line profile address text.now) }
     ensures rest { IfOk result (λ l. drop l.count l.bytes ≡ replicate (3 - l.count) 0) }
     ensures few { IfOk result (λ l. l.count ≤ 3) }
 {
-    let line = read_line(alloc, text)?;
+    let line = read_line(alloc, profile, text)?;
     let mut symbols = Symbols::new(alloc);
-    let site = fix(alloc, &mut symbols, address, &line)?;
+    let site = fix(alloc, profile, &mut symbols, address, &line)?;
     match &line {
         asm_line::Line::Labelled(None, statement) => {
             if may_stand_alone(statement) && site.count <= 3 {
@@ -104,21 +109,36 @@ fn assemble_alone(alloc: Global, address: u32, text: &[u8]) -> Result<Line, Line
     }
 }
 
-/// The bytes that a text denotes at an address, as one line of a source without names: 1 to 3 bytes.
+/// The bytes that a text denotes at an address in a profile, as one line of a source without names: 1 to 3 bytes.
 ///
 /// The text is a line without its end, so that an LF or a CR in it is `NotAscii`, and more than 255 bytes are `LineTooLong`. Its
 /// faults are those of `assemble`, with line 1, but for three: `NotOneLine`, behind all faults of the layout and before those of
 /// values, where the text has a label, a definition, no operation, `*=`, `.RES` or `.END`, or more than 3 bytes; `Overlap` and
 /// `PortAddress` are no fault of one line. `OutOfMemory` with line 0 says that a request for memory was refused.
 /// Source: profile.
-pub fn assemble_line(alloc: Global, address: u16, text: &[u8]) -> Result<Line, AsmFault>
+pub fn assemble_line_in(
+    alloc: Global,
+    profile: Profile,
+    address: u16,
+    text: &[u8],
+) -> Result<Line, AsmFault>
     // The bytes or the fault are what the text denotes there, memory aside.
-    ensures exact { Answers (λ l. take l.count l.bytes) result (numbered 1 (one_line address text.now)) }
+    ensures exact { Answers (λ l. take l.count l.bytes) result (numbered 1 (one_line profile address text.now)) }
     ensures rest { IfOk result (λ l. drop l.count l.bytes ≡ replicate (3 - l.count) 0) }
     ensures few { IfOk result (λ l. l.count ≤ 3) }
 {
-    match assemble_alone(alloc, address as u32, text) {
+    match assemble_alone(alloc, profile, address as u32, text) {
         Ok(line) => Ok(line),
         Err(error) => Err(located(1, error)),
     }
+}
+
+/// `assemble_line_in` of profile N.
+pub fn assemble_line(alloc: Global, address: u16, text: &[u8]) -> Result<Line, AsmFault>
+    // The bytes or the fault are what the text denotes there, memory aside.
+    ensures exact { Answers (λ l. take l.count l.bytes) result (numbered 1 (one_line Profile.N address text.now)) }
+    ensures rest { IfOk result (λ l. drop l.count l.bytes ≡ replicate (3 - l.count) 0) }
+    ensures few { IfOk result (λ l. l.count ≤ 3) }
+{
+    assemble_line_in(alloc, Profile::N, address, text)
 }

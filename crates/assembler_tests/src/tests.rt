@@ -1,6 +1,6 @@
 //! Sources as the profile's worked examples give them: their bytes, or the line and the kind of their fault.
 
-use assembler::assemble;
+use assembler::{Line, Profile, assemble, assemble_line, assemble_line_in};
 use bus::MapSpec;
 use model::AsmFaultKind::{
     BranchRange, ByteRange, DivideByZero, DuplicateName, ExprRange, LineTooLong, NoSuchForm,
@@ -11,10 +11,24 @@ use model::{AsmFault, AsmFaultKind, BusFault};
 use std::alloc::{AllocError, Global};
 use std::test::Fail;
 
-/// The fault of a source, or none where it is assembled.
+/// The map of all sources here, of profile N.
+fn map_of_n() -> Result<MapSpec, BusFault> {
+    MapSpec::new(None, 0xf000)
+}
+
+/// The same map of profile C.
+fn map_of_c() -> Result<MapSpec, BusFault> {
+    Ok(map_of_n()?.profile_c())
+}
+
+/// The fault of a source under a map, or none where it is assembled.
+fn fault_under(alloc: Global, map: &MapSpec, source: &[u8]) -> Option<AsmFault> {
+    assemble(alloc, source, map).err()
+}
+
+/// The fault of a source in profile N, or none where it is assembled.
 fn fault_of(alloc: Global, source: &[u8]) -> Result<Option<AsmFault>, BusFault> {
-    let map = MapSpec::new(None, 0xf000)?;
-    Ok(assemble(alloc, source, &map).err())
+    Ok(fault_under(alloc, &map_of_n()?, source))
 }
 
 fn at(line: u32, kind: AsmFaultKind) -> Option<AsmFault> {
@@ -28,21 +42,25 @@ fn line_of(alloc: Global, count: usize, byte: u8, end: &[u8]) -> Result<Vec<u8>,
     Ok(line)
 }
 
-/// Whether a source denotes these bytes from an address on, and none before or behind them.
-fn denotes(alloc: Global, source: &[u8], from: u16, bytes: &[u8]) -> Result<bool, BusFault> {
-    let map = MapSpec::new(None, 0xf000)?;
-    let Ok(assembly) = assemble(alloc, source, &map) else {
-        return Ok(false);
+/// Whether a source denotes these bytes under a map from an address on, and none before or behind them.
+fn denotes_under(alloc: Global, map: &MapSpec, source: &[u8], from: u16, bytes: &[u8]) -> bool {
+    let Ok(assembly) = assemble(alloc, source, map) else {
+        return false;
     };
     let image = assembly.image();
     let mut address = from;
     for byte in bytes {
         if image.get(address) != Some(*byte) {
-            return Ok(false);
+            return false;
         }
         address = address.wrapping_add(1);
     }
-    Ok(image.get(from.wrapping_sub(1)).is_none() && image.get(address).is_none())
+    image.get(from.wrapping_sub(1)).is_none() && image.get(address).is_none()
+}
+
+/// The same in profile N.
+fn denotes(alloc: Global, source: &[u8], from: u16, bytes: &[u8]) -> Result<bool, BusFault> {
+    Ok(denotes_under(alloc, &map_of_n()?, source, from, bytes))
 }
 
 #[test]
@@ -226,7 +244,7 @@ fn answers_the_first_fault_of_names(rt: HostRuntime) -> Result<(), Fail> {
 
 #[test]
 fn tells_the_names(rt: HostRuntime) -> Result<(), Fail> {
-    let map = MapSpec::new(None, 0xf000)?;
+    let map = map_of_n()?;
     let source = b"start: NOP\nn1 = -1\n*=$FFFF\nbig: NOP\nend:";
     let assembly = assemble(rt.alloc(), source, &map).map_err(|_| BusFault::OutOfMemory)?;
     let names: [(&[u8], i32); 4] = [(b"start", 0), (b"n1", -1), (b"big", 65535), (b"end", 65536)];
@@ -243,7 +261,7 @@ fn tells_the_names(rt: HostRuntime) -> Result<(), Fail> {
 /// Each line's address, its bytes and its text, and the names behind; nothing behind the line of `.END`.
 #[test]
 fn lists_lines_and_names(rt: HostRuntime) -> Result<(), Fail> {
-    let map = MapSpec::new(None, 0xf000)?;
+    let map = map_of_n()?;
     let listings: [(&[u8], &[u8]); 7] = [
         (b"", b""),
         (b"\n", b"0000            \n"),
@@ -332,6 +350,99 @@ fn answers_long_lines_and_sources(rt: HostRuntime) -> Result<(), Fail> {
     assert_eq!(rt;
         fault_of(rt.alloc(), &line_of(rt.alloc(), 1_048_575, b'\n', b"?")?)?,
         at(1_048_576, Syntax)
+    );
+    Ok(())
+}
+
+/// What profile C adds, and that profile N has none of it.
+#[test]
+fn assembles_under_profile_c(rt: HostRuntime) -> Result<(), Fail> {
+    let n = map_of_n()?;
+    let c = map_of_c()?;
+    let added: [(&[u8], &[u8], AsmFaultKind); 10] = [
+        (b"*=$20\nSTZ $10\n", &[0x64, 0x10], Syntax),
+        (b"*=$20\nstz $1234,x\n", &[0x9e, 0x34, 0x12], Syntax),
+        (b"*=$20\nSTZ !$10\n", &[0x9c, 0x10, 0x00], Syntax),
+        (b"*=$20\nBRA *\n", &[0x80, 0xfe], Syntax),
+        (b"*=$20\nPHX\nPLY\n", &[0xda, 0x7a], Syntax),
+        (b"*=$20\nLDA ($10)\n", &[0xb2, 0x10], NoSuchForm),
+        (b"*=$20\nCMP ($FF)\n", &[0xd2, 0xff], NoSuchForm),
+        (b"*=$20\nSTA (5)\n", &[0x92, 5], NoSuchForm),
+        (b"*=$20\nINC A\n", &[0x1a], NoSuchForm),
+        (b"*=$20\nDEC A\n", &[0x3a], NoSuchForm),
+    ];
+    for (source, bytes, kind) in added {
+        assert_eq!(rt; denotes_under(rt.alloc(), &c, source, 0x20, bytes), true);
+        assert_eq!(rt; fault_under(rt.alloc(), &n, source), at(2, kind));
+    }
+    let both: [(&[u8], &[u8]); 4] = [
+        (b"*=$20\nJMP ($02FF)\n", &[0x6c, 0xff, 0x02]),
+        (b"*=$20\nLDA ($10),Y\n", &[0xb1, 0x10]),
+        (b"*=$20\nLDA ($10,X)\n", &[0xa1, 0x10]),
+        (b"*=$20\nINC $10\n", &[0xe6, 0x10]),
+    ];
+    for (source, bytes) in both {
+        assert_eq!(rt; denotes_under(rt.alloc(), &n, source, 0x20, bytes), true);
+        assert_eq!(rt; denotes_under(rt.alloc(), &c, source, 0x20, bytes), true);
+    }
+    Ok(())
+}
+
+/// The faults of profile C, and of profile N those of the same sources, where it has any.
+#[test]
+fn answers_faults_under_profile_c(rt: HostRuntime) -> Result<(), Fail> {
+    let n = map_of_n()?;
+    let c = map_of_c()?;
+    let faulty: [(&[u8], AsmFaultKind, Option<AsmFaultKind>); 8] = [
+        (b"bra = 1", ReservedName, None),
+        (b"Stz: NOP", ReservedName, None),
+        (b".BYTE phx\nphx = 1", ReservedName, None),
+        (b"LDA ($0100)", ByteRange, Some(NoSuchForm)),
+        (b"LDA (-1)", ByteRange, Some(NoSuchForm)),
+        (b"LDA (later)", UndefinedName, Some(NoSuchForm)),
+        (b"LDX ($10)", NoSuchForm, Some(NoSuchForm)),
+        (b"BRA *+130", BranchRange, Some(Syntax)),
+    ];
+    for (source, under_c, under_n) in faulty {
+        assert_eq!(rt; fault_under(rt.alloc(), &c, source), at(1, under_c));
+        assert_eq!(rt;
+            fault_under(rt.alloc(), &n, source),
+            under_n.and_then(|kind| at(1, kind))
+        );
+    }
+    Ok(())
+}
+
+/// The first bytes of a line that has so many.
+fn line(bytes: [u8; 3], count: u8) -> Result<Line, AsmFault> {
+    Ok(Line { bytes, count })
+}
+
+/// One line alone, in each profile; the call without a profile is of profile N.
+#[test]
+fn assembles_one_line_in_each_profile(rt: HostRuntime) -> Result<(), Fail> {
+    let lda = b"LDA ($10)";
+    let nop = b"NOP";
+    let refused = Err(AsmFault {
+        line: 1,
+        kind: NoSuchForm,
+    });
+    assert_eq!(rt;
+        assemble_line_in(rt.alloc(), Profile::C, 0x200, lda),
+        line([0xb2, 0x10, 0], 2)
+    );
+    assert_eq!(rt;
+        assemble_line_in(rt.alloc(), Profile::N, 0x200, lda),
+        refused
+    );
+    assert_eq!(rt; assemble_line(rt.alloc(), 0x200, lda), refused);
+    assert_eq!(rt;
+        assemble_line_in(rt.alloc(), Profile::C, 0x200, nop),
+        line([0xea, 0, 0], 1)
+    );
+    assert_eq!(rt;
+        assemble_line(rt.alloc(), 0x200, nop),
+        line([0xea, 0, 0], 1)
     );
     Ok(())
 }

@@ -1,14 +1,17 @@
-//! Where the port and the ROM stand.
+//! Where the port and the ROM stand, and which processor reads them.
 
 ghost use Rattle.std.specs.Prelude.{◌≡◌, ◌+◌, ◌≤◌, ◌↔◌, IsErr, IfOk, IfErr, true, false};
 ghost use Rattle.model.specs.State.{is_map, is_port, is_port_base, is_rom, is_rom_range};
+ghost use Rattle.model.specs.declared.instruction.Profile.TheVariants.{N, C};
 
-use model::BusFault;
+use model::{BusFault, Profile};
 use std::marker::Model;
 
-/// A memory map: the base of the port and, if there is one, the first and the last address of the ROM (profile).
+/// A memory map: the processor's profile, the base of the port and, if there is one, the first and the last address of the ROM
+/// (profile).
 #[derive(Clone, Copy)]
 pub struct MapSpec {
+    profile: Profile,
     rom: Option<(u16, u16)>,
     port: u16,
 }
@@ -19,19 +22,20 @@ impl Model for MapSpec {
 
     ghost Value = { Map };
 
-    ghost view = { λ m. record { rom = m.rom; port = m.port } };
+    ghost view = { λ m. record { profile = m.profile; rom = m.rom; port = m.port } };
 
-    ghost inverse = { λ m. record { rom = m.rom; port = m.port } };
+    ghost inverse = { λ m. record { profile = m.profile; rom = m.rom; port = m.port } };
 
     ghost invariant = { λ m. (512 ≤ m.port) × (m.port ≤ 65524) × (is_map m.rom m.port ≡ true) };
 }
 
 impl MapSpec {
-    /// A map with a port at this base and, if wanted, a ROM from its first to its last address (profile).
+    /// A map of profile N with a port at this base and, if wanted, a ROM from its first to its last address (profile).
     /// `BadMap` where the base is no multiple of 4 in $0200..$FFF4, or the ROM starts below $0200,
     /// ends before it starts, or meets one of the port's four addresses.
     #[tactic(auto, unfolding(model::specs::State::is_map))]
     pub fn new(rom: Option<(u16, u16)>, port: u16) -> Result<MapSpec, BusFault>
+        ensures profile { IfOk result (λ map. map.profile ≡ N) }
         ensures rom { IfOk result (λ map. map.rom ≡ rom) }
         ensures port { IfOk result (λ map. map.port ≡ port) }
         ensures bad { IsErr result ↔ (is_map rom port ≡ false) }
@@ -40,7 +44,29 @@ impl MapSpec {
         if !is_port_base(port) || !is_rom_range(rom, port) {
             return Err(BusFault::BadMap);
         }
-        Ok(MapSpec { rom, port })
+        Ok(MapSpec {
+            profile: Profile::N,
+            rom,
+            port,
+        })
+    }
+
+    /// The same map for a processor of profile C.
+    pub fn profile_c(self) -> MapSpec
+        ensures { result ≡ record self { profile = C } }
+    {
+        MapSpec {
+            profile: Profile::C,
+            ..self
+        }
+    }
+
+    /// The processor's profile.
+    #[inline(always)]
+    pub fn profile(&self) -> Profile
+        ensures { result ≡ self.now.profile }
+    {
+        self.profile
     }
 
     /// A port and a ROM that make a map. A law for proofs: it does nothing.

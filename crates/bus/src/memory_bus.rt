@@ -13,7 +13,7 @@ use crate::image::Image;
 use crate::map_spec::MapSpec;
 use crate::saved::Saved;
 use circular_buffer::HeapCircularBuffer;
-use model::{BusFault, Change};
+use model::{BusFault, Change, Profile};
 use std::alloc::{AllocError, Global};
 use std::marker::Model;
 
@@ -209,6 +209,14 @@ impl Bus {
         ensures { result + length self.now.given ≡ 65536 }
     {
         65536 - self.given.len() as u32
+    }
+
+    /// The processor's profile, as the map has it.
+    #[inline(always)]
+    pub fn profile(&self) -> Profile
+        ensures { result ≡ self.now.map.profile }
+    {
+        self.map.profile()
     }
 
     /// Whether the port has this address.

@@ -3,7 +3,7 @@
 
 pub use checkpoint::Checkpoint;
 pub use machine::Machine;
-pub use model::{Event, EventFault, Flags, Regs, Setting, Undo};
+pub use model::{Event, EventFault, Flags, Profile, Regs, Setting, Undo};
 
 mod checkpoint;
 mod effects;

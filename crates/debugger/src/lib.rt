@@ -1,7 +1,7 @@
 //! The debugger's session: a machine with the history of its whole states.
 #![tactic(auto)]
 
-pub use model::{Event, EventFault, Flags, Regs, RunEnd, SessionFault, Setting, Why};
+pub use model::{Event, EventFault, Flags, Profile, Regs, RunEnd, SessionFault, Setting, Why};
 pub use session::Session;
 
 mod course;

@@ -17,7 +17,7 @@ use crate::stops::stop_after;
 use crate::trail::happen;
 use bus::{BusFault, Change, Image, MapSpec};
 use cpu::Machine;
-use model::{Event, EventFault, Regs, RunEnd, SessionFault, Why};
+use model::{Event, EventFault, Profile, Regs, RunEnd, SessionFault, Why};
 use std::alloc::Global;
 use std::marker::Model;
 
@@ -256,6 +256,13 @@ impl Session {
         ensures { result ≡ slice_get self.now.breaks index }
     {
         self.breaks.at(index)
+    }
+
+    /// The processor's profile, as the session's map has it.
+    pub fn profile(&self) -> Profile
+        ensures { result ≡ self.now.current.bus.map.profile }
+    {
+        self.machine.profile()
     }
 
     /// The registers of the current state.

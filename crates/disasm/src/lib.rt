@@ -1,8 +1,8 @@
 //! The disassembler: the text of the instructions in some memory. Nothing here takes memory.
 #![tactic(auto)]
 
-pub use line::{TextLine, line_at};
-pub use row::{RowText, row_text};
+pub use line::{TextLine, line_at, line_in};
+pub use row::{RowText, row_text, row_text_in};
 
 mod letters;
 mod line;

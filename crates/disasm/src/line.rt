@@ -8,8 +8,8 @@ use crate::letters::letters;
 use crate::operand::operand;
 use crate::text::{Text, push_bytes, text_of};
 use hexdigits::digits_of;
-use model::Row;
-use optable::decode;
+use model::{Profile, Row};
+use optable::decode_in;
 
 /// A row of memory: its length in bytes of memory, and its text, the first `text_len` bytes of `text`. The bytes behind are 0.
 #[derive(Clone, Copy, Debug, PartialEq, Eq)]
@@ -37,14 +37,14 @@ fn row(len: u8, written: &[u8]) -> TextLine
 }
 
 /// The text of an instruction.
-fn instruction(found: Row, address: u16, second: u8, third: u8) -> Text
-    ensures exact { result.items ≡ instruction_text found address second third }
+fn instruction(profile: Profile, found: Row, address: u16, second: u8, third: u8) -> Text
+    ensures exact { result.items ≡ instruction_text profile found address second third }
     ensures short { length result.items ≤ 12 }
 {
     let mut text = text_of(&letters(found.mnemonic));
     push_bytes(
         &mut text,
-        &operand(found.mnemonic, found.mode, address, second, third),
+        &operand(profile, found.mnemonic, found.mode, address, second, third),
     );
     text
 }
@@ -69,13 +69,26 @@ fn byte_or_0(bytes: &[u8], place: usize) -> u8
     }
 }
 
-/// The row with which some bytes begin, at their address: an instruction, or `.BYTE` and the first byte where no documented
-/// instruction stands there, or where it needs a byte past $FFFF or past the last one. (The forms are those of the MCS6500
-/// manual; `!` and `.BYTE` are this profile's.)
-#[tactic(auto, unfolding(model::specs::Instruction::row_of))]
+/// The row with which some bytes begin, at their address, in profile N: what `line_in` gives for it.
 pub fn line_at(bytes: &[u8], address: u16) -> TextLine
     requires { 0 < length bytes.now }
-    ensures text { seen result ≡ row_of bytes.now address }
+    ensures text { seen result ≡ row_of Profile.N bytes.now address }
+    ensures rest { drop result.text_len result.text ≡ replicate (12 - result.text_len) 0 }
+    ensures short { result.text_len ≤ 12 }
+    // It shows at least one of the bytes, and no more than are there.
+    ensures some { 0 < result.len }
+    ensures within { result.len ≤ length bytes.now }
+{
+    line_in(Profile::N, bytes, address)
+}
+
+/// The row with which some bytes begin, at their address: an instruction of the profile, or `.BYTE` and the first byte where no
+/// instruction stands there, or where it needs a byte past $FFFF or past the last one. (The forms are those of the MCS6500
+/// manual; `!` and `.BYTE` are this profile's, and so is what profile C adds.)
+#[tactic(auto, unfolding(model::specs::Instruction::row_of))]
+pub fn line_in(profile: Profile, bytes: &[u8], address: u16) -> TextLine
+    requires { 0 < length bytes.now }
+    ensures text { seen result ≡ row_of profile bytes.now address }
     ensures rest { drop result.text_len result.text ≡ replicate (12 - result.text_len) 0 }
     ensures short { result.text_len ≤ 12 }
     // It shows at least one of the bytes, and no more than are there.
@@ -83,7 +96,7 @@ pub fn line_at(bytes: &[u8], address: u16) -> TextLine
     ensures within { result.len ≤ length bytes.now }
 {
     let first = bytes[0];
-    match decode(first) {
+    match decode_in(profile, first) {
         None => byte_line(first),
         Some(found) => {
             let fits = (found.len as usize <= bytes.len())
@@ -93,7 +106,10 @@ pub fn line_at(bytes: &[u8], address: u16) -> TextLine
             }
             let second = byte_or_0(bytes, 1);
             let third = byte_or_0(bytes, 2);
-            row(found.len, &instruction(found, address, second, third))
+            row(
+                found.len,
+                &instruction(profile, found, address, second, third),
+            )
         }
     }
 }

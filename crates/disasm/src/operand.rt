@@ -6,15 +6,15 @@ ghost use Rattle.model.specs.Layout.{has_row};
 
 use crate::text::{Text, push_bytes, text_of};
 use hexdigits::{digits_of, digits_of_word};
-use model::{Mnemonic, Mode};
-use optable::encode;
+use model::{Mnemonic, Mode, Profile};
+use optable::encode_in;
 
-/// Whether an instruction has a mode.
+/// Whether an instruction has a mode in a profile.
 #[tactic(auto, unfolding(model::specs::Layout::has_row))]
-fn has_row(mnemonic: Mnemonic, mode: Mode) -> bool
-    ensures { result ≡ has_row mnemonic mode }
+fn has_row(profile: Profile, mnemonic: Mnemonic, mode: Mode) -> bool
+    ensures { result ≡ has_row profile mnemonic mode }
 {
-    encode(mnemonic, mode).is_some()
+    encode_in(profile, mnemonic, mode).is_some()
 }
 
 /// The target of a branch at an address, by its second byte.
@@ -31,13 +31,13 @@ fn target(address: u16, second: u8) -> u16
 }
 
 /// An address in an absolute mode, and what stands behind it.
-fn absolute(mnemonic: Mnemonic, short: Mode, word: u16, suffix: &[u8]) -> Text
+fn absolute(profile: Profile, mnemonic: Mnemonic, short: Mode, word: u16, suffix: &[u8]) -> Text
     requires { length suffix.now ≤ 2 }
-    ensures exact { result.items ≡ 32 ∷ (absolute_text mnemonic short word ++ suffix.now) }
+    ensures exact { result.items ≡ 32 ∷ (absolute_text profile mnemonic short word ++ suffix.now) }
     ensures short { length result.items ≤ 9 }
 {
     let [a, b, c, d] = digits_of_word(word);
-    if (word < 256) & has_row(mnemonic, short) {
+    if (word < 256) & has_row(profile, mnemonic, short) {
         let mut text = text_of(&[b' ', b'!', b'$', a, b, c, d]);
         push_bytes(&mut text, suffix);
         return text;
@@ -49,8 +49,15 @@ fn absolute(mnemonic: Mnemonic, short: Mode, word: u16, suffix: &[u8]) -> Text
 
 /// The operand of an instruction at an address as text, by the bytes behind its opcode.
 #[tactic(auto, unfolding(model::specs::Instruction::operand_text))]
-pub fn operand(mnemonic: Mnemonic, mode: Mode, address: u16, second: u8, third: u8) -> Text
-    ensures exact { result.items ≡ operand_text mnemonic mode address second third }
+pub fn operand(
+    profile: Profile,
+    mnemonic: Mnemonic,
+    mode: Mode,
+    address: u16,
+    second: u8,
+    third: u8,
+) -> Text
+    ensures exact { result.items ≡ operand_text profile mnemonic mode address second third }
     ensures short { length result.items ≤ 9 }
 {
     let word = second as u16 + 256 * third as u16;
@@ -62,9 +69,9 @@ pub fn operand(mnemonic: Mnemonic, mode: Mode, address: u16, second: u8, third: 
         Mode::Zp => text_of(&[b' ', b'$', h, l]),
         Mode::ZpX => text_of(&[b' ', b'$', h, l, b',', b'X']),
         Mode::ZpY => text_of(&[b' ', b'$', h, l, b',', b'Y']),
-        Mode::Abs => absolute(mnemonic, Mode::Zp, word, b""),
-        Mode::AbsX => absolute(mnemonic, Mode::ZpX, word, b",X"),
-        Mode::AbsY => absolute(mnemonic, Mode::ZpY, word, b",Y"),
+        Mode::Abs => absolute(profile, mnemonic, Mode::Zp, word, b""),
+        Mode::AbsX => absolute(profile, mnemonic, Mode::ZpX, word, b",X"),
+        Mode::AbsY => absolute(profile, mnemonic, Mode::ZpY, word, b",Y"),
         Mode::IndX => text_of(&[b' ', b'(', b'$', h, l, b',', b'X', b')']),
         Mode::IndY => text_of(&[b' ', b'(', b'$', h, l, b')', b',', b'Y']),
         Mode::Ind => {
@@ -75,5 +82,6 @@ pub fn operand(mnemonic: Mnemonic, mode: Mode, address: u16, second: u8, third: 
             let [a, b, c, d] = digits_of_word(target(address, second));
             text_of(&[b' ', b'$', a, b, c, d])
         }
+        Mode::IndZ => text_of(&[b' ', b'(', b'$', h, l, b')']),
     }
 }

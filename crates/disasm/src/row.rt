@@ -4,10 +4,11 @@ ghost use Rattle.std.specs.Prelude.{◌≡◌, ◌<◌, ◌≤◌, ◌+◌, ◌+
 ghost use Rattle.model.specs.Disassembly.{row_line};
 ghost use Rattle.model.specs.Instruction.{row_of};
 
-use crate::line::line_at;
+use crate::line::line_in;
 use arrayvec::ArrayVec;
 use columns::byte_columns;
 use hexdigits::digits_of_word;
+use model::Profile;
 
 /// A row as it is listed, with its line's end: at most 29 bytes.
 pub type Row = ArrayVec<u8, 29>;
@@ -27,18 +28,30 @@ fn push_bytes(text: &mut Row, bytes: &[u8])
     let _ = text.try_extend_from_slice(bytes);
 }
 
-/// The row with which one to three bytes begin, at their address: the address, two spaces, the row's bytes in 8 columns, two
-/// spaces, its text, and LF. (Profile.)
-#[tactic(auto, unfolding(model::specs::Disassembly::row_line), using(crate::proofs::Columns::all_of))]
+/// The row with which one to three bytes begin, at their address, in profile N: what `row_text_in` gives for it.
 pub fn row_text(bytes: &[u8], address: u16) -> RowText
     requires some { 0 < length bytes.now }
     requires few { length bytes.now ≤ 3 }
-    ensures text { result.text.items ≡ row_line address bytes.now (row_of bytes.now address) }
-    ensures len { result.len ≡ (row_of bytes.now address).len }
+    ensures text { result.text.items ≡ row_line address bytes.now (row_of Profile.N bytes.now address) }
+    ensures len { result.len ≡ (row_of Profile.N bytes.now address).len }
     ensures within { result.len ≤ length bytes.now }
     ensures some { 0 < result.len }
 {
-    let row = line_at(bytes, address);
+    row_text_in(Profile::N, bytes, address)
+}
+
+/// The row with which one to three bytes begin, at their address, in a profile: the address, two spaces, the row's bytes in 8
+/// columns, two spaces, its text, and LF. (Profile.)
+#[tactic(auto, unfolding(model::specs::Disassembly::row_line), using(crate::proofs::Columns::all_of))]
+pub fn row_text_in(profile: Profile, bytes: &[u8], address: u16) -> RowText
+    requires some { 0 < length bytes.now }
+    requires few { length bytes.now ≤ 3 }
+    ensures text { result.text.items ≡ row_line address bytes.now (row_of profile bytes.now address) }
+    ensures len { result.len ≡ (row_of profile bytes.now address).len }
+    ensures within { result.len ≤ length bytes.now }
+    ensures some { 0 < result.len }
+{
+    let row = line_in(profile, bytes, address);
     let [a, b, c, d] = digits_of_word(address);
     let mut text = Row::new();
     push_bytes(&mut text, &[a, b, c, d, b' ', b' ']);

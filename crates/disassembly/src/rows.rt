@@ -5,27 +5,29 @@ ghost use Rattle.model.specs.Disassembly.{rows_in};
 ghost use Rattle.model.specs.State.{memory_of};
 
 use bus::Image;
-use disasm::row_text;
+use disasm::row_text_in;
 use filled::memory_of;
+use model::Profile;
 use std::alloc::{AllocError, Global};
 
 /// At most so many rows of memory from an address on, none of which begins past a last address.
 #[tactic(auto, using(crate::proofs::Turns::behind, crate::proofs::Turns::no_row))]
 fn push_rows(
     out: &mut Vec<u8>,
+    profile: Profile,
     memory: &[u8],
     first: u16,
     last: u16,
     count: u32,
 ) -> Result<(), AllocError>
     requires { length memory.now ≡ 65536 }
-    ensures { OnOk result (out.new.items ≡ out.old.items ++ rows_in memory.now last first count) }
+    ensures { OnOk result (out.new.items ≡ out.old.items ++ rows_in profile memory.now last first count) }
 {
     let mut address = first as usize;
     let mut left = count;
     while left > 0 && address <= last as usize {
         let rest = &memory[address..];
-        let row = row_text(&rest[..rest.len().min(3)], address as u16);
+        let row = row_text_in(profile, &rest[..rest.len().min(3)], address as u16);
         out.extend_from_slice(row.text.as_slice())?;
         address += row.len as usize;
         left -= 1;
@@ -33,18 +35,19 @@ fn push_rows(
     Ok(())
 }
 
-/// The rows of an image from one address on, as long as they begin at or below another one; 0 stands where the image has no byte.
-/// The only error is that a request for memory was refused.
+/// The rows of an image in a profile from one address on, as long as they begin at or below another one; 0 stands where the
+/// image has no byte. The only error is that a request for memory was refused.
 pub fn disassembly(
     alloc: Global,
+    profile: Profile,
     image: &Image,
     first: u16,
     last: u16,
 ) -> Result<Vec<u8>, AllocError>
-    ensures { IfOk result (λ text. text.items ≡ rows_in (memory_of image.now) last first 65536) }
+    ensures { IfOk result (λ text. text.items ≡ rows_in profile (memory_of image.now) last first 65536) }
 {
     let memory = memory_of(alloc, image)?;
     let mut out = Vec::new(alloc);
-    push_rows(&mut out, memory.as_slice(), first, last, 65536)?;
+    push_rows(&mut out, profile, memory.as_slice(), first, last, 65536)?;
     Ok(out)
 }

@@ -1,94 +1,138 @@
--- What reading a tape in pieces makes of the engine's answer.
-use Rattle.std.proofs.KnownBytes.{Consumes-trans, Consumes-whole}
-use Rattle.std.proofs.Common.{◌≡◌, ℕ, List, [], ◌++◌, Option, Some, None, IfSome, Result, Ok, Err, IfErr, refl, sym, ap, ◌∙◌, subst, ◌⊎◌, inl, inr, append-nil, true, false, true≢false}
+-- What reading a tape from a reader makes of the engine's answer.
+use Rattle.std.proofs.Common.{◌≡◌, ℕ, List, Option, Some, None, IfSome, Result, Ok, Err, refl, sym, ap, ◌∙◌, subst, ◌⊎◌, inl, inr}
 use Rattle.std.specs.Prelude.{⊤}
 use Rattle.std.specs.Result.{IsErrAnd}
-use Rattle.std.specs.Io.KnownBytes.{Consumes, IsAtEnd}
 use Rattle.model.specs.TapeFault.{out_of_memory}
-use Rattle.model.specs.TapePieces.{IsReadInPieces, IsRefusedInPieces, longest}
+use Rattle.model.specs.TapePieces.{IsReadInPieces, IsRefusedInPieces}
 use Rattle.model.specs.declared.session_fault.SessionFault.{SessionFault}
 use Rattle.model.specs.declared.session_fault.SessionFault.TheVariants.{PortAddress}
 use Rattle.model.specs.declared.tape.TapeFault.{TapeFault}
-use Rattle.papertape.specs.Feeding.{Fed, fed, unfed, ended}
-use Rattle.papertape.proofs.Pieces.{fed-append, fed-Err}
-use Rattle.papertape.proofs.Told.{in_pieces, refused_in_pieces, one_image, one_refusal, read_or_refused}
+use Rattle.papertape.specs.Streaming.{EndsReading, IsRefusalOf}
+use Rattle.papertape.specs.declared.stream.TapeReadFault.{TapeReadFault}
+use Rattle.papertape.specs.declared.stream.TapeReadFault.TheVariants as tape_read_fault
 use Rattle.engine.specs.declared.fault.EngineFault.{EngineFault}
 use Rattle.engine.specs.declared.fault.EngineFault.TheVariants.{Source, Tape, Session, Read, Write, OutOfMemory}
 use Rattle.engine.specs.Outcome.{Reaches}
-use Rattle.engine.specs.Refusals.{of_tape, IfSession, IfTape}
-use Rattle.engine.specs.TapeReads.{EndsTape, ReachesFrom, IsTextOf, IsImageOf, IsRefusalOf}
+use Rattle.engine.specs.Refusals.{of_tape, of_tape_read, IfSession, IfSource, IfTape}
+use Rattle.engine.specs.TapeReads.{ReachesFrom}
 use Rattle.engine.proofs.Refused.{tape_either}
-use Rattle.engine.proofs.Serving.{known}
 
 abbrev Image : Type 0
 Image = List (Option ℕ)
 
--- ---- the tape's reader
+abbrev ReadAnswer : Type 0
+ReadAnswer = Result Image TapeReadFault
 
-pub tape_refused : {X : Type 0} (result : Result X EngineFault) (f : TapeFault) (P : TapeFault → Type 0) → IsErrAnd result (λ e. e ≡ of_tape f) → P f → IfTape result P
-tape_refused (Ok x) f P h p = tt
-tape_refused {X = X} (Err e) f P h p = elim (tape_either f.kind f) [
-  | inl s ↦ subst (λ a. IfTape {X = X} (Err a) P) (sym (h ∙ s)) p
-  | inr m ↦ subst (λ a. IfTape {X = X} (Err a) P) (sym (h ∙ m)) tt
-]
+abbrev read_ok : Image → ReadAnswer
+read_ok image = Ok image
 
-pub tape_not_made : {X : Type 0} (result : Result X EngineFault) (f : TapeFault) (P : TapeFault → Type 0) → IsErrAnd result (λ e. e ≡ of_tape f) → f ≡ out_of_memory → IfTape result P
-tape_not_made (Ok x) f P h m = tt
-tape_not_made {X = X} (Err e) f P h m = subst (λ a. IfTape {X = X} (Err a) P) (sym (h ∙ ap of_tape m)) tt
+abbrev read_err : TapeReadFault → ReadAnswer
+read_err f = Err f
 
-pub tape_ends : {X : Type 0} (result : Result X EngineFault) (f : TapeFault) → IsErrAnd result (λ e. e ≡ of_tape f) → IfErr result EndsTape
-tape_ends (Ok x) f h = tt
-tape_ends (Err e) f h = elim (tape_either f.kind f) [
-  | inl s ↦ subst EndsTape (sym (h ∙ s)) tt
-  | inr m ↦ subst EndsTape (sym (h ∙ m)) tt
-]
+-- the answer is this one, unless a read failed or memory was refused
+abbrev Is : ReadAnswer → ReadAnswer → Type 0
+Is answer wanted = (answer ≡ wanted) ⊎ ((answer ≡ read_err tape_read_fault.Read) ⊎ (answer ≡ read_err (tape_read_fault.Tape out_of_memory)))
 
--- what was told is refused, and so is all that was known
-pub told_refused : (a b : Option (List ℕ)) (told : List ℕ) (f : TapeFault) → Consumes a b told → fed unfed told ≡ Err f → IsRefusalOf a f
-told_refused None b told f c e = (told, tt, (refused_in_pieces told f).0 (ap ended e))
-told_refused (Some bytes) b told f c e = (bytes, refl, known (Some bytes) b told (λ text. IsRefusedInPieces text f) c whole) where
-  whole : (left : List ℕ) → IsRefusedInPieces (told ++ left) f
-  whole left = (refused_in_pieces (told ++ left) f).0 (ap ended (fed-append longest told left unfed) ∙ ap (λ (s : Fed). ended (fed s left)) e ∙ ap ended (fed-Err longest left f))
+abbrev fault_in : TapeReadFault → ReadAnswer → TapeReadFault
+fault_in other (Ok image) = other
+fault_in other (Err f) = f
 
-pub still : (a b c : Option (List ℕ)) (told : List ℕ) → Consumes a b told → Consumes b c [] → Consumes a c told
-still a b c told p q = subst (Consumes a c) (append-nil told) (Consumes-trans a b c told [] p q)
+abbrev image_in : Image → ReadAnswer → Image
+image_in other (Ok image) = image
+image_in other (Err f) = other
 
-pub ended_image : (a b : Option (List ℕ)) (told : List ℕ) (reader : Fed) (image : Image) → Consumes a b told → IsAtEnd b → reader ≡ fed unfed told → ended reader ≡ Ok image → IsImageOf a image
-ended_image None b told reader image c end e h = (told, tt, (in_pieces told image).0 (ap ended (sym e) ∙ h))
-ended_image (Some bytes) b told reader image c end e h =
-    (bytes, refl, Consumes-whole (Some bytes) b told (λ text. IsReadInPieces text image) c end ((in_pieces told image).0 (ap ended (sym e) ∙ h)))
+same_fault : (f g : TapeReadFault) → read_err f ≡ read_err g → f ≡ g
+same_fault f g e = ap (fault_in f) e
 
-pub ended_fault : (a b : Option (List ℕ)) (told : List ℕ) (reader : Fed) (f : TapeFault) → Consumes a b told → IsAtEnd b → reader ≡ fed unfed told → ended reader ≡ Err f → IsRefusalOf a f
-ended_fault None b told reader f c end e h = (told, tt, (refused_in_pieces told f).0 (ap ended (sym e) ∙ h))
-ended_fault (Some bytes) b told reader f c end e h =
-    (bytes, refl, Consumes-whole (Some bytes) b told (λ text. IsRefusedInPieces text f) c end ((refused_in_pieces told f).0 (ap ended (sym e) ∙ h)))
-
--- where the bytes are known the text is theirs
-image_known : (a : Option (List ℕ)) (image : Image) → IsImageOf a image → IfSome a (λ text. IsReadInPieces text image)
-image_known None image h = tt
-image_known (Some bytes) image h = subst (λ text. IsReadInPieces text image) (sym h.1) h.2
-
-refusal_known : (bytes : List ℕ) (f : TapeFault) → IsRefusalOf (Some bytes) f → IsRefusedInPieces bytes f
-refusal_known bytes f h = subst (λ text. IsRefusedInPieces text f) (sym h.1) h.2
-
--- ---- the call
-
-pub with_known : (a : Option (List ℕ)) (P Q : List ℕ → Type 0) → IfSome a P → ((text : List ℕ) → P text → Q text) → IfSome a Q
-with_known None P Q h f = tt
-with_known (Some x) P Q h f = f x h
+abbrev failed : EngineFault → Result (Unit {0}) EngineFault
+failed e = Err e
 
 pub is_fault : {X E : Type 0} (result : Result X E) (e : E) → IsErrAnd result (λ x. x ≡ e) → result ≡ Err e
 is_fault (Ok x) e h = absurd h
 is_fault (Err x) e h = ap Err h
 
-abbrev failed : EngineFault → Result (Unit {0}) EngineFault
-failed e = Err e
+pub with_known : (a : Option (List ℕ)) (P Q : List ℕ → Type 0) → IfSome a P → ((text : List ℕ) → P text → Q text) → IfSome a Q
+with_known None P Q h f = tt
+with_known (Some x) P Q h f = f x h
 
-pub early_reaches_from : (e : EngineFault) (Stood Alone : Type 0) → EndsTape e → Alone → ReachesFrom (failed e) Stood Alone
-early_reaches_from Read Stood Alone h alone = inr alone
-early_reaches_from (Tape f) Stood Alone h alone = alone
-early_reaches_from OutOfMemory Stood Alone h alone = inr alone
-early_reaches_from e Stood Alone h alone = absurd h
+-- ---- no image was read
+
+-- a read failed, memory ran out, or the tape is refused with a fault other than want of memory
+each_end : (f : TapeReadFault) (P : EngineFault → Type 0) → P Read → P OutOfMemory → ((g : TapeFault) → f ≡ tape_read_fault.Tape g → of_tape g ≡ Tape g → P (Tape g)) → P (of_tape_read f)
+each_end tape_read_fault.Read P r m t = r
+each_end (tape_read_fault.Tape g) P r m t = elim (tape_either g.kind g) [
+  | inl is ↦ subst P (sym is) (t g refl is)
+  | inr out ↦ subst P (sym out) m
+]
+
+not_memory : (g : TapeFault) → g ≡ out_of_memory → of_tape g ≡ Tape g → ⊥
+not_memory g memory is = differ (sym (ap of_tape memory) ∙ is) where
+  differ : OutOfMemory ≡ Tape g → ⊥
+  differ e = cc
+
+pub early_reaches_from : (f : TapeReadFault) (Stood Alone : Type 0) → Alone → ReachesFrom (failed (of_tape_read f)) Stood Alone
+early_reaches_from f Stood Alone alone = each_end f (λ e. ReachesFrom (failed e) Stood Alone) (inr alone) (inr alone) (λ g e is. alone)
+
+pub early_refused : (a : Option (List ℕ)) (f : TapeReadFault) → EndsReading a f → IfTape (failed (of_tape_read f)) (IsRefusalOf a)
+early_refused a f ends =
+    each_end f (λ e. IfTape (failed e) (IsRefusalOf a)) tt tt (λ g e is. elim (subst (EndsReading a) e ends) [
+      | inl memory ↦ absurd (not_memory g memory is)
+      | inr refused ↦ refused
+    ])
+
+pub early_session : (f : TapeReadFault) (P : SessionFault → Type 0) → IfSession (failed (of_tape_read f)) P
+early_session f P = each_end f (λ e. IfSession (failed e) P) tt tt (λ g e is. tt)
+
+pub early_spared : (a : Option (List ℕ)) (f : TapeReadFault) (P : Image → Type 0) → IfSome a (λ text. (image : Image) → IsReadInPieces text image → P image → IfSession (failed (of_tape_read f)) (λ _. ⊥))
+early_spared None f P = tt
+early_spared (Some text) f P = λ image r p. early_session f (λ _. ⊥)
+
+pub early_no_source : (f : TapeReadFault) → IfSource (failed (of_tape_read f)) (λ _. ⊥)
+early_no_source f = each_end f (λ e. IfSource (failed e) (λ _. ⊥)) tt tt (λ g e is. tt)
+
+-- of a tape with an image, only a failed read or want of memory keeps it from being read
+only_ends : (f : TapeReadFault) (cells : Image) → Is (read_err f) (read_ok cells) → (of_tape_read f ≡ Read) ⊎ (of_tape_read f ≡ OutOfMemory)
+only_ends f cells (inl e) = absurd cc
+only_ends f cells (inr (inl e)) = inl (ap of_tape_read (same_fault f tape_read_fault.Read e))
+only_ends f cells (inr (inr e)) = inr (ap of_tape_read (same_fault f (tape_read_fault.Tape out_of_memory) e))
+
+pub early_right : (a : Option (List ℕ)) (f : TapeReadFault) → IfSome a (λ text. (cells : Image) → IsReadInPieces text cells → Is (read_err f) (read_ok cells))
+    → IfSome a (λ text. (image : Image) → IsReadInPieces text image → IfTape (failed (of_tape_read f)) (λ _. ⊥))
+early_right a f only =
+    with_known a (λ text. (cells : Image) → IsReadInPieces text cells → Is (read_err f) (read_ok cells)) (λ text. (image : Image) → IsReadInPieces text image → IfTape (failed (of_tape_read f)) (λ _. ⊥)) only
+    (λ text o image r. none (only_ends f image (o image r))) where
+      none : (of_tape_read f ≡ Read) ⊎ (of_tape_read f ≡ OutOfMemory) → IfTape (failed (of_tape_read f)) (λ _. ⊥)
+      none (inl e) = subst (λ x. IfTape (failed x) (λ _. ⊥)) (sym e) tt
+      none (inr e) = subst (λ x. IfTape (failed x) (λ _. ⊥)) (sym e) tt
+
+abbrev Ends : EngineFault → Result (Unit {0}) EngineFault → Type 0
+Ends e wanted = (failed e ≡ wanted) ⊎ ((failed e ≡ failed Read) ⊎ (failed e ≡ failed OutOfMemory))
+
+pub early_port : (a : Option (List ℕ)) (f : TapeReadFault) (P : Image → Type 0) → IfSome a (λ text. (cells : Image) → IsReadInPieces text cells → Is (read_err f) (read_ok cells))
+    → IfSome a (λ text. (image : Image) → IsReadInPieces text image → P image → Ends (of_tape_read f) (Err (Session PortAddress)))
+early_port a f P only =
+    with_known a (λ text. (cells : Image) → IsReadInPieces text cells → Is (read_err f) (read_ok cells)) (λ text. (image : Image) → IsReadInPieces text image → P image → Ends (of_tape_read f) (Err (Session PortAddress))) only
+    (λ text o image r p. inr (one (only_ends f image (o image r)))) where
+      one : (of_tape_read f ≡ Read) ⊎ (of_tape_read f ≡ OutOfMemory) → (failed (of_tape_read f) ≡ failed Read) ⊎ (failed (of_tape_read f) ≡ failed OutOfMemory)
+      one (inl e) = inl (ap failed e)
+      one (inr e) = inr (ap failed e)
+
+-- the fault of a tape is answered, or a read of it failed, or memory ran out
+refusal_ends : (f : TapeReadFault) (fault : TapeFault) → Is (read_err f) (read_err (tape_read_fault.Tape fault)) → Ends (of_tape_read f) (Err (Tape fault))
+refusal_ends f fault (inl e) = elim (tape_either fault.kind fault) [
+  | inl is ↦ inl (ap failed (ap of_tape_read (same_fault f (tape_read_fault.Tape fault) e) ∙ is))
+  | inr out ↦ inr (inr (ap failed (ap of_tape_read (same_fault f (tape_read_fault.Tape fault) e) ∙ out)))
+]
+refusal_ends f fault (inr (inl e)) = inr (inl (ap failed (ap of_tape_read (same_fault f tape_read_fault.Read e))))
+refusal_ends f fault (inr (inr e)) = inr (inr (ap failed (ap of_tape_read (same_fault f (tape_read_fault.Tape out_of_memory) e))))
+
+pub early_faulty : (a : Option (List ℕ)) (f : TapeReadFault) → IfSome a (λ text. (fault : TapeFault) → IsRefusedInPieces text fault → Is (read_err f) (read_err (tape_read_fault.Tape fault)))
+    → IfSome a (λ text. (fault : TapeFault) → IsRefusedInPieces text fault → Ends (of_tape_read f) (Err (Tape fault)))
+early_faulty a f only =
+    with_known a (λ text. (fault : TapeFault) → IsRefusedInPieces text fault → Is (read_err f) (read_err (tape_read_fault.Tape fault))) (λ text. (fault : TapeFault) → IsRefusedInPieces text fault → Ends (of_tape_read f) (Err (Tape fault))) only
+    (λ text o fault r. refusal_ends f fault (o fault r))
+
+-- ---- an image was read
 
 pub reaches_from : {X : Type 0} (result : Result X EngineFault) (Stood Alone : Type 0) → Stood → Reaches result ⊤ Alone → ReachesFrom result Stood Alone
 reaches_from (Ok x) Stood Alone stood h = stood
@@ -97,49 +141,29 @@ reaches_from (Err Write) Stood Alone stood h = stood
 reaches_from (Err OutOfMemory) Stood Alone stood h = inl stood
 reaches_from (Err e) Stood Alone stood h = h
 
-abbrev Refusals : Option (List ℕ) → EngineFault → Type 0
-Refusals a e = IfTape (failed e) (IsRefusalOf a)
-
--- the fault of a tape is answered, or a read of it failed, or memory ran out
-pub early_faulty : (a : Option (List ℕ)) (e : EngineFault) → EndsTape e → Refusals a e
-    → IfSome a (λ text. (fault : TapeFault) → IsRefusedInPieces text fault → (failed e ≡ Err (Tape fault)) ⊎ ((failed e ≡ Err Read) ⊎ (failed e ≡ Err OutOfMemory)))
-early_faulty None e ends h = tt
-early_faulty (Some text) Read ends h = λ fault r. inr (inl refl)
-early_faulty (Some text) (Tape f) ends h = λ fault r. inl (ap (λ x. failed (Tape x)) (one_refusal text f fault (refusal_known text f h) r))
-early_faulty (Some text) OutOfMemory ends h = λ fault r. inr (inr refl)
-early_faulty (Some text) e ends h = absurd ends
-
-pub early_right : (a : Option (List ℕ)) (e : EngineFault) → EndsTape e → Refusals a e → IfSome a (λ text. (image : Image) → IsReadInPieces text image → IfTape (failed e) (λ _. ⊥))
-early_right None e ends h = tt
-early_right (Some text) Read ends h = λ image r. tt
-early_right (Some text) (Tape f) ends h = λ image r. read_or_refused text image f r (refusal_known text f h)
-early_right (Some text) OutOfMemory ends h = λ image r. tt
-early_right (Some text) e ends h = absurd ends
-
-pub early_port : (a : Option (List ℕ)) (e : EngineFault) (P : Image → Type 0) → EndsTape e → Refusals a e
-    → IfSome a (λ text. (image : Image) → IsReadInPieces text image → P image → (failed e ≡ Err (Session PortAddress)) ⊎ ((failed e ≡ Err Read) ⊎ (failed e ≡ Err OutOfMemory)))
-early_port None e P ends h = tt
-early_port (Some text) Read P ends h = λ image r p. inr (inl refl)
-early_port (Some text) (Tape f) P ends h = λ image r p. absurd (read_or_refused text image f r (refusal_known text f h))
-early_port (Some text) OutOfMemory P ends h = λ image r p. inr (inr refl)
-early_port (Some text) e P ends h = absurd ends
-
-pub early_session : (e : EngineFault) (P : SessionFault → Type 0) → EndsTape e → IfSession (failed e) P
-early_session Read P ends = tt
-early_session (Tape f) P ends = tt
-early_session OutOfMemory P ends = tt
-early_session e P ends = absurd ends
-
-pub early_spared : (a : Option (List ℕ)) (e : EngineFault) (P : Image → Type 0) → EndsTape e → IfSome a (λ text. (image : Image) → IsReadInPieces text image → P image → IfSession (failed e) (λ _. ⊥))
-early_spared None e P ends = tt
-early_spared (Some text) e P ends = λ image r p. early_session e (λ _. ⊥) ends
+same_image : (image cells : Image) → Is (read_ok image) (read_ok cells) → image ≡ cells
+same_image image cells (inl e) = ap (image_in image) e
+same_image image cells (inr (inl e)) = absurd cc
+same_image image cells (inr (inr e)) = absurd cc
 
 -- what holds of the image that was read holds of each that a known text has
-pub for_each_known : (a : Option (List ℕ)) (image : Image) (P : Image → Type 0) → IsImageOf a image → P image → IfSome a (λ text. (cells : Image) → IsReadInPieces text cells → P cells)
-for_each_known a image P k p = with_known a (λ text. IsReadInPieces text image) (λ text. (cells : Image) → IsReadInPieces text cells → P cells) (image_known a image k) (λ text r cells s. subst P (one_image text image cells r s) p)
+pub for_each_known : (a : Option (List ℕ)) (image : Image) (P : Image → Type 0) → IfSome a (λ text. (cells : Image) → IsReadInPieces text cells → Is (read_ok image) (read_ok cells)) → P image
+    → IfSome a (λ text. (cells : Image) → IsReadInPieces text cells → P cells)
+for_each_known a image P only p =
+    with_known a (λ text. (cells : Image) → IsReadInPieces text cells → Is (read_ok image) (read_ok cells)) (λ text. (cells : Image) → IsReadInPieces text cells → P cells) only
+    (λ text o cells r. subst P (same_image image cells (o cells r)) p)
 
-pub read_excluded : (a : Option (List ℕ)) (image : Image) (P : TapeFault → Type 0) → IsImageOf a image → IfSome a (λ text. (fault : TapeFault) → IsRefusedInPieces text fault → P fault)
-read_excluded a image P k = with_known a (λ text. IsReadInPieces text image) (λ text. (fault : TapeFault) → IsRefusedInPieces text fault → P fault) (image_known a image k) (λ text r fault s. absurd (read_or_refused text image fault r s))
+not_refused : (image : Image) (f : TapeReadFault) → Is (read_ok image) (read_err f) → ⊥
+not_refused image f (inl e) = absurd cc
+not_refused image f (inr (inl e)) = absurd cc
+not_refused image f (inr (inr e)) = absurd cc
+
+pub read_excluded : (a : Option (List ℕ)) (image : Image) (P : TapeFault → Type 0)
+    → IfSome a (λ text. (fault : TapeFault) → IsRefusedInPieces text fault → Is (read_ok image) (read_err (tape_read_fault.Tape fault)))
+    → IfSome a (λ text. (fault : TapeFault) → IsRefusedInPieces text fault → P fault)
+read_excluded a image P only =
+    with_known a (λ text. (fault : TapeFault) → IsRefusedInPieces text fault → Is (read_ok image) (read_err (tape_read_fault.Tape fault))) (λ text. (fault : TapeFault) → IsRefusedInPieces text fault → P fault) only
+    (λ text o fault r. absurd (not_refused image (tape_read_fault.Tape fault) (o fault r)))
 
 pub third_answer : (A B C : Type 0) → A ⊎ C → A ⊎ (B ⊎ C)
 third_answer A B C (inl a) = inl a

@@ -11,7 +11,9 @@ use Rattle.model.specs.declared.tape.TapeFaultKind.TheVariants as tape_fault
 use Rattle.engine.specs.declared.fault.EngineFault.{EngineFault}
 use Rattle.replies.specs.declared.fault.ReplyFault.{ReplyFault}
 use Rattle.replies.specs.declared.fault.ReplyFault.TheVariants as reply_fault
-use Rattle.engine.specs.declared.fault.EngineFault.TheVariants.{Source, Tape, Session, Write, OutOfMemory}
+use Rattle.papertape.specs.declared.stream.TapeReadFault.{TapeReadFault}
+use Rattle.papertape.specs.declared.stream.TapeReadFault.TheVariants as tape_read_fault
+use Rattle.engine.specs.declared.fault.EngineFault.TheVariants.{Source, Tape, Session, Read, Write, OutOfMemory}
 
 abbrev pub of_source_kind : AsmFaultKind → AsmFault → EngineFault
 of_source_kind source_fault.OutOfMemory fault = OutOfMemory
@@ -27,6 +29,11 @@ of_tape_kind _ fault = Tape fault
 
 abbrev pub of_tape : TapeFault → EngineFault
 of_tape fault = of_tape_kind fault.kind fault
+
+-- A tape that was read from a reader: its fault, or a read of it failed.
+abbrev pub of_tape_read : TapeReadFault → EngineFault
+of_tape_read (tape_read_fault.Tape fault) = of_tape fault
+of_tape_read tape_read_fault.Read = Read
 
 abbrev pub of_session : SessionFault → EngineFault
 of_session session_fault.OutOfMemory = OutOfMemory

@@ -5,14 +5,14 @@ ghost use Rattle.model.specs.OneLine.{one_line};
 ghost use Rattle.model.specs.Transcript.{asm_answer, source_fault_line};
 ghost use Rattle.model.specs.Written.{Writes};
 
-use assembler::assemble_line;
+use assembler::assemble_line_in;
 use debugger::Session;
 use model::{AsmFaultKind, Event};
 use replies::{ReplyFault, happen, put, source_fault_text};
 use std::alloc::Global;
 use std::io::Write;
 
-/// A text assembled at an address, and its bytes put there: the reply is that of a patch, or the fault for which the text is refused.
+/// A text assembled at an address by the session's profile, and its bytes put there: the reply is that of a patch, or the fault for which the text is refused.
 /// Where memory runs out nothing is written.
 pub fn assembled<W: Write>(
     alloc: Global,
@@ -21,10 +21,10 @@ pub fn assembled<W: Write>(
     text: &[u8],
     writer: &mut W,
 ) -> Result<(), ReplyFault>
-    ensures writes { Writes (W.contents writer.old) (W.contents writer.new) (asm_answer session.old address (one_line address text.now)).written result }
-    ensures ok { OnOk result (session.new ≡ (asm_answer session.old address (one_line address text.now)).session) }
+    ensures writes { Writes (W.contents writer.old) (W.contents writer.new) (asm_answer session.old address (one_line session.old.current.bus.map.profile address text.now)).written result }
+    ensures ok { OnOk result (session.new ≡ (asm_answer session.old address (one_line session.old.current.bus.map.profile address text.now)).session) }
 {
-    match assemble_line(alloc, address, text) {
+    match assemble_line_in(alloc, session.profile(), address, text) {
         Ok(line) => {
             let bytes = line.bytes;
             let count = line.count;

@@ -2,9 +2,10 @@
 
 ghost use Rattle.std.specs.Prelude.{◌≡◌};
 ghost use Rattle.engine.specs.FaultNames.{engine_fault_name, engine_fault_number};
-ghost use Rattle.engine.specs.Refusals.{of_session, of_source, of_tape};
+ghost use Rattle.engine.specs.Refusals.{of_session, of_source, of_tape, of_tape_read};
 
 use model::{AsmFault, AsmFaultKind, SessionFault, TapeFault, TapeFaultKind};
+use papertape::TapeReadFault;
 use thiserror::Error;
 
 /// A fault of the engine (profile).
@@ -19,7 +20,7 @@ pub enum EngineFault {
     /// No session can be made: the image has a byte at a port address.
     #[error("Session 3")]
     Session(SessionFault),
-    /// A read of command lines failed.
+    /// A read of command lines failed, or one of the tape.
     #[error("Read 4")]
     Read,
     /// A write or a flush of a reply failed, or a write took no byte.
@@ -78,6 +79,17 @@ impl From<TapeFault> for EngineFault {
         match fault.kind {
             TapeFaultKind::OutOfMemory => EngineFault::OutOfMemory,
             _ => EngineFault::Tape(fault),
+        }
+    }
+}
+
+impl From<TapeReadFault> for EngineFault {
+    ghost from_gives = { λ fault e. e ≡ of_tape_read fault };
+
+    fn from(fault: TapeReadFault) -> EngineFault {
+        match fault {
+            TapeReadFault::Tape(fault) => EngineFault::from(fault),
+            TapeReadFault::Read => EngineFault::Read,
         }
     }
 }

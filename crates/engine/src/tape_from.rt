@@ -1,6 +1,6 @@
 //! The engine's call on a tape that it reads itself.
 
-ghost use Rattle.std.specs.Prelude.{◌≡◌, ◌≤◌, ◌⊎◌, true, false, ℕ, List, Option, Err, IfErr, IfOk, IfSome};
+ghost use Rattle.std.specs.Prelude.{◌≡◌, ◌≤◌, ◌⊎◌, true, false, ℕ, List, Option, Err, IfSome};
 ghost use Rattle.model.specs.Event.{start};
 ghost use Rattle.model.specs.Session.{fresh};
 ghost use Rattle.model.specs.State.{has_port_byte};
@@ -9,12 +9,13 @@ ghost use Rattle.model.specs.declared.session_fault.SessionFault.TheVariants.{Po
 ghost use Rattle.model.specs.declared.tape.TapeFault.{TapeFault};
 ghost use Rattle.engine.specs.Outcome.{Serves};
 ghost use Rattle.engine.specs.Refusals.{IfSession, IfSource, IfTape};
-ghost use Rattle.engine.specs.TapeReads.{EndsTape, IsImageOf, IsRefusalOf, ReachesFrom};
+ghost use Rattle.engine.specs.TapeReads.{ReachesFrom};
+ghost use Rattle.papertape.specs.Streaming.{IsImageOf, IsRefusalOf};
 
 use crate::fault::EngineFault;
 use crate::image::debug_image;
-use bus::{Image, MapSpec};
-use papertape::TapeReader;
+use bus::MapSpec;
+use papertape::read_tape_from;
 use std::alloc::Global;
 use std::io::{Read, Write};
 
@@ -66,29 +67,6 @@ pub fn debug_tape_from<T: Read, R: Read, W: Write>(
 
     ensures source { IfSource result (λ _. ⊥) }
 {
-    let image = read_from(alloc, tape)?;
+    let image = read_tape_from(alloc, tape)?;
     debug_image(alloc, map, history, &image, reader, writer)
-}
-
-/// The image of a tape, read in pieces.
-///
-/// # Errors
-///
-/// `Tape`: the tape is refused. `Read`: a read failed. `OutOfMemory`: a request for memory was
-/// refused.
-fn read_from<T: Read>(alloc: Global, tape: &mut T) -> Result<Image, EngineFault>
-    ensures image { IfOk result (IsImageOf (T.remaining tape.old)) }
-    ensures refused { IfTape result (IsRefusalOf (T.remaining tape.old)) }
-    ensures only { IfErr result EndsTape }
-{
-    let mut reader = TapeReader::new(alloc)?;
-    let mut piece = [0u8; 4096];
-    for _ in 0..u64::MAX {
-        match tape.read(&mut piece) {
-            Ok(0) => return Ok(reader.finish()?),
-            Ok(n) => reader.feed(&piece[..n])?,
-            Err(_) => return Err(EngineFault::Read),
-        }
-    }
-    Err(EngineFault::Read)
 }

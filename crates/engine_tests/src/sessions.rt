@@ -97,6 +97,81 @@ fn runs_sessions(rt: HostRuntime) -> Result<(), Fail> {
     Ok(())
 }
 
+/// A source, command lines, the replies of a machine of profile C, and those of one of profile N.
+type Both = (&'static [u8], &'static [u8], &'static [u8], &'static [u8]);
+
+/// What differs between the profiles.
+const PROFILES: [Both; 8] = [
+    // an indirect jump takes its high byte at the next address
+    (
+        b"*=$0200\n.BYTE $12\n*=$02FF\n.BYTE $34,$99\n*=$0400\nJMP ($02FF)\n*=$FFFC\n.WORD $0400\n",
+        b"step\n",
+        b"A=00 X=00 Y=00 S=FD P=24 PC=9934 CYC=12\n",
+        b"A=00 X=00 Y=00 S=FD P=24 PC=1234 CYC=12\n",
+    ),
+    // an entry clears D, and pushes P before
+    (
+        b"",
+        b"set P 08\nset PC 0200\npatch 0200 00\nstep\nmem 01FB 01FD\n",
+        b"OK\nOK\nOK\nA=00 X=00 Y=00 S=FA P=24 PC=0000 CYC=14\n01FB  38 02 02\n",
+        b"OK\nOK\nOK\nA=00 X=00 Y=00 S=FA P=2C PC=0000 CYC=14\n01FB  38 02 02\n",
+    ),
+    // a branch that is always taken, into the next page
+    (
+        b"",
+        b"set PC 02FD\npatch 02FD 80 02\nstep\n",
+        b"OK\nOK\nA=00 X=00 Y=00 S=FD P=24 PC=0301 CYC=11\n",
+        b"OK\nOK\n! FAULT 80 AT 02FD\n",
+    ),
+    // a pointer at the end of the zero page goes on at its beginning
+    (
+        b"",
+        b"patch 00FF 10\npatch 0000 03\npatch 0310 80\npatch 0200 B2 FF\nset PC 0200\nstep\n",
+        b"OK\nOK\nOK\nOK\nOK\nA=80 X=00 Y=00 S=FD P=A4 PC=0202 CYC=12\n",
+        b"OK\nOK\nOK\nOK\nOK\n! FAULT B2 AT 0200\n",
+    ),
+    // a mnemonic of profile C alone
+    (
+        b"",
+        b"asm 0200 STZ !$10\ndis 0200 1\n",
+        b"OK\n0200  9C 10 00  STZ !$0010\n",
+        b"! Syntax 4\n0200  00        BRK\n",
+    ),
+    // a form of profile C alone
+    (
+        b"",
+        b"asm 0200 LDA ($10)\nmem 0200 0201\ndis 0200 1\n",
+        b"OK\n0200  B2 10\n0200  B2 10     LDA ($10)\n",
+        b"! NoSuchForm 8\n0200  00 00\n0200  00        BRK\n",
+    ),
+    // pushed and pulled, counted up and down in A, and a stored 0; and back over all of it
+    (
+        b"",
+        b"set X 11\nset PC 0200\npatch 0200 DA 7A 1A\npatch 0203 3A 84 10\npatch 0206 64 10\nrun 6\nregs\nmem 0010 0010\nback 1\nmem 0010 0010\nback 5\nregs\n",
+        b"OK\nOK\nOK\nOK\nOK\nDID 6 LIMIT\nA=00 X=11 Y=11 S=FD P=26 PC=0208 CYC=24\n0010  00\nA=00 X=11 Y=11 S=FD P=26 PC=0206 CYC=21\n0010  11\nA=00 X=11 Y=00 S=FD P=24 PC=0200 CYC=7\nA=00 X=11 Y=00 S=FD P=24 PC=0200 CYC=7\n",
+        b"OK\nOK\nOK\nOK\nOK\nDID 0 FAULT DA AT 0200\nA=00 X=11 Y=00 S=FD P=24 PC=0200 CYC=7\n0010  00\nA=00 X=11 Y=00 S=FD P=24 PC=0200 CYC=7\n0010  00\n! HISTORY 4\nA=00 X=11 Y=00 S=FD P=24 PC=0200 CYC=7\n",
+    ),
+    // the words of profile C are names in profile N
+    (
+        b"",
+        b"asm 0200 LDA bra\nasm 0200 LDA stz\n",
+        b"! ReservedName 5\n! ReservedName 5\n",
+        b"! UndefinedName 20\n! UndefinedName 20\n",
+    ),
+];
+
+#[test]
+fn runs_both_profiles(rt: HostRuntime) -> Result<(), Fail> {
+    for (source, commands, in_c, in_n) in PROFILES {
+        let map = port_alone()?.profile_c();
+        let told = replied_with(rt.alloc(), map, 1024, source, commands)?;
+        assert_eq!(rt; told.as_slice(), in_c);
+        let told = replied_with(rt.alloc(), port_alone()?, 1024, source, commands)?;
+        assert_eq!(rt; told.as_slice(), in_n);
+    }
+    Ok(())
+}
+
 /// Texts assembled one line at a time: what is listed assembles back, and what is no one line is refused.
 const LINES: [Example; 3] = [
     (

@@ -8,4 +8,6 @@ mod flags;
 #[cfg(test)]
 mod history;
 #[cfg(test)]
+mod profiles;
+#[cfg(test)]
 mod tests;

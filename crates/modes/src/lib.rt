@@ -2,14 +2,14 @@
 #![tactic(auto)]
 
 ghost use Rattle.std.specs.Prelude.{◌≡◌, ◌+◌, ◌%◌};
-ghost use Rattle.model.specs.Operand.{indexed, place_of, straight, target, word_at, word_in_page};
+ghost use Rattle.model.specs.Operand.{indexed, jump_target, place_of, straight, target, word_at, word_in_page};
 
-use bus::Bus;
+use bus::{Bus, Profile};
 pub use model::{Mode, Place, Regs};
 
 /// Where the operand of the instruction at PC stands, and whether a page was left on the way there: the next byte for
 /// an immediate operand, the target of a branch, 0 where there is none. It reads plain memory alone, never the port
-/// (MCS6500 manual, chapters 4 to 6).
+/// (MCS6500 manual, chapters 4 to 6; profile for what profile C adds).
 #[inline(always)]
 #[tactic(auto, unfolding(model::specs::Operand::place_of))]
 pub fn resolve(bus: &Bus, regs: &Regs, mode: Mode) -> Place
@@ -30,8 +30,9 @@ pub fn resolve(bus: &Bus, regs: &Regs, mode: Mode) -> Place
             straight(word_in_page(bus, pointer as u16))
         }
         Mode::IndY => indexed(word_in_page(bus, bus.peek(next) as u16), regs.y),
-        Mode::Ind => straight(word_in_page(bus, word(bus, next))),
+        Mode::Ind => straight(jump_target(bus, word(bus, next))),
         Mode::Rel => target(regs.pc.wrapping_add(2), bus.peek(next)),
+        Mode::IndZ => straight(word_in_page(bus, bus.peek(next) as u16)),
     }
 }
 
@@ -55,6 +56,18 @@ fn word_in_page(bus: &Bus, address: u16) -> u16
     let low = bus.peek(address);
     let high = bus.peek((address & 0xff00) + (address.wrapping_add(1) & 0xff));
     low as u16 + 256 * high as u16
+}
+
+/// The address at the pointer of JMP indirect, of which profile N reads both bytes in one page. Profile C leaves the page.
+#[inline(always)]
+#[tactic(auto, unfolding(model::specs::Operand::jump_target))]
+fn jump_target(bus: &Bus, pointer: u16) -> u16
+    ensures { result ≡ jump_target bus.now.map.profile bus.now pointer }
+{
+    match bus.profile() {
+        Profile::N => word_in_page(bus, pointer),
+        Profile::C => word(bus, pointer),
+    }
 }
 
 /// An address that leaves no page.

@@ -1,21 +1,27 @@
 -- Names of mnemonics looked up in the table.
-use Rattle.std.proofs.Common.{◌≡◌, ◌≢◌, ℕ, ◌+◌, ◌<◌, List, [], ◌∷◌, length, drop, get_or, Bool, true, false, refl, ap, sym, ◌∙◌, add-one, arith}
+use Rattle.std.proofs.Common.{◌≡◌, ◌≢◌, ℕ, ◌+◌, ◌<◌, List, [], ◌∷◌, length, take, drop, get_or, Bool, true, false, refl, ap, sym, ◌∙◌, add-one, arith}
 use Rattle.std.specs.Prelude.{Some, None}
 use Rattle.std.specs.Str.{bytes_eq, str_to_ascii_uppercase}
 use Rattle.std.specs.Char.{to_ascii_uppercase}
 use Rattle.std.proofs.Math.Seq.{drop-cons}
 use Rattle.std.proofs.lemmas.List.{length-map}
 use Rattle.std.proofs.lemmas.Slice.Eq.{bytes_eq-Decides}
+use Rattle.model.specs.declared.instruction.Profile.{Profile}
+use Rattle.model.specs.declared.instruction.Profile.TheVariants.{N, C}
 use Rattle.model.specs.declared.instruction.Mnemonic.{Mnemonic}
-use Rattle.model.specs.Mnemonics.{mnemonic_named, named_among, mnemonic_text, all_mnemonics}
+use Rattle.model.specs.Mnemonics.{mnemonic_named, named_among, mnemonic_text, mnemonics}
 use Rattle.table_laws.proofs.Encoding.{length-mnemonic_text}
 use Rattle.optable.specs.declared.names.TheConstants.{NAMES}
 use Rattle.optable.specs.Names.{looked_up}
 
--- the table has all mnemonics with their letters, in their order
-pub looked_up_all : (text : List ℕ) → looked_up (str_to_ascii_uppercase text) NAMES ≡ mnemonic_named text
-unfolding mnemonic_named named_among mnemonic_text
-looked_up_all text = refl
+-- the table has all mnemonics with their letters, in their order, and first those of profile N
+pub looked_up_n : (text : List ℕ) → looked_up (str_to_ascii_uppercase text) (take 56 NAMES) ≡ mnemonic_named N text
+unfolding mnemonic_named named_among mnemonic_text mnemonics
+looked_up_n text = refl
+
+pub looked_up_c : (text : List ℕ) → looked_up (str_to_ascii_uppercase text) NAMES ≡ mnemonic_named C text
+unfolding mnemonic_named named_among mnemonic_text mnemonics
+looked_up_c text = refl
 
 -- ---- one name of the table
 
@@ -44,9 +50,9 @@ unfolding named_among
 none_among text [] other = refl
 none_among text (m ∷ ms) other = rw (other_letters m text other) (none_among text ms other)
 
-pub none_named : (text : List ℕ) → length text ≢ 3 → None ≡ mnemonic_named text
+pub none_named : (profile : Profile) (text : List ℕ) → length text ≢ 3 → None ≡ mnemonic_named profile text
 unfolding mnemonic_named
-none_named text other = sym (none_among text all_mnemonics other)
+none_named profile text other = sym (none_among text (mnemonics profile) other)
 
 -- ---- texts of three bytes
 

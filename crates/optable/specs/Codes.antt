@@ -1,7 +1,10 @@
 -- The opcode of an operation in a mode, by groups of modes.
 use Rattle.std.specs.Prelude.{ℕ, ◌+◌, Option, Some, None}
+use Rattle.model.specs.declared.instruction.Profile.{Profile}
+use Rattle.model.specs.declared.instruction.Row.{Row}
+use Rattle.model.specs.Table.{row_at}
 use Rattle.model.specs.declared.instruction.Mode.{Mode}
-use Rattle.model.specs.declared.instruction.Mode.TheVariants.{Imp, Acc, Imm, Zp, ZpX, ZpY, Abs, AbsX, AbsY, IndX, IndY, Ind, Rel}
+use Rattle.model.specs.declared.instruction.Mode.TheVariants.{Imp, Acc, Imm, Zp, ZpX, ZpY, Abs, AbsX, AbsY, IndX, IndY, Ind, Rel, IndZ}
 use Rattle.model.specs.declared.operation.Operation.{Operation}
 use Rattle.model.specs.declared.operation.Operation.TheVariants as operation
 use Rattle.model.specs.declared.operation.LoadOp.{LoadOp}
@@ -37,11 +40,12 @@ abbrev pub immediate_code : ℕ → Mode → Option ℕ
 immediate_code first Imm = Some first
 immediate_code first other = direct_code first other
 
--- the eight modes of the arithmetic group
+-- the nine modes of the arithmetic group
 abbrev pub arithmetic_code : ℕ → Mode → Option ℕ
 arithmetic_code first IndX = Some first
 arithmetic_code first Imm = Some (first + 0x08)
 arithmetic_code first IndY = Some (first + 0x10)
+arithmetic_code first IndZ = Some (first + 0x11)
 arithmetic_code first AbsY = Some (first + 0x18)
 arithmetic_code first other = memory_code first other
 
@@ -93,6 +97,11 @@ store_code store_op.Stx ZpY = Some 0x96
 store_code store_op.Stx other = direct_code 0x82 other
 store_code store_op.Sty ZpX = Some 0x94
 store_code store_op.Sty other = direct_code 0x80 other
+store_code store_op.Stz Zp = Some 0x64
+store_code store_op.Stz ZpX = Some 0x74
+store_code store_op.Stz Abs = Some 0x9C
+store_code store_op.Stz AbsX = Some 0x9E
+store_code store_op.Stz other = None
 
 -- shifts, INC and DEC
 abbrev pub modify_code : ModifyOp → Mode → Option ℕ
@@ -100,8 +109,10 @@ modify_code modify_op.Asl mode = shift_code 0x02 mode
 modify_code modify_op.Rol mode = shift_code 0x22 mode
 modify_code modify_op.Lsr mode = shift_code 0x42 mode
 modify_code modify_op.Ror mode = shift_code 0x62 mode
-modify_code modify_op.Dec mode = memory_code 0xC2 mode
-modify_code modify_op.Inc mode = memory_code 0xE2 mode
+modify_code modify_op.Dec Acc = Some 0x3A
+modify_code modify_op.Dec other = memory_code 0xC2 other
+modify_code modify_op.Inc Acc = Some 0x1A
+modify_code modify_op.Inc other = memory_code 0xE2 other
 
 -- those that change registers alone, in their one mode
 abbrev pub move_code : InherentOp → ℕ
@@ -134,8 +145,9 @@ branch_code branch_op.Bcc = 0x90
 branch_code branch_op.Bcs = 0xB0
 branch_code branch_op.Bne = 0xD0
 branch_code branch_op.Beq = 0xF0
+branch_code branch_op.Bra = 0x80
 
--- the opcode of an operation in a mode, if it has one
+-- the opcode of an operation in a mode in profile C, if it has one
 abbrev pub code_of : Operation → Mode → Option ℕ
 code_of (operation.Load op) mode = load_code op mode
 code_of (operation.Store op) mode = store_code op mode
@@ -143,11 +155,25 @@ code_of (operation.Modify op) mode = modify_code op mode
 code_of (operation.Inherent op) mode = implied_code (move_code op) mode
 code_of (operation.Branch op) mode = relative_code (branch_code op) mode
 code_of operation.PushA mode = implied_code 0x48 mode
+code_of operation.PushX mode = implied_code 0xDA mode
+code_of operation.PushY mode = implied_code 0x5A mode
 code_of operation.PushStatus mode = implied_code 0x08 mode
 code_of operation.PullA mode = implied_code 0x68 mode
+code_of operation.PullX mode = implied_code 0xFA mode
+code_of operation.PullY mode = implied_code 0x7A mode
 code_of operation.PullStatus mode = implied_code 0x28 mode
 code_of operation.Jump mode = jump_code mode
 code_of operation.Call mode = call_code mode
 code_of operation.Return mode = implied_code 0x60 mode
 code_of operation.ReturnInterrupt mode = implied_code 0x40 mode
 code_of operation.Break mode = implied_code 0x00 mode
+
+-- ---- an opcode, if a profile has it
+
+abbrev pub if_row : ℕ → Option Row → Option ℕ
+if_row opcode None = None
+if_row opcode (Some row) = Some opcode
+
+abbrev pub within : Profile → Option ℕ → Option ℕ
+within profile None = None
+within profile (Some opcode) = if_row opcode (row_at profile opcode)

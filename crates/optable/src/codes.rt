@@ -2,24 +2,48 @@
 
 ghost use Rattle.std.specs.Prelude.{◌≡◌, ◌<◌, ◌+◌, ℕ, IfSome, IfNone, Some};
 ghost use Rattle.model.specs.Table.{encoded, row_at, IsRowOf};
-ghost use Rattle.optable.specs.Codes.{code_of, load_code, store_code, modify_code, move_code, branch_code, arithmetic_code, shift_code, memory_code, direct_code, immediate_code, implied_code, relative_code, jump_code, call_code};
+ghost use Rattle.optable.specs.Codes.{within, code_of, load_code, store_code, modify_code, move_code, branch_code, arithmetic_code, shift_code, memory_code, direct_code, immediate_code, implied_code, relative_code, jump_code, call_code};
 
 use crate::operations::operation;
-use model::{BranchOp, InherentOp, LoadOp, Mnemonic, Mode, ModifyOp, Operation, StoreOp};
+use crate::rows::decode_in;
+use model::{BranchOp, InherentOp, LoadOp, Mnemonic, Mode, ModifyOp, Operation, Profile, StoreOp};
 
-/// The opcode of a mnemonic in a mode, and `None` where no documented opcode has both.
-/// It is the inverse of `decode`: the one opcode whose row has this mnemonic and this mode.
-/// (MCS6500 manual, appendix B.)
+/// The opcode of a mnemonic in a mode in profile N: what `encode_in` gives for it.
 pub fn encode(mnemonic: Mnemonic, mode: Mode) -> Option<u8>
-    ensures code { result ≡ encoded mnemonic mode }
-    ensures found { IfSome result (λ opcode. IsRowOf mnemonic mode (row_at opcode)) }
-    ensures none { IfNone result ((opcode : ℕ) → opcode < 256 → ¬ IsRowOf mnemonic mode (row_at opcode)) }
-    ensures only { (opcode : ℕ) → opcode < 256 → IsRowOf mnemonic mode (row_at opcode) → result ≡ Some opcode }
+    ensures code { result ≡ encoded Profile.N mnemonic mode }
+    ensures found { IfSome result (λ opcode. IsRowOf mnemonic mode (row_at Profile.N opcode)) }
+    ensures none { IfNone result ((opcode : ℕ) → opcode < 256 → ¬ IsRowOf mnemonic mode (row_at Profile.N opcode)) }
+    ensures only { (opcode : ℕ) → opcode < 256 → IsRowOf mnemonic mode (row_at Profile.N opcode) → result ≡ Some opcode }
 {
-    code_of(operation(mnemonic), mode)
+    encode_in(Profile::N, mnemonic, mode)
 }
 
-/// The opcode of an operation in a mode.
+/// The opcode of a mnemonic in a mode in a profile, and `None` where no opcode of the profile has both.
+/// It is the inverse of `decode_in`: the one opcode whose row has this mnemonic and this mode.
+/// (MCS6500 manual, appendix B; what profile C adds is its own.)
+pub fn encode_in(profile: Profile, mnemonic: Mnemonic, mode: Mode) -> Option<u8>
+    ensures code { result ≡ encoded profile mnemonic mode }
+    ensures found { IfSome result (λ opcode. IsRowOf mnemonic mode (row_at profile opcode)) }
+    ensures none { IfNone result ((opcode : ℕ) → opcode < 256 → ¬ IsRowOf mnemonic mode (row_at profile opcode)) }
+    ensures only { (opcode : ℕ) → opcode < 256 → IsRowOf mnemonic mode (row_at profile opcode) → result ≡ Some opcode }
+{
+    within(profile, code_of(operation(mnemonic), mode))
+}
+
+/// An opcode, if the profile has it.
+fn within(profile: Profile, code: Option<u8>) -> Option<u8>
+    ensures { result ≡ within profile code }
+{
+    match code {
+        None => None,
+        Some(opcode) => match decode_in(profile, opcode) {
+            None => None,
+            Some(_) => Some(opcode),
+        },
+    }
+}
+
+/// The opcode of an operation in a mode, in profile C, which has all of them.
 fn code_of(operation: Operation, mode: Mode) -> Option<u8>
     ensures { result ≡ code_of operation mode }
 {
@@ -30,8 +54,12 @@ fn code_of(operation: Operation, mode: Mode) -> Option<u8>
         Operation::Inherent(op) => implied_code(move_code(op), mode),
         Operation::Branch(op) => relative_code(branch_code(op), mode),
         Operation::PushA => implied_code(0x48, mode),
+        Operation::PushX => implied_code(0xda, mode),
+        Operation::PushY => implied_code(0x5a, mode),
         Operation::PushStatus => implied_code(0x08, mode),
         Operation::PullA => implied_code(0x68, mode),
+        Operation::PullX => implied_code(0xfa, mode),
+        Operation::PullY => implied_code(0x7a, mode),
         Operation::PullStatus => implied_code(0x28, mode),
         Operation::Jump => jump_code(mode),
         Operation::Call => call_code(mode),
@@ -84,6 +112,13 @@ fn store_code(op: StoreOp, mode: Mode) -> Option<u8>
             Mode::ZpX => Some(0x94),
             _ => direct_code(0x80, mode),
         },
+        StoreOp::Stz => match mode {
+            Mode::Zp => Some(0x64),
+            Mode::ZpX => Some(0x74),
+            Mode::Abs => Some(0x9c),
+            Mode::AbsX => Some(0x9e),
+            _ => None,
+        },
     }
 }
 
@@ -95,8 +130,14 @@ fn modify_code(op: ModifyOp, mode: Mode) -> Option<u8>
         ModifyOp::Rol => shift_code(0x22, mode),
         ModifyOp::Lsr => shift_code(0x42, mode),
         ModifyOp::Ror => shift_code(0x62, mode),
-        ModifyOp::Dec => memory_code(0xc2, mode),
-        ModifyOp::Inc => memory_code(0xe2, mode),
+        ModifyOp::Dec => match mode {
+            Mode::Acc => Some(0x3a),
+            _ => memory_code(0xc2, mode),
+        },
+        ModifyOp::Inc => match mode {
+            Mode::Acc => Some(0x1a),
+            _ => memory_code(0xe2, mode),
+        },
     }
 }
 
@@ -137,10 +178,11 @@ fn branch_code(op: BranchOp) -> u8
         BranchOp::Bcs => 0xb0,
         BranchOp::Bne => 0xd0,
         BranchOp::Beq => 0xf0,
+        BranchOp::Bra => 0x80,
     }
 }
 
-/// The eight modes of the arithmetic group, from the opcode of its first one.
+/// The nine modes of the arithmetic group, from the opcode of its first one.
 fn arithmetic_code(first: u8, mode: Mode) -> Option<u8>
     requires { first < 228 }
     ensures { result ≡ arithmetic_code first mode }
@@ -149,6 +191,7 @@ fn arithmetic_code(first: u8, mode: Mode) -> Option<u8>
         Mode::IndX => Some(first),
         Mode::Imm => Some(first + 0x08),
         Mode::IndY => Some(first + 0x10),
+        Mode::IndZ => Some(first + 0x11),
         Mode::AbsY => Some(first + 0x18),
         _ => memory_code(first, mode),
     }

@@ -5,10 +5,10 @@ ghost use Rattle.std.specs.Str.{str_to_ascii_uppercase};
 ghost use Rattle.model.specs.Mnemonics.{mnemonic_named};
 ghost use Rattle.optable.specs.Names.{looked_up};
 
-use model::Mnemonic;
+use model::{Mnemonic, Profile};
 
-/// The letters of each mnemonic.
-const NAMES: [([u8; 3], Mnemonic); 56] = [
+/// The letters of each mnemonic: first those of the documented instructions, then those that profile C adds.
+const NAMES: [([u8; 3], Mnemonic); 62] = [
     (*b"ADC", Mnemonic::Adc),
     (*b"AND", Mnemonic::And),
     (*b"ASL", Mnemonic::Asl),
@@ -65,17 +65,37 @@ const NAMES: [([u8; 3], Mnemonic); 56] = [
     (*b"TXA", Mnemonic::Txa),
     (*b"TXS", Mnemonic::Txs),
     (*b"TYA", Mnemonic::Tya),
+    (*b"BRA", Mnemonic::Bra),
+    (*b"PHX", Mnemonic::Phx),
+    (*b"PHY", Mnemonic::Phy),
+    (*b"PLX", Mnemonic::Plx),
+    (*b"PLY", Mnemonic::Ply),
+    (*b"STZ", Mnemonic::Stz),
 ];
 
-/// The mnemonic that a text names, in any letter case, and `None` for every other text. (MCS6500 manual, appendix B;
-/// the letter case is this profile's.)
+/// How many mnemonics the documented instructions have.
+const DOCUMENTED: usize = 56;
+
+/// The mnemonic of profile N that a text names: what `mnemonic_in` gives for it.
 pub fn mnemonic_of(text: &[u8]) -> Option<Mnemonic>
-    ensures { result ≡ mnemonic_named text.now }
+    ensures { result ≡ mnemonic_named Profile.N text.now }
+{
+    mnemonic_in(Profile::N, text)
+}
+
+/// The mnemonic of a profile that a text names, in any letter case, and `None` for every other text. (MCS6500 manual, appendix B;
+/// the letter case, and what profile C adds, are this profile's.)
+pub fn mnemonic_in(profile: Profile, text: &[u8]) -> Option<Mnemonic>
+    ensures { result ≡ mnemonic_named profile text.now }
 {
     if text.len() != 3 {
         return None;
     }
-    look_up(&NAMES, capitals(text))
+    let names = match profile {
+        Profile::N => &NAMES[..DOCUMENTED],
+        Profile::C => &NAMES,
+    };
+    look_up(names, capitals(text))
 }
 
 /// Three bytes, each small letter a capital.

@@ -1,42 +1,9 @@
 //! The row of an opcode.
 
 ghost use Rattle.std.specs.Prelude.{◌≡◌, ◌<◌, ◌≤◌, IfSome};
-ghost use Rattle.model.specs.Table.{row_at};
+ghost use Rattle.model.specs.Table.{added, find_row, row_at};
 
-use model::{Mnemonic, Mode, Row};
-
-/// The row of an opcode: mnemonic, mode, length in bytes, cycles and whether a page crossing costs one more.
-/// `None` for the 105 opcodes that are not documented. (MCS6500 manual, appendix B.)
-pub fn decode(opcode: u8) -> Option<Row>
-    ensures row { result ≡ row_at opcode }
-    ensures small { IfSome result (λ row. row.cycles < 8) }
-    ensures len { IfSome result (λ row. (1 ≤ row.len) × (row.len ≤ 3)) }
-{
-    OpTable::new().row(opcode)
-}
-
-/// The rows of all 256 bytes, each found in one step.
-#[derive(Clone, Copy)]
-pub struct OpTable;
-
-impl OpTable {
-    /// The table. Its rows are a constant of the program, so it takes no memory.
-    #[inline(always)]
-    pub fn new() -> OpTable {
-        OpTable
-    }
-
-    /// The row of an opcode, which is that of `decode`.
-    #[inline(always)]
-    pub fn row(self, opcode: u8) -> Option<Row>
-        ensures row { result ≡ row_at opcode }
-        ensures small { IfSome result (λ row. row.cycles < 8) }
-        ensures len { IfSome result (λ row. (1 ≤ row.len) × (row.len ≤ 3)) }
-    {
-        let rows = &ROWS;
-        rows[opcode as usize]
-    }
-}
+use model::{Mnemonic, Mode, Profile, Row};
 
 /// A row whose cycles are always the same.
 macro_rules! row {
@@ -64,7 +31,108 @@ macro_rules! plus {
     };
 }
 
-/// The row of each byte, from $00 on.
+/// The row of an opcode in profile N: what `decode_in` gives for it. `None` for the 105 opcodes that are not documented.
+pub fn decode(opcode: u8) -> Option<Row>
+    ensures row { result ≡ row_at Profile.N opcode }
+    ensures small { IfSome result (λ row. row.cycles < 8) }
+    ensures len { IfSome result (λ row. (1 ≤ row.len) × (row.len ≤ 3)) }
+{
+    decode_in(Profile::N, opcode)
+}
+
+/// The row of an opcode in a profile: mnemonic, mode, length in bytes, cycles and whether a page crossing costs one more.
+/// `None` for the opcodes that it has not: 105 in profile N, 86 in profile C. (MCS6500 manual, appendix B; what profile C adds is
+/// its own.)
+pub fn decode_in(profile: Profile, opcode: u8) -> Option<Row>
+    ensures row { result ≡ row_at profile opcode }
+    ensures small { IfSome result (λ row. row.cycles < 8) }
+    ensures len { IfSome result (λ row. (1 ≤ row.len) × (row.len ≤ 3)) }
+{
+    OpTable::new(profile).row(opcode)
+}
+
+/// The rows of all 256 bytes in a profile, each found in one step.
+#[derive(Clone, Copy)]
+pub struct OpTable {
+    /// Whose rows they are.
+    pub profile: Profile,
+}
+
+impl OpTable {
+    /// The table of a profile. Its rows are a constant of the program, so it takes no memory.
+    #[inline(always)]
+    pub fn new(profile: Profile) -> OpTable
+        ensures { result.profile ≡ profile }
+    {
+        OpTable { profile }
+    }
+
+    /// The row of an opcode, which is that of `decode_in`.
+    #[inline(always)]
+    pub fn row(self, opcode: u8) -> Option<Row>
+        ensures row { result ≡ row_at self.profile opcode }
+        ensures small { IfSome result (λ row. row.cycles < 8) }
+        ensures len { IfSome result (λ row. (1 ≤ row.len) × (row.len ≤ 3)) }
+    {
+        row_in(self.profile, opcode)
+    }
+}
+
+/// The row of an opcode: that of profile N, and else what profile C adds.
+#[inline(always)]
+#[tactic(auto, using(table_laws::proofs::Encoding::row_kept, table_laws::proofs::Encoding::row_added))]
+fn row_in(profile: Profile, opcode: u8) -> Option<Row>
+    ensures { result ≡ row_at profile opcode }
+{
+    match documented_row(opcode) {
+        Some(row) => Some(row),
+        None => match profile {
+            Profile::N => None,
+            Profile::C => added_row(opcode),
+        },
+    }
+}
+
+/// The row of an opcode in profile N.
+#[inline(always)]
+#[tactic(auto, using(crate::proofs::Table::decoded))]
+fn documented_row(opcode: u8) -> Option<Row>
+    ensures { result ≡ row_at Profile.N opcode }
+{
+    let rows = &ROWS;
+    rows[opcode as usize]
+}
+
+/// The row of an opcode that profile C adds.
+#[tactic(auto, unfolding(model::specs::Table::find_row, model::specs::Table::added))]
+fn added_row(opcode: u8) -> Option<Row>
+    ensures { result ≡ find_row opcode added }
+{
+    match opcode {
+        0x12 => row!(Ora, IndZ, 2, 5),
+        0x1a => row!(Inc, Acc, 1, 2),
+        0x32 => row!(And, IndZ, 2, 5),
+        0x3a => row!(Dec, Acc, 1, 2),
+        0x52 => row!(Eor, IndZ, 2, 5),
+        0x5a => row!(Phy, Imp, 1, 3),
+        0x64 => row!(Stz, Zp, 2, 3),
+        0x72 => row!(Adc, IndZ, 2, 5),
+        0x74 => row!(Stz, ZpX, 2, 4),
+        0x7a => row!(Ply, Imp, 1, 4),
+        0x80 => row!(Bra, Rel, 2, 2),
+        0x92 => row!(Sta, IndZ, 2, 5),
+        0x9c => row!(Stz, Abs, 3, 4),
+        0x9e => row!(Stz, AbsX, 3, 5),
+        0xb2 => row!(Lda, IndZ, 2, 5),
+        0xd2 => row!(Cmp, IndZ, 2, 5),
+        0xda => row!(Phx, Imp, 1, 3),
+        0xf2 => row!(Sbc, IndZ, 2, 5),
+        0xfa => row!(Plx, Imp, 1, 4),
+        _ => None,
+    }
+}
+
+/// The row of each byte in profile N, from $00 on.
 pub const ROWS: [Option<Row>; 256] = [
     // $00
     row!(Brk, Imp, 1, 7),

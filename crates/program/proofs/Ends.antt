@@ -1,11 +1,11 @@
 -- What a part's answer makes of the program's.
-use Rattle.std.proofs.Common.{◌≡◌, ◌∙◌, ℕ, List, Option, None, Result, Ok, Err, IfErr, MatchResult, ◌⊎◌, inl, inr, refl, sym, ap, subst}
+use Rattle.std.proofs.Common.{◌≡◌, ◌∙◌, ℕ, List, Option, None, Some, IfSome, Result, Ok, Err, IfErr, MatchResult, ◌⊎◌, inl, inr, refl, sym, ap, subst}
 use Rattle.std.specs.Io.KnownBytes.{Appends}
 use Rattle.std.specs.Prelude.{OnErr}
 use Rattle.std.specs.Result.{IsErrAnd}
 use Rattle.assembler.specs.Assembly.{out_of_memory}
 use Rattle.engine.specs.Outcome.{Reaches, Serves}
-use Rattle.engine.specs.Refusals.{of_source, of_source_kind, of_tape, of_tape_kind}
+use Rattle.engine.specs.Refusals.{of_source, of_source_kind, of_tape, of_tape_kind, of_tape_read}
 use Rattle.engine.specs.TapeReads.{ReachesFrom}
 use Rattle.engine.specs.declared.fault.EngineFault.{EngineFault}
 use Rattle.engine.specs.declared.fault.EngineFault.TheVariants as engine_fault
@@ -14,15 +14,19 @@ use Rattle.model.specs.Event.{start}
 use Rattle.model.specs.Session.{fresh}
 use Rattle.model.specs.Source.{HasFault}
 use Rattle.model.specs.State.{Map, memory_of}
-use Rattle.model.specs.Tape.{FirstFault}
+use Rattle.model.specs.TapePieces.{IsReadInPieces, IsRefusedInPieces}
 use Rattle.model.specs.TapeFault.{out_of_memory as tape_out_of_memory}
 use Rattle.model.specs.Written.{AppendsFront, Writes}
+use Rattle.model.specs.declared.instruction.Profile.{Profile}
 use Rattle.model.specs.declared.tape.TapeFault.{TapeFault}
 use Rattle.model.specs.declared.tape.TapeFaultKind.{TapeFaultKind}
 use Rattle.model.specs.declared.tape.TapeFaultKind.TheVariants as tape_fault
 use Rattle.model.specs.declared.source_fault.AsmFault.{AsmFault}
 use Rattle.model.specs.declared.source_fault.AsmFaultKind.{AsmFaultKind}
 use Rattle.model.specs.declared.source_fault.AsmFaultKind.TheVariants as source_fault
+use Rattle.papertape.specs.Streaming.{EndsReading}
+use Rattle.papertape.specs.declared.stream.TapeReadFault.{TapeReadFault}
+use Rattle.papertape.specs.declared.stream.TapeReadFault.TheVariants as tape_read_fault
 use Rattle.program.specs.Refusals.{EndsAsm, EndsDis, of_engine}
 use Rattle.program.specs.Streams.{IsListed, IsServed}
 use Rattle.program.specs.declared.refusal.Refusal.{Refusal}
@@ -57,13 +61,13 @@ either : (kind : AsmFaultKind) (f : AsmFault) → (of_source_kind kind f ≡ eng
 either source_fault.OutOfMemory f = inr refl
 either _ f = inl refl
 
-pub ends_asm : {X : Type 0} (result : Result X Refusal) (map : Map) (port : ℕ) (source : List ℕ) (f : AsmFault) → IsErrAnd result (λ e. e ≡ of_engine (of_source f)) → map ≡ record { rom = None; port = port }
-    → (f ≡ out_of_memory) ⊎ HasFault map source f → IfErr result (EndsAsm port)
-ends_asm (Ok x) map port source f h same why = absurd h
-ends_asm (Err e) map port source f h same (inl memory) = subst (EndsAsm port) (sym (h ∙ ap (λ g. of_engine (of_source g)) memory)) tt
-ends_asm (Err e) map port source f h same (inr fault) = elim (either f.kind f) [
-  | inl s ↦ subst (EndsAsm port) (sym (h ∙ ap of_engine s)) (source, subst (λ m. HasFault m source f) same fault)
-  | inr m ↦ subst (EndsAsm port) (sym (h ∙ ap of_engine m)) tt
+pub ends_asm : {X : Type 0} (result : Result X Refusal) (map wanted : Map) (source : List ℕ) (f : AsmFault) → IsErrAnd result (λ e. e ≡ of_engine (of_source f)) → map ≡ wanted
+    → (f ≡ out_of_memory) ⊎ HasFault map source f → IfErr result (EndsAsm wanted)
+ends_asm (Ok x) map wanted source f h same why = absurd h
+ends_asm (Err e) map wanted source f h same (inl memory) = subst (EndsAsm wanted) (sym (h ∙ ap (λ g. of_engine (of_source g)) memory)) tt
+ends_asm (Err e) map wanted source f h same (inr fault) = elim (either f.kind f) [
+  | inl s ↦ subst (EndsAsm wanted) (sym (h ∙ ap of_engine s)) (source, subst (λ m. HasFault m source f) same fault)
+  | inr m ↦ subst (EndsAsm wanted) (sym (h ∙ ap of_engine m)) tt
 ]
 
 -- ---- a tape that was listed, or was not
@@ -75,50 +79,121 @@ tape_either _ f = inl refl
 abbrev Image : Type 0
 Image = List (Option ℕ)
 
-abbrev read_ok : Image → Result Image TapeFault
+abbrev ReadAnswer : Type 0
+ReadAnswer = Result Image TapeReadFault
+
+abbrev read_ok : Image → ReadAnswer
 read_ok image = Ok image
 
-abbrev image_in : Image → Result Image TapeFault → Image
+abbrev read_err : TapeReadFault → ReadAnswer
+read_err f = Err f
+
+abbrev image_in : Image → ReadAnswer → Image
 image_in d (Ok image) = image
-image_in d (Err fault) = d
+image_in d (Err f) = d
 
-pub same_image : (image cells : Image) (f : TapeFault) → (read_ok image ≡ Ok cells) ⊎ (read_ok image ≡ Err f) → image ≡ cells
-same_image image cells f (inl e) = ap (image_in image) e
-same_image image cells f (inr e) = absurd cc
+-- the answer is this one, unless a read failed or memory was refused
+abbrev Is : {X : Type 0} → Result X TapeReadFault → Result X TapeReadFault → Type 0
+Is answer wanted = (answer ≡ wanted) ⊎ ((answer ≡ Err tape_read_fault.Read) ⊎ (answer ≡ Err (tape_read_fault.Tape tape_out_of_memory)))
 
-pub tape_memory : {X : Type 0} (result : Result X TapeFault) (f : TapeFault) (cells : Image) (P : X → Type 0) → IsErrAnd result (λ e. e ≡ f)
-    → (failed Image TapeFault f ≡ Ok cells) ⊎ (failed Image TapeFault f ≡ Err tape_out_of_memory) → MatchResult result P (λ e. e ≡ tape_out_of_memory)
-tape_memory (Ok x) f cells P h only = absurd h
-tape_memory (Err e) f cells P h (inl same) = absurd cc
-tape_memory (Err e) f cells P h (inr memory) = h ∙ ap (fault_or f) memory
+pub with_known : (a : Option (List ℕ)) (P Q : List ℕ → Type 0) → IfSome a P → ((text : List ℕ) → P text → Q text) → IfSome a Q
+with_known None P Q h f = tt
+with_known (Some x) P Q h f = f x h
 
-pub ends_dis : {X : Type 0} (result : Result X Refusal) (text : List ℕ) (f : TapeFault) → IsErrAnd result (λ e. e ≡ of_engine (of_tape f))
-    → (f ≡ tape_out_of_memory) ⊎ FirstFault text f.kind f.offset → IfErr result EndsDis
-ends_dis (Ok x) text f h why = absurd h
-ends_dis (Err e) text f h (inl memory) = subst EndsDis (sym (h ∙ ap (λ g. of_engine (of_tape g)) memory)) tt
-ends_dis (Err e) text f h (inr fault) = elim (tape_either f.kind f) [
-  | inl s ↦ subst EndsDis (sym (h ∙ ap of_engine s)) (text, fault)
-  | inr m ↦ subst EndsDis (sym (h ∙ ap of_engine m)) tt
+pub for_known : (a : Option (List ℕ)) (Q : List ℕ → Type 0) → ((text : List ℕ) → Q text) → IfSome a Q
+for_known None Q f = tt
+for_known (Some x) Q f = f x
+
+same_image : (image cells : Image) → Is (read_ok image) (read_ok cells) → image ≡ cells
+same_image image cells (inl e) = ap (image_in image) e
+same_image image cells (inr (inl e)) = absurd cc
+same_image image cells (inr (inr e)) = absurd cc
+
+no_fault : (image : Image) (f : TapeReadFault) → Is (read_ok image) (read_err f) → ⊥
+no_fault image f (inl e) = absurd cc
+no_fault image f (inr (inl e)) = absurd cc
+no_fault image f (inr (inr e)) = absurd cc
+
+-- what holds of the image that was read holds of each that a known text has
+pub each_image : (a : Option (List ℕ)) (image : Image) (P : Image → Type 0) → IfSome a (λ text. (cells : Image) → IsReadInPieces text cells → Is (read_ok image) (read_ok cells)) → P image
+    → IfSome a (λ text. (cells : Image) → IsReadInPieces text cells → P cells)
+each_image a image P only p =
+    with_known a (λ text. (cells : Image) → IsReadInPieces text cells → Is (read_ok image) (read_ok cells)) (λ text. (cells : Image) → IsReadInPieces text cells → P cells) only
+    (λ text o cells r. subst P (same_image image cells (o cells r)) p)
+
+-- a text whose image was read has no fault
+pub each_fault : (a : Option (List ℕ)) (image : Image) (P : TapeFault → Type 0)
+    → IfSome a (λ text. (fault : TapeFault) → IsRefusedInPieces text fault → Is (read_ok image) (read_err (tape_read_fault.Tape fault)))
+    → IfSome a (λ text. (fault : TapeFault) → IsRefusedInPieces text fault → P fault)
+each_fault a image P only =
+    with_known a (λ text. (fault : TapeFault) → IsRefusedInPieces text fault → Is (read_ok image) (read_err (tape_read_fault.Tape fault))) (λ text. (fault : TapeFault) → IsRefusedInPieces text fault → P fault) only
+    (λ text o fault r. absurd (no_fault image (tape_read_fault.Tape fault) (o fault r)))
+
+abbrev IsUnread : TapeReadFault → Type 0
+IsUnread f = (f ≡ tape_read_fault.Read) ⊎ (f ≡ tape_read_fault.Tape tape_out_of_memory)
+
+unread : (f : TapeReadFault) (cells : Image) → Is (read_err f) (read_ok cells) → IsUnread f
+unread f cells (inl e) = absurd cc
+unread f cells (inr (inl e)) = inl (ap (fault_or f) e)
+unread f cells (inr (inr e)) = inr (ap (fault_or f) e)
+
+answer_unread : {X : Type 0} (result : Result X TapeReadFault) (f : TapeReadFault) (P : X → Type 0) → IsErrAnd result (λ e. e ≡ f) → IsUnread f → MatchResult result P IsUnread
+answer_unread (Ok x) f P h why = absurd h
+answer_unread (Err e) f P h why = subst IsUnread (sym h) why
+
+-- a text that has an image was not read
+pub each_unread : {X : Type 0} (a : Option (List ℕ)) (result : Result X TapeReadFault) (f : TapeReadFault) (P : Image → X → Type 0) → IsErrAnd result (λ e. e ≡ f)
+    → IfSome a (λ text. (cells : Image) → IsReadInPieces text cells → Is (read_err f) (read_ok cells))
+    → IfSome a (λ text. (cells : Image) → IsReadInPieces text cells → MatchResult result (P cells) IsUnread)
+each_unread a result f P h only =
+    with_known a (λ text. (cells : Image) → IsReadInPieces text cells → Is (read_err f) (read_ok cells)) (λ text. (cells : Image) → IsReadInPieces text cells → MatchResult result (P cells) IsUnread) only
+    (λ text o cells r. answer_unread result f (P cells) h (unread f cells (o cells r)))
+
+same_answer : {X : Type 0} (result : Result X TapeReadFault) (f g : TapeReadFault) → IsErrAnd result (λ e. e ≡ f) → Is (read_err f) (read_err g) → Is result (Err g)
+same_answer (Ok x) f g h either = absurd h
+same_answer (Err e) f g h (inl same) = inl (ap Err (h ∙ ap (fault_or f) same))
+same_answer (Err e) f g h (inr (inl same)) = inr (inl (ap Err (h ∙ ap (fault_or f) same)))
+same_answer (Err e) f g h (inr (inr same)) = inr (inr (ap Err (h ∙ ap (fault_or f) same)))
+
+-- the same fault is answered by a call with another value
+pub each_refused : {X : Type 0} (a : Option (List ℕ)) (result : Result X TapeReadFault) (f : TapeReadFault) → IsErrAnd result (λ e. e ≡ f)
+    → IfSome a (λ text. (fault : TapeFault) → IsRefusedInPieces text fault → Is (read_err f) (read_err (tape_read_fault.Tape fault)))
+    → IfSome a (λ text. (fault : TapeFault) → IsRefusedInPieces text fault → Is result (Err (tape_read_fault.Tape fault)))
+each_refused a result f h only =
+    with_known a (λ text. (fault : TapeFault) → IsRefusedInPieces text fault → Is (read_err f) (read_err (tape_read_fault.Tape fault))) (λ text. (fault : TapeFault) → IsRefusedInPieces text fault → Is result (Err (tape_read_fault.Tape fault))) only
+    (λ text o fault r. same_answer result f (tape_read_fault.Tape fault) h (o fault r))
+
+dis_refusal : (a : Option (List ℕ)) (f : TapeReadFault) → EndsReading a f → EndsDis (of_engine (of_tape_read f))
+dis_refusal a tape_read_fault.Read h = tt
+dis_refusal a (tape_read_fault.Tape g) (inl memory) = subst EndsDis (sym (ap (λ x. of_engine (of_tape x)) memory)) tt
+dis_refusal a (tape_read_fault.Tape g) (inr refused) = elim (tape_either g.kind g) [
+  | inl s ↦ subst EndsDis (sym (ap of_engine s)) (refused.0, refused.2)
+  | inr m ↦ subst EndsDis (sym (ap of_engine m)) tt
 ]
 
+pub ends_dis : {X : Type 0} (result : Result X Refusal) (a : Option (List ℕ)) (f : TapeReadFault) → IsErrAnd result (λ e. e ≡ of_engine (of_tape_read f)) → EndsReading a f → IfErr result EndsDis
+ends_dis (Ok x) a f h why = absurd h
+ends_dis (Err e) a f h why = subst EndsDis (sym h) (dis_refusal a f why)
+
 -- Nothing was listed.
-pub none_listed : (result : Result (Unit {0}) Refusal) (first last : ℕ) (held now : Option (List ℕ)) (Alone : Type 0) (f : TapeFault)
-    → IsErrAnd result (λ e. e ≡ of_engine (of_tape f)) → Alone → IsListed first last held now result Alone
-none_listed (Ok x) first last held now Alone f h alone = absurd h
-none_listed (Err e) first last held now Alone f h alone = elim (tape_either f.kind f) [
-  | inl s ↦ subst (λ r. IsListed first last held now (Err r) Alone) (sym (h ∙ ap of_engine s)) alone
-  | inr m ↦ subst (λ r. IsListed first last held now (Err r) Alone) (sym (h ∙ ap of_engine m)) alone
+pub none_listed : (result : Result (Unit {0}) Refusal) (profile : Profile) (first last : ℕ) (held now : Option (List ℕ)) (Alone : Type 0) (f : TapeReadFault)
+    → IsErrAnd result (λ e. e ≡ of_engine (of_tape_read f)) → Alone → IsListed profile first last held now result Alone
+none_listed (Ok x) profile first last held now Alone f h alone = absurd h
+none_listed (Err e) profile first last held now Alone tape_read_fault.Read h alone = subst (λ r. IsListed profile first last held now (Err r) Alone) (sym h) alone
+none_listed (Err e) profile first last held now Alone (tape_read_fault.Tape g) h alone = elim (tape_either g.kind g) [
+  | inl s ↦ subst (λ r. IsListed profile first last held now (Err r) Alone) (sym (h ∙ ap of_engine s)) alone
+  | inr m ↦ subst (λ r. IsListed profile first last held now (Err r) Alone) (sym (h ∙ ap of_engine m)) alone
 ]
 
 abbrev refusal_in : Refusal → Result (Unit {0}) Refusal → Refusal
 refusal_in d (Ok x) = d
 refusal_in d (Err e) = e
 
-pub listed_of : (result : Result (Unit {0}) Refusal) (first last : ℕ) (held now : Option (List ℕ)) (Alone : Type 0) (image : Image) (text : List ℕ)
-    → text ≡ rows_in (memory_of image) last first 65536 → Writes held now text result → OnErr result (result ≡ Err Write) → IsListed first last held now result Alone
-listed_of (Ok x) first last held now Alone image text e writes only = (image, subst (Appends held now) e writes)
-listed_of (Err r) first last held now Alone image text e writes only =
-    subst (λ q. IsListed first last held now (Err q) Alone) (sym (ap (refusal_in r) only)) (image, subst (AppendsFront held now) e writes)
+pub listed_of : (result : Result (Unit {0}) Refusal) (profile : Profile) (first last : ℕ) (held now : Option (List ℕ)) (Alone : Type 0) (image : Image) (text : List ℕ)
+    → text ≡ rows_in profile (memory_of image) last first 65536 → Writes held now text result → OnErr result (result ≡ Err Write) → IsListed profile first last held now result Alone
+listed_of (Ok x) profile first last held now Alone image text e writes only = (image, subst (Appends held now) e writes)
+listed_of (Err r) profile first last held now Alone image text e writes only =
+    subst (λ q. IsListed profile first last held now (Err q) Alone) (sym (ap (refusal_in r) only)) (image, subst (AppendsFront held now) e writes)
 
 pub ends_write : (result : Result (Unit {0}) Refusal) → OnErr result (result ≡ Err Write) → IfErr result EndsDis
 ends_write (Ok x) only = tt

@@ -27,10 +27,10 @@ not_zero Write e = omega arith
 
 -- The transcript of the input was written, from some image on the map.
 abbrev pub IsTranscript : Option (List ℕ) → Option (List ℕ) → Option (List ℕ) → DebugAsked → Type 0
-IsTranscript input held now d = (image : List (Option ℕ)) × IfSome input (λ given. Appends held now (transcript (fresh d.history (start (record { rom = d.rom; port = d.port }) image)) given).written)
+IsTranscript input held now d = (image : List (Option ℕ)) × IfSome input (λ given. Appends held now (transcript (fresh d.history (start (record { profile = d.profile; rom = d.rom; port = d.port }) image)) given).written)
 
 pub ended_served : (v d : DebugAsked) (input left held now : Option (List ℕ)) (Alone : Type 0) (outcome : Result ⊤ Refusal) (status : ℕ) → v ≡ d
-    → IsServed (record { rom = v.rom; port = v.port }) v.history input left held now outcome Alone
+    → IsServed (record { profile = v.profile; rom = v.rom; port = v.port }) v.history input left held now outcome Alone
     → MatchResult outcome (λ _. status ≡ 0) (λ refusal. status ≡ status_of refusal) → status ≡ 0 → IsTranscript input held now d
 ended_served v d input left held now Alone (Ok done) status same served is zero = subst (IsTranscript input held now) same served
 ended_served v d input left held now Alone (Err refusal) status same served is zero = absurd (not_zero refusal (sym is ∙ zero))

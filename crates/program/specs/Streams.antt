@@ -10,6 +10,7 @@ use Rattle.model.specs.Event.{start}
 use Rattle.model.specs.Session.{fresh}
 use Rattle.model.specs.State.{memory_of}
 use Rattle.model.specs.Written.{AppendsFront}
+use Rattle.model.specs.declared.instruction.Profile.{Profile}
 use Rattle.program.specs.Statuses.{status_of}
 use Rattle.program.specs.declared.refusal.Refusal.{Refusal}
 use Rattle.program.specs.declared.refusal.Refusal.TheVariants.{OutOfMemory, Read, Write}
@@ -27,11 +28,12 @@ IsServed map history input left held now (Err Write) Alone = FromImage map histo
 IsServed map history input left held now (Err OutOfMemory) Alone = Alone ⊎ FromImage map history input left held now (Err engine_fault.OutOfMemory)
 IsServed map history input left held now (Err refusal) Alone = Alone
 
--- How the output stands by the outcome of `dis`: the rows of some image were written, or a beginning of them, or it was left alone.
-abbrev pub IsListed : ℕ → ℕ → Option (List ℕ) → Option (List ℕ) → Result ⊤ Refusal → Type 0 → Type 0
-IsListed first last held now (Ok done) Alone = (image : List (Option ℕ)) × Appends held now (rows_in (memory_of image) last first 65536)
-IsListed first last held now (Err Write) Alone = (image : List (Option ℕ)) × AppendsFront held now (rows_in (memory_of image) last first 65536)
-IsListed first last held now (Err refusal) Alone = Alone
+-- How the output stands by the outcome of `dis`: the rows of some image in the profile were written, or a
+-- beginning of them, or it was left alone.
+abbrev pub IsListed : Profile → ℕ → ℕ → Option (List ℕ) → Option (List ℕ) → Result ⊤ Refusal → Type 0 → Type 0
+IsListed profile first last held now (Ok done) Alone = (image : List (Option ℕ)) × Appends held now (rows_in profile (memory_of image) last first 65536)
+IsListed profile first last held now (Err Write) Alone = (image : List (Option ℕ)) × AppendsFront held now (rows_in profile (memory_of image) last first 65536)
+IsListed profile first last held now (Err refusal) Alone = Alone
 
 -- The exit status says how it ended.
 abbrev pub IsStatus : Result ⊤ Refusal → ℕ → Type 0

@@ -10,6 +10,7 @@ ghost use Rattle.model.specs.declared.source_fault.AsmFault.{AsmFault};
 ghost use Rattle.program.specs.Refusals.{EndsAsm};
 ghost use Rattle.program.specs.Texts.{IsAsked};
 
+use crate::map::map_of;
 use crate::refusal::Refusal;
 use assembler::{Assembly, assemble};
 use bus::MapSpec;
@@ -123,9 +124,9 @@ fn write_texts<H: Files>(rt: &H, words: &AsmWords<'_>, texts: &AsmTexts) -> Resu
 /// Assembles a file and writes its tape and, where it is asked for, its listing. Both texts are whole before a file is made.
 pub fn asm<H: Files + AllocGlobal>(rt: &H, words: &AsmWords<'_>) -> Result<(), Refusal>
     ensures bad_map { is_map None words.now.port ≡ false → result ≡ Err (Refusal.Map BadMap) }
-    ensures refused { IfErr result (EndsAsm words.now.port) }
+    ensures refused { IfErr result (EndsAsm (record { profile = words.now.profile; rom = None; port = words.now.port })) }
 {
-    let map = MapSpec::new(None, words.port)?;
+    let map = map_of(words.profile, None, words.port)?;
     let source = read_source(rt, words.source).map_err(|error| Refusal::unreadable(&error))?;
     let is_listed = words.listing.is_some();
     let texts = asm_texts(rt.alloc(), source.as_slice(), &map, is_listed)?;

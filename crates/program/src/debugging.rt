@@ -6,8 +6,8 @@ ghost use Rattle.program.specs.Refusals.{EndsDebug, of_engine};
 ghost use Rattle.program.specs.Streams.{IsServed};
 
 use crate::assembling::read_source;
+use crate::map::map_of;
 use crate::refusal::Refusal;
-use bus::MapSpec;
 use engine::{EngineFault, debug_source, debug_tape_from};
 use std::fs::File;
 use std::io;
@@ -24,12 +24,12 @@ pub fn debug<H: Files + AllocGlobal, R: Read, O: Write>(
     output: &mut O,
 ) -> Result<(), Refusal>
     ensures bad_map { is_map words.now.rom words.now.port ≡ false → result ≡ Err (Refusal.Map BadMap) }
-    ensures refused { IfErr result (EndsDebug words.now.is_tape words.now.rom words.now.port) }
+    ensures refused { IfErr result (EndsDebug words.now.is_tape (record { profile = words.now.profile; rom = words.now.rom; port = words.now.port })) }
     // A session on some image and the map of the words was served, or none stood.
-    ensures served { IsServed (record { rom = words.now.rom; port = words.now.port }) words.now.history
+    ensures served { IsServed (record { profile = words.now.profile; rom = words.now.rom; port = words.now.port }) words.now.history
         (R.remaining input.old) (R.remaining input.new) (O.contents output.old) (O.contents output.new) result ((input.new ≡ input.old) × (output.new ≡ output.old)) }
 {
-    let map = MapSpec::new(words.rom, words.port)?;
+    let map = map_of(words.profile, words.rom, words.port)?;
     let alloc = rt.alloc();
     let history = words.history;
     if words.is_tape {

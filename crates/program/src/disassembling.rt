@@ -1,46 +1,55 @@
 //! `dis`: a tape's bytes as text.
-ghost use Rattle.std.specs.Prelude.{◌≡◌, ◌⊎◌, ℕ, List, Option, Err, IfErr, IfOk, MatchResult, OnErr};
+ghost use Rattle.std.specs.Prelude.{◌≡◌, ◌⊎◌, ℕ, List, Option, Err, IfErr, IfOk, IfSome, MatchResult, OnErr};
 ghost use Rattle.model.specs.Disassembly.{rows_in};
 ghost use Rattle.model.specs.State.{memory_of};
-ghost use Rattle.model.specs.Tape.{Denotes, FirstFault};
 ghost use Rattle.model.specs.TapeFault.{out_of_memory};
+ghost use Rattle.model.specs.TapePieces.{IsReadInPieces, IsRefusedInPieces};
 ghost use Rattle.model.specs.Written.{Writes};
-ghost use Rattle.model.specs.declared.tape.TapeFaultKind.{TapeFaultKind};
+ghost use Rattle.model.specs.declared.tape.TapeFault.{TapeFault};
+ghost use Rattle.papertape.specs.Streaming.{EndsReading, IsImageOf};
+ghost use Rattle.papertape.specs.declared.stream.TapeReadFault.TheVariants.{Read as ReadFailed, Tape};
 ghost use Rattle.program.specs.Refusals.{EndsDis};
 ghost use Rattle.program.specs.Streams.{IsListed};
 
 use crate::refusal::Refusal;
 use disassembly::disassembly;
-use model::{TAPE_OUT_OF_MEMORY, TapeFault};
-use papertape::read_tape;
+use model::{Profile, TAPE_OUT_OF_MEMORY};
+use papertape::{TapeReadFault, read_tape_from};
 use replies::put;
 use std::alloc::Global;
-use std::fs;
-use std::io::Write;
+use std::fs::File;
+use std::io::{Read, Write};
 use std::rt::Files;
 use words::DisWords;
 
-/// The rows of the image that a tape denotes, as long as they begin at or below a last address: what `mos65 dis` writes. Bytes
-/// that are not on the tape are 0.
+/// The rows in a profile of the image of the tape that a reader tells, as long as they begin at or below a last address: what `mos65 dis`
+/// writes. Bytes that are not on the tape are 0. The tape is read in pieces, so that a long one takes no more memory than a short
+/// one.
 ///
 /// # Errors
 ///
-/// The first of the tape's own faults, or `OutOfMemory` at offset 0.
-pub fn dis_text(alloc: Global, tape: &[u8], first: u16, last: u16) -> Result<Vec<u8>, TapeFault>
+/// Those of `read_tape_from`: `Tape` with the tape's own fault, or with `OutOfMemory` at offset 0, and `Read` where a read failed.
+pub fn dis_text<T: Read>(
+    alloc: Global,
+    profile: Profile,
+    tape: &mut T,
+    first: u16,
+    last: u16,
+) -> Result<Vec<u8>, TapeReadFault>
     // The text is that of an image that the tape denotes.
-    ensures denoted { IfOk result (λ text. (image : List (Option ℕ)) × Denotes tape.now image × (text.items ≡ rows_in (memory_of image) last first 65536)) }
-    // A tape that denotes an image has its text, memory aside.
-    ensures only { (image : List (Option ℕ)) → Denotes tape.now image
-        → MatchResult result (λ text. text.items ≡ rows_in (memory_of image) last first 65536) (λ f. f ≡ out_of_memory) }
-    // A tape with a fault is refused with its first, memory aside, and no other is.
-    ensures faulty { (kind : TapeFaultKind) (offset : ℕ) → FirstFault tape.now kind offset
-        → (result ≡ Err (record { offset = offset; kind = kind })) ⊎ (result ≡ Err out_of_memory) }
-    ensures refused { IfErr result (λ f. (f ≡ out_of_memory) ⊎ FirstFault tape.now f.kind f.offset) }
+    ensures denoted { IfOk result (λ text. (image : List (Option ℕ)) × IsImageOf (T.remaining tape.old) image × (text.items ≡ rows_in profile (memory_of image) last first 65536)) }
+    // A tape that denotes an image has its text, unless a read of it fails or memory is refused.
+    ensures only { IfSome (T.remaining tape.old) (λ told. (image : List (Option ℕ)) → IsReadInPieces told image
+        → MatchResult result (λ text. text.items ≡ rows_in profile (memory_of image) last first 65536) (λ f. (f ≡ ReadFailed) ⊎ (f ≡ Tape out_of_memory))) }
+    // A tape with a fault is refused with it, unless a read of it fails or memory is refused, and no other is.
+    ensures faulty { IfSome (T.remaining tape.old) (λ told. (fault : TapeFault) → IsRefusedInPieces told fault
+        → (result ≡ Err (Tape fault)) ⊎ ((result ≡ Err ReadFailed) ⊎ (result ≡ Err (Tape out_of_memory)))) }
+    ensures refused { IfErr result (EndsReading (T.remaining tape.old)) }
 {
-    let image = read_tape(alloc, tape)?;
-    match disassembly(alloc, &image, first, last) {
+    let image = read_tape_from(alloc, tape)?;
+    match disassembly(alloc, profile, &image, first, last) {
         Ok(text) => Ok(text),
-        Err(_) => Err(TAPE_OUT_OF_MEMORY),
+        Err(_) => Err(TapeReadFault::Tape(TAPE_OUT_OF_MEMORY)),
     }
 }
 
@@ -58,7 +67,7 @@ fn written<O: Write>(output: &mut O, text: &[u8]) -> Result<(), Refusal>
     }
 }
 
-/// Lists what a tape has between two addresses. The text is whole before any of it is written.
+/// Lists what a tape has between two addresses. The text is whole, and the tape's file closed, before any of it is written.
 pub fn dis<H: Files + AllocGlobal, O: Write>(
     rt: &H,
     words: &DisWords<'_>,
@@ -66,10 +75,18 @@ pub fn dis<H: Files + AllocGlobal, O: Write>(
 ) -> Result<(), Refusal>
     ensures refused { IfErr result EndsDis }
     // The rows of some image were written, or none.
-    ensures listed { IsListed words.now.first words.now.last (O.contents output.old) (O.contents output.new) result (output.new ≡ output.old) }
+    ensures listed { IsListed words.now.profile words.now.first words.now.last (O.contents output.old) (O.contents output.new) result (output.new ≡ output.old) }
 {
-    let tape = fs::read(rt, words.tape).map_err(|error| Refusal::unreadable(&error))?;
-    let text = dis_text(rt.alloc(), tape.as_slice(), words.first, words.last)?;
+    let text = {
+        let mut tape = File::open(rt, words.tape).map_err(|error| Refusal::unreadable(&error))?;
+        dis_text(
+            rt.alloc(),
+            words.profile,
+            &mut tape,
+            words.first,
+            words.last,
+        )?
+    };
     let rows = text.as_slice();
     written(output, rows)
 }

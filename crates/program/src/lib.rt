@@ -11,5 +11,6 @@ pub use running::{program, unreadable_words};
 mod assembling;
 mod debugging;
 mod disassembling;
+mod map;
 mod refusal;
 mod running;

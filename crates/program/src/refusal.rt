@@ -1,12 +1,13 @@
 //! Refusals, and what each part's fault is answered as.
 ghost use Rattle.std.specs.Prelude.{◌≡◌};
 ghost use Rattle.std.specs.IoError.{error_kind};
-ghost use Rattle.engine.specs.Refusals.{of_source, of_tape};
+ghost use Rattle.engine.specs.Refusals.{of_source, of_tape_read};
 ghost use Rattle.program.specs.Refusals.{of_engine};
 ghost use Rattle.program.specs.declared.refusal.Refusal.TheVariants.{Map};
 
 use engine::EngineFault;
 use model::{AsmFault, BusFault, SessionFault, TapeFault};
+use papertape::TapeReadFault;
 use std::io;
 use std::io::ErrorKind;
 use thiserror::Error;
@@ -96,10 +97,10 @@ impl From<AsmFault> for Refusal {
     }
 }
 
-impl From<TapeFault> for Refusal {
-    ghost from_gives = { λ fault refusal. refusal ≡ of_engine (of_tape fault) };
+impl From<TapeReadFault> for Refusal {
+    ghost from_gives = { λ fault refusal. refusal ≡ of_engine (of_tape_read fault) };
 
-    fn from(fault: TapeFault) -> Refusal {
+    fn from(fault: TapeReadFault) -> Refusal {
         Refusal::from(EngineFault::from(fault))
     }
 }

@@ -97,7 +97,7 @@ pub fn program<H: Files + AllocGlobal, R: Read, O: Write, E: Write>(
     ensures help { fault_of mos65 (map (λ s. s.now) words.entry.now) ≡ DisplayHelp ∷ [] → (result ≡ 0) ⊎ (result ≡ 3) ⊎ (result ≡ 4) }
     // A wrong value has the status 2, memory aside.
     ensures value { IsTaken (map (λ s. s.now) words.entry.now) → asked (map (λ s. s.now) words.entry.now) ≡ None → (result ≡ 2) ⊎ (result ≡ 3) }
-    // So has a wrong map, whatever the file.
+    // So has a wrong map, whatever the file and the profile.
     ensures asm_map { (a : AsmAsked) → asked (map (λ s. s.now) words.entry.now) ≡ Some (asm a) → IsTaken (map (λ s. s.now) words.entry.now) → is_map None a.port ≡ false → (result ≡ 2) ⊎ (result ≡ 3) }
     ensures debug_map { (d : DebugAsked) → asked (map (λ s. s.now) words.entry.now) ≡ Some (debug d) → IsTaken (map (λ s. s.now) words.entry.now) → is_map d.rom d.port ≡ false → (result ≡ 2) ⊎ (result ≡ 3) }
     // Where the words and the map are right, the status is another one.
@@ -107,13 +107,13 @@ pub fn program<H: Files + AllocGlobal, R: Read, O: Write, E: Write>(
     ensures asm_alone { (a : AsmAsked) → asked (map (λ s. s.now) words.entry.now) ≡ Some (asm a) → IsTaken (map (λ s. s.now) words.entry.now) → (input.new ≡ input.old) × (output.new ≡ output.old) }
     // `dis` leaves the input as it was, and wrote the rows of some image, or a beginning of them, or nothing, as the status says.
     ensures listed { (d : DisAsked) → asked (map (λ s. s.now) words.entry.now) ≡ Some (dis d) → IsTaken (map (λ s. s.now) words.entry.now) → (outcome : Result ⊤ Refusal) × IsStatus outcome result
-        × (input.new ≡ input.old) × IsListed d.first d.last (O.contents output.old) (O.contents output.new) outcome (output.new ≡ output.old) }
+        × (input.new ≡ input.old) × IsListed d.profile d.first d.last (O.contents output.old) (O.contents output.new) outcome (output.new ≡ output.old) }
     // `debug` served a session, to its end or to a failure that the status says, or left both as they were.
     ensures debugged { (d : DebugAsked) → asked (map (λ s. s.now) words.entry.now) ≡ Some (debug d) → IsTaken (map (λ s. s.now) words.entry.now) → (outcome : Result ⊤ Refusal) × IsStatus outcome result
-        × IsServed (record { rom = d.rom; port = d.port }) d.history (R.remaining input.old) (R.remaining input.new) (O.contents output.old) (O.contents output.new) outcome ((input.new ≡ input.old) × (output.new ≡ output.old)) }
+        × IsServed (record { profile = d.profile; rom = d.rom; port = d.port }) d.history (R.remaining input.old) (R.remaining input.new) (O.contents output.old) (O.contents output.new) outcome ((input.new ≡ input.old) × (output.new ≡ output.old)) }
     // Where a session has ended, the output has the transcript of the input, from some image on the map of the words.
     ensures served { result ≡ 0 → (d : DebugAsked) → asked (map (λ s. s.now) words.entry.now) ≡ Some (debug d) → IsTaken (map (λ s. s.now) words.entry.now) → (image : List (Option ℕ)) × IfSome (R.remaining input.old) (λ given.
-        Appends (O.contents output.old) (O.contents output.new) (transcript (fresh d.history (start (record { rom = d.rom; port = d.port }) image)) given).written) }
+        Appends (O.contents output.old) (O.contents output.new) (transcript (fresh d.history (start (record { profile = d.profile; rom = d.rom; port = d.port }) image)) given).written) }
 {
     match read_words(rt.alloc(), words) {
         Ok(Words::Asm(words)) => ended(asm(rt, &words), errors),

@@ -69,6 +69,9 @@ fn takes_each_form(rt: HostRuntime) {
         ["--port", "fFf4"],
         ["--rom", "0200-Efff"],
         ["--port=d000", "--rom=D004-FFFF"],
+        ["--profile", "N"],
+        ["--profile", "C"],
+        ["--profile=C", "--port=d000"],
     ];
     for [first, second] in cases {
         let ran = run(&rt, &["debug", "/dev/null", first, second]);
@@ -89,6 +92,17 @@ fn refuses_values_before_the_map(rt: HostRuntime) {
         let ran = run(&rt, &["debug", "none", "--rom=0000-0000", "--port", value]);
         assert_refused(&rt, &ran, 2, "mos65: WORDS\n");
         let ran = run(&rt, &["asm", "none", "other", "--port", value]);
+        assert_refused(&rt, &ran, 2, "mos65: WORDS\n");
+    }
+    for value in ["X", "c", "n", "NC", ""] {
+        let ran = run(&rt, &["debug", "none", "--port=F001", "--profile", value]);
+        assert_refused(&rt, &ran, 2, "mos65: WORDS\n");
+        let ran = run(
+            &rt,
+            &["asm", "none", "other", "--port=F001", "--profile", value],
+        );
+        assert_refused(&rt, &ran, 2, "mos65: WORDS\n");
+        let ran = run(&rt, &["dis", "none", "0200", "0200", "--profile", value]);
         assert_refused(&rt, &ran, 2, "mos65: WORDS\n");
     }
     for value in ["8000", "8000-8FF", "8000-80000", "8000+8FFF"] {
@@ -310,6 +324,69 @@ fn debugs_a_tape(rt: HostRuntime) -> Result<(), Fail> {
           OUT 1\n41\n"
             .as_slice()
     );
+    Ok(())
+}
+
+/// A source of profile C: `STZ $10`, `LDA ($10)`. Its tape is listed by the profile that is asked for, and run by it.
+#[test]
+fn takes_the_profile(rt: HostRuntime) -> Result<(), Fail> {
+    let source = "*=$0200\nSTZ $10\nLDA ($10)\n*=$FFFC\n.WORD $0200\n";
+    fs::write(&rt, "profile.a65", source)?;
+    let in_n = run(&rt, &["asm", "profile.a65", "profile.tape", "--profile=N"]);
+    let by_default = run(&rt, &["debug", "profile.a65"]);
+    let in_c = run(&rt, &["asm", "profile.a65", "profile.tape", "--profile=C"]);
+    let words = ["debug", "profile.a65", "--profile=C"];
+    let debugged = run_with(&rt, &words, b"step\nstep\n");
+    fs::remove_file(&rt, "profile.a65")?;
+    assert_refused(&rt, &in_n, 1, "mos65: SOURCE line 2 Syntax 4\n");
+    assert_refused(&rt, &by_default, 1, "mos65: SOURCE line 2 Syntax 4\n");
+    assert_eq!(rt; in_c.status, 0);
+    assert_eq!(rt;
+        debugged.output.as_slice(),
+        b"A=00 X=00 Y=00 S=FD P=24 PC=0202 CYC=10\n\
+          A=00 X=00 Y=00 S=FD P=26 PC=0204 CYC=15\n"
+            .as_slice()
+    );
+
+    let words = ["dis", "profile.tape", "0200", "0203", "--profile=C"];
+    let listed_in_c = run(&rt, &words);
+    let listed = run(&rt, &["dis", "profile.tape", "0200", "0203"]);
+    let words = ["debug", "profile.tape", "--tape", "--profile=C"];
+    let debugged = run_with(&rt, &words, b"step\n");
+    let by_default = run_with(&rt, &["debug", "profile.tape", "--tape"], b"step\n");
+    fs::remove_file(&rt, "profile.tape")?;
+    assert_eq!(rt;
+        listed_in_c.output.as_slice(),
+        b"0200  64 10     STZ $10\n0202  B2 10     LDA ($10)\n".as_slice()
+    );
+    assert_eq!(rt;
+        listed.output.as_slice(),
+        b"0200  64        .BYTE $64\n\
+          0201  10 B2     BPL $01B5\n\
+          0203  10 00     BPL $0205\n"
+            .as_slice()
+    );
+    assert_eq!(rt;
+        debugged.output.as_slice(),
+        b"A=00 X=00 Y=00 S=FD P=24 PC=0202 CYC=10\n".as_slice()
+    );
+    assert_eq!(rt;
+        by_default.output.as_slice(),
+        b"! FAULT 64 AT 0200\n".as_slice()
+    );
+    Ok(())
+}
+
+/// A word of profile C is reserved there, and a name in profile N.
+#[test]
+fn reserves_words_by_the_profile(rt: HostRuntime) -> Result<(), Fail> {
+    fs::write(&rt, "reserved.a65", "bra = 1\n")?;
+    let in_c = run(&rt, &["debug", "reserved.a65", "--profile=C"]);
+    let in_n = run(&rt, &["debug", "reserved.a65"]);
+    fs::remove_file(&rt, "reserved.a65")?;
+    assert_refused(&rt, &in_c, 1, "mos65: SOURCE line 1 ReservedName 5\n");
+    assert_eq!(rt; in_n.status, 0);
+    assert_eq!(rt; in_n.output.as_slice(), REGISTERS);
     Ok(())
 }
 

@@ -6,6 +6,7 @@ use Rattle.std.proofs.lemmas.List.{take_more, get_or-drop, take_all}
 use Rattle.std.proofs.lemmas.Grind.{flat_map-append}
 use Rattle.std.proofs.lemmas.Bool.{le-leb, lt-leb, cases_lt}
 use Rattle.model.specs.Text.{address_part, breaks_line}
+use Rattle.model.specs.declared.instruction.Profile.{Profile}
 use Rattle.model.specs.Disassembly.{bytes_from, row_in, row_line, rows_in}
 
 -- ---- breakpoints
@@ -34,22 +35,22 @@ addresses_all breaks n all = ap (flat_map address_part) (sym (take_all n breaks 
 
 -- ---- instructions
 
-pub rows_past : (memory : List ℕ) (address n : ℕ) → 65535 < address → rows_in memory 65535 address n ≡ []
+pub rows_past : (profile : Profile) (memory : List ℕ) (address n : ℕ) → 65535 < address → rows_in profile memory 65535 address n ≡ []
 unfolding rows_in
-rows_past memory address zero past = refl
-rows_past memory address (suc n) past = rw (lt-leb address 65535 past) refl
+rows_past profile memory address zero past = refl
+rows_past profile memory address (suc n) past = rw (lt-leb address 65535 past) refl
 
-pub rows_none : (memory : List ℕ) (address n : ℕ) → n ≡ 0 → rows_in memory 65535 address n ≡ []
+pub rows_none : (profile : Profile) (memory : List ℕ) (address n : ℕ) → n ≡ 0 → rows_in profile memory 65535 address n ≡ []
 unfolding rows_in
-rows_none memory address n none = rw none refl
+rows_none profile memory address n none = rw none refl
 
-pub rows_more : (memory : List ℕ) (address n : ℕ) → address ≤ 65535 → 0 < n
-    → rows_in memory 65535 address n ≡ row_line address (bytes_from memory address) (row_in memory address) ++ rows_in memory 65535 (address + (row_in memory address).len) (n - 1)
+pub rows_more : (profile : Profile) (memory : List ℕ) (address n : ℕ) → address ≤ 65535 → 0 < n
+    → rows_in profile memory 65535 address n ≡ row_line address (bytes_from memory address) (row_in profile memory address) ++ rows_in profile memory 65535 (address + (row_in profile memory address).len) (n - 1)
 unfolding rows_in
-rows_more memory address zero here some = absurd (omega arith)
-rows_more memory address (suc n) here some =
+rows_more profile memory address zero here some = absurd (omega arith)
+rows_more profile memory address (suc n) here some =
     let less : n ≡ suc n - 1 = omega arith in
-    rw (le-leb address 65535 here) (ap (λ k. row_line address (bytes_from memory address) (row_in memory address) ++ rows_in memory 65535 (address + (row_in memory address).len) k) less)
+    rw (le-leb address 65535 here) (ap (λ k. row_line address (bytes_from memory address) (row_in profile memory address) ++ rows_in profile memory 65535 (address + (row_in profile memory address).len) k) less)
 
 -- ---- the bytes of an instruction
 

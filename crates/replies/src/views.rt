@@ -118,14 +118,14 @@ fn break_text(session: &Session, index: u32) -> Text
     }
 }
 
-/// At most so many instructions as text, from an address on: their rows end after $FFFF.
+/// At most so many instructions of the session's profile as text, from an address on: their rows end after $FFFF.
 pub fn put_instructions<W: Write>(
     session: &Session,
     address: u16,
     count: u32,
     writer: &mut W,
 ) -> Result<(), ReplyFault>
-    ensures writes { Writes (W.contents writer.old) (W.contents writer.new) (rows_in session.now.current.bus.memory 65535 address count) result }
+    ensures writes { Writes (W.contents writer.old) (W.contents writer.new) (rows_in session.now.current.bus.map.profile session.now.current.bus.memory 65535 address count) result }
     ensures fault { OnErr result (result ≡ Err ReplyFault.Write) }
 {
     let mut next = address as u32;
@@ -135,7 +135,7 @@ pub fn put_instructions<W: Write>(
         }
         let place = next as u16;
         let bytes = bytes_at(session, place);
-        let row = disasm::row_text(bytes.as_slice(), place);
+        let row = disasm::row_text_in(session.profile(), bytes.as_slice(), place);
         match put(writer, row.text.as_slice()) {
             Ok(()) => {}
             Err(fault) => return Err(fault),

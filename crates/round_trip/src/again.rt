@@ -4,21 +4,26 @@ ghost use Rattle.std.specs.Prelude.{◌≡◌, ◌<◌, IfErr, IfOk, length, tak
 ghost use Rattle.assembler.specs.Assembly.{out_of_memory};
 ghost use Rattle.model.specs.Instruction.{row_of};
 
-use assembler::{AsmFault, Line, assemble_line};
-use disasm::line_at;
+use assembler::{AsmFault, Line, Profile, assemble_line_in};
+use disasm::line_in;
 use std::alloc::Global;
 use text_laws::text_is_read_again;
 
-/// Lists the row with which some bytes begin, at their address, and assembles its text at that address: the bytes are those that
-/// were listed, of an instruction all of them, of a `.BYTE` row its one. The only fault is `OutOfMemory`, where a request for
+/// Lists the row with which some bytes begin in a profile, at their address, and assembles its text at that address: the bytes are those
+/// that were listed, of an instruction all of them, of a `.BYTE` row its one. The only fault is `OutOfMemory`, where a request for
 /// memory was refused.
-pub fn assembled_again(alloc: Global, bytes: &[u8], address: u16) -> Result<Line, AsmFault>
+pub fn assembled_again(
+    alloc: Global,
+    profile: Profile,
+    bytes: &[u8],
+    address: u16,
+) -> Result<Line, AsmFault>
     requires { 0 < length bytes.now }
-    ensures same { IfOk result (λ l. take l.count l.bytes ≡ take (row_of bytes.now address).len bytes.now) }
+    ensures same { IfOk result (λ l. take l.count l.bytes ≡ take (row_of profile bytes.now address).len bytes.now) }
     ensures only { IfErr result (λ f. f ≡ out_of_memory) }
 {
     // For the proof: what a row's text denotes.
     text_is_read_again();
-    let row = line_at(bytes, address);
-    assemble_line(alloc, address, &row.text[..row.text_len as usize])
+    let row = line_in(profile, bytes, address);
+    assemble_line_in(alloc, profile, address, &row.text[..row.text_len as usize])
 }

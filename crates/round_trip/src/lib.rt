@@ -2,6 +2,6 @@
 #![tactic(auto)]
 
 pub use again::assembled_again;
-pub use assembler::{AsmFault, AsmFaultKind, Line};
+pub use assembler::{AsmFault, AsmFaultKind, Line, Profile};
 
 mod again;

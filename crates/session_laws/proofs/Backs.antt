@@ -1,12 +1,10 @@
 -- Going back over accepted events gives the session before them.
-use Rattle.std.proofs.Common.{◌≡◌, ℕ, ◌+◌, ◌-◌, ◌%◌, ◌<◌, ◌≤◌, min, zero, suc, Bool, true, false, List, [], ◌∷◌, ◌++◌, length, take, drop, get_or, Ok, Err, refl, sym, ap, ◌∙◌, subst, arith, cond, eqb, nat_le, length-append, length-take, length-drop, append_assoc}
+use Rattle.std.proofs.Common.{◌≡◌, ℕ, ◌+◌, ◌-◌, ◌%◌, ◌<◌, ◌≤◌, min, suc, true, false, List, [], ◌∷◌, ◌++◌, length, take, drop, get_or, Ok, Err, refl, sym, ap, ◌∙◌, arith, cond, eqb, nat_le, length-append, length-take, length-drop}
 use Rattle.std.proofs.lemmas.Bool.Decides.{nat_tests}
 use Rattle.std.proofs.lemmas.List.{take_more, take-append-le, take-take, take_at, take_all, get_or_at, drop-drop, drop-append-le}
 use Rattle.model.specs.State.{State}
-use Rattle.model.specs.Event.{event_of}
 use Rattle.model.specs.Session.{Session, appended, keep_last}
 use Rattle.model.specs.declared.event.Event.{Event}
-use Rattle.model.specs.declared.session_fault.SessionFault.{SessionFault}
 use Rattle.model.specs.declared.session_fault.SessionFault.TheVariants.{NoHistory}
 use Rattle.model.specs.Back.{states, number_back, gone_back, back_of, Accepts, holding, BackIsExact}
 

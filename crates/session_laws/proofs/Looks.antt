@@ -1,11 +1,11 @@
 -- Looking changes no state.
-use Rattle.std.proofs.Common.{◌≡◌, ℕ, ◌+◌, zero, suc, Bool, true, false, cond, List, [], ◌∷◌, length, map, take, Option, Some, None, Result, Ok, Err, refl, sym, ap, ◌∙◌, subst, arith, nat_le, eqb, ◌⊎◌, inl, inr}
-use Rattle.std.proofs.lemmas.Bool.Decides.{nat_tests, eqb_tells}
+use Rattle.std.proofs.Common.{◌≡◌, ℕ, ◌+◌, zero, suc, Bool, true, false, cond, List, [], ◌∷◌, length, map, take, Result, Ok, Err, refl, sym, ap, ◌∙◌, subst, arith, nat_le, eqb, ◌⊎◌, inl, inr}
+use Rattle.std.proofs.lemmas.Bool.Decides.{nat_tests}
 use Rattle.std.specs.Prelude.{nat_lt, codes}
 use Rattle.model.specs.State.{State, console_size}
 use Rattle.model.specs.declared.event.EventFault.TheVariants.{InputFull}
 use Rattle.model.specs.Event.{event_of}
-use Rattle.model.specs.Session.{Session, appended}
+use Rattle.model.specs.Session.{Session}
 use Rattle.model.specs.declared.event.Event.TheVariants as event
 use Rattle.model.specs.declared.event.EventFault.{EventFault}
 use Rattle.model.specs.declared.session_fault.SessionFault.{SessionFault}
@@ -13,9 +13,9 @@ use Rattle.model.specs.declared.command.Command.{Command}
 use Rattle.model.specs.declared.command.Command.TheVariants.{Regs, Step, Mem, Out, Set, Patch, Reset, Irq, Nmi, Input, Run, Back, Break, Unbreak, Watch, Unwatch, Breaks, Dis, Asm, Quit, Nothing, Bad}
 use Rattle.model.specs.Run.{run_end, after_steps, after_run, bare}
 use Rattle.model.specs.Back.{back_of, gone_back, states}
-use Rattle.model.specs.Tables.{with_breaks, with_watches, break_set, break_cleared, watch_set, watch_cleared, put_in}
+use Rattle.model.specs.Tables.{with_breaks, with_watches, break_set, break_cleared, watch_set, watch_cleared}
 use Rattle.model.specs.Commands.{command_of}
-use Rattle.model.specs.Transcript.{Answer, Served, answer, fault_line, answer_to, asm_answer, event_answer, stepped_answer, back_answer, table_answer, after_event, after_input, input_answer, served, served_on, after_text}
+use Rattle.model.specs.Transcript.{Answer, Served, answer, fault_line, answer_to, asm_answer, event_answer, stepped_answer, back_answer, table_answer, after_event, after_input, input_answer, served, served_on}
 use Rattle.model.specs.Looking.{kept, kept_of, run_again, is_look, LooksAreHarmless}
 use Rattle.model.specs.OneLine.{one_line}
 use Rattle.model.specs.Event.{patch_of}
@@ -123,7 +123,7 @@ sort (Irq level) s = inr (inl (evented s (event_of s.current (event.Irq level)),
 sort Nmi s = inr (inl (evented s (event_of s.current event.Nmi), λ rest. refl))
 sort (Input bytes n) s = inr (inl (given s (take n bytes) (nat_lt console_size (length s.current.bus.given + length (take n bytes))) (fault_line InputFull) (codes "OK\n"), λ rest. refl))
 sort (Back n) s = inr (inl (backed n s, λ rest. refl))
-sort (Asm a text n) s = inr (inl (assembled s a (one_line a (take n text)), λ rest. refl))
+sort (Asm a text n) s = inr (inl (assembled s a (one_line s.current.bus.map.profile a (take n text)), λ rest. refl))
 sort Quit s = inr (inl (record { session = refl; quit = refl }, λ rest. refl))
 
 -- what is obeyed after a command that ends alike

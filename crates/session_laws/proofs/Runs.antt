@@ -1,5 +1,5 @@
 -- A run by its first step, and what follows for runs that are cut or repeated.
-use Rattle.std.proofs.Common.{◌≡◌, ℕ, ◌+◌, ◌-◌, ◌<◌, ◌≤◌, zero, suc, Bool, true, false, cond, List, [], ◌∷◌, Option, Some, None, Result, Ok, Err, refl, sym, ap, ◌∙◌, subst, arith, nat_le}
+use Rattle.std.proofs.Common.{◌≡◌, ℕ, ◌+◌, ◌-◌, ◌≤◌, zero, suc, Bool, true, false, cond, [], Option, Some, None, Result, Ok, Err, refl, sym, ap, ◌∙◌, subst, arith, nat_le}
 use Rattle.std.specs.Prelude.{unwrap_or}
 use Rattle.std.specs.Option.{option_map, option_or}
 use Rattle.std.proofs.lemmas.Bool.Decides.{nat_tests}
@@ -8,9 +8,9 @@ use Rattle.model.specs.Step.{step}
 use Rattle.model.specs.Session.{Session, appended}
 use Rattle.model.specs.declared.event.EventFault.{EventFault}
 use Rattle.model.specs.declared.run_end.Why.{Why}
-use Rattle.model.specs.declared.run_end.Why.TheVariants.{Watch, Break, Limit, Refused}
+use Rattle.model.specs.declared.run_end.Why.TheVariants.{Limit, Refused}
 use Rattle.model.specs.declared.run_end.RunEnd.{RunEnd}
-use Rattle.model.specs.Run.{watch_met, break_met, one_later, met_now_or_later, first_met, first_refused, sooner, run_end, after_steps, after_run, bare, CutRunGoesOn, RunCanBeRepeated}
+use Rattle.model.specs.Run.{watch_met, break_met, one_later, met_now_or_later, first_met, first_refused, sooner, run_end, after_steps, bare, CutRunGoesOn, RunCanBeRepeated}
 
 -- ---- the earliest of ends
 

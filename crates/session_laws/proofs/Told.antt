@@ -1,11 +1,11 @@
 -- What was told of an input, and all of it.
-use Rattle.std.proofs.Common.{◌≡◌, ℕ, Bool, true, false, cond, eqb, List, [], ◌∷◌, ◌++◌, refl, sym, ap, ◌∙◌, subst, append_assoc, append-nil, inl, inr}
+use Rattle.std.proofs.Common.{◌≡◌, ℕ, Bool, true, false, eqb, List, [], ◌∷◌, ◌++◌, refl, sym, ap, ◌∙◌, subst, append_assoc, append-nil, inl, inr}
 use Rattle.std.proofs.lemmas.Bool.Decides.{eqb_tells}
 use Rattle.std.specs.Io.BufRead.{strip_last}
 use Rattle.model.specs.Session.{Session}
 use Rattle.model.specs.Commands.{command_of}
 use Rattle.model.specs.Lines.{lines_from, last_line, no_line}
-use Rattle.model.specs.Transcript.{Answer, answer_to, after_text, served_on, served, transcript, transcript_so_far}
+use Rattle.model.specs.Transcript.{Answer, answer_to, served_on, served, transcript, transcript_so_far}
 
 abbrev Lines : Type 0
 Lines = List (List ℕ)

@@ -76,17 +76,17 @@ along a b n v same h = rw same h
 
 line_adds : (before : Fixed) (l : Line) (q : Standing) → is_defined before.names (name_of l) ≡ false → line_at before l ≡ Ok q → Adds before l q.1
 line_adds before (labelled None s) q new h =
-    let b = bind_ok (laid (number_in (before.names ++ [])) before.address s) (λ place. Ok (fixing (before.names ++ []) place)) q h in
-    record { more = []; grown = sym (ap fixed_names (ok_same (fixing (before.names ++ []) b.0) q b.2)); holds = tt }
+    let b = bind_ok (laid before.profile (number_in (before.names ++ [])) before.address s) (λ place. Ok (fixing before.profile (before.names ++ []) place)) q h in
+    record { more = []; grown = sym (ap fixed_names (ok_same (fixing before.profile (before.names ++ []) b.0) q b.2)); holds = tt }
 line_adds before (labelled (Some n) s) q new h =
     let names = before.names ++ (n, pos before.address) ∷ [] in
-    let b = bind_ok (laid (number_in names) before.address s) (λ place. Ok (fixing names place)) q h in
-    let grown : q.1.names ≡ names = sym (ap fixed_names (ok_same (fixing names b.0) q b.2)) in
+    let b = bind_ok (laid before.profile (number_in names) before.address s) (λ place. Ok (fixing before.profile names place)) q h in
+    let grown : q.1.names ≡ names = sym (ap fixed_names (ok_same (fixing before.profile names b.0) q b.2)) in
     record { more = (n, pos before.address) ∷ []; grown = grown; holds = along names q.1.names n (pos before.address) grown (given before.names n (pos before.address) new) }
 line_adds before (definition n e) q new h =
-    let b = bind_ok (placing (eval_of (number_in before.names) (pos before.address) e)) (λ v. Ok (fixing (before.names ++ (n, v) ∷ []) (going_on before.address before.address))) q h in
+    let b = bind_ok (placing (eval_of (number_in before.names) (pos before.address) e)) (λ v. Ok (fixing before.profile (before.names ++ (n, v) ∷ []) (going_on before.address before.address))) q h in
     let names = before.names ++ (n, b.0) ∷ [] in
-    let grown : q.1.names ≡ names = sym (ap fixed_names (ok_same (fixing names (going_on before.address before.address)) q b.2)) in
+    let grown : q.1.names ≡ names = sym (ap fixed_names (ok_same (fixing before.profile names (going_on before.address before.address)) q b.2)) in
     record {
       more = (n, b.0) ∷ [];
       grown = grown;
@@ -102,9 +102,9 @@ fixed_adds before l q h = elim (cases_Bool (is_defined before.names (name_of l))
 
 -- ---- all lines
 
-read_first : (before : Fixed) (line : List ℕ) (q : Standing) → layout_of before line ≡ Ok q → (l : Line) × (read_line line ≡ Ok l) × (line_fixed before l ≡ Ok q)
+read_first : (before : Fixed) (line : List ℕ) (q : Standing) → layout_of before line ≡ Ok q → (l : Line) × (read_line before.profile line ≡ Ok l) × (line_fixed before l ≡ Ok q)
 unfolding layout_of
-read_first before line q h = bind_ok (read_line line) (λ l. line_fixed before l) q h
+read_first before line q h = bind_ok (read_line before.profile line) (λ l. line_fixed before l) q h
 
 -- the names of a line stand at the front of all names
 grows : (lines : List (List ℕ)) (ps : List Placed) (before all : Fixed) → LaidOut before lines ps all → (more : Definitions) × (all.names ≡ before.names ++ more)

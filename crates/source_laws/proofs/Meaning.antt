@@ -220,7 +220,7 @@ value_fault_again m numbers (p ∷ front) line back n number start image k made 
 
 -- ---- the source
 
-small_source : (m : Map) (source : List ℕ) → length source ≤ most_bytes → judged m source ≡ judged_lines m (read_lines source)
+small_source : (m : Map) (source : List ℕ) → length source ≤ most_bytes → judged m source ≡ judged_lines m (read_lines m.profile source)
 unfolding judged
 small_source m source small = rw (le-ltb most_bytes (length source) small) refl
 
@@ -231,29 +231,29 @@ large_source m source large = rw (lt-ltb most_bytes (length source) large) refl
 says_along : (m : Map) (source : List ℕ) (a b : Judged) → a ≡ b → Says m source (Ok a) → Says m source (Ok b)
 says_along m source a b same h = rw same at h
 
-says_ok : (m : Map) (source : List ℕ) (j : Judged) → length source ≤ most_bytes → judged_lines m (read_lines source) ≡ Ok j → Says m source (Ok j)
+says_ok : (m : Map) (source : List ℕ) (j : Judged) → length source ≤ most_bytes → judged_lines m (read_lines m.profile source) ≡ Ok j → Says m source (Ok j)
 unfolding judged_lines
 says_ok m source j small h =
-    let lines = read_lines source in
-    let first = bind_ok (laid_lines 1 nothing_fixed lines) _ j h in
-    let stands = laid_sound lines 1 nothing_fixed first.0 first.1 in
+    let lines = read_lines m.profile source in
+    let first = bind_ok (laid_lines 1 (nothing_fixed m.profile) lines) _ j h in
+    let stands = laid_sound lines 1 (nothing_fixed m.profile) first.0 first.1 in
     let second = bind_ok (made_lines m (number_in first.0.1.names) 1 empty_image first.0.0) _ j first.2 in
     let all : Judged = record { placed = first.0.0; all = first.0.1; image = second.0 } in
     let made = made_sound m (number_in first.0.1.names) first.0.0 1 empty_image second.0 second.1 in
     says_along m source all j (ok_same all j second.2) (record { size = small; placed = first.0.0; all = first.0.1; laid = stands; made = made }, stands)
 
-says_err : (m : Map) (source : List ℕ) (f : AsmFault) → length source ≤ most_bytes → judged_lines m (read_lines source) ≡ Err f → HasFault m source f
+says_err : (m : Map) (source : List ℕ) (f : AsmFault) → length source ≤ most_bytes → judged_lines m (read_lines m.profile source) ≡ Err f → HasFault m source f
 unfolding judged_lines
 says_err m source f small h =
-    let lines = read_lines source in
-    elim (bind_err (laid_lines 1 nothing_fixed lines) _ f h) [
+    let lines = read_lines m.profile source in
+    elim (bind_err (laid_lines 1 (nothing_fixed m.profile) lines) _ f h) [
       | inl bad ↦
-          let l = layout_fault lines 1 nothing_fixed f bad in
+          let l = layout_fault lines 1 (nothing_fixed m.profile) f bad in
           inr (inl (record { size = small; front = l.front; line = l.line; back = l.back; cut = l.cut; placed = l.placed; before = l.before; laid = l.laid; number = l.number; kind = l.kind }))
       | inr first ↦ elim (bind_err (made_lines m (number_in first.0.1.names) 1 empty_image first.0.0) _ f first.2) [
         | inl bad ↦
             let v = value_fault_of m (number_in first.0.1.names) first.0.0 1 empty_image f bad in
-            inr (inr (record { size = small; placed = first.0.0; all = first.0.1; laid = laid_sound lines 1 nothing_fixed first.0 first.1; front = v.front; line = v.line; back = v.back; cut = v.cut; image = v.image; made = v.made; number = v.number; kind = v.kind }))
+            inr (inr (record { size = small; placed = first.0.0; all = first.0.1; laid = laid_sound lines 1 (nothing_fixed m.profile) first.0 first.1; front = v.front; line = v.line; back = v.back; cut = v.cut; image = v.image; made = v.made; number = v.number; kind = v.kind }))
         | inr done ↦ absurd (ok_not_err _ f done.2)
       ]
     ]
@@ -261,7 +261,7 @@ says_err m source f small h =
 pub judged_says : (m : Map) (source : List ℕ) → Says m source (judged m source)
 judged_says m source = by (nat_lt most_bytes (length source)) refl
   where
-    on : (r : Result Judged AsmFault) → length source ≤ most_bytes → judged_lines m (read_lines source) ≡ r → Says m source r
+    on : (r : Result Judged AsmFault) → length source ≤ most_bytes → judged_lines m (read_lines m.profile source) ≡ r → Says m source r
     on (Ok j) small h = says_ok m source j small h
     on (Err f) small h = says_err m source f small h
 
@@ -271,13 +271,13 @@ judged_says m source = by (nat_lt most_bytes (length source)) refl
         rw (large_source m source large) (inl (record { size = large; line = refl; kind = refl }))
     by false e =
         let small : length source ≤ most_bytes = ltb-false most_bytes (length source) e in
-        rw (small_source m source small) (on (judged_lines m (read_lines source)) small refl)
+        rw (small_source m source small) (on (judged_lines m (read_lines m.profile source)) small refl)
 
 pub denotes_again : (m : Map) (source : List ℕ) (image : Cells) (d : Denotes m source image) → judged m source ≡ Ok (judged_as d.placed d.all image)
 unfolding judged_lines
 denotes_again m source image d =
     small_source m source d.size
-    ∙ rw (laid_again (read_lines source) d.placed 1 nothing_fixed d.all d.laid, made_again m (number_in d.all.names) d.placed 1 empty_image image d.made) refl
+    ∙ rw (laid_again (read_lines m.profile source) d.placed 1 (nothing_fixed m.profile) d.all d.laid, made_again m (number_in d.all.names) d.placed 1 empty_image image d.made) refl
 
 same_fault : (f : AsmFault) (n : ℕ) (k : AsmFaultKind) → f.line ≡ n → f.kind ≡ k → fault n k ≡ f
 same_fault f n k line kind = rw (← line, ← kind) refl
@@ -286,14 +286,14 @@ pub fault_again : (m : Map) (source : List ℕ) (f : AsmFault) → HasFault m so
 unfolding judged_lines
 fault_again m source f (inl large) = large_source m source large.size ∙ ap (λ (x : AsmFault). Err x) (same_fault f 0 TooLarge large.line large.kind)
 fault_again m source f (inr (inl l)) =
-    let bad : laid_lines 1 nothing_fixed (read_lines source) ≡ Err f =
-    rw l.cut (layout_fault_again l.front l.line l.back l.placed 1 nothing_fixed l.before f.line f.kind l.laid l.number l.kind) in
+    let bad : laid_lines 1 (nothing_fixed m.profile) (read_lines m.profile source) ≡ Err f =
+    rw l.cut (layout_fault_again l.front l.line l.back l.placed 1 (nothing_fixed m.profile) l.before f.line f.kind l.laid l.number l.kind) in
     small_source m source l.size ∙ rw bad refl
 fault_again m source f (inr (inr v)) =
     let bad : made_lines m (number_in v.all.names) 1 empty_image v.placed ≡ Err f =
     rw v.cut (value_fault_again m (number_in v.all.names) v.front v.line v.back 1 f.line empty_image v.image f.kind v.made v.number v.kind) in
     small_source m source v.size
-    ∙ rw (laid_again (read_lines source) v.placed 1 nothing_fixed v.all v.laid, bad) refl
+    ∙ rw (laid_again (read_lines m.profile source) v.placed 1 (nothing_fixed m.profile) v.all v.laid, bad) refl
 
 -- ---- the laws
 

@@ -11,9 +11,10 @@ use Rattle.model.specs.Line.{Operand, absent, accumulator, immediate, direct, po
 use Rattle.model.specs.Layout.{◌>>>◌, length_in, one, has_row, form_of, term_of, mode_by, Content, no_bytes, byte_list, word_list, word_list_high_first, code, items_size, size_of, Place, going_on, placing, in_memory, behind_room, in_mode, laid, Fixed, name_of, label_at, Standing, fixing, line_at, is_defined, is_full, unless_full, line_fixed, layout_of}
 use Rattle.model.specs.Bytes.{Piece, modulo, within, word_bytes, word_bytes_high_first, byte_piece, zero_page_piece, word_piece, word_piece_high_first, address_piece, distance_piece, branch_piece, operand_piece, item_piece, pieces_of, bytes_in, kind_in, kinds_in, bytes_of, lower, lowest, place_kinds, value_fault, BytesFillTheirSize}
 use Rattle.model.specs.declared.expression.ExprFault.{ExprFault}
+use Rattle.model.specs.declared.instruction.Profile.{Profile}
 use Rattle.model.specs.declared.instruction.Mnemonic.{Mnemonic}
 use Rattle.model.specs.declared.instruction.Mode.{Mode}
-use Rattle.model.specs.declared.instruction.Mode.TheVariants.{Imp, Acc, Imm, Zp, ZpX, ZpY, Abs, AbsX, AbsY, IndX, IndY, Ind, Rel}
+use Rattle.model.specs.declared.instruction.Mode.TheVariants.{Imp, Acc, Imm, Zp, ZpX, ZpY, Abs, AbsX, AbsY, IndX, IndY, Ind, Rel, IndZ}
 use Rattle.model.specs.declared.source_fault.AsmFaultKind.{AsmFaultKind}
 use Rattle.model.specs.declared.source_fault.AsmFaultKind.TheVariants.{WordRange, BranchRange, DuplicateName}
 
@@ -87,6 +88,7 @@ operand_size a IndX r h = ap (λ n. 1 + n) (zero_page_size r h)
 operand_size a IndY r h = ap (λ n. 1 + n) (zero_page_size r h)
 operand_size a Ind r h = ap (λ n. 1 + n) (address_size r h)
 operand_size a Rel r h = ap (λ n. 1 + n) (branch_size a r h)
+operand_size a IndZ r h = ap (λ n. 1 + n) (zero_page_size r h)
 
 -- ---- contents
 
@@ -168,35 +170,35 @@ only_by : (numbers : Numbers) (address : ℕ) (b : Bool) (mode taken : Mode) →
 only_by numbers address true mode taken short h = ap length_in (sym (ok_same mode taken h)) ∙ short
 only_by numbers address false mode taken short h = cc
 
-mode_whole : (numbers : Numbers) (address opcode : ℕ) (m : Mnemonic) (operand : Operand) (mode : Mode) → mode_by numbers address (term_of operand) (form_of m operand) ≡ Ok mode
+mode_whole : (profile : Profile) (numbers : Numbers) (address opcode : ℕ) (m : Mnemonic) (operand : Operand) (mode : Mode) → mode_by numbers address (term_of operand) (form_of profile m operand) ≡ Ok mode
     → IsWhole (code opcode mode (term_of operand))
 unfolding form_of
-mode_whole numbers address opcode m absent mode h = only_by numbers address (has_row m Imp) Imp mode refl h
-mode_whole numbers address opcode m accumulator mode h = only_by numbers address (has_row m Acc) Acc mode refl h
-mode_whole numbers address opcode m (immediate e) mode h = tt
-mode_whole numbers address opcode m (direct marked e by) mode h = tt
-mode_whole numbers address opcode m (pointer e) mode h = tt
-mode_whole numbers address opcode m (pointer_by_x e) mode h = tt
-mode_whole numbers address opcode m (pointer_by_y e) mode h = tt
+mode_whole profile numbers address opcode m absent mode h = only_by numbers address (has_row profile m Imp) Imp mode refl h
+mode_whole profile numbers address opcode m accumulator mode h = only_by numbers address (has_row profile m Acc) Acc mode refl h
+mode_whole profile numbers address opcode m (immediate e) mode h = tt
+mode_whole profile numbers address opcode m (direct marked e by) mode h = tt
+mode_whole profile numbers address opcode m (pointer e) mode h = tt
+mode_whole profile numbers address opcode m (pointer_by_x e) mode h = tt
+mode_whole profile numbers address opcode m (pointer_by_y e) mode h = tt
 
-laid_whole : (numbers : Numbers) (address : ℕ) (s : Statement) (place : Place) → laid numbers address s ≡ Ok place → IsWholePlace place
+laid_whole : (profile : Profile) (numbers : Numbers) (address : ℕ) (s : Statement) (place : Place) → laid profile numbers address s ≡ Ok place → IsWholePlace place
 unfolding laid
-laid_whole numbers address nothing place h = of_place _ place h tt
-laid_whole numbers address (origin e) place h =
+laid_whole profile numbers address nothing place h = of_place _ place h tt
+laid_whole profile numbers address (origin e) place h =
     let v = bind_ok (placing (eval_of numbers (pos address) e)) _ place h in
     let n = bind_ok (in_memory v.0) _ place v.2 in
     of_place (going_on address n.0) place n.2 tt
-laid_whole numbers address (bytes items) place h = of_place _ place h tt
-laid_whole numbers address (words es) place h = of_place _ place h tt
-laid_whole numbers address (words_high_first es) place h = of_place _ place h tt
-laid_whole numbers address (reserve e) place h =
+laid_whole profile numbers address (bytes items) place h = of_place _ place h tt
+laid_whole profile numbers address (words es) place h = of_place _ place h tt
+laid_whole profile numbers address (words_high_first es) place h = of_place _ place h tt
+laid_whole profile numbers address (reserve e) place h =
     let v = bind_ok (placing (eval_of numbers (pos address) e)) _ place h in
     let n = bind_ok (behind_room address v.0) _ place v.2 in
     of_place (going_on address n.0) place n.2 tt
-laid_whole numbers address finish place h = of_place _ place h tt
-laid_whole numbers address (instruction m operand) place h =
-    let mode = bind_ok (mode_by numbers address (term_of operand) (form_of m operand)) _ place h in
-    of_place (in_mode m address (term_of operand) mode.0) place mode.2 (mode_whole numbers address (unwrap_or (encoded m mode.0) 0) m operand mode.0 mode.1)
+laid_whole profile numbers address finish place h = of_place _ place h tt
+laid_whole profile numbers address (instruction m operand) place h =
+    let mode = bind_ok (mode_by numbers address (term_of operand) (form_of profile m operand)) _ place h in
+    of_place (in_mode profile m address (term_of operand) mode.0) place mode.2 (mode_whole profile numbers address (unwrap_or (encoded profile m mode.0) 0) m operand mode.0 mode.1)
 
 abbrev IsWholeStanding : Standing → Type 0
 IsWholeStanding x = IsWhole x.0.content
@@ -207,11 +209,11 @@ of_standing x y h w = subst IsWholeStanding (ok_same x y h) w
 line_at_whole : (before : Fixed) (l : Line) (x : Standing) → line_at before l ≡ Ok x → IsWholeStanding x
 line_at_whole before (labelled label s) x h =
     let numbers = number_in (before.names ++ label_at before.address label) in
-    let place = bind_ok (laid numbers before.address s) _ x h in
-    of_standing (fixing (before.names ++ label_at before.address label) place.0) x place.2 (laid_whole numbers before.address s place.0 place.1)
+    let place = bind_ok (laid before.profile numbers before.address s) _ x h in
+    of_standing (fixing before.profile (before.names ++ label_at before.address label) place.0) x place.2 (laid_whole before.profile numbers before.address s place.0 place.1)
 line_at_whole before (definition name e) x h =
     let v = bind_ok (placing (eval_of (number_in before.names) (pos before.address) e)) _ x h in
-    of_standing (fixing (before.names ++ (name, v.0) ∷ []) (going_on before.address before.address)) x v.2 tt
+    of_standing (fixing before.profile (before.names ++ (name, v.0) ∷ []) (going_on before.address before.address)) x v.2 tt
 
 unless_full_ok : (full : Bool) (r : Result Standing AsmFaultKind) (x : Standing) → unless_full full r ≡ Ok x → r ≡ Ok x
 unless_full_ok false r x h = h
@@ -228,7 +230,7 @@ line_fixed_whole before l x h = line_at_whole before l x (fixed_by (is_defined b
 
 layout_whole : (before : Fixed) (line : List ℕ) (x : Standing) → layout_of before line ≡ Ok x → IsWholeStanding x
 unfolding layout_of
-layout_whole before line x h = let l = bind_ok (read_line line) _ x h in line_fixed_whole before l.0 x l.2
+layout_whole before line x h = let l = bind_ok (read_line before.profile line) _ x h in line_fixed_whole before l.0 x l.2
 
 pub bytes_fill : BytesFillTheirSize
 unfolding value_fault bytes_of

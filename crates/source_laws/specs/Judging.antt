@@ -46,16 +46,16 @@ too_large = record { line = 0; kind = TooLarge }
 
 unfoldable pub judged_lines : Map → List (List ℕ) → Result Judged AsmFault
 judged_lines bus_map lines =
-    laid_lines 1 nothing_fixed lines >>= λ l. made_lines bus_map (number_in l.1.names) 1 empty_image l.0 >>= λ image. Ok (record { placed = l.0; all = l.1; image = image })
+    laid_lines 1 (nothing_fixed bus_map.profile) lines >>= λ l. made_lines bus_map (number_in l.1.names) 1 empty_image l.0 >>= λ image. Ok (record { placed = l.0; all = l.1; image = image })
 
 unfoldable pub judged : Map → List ℕ → Result Judged AsmFault
-judged bus_map source = if nat_lt most_bytes (length source) then Err too_large else judged_lines bus_map (read_lines source)
+judged bus_map source = if nat_lt most_bytes (length source) then Err too_large else judged_lines bus_map (read_lines bus_map.profile source)
 
 -- ---- that this is what a source denotes, or its fault
 
 -- What an answer says of a source: it denotes the image, and its lines stand so and its names have these numbers; or it has the fault.
 abbrev pub Says : Map → List ℕ → Result Judged AsmFault → Type 0
-Says bus_map source (Ok j) = (Denotes bus_map source j.image) × LaidOut nothing_fixed (read_lines source) j.placed j.all
+Says bus_map source (Ok j) = (Denotes bus_map source j.image) × LaidOut (nothing_fixed bus_map.profile) (read_lines bus_map.profile source) j.placed j.all
 Says bus_map source (Err fault) = HasFault bus_map source fault
 
 abbrev pub JudgedIsMeant : Type 0

@@ -1,5 +1,5 @@
 //! Runs the program of tools/bench.s, as ca65 makes it in bench.bin, in a session, for a clock beside it. The words are numbers: 0 for a run and 1
-//! for single events, how many states are held, how many breakpoints and how many watches are set, and the most steps.
+//! for single events, how many states are held, how many breakpoints and how many watches are set, 1 for profile C, and the most steps.
 #![tactic(auto)]
 
 use anyhow::Result;
@@ -22,6 +22,7 @@ fn at_the_start(
     history: u32,
     breaks: u32,
     watches: u32,
+    map: MapSpec,
 ) -> Result<Session> {
     let mut image = Image::new(alloc)?;
     let mut address = ORIGIN;
@@ -29,12 +30,7 @@ fn at_the_start(
         image.put(address, *byte);
         address = address.wrapping_add(1);
     }
-    let mut session = Session::new(
-        alloc,
-        MapSpec::new(None, 0xf000)?,
-        &image,
-        history.min(65536),
-    )?;
+    let mut session = Session::new(alloc, map, &image, history.min(65536))?;
     session.event(Event::Set(Setting::Pc(ORIGIN)))?;
     for i in 0..breaks.min(256) {
         session.set_break(END - i as u16)?;
@@ -57,15 +53,17 @@ fn step_by_step(session: &mut Session, steps: u32) -> Result<u32> {
 }
 
 fn main(rt: HostRuntime) -> Result<()> {
-    let mut words = [0u32; 5];
+    let mut words = [0u32; 6];
     for (i, word) in env::args(&rt)?.skip(1).enumerate() {
-        if i < 5 {
+        if i < 6 {
             words[i] = word.parse::<u32>()?;
         }
     }
     let program = fs::read(&rt, "bench.bin")?;
-    let [single, history, breaks, watches, steps] = words;
-    let mut session = at_the_start(rt.alloc(), &program, history, breaks, watches)?;
+    let [single, history, breaks, watches, profile, steps] = words;
+    let n = MapSpec::new(None, 0xf000)?;
+    let map = if profile == 0 { n } else { n.profile_c() };
+    let mut session = at_the_start(rt.alloc(), &program, history, breaks, watches, map)?;
     let did = if single == 0 {
         session.run(steps).did
     } else {

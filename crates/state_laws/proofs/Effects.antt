@@ -5,7 +5,7 @@ use Rattle.model.specs.State.{Bus, State, byte_read, after_read, overflows, afte
 use Rattle.model.specs.Operand.{byte_at, is_immediate, is_accumulator}
 use Rattle.model.specs.Arithmetic.{bit}
 use Rattle.model.specs.Step.{stores}
-use Rattle.model.specs.Effect.{operand, after_operand, load, store, modify_a, modify_memory, branches, branch, jumped, pushed, pulled, after_pull, pulled_word, pull_a, pull_status, call, return_from_call, return_from_interrupt, interrupted, break_entry, performed, status, flags_of_byte, modified, store_value}
+use Rattle.model.specs.Effect.{operand, after_operand, load, store, modify_a, modify_memory, branches, branch, jumped, pushed, pulled, after_pull, pulled_word, pull_a, pull_x, pull_y, pull_status, call, return_from_call, return_from_interrupt, interrupted, break_entry, performed, status, flags_of_byte, modified, store_value}
 use Rattle.model.specs.declared.registers.Regs.{Regs}
 use Rattle.model.specs.declared.registers.Flags.{Flags}
 use Rattle.model.specs.declared.instruction.Place.{Place}
@@ -61,6 +61,12 @@ store_leads op place s h room = record {
 
 with_a_small : (regs : Regs) (value : ℕ) (flags : Flags) → value < 256 → AreRegs regs → AreRegs (record regs { a = value; flags = flags })
 with_a_small regs value flags k h = record { a = k; x = h.x; y = h.y; s = h.s; pc = h.pc }
+
+with_x_small : (regs : Regs) (value : ℕ) (flags : Flags) → value < 256 → AreRegs regs → AreRegs (record regs { x = value; flags = flags })
+with_x_small regs value flags k h = record { a = h.a; x = k; y = h.y; s = h.s; pc = h.pc }
+
+with_y_small : (regs : Regs) (value : ℕ) (flags : Flags) → value < 256 → AreRegs regs → AreRegs (record regs { y = value; flags = flags })
+with_y_small regs value flags k h = record { a = h.a; x = h.x; y = k; s = h.s; pc = h.pc }
 
 modify_a_leads : (op : ModifyOp) (s : State) → IsSound s → Leads s (modify_a op s)
 unfolding modify_a
@@ -153,6 +159,18 @@ pull_a_leads s h =
     let after = after_pull_leads s s (same_leads s h) in
     record { bus = after.bus; regs = with_a_small (after_pull s).regs _ _ (pulled_small s h.bus) after.regs; cycles = after.cycles }
 
+pull_x_leads : (s : State) → IsSound s → Leads s (pull_x s)
+unfolding pull_x
+pull_x_leads s h =
+    let after = after_pull_leads s s (same_leads s h) in
+    record { bus = after.bus; regs = with_x_small (after_pull s).regs _ _ (pulled_small s h.bus) after.regs; cycles = after.cycles }
+
+pull_y_leads : (s : State) → IsSound s → Leads s (pull_y s)
+unfolding pull_y
+pull_y_leads s h =
+    let after = after_pull_leads s s (same_leads s h) in
+    record { bus = after.bus; regs = with_y_small (after_pull s).regs _ _ (pulled_small s h.bus) after.regs; cycles = after.cycles }
+
 pull_status_leads : (s : State) → IsSound s → Leads s (pull_status s)
 unfolding pull_status
 pull_status_leads s h = flags_lead s (after_pull s) (flags_of_byte (pulled s)) (after_pull_leads s s (same_leads s h))
@@ -207,8 +225,12 @@ performed_leads (operation.Modify op) mode place s h k room = modify_leads (is_a
 performed_leads (operation.Inherent op) mode place s h k room = record { bus = stays s.bus h.bus; regs = moved_small op s.regs h.regs; cycles = omega arith }
 performed_leads (operation.Branch op) mode place s h k room = branch_leads op place s h k
 performed_leads operation.PushA mode place s h k room = pushed_leads s s s.regs.a (same_leads s h) h.regs.a
+performed_leads operation.PushX mode place s h k room = pushed_leads s s s.regs.x (same_leads s h) h.regs.x
+performed_leads operation.PushY mode place s h k room = pushed_leads s s s.regs.y (same_leads s h) h.regs.y
 performed_leads operation.PushStatus mode place s h k room = pushed_leads s s (status true s.regs.flags) (same_leads s h) (status_small true s.regs.flags)
 performed_leads operation.PullA mode place s h k room = pull_a_leads s h
+performed_leads operation.PullX mode place s h k room = pull_x_leads s h
+performed_leads operation.PullY mode place s h k room = pull_y_leads s h
 performed_leads operation.PullStatus mode place s h k room = pull_status_leads s h
 performed_leads operation.Jump mode place s h k room = jumped_leads s s place.address (same_leads s h) k
 performed_leads operation.Call mode place s h k room = call_leads place s h

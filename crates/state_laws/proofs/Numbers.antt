@@ -8,15 +8,17 @@ use Rattle.std.proofs.lemmas.Bool.Decides.{nat_tests}
 use Rattle.std.proofs.lemmas.List.Elements.{All-head, All-tail}
 use Rattle.std.proofs.lemmas.List.FromFn.{get_or-map-range_with_len}
 use Rattle.model.specs.State.{Bus, State, AreBytes, IsBus, AreRegs}
-use Rattle.model.specs.Operand.{word_at, word_in_page, place_of, next_byte}
+use Rattle.model.specs.Operand.{word_at, word_in_page, jump_target, place_of, next_byte}
 use Rattle.model.specs.Arithmetic.{bit, adc, sbc, asl, rol, lsr, ror, with_carry}
 use Rattle.model.specs.Effect.{status, modified, loaded, store_value, moved, pulled}
-use Rattle.model.specs.Table.{row_at, find_row, table}
+use Rattle.model.specs.Table.{row_at, find_row, table, documented, added}
 use Rattle.model.specs.declared.registers.Regs.{Regs}
 use Rattle.model.specs.declared.registers.Flags.{Flags}
+use Rattle.model.specs.declared.instruction.Profile.{Profile}
+use Rattle.model.specs.declared.instruction.Profile.TheVariants.{N, C}
 use Rattle.model.specs.declared.instruction.Row.{Row}
 use Rattle.model.specs.declared.instruction.Mode.{Mode}
-use Rattle.model.specs.declared.instruction.Mode.TheVariants.{Imp, Acc, Imm, Zp, ZpX, ZpY, Abs, AbsX, AbsY, IndX, IndY, Ind, Rel}
+use Rattle.model.specs.declared.instruction.Mode.TheVariants.{Imp, Acc, Imm, Zp, ZpX, ZpY, Abs, AbsX, AbsY, IndX, IndY, Ind, Rel, IndZ}
 use Rattle.model.specs.declared.operation.LoadOp.{LoadOp}
 use Rattle.model.specs.declared.operation.LoadOp.TheVariants as load_op
 use Rattle.model.specs.declared.operation.StoreOp.{StoreOp}
@@ -47,6 +49,11 @@ word_in_page_small bus address h =
     let high = byte_small bus.memory ((256 * (address / 256) + (address + 1) % 256) % 65536) h.memory in
     omega arith
 
+jump_target_small : (profile : Profile) (bus : Bus) (pointer : ℕ) → IsBus bus → jump_target profile bus pointer < 65536
+unfolding jump_target
+jump_target_small N bus pointer h = word_in_page_small bus pointer h
+jump_target_small C bus pointer h = word_small bus pointer h
+
 pub place_small : (bus : Bus) (regs : Regs) (mode : Mode) → IsBus bus → (place_of bus regs mode).address < 65536
 unfolding place_of
 place_small bus regs Imp h = omega arith
@@ -60,8 +67,9 @@ place_small bus regs AbsX h = omega arith
 place_small bus regs AbsY h = omega arith
 place_small bus regs IndX h = word_in_page_small bus _ h
 place_small bus regs IndY h = omega arith
-place_small bus regs Ind h = word_in_page_small bus _ h
+place_small bus regs Ind h = jump_target_small bus.map.profile bus _ h
 place_small bus regs Rel h = omega arith
+place_small bus regs IndZ h = word_in_page_small bus _ h
 
 pub pulled_small : (state : State) → IsBus state.bus → pulled state < 256
 unfolding pulled
@@ -132,6 +140,7 @@ unfolding store_value
 stored_small store_op.Sta regs h = h.a
 stored_small store_op.Stx regs h = h.x
 stored_small store_op.Sty regs h = h.y
+stored_small store_op.Stz regs h = omega arith
 
 pub moved_small : (op : InherentOp) (regs : Regs) → AreRegs regs → AreRegs (moved op regs)
 unfolding moved
@@ -160,15 +169,16 @@ abbrev is_quick : Option Row → Bool
 is_quick None = true
 is_quick (Some row) = nat_le row.cycles 7
 
-all_quick : map (λ opcode. is_quick (row_at opcode)) (range_with_len 0 256) ≡ map (λ (opcode : ℕ). true) (range_with_len 0 256)
-unfolding row_at find_row table
-all_quick = refl
+all_quick : (profile : Profile) → map (λ opcode. is_quick (row_at profile opcode)) (range_with_len 0 256) ≡ map (λ (opcode : ℕ). true) (range_with_len 0 256)
+unfolding row_at find_row table documented added
+all_quick N = refl
+all_quick C = refl
 
-quick : (opcode : ℕ) → opcode < 256 → is_quick (row_at opcode) ≡ true
-quick opcode below =
-    sym (get_or-map-range_with_len (λ opcode. is_quick (row_at opcode)) 0 256 opcode opcode true below (omega arith))
-    ∙ ap (λ rows. get_or rows opcode true) all_quick
+quick : (profile : Profile) (opcode : ℕ) → opcode < 256 → is_quick (row_at profile opcode) ≡ true
+quick profile opcode below =
+    sym (get_or-map-range_with_len (λ opcode. is_quick (row_at profile opcode)) 0 256 opcode opcode true below (omega arith))
+    ∙ ap (λ rows. get_or rows opcode true) (all_quick profile)
     ∙ get_or-map-range_with_len (λ (opcode : ℕ). true) 0 256 opcode opcode true below (omega arith)
 
-pub cycles_small : (opcode : ℕ) (row : Row) → opcode < 256 → row_at opcode ≡ Some row → row.cycles ≤ 7
-cycles_small opcode row below e = let h : is_quick (Some row) ≡ true = rw e at (quick opcode below) in grind (arith, nat_tests)
+pub cycles_small : (profile : Profile) (opcode : ℕ) (row : Row) → opcode < 256 → row_at profile opcode ≡ Some row → row.cycles ≤ 7
+cycles_small profile opcode row below e = let h : is_quick (Some row) ≡ true = rw e at (quick profile opcode below) in grind (arith, nat_tests)

@@ -71,11 +71,11 @@ executed_follows : (row : Row) (s after : State) → IsState s → HasRoom s →
 unfolding executed
 executed_follows row s after h room few e = executed_by row (place_of s.bus s.regs row.mode) s after _ h room few (place_small s.bus s.regs row.mode h.bus) refl e
 
-attempted_follows : (row : Option Row) (s after : State) → IsState s → HasRoom s → row_at (slice_index s.bus.memory s.regs.pc) ≡ row → attempted row s ≡ Ok after → Follows s after
+attempted_follows : (row : Option Row) (s after : State) → IsState s → HasRoom s → row_at s.bus.map.profile (slice_index s.bus.memory s.regs.pc) ≡ row → attempted row s ≡ Ok after → Follows s after
 unfolding attempted
 attempted_follows None s after h room is e = cc
 attempted_follows (Some row) s after h room is e =
-    executed_follows row s after h room (cycles_small (slice_index s.bus.memory s.regs.pc) row (byte_small s.bus.memory s.regs.pc h.bus.memory) is) e
+    executed_follows row s after h room (cycles_small s.bus.map.profile (slice_index s.bus.memory s.regs.pc) row (byte_small s.bus.memory s.regs.pc h.bus.memory) is) e
 
 -- ---- steps
 
@@ -83,7 +83,7 @@ abbrev forgotten : State → State
 forgotten s = record s { nmi = false }
 
 step_by : (s after : State) (full nmi irq : Bool) → IsState s → nat_lt most_cycles s.cycles ≡ full
-    → cond full (Err CyclesFull) (cond nmi (Ok (entered (forgotten s) 0xFFFA)) (cond irq (Ok (entered s 0xFFFE)) (attempted (row_at (slice_index s.bus.memory s.regs.pc)) s))) ≡ Ok after
+    → cond full (Err CyclesFull) (cond nmi (Ok (entered (forgotten s) 0xFFFA)) (cond irq (Ok (entered s 0xFFFE)) (attempted (row_at s.bus.map.profile (slice_index s.bus.memory s.regs.pc)) s))) ≡ Ok after
     → Follows s after
 step_by s after true nmi irq h full e = cc
 step_by s after false true irq h full e =
@@ -99,7 +99,7 @@ step_by s after false false true h full e =
     rw same at (entered_follows s 0xFFFE h room)
 step_by s after false false false h full e =
     let room : HasRoom s = grind (arith, nat_tests) in
-    attempted_follows (row_at (slice_index s.bus.memory s.regs.pc)) s after h room refl e
+    attempted_follows (row_at s.bus.map.profile (slice_index s.bus.memory s.regs.pc)) s after h room refl e
 
 pub step_follows : (s after : State) → IsState s → step s ≡ Ok after → Follows s after
 unfolding step

@@ -2,9 +2,10 @@
 use Rattle.std.proofs.Common.{◌≡◌, ℕ, ◌+◌, ◌*◌, ◌/◌, ◌%◌, ◌≤◌, ◌<◌, pos, List, [], ◌∷◌, ◌++◌, Bool, true, false, refl, ap, arith}
 use Rattle.std.specs.Prelude.{Some, None, Ok, nat_lt, ◌&&◌}
 use Rattle.std.proofs.lemmas.Bool.{ltb-false}
+use Rattle.model.specs.declared.instruction.Profile.{Profile}
 use Rattle.model.specs.declared.instruction.Mnemonic.{Mnemonic}
 use Rattle.model.specs.declared.instruction.Mode.{Mode}
-use Rattle.model.specs.declared.instruction.Mode.TheVariants.{Imm, IndX, IndY, Ind, Rel}
+use Rattle.model.specs.declared.instruction.Mode.TheVariants.{Imm, IndX, IndY, Ind, Rel, IndZ}
 use Rattle.model.specs.declared.line.Index.{Index}
 use Rattle.model.specs.declared.line.Index.TheVariants.{Unindexed, X, Y}
 use Rattle.model.specs.Table.{encoded}
@@ -18,6 +19,7 @@ use Rattle.model.specs.Text.{hex_digit}
 use Rattle.model.specs.Line.{instruction, labelled, read_line}
 use Rattle.model.specs.Instruction.{byte_text, word_text, absolute_text, target_of}
 use Rattle.model.specs.OneLine.{one_line, no_numbers}
+use Rattle.table_laws.proofs.Encoding.{named_of_code}
 use Rattle.text_laws.proofs.Digits.{Digit, digit, two_digits, four_digits}
 use Rattle.text_laws.proofs.Said.{written}
 use Rattle.text_laws.proofs.Texts as texts
@@ -25,9 +27,9 @@ use Rattle.text_laws.proofs.Forms as forms
 use Rattle.text_laws.proofs.Forms.{of_number}
 use Rattle.text_laws.proofs.Alone.{with_operand, byte_again, zero_page_again, address_again, branch_again}
 
-pub has_code : (m : Mnemonic) (d : Mode) (op : ℕ) → encoded m d ≡ Some op → has_row m d ≡ true
+pub has_code : (profile : Profile) (m : Mnemonic) (d : Mode) (op : ℕ) → encoded profile m d ≡ Some op → has_row profile m d ≡ true
 unfolding has_row
-has_code m d op code = rw code refl
+has_code profile m d op code = rw code refl
 
 pub byte_number : (b : ℕ) → b < 256 → written (byte_text b) ≡ of_number b
 byte_number b below = ap literal (two_digits b below)
@@ -48,24 +50,24 @@ pub last_half : (w : ℕ) → w % 256 < 256
 last_half w = omega arith
 
 -- an instruction with this operand was read
-abbrev pub Read : List ℕ → Mnemonic → Operand → Type 0
-Read text m operand = read_line text ≡ Ok (labelled None (instruction m operand))
+abbrev pub Read : Profile → List ℕ → Mnemonic → Operand → Type 0
+Read profile text m operand = read_line profile text ≡ Ok (labelled None (instruction m operand))
 
 -- what was read, with the number for its text
-with_number : (text : List ℕ) (m : Mnemonic) (shape : Term → Operand) (e f : Term) → e ≡ f → Read text m (shape e) → Read text m (shape f)
-with_number text m shape e f same read = rw same at read
+with_number : (profile : Profile) (text : List ℕ) (m : Mnemonic) (shape : Term → Operand) (e f : Term) → e ≡ f → Read profile text m (shape e) → Read profile text m (shape f)
+with_number profile text m shape e f same read = rw same at read
 
 -- ---- modes with one byte
 
-abbrev pub One : Mnemonic → Mode → ℕ → ℕ → ℕ → List ℕ → Type 0
-One m mode a op b text = encoded m mode ≡ Some op → b < 256 → a + length_in mode ≤ 65536 → one_line a text ≡ Ok (op ∷ b ∷ [])
+abbrev pub One : Profile → Mnemonic → Mode → ℕ → ℕ → ℕ → List ℕ → Type 0
+One profile m mode a op b text = encoded profile m mode ≡ Some op → b < 256 → a + length_in mode ≤ 65536 → one_line profile a text ≡ Ok (op ∷ b ∷ [])
 
-pub immediate_again : (m : Mnemonic) (a op b : ℕ) → One m Imm a op b (mnemonic_text m ++ 32 ∷ 35 ∷ byte_text b)
+pub immediate_again : (profile : Profile) (m : Mnemonic) (a op b : ℕ) → One profile m Imm a op b (mnemonic_text m ++ 32 ∷ 35 ∷ byte_text b)
 unfolding operand_piece eval_of
-immediate_again m a op b code below fits =
-    with_operand m Imm (immediate (of_number b)) (of_number b) a op _ (b ∷ [])
-    (with_number _ m immediate _ _ (byte_number b below) (texts.immediate_said m _ _ _ _ (high b below) (low b)))
-    refl (forms.immediate_mode m no_numbers a (of_number b) (has_code m Imm op code)) code (omega arith) fits (byte_again b below)
+immediate_again profile m a op b code below fits =
+    with_operand profile m Imm (immediate (of_number b)) (of_number b) a op _ (b ∷ [])
+    (with_number profile _ m immediate _ _ (byte_number b below) (texts.immediate_said profile m (named_of_code profile m Imm op code) _ _ _ _ (high b below) (low b)))
+    refl (forms.immediate_mode profile m no_numbers a (of_number b) (has_code profile m Imm op code)) code (omega arith) fits (byte_again b below)
 
 zero_page_piece_of : (a : ℕ) (by : Index) (b : ℕ) → b < 256 → operand_piece a (zero_page_mode by) (eval_of no_numbers (pos a) (of_number b)) ≡ Ok (b ∷ [])
 unfolding operand_piece eval_of
@@ -78,34 +80,41 @@ short_small Unindexed = omega arith
 short_small X = omega arith
 short_small Y = omega arith
 
-pub zero_page_again_by : (m : Mnemonic) (by : Index) (a op b : ℕ) (text : List ℕ) → Read text m (direct false (written (byte_text b)) by) → One m (zero_page_mode by) a op b text
-zero_page_again_by m by a op b text read code below fits =
-    with_operand m (zero_page_mode by) (direct false (of_number b) by) (of_number b) a op text (b ∷ [])
-    (with_number text m (λ e. direct false e by) _ _ (byte_number b below) read)
-    refl (forms.zero_page_taken m no_numbers a b by below (has_code m (zero_page_mode by) op code)) code (short_small by) fits (zero_page_piece_of a by b below)
+pub zero_page_again_by : (profile : Profile) (m : Mnemonic) (by : Index) (a op b : ℕ) (text : List ℕ) → Read profile text m (direct false (written (byte_text b)) by) → One profile m (zero_page_mode by) a op b text
+zero_page_again_by profile m by a op b text read code below fits =
+    with_operand profile m (zero_page_mode by) (direct false (of_number b) by) (of_number b) a op text (b ∷ [])
+    (with_number profile text m (λ e. direct false e by) _ _ (byte_number b below) read)
+    refl (forms.zero_page_taken profile m no_numbers a b by below (has_code profile m (zero_page_mode by) op code)) code (short_small by) fits (zero_page_piece_of a by b below)
 
-pub pointer_by_x_again : (m : Mnemonic) (a op b : ℕ) (text : List ℕ) → Read text m (pointer_by_x (written (byte_text b))) → One m IndX a op b text
+pub pointer_by_x_again : (profile : Profile) (m : Mnemonic) (a op b : ℕ) (text : List ℕ) → Read profile text m (pointer_by_x (written (byte_text b))) → One profile m IndX a op b text
 unfolding operand_piece eval_of
-pointer_by_x_again m a op b text read code below fits =
-    with_operand m IndX (pointer_by_x (of_number b)) (of_number b) a op text (b ∷ [])
-    (with_number text m pointer_by_x _ _ (byte_number b below) read)
-    refl (forms.pointer_by_x_mode m no_numbers a (of_number b) (has_code m IndX op code)) code (omega arith) fits (zero_page_again b below)
+pointer_by_x_again profile m a op b text read code below fits =
+    with_operand profile m IndX (pointer_by_x (of_number b)) (of_number b) a op text (b ∷ [])
+    (with_number profile text m pointer_by_x _ _ (byte_number b below) read)
+    refl (forms.pointer_by_x_mode profile m no_numbers a (of_number b) (has_code profile m IndX op code)) code (omega arith) fits (zero_page_again b below)
 
-pub pointer_by_y_again : (m : Mnemonic) (a op b : ℕ) (text : List ℕ) → Read text m (pointer_by_y (written (byte_text b))) → One m IndY a op b text
+pub zero_page_pointer_again : (profile : Profile) (m : Mnemonic) (a op b : ℕ) (text : List ℕ) → Read profile text m (pointer (written (byte_text b))) → One profile m IndZ a op b text
 unfolding operand_piece eval_of
-pointer_by_y_again m a op b text read code below fits =
-    with_operand m IndY (pointer_by_y (of_number b)) (of_number b) a op text (b ∷ [])
-    (with_number text m pointer_by_y _ _ (byte_number b below) read)
-    refl (forms.pointer_by_y_mode m no_numbers a (of_number b) (has_code m IndY op code)) code (omega arith) fits (zero_page_again b below)
+zero_page_pointer_again profile m a op b text read code below fits =
+    with_operand profile m IndZ (pointer (of_number b)) (of_number b) a op text (b ∷ [])
+    (with_number profile text m pointer _ _ (byte_number b below) read)
+    refl (forms.zero_page_pointer_mode profile m no_numbers a (of_number b) (has_code profile m IndZ op code)) code (omega arith) fits (zero_page_again b below)
 
-pub branch_again_at : (m : Mnemonic) (a op b : ℕ) → a < 65536 → One m Rel a op b (mnemonic_text m ++ 32 ∷ word_text (target_of a b))
+pub pointer_by_y_again : (profile : Profile) (m : Mnemonic) (a op b : ℕ) (text : List ℕ) → Read profile text m (pointer_by_y (written (byte_text b))) → One profile m IndY a op b text
 unfolding operand_piece eval_of
-branch_again_at m a op b here code below fits =
+pointer_by_y_again profile m a op b text read code below fits =
+    with_operand profile m IndY (pointer_by_y (of_number b)) (of_number b) a op text (b ∷ [])
+    (with_number profile text m pointer_by_y _ _ (byte_number b below) read)
+    refl (forms.pointer_by_y_mode profile m no_numbers a (of_number b) (has_code profile m IndY op code)) code (omega arith) fits (zero_page_again b below)
+
+pub branch_again_at : (profile : Profile) (m : Mnemonic) (a op b : ℕ) → a < 65536 → One profile m Rel a op b (mnemonic_text m ++ 32 ∷ word_text (target_of a b))
+unfolding operand_piece eval_of
+branch_again_at profile m a op b here code below fits =
     let t : ℕ = target_of a b in
     let tb : t < 65536 = omega arith in
-    with_operand m Rel (direct false (of_number t) Unindexed) (of_number t) a op _ (b ∷ [])
-    (with_number _ m (λ e. direct false e Unindexed) _ _ (word_number t tb) (texts.absolute_said m _ _ _ _ _ _ _ _ (high (t / 256) (first_half t tb)) (low (t / 256)) (high (t % 256) (last_half t)) (low (t % 256))))
-    refl (forms.branch_mode m no_numbers a (of_number t) (has_code m Rel op code)) code (omega arith) fits (branch_again a b here below)
+    with_operand profile m Rel (direct false (of_number t) Unindexed) (of_number t) a op _ (b ∷ [])
+    (with_number profile _ m (λ e. direct false e Unindexed) _ _ (word_number t tb) (texts.absolute_said profile m (named_of_code profile m Rel op code) _ _ _ _ _ _ _ _ (high (t / 256) (first_half t tb)) (low (t / 256)) (high (t % 256) (last_half t)) (low (t % 256))))
+    refl (forms.branch_mode profile m no_numbers a (of_number t) (has_code profile m Rel op code)) code (omega arith) fits (branch_again a b here below)
 
 -- ---- modes with an address
 
@@ -129,12 +138,12 @@ large_if w true e h = by (nat_lt w 256) refl e
 large_if w false e h = absurd cc
 
 -- with and without `!`
-pub absolute_again : (m : Mnemonic) (by : Index) (a op b c : ℕ) (suffix : List ℕ)
-    → Read (mnemonic_text m ++ (32 ∷ (word_text (b + 256 * c) ++ suffix))) m (direct false (written (word_text (b + 256 * c))) by)
-    → Read (mnemonic_text m ++ (32 ∷ 33 ∷ (word_text (b + 256 * c) ++ suffix))) m (direct true (written (word_text (b + 256 * c))) by)
-    → encoded m (absolute_mode by) ≡ Some op → b < 256 → c < 256 → a + length_in (absolute_mode by) ≤ 65536
-    → one_line a (mnemonic_text m ++ (32 ∷ (absolute_text m (zero_page_mode by) (b + 256 * c) ++ suffix))) ≡ Ok (op ∷ b ∷ c ∷ [])
-absolute_again m by a op b c suffix plain marked code l h fits = on (nat_lt (b + 256 * c) 256 && has_row m (zero_page_mode by)) refl
+pub absolute_again : (profile : Profile) (m : Mnemonic) (by : Index) (a op b c : ℕ) (suffix : List ℕ)
+    → Read profile (mnemonic_text m ++ (32 ∷ (word_text (b + 256 * c) ++ suffix))) m (direct false (written (word_text (b + 256 * c))) by)
+    → Read profile (mnemonic_text m ++ (32 ∷ 33 ∷ (word_text (b + 256 * c) ++ suffix))) m (direct true (written (word_text (b + 256 * c))) by)
+    → encoded profile m (absolute_mode by) ≡ Some op → b < 256 → c < 256 → a + length_in (absolute_mode by) ≤ 65536
+    → one_line profile a (mnemonic_text m ++ (32 ∷ (absolute_text profile m (zero_page_mode by) (b + 256 * c) ++ suffix))) ≡ Ok (op ∷ b ∷ c ∷ [])
+absolute_again profile m by a op b c suffix plain marked code l h fits = on (nat_lt (b + 256 * c) 256 && has_row profile m (zero_page_mode by)) refl
   where
     w : ℕ
     w = b + 256 * c
@@ -142,19 +151,19 @@ absolute_again m by a op b c suffix plain marked code l h fits = on (nat_lt (b +
     below : b + 256 * c < 65536
     below = omega (arith, l, h)
 
-    on : (t : Bool) → (nat_lt (b + 256 * c) 256 && has_row m (zero_page_mode by)) ≡ t → one_line a (mnemonic_text m ++ (32 ∷ (absolute_text m (zero_page_mode by) (b + 256 * c) ++ suffix))) ≡ Ok (op ∷ b ∷ c ∷ [])
-    on true t = rw t (with_operand m (absolute_mode by) (direct true (of_number (b + 256 * c)) by) (of_number (b + 256 * c)) a op _ (b ∷ c ∷ [])
-        (with_number _ m (λ e. direct true e by) _ _ (word_number (b + 256 * c) below) marked)
-        refl (forms.marked_mode m no_numbers a (of_number (b + 256 * c)) by (has_code m (absolute_mode by) op code)) code (long_small by) fits (absolute_piece_of a by b c l h))
-    on false t = rw t (with_operand m (absolute_mode by) (direct false (of_number (b + 256 * c)) by) (of_number (b + 256 * c)) a op _ (b ∷ c ∷ [])
-        (with_number _ m (λ e. direct false e by) _ _ (word_number (b + 256 * c) below) plain)
-        refl (forms.absolute_taken m no_numbers a (b + 256 * c) by (large_if (b + 256 * c) (has_row m (zero_page_mode by)) t) (has_code m (absolute_mode by) op code)) code (long_small by) fits (absolute_piece_of a by b c l h))
+    on : (t : Bool) → (nat_lt (b + 256 * c) 256 && has_row profile m (zero_page_mode by)) ≡ t → one_line profile a (mnemonic_text m ++ (32 ∷ (absolute_text profile m (zero_page_mode by) (b + 256 * c) ++ suffix))) ≡ Ok (op ∷ b ∷ c ∷ [])
+    on true t = rw t (with_operand profile m (absolute_mode by) (direct true (of_number (b + 256 * c)) by) (of_number (b + 256 * c)) a op _ (b ∷ c ∷ [])
+        (with_number profile _ m (λ e. direct true e by) _ _ (word_number (b + 256 * c) below) marked)
+        refl (forms.marked_mode profile m no_numbers a (of_number (b + 256 * c)) by (has_code profile m (absolute_mode by) op code)) code (long_small by) fits (absolute_piece_of a by b c l h))
+    on false t = rw t (with_operand profile m (absolute_mode by) (direct false (of_number (b + 256 * c)) by) (of_number (b + 256 * c)) a op _ (b ∷ c ∷ [])
+        (with_number profile _ m (λ e. direct false e by) _ _ (word_number (b + 256 * c) below) plain)
+        refl (forms.absolute_taken profile m no_numbers a (b + 256 * c) by (large_if (b + 256 * c) (has_row profile m (zero_page_mode by)) t) (has_code profile m (absolute_mode by) op code)) code (long_small by) fits (absolute_piece_of a by b c l h))
 
-pub pointer_again : (m : Mnemonic) (a op b c : ℕ) (text : List ℕ) → Read text m (pointer (written (word_text (b + 256 * c)))) → encoded m Ind ≡ Some op → b < 256 → c < 256 → a + 3 ≤ 65536
-    → one_line a text ≡ Ok (op ∷ b ∷ c ∷ [])
+pub pointer_again : (profile : Profile) (m : Mnemonic) (a op b c : ℕ) (text : List ℕ) → Read profile text m (pointer (written (word_text (b + 256 * c)))) → encoded profile m Ind ≡ Some op → b < 256 → c < 256 → a + 3 ≤ 65536
+    → one_line profile a text ≡ Ok (op ∷ b ∷ c ∷ [])
 unfolding operand_piece eval_of
-pointer_again m a op b c text read code l h fits =
+pointer_again profile m a op b c text read code l h fits =
     let below : b + 256 * c < 65536 = omega (arith, l, h) in
-    with_operand m Ind (pointer (of_number (b + 256 * c))) (of_number (b + 256 * c)) a op text (b ∷ c ∷ [])
-    (with_number text m pointer _ _ (word_number (b + 256 * c) below) read)
-    refl (forms.pointer_mode m no_numbers a (of_number (b + 256 * c)) (has_code m Ind op code)) code (omega arith) fits (address_again b c l h)
+    with_operand profile m Ind (pointer (of_number (b + 256 * c))) (of_number (b + 256 * c)) a op text (b ∷ c ∷ [])
+    (with_number profile text m pointer _ _ (word_number (b + 256 * c) below) read)
+    refl (forms.pointer_mode profile m no_numbers a (of_number (b + 256 * c)) (has_code profile m Ind op code)) code (omega arith) fits (address_again b c l h)

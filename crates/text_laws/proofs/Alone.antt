@@ -2,6 +2,7 @@
 use Rattle.std.proofs.Common.{◌≡◌, ℕ, ◌+◌, ◌*◌, ◌/◌, ◌%◌, ◌≤◌, ◌<◌, pos, List, [], ◌∷◌, ◌++◌, Bool, true, false, refl, inl, inr, arith}
 use Rattle.std.specs.Prelude.{Some, None, Ok, nat_lt, zero, suc, ◌-◌, ◌-ℤ◌}
 use Rattle.std.proofs.lemmas.Bool.{cases_Bool, le-leb, lt-leb, le-ltb, ltb-true, ltb-false}
+use Rattle.model.specs.declared.instruction.Profile.{Profile}
 use Rattle.model.specs.declared.instruction.Mnemonic.{Mnemonic}
 use Rattle.model.specs.declared.instruction.Mode.{Mode}
 use Rattle.model.specs.Table.{encoded}
@@ -17,20 +18,20 @@ use Rattle.model.specs.Layout.{laid, line_fixed, size_of}
 use Rattle.model.specs.Bytes.{bytes_of, pieces_of}
 use Rattle.model.specs.OneLine.{one_line, no_numbers}
 
-pub with_operand : (m : Mnemonic) (mode : Mode) (operand : Operand) (e : Term) (a op : ℕ) (text front : List ℕ)
-    → read_line text ≡ Ok (labelled None (instruction m operand)) → term_of operand ≡ Some e → mode_by no_numbers a (Some e) (form_of m operand) ≡ Ok mode
-    → encoded m mode ≡ Some op → length_in mode ≤ 3 → a + length_in mode ≤ 65536 → operand_piece a mode (eval_of no_numbers (pos a) e) ≡ Ok front
-    → one_line a text ≡ Ok (op ∷ front ++ [])
+pub with_operand : (profile : Profile) (m : Mnemonic) (mode : Mode) (operand : Operand) (e : Term) (a op : ℕ) (text front : List ℕ)
+    → read_line profile text ≡ Ok (labelled None (instruction m operand)) → term_of operand ≡ Some e → mode_by no_numbers a (Some e) (form_of profile m operand) ≡ Ok mode
+    → encoded profile m mode ≡ Some op → length_in mode ≤ 3 → a + length_in mode ≤ 65536 → operand_piece a mode (eval_of no_numbers (pos a) e) ≡ Ok front
+    → one_line profile a text ≡ Ok (op ∷ front ++ [])
 unfolding one_line line_fixed laid size_of bytes_of pieces_of lowest lower
-with_operand m mode operand e a op text front read term taken code small fits piece =
+with_operand profile m mode operand e a op text front read term taken code small fits piece =
     rw (read, term, taken, code, le-leb (length_in mode) 3 small, le-leb (a + length_in mode) 65536 fits, piece) refl
 
-pub without_operand : (m : Mnemonic) (mode : Mode) (operand : Operand) (a op : ℕ) (text : List ℕ)
-    → read_line text ≡ Ok (labelled None (instruction m operand)) → term_of operand ≡ None → mode_by no_numbers a None (form_of m operand) ≡ Ok mode
-    → encoded m mode ≡ Some op → length_in mode ≤ 3 → a + length_in mode ≤ 65536
-    → one_line a text ≡ Ok (op ∷ [])
+pub without_operand : (profile : Profile) (m : Mnemonic) (mode : Mode) (operand : Operand) (a op : ℕ) (text : List ℕ)
+    → read_line profile text ≡ Ok (labelled None (instruction m operand)) → term_of operand ≡ None → mode_by no_numbers a None (form_of profile m operand) ≡ Ok mode
+    → encoded profile m mode ≡ Some op → length_in mode ≤ 3 → a + length_in mode ≤ 65536
+    → one_line profile a text ≡ Ok (op ∷ [])
 unfolding one_line line_fixed laid size_of bytes_of pieces_of lowest lower
-without_operand m mode operand a op text read term taken code small fits =
+without_operand profile m mode operand a op text read term taken code small fits =
     rw (read, term, taken, code, le-leb (length_in mode) 3 small, le-leb (a + length_in mode) 65536 fits) refl
 
 -- ---- operands
@@ -101,8 +102,8 @@ branch_again a b here below =
 
 -- ---- `.BYTE`
 
-pub byte_line : (a b : ℕ) (e : Term) (text : List ℕ) → read_line text ≡ Ok (labelled None (bytes (value e ∷ []))) → eval_of no_numbers (pos a) e ≡ Ok (pos b) → b < 256 → a < 65536
-    → one_line a text ≡ Ok (b ∷ [])
+pub byte_line : (profile : Profile) (a b : ℕ) (e : Term) (text : List ℕ) → read_line profile text ≡ Ok (labelled None (bytes (value e ∷ []))) → eval_of no_numbers (pos a) e ≡ Ok (pos b) → b < 256 → a < 65536
+    → one_line profile a text ≡ Ok (b ∷ [])
 unfolding one_line line_fixed laid size_of bytes_of pieces_of lowest lower
-byte_line a b e text read valued below here =
+byte_line profile a b e text read valued below here =
     rw (read, le-leb (a + 1) 65536 (omega (arith, here)), valued, byte_again b below) refl

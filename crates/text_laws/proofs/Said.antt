@@ -7,6 +7,7 @@ use Rattle.model.specs.Expression.{Term, literal, in_range, number_of_text}
 use Rattle.model.specs.Reading.{expression_of}
 use Rattle.model.specs.Mnemonics.{mnemonic_named}
 use Rattle.model.specs.Line.{Operand, absent, accumulator, immediate, direct, pointer, pointer_by_x, pointer_by_y, operand_of, whole_expression, operand_reserves}
+use Rattle.model.specs.declared.instruction.Profile.{Profile}
 use Rattle.model.specs.declared.instruction.Mnemonic.{Mnemonic}
 use Rattle.model.specs.declared.line.Index.TheVariants.{Unindexed, X, Y}
 use Rattle.model.specs.Line.{instruction, labelled, statement_of, line_of, read_line}
@@ -70,40 +71,40 @@ pointer_by_y_read o p q r s t = refl
 -- ---- lines
 
 -- behind the mnemonic of a line stands no `:` and no `=`
-pub alone_line : (m : Mnemonic) (p : ℕ) (w : List ℕ) (operand : Operand) → mnemonic_named w ≡ Some m → operand_of [] ≡ Some operand
-    → line_of (word p w ∷ []) ≡ Some (labelled None (instruction m operand))
+pub alone_line : (profile : Profile) (m : Mnemonic) (p : ℕ) (w : List ℕ) (operand : Operand) → mnemonic_named profile w ≡ Some m → operand_of [] ≡ Some operand
+    → line_of profile (word p w ∷ []) ≡ Some (labelled None (instruction m operand))
 unfolding line_of statement_of
-alone_line m p w operand named read = rw (named, read) refl
+alone_line profile m p w operand named read = rw (named, read) refl
 
-pub number_line : (m : Mnemonic) (p q : ℕ) (w t : List ℕ) (ts : List Lexeme) (operand : Operand) → mnemonic_named w ≡ Some m → operand_of (number q t ∷ ts) ≡ Some operand
-    → line_of (word p w ∷ number q t ∷ ts) ≡ Some (labelled None (instruction m operand))
+pub number_line : (profile : Profile) (m : Mnemonic) (p q : ℕ) (w t : List ℕ) (ts : List Lexeme) (operand : Operand) → mnemonic_named profile w ≡ Some m → operand_of (number q t ∷ ts) ≡ Some operand
+    → line_of profile (word p w ∷ number q t ∷ ts) ≡ Some (labelled None (instruction m operand))
 unfolding line_of statement_of
-number_line m p q w t ts operand named read = rw (named, read) refl
+number_line profile m p q w t ts operand named read = rw (named, read) refl
 
-pub word_line : (m : Mnemonic) (p q : ℕ) (w t : List ℕ) (ts : List Lexeme) (operand : Operand) → mnemonic_named w ≡ Some m → operand_of (word q t ∷ ts) ≡ Some operand
-    → line_of (word p w ∷ word q t ∷ ts) ≡ Some (labelled None (instruction m operand))
+pub word_line : (profile : Profile) (m : Mnemonic) (p q : ℕ) (w t : List ℕ) (ts : List Lexeme) (operand : Operand) → mnemonic_named profile w ≡ Some m → operand_of (word q t ∷ ts) ≡ Some operand
+    → line_of profile (word p w ∷ word q t ∷ ts) ≡ Some (labelled None (instruction m operand))
 unfolding line_of statement_of
-word_line m p q w t ts operand named read = rw (named, read) refl
+word_line profile m p q w t ts operand named read = rw (named, read) refl
 
-pub hash_line : (m : Mnemonic) (p q : ℕ) (w : List ℕ) (ts : List Lexeme) (operand : Operand) → mnemonic_named w ≡ Some m → operand_of (symbol q 35 ∷ ts) ≡ Some operand
-    → line_of (word p w ∷ symbol q 35 ∷ ts) ≡ Some (labelled None (instruction m operand))
+pub hash_line : (profile : Profile) (m : Mnemonic) (p q : ℕ) (w : List ℕ) (ts : List Lexeme) (operand : Operand) → mnemonic_named profile w ≡ Some m → operand_of (symbol q 35 ∷ ts) ≡ Some operand
+    → line_of profile (word p w ∷ symbol q 35 ∷ ts) ≡ Some (labelled None (instruction m operand))
 unfolding line_of statement_of
-hash_line m p q w ts operand named read = rw (named, read) refl
+hash_line profile m p q w ts operand named read = rw (named, read) refl
 
-pub marked_line : (m : Mnemonic) (p q : ℕ) (w : List ℕ) (ts : List Lexeme) (operand : Operand) → mnemonic_named w ≡ Some m → operand_of (symbol q 33 ∷ ts) ≡ Some operand
-    → line_of (word p w ∷ symbol q 33 ∷ ts) ≡ Some (labelled None (instruction m operand))
+pub marked_line : (profile : Profile) (m : Mnemonic) (p q : ℕ) (w : List ℕ) (ts : List Lexeme) (operand : Operand) → mnemonic_named profile w ≡ Some m → operand_of (symbol q 33 ∷ ts) ≡ Some operand
+    → line_of profile (word p w ∷ symbol q 33 ∷ ts) ≡ Some (labelled None (instruction m operand))
 unfolding line_of statement_of
-marked_line m p q w ts operand named read = rw (named, read) refl
+marked_line profile m p q w ts operand named read = rw (named, read) refl
 
-pub bracket_line : (m : Mnemonic) (p q : ℕ) (w : List ℕ) (ts : List Lexeme) (operand : Operand) → mnemonic_named w ≡ Some m → operand_of (symbol q 40 ∷ ts) ≡ Some operand
-    → line_of (word p w ∷ symbol q 40 ∷ ts) ≡ Some (labelled None (instruction m operand))
+pub bracket_line : (profile : Profile) (m : Mnemonic) (p q : ℕ) (w : List ℕ) (ts : List Lexeme) (operand : Operand) → mnemonic_named profile w ≡ Some m → operand_of (symbol q 40 ∷ ts) ≡ Some operand
+    → line_of profile (word p w ∷ symbol q 40 ∷ ts) ≡ Some (labelled None (instruction m operand))
 unfolding line_of statement_of
-bracket_line m p q w ts operand named read = rw (named, read) refl
+bracket_line profile m p q w ts operand named read = rw (named, read) refl
 
 -- the whole line
-pub line_read : (m : Mnemonic) (a b c : ℕ) (rest : List ℕ) (ts : List Lexeme) (operand : Operand) → Capital a → Capital b → Capital c
+pub line_read : (profile : Profile) (m : Mnemonic) (a b c : ℕ) (rest : List ℕ) (ts : List Lexeme) (operand : Operand) → Capital a → Capital b → Capital c
     → nat_lt 255 (length (a ∷ b ∷ c ∷ rest)) ≡ false → list_all is_source_byte rest ≡ true → tokens_from 0 0 (a ∷ b ∷ c ∷ rest) ≡ Some ts
-    → line_of ts ≡ Some (labelled None (instruction m operand)) → operand_reserves operand ≡ false
-    → read_line (a ∷ b ∷ c ∷ rest) ≡ Ok (labelled None (instruction m operand))
+    → line_of profile ts ≡ Some (labelled None (instruction m operand)) → operand_reserves profile operand ≡ false
+    → read_line profile (a ∷ b ∷ c ∷ rest) ≡ Ok (labelled None (instruction m operand))
 unfolding read_line tokens_of
-line_read m a b c rest ts operand A B C short source toks line free = rw (short, A.source, B.source, C.source, source, toks, line, free) refl
+line_read profile m a b c rest ts operand A B C short source toks line free = rw (short, A.source, B.source, C.source, source, toks, line, free) refl

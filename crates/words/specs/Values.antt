@@ -1,5 +1,7 @@
 -- What the words that stand for values mean.
 use Rattle.model.specs.Commands.{address_of, decimal_from}
+use Rattle.model.specs.declared.instruction.Profile.{Profile}
+use Rattle.model.specs.declared.instruction.Profile.TheVariants.{C, N}
 use Rattle.std.specs.Prelude.{ℕ, List, length, take, drop, get_or, nat_lt, nat_le, ◌==◌, ◌&&◌, if◌then◌else◌, Option, Some, None, option_map}
 
 -- a number of at most 65,536
@@ -39,3 +41,15 @@ port_asked (Some word) = address_of word
 abbrev pub rom_asked : Option (List ℕ) → Option (Option (ℕ × ℕ))
 rom_asked None = Some None
 rom_asked (Some word) = option_map Some (range_of word)
+
+-- a profile is written by its letter, 78 for N and 67 for C
+abbrev pub profile_of : List ℕ → Option Profile
+profile_of word =
+    if length word == 1 && get_or word 0 0 == 78 then Some N
+    else if length word == 1 && get_or word 0 0 == 67 then Some C
+    else None
+
+-- the profile that is asked for: N where no word says it
+abbrev pub profile_asked : Option (List ℕ) → Option Profile
+profile_asked None = Some N
+profile_asked (Some word) = profile_of word

@@ -1,6 +1,8 @@
 //! What words ask for.
 ghost use Rattle.std.specs.Prelude.{◌≤◌};
 
+use model::Profile;
+
 /// What the words of the program ask for.
 #[derive(Clone, Copy, Debug, PartialEq, Eq)]
 pub enum Words<'a> {
@@ -12,7 +14,7 @@ pub enum Words<'a> {
     Debug(DebugWords<'a>),
 }
 
-/// What the words of `asm SOURCE TAPE [--listing FILE] [--port HHHH]` ask for. No two of the files have the same name.
+/// What the words of `asm SOURCE TAPE [--listing FILE] [--port HHHH] [--profile N|C]` ask for. No two of the files have the same name.
 #[derive(Clone, Copy, Debug, PartialEq, Eq)]
 pub struct AsmWords<'a> {
     /// The file to read.
@@ -23,9 +25,11 @@ pub struct AsmWords<'a> {
     pub listing: Option<&'a str>,
     /// The first of the port's four addresses.
     pub port: u16,
+    /// The processor whose instructions the source is written in.
+    pub profile: Profile,
 }
 
-/// What the words of `dis TAPE LO HI` ask for.
+/// What the words of `dis TAPE LO HI [--profile N|C]` ask for.
 #[derive(Clone, Copy, Debug, PartialEq, Eq)]
 pub struct DisWords<'a> {
     /// The file to read.
@@ -34,9 +38,11 @@ pub struct DisWords<'a> {
     pub first: u16,
     /// The address behind which no row begins.
     pub last: u16,
+    /// The processor whose instructions are listed.
+    pub profile: Profile,
 }
 
-/// What the words of `debug FILE [--tape] [--history N] [--port HHHH] [--rom LO-HI]` ask for.
+/// What the words of `debug FILE [--tape] [--history N] [--port HHHH] [--rom LO-HI] [--profile N|C]` ask for.
 #[derive(Clone, Copy, Debug, PartialEq, Eq)]
 pub struct DebugWords<'a> {
     /// The file to read.
@@ -49,5 +55,7 @@ pub struct DebugWords<'a> {
     pub port: u16,
     /// The first and the last address of the ROM, where there is one.
     pub rom: Option<(u16, u16)>,
+    /// The processor of the machine.
+    pub profile: Profile,
     ghost history_held: { history ≤ 65536 },
 }

@@ -50,6 +50,14 @@ fn port<'a>(alloc: Global) -> Arg<'a>
     option(alloc, "port", "HHHH", help)
 }
 
+fn profile<'a>(alloc: Global) -> Arg<'a>
+    ensures rule { rule_of result ≡ option_rule (codes "profile") }
+    ensures local { result.global ≡ false }
+{
+    let help = "The processor, N or C: C has 19 opcodes more [default: N]";
+    option(alloc, "profile", "N|C", help)
+}
+
 fn asm_command<'a>(alloc: Global) -> Result<Command<'a>, Error>
     ensures shape { IfOk result (λ c. app_of c ≡ asm) }
     ensures local { IfOk result (λ c. (out-Command c).has_globals ≡ false) }
@@ -62,7 +70,8 @@ fn asm_command<'a>(alloc: Global) -> Result<Command<'a>, Error>
         .arg(file(alloc, "SOURCE", "The source to assemble"))?
         .arg(file(alloc, "TAPE", "The file to write the tape to"))?
         .arg(option(alloc, "listing", "FILE", listing))?
-        .arg(port(alloc))?;
+        .arg(port(alloc))?
+        .arg(profile(alloc))?;
     Ok(command)
 }
 
@@ -76,7 +85,8 @@ fn dis_command<'a>(alloc: Global) -> Result<Command<'a>, Error>
         .after_help("Example:\n  mos65 dis hello.tape 0200 020F")
         .arg(file(alloc, "TAPE", "The tape to read"))?
         .arg(file(alloc, "LO", "The first address, four hex digits"))?
-        .arg(file(alloc, "HI", "The last address, four hex digits"))?;
+        .arg(file(alloc, "HI", "The last address, four hex digits"))?
+        .arg(profile(alloc))?;
     Ok(command)
 }
 
@@ -106,7 +116,8 @@ fn debug_command<'a>(alloc: Global) -> Result<Command<'a>, Error>
         .arg(flag(alloc, "tape", "FILE is a tape, and no source"))?
         .arg(option(alloc, "history", "N", history))?
         .arg(port(alloc))?
-        .arg(option(alloc, "rom", "LO-HI", rom))?;
+        .arg(option(alloc, "rom", "LO-HI", rom))?
+        .arg(profile(alloc))?;
     Ok(command)
 }
 

@@ -8,7 +8,7 @@ ghost use Rattle.words.specs.Views.{asm_view, debug_view, dis_view, view};
 use crate::asked::{AsmWords, DebugWords, DisWords, Words};
 use crate::command::command;
 use crate::fault::WordsFault;
-use crate::value::{address_asked, history_asked, port_asked, rom_asked};
+use crate::value::{address_asked, history_asked, port_asked, profile_asked, rom_asked};
 use clap::ArgMatches;
 use std::alloc::Global;
 
@@ -40,6 +40,7 @@ fn asm_words<'a>(matches: &ArgMatches<'a>) -> Option<AsmWords<'a>>
     let tape = matches.get_str("TAPE")?;
     let listing = matches.get_str("listing");
     let port = port_asked(matches.get_str("port"))?;
+    let profile = profile_asked(matches.get_str("profile"))?;
     if overwrites(source, tape, listing) {
         return None;
     }
@@ -48,20 +49,27 @@ fn asm_words<'a>(matches: &ArgMatches<'a>) -> Option<AsmWords<'a>>
         tape,
         listing,
         port,
+        profile,
     })
 }
 
-/// What the values that were found ask for, or `None` where one is no address, or the first is above the last.
+/// What the values that were found ask for, or `None` where one is no value of its name, or the first address is above the last.
 fn dis_words<'a>(matches: &ArgMatches<'a>) -> Option<DisWords<'a>>
     ensures { option_map dis_view result ≡ dis_asked (first_value (found_of matches.now)) }
 {
     let tape = matches.get_str("TAPE")?;
     let first = address_asked(matches.get_str("LO"))?;
     let last = address_asked(matches.get_str("HI"))?;
+    let profile = profile_asked(matches.get_str("profile"))?;
     if first > last {
         return None;
     }
-    Some(DisWords { tape, first, last })
+    Some(DisWords {
+        tape,
+        first,
+        last,
+        profile,
+    })
 }
 
 /// What the values that were found ask for, or `None` where one is no value of its option.
@@ -72,12 +80,14 @@ fn debug_words<'a>(matches: &ArgMatches<'a>) -> Option<DebugWords<'a>>
     let history = history_asked(matches.get_str("history"))?;
     let port = port_asked(matches.get_str("port"))?;
     let rom = rom_asked(matches.get_str("rom"))?;
+    let profile = profile_asked(matches.get_str("profile"))?;
     Some(DebugWords {
         file,
         is_tape: is_given(matches, "tape"),
         history,
         port,
         rom,
+        profile,
     })
 }
 
@@ -94,7 +104,7 @@ fn asked<'a>(matches: &ArgMatches<'a>) -> Option<Words<'a>>
 }
 
 /// Reads the program's words, its own name left out: what they ask for, with the value of each
-/// option, `F000` for a port and 1,024 for a history that no word says.
+/// option, `F000` for a port, 1,024 for a history and `N` for a profile that no word says.
 ///
 /// # Errors
 ///
@@ -103,8 +113,9 @@ fn asked<'a>(matches: &ArgMatches<'a>) -> Option<Words<'a>>
 ///   many. The text is `clap`'s.
 /// - `Value`: `clap` takes the words, and a value is none that its option can have: `--port` with
 ///   anything but four hex digits, `--history` with anything but one to five decimal digits of a
-///   number up to 65,536, or `--rom` with anything but two such addresses with `-` between; LO or HI
-///   of `dis` with anything but such an address, or LO above HI; two files of `asm` with one name.
+///   number up to 65,536, `--rom` with anything but two such addresses with `-` between, or `--profile`
+///   with anything but `N` or `C`; LO or HI of `dis` with anything but such an address, or LO above
+///   HI; two files of `asm` with one name.
 /// - `OutOfMemory`: a request for memory was refused.
 pub fn read_words<'a>(alloc: Global, words: &'a [&'a str]) -> Result<Words<'a>, WordsFault>
     ensures asked { IfOk result (λ w. asked (map (λ s. s.now) words.entry.now) ≡ Some (view w)) }

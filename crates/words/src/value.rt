@@ -1,9 +1,10 @@
 //! Values as words.
 ghost use Rattle.std.specs.Prelude.{◌≡◌, option_and_then, option_map};
 ghost use Rattle.model.specs.Commands.{address_of};
-ghost use Rattle.words.specs.Values.{history_asked, history_of, port_asked, range_of, rom_asked};
+ghost use Rattle.words.specs.Values.{history_asked, history_of, port_asked, profile_asked, profile_of, range_of, rom_asked};
 
 use commands::{address_of, digits};
+use model::Profile;
 
 /// The number of events to hold, of one to five decimal digits and at most 65,536, or `None` for
 /// any other word.
@@ -32,6 +33,20 @@ fn range(word: &[u8]) -> Option<(u16, u16)>
     }
 }
 
+/// The profile that a letter names, or `None` for any other word.
+fn profile(word: &[u8]) -> Option<Profile>
+    ensures { result ≡ profile_of word.now }
+{
+    if word.len() != 1 {
+        return None;
+    }
+    match word[0] {
+        b'N' => Some(Profile::N),
+        b'C' => Some(Profile::C),
+        _ => None,
+    }
+}
+
 /// The history that the word after `--history` asks for, or `None` where it is no such value.
 pub fn history_asked(word: Option<&str>) -> Option<u32>
     ensures { result ≡ history_asked (option_map (λ w. w.now) word.entry) }
@@ -49,6 +64,16 @@ pub fn port_asked(word: Option<&str>) -> Option<u16>
     match word {
         None => Some(0xf000),
         Some(word) => address_of(word.as_bytes()),
+    }
+}
+
+/// The profile that the word after `--profile` asks for, or `None` where it is no such value.
+pub fn profile_asked(word: Option<&str>) -> Option<Profile>
+    ensures { result ≡ profile_asked (option_map (λ w. w.now) word.entry) }
+{
+    match word {
+        None => Some(Profile::N),
+        Some(word) => profile(word.as_bytes()),
     }
 }
 

@@ -1,10 +1,10 @@
 //! What shows of a machine.
 
 ghost use Rattle.std.specs.Prelude.{◌≡◌, ◌+◌, ◌<◌, length, slice_get, slice_index};
-ghost use Rattle.model.specs.State.{is_port};
+ghost use Rattle.model.specs.State.{is_port, IsState};
 
 use crate::machine::Machine;
-use model::Regs;
+use model::{Profile, Regs};
 
 impl Machine {
     /// The registers.
@@ -12,6 +12,14 @@ impl Machine {
         ensures { result ≡ self.now.regs }
     {
         self.regs.seen()
+    }
+
+    /// The processor's profile, as its map has it.
+    #[inline(always)]
+    pub fn profile(&self) -> Profile
+        ensures { result ≡ self.now.bus.map.profile }
+    {
+        self.bus.profile()
     }
 
     /// The program counter.
@@ -64,5 +72,14 @@ impl Machine {
         ensures { result + length self.now.bus.given ≡ 65536 }
     {
         self.bus.input_room()
+    }
+
+    /// What every state is: such a bus, registers of 8 and 16 bits, and a cycle count of 64 bits. A law for proofs: it does nothing.
+    pub fn is_state(&self)
+        ensures { IsState self.now }
+    {
+        self.bus.is_bus();
+        let _ = self.regs();
+        let _ = self.cycles();
     }
 }

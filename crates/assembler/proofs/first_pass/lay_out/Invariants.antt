@@ -7,7 +7,7 @@ use Rattle.assembler.proofs.first_pass.lay_out.Given as goal
 
 abbrev pub invariant-loop-rest : goal.invariant-loop-rest
 invariant-loop-rest l = record {
-  same : left l.number (record { address = l.address; names = l.symbols }) (found_of l.lines) l.rest ≡ found_lines 1 nothing_fixed nothing_found (read_lines l.source);
+  same : left l.profile l.number (record { profile = l.profile; address = l.address; names = l.symbols }) (found_of l.lines) l.rest ≡ found_lines 1 (nothing_fixed l.profile) nothing_found (read_lines l.profile l.source);
   from_one : 1 ≤ l.number;
   room : l.number + length l.rest ≤ 1048577;
   near : l.address + 510 * length l.rest ≤ 534839296;

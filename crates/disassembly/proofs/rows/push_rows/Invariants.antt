@@ -4,7 +4,7 @@ use Rattle.disassembly.proofs.rows.push_rows.Given as goal
 
 abbrev pub invariant-loop-left : goal.invariant-loop-left
 invariant-loop-left l = record {
-  written : l.out.items ++ rows_in l.memory l.last l.address l.left ≡ l.fn.out.items ++ rows_in l.memory l.last l.first l.count;
+  written : l.out.items ++ rows_in l.profile l.memory l.last l.address l.left ≡ l.fn.out.items ++ rows_in l.profile l.memory l.last l.first l.count;
   within : l.address ≤ 65536;
 }
 

@@ -1,23 +1,18 @@
 use Rattle.std.proofs.Common.{◌≡◌, subst}
 use Rattle.model.specs.Source as sources
-use Rattle.model.specs.State.{Map}
-use Rattle.engine.specs.TapeReads.{IsImageOf}
+use Rattle.papertape.specs.Streaming.{IsImageOf}
 use Rattle.program.specs.Streams.{IsServed}
 use Rattle.program.proofs.Ends.{served_from, served_of}
 use Rattle.program.proofs.debugging.debug.Goals as goal
 
 pub returns-in_ok-tape-clause-served : goal.returns-in_ok-tape-clause-served
 returns-in_ok-tape-clause-served g c =
-    let asked : Map = record { rom = c.args.words.now.rom; port = c.args.words.now.port } in
-    let same : c.in_ok-map.map ≡ asked = λ i. record { rom = c.in_ok-map.ensures.rom i; port = c.in_ok-map.ensures.port i } in
     subst (λ map. IsServed map c.args.words.now.history (g.R.Read.remaining c.args.input.now) (g.R.Read.remaining c.debug_tape_from.new.reader)
-    (g.O.Write.contents c.args.output.now) (g.O.Write.contents c.debug_tape_from.new.writer) c.answered.result ((c.debug_tape_from.new.reader ≡ c.args.input.now) × (c.debug_tape_from.new.writer ≡ c.args.output.now))) same
+    (g.O.Write.contents c.args.output.now) (g.O.Write.contents c.debug_tape_from.new.writer) c.answered.result ((c.debug_tape_from.new.reader ≡ c.args.input.now) × (c.debug_tape_from.new.writer ≡ c.args.output.now))) c.in_ok-map.ensures.map
     (served_from c.in_ok-map.map c.args.words.now.history _ _ _ _ _ (IsImageOf (g.H.File.Read.remaining c.in_ok-tape.tape)) c.debug_tape_from.result c.answered.result c.debug_tape_from.ensures.serves c.answered.ensures)
 
 pub returns-in_ok-source-clause-served : goal.returns-in_ok-source-clause-served
 returns-in_ok-source-clause-served g c =
-    let asked : Map = record { rom = c.args.words.now.rom; port = c.args.words.now.port } in
-    let same : c.in_ok-map.map ≡ asked = λ i. record { rom = c.in_ok-map.ensures.rom i; port = c.in_ok-map.ensures.port i } in
     subst (λ map. IsServed map c.args.words.now.history (g.R.Read.remaining c.args.input.now) (g.R.Read.remaining c.debug_source.new.reader)
-    (g.O.Write.contents c.args.output.now) (g.O.Write.contents c.debug_source.new.writer) c.answered-else-words.result ((c.debug_source.new.reader ≡ c.args.input.now) × (c.debug_source.new.writer ≡ c.args.output.now))) same
+    (g.O.Write.contents c.args.output.now) (g.O.Write.contents c.debug_source.new.writer) c.answered-else-words.result ((c.debug_source.new.reader ≡ c.args.input.now) × (c.debug_source.new.writer ≡ c.args.output.now))) c.in_ok-map.ensures.map
     (served_of c.in_ok-map.map c.args.words.now.history _ _ _ _ _ (sources.Denotes c.in_ok-map.map c.as_slice.result.now) c.debug_source.result c.answered-else-words.result c.debug_source.ensures.serves c.debug_source.ensures.reaches c.answered-else-words.ensures)

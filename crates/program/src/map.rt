@@ -1,0 +1,24 @@
+//! The map that words ask for.
+ghost use Rattle.std.specs.Prelude.{◌≡◌, ◌↔◌, IsErr, IfErr, IfOk, false};
+ghost use Rattle.model.specs.State.{is_map};
+ghost use Rattle.model.specs.declared.bus_fault.BusFault.TheVariants.{BadMap};
+
+use bus::MapSpec;
+use model::{BusFault, Profile};
+
+/// The map of a profile with this port and, if wanted, this ROM.
+///
+/// # Errors
+///
+/// `BadMap`: the port and the ROM make no map.
+pub fn map_of(profile: Profile, rom: Option<(u16, u16)>, port: u16) -> Result<MapSpec, BusFault>
+    ensures map { IfOk result (λ map. map ≡ record { profile = profile; rom = rom; port = port }) }
+    ensures bad { IsErr result ↔ (is_map rom port ≡ false) }
+    ensures only { IfErr result (λ fault. fault ≡ BadMap) }
+{
+    let map = MapSpec::new(rom, port)?;
+    match profile {
+        Profile::N => Ok(map),
+        Profile::C => Ok(map.profile_c()),
+    }
+}
