@@ -1,7 +1,7 @@
 //! A session.
 
 ghost use Rattle.std.specs.Prelude.{◌≡◌, ◌≢◌, ◌+◌, ◌-◌, ◌<◌, ◌≤◌, ◌⊎◌, ◌++◌, ◌∷◌, [], true, false, length, take, slice_get, slice_index, OnOk, IfOk, IfErr, IsErrOf, Ok, Err};
-ghost use Rattle.model.specs.State.{has_port_byte, State};
+ghost use Rattle.model.specs.State.{has_port_byte, IsState, State};
 ghost use Rattle.model.specs.Event.{event_of, start};
 ghost use Rattle.model.specs.Undo.{CanRestore, restored, Undoes};
 ghost use Rattle.model.specs.Session.{appended, fresh};
@@ -307,6 +307,14 @@ impl Session {
         ensures { result + length self.now.current.bus.given ≡ 65536 }
     {
         self.machine.input_room()
+    }
+
+    /// What every current state is: a bus of 65,536 bytes, registers of 8 and 16 bits, and a cycle count of 64 bits. A law for proofs:
+    /// it does nothing.
+    pub fn is_state(&self)
+        ensures { IsState self.now.current }
+    {
+        self.machine.is_state();
     }
 }
 

@@ -1,3 +1,4 @@
+pub mod Fronts
 pub mod Feeds
 pub mod Outcomes
 pub mod Refused

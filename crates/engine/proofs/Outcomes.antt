@@ -1,5 +1,5 @@
 -- How a call of the engine ends, before a session stands and while it is served.
-use Rattle.std.proofs.Common.{◌≡◌, ◌∙◌, ℕ, List, [], Option, Result, Ok, Err, IfErr, refl, sym, subst, inl, inr}
+use Rattle.std.proofs.Common.{◌≡◌, ◌∙◌, ℕ, List, [], Option, Result, Ok, Err, IfErr, sym, subst, inl, inr}
 use Rattle.std.proofs.KnownBytes.{Consumes-nil}
 use Rattle.std.specs.Prelude.{⊤}
 use Rattle.std.specs.Result.{IsErrAnd}
@@ -13,7 +13,7 @@ use Rattle.engine.specs.declared.fault.EngineFault.TheVariants as engine_fault
 use Rattle.engine.specs.Outcome.{Begins, EndsReply, EndsServing, Reaches, Serves}
 use Rattle.engine.specs.Refusals.{IfSession, IfSource, IfTape, of_session, of_source, of_tape}
 use Rattle.engine.proofs.Refused.{source_either, tape_either}
-use Rattle.replies.proofs.Writing.{front_none}
+use Rattle.engine.proofs.Fronts.{front_none}
 
 -- ---- before a session stands
 

@@ -9,7 +9,7 @@ use Rattle.model.specs.declared.command.Command.TheVariants.{Quit}
 use Rattle.model.specs.Transcript.{Answer, answer_to, after_text, served_on, served, transcript, transcript_so_far}
 use Rattle.engine.specs.Feeding.{feed}
 use Rattle.engine.specs.Outcome.{NoneQuits}
-use Rattle.engine.proofs.Feeds.{IsServed, Feeds, feeds, Cuts, cuts_then, command-kept}
+use Rattle.engine.proofs.Feeds.{IsServed, Feeds, feeds, cuts_then, command-kept}
 
 -- what holds of the bytes told and any that are left holds of all that was known
 pub known : (a b : Option (List ℕ)) (told : List ℕ) (P : List ℕ → Type 0) → Consumes a b told → ((left : List ℕ) → P (told ++ left)) → IfSome a P

@@ -11,7 +11,7 @@ use Rattle.papertape.specs.Streaming.{EndsReading, IsRefusalOf}
 use Rattle.papertape.specs.declared.stream.TapeReadFault.{TapeReadFault}
 use Rattle.papertape.specs.declared.stream.TapeReadFault.TheVariants as tape_read_fault
 use Rattle.engine.specs.declared.fault.EngineFault.{EngineFault}
-use Rattle.engine.specs.declared.fault.EngineFault.TheVariants.{Source, Tape, Session, Read, Write, OutOfMemory}
+use Rattle.engine.specs.declared.fault.EngineFault.TheVariants.{Tape, Session, Read, Write, OutOfMemory}
 use Rattle.engine.specs.Outcome.{Reaches}
 use Rattle.engine.specs.Refusals.{of_tape, of_tape_read, IfSession, IfSource, IfTape}
 use Rattle.engine.specs.TapeReads.{ReachesFrom}

@@ -1,6 +1,6 @@
 //! The row of an opcode.
 
-ghost use Rattle.std.specs.Prelude.{◌≡◌, ◌<◌, ◌≤◌, IfSome};
+ghost use Rattle.std.specs.Prelude.{◌≡◌, ◌<◌, ◌≤◌, IfSome, Some};
 ghost use Rattle.model.specs.Table.{added, find_row, row_at};
 
 use model::{Mnemonic, Mode, Profile, Row};
@@ -75,6 +75,15 @@ impl OpTable {
         ensures len { IfSome result (λ row. (1 ≤ row.len) × (row.len ≤ 3)) }
     {
         row_in(self.profile, opcode)
+    }
+
+    /// The row of an opcode that is documented, which is the same in each profile: of a known opcode it is a constant.
+    #[inline(always)]
+    pub fn documented(self, opcode: u8) -> Option<Row>
+        ensures row { IfSome result (λ row. row_at self.profile opcode ≡ Some row) }
+        ensures small { IfSome result (λ row. row.cycles < 8) }
+    {
+        documented_row(opcode)
     }
 }
 

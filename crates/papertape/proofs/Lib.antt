@@ -15,3 +15,4 @@ pub mod OneReading
 pub mod Pieces
 pub mod Told
 pub mod Skipped
+pub mod Streaming

@@ -1,5 +1,5 @@
 -- A tape in pieces is the tape whole.
-use Rattle.std.proofs.Common.{◌≡◌, ℕ, ◌+◌, ◌<◌, ◌≤◌, List, [], ◌∷◌, ◌++◌, length, map, drop, get_or, drop-cons, add-one, Option, Result, Ok, Err, refl, sym, ap, ◌∙◌, arith}
+use Rattle.std.proofs.Common.{◌≡◌, ℕ, ◌+◌, ◌<◌, ◌≤◌, List, [], ◌∷◌, ◌++◌, length, map, drop, get_or, drop-cons, add-one, Result, Ok, Err, refl, sym, ap, ◌∙◌, arith}
 use Rattle.std.specs.List.{concat}
 use Rattle.std.proofs.lemmas.Bool.{lt-leb}
 use Rattle.model.specs.declared.tape.TapeFault.{TapeFault}
@@ -42,10 +42,10 @@ each_next {A = A} f ps i d reader all below h =
     let next : drop i ps ≡ get_or ps i d ∷ drop (i + 1) ps = rw (add-one, drop-cons ps i d) refl in
     sym (fed-append longest (f (get_or ps i d)) (concat (map f (drop (i + 1) ps))) reader) ∙ ap (λ (l : List A). fed reader (concat (map f l))) (sym next) ∙ h
 
-abbrev said_ok : Result Unit TapeFault
+abbrev pub said_ok : Result Unit TapeFault
 said_ok = Ok tt
 
-abbrev said_err : TapeFault → Result Unit TapeFault
+abbrev pub said_err : TapeFault → Result Unit TapeFault
 said_err f = Err f
 
 abbrev fed_fault : TapeFault → Fed
@@ -55,7 +55,7 @@ abbrev fault_in : TapeFault → Result Unit TapeFault → TapeFault
 fault_in other (Ok u) = other
 fault_in other (Err f) = f
 
-not_said : (f : TapeFault) → said_err f ≡ said_ok → ⊥
+pub not_said : (f : TapeFault) → said_err f ≡ said_ok → ⊥
 not_said f e = cc
 
 -- what a call that fails leaves

@@ -1,12 +1,12 @@
 -- Bytes that may stand between records change nothing of what was read.
-use Rattle.std.proofs.Common.{◌≡◌, ◌≢◌, ℕ, ◌+◌, ◌-◌, ◌<◌, ◌≤◌, true, List, [], ◌∷◌, length, Option, None, Result, Ok, refl, sym, ap, ◌∙◌, arith}
+use Rattle.std.proofs.Common.{◌≡◌, ◌≢◌, ℕ, ◌+◌, ◌-◌, ◌<◌, ◌≤◌, true, List, [], ◌∷◌, length, Option, None, Ok, refl, sym, ap, ◌∙◌, arith}
 use Rattle.std.specs.List.{list_all}
 use Rattle.std.proofs.lemmas.Bool.{and_parts, lt-leb}
 use Rattle.model.specs.declared.tape.TapeFault.{TapeFault}
 use Rattle.papertape.specs.declared.reading.Place.{Place}
 use Rattle.papertape.specs.declared.reading.Place.TheVariants.{Between, Within, After}
 use Rattle.model.specs.Tape.{is_skipped}
-use Rattle.papertape.specs.Reading.{Progress, step, ◌>>=◌}
+use Rattle.papertape.specs.Reading.{Progress, step}
 use Rattle.papertape.specs.Feeding.{Fed, fed_byte, fed_up_to, seen}
 use Rattle.papertape.proofs.Again.{gap_step, tail_step}
 

@@ -5,17 +5,17 @@ use Rattle.std.proofs.lemmas.Bool.{le-leb, cases_lt}
 use Rattle.model.specs.declared.tape.TapeFault.{TapeFault}
 use Rattle.model.specs.declared.tape.TapeFaultKind.{TapeFaultKind}
 use Rattle.model.specs.declared.tape.TapeFaultKind.TheVariants as kinds
-use Rattle.model.specs.Tape.{Denotes, FirstFault}
+use Rattle.model.specs.Tape.{FirstFault}
 use Rattle.model.specs.TapePieces.{longest, too_long, Tells, IsReadInPieces, IsTooLong, IsRefusedInPieces}
 use Rattle.papertape.specs.declared.reading.Place.{Place}
 use Rattle.papertape.specs.declared.reading.Place.TheVariants.{Between, Within, After}
 use Rattle.model.specs.TapeFault.{out_of_memory}
 use Rattle.papertape.specs.Reading.{Answers, Progress, step, run, finished, finished_in, read_of, start, ◌>>=◌}
-use Rattle.papertape.specs.Feeding.{Fed, unfed, fed_up_to, fed_byte, fed, ended}
+use Rattle.papertape.specs.Feeding.{Fed, unfed, fed_up_to, fed_byte, fed, ended, said}
 use Rattle.papertape.proofs.Grammar.{SoundRead, read_sound}
 use Rattle.papertape.proofs.Again.{run-append, read_again}
 use Rattle.papertape.proofs.Faults.{fault_again}
-use Rattle.papertape.proofs.Pieces.{fed-append, fed-Err, fed-run, whole_fed}
+use Rattle.papertape.proofs.Pieces.{fed-append, fed-Err, fed-run, not_said, said_ok, whole_fed}
 
 abbrev Read : Type 0
 Read = Result (List (Option ℕ)) TapeFault
@@ -193,6 +193,15 @@ over_not front cells e = go (run 0 start front) e where
   go : (r : Run) → ended (over longest r) ≡ Ok cells → ⊥
   go (Err g) k = not_both (read_err g) cells g k refl
   go (Ok t) k = not_both (read_err too_long) cells too_long k refl
+
+-- a text that is too long is refused while it is fed
+pub over_said : (text : List ℕ) → longest < length text → said (fed unfed text) ≡ said_ok → ⊥
+over_said text h e =
+    let c = cut longest text h in
+    go (run 0 start c.0) (ap said (sym (over_fed longest c.0 c.1 c.3 c.4)) ∙ ap (λ (t : List ℕ). said (fed unfed t)) (sym c.2) ∙ e) where
+      go : (r : Run) → said (over longest r) ≡ said_ok → ⊥
+      go (Ok t) k = not_said too_long k
+      go (Err f) k = not_said f k
 
 -- ---- what feeding and ending give
 

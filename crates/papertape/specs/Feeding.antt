@@ -1,5 +1,5 @@
 -- A reader that is fed a tape in pieces.
-use Rattle.std.specs.Prelude.{◌≡◌, ℕ, ◌+◌, nat_le, if◌then◌else◌, List, [], ◌∷◌, Option, None, Some, Result, Ok, Err}
+use Rattle.std.specs.Prelude.{ℕ, ◌+◌, nat_le, if◌then◌else◌, List, [], ◌∷◌, Option, None, Some, Result, Ok, Err}
 use Rattle.model.specs.declared.tape.TapeFault.{TapeFault}
 use Rattle.model.specs.declared.tape.TapeFaultKind.TheVariants.{TooLong}
 use Rattle.model.specs.TapePieces.{longest}

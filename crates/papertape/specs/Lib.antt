@@ -1,6 +1,7 @@
 pub mod Reading
 pub mod Feeding
 pub mod Writing
+pub mod Streaming
 pub use Rattle.model.specs.Image
 pub use Rattle.model.specs.Tape
 pub use Rattle.model.specs.TapePieces

@@ -7,6 +7,7 @@ mod piece;
 mod reader;
 mod reading;
 mod record;
+mod stream;
 mod writer;
 
 pub use law::{
@@ -15,4 +16,5 @@ pub use law::{
 };
 pub use model::{TapeFault, TapeFaultKind};
 pub use reader::{TapeReader, read_tape};
+pub use stream::{TapeReadFault, read_tape_from};
 pub use writer::write_tape;

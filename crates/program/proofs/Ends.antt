@@ -100,10 +100,6 @@ pub with_known : (a : Option (List ℕ)) (P Q : List ℕ → Type 0) → IfSome 
 with_known None P Q h f = tt
 with_known (Some x) P Q h f = f x h
 
-pub for_known : (a : Option (List ℕ)) (Q : List ℕ → Type 0) → ((text : List ℕ) → Q text) → IfSome a Q
-for_known None Q f = tt
-for_known (Some x) Q f = f x
-
 same_image : (image cells : Image) → Is (read_ok image) (read_ok cells) → image ≡ cells
 same_image image cells (inl e) = ap (image_in image) e
 same_image image cells (inr (inl e)) = absurd cc
@@ -162,6 +158,15 @@ pub each_refused : {X : Type 0} (a : Option (List ℕ)) (result : Result X TapeR
 each_refused a result f h only =
     with_known a (λ text. (fault : TapeFault) → IsRefusedInPieces text fault → Is (read_err f) (read_err (tape_read_fault.Tape fault))) (λ text. (fault : TapeFault) → IsRefusedInPieces text fault → Is result (Err (tape_read_fault.Tape fault))) only
     (λ text o fault r. same_answer result f (tape_read_fault.Tape fault) h (o fault r))
+
+-- where memory ran out, no text was read
+pub all_unread : (a : Option (List ℕ)) → IfSome a (λ text. (cells : Image) → IsReadInPieces text cells → IsUnread (tape_read_fault.Tape tape_out_of_memory))
+all_unread None = tt
+all_unread (Some text) = λ cells r. inr refl
+
+pub all_unrefused : (X : Type 0) (a : Option (List ℕ)) → IfSome a (λ text. (fault : TapeFault) → IsRefusedInPieces text fault → Is {X = X} (Err (tape_read_fault.Tape tape_out_of_memory)) (Err (tape_read_fault.Tape fault)))
+all_unrefused X None = tt
+all_unrefused X (Some text) = λ fault r. inr (inr refl)
 
 dis_refusal : (a : Option (List ℕ)) (f : TapeReadFault) → EndsReading a f → EndsDis (of_engine (of_tape_read f))
 dis_refusal a tape_read_fault.Read h = tt

@@ -8,11 +8,11 @@ use Rattle.model.specs.State.{Map}
 
 pub one_listing : OneAssignment → OneImage → (m : Map) (source t u : List ℕ) → IsListing m source t → IsListing m source u → t ≡ u
 one_listing assigned imaged m source t u a b =
-    let same = assigned (read_lines source) nothing_fixed a.placed b.placed a.all b.all a.laid b.laid in
+    let same = assigned (read_lines m.profile source) (nothing_fixed m.profile) a.placed b.placed a.all b.all a.laid b.laid in
     let image = imaged m source a.image b.image
     (record { size = a.size; placed = a.placed; all = a.all; laid = a.laid; made = a.made })
     (record { size = b.size; placed = b.placed; all = b.all; laid = b.laid; made = b.made }) in
-    a.rows ∙ (λ i. listing_text (read_lines source) (map (shown_in (image i)) (extents_of (same.0 i))) (same.1 i).names) ∙ sym b.rows
+    a.rows ∙ (λ i. listing_text (read_lines m.profile source) (map (shown_in (image i)) (extents_of (same.0 i))) (same.1 i).names) ∙ sym b.rows
 
 pub one_asked : {V : Type 0} (items : V → List ℕ) (found : Option V) (is_listed : Bool) (m : Map) (source whole : List ℕ) → OneAssignment → OneImage
     → option_map items found ≡ (if is_listed then Some whole else None) → IsListing m source whole

@@ -1,5 +1,5 @@
 -- Breakpoints one after another, and instructions one after another.
-use Rattle.std.proofs.Common.{◌≡◌, ℕ, zero, suc, ◌+◌, ◌-◌, ◌<◌, ◌≤◌, min, List, [], ◌∷◌, ◌++◌, true, false, refl, sym, ap, ◌∙◌, take, drop, length, get_or, arith, length-drop, length-take, append-nil, append_assoc, take-append-drop, inl, inr}
+use Rattle.std.proofs.Common.{◌≡◌, ℕ, zero, suc, ◌+◌, ◌-◌, ◌<◌, ◌≤◌, min, List, [], ◌∷◌, ◌++◌, refl, sym, ap, ◌∙◌, take, drop, length, get_or, arith, length-drop, append-nil, take-append-drop, inl, inr}
 use Rattle.std.specs.Prelude.{codes, slice_index}
 use Rattle.std.specs.List.{flat_map}
 use Rattle.std.proofs.lemmas.List.{take_more, get_or-drop, take_all}

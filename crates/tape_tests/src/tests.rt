@@ -2,7 +2,8 @@
 
 use bus::Image;
 use papertape::{
-    TapeFault, TapeFaultKind, TapeReader, read_pieces, read_tape, through_tape, write_tape,
+    TapeFault, TapeFaultKind, TapeReadFault, TapeReader, read_pieces, read_tape, read_tape_from,
+    through_tape, write_tape,
 };
 use std::alloc::Global;
 use std::test::Fail;
@@ -174,6 +175,23 @@ fn a_failed_reader(rt: HostRuntime) -> Result<(), Fail> {
     assert_eq!(rt; reader.feed(b";").err(), wanted);
     assert_eq!(rt; reader.feed(b"").err(), wanted);
     assert_eq!(rt; reader.finish().err(), wanted);
+    Ok(())
+}
+
+/// A tape is read to its reader's end, or to the piece that tells its fault.
+#[test]
+fn told_by_a_reader(rt: HostRuntime) -> Result<(), Fail> {
+    let mut tape = PROGRAM_TAPE.as_slice();
+    let image = read_tape_from(rt.alloc(), &mut tape)?;
+    assert_eq!(rt; image.get(0x0200), Some(0xA9));
+    assert_eq!(rt; tape.len(), 0);
+    let mut tape = b";01G".as_slice();
+    let read = read_tape_from(rt.alloc(), &mut tape);
+    let fault = TapeFault {
+        offset: 3,
+        kind: TapeFaultKind::BadHex,
+    };
+    assert_eq!(rt; read.err(), Some(TapeReadFault::Tape(fault)));
     Ok(())
 }
 

@@ -1,4 +1,4 @@
-use Rattle.std.proofs.Common.{◌≡◌, refl, subst, sym}
+use Rattle.std.proofs.Common.{refl, subst, sym}
 use Rattle.model.specs.Event.{start}
 use Rattle.model.specs.Session.{fresh}
 use Rattle.model.specs.Source.{HasFault}

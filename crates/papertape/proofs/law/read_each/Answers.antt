@@ -1,4 +1,4 @@
-use Rattle.std.proofs.Common.{sym, ◌∙◌, map, ap, drop, ◌+◌, Bor, List, ℕ, []}
+use Rattle.std.proofs.Common.{◌∙◌, map, ap, drop, ◌+◌, Bor, List, ℕ, []}
 use Rattle.std.specs.List.{concat}
 use Rattle.papertape.specs.Feeding.{Fed, ended, fed, unfed}
 use Rattle.papertape.proofs.Answers.{answers_fault}

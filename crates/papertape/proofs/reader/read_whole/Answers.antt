@@ -1,4 +1,4 @@
-use Rattle.std.proofs.Common.{ap, subst, sym, ◌∙◌, length, arith, List, ℕ}
+use Rattle.std.proofs.Common.{ap, sym, ◌∙◌, length, arith, List, ℕ}
 use Rattle.papertape.specs.Reading.{read_of}
 use Rattle.papertape.specs.Feeding.{Fed, ended, fed_up_to}
 use Rattle.papertape.proofs.Answers.{answers_of}

@@ -1,7 +1,7 @@
-use Rattle.std.proofs.Common.{◌≡◌, ◌∙◌, ap, Err, inl, inr, refl, ◌⊎◌}
+use Rattle.std.proofs.Common.{◌≡◌}
 use Rattle.model.specs.Disassembly.{rows_in}
 use Rattle.model.specs.State.{memory_of}
-use Rattle.program.proofs.Ends.{each_fault, each_image, each_refused, each_unread, for_known}
+use Rattle.program.proofs.Ends.{all_unread, all_unrefused, each_fault, each_image, each_refused, each_unread}
 use Rattle.program.proofs.disassembling.dis_text.Goals as goal
 
 pub returns-in_err-image-clause-only : goal.returns-in_err-image-clause-only
@@ -17,8 +17,8 @@ returns-in-Ok-clause-only g c =
 pub returns-in-Ok-clause-faulty : goal.returns-in-Ok-clause-faulty
 returns-in-Ok-clause-faulty g c = each_fault _ c.in_ok-image.image _ c.in_ok-image.ensures.refused
 
-pub returns-in-Err-clause-only : goal.returns-in-Err-clause-only
-returns-in-Err-clause-only g c = for_known _ _ (λ text image r. inr refl)
+pub returns-clause-only : goal.returns-clause-only
+returns-clause-only g c = all_unread (g.T.Read.remaining c.args.tape.now)
 
-pub returns-in-Err-clause-faulty : goal.returns-in-Err-clause-faulty
-returns-in-Err-clause-faulty g c = for_known _ _ (λ text fault r. inr (inr refl))
+pub returns-clause-faulty : goal.returns-clause-faulty
+returns-clause-faulty g c = all_unrefused _ (g.T.Read.remaining c.args.tape.now)

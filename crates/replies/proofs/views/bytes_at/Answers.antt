@@ -1,4 +1,4 @@
-use Rattle.std.proofs.Common.{◌≡◌, ◌+◌, ◌-◌, ◌≤◌, ◌++◌, arith, ap, ◌∙◌, sym, length, [], ◌∷◌, min, take, drop}
+use Rattle.std.proofs.Common.{◌≡◌, ◌+◌, ◌++◌, arith, ap, ◌∙◌, sym, length, [], ◌∷◌, take, drop}
 use Rattle.replies.proofs.Lists.{bytes_first, bytes_more, bytes_all}
 use Rattle.replies.proofs.views.bytes_at.Goals as goal
 

@@ -1,4 +1,4 @@
-use Rattle.std.proofs.Common.{◌≡◌, ◌+◌, ◌≤◌, take, drop, length}
+use Rattle.std.proofs.Common.{◌≡◌, ◌+◌, take, drop, length}
 use Rattle.replies.proofs.views.bytes_at.Given as goal
 
 abbrev pub invariant-loop-place : goal.invariant-loop-place
