@@ -1,6 +1,7 @@
 -- What a command line asks for. Source: profile.
 use Rattle.std.specs.Prelude.{ℕ, ◌+◌, ◌-◌, ◌*◌, Bool, true, false, List, [], ◌∷◌, ◌++◌, length, take, nat_lt, nat_le, ◌==◌, ◌&&◌, ◌||◌, if◌then◌else◌, codes, replicate, Option, Some, None}
 use Rattle.std.specs.Str.{bytes_eq}
+use Rattle.model.specs.Digits.{hex_number, decimal_number}
 use Rattle.model.specs.declared.command.Command.{Command}
 use Rattle.model.specs.declared.command.Command.TheVariants.{Regs, Step, Mem, Out, Set, Patch, Reset, Irq, Nmi, Input, Run, Back, Break, Unbreak, Watch, Unwatch, Breaks, Dis, Asm, Quit, Nothing, Bad}
 use Rattle.model.specs.declared.event.Setting.{Setting}
@@ -40,25 +41,13 @@ rest_of line = behind_word (unspaced line)
 
 -- ---- numbers
 
--- The value of a hex digit in either letter case, and 16 for any other byte.
-abbrev pub hex_value : ℕ → ℕ
-hex_value d =
-    if nat_le 48 d && nat_le d 57 then d - 48
-    else if nat_le 65 d && nat_le d 70 then d - 65 + 10
-    else if nat_le 97 d && nat_le d 102 then d - 97 + 10
-    else 16
-
 -- The address that exactly four hex digits write.
 abbrev pub address_of : List ℕ → Option ℕ
-address_of (a ∷ b ∷ c ∷ d ∷ []) =
-    if hex_value a == 16 || hex_value b == 16 || hex_value c == 16 || hex_value d == 16 then None
-    else Some (hex_value a * 4096 + hex_value b * 256 + hex_value c * 16 + hex_value d)
-address_of other = None
+address_of word = if length word == 4 then hex_number word else None
 
 -- The byte that exactly two hex digits write.
 abbrev pub byte_of : List ℕ → Option ℕ
-byte_of (a ∷ b ∷ []) = if hex_value a == 16 || hex_value b == 16 then None else Some (hex_value a * 16 + hex_value b)
-byte_of other = None
+byte_of word = if length word == 2 then hex_number word else None
 
 abbrev pub byte_before : Option ℕ → Option (List ℕ) → Option (List ℕ)
 byte_before (Some b) (Some bytes) = Some (b ∷ bytes)
@@ -70,18 +59,9 @@ abbrev pub bytes_of : List (List ℕ) → Option (List ℕ)
 bytes_of [] = Some []
 bytes_of (w ∷ ws) = byte_before (byte_of w) (bytes_of ws)
 
--- The value of a decimal digit, and 10 for any other byte.
-abbrev pub digit_of : ℕ → ℕ
-digit_of byte = if nat_le 48 byte && nat_le byte 57 then byte - 48 else 10
-
--- The number that decimal digits write behind those of another number.
-unfoldable pub decimal_from : ℕ → List ℕ → Option ℕ
-decimal_from number [] = Some number
-decimal_from number (byte ∷ bytes) = if digit_of byte == 10 then None else decimal_from (number * 10 + digit_of byte) bytes
-
 -- The number that 1 to 7 decimal digits write, leading zeros among them.
 unfoldable pub decimal_of : List ℕ → Option ℕ
-decimal_of word = if nat_le 1 (length word) && nat_le (length word) 7 then decimal_from 0 word else None
+decimal_of word = if nat_le 1 (length word) && nat_le (length word) 7 then decimal_number word else None
 
 -- A number that is at least 1 and no more than a highest one.
 abbrev pub from_1_to : ℕ → Option ℕ → Option ℕ
