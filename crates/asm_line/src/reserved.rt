@@ -73,7 +73,7 @@ fn any_item_reserves(items: &[Item<'_>]) -> bool
 }
 
 /// The same of an operation.
-#[tactic(auto, using(crate::proofs::Behind::list_any_map))]
+#[tactic(auto, using(crate::proofs::TokensLeft::list_any_map))]
 fn reserves(statement: &Statement<'_>) -> bool
     ensures { result ≡ reserves (seen statement.now) }
 {
