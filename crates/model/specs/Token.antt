@@ -124,7 +124,8 @@ abbrev pub found_before : ℕ → (ℕ → Tokens) → Found → Tokens
 found_before start behind None = None
 found_before start behind (Some found) = option_map (λ ts. record { kind = found.0; start = start; text = found.1 } ∷ ts) (behind (length found.1 - 1))
 
--- The tokens of some bytes of a line, from a place on; so many of the bytes still belong to the token before.
+-- The tokens of some bytes of a line, from a place on; so many of the bytes still belong to the token before. They are counted off
+-- one by one, since recursion goes to a part of its argument.
 -- Blanks may stand between tokens, and outside a character or a string `;` begins a comment, which has no tokens.
 unfoldable pub tokens_from : ℕ → ℕ → List ℕ → Tokens
 tokens_from place covered [] = Some []
