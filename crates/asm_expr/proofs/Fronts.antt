@@ -4,7 +4,8 @@ use Rattle.std.specs.Prelude.{◌==◌, ◌&&◌, nat_le, if◌then◌else◌, N
 use Rattle.std.proofs.lemmas.Bool.{cases_Bool, false≢true, and_parts, eqb-true, eqb-false}
 use Rattle.model.specs.declared.expression.TokenKind.{TokenKind}
 use Rattle.model.specs.declared.expression.TokenKind.TheVariants.{Word, Directive, Number, Char, Str, Symbol}
-use Rattle.model.specs.Token.{Found, run_of, begins, is_printable, is_symbol_byte, is_word_byte, is_letter, is_digit, is_hex_byte, is_binary_byte, is_string_byte, word_at, number_at, directive_at, char_at, string_at, token_at}
+use Rattle.model.specs.Digits.{is_hex_byte}
+use Rattle.model.specs.Token.{Found, run_of, begins, is_printable, is_symbol_byte, is_word_byte, is_letter, is_digit, is_binary_byte, is_string_byte, word_at, number_at, directive_at, char_at, string_at, token_at}
 
 -- some bytes, at least one, that others begin with
 pub record Front (bytes text : List ℕ) : Type 0 where

@@ -2,7 +2,7 @@ pub mod Derived
 pub mod Grammar
 pub mod Literals
 pub mod Longest
-pub mod Turns
+pub mod ParserTurn
 pub mod Whole
 pub mod Runs
 pub mod Fronts

@@ -2,7 +2,8 @@
 use Rattle.std.proofs.Common.{◌≡◌, ℕ, zero, suc, ◌+◌, ◌*◌, ◌<◌, ◌≤◌, min, Bool, true, false, List, [], ◌∷◌, length, drop, get_or, None, Some, refl, sym, ap, ◌∙◌, arith, drop-cons, add-one}
 use Rattle.std.specs.Prelude.{nat_lt, pos}
 use Rattle.std.proofs.lemmas.Bool.{ltb-false, ltb-true, le-ltb, lt-ltb}
-use Rattle.model.specs.Expression.{digit_value, number_behind, in_range}
+use Rattle.model.specs.Digits.{digit_value}
+use Rattle.model.specs.Expression.{number_behind, in_range}
 
 more : (base n v : ℕ) → 1 ≤ base → 2147483648 ≤ n → 2147483648 ≤ n * base + v
 more zero n v h le = absurd (omega arith)

@@ -6,7 +6,8 @@ use Rattle.std.proofs.lemmas.Bool.{cases_Bool, false≢true, lt-leb, le-leb, ne_
 use Rattle.std.proofs.lemmas.List.Folds.{length-prefix_len}
 use Rattle.std.proofs.lemmas.List.{take_all, drop-drop}
 use Rattle.model.specs.declared.expression.TokenKind.TheVariants.{Word, Directive, Str}
-use Rattle.model.specs.Token.{run_of, begins, is_word_byte, is_letter, is_digit, is_hex_byte, is_binary_byte, is_string_byte, word_at, number_at, directive_at, string_at, token_at}
+use Rattle.model.specs.Digits.{is_hex_byte}
+use Rattle.model.specs.Token.{run_of, begins, is_word_byte, is_letter, is_digit, is_binary_byte, is_string_byte, word_at, number_at, directive_at, string_at, token_at}
 use Rattle.asm_expr.specs.Lexing.{number_in}
 
 -- a run is the bytes at the front that pass

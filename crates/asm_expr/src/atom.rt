@@ -2,7 +2,8 @@
 
 ghost use Rattle.std.specs.Prelude.{◌≡◌, ℕ, ◌≤◌};
 ghost use Rattle.std.specs.Option.{option_map};
-ghost use Rattle.model.specs.Expression.{atom_of, digit_value, in_range, number_behind, number_of_text, operator_of, symbol_of};
+ghost use Rattle.model.specs.Digits.{digit_value};
+ghost use Rattle.model.specs.Expression.{atom_of, in_range, number_behind, number_of_text, operator_of, symbol_of};
 ghost use Rattle.asm_expr.specs.Lexemes.{lexeme_of};
 ghost use Rattle.asm_expr.specs.Trees.{view};
 
@@ -40,17 +41,16 @@ pub(crate) fn operator(token: &Token<'_>) -> Option<Operator>
     }
 }
 
-/// What a digit stands for, in either letter case.
+/// What a digit stands for, in either letter case, and 0 for any other byte.
 fn digit(byte: u8) -> u8
     ensures { result ≡ digit_value byte }
 {
-    if byte <= b'9' {
-        return byte.saturating_sub(48);
+    match byte {
+        b'A'..=b'F' => byte - 55,
+        b'a'..=b'f' => byte - 87,
+        b'0'..=b'9' => byte - 48,
+        _ => 0,
     }
-    if byte <= b'Z' {
-        return byte - 55;
-    }
-    byte - 87
 }
 
 /// The number that digits write, where it is at most 2^31 - 1.

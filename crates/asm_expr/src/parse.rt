@@ -27,7 +27,7 @@ fn closed<'a, 't>(inner: Expr<'a>, tokens: &'t [Token<'a>]) -> Option<(Expr<'a>,
 
 /// A token that is an expression by itself, or a sum in brackets.
 #[cycle(parse)]
-#[tactic(auto, using(crate::proofs::Turns::inner_below))]
+#[tactic(auto, using(crate::proofs::ParserTurn::inner_below))]
 fn primary<'a, 't>(
     alloc: Global,
     tokens: &'t [Token<'a>],
@@ -76,7 +76,7 @@ fn unary<'a, 't>(
 
 /// A unary and as many operators with right sides as follow it.
 #[cycle(parse)]
-#[tactic(auto, using(crate::proofs::Turns::more_step, crate::proofs::Turns::no_more))]
+#[tactic(auto, using(crate::proofs::ParserTurn::more_step, crate::proofs::ParserTurn::no_more))]
 fn sum<'a, 't>(
     alloc: Global,
     tokens: &'t [Token<'a>],

@@ -21,7 +21,7 @@ use Rattle.model.specs.Layout.{item_size, items_size}
 use Rattle.asm_line.specs.declared.fault.LineError.{LineError}
 use Rattle.asm_line.specs.declared.statement.Line as code
 use Rattle.asm_line.specs.Seen.{Gives, seen_line}
-use Rattle.asm_line.specs.Small.{IsSmall, IsSmallLine}
+use Rattle.asm_line.specs.FewBytes.{IsSmall, IsSmallLine}
 
 -- ---- tokens
 

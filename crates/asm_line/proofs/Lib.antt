@@ -1,8 +1,8 @@
-pub mod Behind
+pub mod TokensLeft
 pub mod Capitals
-pub mod Rest
+pub mod CommaLists
 pub mod Tokens
 pub mod FewBytes
-pub mod Foreign
+pub mod SymbolsOutside
 pub mod GrammarIsRead
 pub mod ReadIsGrammar

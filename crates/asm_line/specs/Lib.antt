@@ -1,5 +1,5 @@
 pub mod Lists
 pub mod Pointers
 pub mod Seen
-pub mod Small
+pub mod FewBytes
 pub mod Tokens

@@ -77,7 +77,7 @@ fn any_item_reserves(profile: Profile, items: &[Item<'_>]) -> bool
 }
 
 /// The same of an operation.
-#[tactic(auto, using(crate::proofs::Behind::list_any_map))]
+#[tactic(auto, using(crate::proofs::TokensLeft::list_any_map))]
 fn reserves(profile: Profile, statement: &Statement<'_>) -> bool
     ensures { result ≡ reserves profile (seen statement.now) }
 {

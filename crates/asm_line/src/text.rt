@@ -4,7 +4,7 @@ ghost use Rattle.std.specs.Prelude.{◌≡◌, ◌∷◌, IfOk};
 ghost use Rattle.model.specs.Line.{directive_of, line_of, operation_by, origin_behind, read_line, statement_of, unlabelled, unreserved, word_line};
 ghost use Rattle.asm_expr.specs.Lexemes.{lexeme_of, lexemes};
 ghost use Rattle.asm_line.specs.Seen.{Gives, Reads, seen, seen_line};
-ghost use Rattle.asm_line.specs.Small.{IsSmallLine};
+ghost use Rattle.asm_line.specs.FewBytes.{IsSmallLine};
 ghost use Rattle.asm_line.specs.Tokens.{fault_of_bytes, line_tokens, said_by};
 
 use crate::expressions::{expressions, items, whole_expression};

@@ -12,7 +12,7 @@ use Rattle.model.specs.Source.{Denotes, HasFault, OneAssignment, nothing_fixed, 
 use Rattle.model.specs.declared.source_fault.AsmFault.{AsmFault}
 use Rattle.source_laws.specs.Judging.{DenotedIsJudged, FaultIsJudged, Judged, JudgedIsMeant, Says, judged, judged_as, ◌>>=◌}
 use Rattle.assembler.specs.Assembly.{Answers, Assembled, IsImageOrMemory, Verdict, listing_of, out_of_memory, seen_verdict, verdict, verdict_of}
-use Rattle.assembler.proofs.Spared.{spared_image}
+use Rattle.assembler.proofs.NoByteAtPort.{spared_image}
 use Rattle.assembler.proofs.RowsLeft.{rows_of_read}
 
 abbrev Cells : Type 0

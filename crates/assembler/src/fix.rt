@@ -2,7 +2,7 @@
 
 ghost use Rattle.std.specs.Prelude.{◌≡◌, ◌+◌, ◌-◌, ◌<◌, ◌≤◌, ◌^◌, None, Some, Ok, max, IfOk};
 ghost use Rattle.asm_line.specs.Seen.{seen, seen_line};
-ghost use Rattle.asm_line.specs.Small.{IsSmall, IsSmallLine};
+ghost use Rattle.asm_line.specs.FewBytes.{IsSmall, IsSmallLine};
 ghost use Rattle.assembler.specs.Sites.{Fixes, line_content, unlocated};
 ghost use Rattle.asm_expr.specs.Trees.{view};
 ghost use Rattle.model.specs.Names.{number_in};

@@ -3,7 +3,7 @@
 ghost use Rattle.std.specs.Prelude.{None, ◌≡◌, ◌+◌, ◌-◌, ◌<◌, ◌≤◌, ◌^◌, ◌*◌, map, max, pos, length, IfOk};
 ghost use Rattle.asm_expr.specs.Trees.{view};
 ghost use Rattle.asm_line.specs.Seen.{seen, seen_item, seen_operand};
-ghost use Rattle.asm_line.specs.Small.{IsSmall};
+ghost use Rattle.asm_line.specs.FewBytes.{IsSmall};
 ghost use Rattle.assembler.specs.Sites.{Shows, content_by, seen_form, shown, site_of};
 ghost use Rattle.model.specs.Layout.{in_memory, length_in, mode_by, placing, sized, behind_room, item_size, items_size, laid, size_of};
 ghost use Rattle.model.specs.Value.{eval_of};

@@ -5,9 +5,11 @@ use Rattle.std.specs.Str.{bytes_eq}
 use Rattle.std.proofs.lemmas.Slice.Eq.{bytes_eq-Decides}
 use Rattle.std.proofs.lemmas.Bool.{le-leb, lt-leb}
 use Rattle.model.specs.declared.command.Command.{Command}
-use Rattle.model.specs.Commands.{address_of, asm_command, is_asm, rest_of, second_word, text_of, unspaced, byte_of, byte_before, bytes_of, input_command, no_input, command_of, command_of_words, pair_command, triple_command, long_command, words_of}
-use Rattle.model.specs.declared.command.Command.TheVariants.{Bad, Input}
+use Rattle.model.specs.Commands.{address_of, asm_command, is_asm, rest_of, second_word, text_of, unspaced, byte_of, byte_before, bytes_of, input_command, no_input, command_of, command_of_words, words_of}
+use Rattle.model.specs.declared.command.Command.TheVariants.{Bad, Input, Nothing}
 use Rattle.commands.specs.Words.{IsNextWord}
+use Rattle.commands.specs.Groups.{pair_command, triple_command}
+use Rattle.commands.proofs.Rows.{pair_row, triple_row}
 use Rattle.commands.proofs.Patches.{next}
 
 -- ---- lines that begin with `in`
@@ -20,10 +22,8 @@ same : (w : List ℕ) → bytes_eq w (codes "in") ≡ true → w ≡ codes "in"
 same w e = (bytes_eq-Decides w (codes "in")).0 e
 
 input_words : (a : List ℕ) (ws : List (List ℕ)) → command_of_words (codes "in" ∷ a ∷ ws) ≡ input_command (bytes_of (a ∷ ws))
-unfolding command_of_words pair_command triple_command long_command
-input_words a [] = refl
-input_words a (b ∷ []) = refl
-input_words a (b ∷ c ∷ ws) = refl
+unfolding command_of_words
+input_words a ws = refl
 
 -- a line that is short and no `asm` is what its words are
 other_line : (line first behind : List ℕ) → nat_lt 255 (length line) ≡ false → IsNextWord line first behind → bytes_eq first (codes "asm") ≡ false → command_of line ≡ command_of_words (words_of line)
@@ -32,6 +32,26 @@ other_line line [] behind short p no_asm = ap (λ t. if t then Bad else if is_as
     ∙ ap (λ ws. if is_asm ws then assembled line ws else command_of_words ws) p.0 ∙ ap command_of_words (sym p.0)
 other_line line (b ∷ w) behind short p no_asm = ap (λ t. if t then Bad else if is_asm (words_of line) then assembled line (words_of line) else command_of_words (words_of line)) short
     ∙ ap (λ t. if t then assembled line (words_of line) else command_of_words (words_of line)) (ap is_asm p ∙ no_asm)
+
+no_more : (rest word left : List ℕ) → IsNextWord rest word left → length word ≡ 0 → words_of rest ≡ []
+no_more rest [] left p e = p.0
+no_more rest (b ∷ w) left p e = absurd (omega (arith, e))
+
+pub empty_line : (line first behind : List ℕ) → nat_lt 255 (length line) ≡ false → IsNextWord line first behind → length first ≡ 0 → bytes_eq first (codes "asm") ≡ false → Nothing ≡ command_of line
+unfolding command_of_words
+empty_line line first behind short p none no_asm = sym (other_line line first behind short p no_asm ∙ ap command_of_words (no_more line first behind p none))
+
+pub line_of_two : (line first behind second rest third left : List ℕ) → nat_lt 255 (length line) ≡ false → IsNextWord line first behind → (length first ≡ 0 → ⊥) → IsNextWord behind second rest → (length second ≡ 0 → ⊥)
+    → IsNextWord rest third left → length third ≡ 0 → bytes_eq first (codes "asm") ≡ false → pair_command first second ≡ command_of line
+line_of_two line first behind second rest third left short p some q more r last no_asm =
+    let words = next line first behind p some ∙ ap (λ ws. first ∷ ws) (next behind second rest q more ∙ ap (λ ws. second ∷ ws) (no_more rest third left r last)) in
+    pair_row first second ∙ sym (other_line line first behind short p no_asm ∙ ap command_of_words words)
+
+pub line_of_three : (line first behind second rest third after fourth left : List ℕ) → nat_lt 255 (length line) ≡ false → IsNextWord line first behind → (length first ≡ 0 → ⊥) → IsNextWord behind second rest → (length second ≡ 0 → ⊥)
+    → IsNextWord rest third after → (length third ≡ 0 → ⊥) → IsNextWord after fourth left → length fourth ≡ 0 → bytes_eq first (codes "asm") ≡ false → triple_command first second third ≡ command_of line
+line_of_three line first behind second rest third after fourth left short p some q more r third_some t last no_asm =
+    let words = next line first behind p some ∙ ap (λ ws. first ∷ ws) (next behind second rest q more ∙ ap (λ ws. second ∷ ws) (next rest third after r third_some ∙ ap (λ ws. third ∷ ws) (no_more after fourth left t last))) in
+    triple_row first second third ∙ sym (other_line line first behind short p no_asm ∙ ap command_of_words words)
 
 pub in_line : (line first behind second rest : List ℕ) → nat_lt 255 (length line) ≡ false → IsNextWord line first behind → (length first ≡ 0 → ⊥) → IsNextWord behind second rest → (length second ≡ 0 → ⊥)
     → bytes_eq first (codes "asm") ≡ false → bytes_eq first (codes "in") ≡ true → input_command (bytes_of (words_of behind)) ≡ command_of line

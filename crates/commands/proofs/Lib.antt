@@ -3,3 +3,4 @@ pub mod Inputs
 pub mod Patches
 pub mod Spaces
 pub mod Texts
+pub mod Rows

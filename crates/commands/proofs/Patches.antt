@@ -1,9 +1,10 @@
 -- A patch has at most three bytes.
 use Rattle.std.proofs.Common.{◌≡◌, ℕ, Bool, true, false, List, [], ◌∷◌, length, Option, Some, None, refl, ap, ◌∙◌, if◌then◌else◌, codes}
 use Rattle.std.specs.Str.{bytes_eq}
-use Rattle.model.specs.Commands.{address_of, byte_of, byte_before, bytes_of, input_command, patch_command, long_command, words_of}
+use Rattle.model.specs.Commands.{address_of, byte_of, byte_before, bytes_of, input_command, patch_command, words_of}
 use Rattle.model.specs.declared.command.Command.{Command}
 use Rattle.model.specs.declared.command.Command.TheVariants.{Bad}
+use Rattle.commands.specs.Groups.{long_command}
 use Rattle.commands.specs.Words.{IsNextWord}
 
 four : (address a b c d : Option ℕ) (more : Option (List ℕ)) → patch_command address (byte_before a (byte_before b (byte_before c (byte_before d more)))) ≡ Bad

@@ -2,7 +2,8 @@
 
 ghost use Rattle.std.specs.Prelude.{◌≡◌, ◌≤◌, ◌∷◌, ◌++◌, [], MatchOption, codes, drop, false, length, replicate, take};
 ghost use Rattle.std.specs.Str.{bytes_eq};
-ghost use Rattle.model.specs.Commands.{address_of, asm_command, bytes_of, command_of, decimal_of, dis_command, from_1_to, input_command, irq_command, long_command, mem_command, most_steps, number_command, pair_command, patch_command, plain_command, set_command, triple_command, unspaced, words_of};
+ghost use Rattle.model.specs.Commands.{address_of, asm_command, bytes_of, command_of, decimal_of, dis_command, from_1_to, input_command, irq_command, mem_command, most_steps, number_command, patch_command, set_command, unspaced, words_of};
+ghost use Rattle.commands.specs.Groups.{long_command, pair_command, plain_command, triple_command};
 
 use crate::numbers::{address_of, byte_of, number_up_to};
 use crate::words::{next_word, unspaced};
@@ -10,7 +11,7 @@ use model::{Command, Setting};
 
 /// What a line asks for, its end taken off (profile). A line of more than 255 bytes is bad as a
 /// whole.
-#[tactic(auto, unfolding(model::specs::Commands::command_of, model::specs::Commands::command_of_words))]
+#[tactic(auto, using(crate::proofs::Rows::plain_row, crate::proofs::Rows::long_row), unfolding(model::specs::Commands::command_of))]
 pub fn parse(line: &[u8]) -> Command
     ensures { result ≡ command_of line.now }
 {
@@ -46,7 +47,7 @@ fn is_text(word: &[u8], text: &[u8]) -> bool
 }
 
 /// A command of one word.
-#[tactic(auto, unfolding(model::specs::Commands::plain_command))]
+#[tactic(auto, unfolding(crate::specs::Groups::plain_command))]
 fn plain_command(word: &[u8]) -> Command
     ensures { result ≡ plain_command word.now }
 {
@@ -70,7 +71,7 @@ fn plain_command(word: &[u8]) -> Command
 }
 
 /// A command of two words, but for `in`: the IRQ line's level, a number or an address.
-#[tactic(auto, unfolding(model::specs::Commands::pair_command))]
+#[tactic(auto, unfolding(crate::specs::Groups::pair_command))]
 fn pair_command(word: &[u8], value: &[u8]) -> Command
     requires { bytes_eq word.now (codes "in") ≡ false }
     ensures { result ≡ pair_command word.now value.now }
@@ -193,7 +194,7 @@ fn input_command(line: &[u8]) -> Command
 }
 
 /// A command of three words, but for `in`.
-#[tactic(auto, unfolding(model::specs::Commands::triple_command))]
+#[tactic(auto, unfolding(crate::specs::Groups::triple_command))]
 fn triple_command(word: &[u8], second: &[u8], third: &[u8]) -> Command
     requires { bytes_eq word.now (codes "in") ≡ false }
     ensures { result ≡ triple_command word.now second.now third.now }
@@ -212,7 +213,7 @@ fn triple_command(word: &[u8], second: &[u8], third: &[u8]) -> Command
 }
 
 /// A command of four words or more, but for `in`: a patch of two bytes or three.
-#[tactic(auto, unfolding(model::specs::Commands::long_command))]
+#[tactic(auto, unfolding(crate::specs::Groups::long_command))]
 fn long_command(word: &[u8], second: &[u8], third: &[u8], fourth: &[u8], rest: &[u8]) -> Command
     requires { bytes_eq word.now (codes "in") ≡ false }
     ensures { result ≡ long_command word.now second.now (third.now ∷ fourth.now ∷ words_of rest.now) }

@@ -1,18 +1,19 @@
 //! The numbers of a command line.
 
-ghost use Rattle.std.specs.Prelude.{◌≡◌, ◌≤◌, length};
-ghost use Rattle.model.specs.Commands.{address_of, byte_of, decimal_from, decimal_of, digit_of, from_1_to, hex_value};
+ghost use Rattle.std.specs.Prelude.{◌≡◌, ◌≤◌, length, IfSome};
+ghost use Rattle.model.specs.Digits.{decimal_number, decimal_value, hex_value};
+ghost use Rattle.model.specs.Commands.{address_of, byte_of, decimal_of, from_1_to};
 
-/// The value of a hex digit in either letter case, and 16 for any other byte.
-fn hex_value(digit: u8) -> u8
-    ensures value { result ≡ hex_value digit }
-    ensures within { result ≤ 16 }
+/// What a hex digit stands for, in either letter case, or `None` for any other byte.
+fn hex_value(byte: u8) -> Option<u8>
+    ensures value { result ≡ hex_value byte }
+    ensures within { IfSome result (λ digit. digit ≤ 15) }
 {
-    match digit {
-        b'0'..=b'9' => digit - b'0',
-        b'A'..=b'F' => digit - b'A' + 10,
-        b'a'..=b'f' => digit - b'a' + 10,
-        _ => 16,
+    match byte {
+        b'A'..=b'F' => Some(byte - 55),
+        b'a'..=b'f' => Some(byte - 87),
+        b'0'..=b'9' => Some(byte - 48),
+        _ => None,
     }
 }
 
@@ -23,11 +24,11 @@ pub fn address_of(word: &[u8]) -> Option<u16>
     let [a, b, c, d] = word else {
         return None;
     };
-    let (a, b, c, d) = (hex_value(*a), hex_value(*b), hex_value(*c), hex_value(*d));
-    if a == 16 || b == 16 || c == 16 || d == 16 {
-        return None;
-    }
-    Some(a as u16 * 4096 + b as u16 * 256 + c as u16 * 16 + d as u16)
+    let a = hex_value(*a)? as u16;
+    let b = hex_value(*b)? as u16;
+    let c = hex_value(*c)? as u16;
+    let d = hex_value(*d)? as u16;
+    Some(((a * 16 + b) * 16 + c) * 16 + d)
 }
 
 /// The byte that exactly two hex digits write (profile).
@@ -37,35 +38,30 @@ pub fn byte_of(word: &[u8]) -> Option<u8>
     let [a, b] = word else {
         return None;
     };
-    let (a, b) = (hex_value(*a), hex_value(*b));
-    if a == 16 || b == 16 {
-        return None;
-    }
+    let a = hex_value(*a)?;
+    let b = hex_value(*b)?;
     Some(a * 16 + b)
 }
 
-/// The value of a decimal digit, and 10 for any other byte.
-fn digit_value(byte: u8) -> u8
-    ensures value { result ≡ digit_of byte }
-    ensures within { result ≤ 10 }
+/// What a decimal digit stands for, or `None` for any other byte.
+fn decimal_value(byte: u8) -> Option<u8>
+    ensures value { result ≡ decimal_value byte }
+    ensures within { IfSome result (λ digit. digit ≤ 9) }
 {
     match byte {
-        b'0'..=b'9' => byte - b'0',
-        _ => 10,
+        b'0'..=b'9' => Some(byte - 48),
+        _ => None,
     }
 }
 
 /// The number that at most seven digits write, or `None` where a byte is no digit (profile).
 pub fn digits(word: &[u8]) -> Option<u32>
     requires { length word.now ≤ 7 }
-    ensures { result ≡ decimal_from 0 word.now }
+    ensures { result ≡ decimal_number word.now }
 {
     let mut value = 0u32;
     for byte in word {
-        let digit = digit_value(*byte);
-        if digit == 10 {
-            return None;
-        }
+        let digit = decimal_value(*byte)?;
         value = value * 10 + digit as u32;
     }
     Some(value)

@@ -9,7 +9,7 @@ use Rattle.model.specs.Table.{Entry, row_at, find_row, table, documented, added}
 use Rattle.model.specs.Step.{step, attempted, executed, fetched, stores}
 use Rattle.model.specs.Event.{no_regs, no_flags, reset_of, reset_state}
 use Rattle.model.specs.Lines.{lines_from, lines_of}
-use Rattle.model.specs.Commands.{command_of, command_of_words, plain_command, pair_command, triple_command, long_command, set_command}
+use Rattle.model.specs.Commands.{command_of, command_of_words, set_command}
 use Rattle.model.specs.Text.{register_line, memory_row, memory_rows, spaced_bytes}
 use Rattle.model.specs.Transcript.{refused_text, fault_line}
 use Rattle.model.specs.declared.registers.Regs.{Regs}
@@ -291,51 +291,51 @@ cut_lines = refl
 
 -- commands
 command_regs : command_of (codes "  regs ") ≡ command.Regs
-unfolding command_of command_of_words plain_command
+unfolding command_of command_of_words
 command_regs = refl
 
 command_mem : command_of (codes "mem 01fb 01FD") ≡ command.Mem 0x01FB 0x01FD
-unfolding command_of command_of_words triple_command
+unfolding command_of command_of_words
 command_mem = refl
 
 command_mem_backwards : command_of (codes "mem 0300 0200") ≡ command.Bad
-unfolding command_of command_of_words triple_command
+unfolding command_of command_of_words
 command_mem_backwards = refl
 
 command_set : command_of (codes "set P 30") ≡ command.Set (setting.P 0x30)
-unfolding command_of command_of_words triple_command set_command
+unfolding command_of command_of_words set_command
 command_set = refl
 
 command_patch : command_of (codes "patch 0200 4c 00 02") ≡ command.Patch 0x0200 (0x4C ∷ 0 ∷ 2 ∷ []) 3
-unfolding command_of command_of_words long_command
+unfolding command_of command_of_words
 command_patch = refl
 
 command_patch_of_four : command_of (codes "patch 0200 01 02 03 04") ≡ command.Bad
-unfolding command_of command_of_words long_command
+unfolding command_of command_of_words
 command_patch_of_four = refl
 
 command_small_register : command_of (codes "set a 01") ≡ command.Bad
-unfolding command_of command_of_words triple_command set_command
+unfolding command_of command_of_words set_command
 command_small_register = refl
 
 command_irq : command_of (codes "irq 1") ≡ command.Irq true
-unfolding command_of command_of_words pair_command
+unfolding command_of command_of_words
 command_irq = refl
 
 command_irq_of_two : command_of (codes "irq 2") ≡ command.Bad
-unfolding command_of command_of_words pair_command
+unfolding command_of command_of_words
 command_irq_of_two = refl
 
 command_in : command_of (codes "in 41 0d") ≡ command.Input (0x41 ∷ 0x0D ∷ 0 ∷ 0 ∷ 0 ∷ 0 ∷ 0 ∷ 0 ∷ 0 ∷ 0 ∷ 0 ∷ 0 ∷ 0 ∷ 0 ∷ 0 ∷ 0 ∷ []) 2
-unfolding command_of command_of_words triple_command
+unfolding command_of command_of_words
 command_in = refl
 
 command_in_of_17 : command_of (codes "in 00 01 02 03 04 05 06 07 08 09 0A 0B 0C 0D 0E 0F 10") ≡ command.Bad
-unfolding command_of command_of_words long_command
+unfolding command_of command_of_words
 command_in_of_17 = refl
 
 command_upper_case : command_of (codes "STEP") ≡ command.Bad
-unfolding command_of command_of_words plain_command
+unfolding command_of command_of_words
 command_upper_case = refl
 
 -- replies

@@ -11,7 +11,7 @@ use model::Profile;
 use std::alloc::{AllocError, Global};
 
 /// At most so many rows of memory from an address on, none of which begins past a last address.
-#[tactic(auto, using(crate::proofs::Turns::behind, crate::proofs::Turns::no_row))]
+#[tactic(auto, using(crate::proofs::RowByRow::behind, crate::proofs::RowByRow::no_row))]
 fn push_rows(
     out: &mut Vec<u8>,
     profile: Profile,

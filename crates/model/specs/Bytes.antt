@@ -2,6 +2,7 @@
 use Rattle.std.specs.Prelude.{◌≡◌, ℕ, zero, suc, ◌+◌, ◌-◌, ◌/◌, ◌%◌, nat_lt, nat_le, ℤ, pos, negsuc, ◌-ℤ◌, Bool, false, ◌||◌, ◌&&◌, if◌then◌else◌, List, [], ◌∷◌, ◌++◌, length, map, Option, Some, None, Result, Ok, Err}
 use Rattle.std.specs.List.{flat_map}
 use Rattle.std.specs.Int.Signed.{lt_z}
+pub use Rattle.model.specs.Arithmetic.{modulo}
 use Rattle.model.specs.State.{Map, is_port}
 use Rattle.model.specs.Image.{has_byte, with_bytes}
 use Rattle.model.specs.FaultNames.{source_fault_number}
@@ -17,11 +18,6 @@ use Rattle.model.specs.declared.source_fault.AsmFaultKind.{AsmFaultKind}
 use Rattle.model.specs.declared.source_fault.AsmFaultKind.TheVariants.{UndefinedName, ByteRange, WordRange, BranchRange, PastEnd, Overlap, PortAddress, ValueExprRange, ValueDivideByZero}
 
 -- ---- values
-
--- A number modulo another: what is left above the next lower multiple.
-abbrev pub modulo : ℤ → ℕ → ℕ
-modulo (pos n) m = n % m
-modulo (negsuc n) m = m - 1 - n % m
 
 -- A value within bounds, or the kind of fault that it is.
 abbrev pub within : ℤ → ℤ → AsmFaultKind → Result ℤ ExprFault → Result ℤ AsmFaultKind

@@ -1,6 +1,7 @@
 -- What a command line asks for. Source: profile.
 use Rattle.std.specs.Prelude.{ℕ, ◌+◌, ◌-◌, ◌*◌, Bool, true, false, List, [], ◌∷◌, ◌++◌, length, take, nat_lt, nat_le, ◌==◌, ◌&&◌, ◌||◌, if◌then◌else◌, codes, replicate, Option, Some, None}
 use Rattle.std.specs.Str.{bytes_eq}
+use Rattle.model.specs.Digits.{hex_number, decimal_number}
 use Rattle.model.specs.declared.command.Command.{Command}
 use Rattle.model.specs.declared.command.Command.TheVariants.{Regs, Step, Mem, Out, Set, Patch, Reset, Irq, Nmi, Input, Run, Back, Break, Unbreak, Watch, Unwatch, Breaks, Dis, Asm, Quit, Nothing, Bad}
 use Rattle.model.specs.declared.event.Setting.{Setting}
@@ -40,25 +41,13 @@ rest_of line = behind_word (unspaced line)
 
 -- ---- numbers
 
--- The value of a hex digit in either letter case, and 16 for any other byte.
-abbrev pub hex_value : ℕ → ℕ
-hex_value d =
-    if nat_le 48 d && nat_le d 57 then d - 48
-    else if nat_le 65 d && nat_le d 70 then d - 65 + 10
-    else if nat_le 97 d && nat_le d 102 then d - 97 + 10
-    else 16
-
 -- The address that exactly four hex digits write.
 abbrev pub address_of : List ℕ → Option ℕ
-address_of (a ∷ b ∷ c ∷ d ∷ []) =
-    if hex_value a == 16 || hex_value b == 16 || hex_value c == 16 || hex_value d == 16 then None
-    else Some (hex_value a * 4096 + hex_value b * 256 + hex_value c * 16 + hex_value d)
-address_of other = None
+address_of word = if length word == 4 then hex_number word else None
 
 -- The byte that exactly two hex digits write.
 abbrev pub byte_of : List ℕ → Option ℕ
-byte_of (a ∷ b ∷ []) = if hex_value a == 16 || hex_value b == 16 then None else Some (hex_value a * 16 + hex_value b)
-byte_of other = None
+byte_of word = if length word == 2 then hex_number word else None
 
 abbrev pub byte_before : Option ℕ → Option (List ℕ) → Option (List ℕ)
 byte_before (Some b) (Some bytes) = Some (b ∷ bytes)
@@ -70,18 +59,9 @@ abbrev pub bytes_of : List (List ℕ) → Option (List ℕ)
 bytes_of [] = Some []
 bytes_of (w ∷ ws) = byte_before (byte_of w) (bytes_of ws)
 
--- The value of a decimal digit, and 10 for any other byte.
-abbrev pub digit_of : ℕ → ℕ
-digit_of byte = if nat_le 48 byte && nat_le byte 57 then byte - 48 else 10
-
--- The number that decimal digits write behind those of another number.
-unfoldable pub decimal_from : ℕ → List ℕ → Option ℕ
-decimal_from number [] = Some number
-decimal_from number (byte ∷ bytes) = if digit_of byte == 10 then None else decimal_from (number * 10 + digit_of byte) bytes
-
 -- The number that 1 to 7 decimal digits write, leading zeros among them.
 unfoldable pub decimal_of : List ℕ → Option ℕ
-decimal_of word = if nat_le 1 (length word) && nat_le (length word) 7 then decimal_from 0 word else None
+decimal_of word = if nat_le 1 (length word) && nat_le (length word) 7 then decimal_number word else None
 
 -- A number that is at least 1 and no more than a highest one.
 abbrev pub from_1_to : ℕ → Option ℕ → Option ℕ
@@ -89,18 +69,6 @@ from_1_to highest (Some number) = if nat_le 1 number && nat_le number highest th
 from_1_to highest None = None
 
 -- ---- commands
-
--- A command of one word.
-unfoldable pub plain_command : List ℕ → Command
-plain_command w =
-    if bytes_eq w (codes "regs") then Regs
-    else if bytes_eq w (codes "step") then Step
-    else if bytes_eq w (codes "reset") then Reset
-    else if bytes_eq w (codes "nmi") then Nmi
-    else if bytes_eq w (codes "out") then Out
-    else if bytes_eq w (codes "breaks") then Breaks
-    else if bytes_eq w (codes "quit") then Quit
-    else Bad
 
 -- The bytes from one address to another, which is at least as high.
 abbrev pub mem_command : Option ℕ → Option ℕ → Command
@@ -136,6 +104,11 @@ patch_command (Some address) (Some bytes) = patch_at address bytes
 patch_command (Some address) None = Bad
 patch_command None bytes = Bad
 
+-- The words behind `patch`: an address, and one for each byte.
+abbrev pub patch_words : List (List ℕ) → Command
+patch_words [] = Bad
+patch_words (a ∷ ws) = patch_command (address_of a) (bytes_of ws)
+
 -- Sixteen zeros.
 abbrev pub no_input : List ℕ
 no_input = 0 ∷ 0 ∷ 0 ∷ 0 ∷ 0 ∷ 0 ∷ 0 ∷ 0 ∷ 0 ∷ 0 ∷ 0 ∷ 0 ∷ 0 ∷ 0 ∷ 0 ∷ 0 ∷ []
@@ -152,6 +125,11 @@ abbrev pub input_command : Option (List ℕ) → Command
 input_command (Some bytes) = if nat_le (length bytes) 16 then Input (take 16 (bytes ++ no_input)) (length bytes) else Bad
 input_command None = Bad
 
+-- The words behind `in`: one for each byte, and at least one.
+abbrev pub input_words : List (List ℕ) → Command
+input_words [] = Bad
+input_words (a ∷ ws) = input_command (bytes_of (a ∷ ws))
+
 -- A command with a number, if the word writes one.
 abbrev pub number_command : (ℕ → Command) → Option ℕ → Command
 number_command command (Some number) = command number
@@ -161,48 +139,60 @@ number_command command None = Bad
 abbrev pub most_steps : ℕ
 most_steps = 1000000
 
--- A command of two words.
-unfoldable pub pair_command : List ℕ → List ℕ → Command
-pair_command w a =
-    if bytes_eq w (codes "irq") then irq_command a
-    else if bytes_eq w (codes "in") then input_command (bytes_of (a ∷ []))
-    else if bytes_eq w (codes "run") then number_command Run (from_1_to most_steps (decimal_of a))
-    else if bytes_eq w (codes "back") then number_command Back (from_1_to most_steps (decimal_of a))
-    else if bytes_eq w (codes "break") then number_command Break (address_of a)
-    else if bytes_eq w (codes "unbreak") then number_command Unbreak (address_of a)
-    else if bytes_eq w (codes "watch") then number_command Watch (address_of a)
-    else if bytes_eq w (codes "unwatch") then number_command Unwatch (address_of a)
-    else Bad
-
 -- At most so many instructions as text, from an address on.
 abbrev pub dis_command : Option ℕ → Option ℕ → Command
 dis_command (Some address) (Some count) = Dis address count
 dis_command (Some address) None = Bad
 dis_command None count = Bad
 
--- A command of three words.
-unfoldable pub triple_command : List ℕ → List ℕ → List ℕ → Command
-triple_command w a b =
-    if bytes_eq w (codes "mem") then mem_command (address_of a) (address_of b)
-    else if bytes_eq w (codes "set") then set_command a b
-    else if bytes_eq w (codes "patch") then patch_command (address_of a) (bytes_of (b ∷ []))
-    else if bytes_eq w (codes "in") then input_command (bytes_of (a ∷ b ∷ []))
-    else if bytes_eq w (codes "dis") then dis_command (address_of a) (from_1_to 256 (decimal_of b))
-    else Bad
+-- ---- one row for each command
 
--- A command of more than three words.
-unfoldable pub long_command : List ℕ → List ℕ → List (List ℕ) → Command
-long_command w a ws =
-    if bytes_eq w (codes "patch") then patch_command (address_of a) (bytes_of ws)
-    else if bytes_eq w (codes "in") then input_command (bytes_of (a ∷ ws))
-    else Bad
+-- The words behind a command's name: none, one, or two. With any others the command is bad.
+abbrev pub with_none : Command → List (List ℕ) → Command
+with_none command [] = command
+with_none command (a ∷ ws) = Bad
 
+abbrev pub with_one : (List ℕ → Command) → List (List ℕ) → Command
+with_one command (a ∷ []) = command a
+with_one command ws = Bad
+
+abbrev pub with_two : (List ℕ → List ℕ → Command) → List (List ℕ) → Command
+with_two command (a ∷ b ∷ []) = command a b
+with_two command ws = Bad
+
+-- Each command's name, and what it asks for with the words behind it.
+abbrev pub commands : List (List ℕ × (List (List ℕ) → Command))
+commands =
+    (codes "regs", with_none Regs)
+    ∷ (codes "step", with_none Step)
+    ∷ (codes "reset", with_none Reset)
+    ∷ (codes "nmi", with_none Nmi)
+    ∷ (codes "out", with_none Out)
+    ∷ (codes "breaks", with_none Breaks)
+    ∷ (codes "quit", with_none Quit)
+    ∷ (codes "irq", with_one irq_command)
+    ∷ (codes "in", input_words)
+    ∷ (codes "run", with_one (λ a. number_command Run (from_1_to most_steps (decimal_of a))))
+    ∷ (codes "back", with_one (λ a. number_command Back (from_1_to most_steps (decimal_of a))))
+    ∷ (codes "break", with_one (λ a. number_command Break (address_of a)))
+    ∷ (codes "unbreak", with_one (λ a. number_command Unbreak (address_of a)))
+    ∷ (codes "watch", with_one (λ a. number_command Watch (address_of a)))
+    ∷ (codes "unwatch", with_one (λ a. number_command Unwatch (address_of a)))
+    ∷ (codes "mem", with_two (λ a b. mem_command (address_of a) (address_of b)))
+    ∷ (codes "set", with_two set_command)
+    ∷ (codes "patch", patch_words)
+    ∷ (codes "dis", with_two (λ a b. dis_command (address_of a) (from_1_to 256 (decimal_of b))))
+    ∷ []
+
+-- What the row with a name asks for.
+abbrev pub command_named : List (List ℕ × (List (List ℕ) → Command)) → List ℕ → List (List ℕ) → Command
+command_named [] name ws = Bad
+command_named (row ∷ rows) name ws = if bytes_eq name row.0 then row.1 ws else command_named rows name ws
+
+-- What words ask for: the first is a command's name.
 unfoldable pub command_of_words : List (List ℕ) → Command
 command_of_words [] = Nothing
-command_of_words (w ∷ []) = plain_command w
-command_of_words (w ∷ a ∷ []) = pair_command w a
-command_of_words (w ∷ a ∷ b ∷ []) = triple_command w a b
-command_of_words (w ∷ a ∷ b ∷ c ∷ ws) = long_command w a (b ∷ c ∷ ws)
+command_of_words (w ∷ ws) = command_named commands w ws
 
 -- ---- assembly
 

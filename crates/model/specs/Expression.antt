@@ -4,6 +4,7 @@
 use Rattle.std.specs.Prelude.{◌≡◌, ℕ, suc, ◌+◌, ◌-◌, ◌*◌, ◌^◌, ◌≤◌, ℤ, pos, ◌==◌, nat_lt, nat_le, if◌then◌else◌, List, [], ◌∷◌, ◌++◌, length, slice_get, Option, Some, None}
 use Rattle.std.specs.Str.{byte}
 use Rattle.std.specs.Option.{option_map, option_and_then}
+pub use Rattle.model.specs.Digits.{digit_value}
 use Rattle.model.specs.declared.expression.TokenKind.{TokenKind}
 use Rattle.model.specs.declared.expression.TokenKind.TheVariants.{Word, Directive, Number, Char, Str, Symbol}
 use Rattle.model.specs.declared.expression.Operator.{Operator}
@@ -21,10 +22,6 @@ pub data Term : Type 0 where
   high : Term → Term
 
 -- ---- single tokens
-
--- What a digit stands for, in either letter case.
-abbrev pub digit_value : ℕ → ℕ
-digit_value b = if nat_le b 57 then b - 48 else if nat_le b 90 then b - 55 else b - 87
 
 -- The number that digits write behind a number.
 abbrev pub number_behind : ℕ → ℕ → List ℕ → ℕ

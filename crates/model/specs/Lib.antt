@@ -15,6 +15,7 @@ pub mod Back
 pub mod Tables
 pub mod Checkpoint
 pub mod Lines
+pub mod Digits
 pub mod Token
 pub mod Expression
 pub mod Reading

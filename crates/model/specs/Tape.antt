@@ -1,29 +1,25 @@
 -- Tape texts: what they are made of, what they denote, and the first fault of any other text.
 -- The form of the records, from `;` to checksum, is the KIM-1 manual's; what may stand between them, what each fault is and where it is told are the profile's.
-use Rattle.std.specs.Prelude.{◌≡◌, ◌≢◌, ℕ, ◌+◌, ◌*◌, ◌%◌, ◌<◌, ◌≤◌, ◌==◌, ◌||◌, Bool, List, [], ◌∷◌, ◌++◌, length, sum, take, drop, slice_index, slice_set, Option, unwrap_or, ◌⊎◌}
+use Rattle.std.specs.Prelude.{◌≡◌, ◌≢◌, ℕ, ◌+◌, ◌*◌, ◌%◌, ◌<◌, ◌≤◌, ◌==◌, ◌||◌, Bool, List, [], ◌∷◌, ◌++◌, length, sum, take, drop, slice_index, slice_set, Option, ◌⊎◌}
 use Rattle.std.specs.List.{flat_map, list_all, AllByRecursion}
-use Rattle.hex.specs.Hex.{hex_digit_value, is_hex_digit}
+use Rattle.model.specs.Digits.{digit_value, is_hex_byte}
 use Rattle.model.specs.declared.tape.TapeFaultKind.{TapeFaultKind}
 use Rattle.model.specs.declared.tape.TapeFaultKind.TheVariants.{NoRecord, BadHex, BadChecksum, PastEnd, Truncated, BadCount, JunkAfterEnd, JunkBetween, OutOfMemory, TooLong}
 use Rattle.model.specs.Image.{empty_image, with_bytes}
 
 -- ---- the digits of a record
 
--- What one hex digit stands for, in either letter case. Source: KIM-1 manual; both cases: profile.
-abbrev pub value : ℕ → ℕ
-value digit = unwrap_or (hex_digit_value digit) 0
-
 -- The bytes that pairs of digits write, the high digit first. Source: KIM-1 manual.
 abbrev pub bytes_of : List ℕ → List ℕ
 bytes_of [] = []
 bytes_of (d ∷ []) = []
-bytes_of (high ∷ low ∷ digits) = (value high * 16 + value low) ∷ bytes_of digits
+bytes_of (high ∷ low ∷ digits) = (digit_value high * 16 + digit_value low) ∷ bytes_of digits
 
 -- How many digits a record has that begins so: two for the length, four for the address, two for each byte of data, four for the checksum. Source: KIM-1 manual.
 abbrev pub needed : List ℕ → ℕ
 needed [] = 10
 needed (d ∷ []) = 10
-needed (high ∷ low ∷ digits) = 10 + 2 * (value high * 16 + value low)
+needed (high ∷ low ∷ digits) = 10 + 2 * (digit_value high * 16 + digit_value low)
 
 -- What a record claims. In an end record the length is 0 and the number of data records stands at the address's place. Source: KIM-1 manual.
 pub record Claim : Type 0 where
@@ -52,11 +48,11 @@ claim_of digits = claim_in (bytes_of digits)
 
 -- All digits of a record: hex digits, as many as the first two say. Source: KIM-1 manual.
 abbrev pub AreAllDigits : List ℕ → Type 0
-AreAllDigits digits = (list_all is_hex_digit digits ≡ Bool.true) × (length digits ≡ needed digits)
+AreAllDigits digits = (list_all is_hex_byte digits ≡ Bool.true) × (length digits ≡ needed digits)
 
 -- The first digits of a record, with at least one still to come. Source: KIM-1 manual.
 abbrev pub AreFewDigits : List ℕ → Type 0
-AreFewDigits digits = (list_all is_hex_digit digits ≡ Bool.true) × (length digits < needed digits)
+AreFewDigits digits = (list_all is_hex_byte digits ≡ Bool.true) × (length digits < needed digits)
 
 -- ---- pieces
 
@@ -137,7 +133,7 @@ pub record Denotes (text : List ℕ) (cells : List (Option ℕ)) : Type 0 where
 abbrev pub Breaks : TapeFaultKind → ℕ → List ℕ → ℕ → Type 0
 Breaks NoRecord count rest place = (count ≡ 0) × (rest ≡ []) × (place ≡ 0)
 Breaks BadHex count rest place =
-    (digits : List ℕ) × (b : ℕ) × (more : List ℕ) × (rest ≡ 59 ∷ digits ++ b ∷ more) × AreFewDigits digits × (is_hex_digit b ≡ Bool.false) × (place ≡ 1 + length digits)
+    (digits : List ℕ) × (b : ℕ) × (more : List ℕ) × (rest ≡ 59 ∷ digits ++ b ∷ more) × AreFewDigits digits × (is_hex_byte b ≡ Bool.false) × (place ≡ 1 + length digits)
 Breaks BadChecksum count rest place =
     (digits : List ℕ) × (more : List ℕ) × (rest ≡ 59 ∷ digits ++ more) × AreAllDigits digits × ((claim_of digits).sum ≢ (claim_of digits).checksum) × (place ≡ 0)
 Breaks PastEnd count rest place =
@@ -192,6 +188,6 @@ OneDigitIsRefused =
     → AllByRecursion IsPiece pieces
     → AreAllDigits digits
     → 2 ≤ k → k < length digits
-    → is_hex_digit d ≡ Bool.true
-    → value d ≢ value (slice_index digits k)
+    → is_hex_byte d ≡ Bool.true
+    → digit_value d ≢ digit_value (slice_index digits k)
     → FirstFault (front_of pieces ++ (59 ∷ slice_set digits k d ++ more)) BadChecksum (length (front_of pieces))

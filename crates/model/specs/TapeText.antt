@@ -1,38 +1,35 @@
 -- The text that is written for an image.
-use Rattle.std.specs.Prelude.{ℕ, zero, suc, ◌+◌, ◌/◌, ◌%◌, Bool, List, [], ◌∷◌, ◌++◌, length, sum, take, Option, None, Some}
-use Rattle.std.specs.List.{flat_map}
+use Rattle.std.specs.Prelude.{ℕ, ◌+◌, ◌*◌, ◌/◌, ◌%◌, ◌==◌, if◌then◌else◌, List, [], ◌∷◌, ◌++◌, length, map, sum, take, drop, Option, None, Some}
+use Rattle.std.specs.List.{flat_map, range_with_len}
 use Rattle.hex.specs.Hex.{encode_upper}
 
 -- Bytes from an address on.
 abbrev pub Stretch : Type 0
 Stretch = ℕ × List ℕ
 
--- The bytes at the front of cells, up to the first cell with nothing. Source: profile.
-abbrev pub front_run : List (Option ℕ) → List ℕ
-front_run [] = []
-front_run (None ∷ cells) = []
-front_run (Some b ∷ cells) = b ∷ front_run cells
+-- A byte at an address, before the runs behind it: it begins the first of them where that begins right behind it, else it is a run
+-- of its own. Source: profile.
+abbrev pub before_runs : ℕ → ℕ → List Stretch → List Stretch
+before_runs address b [] = (address, b ∷ []) ∷ []
+before_runs address b (run ∷ rest) = if run.0 == address + 1 then (address, b ∷ run.1) ∷ rest else (address, b ∷ []) ∷ run ∷ rest
 
--- The maximal runs of bytes in rising order, where the cells begin at an address; `within` says that the cell before is in a run that has been taken. Source: profile.
-abbrev pub runs : Bool → ℕ → List (Option ℕ) → List Stretch
-runs within address [] = []
-runs within address (None ∷ cells) = runs Bool.false (address + 1) cells
-runs Bool.true address (Some b ∷ cells) = runs Bool.true (address + 1) cells
-runs Bool.false address (Some b ∷ cells) = (address, b ∷ front_run cells) ∷ runs Bool.true (address + 1) cells
+-- The maximal runs of bytes in rising order, where the cells begin at an address. Source: profile.
+abbrev pub runs : ℕ → List (Option ℕ) → List Stretch
+runs address [] = []
+runs address (None ∷ cells) = runs (address + 1) cells
+runs address (Some b ∷ cells) = before_runs address b (runs (address + 1) cells)
 
--- The pieces of 24 bytes and the rest that bytes are cut into, where the first `taken` bytes are in a piece before. Source: profile.
-abbrev pub pieces_from : ℕ → ℕ → List ℕ → List Stretch
-pieces_from taken address [] = []
-pieces_from (suc taken) address (b ∷ bytes) = pieces_from taken (address + 1) bytes
-pieces_from zero address (b ∷ bytes) = (address, b ∷ take 23 bytes) ∷ pieces_from 23 (address + 1) bytes
+-- Piece k of a run, counted from 0: 24 of its bytes, or as many as are left. Source: profile.
+abbrev pub piece_of_run : Stretch → ℕ → Stretch
+piece_of_run run k = (run.0 + 24 * k, take 24 (drop (24 * k) run.1))
 
 -- A run cut from its start into pieces of 24 bytes and a rest. Source: profile.
 abbrev pub pieces_of_run : Stretch → List Stretch
-pieces_of_run run = pieces_from 0 run.0 run.1
+pieces_of_run run = map (λ k. piece_of_run run k) (range_with_len 0 ((length run.1 + 23) / 24))
 
 -- The pieces that an image is written in. Source: profile.
 abbrev pub written_pieces : List (Option ℕ) → List Stretch
-written_pieces cells = flat_map pieces_of_run (runs Bool.false 0 cells)
+written_pieces cells = flat_map pieces_of_run (runs 0 cells)
 
 -- A number as two bytes, the high one first. Source: KIM-1 manual.
 abbrev pub word : ℕ → List ℕ

@@ -3,6 +3,7 @@ use Rattle.std.specs.Prelude.{◌≡◌, ℕ, zero, suc, ◌+◌, ◌-◌, ◌<�
 use Rattle.std.specs.Str.{byte}
 use Rattle.std.specs.List.{list_all}
 use Rattle.std.specs.Option.{option_map}
+pub use Rattle.model.specs.Digits.{is_hex_byte}
 use Rattle.model.specs.declared.expression.TokenKind.{TokenKind}
 use Rattle.model.specs.declared.expression.TokenKind.TheVariants.{Word, Directive, Number, Char, Str, Symbol}
 
@@ -35,10 +36,6 @@ is_letter b = (nat_le (byte "A") b && nat_le b (byte "Z")) || (nat_le (byte "a")
 -- A letter, a digit or `_`.
 abbrev pub is_word_byte : ℕ → Bool
 is_word_byte b = is_letter b || is_digit b || (b == byte "_")
-
--- A hex digit, in either letter case.
-abbrev pub is_hex_byte : ℕ → Bool
-is_hex_byte b = is_digit b || (nat_le (byte "A") b && nat_le b (byte "F")) || (nat_le (byte "a") b && nat_le b (byte "f"))
 
 abbrev pub is_binary_byte : ℕ → Bool
 is_binary_byte b = (b == byte "0") || (b == byte "1")
@@ -127,7 +124,8 @@ abbrev pub found_before : ℕ → (ℕ → Tokens) → Found → Tokens
 found_before start behind None = None
 found_before start behind (Some found) = option_map (λ ts. record { kind = found.0; start = start; text = found.1 } ∷ ts) (behind (length found.1 - 1))
 
--- The tokens of some bytes of a line, from a place on; so many of the bytes still belong to the token before.
+-- The tokens of some bytes of a line, from a place on; so many of the bytes still belong to the token before. They are counted off
+-- one by one, since recursion goes to a part of its argument.
 -- Blanks may stand between tokens, and outside a character or a string `;` begins a comment, which has no tokens.
 unfoldable pub tokens_from : ℕ → ℕ → List ℕ → Tokens
 tokens_from place covered [] = Some []

@@ -3,7 +3,7 @@ use Rattle.std.proofs.Common.{◌≡◌, ℕ, ◌+◌, ◌<◌, ◌≤◌, ◌==
 use Rattle.std.specs.List.{list_all, AllByRecursion}
 use Rattle.std.proofs.lemmas.Bool.{and_parts, le-ltb, lt-ltb, le-leb, eq-eqb, ne_eqb, false≢true}
 use Rattle.std.proofs.lemmas.List.{length-append}
-use Rattle.hex.specs.Hex.{is_hex_digit}
+use Rattle.model.specs.Digits.{is_hex_byte}
 use Rattle.model.specs.declared.tape.TapeFault.{TapeFault}
 use Rattle.papertape.specs.declared.reading.Place.TheVariants.{Between, Within, After}
 use Rattle.model.specs.Image.{with_bytes}
@@ -26,11 +26,11 @@ few_before [] b es e = omega arith
 few_before (d ∷ []) b es e = omega arith
 few_before (high ∷ low ∷ ds) b es e = omega (arith, length-append ds (b ∷ es))
 
-pub step_few : (offset b : ℕ) (s : Progress) → s.place ≡ Within → is_hex_digit b ≡ true → length (s.digits ++ b ∷ []) < needed (s.digits ++ b ∷ []) → step offset s b ≡ Ok (record s { digits = s.digits ++ b ∷ [] })
+pub step_few : (offset b : ℕ) (s : Progress) → s.place ≡ Within → is_hex_byte b ≡ true → length (s.digits ++ b ∷ []) < needed (s.digits ++ b ∷ []) → step offset s b ≡ Ok (record s { digits = s.digits ++ b ∷ [] })
 unfolding step with_digit
 step_few offset b s place hex few = rw (place, hex, lt-ltb _ _ few) refl
 
-step_last : (offset b : ℕ) (s : Progress) → s.place ≡ Within → is_hex_digit b ≡ true → needed (s.digits ++ b ∷ []) ≤ length (s.digits ++ b ∷ []) → step offset s b ≡ settled s (claim_of (s.digits ++ b ∷ []))
+step_last : (offset b : ℕ) (s : Progress) → s.place ≡ Within → is_hex_byte b ≡ true → needed (s.digits ++ b ∷ []) ≤ length (s.digits ++ b ∷ []) → step offset s b ≡ settled s (claim_of (s.digits ++ b ∷ []))
 unfolding step with_digit
 step_last offset b s place hex all = rw (place, hex, le-ltb _ _ all) refl
 
@@ -42,12 +42,12 @@ bind-Ok : (r : Result Progress TapeFault) → (r >>= λ t. Ok t) ≡ r
 bind-Ok (Ok t) = refl
 bind-Ok (Err f) = refl
 
-pub digits_run : (es : List ℕ) (b offset : ℕ) (s : Progress) → s.place ≡ Within → list_all is_hex_digit (b ∷ es) ≡ true → length (s.digits ++ b ∷ es) ≡ needed (s.digits ++ b ∷ es)
+pub digits_run : (es : List ℕ) (b offset : ℕ) (s : Progress) → s.place ≡ Within → list_all is_hex_byte (b ∷ es) ≡ true → length (s.digits ++ b ∷ es) ≡ needed (s.digits ++ b ∷ es)
     → run offset s (b ∷ es) ≡ settled s (claim_of (s.digits ++ b ∷ es))
 digits_run [] b offset s place hexes len =
-    ap (λ (r : Result Progress TapeFault). r >>= λ t. Ok t) (step_last offset b s place (and_parts (is_hex_digit b) true hexes).0 (omega (arith, len))) ∙ bind-Ok _
+    ap (λ (r : Result Progress TapeFault). r >>= λ t. Ok t) (step_last offset b s place (and_parts (is_hex_byte b) true hexes).0 (omega (arith, len))) ∙ bind-Ok _
 digits_run (c ∷ es) b offset s place hexes len =
-    let h = and_parts (is_hex_digit b) (list_all is_hex_digit (c ∷ es)) hexes in
+    let h = and_parts (is_hex_byte b) (list_all is_hex_byte (c ∷ es)) hexes in
     let t : Progress = record s { digits = s.digits ++ b ∷ [] } in
     let same : (s.digits ++ b ∷ []) ++ c ∷ es ≡ s.digits ++ b ∷ c ∷ es = append_assoc s.digits (b ∷ []) (c ∷ es) in
     let whole : length ((s.digits ++ b ∷ []) ++ c ∷ es) ≡ needed ((s.digits ++ b ∷ []) ++ c ∷ es) = rw same len in

@@ -3,10 +3,10 @@ use Rattle.std.proofs.Common.{◌≡◌, ◌≢◌, ℕ, zero, suc, ◌+◌, ◌
 use Rattle.std.specs.List.{list_all, AllByRecursion}
 use Rattle.std.proofs.lemmas.Bool.{and_parts, and_from, cases_lt, cases_eq}
 use Rattle.std.proofs.lemmas.List.{length-set, length-append}
-use Rattle.hex.specs.Hex.{is_hex_digit}
+use Rattle.model.specs.Digits.{is_hex_byte, digit_value}
 use Rattle.model.specs.declared.tape.TapeFault.{TapeFault}
 use Rattle.model.specs.declared.tape.TapeFaultKind.TheVariants.{BadChecksum}
-use Rattle.model.specs.Tape.{value, bytes_of, claim_of, claim_in, AreAllDigits, Piece, IsPiece, front_of, Denotes, FirstFault, OneDigitIsRefused}
+use Rattle.model.specs.Tape.{bytes_of, claim_of, claim_in, AreAllDigits, Piece, IsPiece, front_of, Denotes, FirstFault, OneDigitIsRefused}
 use Rattle.papertape.proofs.Digits.{value_small, length-bytes_of}
 use Rattle.papertape.proofs.Texts.{sum-cons}
 use Rattle.papertape.proofs.Again.{read_again}
@@ -38,14 +38,14 @@ later x c = record {
 }
 
 -- one digit changed is one byte changed
-one_byte : (digits : List ℕ) (j d n : ℕ) → length digits ≡ 2 * n → j < length digits → value d ≢ value (slice_index digits j) → Changed (bytes_of digits) (bytes_of (set digits j d))
+one_byte : (digits : List ℕ) (j d n : ℕ) → length digits ≡ 2 * n → j < length digits → digit_value d ≢ digit_value (slice_index digits j) → Changed (bytes_of digits) (bytes_of (set digits j d))
 one_byte [] j d n len lt other = absurd (omega arith)
 one_byte (a ∷ []) j d n len lt other = absurd (omega arith)
 one_byte (a ∷ b ∷ digits) zero d n len lt other = record {
   front = [];
   back = bytes_of digits;
-  old = value a * 16 + value b;
-  new = value d * 16 + value b;
+  old = digit_value a * 16 + digit_value b;
+  new = digit_value d * 16 + digit_value b;
   was = refl;
   is = refl;
   other = (λ e. other (omega (arith, e)));
@@ -55,15 +55,15 @@ one_byte (a ∷ b ∷ digits) zero d n len lt other = record {
 one_byte (a ∷ b ∷ digits) (suc zero) d n len lt other = record {
   front = [];
   back = bytes_of digits;
-  old = value a * 16 + value b;
-  new = value a * 16 + value d;
+  old = digit_value a * 16 + digit_value b;
+  new = digit_value a * 16 + digit_value d;
   was = refl;
   is = refl;
   other = (λ e. other (omega (arith, e)));
   old_small = omega (arith, value_small a, value_small b);
   new_small = omega (arith, value_small a, value_small d);
 }
-one_byte (a ∷ b ∷ digits) (suc (suc j)) d n len lt other = later (value a * 16 + value b) (one_byte digits j d (n - 1) (omega arith) (omega arith) other)
+one_byte (a ∷ b ∷ digits) (suc (suc j)) d n len lt other = later (digit_value a * 16 + digit_value b) (one_byte digits j d (n - 1) (omega arith) (omega arith) other)
 
 -- ---- what the byte changes
 
@@ -132,12 +132,12 @@ wrong_claim n bs cs len c right now =
 
 -- ---- the digits
 
-all_set : (digits : List ℕ) (k d : ℕ) → list_all is_hex_digit digits ≡ true → is_hex_digit d ≡ true → list_all is_hex_digit (set digits k d) ≡ true
+all_set : (digits : List ℕ) (k d : ℕ) → list_all is_hex_byte digits ≡ true → is_hex_byte d ≡ true → list_all is_hex_byte (set digits k d) ≡ true
 all_set [] k d h hex = h
-all_set (x ∷ digits) zero d h hex = and_from (is_hex_digit d) (list_all is_hex_digit digits) hex (and_parts (is_hex_digit x) (list_all is_hex_digit digits) h).1
+all_set (x ∷ digits) zero d h hex = and_from (is_hex_byte d) (list_all is_hex_byte digits) hex (and_parts (is_hex_byte x) (list_all is_hex_byte digits) h).1
 all_set (x ∷ digits) (suc k) d h hex =
-    let p = and_parts (is_hex_digit x) (list_all is_hex_digit digits) h in
-    and_from (is_hex_digit x) (list_all is_hex_digit (set digits k d)) p.0 (all_set digits k d p.1 hex)
+    let p = and_parts (is_hex_byte x) (list_all is_hex_byte digits) h in
+    and_from (is_hex_byte x) (list_all is_hex_byte (set digits k d)) p.0 (all_set digits k d p.1 hex)
 
 -- what is refused behind pieces
 refused_there : (pieces : List Piece) (digits more : List ℕ) → AllByRecursion IsPiece pieces → AreAllDigits digits → (claim_of digits).sum ≢ (claim_of digits).checksum
@@ -157,7 +157,7 @@ right_there pieces digits more cells each all d =
       not_both : {A : Type 0} {x : A} {f : TapeFault} → Ok x ≡ Err f → ⊥
       not_both e = cc
 
-still_all : (digits : List ℕ) (k d : ℕ) → AreAllDigits digits → 2 ≤ k → is_hex_digit d ≡ true → AreAllDigits (set digits k d)
+still_all : (digits : List ℕ) (k d : ℕ) → AreAllDigits digits → 2 ≤ k → is_hex_byte d ≡ true → AreAllDigits (set digits k d)
 still_all [] k d all two hex = absurd (omega (arith, all.1))
 still_all (a ∷ []) k d all two hex = absurd (omega (arith, all.1))
 still_all (a ∷ b ∷ digits) zero d all two hex = absurd (omega arith)
@@ -165,7 +165,7 @@ still_all (a ∷ b ∷ digits) (suc zero) d all two hex = absurd (omega arith)
 still_all (a ∷ b ∷ digits) (suc (suc j)) d all two hex =
     (all_set (a ∷ b ∷ digits) (suc (suc j)) d all.0 hex, omega (arith, all.1, length-set digits j d))
 
-then_wrong : (digits : List ℕ) (k d : ℕ) → AreAllDigits digits → 2 ≤ k → k < length digits → value d ≢ value (slice_index digits k) → (claim_of digits).sum ≡ (claim_of digits).checksum
+then_wrong : (digits : List ℕ) (k d : ℕ) → AreAllDigits digits → 2 ≤ k → k < length digits → digit_value d ≢ digit_value (slice_index digits k) → (claim_of digits).sum ≡ (claim_of digits).checksum
     → (claim_of (set digits k d)).sum ≢ (claim_of (set digits k d)).checksum
 unfolding claim_of
 then_wrong [] k d all two lt other right = absurd (omega (arith, lt))
@@ -173,7 +173,7 @@ then_wrong (a ∷ []) k d all two lt other right = absurd (omega (arith, all.1))
 then_wrong (a ∷ b ∷ digits) zero d all two lt other right = absurd (omega arith)
 then_wrong (a ∷ b ∷ digits) (suc zero) d all two lt other right = absurd (omega arith)
 then_wrong (a ∷ b ∷ digits) (suc (suc j)) d all two lt other right =
-    let n = value a * 16 + value b in
+    let n = digit_value a * 16 + digit_value b in
     let len : length digits ≡ 2 * (4 + n) = omega (arith, all.1) in
     wrong_claim n (bytes_of digits) (bytes_of (set digits j d)) (length-bytes_of digits (4 + n) len) (one_byte digits j d (4 + n) len (omega (arith, lt)) other) right
 

@@ -3,18 +3,19 @@ use Rattle.std.proofs.Common.{◌≡◌, ℕ, zero, suc, ◌+◌, ◌*◌, ◌-�
 use Rattle.std.specs.List.{list_all}
 use Rattle.std.proofs.lemmas.Bool.{and_parts, ne_eqb, eq-eqb, cond_both, leb-true}
 use Rattle.std.proofs.lemmas.List.{length-append}
-use Rattle.hex.specs.Hex.{decode_pairs, decode_sized, digit_or_error, pair_value, hex_digit_value, is_hex_digit}
-use Rattle.model.specs.Tape.{value, bytes_of, needed, claim_of}
+use Rattle.hex.specs.Hex.{decode_pairs, decode_sized, digit_or_error, pair_value, hex_digit_value}
+use Rattle.model.specs.Digits.{is_hex_byte, digit_value}
+use Rattle.model.specs.Tape.{bytes_of, needed, claim_of}
 
 some_value : (c i : ℕ) (o : Option ℕ) → is_some o ≡ true → digit_or_error c i o ≡ Ok (unwrap_or o 0)
 some_value c i (Some v) h = refl
 some_value c i None h = absurd cc
 
-pair_of : (high low i : ℕ) → is_hex_digit high ≡ true → is_hex_digit low ≡ true → pair_value high low i ≡ Ok (value high * 16 + value low)
+pair_of : (high low i : ℕ) → is_hex_byte high ≡ true → is_hex_byte low ≡ true → pair_value high low i ≡ Ok (digit_value high * 16 + digit_value low)
 pair_of high low i h l =
     rw (some_value high i (hex_digit_value high) h, some_value low (i + 1) (hex_digit_value low) l) refl
 
-pub decode_pairs-digits : (i : ℕ) (digits : List ℕ) (n : ℕ) → length digits ≡ 2 * n → list_all is_hex_digit digits ≡ true → decode_pairs i digits ≡ Ok (bytes_of digits)
+pub decode_pairs-digits : (i : ℕ) (digits : List ℕ) (n : ℕ) → length digits ≡ 2 * n → list_all is_hex_byte digits ≡ true → decode_pairs i digits ≡ Ok (bytes_of digits)
 unfolding decode_pairs
 decode_pairs-digits i [] n len h = refl
 decode_pairs-digits i (d ∷ []) n len h = absurd (omega arith)
@@ -23,7 +24,7 @@ decode_pairs-digits i (high ∷ low ∷ digits) n len h =
     let q = and_parts _ _ p.1 in
     rw (pair_of high low i p.0 q.0, decode_pairs-digits (i + 2) digits (n - 1) (omega arith) q.1) refl
 
-pub decode_sized-digits : (digits : List ℕ) (n : ℕ) → length digits ≡ 2 * n → list_all is_hex_digit digits ≡ true → decode_sized digits n ≡ Ok (bytes_of digits)
+pub decode_sized-digits : (digits : List ℕ) (n : ℕ) → length digits ≡ 2 * n → list_all is_hex_byte digits ≡ true → decode_sized digits n ≡ Ok (bytes_of digits)
 decode_sized-digits digits n len h =
     let even : length digits % 2 ≡ 0 = omega arith in
     let half : length digits / 2 ≡ n = omega arith in
@@ -34,7 +35,7 @@ length-bytes_of [] n len = omega arith
 length-bytes_of (d ∷ []) n len = absurd (omega arith)
 length-bytes_of (high ∷ low ∷ digits) n len = let e = length-bytes_of digits (n - 1) (omega arith) in omega (arith, e)
 
-pub value_small : (d : ℕ) → value d ≤ 15
+pub value_small : (d : ℕ) → digit_value d ≤ 15
 value_small d =
     cond_both (leb 65 d && leb d 70) (Some (d - 55)) (cond (leb 97 d && leb d 102) (Some (d - 87)) (cond (leb 48 d && leb d 57) (Some (d - 48)) None)) (λ (o : Option ℕ). unwrap_or o 0 ≤ 15)
     (λ e. let p = leb-true d 70 (and_parts (leb 65 d) (leb d 70) e).1 in omega (arith, p))

@@ -3,7 +3,7 @@ use Rattle.std.proofs.Common.{◌≡◌, ◌≢◌, ℕ, ◌+◌, ◌<◌, min, 
 use Rattle.std.specs.List.{list_all}
 use Rattle.std.proofs.lemmas.Bool.{and_parts, lt-leb, eq-eqb, ne_eqb}
 use Rattle.std.proofs.lemmas.List.{length-append, append-nil}
-use Rattle.hex.specs.Hex.{is_hex_digit}
+use Rattle.model.specs.Digits.{is_hex_byte}
 use Rattle.model.specs.declared.tape.TapeFault.{TapeFault}
 use Rattle.model.specs.declared.tape.TapeFaultKind.{TapeFaultKind}
 use Rattle.model.specs.declared.tape.TapeFaultKind.TheVariants as kinds
@@ -31,10 +31,10 @@ answer_fault n s rest more f e =
     ap (λ (r : Result Progress TapeFault). r >>= λ u. finished (n + length (rest ++ more)) u) (run-append rest more n s ∙ ap (λ (r : Result Progress TapeFault). r >>= λ u. run (n + length rest) u more) e)
 
 -- some of the digits of a record
-few_run : (es : List ℕ) (n : ℕ) (s : Progress) → s.place ≡ Within → list_all is_hex_digit es ≡ true → length (s.digits ++ es) < needed (s.digits ++ es) → run n s es ≡ Ok (record s { digits = s.digits ++ es })
+few_run : (es : List ℕ) (n : ℕ) (s : Progress) → s.place ≡ Within → list_all is_hex_byte es ≡ true → length (s.digits ++ es) < needed (s.digits ++ es) → run n s es ≡ Ok (record s { digits = s.digits ++ es })
 few_run [] n s place hex few = ap (λ (ds : List ℕ). Ok (record s { digits = ds })) (sym (append-nil s.digits))
 few_run (b ∷ es) n s place hex few =
-    let h = and_parts (is_hex_digit b) (list_all is_hex_digit es) hex in
+    let h = and_parts (is_hex_byte b) (list_all is_hex_byte es) hex in
     let t : Progress = record s { digits = s.digits ++ b ∷ [] } in
     let same : (s.digits ++ b ∷ []) ++ es ≡ s.digits ++ b ∷ es = append_assoc s.digits (b ∷ []) es in
     let all : length ((s.digits ++ b ∷ []) ++ es) < needed ((s.digits ++ b ∷ []) ++ es) = rw same few in
@@ -65,7 +65,7 @@ junk_step : (n b : ℕ) (s : Progress) → s.place ≡ Between → b ≢ 59 → 
 unfolding step
 junk_step n b s e h k = rw (e, ne_eqb b 59 h, k) refl
 
-hex_step : (n b : ℕ) (s : Progress) → s.place ≡ Within → is_hex_digit b ≡ false → step n s b ≡ fault_at kinds.BadHex n
+hex_step : (n b : ℕ) (s : Progress) → s.place ≡ Within → is_hex_byte b ≡ false → step n s b ≡ fault_at kinds.BadHex n
 unfolding step
 hex_step n b s e h = rw (e, h) refl
 

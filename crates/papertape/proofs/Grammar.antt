@@ -3,7 +3,7 @@ use Rattle.std.proofs.Common.{◌≡◌, ℕ, ◌+◌, ◌<◌, ◌==◌, min, l
 use Rattle.std.specs.List.{list_all, AllByRecursion}
 use Rattle.std.proofs.lemmas.Bool.{and_from, ltb-true, ltb-false, leb-true, leb-false, eqb-true, eqb-false, cases_Bool}
 use Rattle.std.proofs.lemmas.List.{length-append, append-nil}
-use Rattle.hex.specs.Hex.{is_hex_digit}
+use Rattle.model.specs.Digits.{is_hex_byte}
 use Rattle.model.specs.declared.tape.TapeFault.{TapeFault}
 use Rattle.papertape.specs.declared.reading.Place.{Place}
 use Rattle.papertape.specs.declared.reading.Place.TheVariants.{Between, Within, After}
@@ -108,13 +108,13 @@ settled_sound text s b digits pieces front at spelled all =
           ])
     ]
 
-digit_sound : (text : List ℕ) (s : Progress) (b : ℕ) (pieces : List Piece) → Front pieces s → text ≡ front_of pieces ++ (59 ∷ s.digits) → AreFewDigits s.digits → s.start ≡ length (front_of pieces) → s.place ≡ Within → is_hex_digit b ≡ true
+digit_sound : (text : List ℕ) (s : Progress) (b : ℕ) (pieces : List Piece) → Front pieces s → text ≡ front_of pieces ++ (59 ∷ s.digits) → AreFewDigits s.digits → s.start ≡ length (front_of pieces) → s.place ≡ Within → is_hex_byte b ≡ true
     → Sound text b (with_digit s b)
 unfolding with_digit
 digit_sound text s b pieces front spelled few at place hex =
     let digits : List ℕ = s.digits ++ b ∷ [] in
     let more : text ++ b ∷ [] ≡ front_of pieces ++ (59 ∷ digits) = ap (λ (t : List ℕ). t ++ b ∷ []) spelled ∙ longer (front_of pieces) s.digits b in
-    let hexes : list_all is_hex_digit digits ≡ true = list_all-append is_hex_digit s.digits (b ∷ []) few.0 (and_from (is_hex_digit b) true hex refl) in
+    let hexes : list_all is_hex_byte digits ≡ true = list_all-append is_hex_byte s.digits (b ∷ []) few.0 (and_from (is_hex_byte b) true hex refl) in
     elim (cases_Bool (ltb (length digits) (needed digits))) [
       | inl t ↦ rw t (rw place (pieces, record { each = front.each; cells = front.cells; count = front.count }, more, (hexes, ltb-true _ _ t), at))
       | inr f ↦ rw f (settled_sound text s b digits pieces front at more (hexes, just_needed s.digits b few.1 (ltb-false _ _ f)))
@@ -141,7 +141,7 @@ step_in_sound text s b Between place (pieces, front, spelled, none) =
       ])
     ]
 step_in_sound text s b Within place (pieces, front, spelled, few, at) =
-    elim (cases_Bool (is_hex_digit b)) [
+    elim (cases_Bool (is_hex_byte b)) [
       | inl h ↦ rw h (digit_sound text s b pieces front spelled few at place h)
       | inr n ↦ rw n (λ more. record {
         pieces = pieces;

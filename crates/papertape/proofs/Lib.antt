@@ -5,6 +5,7 @@ pub mod Again
 pub mod Answers
 pub mod Cuts
 pub mod Lines
+pub mod Stretches
 pub mod Runs
 pub mod Ahead
 pub mod Written

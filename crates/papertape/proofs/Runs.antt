@@ -1,7 +1,8 @@
 -- The writer's cuts are the pieces of the maximal runs.
-use Rattle.std.proofs.Common.{◌≡◌, ℕ, zero, suc, ◌+◌, min, true, false, List, [], ◌∷◌, ◌++◌, length, take, Option, Some, None, refl, ap, ◌∙◌, arith}
+use Rattle.std.proofs.Common.{◌≡◌, ℕ, zero, suc, ◌+◌, min, true, false, List, [], ◌∷◌, ◌++◌, length, take, Option, Some, None, refl, sym, ap, ◌∙◌, arith}
 use Rattle.std.specs.List.{flat_map}
-use Rattle.model.specs.TapeText.{Stretch, front_run, runs, pieces_from, pieces_of_run, written_pieces}
+use Rattle.model.specs.TapeText.{Stretch, runs, pieces_of_run, written_pieces}
+use Rattle.papertape.proofs.Stretches.{front_run, runs_behind, pieces_behind, pieces_within, runs_are, pieces_are}
 use Rattle.papertape.specs.Writing.{front_bytes, cuts}
 
 front_taken : (n : ℕ) (cells : List (Option ℕ)) → front_bytes n cells ≡ take n (front_run cells)
@@ -17,13 +18,13 @@ front_count (suc n) (None ∷ cells) = omega arith
 front_count (suc n) (Some b ∷ cells) = let h = front_count n cells in omega (arith, h)
 
 abbrev rest_of : ℕ → List (Option ℕ) → List Stretch
-rest_of address cells = flat_map pieces_of_run (runs true address cells)
+rest_of address cells = flat_map pieces_within (runs_behind true address cells)
 
 abbrev Within : List (Option ℕ) → ℕ → Type 0
-Within cells address = (covered taken : ℕ) → covered ≡ min taken (length (front_run cells)) → cuts address covered cells ≡ pieces_from taken address (front_run cells) ++ rest_of address cells
+Within cells address = (covered taken : ℕ) → covered ≡ min taken (length (front_run cells)) → cuts address covered cells ≡ pieces_behind taken address (front_run cells) ++ rest_of address cells
 
 abbrev Outside : List (Option ℕ) → ℕ → Type 0
-Outside cells address = cuts address 0 cells ≡ flat_map pieces_of_run (runs false address cells)
+Outside cells address = cuts address 0 cells ≡ flat_map pieces_within (runs_behind false address cells)
 
 -- a piece begins
 begun : (b : ℕ) (cells : List (Option ℕ)) (address : ℕ) → Within cells (address + 1) → Outside (Some b ∷ cells) address
@@ -50,4 +51,4 @@ both (Some b ∷ cells) address =
     let next = both cells (address + 1) in (went_on b cells address next.0, begun b cells address next.0)
 
 pub cuts_pieces : (cells : List (Option ℕ)) → cuts 0 0 cells ≡ written_pieces cells
-cuts_pieces cells = (both cells 0).1
+cuts_pieces cells = (both cells 0).1 ∙ ap (λ (rs : List Stretch). flat_map pieces_within rs) (sym (runs_are cells)) ∙ sym (pieces_are (runs 0 cells))

@@ -3,7 +3,7 @@ use Rattle.std.proofs.Common.{◌≡◌, ℕ, ◌+◌, ◌<◌, ◌≤◌, ltb, 
 use Rattle.std.specs.List.{list_all}
 use Rattle.std.proofs.lemmas.Bool.{and_parts, and_from, le-ltb, cond-false}
 use Rattle.std.proofs.lemmas.List.{take_more_set, length-take-le, length-set}
-use Rattle.hex.specs.Hex.{is_hex_digit}
+use Rattle.model.specs.Digits.{is_hex_byte}
 use Rattle.model.specs.Tape.{Claim, claim_of, needed}
 use Rattle.papertape.specs.Reading.{Progress, IsHeld, settled, with_digit}
 use Rattle.papertape.proofs.Digits.{needed_small}
@@ -13,7 +13,7 @@ list_all-append test [] ys h k = k
 list_all-append test (x ∷ xs) ys h k =
     let p = and_parts _ _ h in and_from (test x) (list_all test (xs ++ ys)) p.0 (list_all-append test xs ys p.1 k)
 
-pub pushed : (held b n : ℕ) (digits : List ℕ) → length digits ≡ 520 → IsHeld held digits → is_hex_digit b ≡ true → n ≡ needed (take (held + 1) (set digits held b)) → held + 1 < n → IsHeld (held + 1) (set digits held b)
+pub pushed : (held b n : ℕ) (digits : List ℕ) → length digits ≡ 520 → IsHeld held digits → is_hex_byte b ≡ true → n ≡ needed (take (held + 1) (set digits held b)) → held + 1 < n → IsHeld (held + 1) (set digits held b)
 pushed held b n digits len h hex e lt =
     let below : held < length digits = omega (arith, h.room) in
     let t : take (held + 1) (set digits held b) ≡ take held digits ++ b ∷ [] = take_more_set digits held b below in
@@ -22,7 +22,7 @@ pushed held b n digits len h hex e lt =
     record {
       room = omega (arith, small);
       few = (
-        rw t (list_all-append is_hex_digit (take held digits) (b ∷ []) h.few.0 (and_from (is_hex_digit b) true hex refl)),
+        rw t (list_all-append is_hex_byte (take held digits) (b ∷ []) h.few.0 (and_from (is_hex_byte b) true hex refl)),
         omega (arith, count),
       );
     }

@@ -3,8 +3,9 @@ use Rattle.std.proofs.Common.{◌≡◌, ℕ, zero, suc, ◌+◌, ◌*◌, ◌/�
 use Rattle.std.specs.List.{list_all, flat_map, AllByRecursion}
 use Rattle.std.proofs.lemmas.Bool.{and_from}
 use Rattle.std.proofs.lemmas.List.{length-append}
-use Rattle.hex.specs.Hex.{encode_with, encode_upper, upper_digits, is_hex_digit}
+use Rattle.hex.specs.Hex.{encode_with, encode_upper, upper_digits}
 use Rattle.hex.proofs.HexLemmas.{IsDigits-upper_digits, length-encode_with}
+use Rattle.model.specs.Digits.{is_hex_byte}
 use Rattle.model.specs.Image.{empty_image, with_bytes}
 use Rattle.model.specs.Tape.{Claim, claim_in, claim_of, bytes_of, needed, AreAllDigits, Piece, gap, record_of, IsPiece, front_of, count_of, with_records, Denotes}
 use Rattle.std.specs.List.{All}
@@ -19,12 +20,12 @@ use Rattle.papertape.proofs.Again.{read_again}
 use Rattle.papertape.proofs.Cuts.{whole_write, front_short}
 
 -- what is written in capital digits
-hex_of-encode : (bs : List ℕ) → AreBytes bs → list_all is_hex_digit (encode_upper bs) ≡ true
+hex_of-encode : (bs : List ℕ) → AreBytes bs → list_all is_hex_byte (encode_upper bs) ≡ true
 unfolding encode_with
 hex_of-encode [] h = refl
 hex_of-encode (b ∷ bs) h =
-    let hi : is_hex_digit (slice_index upper_digits (b / 16)) ≡ true = rw (IsDigits-upper_digits (b / 16) (omega (arith, h.0))) refl in
-    let lo : is_hex_digit (slice_index upper_digits (b % 16)) ≡ true = rw (IsDigits-upper_digits (b % 16) (omega arith)) refl in
+    let hi : is_hex_byte (slice_index upper_digits (b / 16)) ≡ true = rw (IsDigits-upper_digits (b / 16) (omega (arith, h.0))) refl in
+    let lo : is_hex_byte (slice_index upper_digits (b % 16)) ≡ true = rw (IsDigits-upper_digits (b % 16) (omega arith)) refl in
     and_from _ _ hi (and_from _ _ lo (hex_of-encode bs h.1))
 
 -- the first byte of a record says how many digits there are

@@ -1,6 +1,6 @@
 -- What a reader has seen of a tape, and how the next byte changes it.
 use Rattle.std.specs.Prelude.{◌≡◌, ℕ, ◌+◌, ◌<◌, ◌==◌, nat_lt, nat_le, if◌then◌else◌, List, [], ◌∷◌, ◌++◌, length, take, ◌⊎◌, Option, Result, Ok, Err}
-use Rattle.hex.specs.Hex.{is_hex_digit}
+use Rattle.model.specs.Digits.{is_hex_byte}
 use Rattle.model.specs.declared.tape.TapeFault.{TapeFault}
 use Rattle.model.specs.declared.tape.TapeFaultKind.{TapeFaultKind}
 use Rattle.model.specs.declared.tape.TapeFaultKind.TheVariants.{NoRecord, BadHex, BadChecksum, PastEnd, Truncated, BadCount, JunkAfterEnd, JunkBetween}
@@ -52,7 +52,7 @@ with_digit s b =
 -- one byte more, by where the reader stands
 abbrev pub step_in : ℕ → Progress → ℕ → Place → Result Progress TapeFault
 step_in offset s b Between = if b == 59 then Ok (record s { place = Within; start = offset; digits = [] }) else (if is_skipped b then Ok s else fault_at JunkBetween offset)
-step_in offset s b Within = if is_hex_digit b then with_digit s b else fault_at BadHex offset
+step_in offset s b Within = if is_hex_byte b then with_digit s b else fault_at BadHex offset
 step_in offset s b After = if is_skipped b then Ok s else fault_at JunkAfterEnd offset
 
 -- one byte more, at an offset: the state behind it, or the fault

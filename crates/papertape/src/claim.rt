@@ -2,7 +2,7 @@
 
 ghost use Rattle.std.specs.Prelude.{◌≡◌, ◌+◌, ◌*◌, length, true, slice_index};
 ghost use Rattle.std.specs.List.{list_all};
-ghost use Rattle.hex.specs.Hex.{is_hex_digit};
+ghost use Rattle.model.specs.Digits.{is_hex_byte};
 ghost use Rattle.model.specs.Tape.{AreAllDigits, needed, bytes_of, claim_of, claim_in};
 
 use crate::record::total;
@@ -32,14 +32,14 @@ impl Model for Claim {
 }
 
 pub fn is_hex_digit(byte: u8) -> bool
-    ensures { result ≡ is_hex_digit byte }
+    ensures { result ≡ is_hex_byte byte }
 {
     byte.is_ascii_hexdigit()
 }
 
 /// The bytes that the digits write.
 fn decode(digits: &[u8], bytes: &mut [u8])
-    requires hex { list_all is_hex_digit digits.now ≡ true }
+    requires hex { list_all is_hex_byte digits.now ≡ true }
     requires room { length digits.now ≡ 2 * length bytes.old }
     ensures { bytes.new ≡ bytes_of digits.now }
 {
@@ -48,7 +48,7 @@ fn decode(digits: &[u8], bytes: &mut [u8])
 
 /// How many digits the record has that begins so.
 pub fn needed(digits: &[u8]) -> usize
-    requires { list_all is_hex_digit digits.now ≡ true }
+    requires { list_all is_hex_byte digits.now ≡ true }
     ensures { result ≡ needed digits.now }
 {
     if digits.len() < 2 {

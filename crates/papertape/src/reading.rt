@@ -2,7 +2,7 @@
 
 ghost use Rattle.std.specs.Prelude.{◌≡◌, ◌≢◌, [], true, false};
 ghost use Rattle.std.specs.List.{list_all};
-ghost use Rattle.hex.specs.Hex.{is_hex_digit};
+ghost use Rattle.model.specs.Digits.{is_hex_byte};
 ghost use Rattle.model.specs.Tape.{is_skipped};
 
 use crate::claim::{Claim, is_hex_digit, needed};
@@ -113,7 +113,7 @@ impl Reading {
 
     #[tactic(auto, unfolding(crate::specs::Reading::with_digit))]
     fn with_digit(&mut self, byte: u8) -> Result<(), TapeFault>
-        requires { is_hex_digit byte ≡ true }
+        requires { is_hex_byte byte ≡ true }
         ensures { Gives result self.new (with_digit self.old byte) }
     {
         self.digits[self.held] = byte;

@@ -1,6 +1,7 @@
 -- Bytes, addresses and cycle counts stay in range.
 use Rattle.std.proofs.Common.{◌≡◌, ℕ, ◌+◌, ◌*◌, ◌/◌, ◌%◌, ◌<◌, ◌≤◌, zero, suc, Bool, true, false, List, [], ◌∷◌, map, Option, Some, None, refl, sym, ap, ◌∙◌, arith, get_or}
-use Rattle.std.specs.Prelude.{slice_index, nat_le}
+use Rattle.std.specs.Prelude.{slice_index, nat_le, not, ℤ, pos, negsuc, ◌+ℤ◌, ◌-ℤ◌, if◌then◌else◌}
+use Rattle.std.specs.Int.Signed.{lt_z}
 use Rattle.std.specs.Int.Bits.{and_lt}
 use Rattle.std.specs.List.{range_with_len}
 use Rattle.std.proofs.lemmas.Nat.{or_lt, xor_lt}
@@ -9,7 +10,7 @@ use Rattle.std.proofs.lemmas.List.Elements.{All-head, All-tail}
 use Rattle.std.proofs.lemmas.List.FromFn.{get_or-map-range_with_len}
 use Rattle.model.specs.State.{Bus, State, AreBytes, IsBus, AreRegs}
 use Rattle.model.specs.Operand.{word_at, word_in_page, jump_target, place_of, next_byte}
-use Rattle.model.specs.Arithmetic.{bit, adc, sbc, asl, rol, lsr, ror, with_carry}
+use Rattle.model.specs.Arithmetic.{bit, modulo, high_part, sbc_low, adc, sbc, asl, rol, lsr, ror, with_carry}
 use Rattle.model.specs.Effect.{status, modified, loaded, store_value, moved, pulled}
 use Rattle.model.specs.Table.{row_at, find_row, table, documented, added}
 use Rattle.model.specs.declared.registers.Regs.{Regs}
@@ -86,10 +87,16 @@ unfolding adc
 adc_small a m c true = omega arith
 adc_small a m c false = omega arith
 
-sbc_small : (a m : ℕ) (c d : Bool) → (Rattle.model.specs.Arithmetic.sbc a m c d).value < 256
+modulo_small : (z : ℤ) → modulo z 256 < 256
+modulo_small (pos n) = omega arith
+modulo_small (negsuc n) = omega arith
+
+sbc_small : (a m : ℕ) (c d : Bool) → (sbc a m c d).value < 256
 unfolding sbc
-sbc_small a m c true = omega arith
-sbc_small a m c false = omega arith
+sbc_small a m c true =
+    let difference = pos (high_part a) -ℤ pos (high_part m) +ℤ sbc_low a m c in
+    modulo_small (if lt_z difference (pos 0) then difference -ℤ pos 0x60 else difference)
+sbc_small a m c false = modulo_small (pos a -ℤ pos m -ℤ pos (bit (not c)))
 
 pub modified_small : (op : ModifyOp) (m : ℕ) (c : Bool) → m < 256 → (modified op m c).value < 256
 unfolding modified asl rol lsr ror

@@ -1,5 +1,6 @@
 -- What the words that stand for values mean.
-use Rattle.model.specs.Commands.{address_of, decimal_from}
+use Rattle.model.specs.Digits.{decimal_number}
+use Rattle.model.specs.Commands.{address_of}
 use Rattle.model.specs.declared.instruction.Profile.{Profile}
 use Rattle.model.specs.declared.instruction.Profile.TheVariants.{C, N}
 use Rattle.std.specs.Prelude.{ℕ, List, length, take, drop, get_or, nat_lt, nat_le, ◌==◌, ◌&&◌, if◌then◌else◌, Option, Some, None, option_map}
@@ -14,7 +15,7 @@ abbrev pub history_of : List ℕ → Option ℕ
 history_of word =
     if length word == 0 then None
     else if nat_lt 5 (length word) then None
-    else at_most_65536 (decimal_from 0 word)
+    else at_most_65536 (decimal_number word)
 
 -- both addresses, where there are both
 abbrev pub both : Option ℕ → Option ℕ → Option (ℕ × ℕ)

@@ -1,6 +1,6 @@
 use Rattle.std.proofs.Common.{◌∙◌, ap, sym, Some}
 use Rattle.asm_expr.specs.Trees.{view}
-use Rattle.asm_line.proofs.Behind.{lexemes_behind}
+use Rattle.asm_line.proofs.TokensLeft.{lexemes_behind}
 use Rattle.asm_line.proofs.expressions.expression.Goals as goal
 
 pub returns : goal.returns

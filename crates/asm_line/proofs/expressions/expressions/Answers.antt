@@ -6,8 +6,8 @@ use Rattle.asm_expr.specs.Trees.{view}
 use Rattle.model.specs.Reading.{expression_of}
 use Rattle.model.specs.Line.{expressions_of, list_within}
 use Rattle.asm_line.specs.Lists.{goes_on}
-use Rattle.asm_line.proofs.Behind.{lexemes_behind, passed_on, fault_read}
-use Rattle.asm_line.proofs.Rest.{none_read, last_read, more_read, wrong_read, zero_read, before}
+use Rattle.asm_line.proofs.TokensLeft.{lexemes_behind, passed_on, fault_read}
+use Rattle.asm_line.proofs.CommaLists.{none_read, last_read, more_read, wrong_read, zero_read, before}
 use Rattle.asm_line.proofs.expressions.expressions.Goals as goal
 
 pub returns-in_err-value : goal.returns-in_err-value

@@ -4,7 +4,7 @@ use Rattle.asm_expr.specs.Lexemes.{lexemes}
 use Rattle.asm_expr.specs.Trees.{view}
 use Rattle.model.specs.Reading.{expression_of}
 use Rattle.model.specs.Line.{expressions_of, list_within}
-use Rattle.asm_line.proofs.Rest.{before}
+use Rattle.asm_line.proofs.CommaLists.{before}
 use Rattle.asm_line.proofs.expressions.expressions.Given as goal
 
 abbrev pub invariant-loop : goal.invariant-loop

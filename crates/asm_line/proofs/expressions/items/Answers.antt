@@ -5,8 +5,8 @@ use Rattle.asm_expr.specs.Lexemes.{lexemes}
 use Rattle.model.specs.Line.{item_of, items_of, list_within}
 use Rattle.asm_line.specs.Lists.{goes_on}
 use Rattle.asm_line.specs.Seen.{seen_item}
-use Rattle.asm_line.proofs.Behind.{lexemes_behind, passed_on, fault_read}
-use Rattle.asm_line.proofs.Rest.{none_read, last_read, more_read, wrong_read, zero_read, before}
+use Rattle.asm_line.proofs.TokensLeft.{lexemes_behind, passed_on, fault_read}
+use Rattle.asm_line.proofs.CommaLists.{none_read, last_read, more_read, wrong_read, zero_read, before}
 use Rattle.asm_line.proofs.expressions.items.Goals as goal
 
 pub returns-in_err-value : goal.returns-in_err-value

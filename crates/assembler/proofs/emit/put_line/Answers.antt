@@ -2,7 +2,7 @@ use Rattle.std.proofs.Common.{sym, ◌∙◌}
 use Rattle.model.specs.Names.{number_in}
 use Rattle.assembler.specs.Kept.{placed_of}
 use Rattle.assembler.proofs.Gathers.{put_right, put_faulty}
-use Rattle.assembler.proofs.Room.{line_room}
+use Rattle.assembler.proofs.BytesFitSize.{line_room}
 use Rattle.assembler.proofs.emit.put_line.Goals as goal
 
 pub returns-in-Some : goal.returns-in-Some

@@ -1,6 +1,6 @@
 use Rattle.std.proofs.Common.{sym, ◌∙◌, true-eqb, arith}
 use Rattle.assembler.specs.Kept.{found_of}
-use Rattle.assembler.proofs.Turns.{starts, goes_on, done}
+use Rattle.assembler.proofs.FirstPass.{starts, goes_on, done}
 use Rattle.assembler.proofs.first_pass.lay_out.Goals as goal
 
 pub loop-rest-init : goal.loop-rest-init

@@ -2,7 +2,7 @@ use Rattle.std.proofs.Common.{◌≡◌, ◌+◌, ◌*◌, ◌≤◌, length}
 use Rattle.model.specs.Source.{nothing_fixed, read_lines}
 use Rattle.assembler.specs.Found.{found_lines, nothing_found}
 use Rattle.assembler.specs.Kept.{found_of}
-use Rattle.assembler.proofs.Turns.{left}
+use Rattle.assembler.proofs.FirstPass.{left}
 use Rattle.assembler.proofs.first_pass.lay_out.Given as goal
 
 abbrev pub invariant-loop-rest : goal.invariant-loop-rest

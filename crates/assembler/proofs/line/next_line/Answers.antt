@@ -1,6 +1,6 @@
 use Rattle.std.proofs.Common.{◌≡◌, sym, ◌∙◌, Some, None}
 use Rattle.std.specs.Prelude.{position}
-use Rattle.assembler.proofs.Cuts.{is_end, lines_of-cut, lines_of-uncut}
+use Rattle.assembler.proofs.CutAtLineFeed.{is_end, lines_of-cut, lines_of-uncut}
 use Rattle.assembler.proofs.line.next_line.Goals as goal
 
 pub returns-in-Some-clause-cut : goal.returns-in-Some-clause-cut

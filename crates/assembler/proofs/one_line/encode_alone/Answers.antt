@@ -2,7 +2,7 @@ use Rattle.std.proofs.Common.{ℕ, List, sym, ◌∙◌, ap, Ok}
 use Rattle.model.specs.Layout.{Placed}
 use Rattle.asm_line.specs.Seen.{seen}
 use Rattle.assembler.specs.Sites.{content_by}
-use Rattle.assembler.proofs.Alone.{alone_faulty, alone_right, alone_short, same_alone}
+use Rattle.assembler.proofs.LineAlone.{alone_faulty, alone_right, alone_short, same_alone}
 use Rattle.assembler.proofs.one_line.encode_alone.Goals as goal
 
 pub returns-in-Some-clause-bytes : goal.returns-in-Some-clause-bytes

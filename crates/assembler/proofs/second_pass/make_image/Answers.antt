@@ -1,5 +1,5 @@
 use Rattle.model.specs.Names.{number_in}
-use Rattle.assembler.proofs.Puts.{puts_on, puts_error}
+use Rattle.assembler.proofs.SecondPass.{puts_on, puts_error}
 use Rattle.assembler.proofs.second_pass.make_image.Goals as goal
 
 pub returns-in-Err : goal.returns-in-Err

@@ -1,5 +1,5 @@
 use Rattle.std.proofs.Common.{◌≡◌, ℕ, List, ◌++◌, ap, ◌∙◌, sym, append-nil, arith}
-use Rattle.disassembly.proofs.Turns.{window, row_within, turn, behind, no_row}
+use Rattle.disassembly.proofs.RowByRow.{window, row_within, turn, behind, no_row}
 use Rattle.disassembly.proofs.rows.push_rows.Goals as goal
 
 pub loop-left-preserved : goal.loop-left-preserved

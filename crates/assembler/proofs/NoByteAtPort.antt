@@ -8,7 +8,7 @@ use Rattle.model.specs.Image.{empty_image, has_byte, with_bytes}
 use Rattle.model.specs.Value.{Numbers}
 use Rattle.model.specs.Bytes.{has_port, Makes, bytes_of}
 use Rattle.model.specs.Layout.{Placed, size_of}
-use Rattle.assembler.proofs.Room.{line_size, placed_right}
+use Rattle.assembler.proofs.BytesFitSize.{line_size, placed_right}
 
 abbrev Cells : Type 0
 Cells = List (Option ℕ)

@@ -9,7 +9,7 @@ use Rattle.model.specs.declared.source_fault.AsmFaultKind.{AsmFaultKind}
 use Rattle.model.specs.declared.source_fault.AsmFaultKind.TheVariants.{PastEnd}
 use Rattle.assembler.specs.Gathering.{Gathering, nothing_gathered, gathered, noted}
 use Rattle.assembler.proofs.Gathers.{both, gathered_is, lowest-append, lower_nothing}
-use Rattle.assembler.proofs.Room.{line_size}
+use Rattle.assembler.proofs.BytesFitSize.{line_size}
 use Rattle.std.proofs.lemmas.Bool.{le-leb, lt-leb, ltb-false, ltb-true}
 
 -- past the end, or not
