@@ -5,7 +5,7 @@ use Rattle.std.proofs.lemmas.Bool.{cases_Bool, false≢true, and_parts, eqb-true
 use Rattle.model.specs.declared.expression.TokenKind.{TokenKind}
 use Rattle.model.specs.declared.expression.TokenKind.TheVariants.{Word, Directive, Number, Char, Str, Symbol}
 use Rattle.model.specs.Digits.{is_hex_byte}
-use Rattle.model.specs.Token.{Found, run_of, begins, is_printable, is_symbol_byte, is_word_byte, is_letter, is_digit, is_binary_byte, is_string_byte, word_at, number_at, directive_at, char_at, string_at, token_at}
+use Rattle.model.specs.Token.{Found, run_of, begins, is_printable, is_symbol_byte, is_word_byte, is_letter, is_digit, is_binary_byte, is_string_byte, word_token, number_token, directive_token, char_token, string_token, token_at}
 
 -- some bytes, at least one, that others begin with
 pub record Front (bytes text : List ℕ) : Type 0 where
@@ -32,7 +32,7 @@ at_text kind bytes text found h front =
 not_found : (bytes : List ℕ) (found : Result) → None ≡ Some found → Front bytes found.1
 not_found bytes found h = absurd cc
 
-word_front : (bytes : List ℕ) (found : Result) → 0 < length (run_of is_word_byte bytes) → word_at bytes ≡ Some found → Front bytes found.1
+word_front : (bytes : List ℕ) (found : Result) → 0 < length (run_of is_word_byte bytes) → word_token bytes ≡ Some found → Front bytes found.1
 word_front bytes found some h =
     elim (cases_Bool (nat_le (length (run_of is_word_byte bytes)) 31)) [
       | inl t ↦
@@ -41,7 +41,7 @@ word_front bytes found some h =
       | inr f ↦ let k = rw f at h in not_found bytes found k
     ]
 
-number_front : (mark : List ℕ) (passes : ℕ → Bool) (bytes : List ℕ) (found : Result) → number_at mark passes bytes ≡ Some found → Front (mark ++ bytes) found.1
+number_front : (mark : List ℕ) (passes : ℕ → Bool) (bytes : List ℕ) (found : Result) → number_token mark passes bytes ≡ Some found → Front (mark ++ bytes) found.1
 number_front mark passes bytes found h =
     let digits : List ℕ = run_of passes bytes in
     elim (cases_Bool (length digits == 0)) [
@@ -60,7 +60,7 @@ number_front mark passes bytes found h =
           ]
     ]
 
-directive_front : (bytes : List ℕ) (found : Result) → directive_at bytes ≡ Some found → Front (46 ∷ bytes) found.1
+directive_front : (bytes : List ℕ) (found : Result) → directive_token bytes ≡ Some found → Front (46 ∷ bytes) found.1
 directive_front bytes found h =
     let letters : List ℕ = run_of is_letter bytes in
     elim (cases_Bool (length letters == 0)) [
@@ -74,7 +74,7 @@ directive_front bytes found h =
           })
     ]
 
-char_front : (bytes : List ℕ) (found : Result) → char_at bytes ≡ Some found → Front (39 ∷ bytes) found.1
+char_front : (bytes : List ℕ) (found : Result) → char_token bytes ≡ Some found → Front (39 ∷ bytes) found.1
 char_front [] found h = not_found (39 ∷ []) found h
 char_front (b ∷ []) found h = not_found (39 ∷ b ∷ []) found h
 char_front (b ∷ c ∷ bytes) found h =
@@ -93,7 +93,7 @@ begins_quote : (bytes : List ℕ) → begins (λ b. b == 34) bytes ≡ true → 
 begins_quote [] h = absurd (false≢true h)
 begins_quote (b ∷ bytes) h = ap (λ (x : ℕ). x ∷ bytes) (eqb-true b 34 h)
 
-string_front : (bytes : List ℕ) (found : Result) → string_at bytes ≡ Some found → Front (34 ∷ bytes) found.1
+string_front : (bytes : List ℕ) (found : Result) → string_token bytes ≡ Some found → Front (34 ∷ bytes) found.1
 string_front bytes found h =
     let inside : List ℕ = run_of is_string_byte bytes in
     let rest : List ℕ = drop (length inside) bytes in
@@ -131,11 +131,11 @@ symbol_front b bytes found h =
 
 -- a token that begins with a mark, or with none
 other_front : (b : ℕ) (bytes : List ℕ) (found : Result)
-    → (if b == 36 then number_at (36 ∷ []) is_hex_byte bytes
-    else if b == 37 then number_at (37 ∷ []) is_binary_byte bytes
-    else if b == 46 then directive_at bytes
-    else if b == 39 then char_at bytes
-    else if b == 34 then string_at bytes
+    → (if b == 36 then number_token (36 ∷ []) is_hex_byte bytes
+    else if b == 37 then number_token (37 ∷ []) is_binary_byte bytes
+    else if b == 46 then directive_token bytes
+    else if b == 39 then char_token bytes
+    else if b == 34 then string_token bytes
     else if is_symbol_byte b then Some (Symbol, b ∷ [])
     else None) ≡ Some found
     → Front (b ∷ bytes) found.1
@@ -170,11 +170,11 @@ unfolding token_at
 token_front [] found h = not_found [] found h
 token_front (b ∷ bytes) found h =
     elim (cases_Bool (is_letter b)) [
-      | inl t ↦ word_front (b ∷ bytes) found (letter_run b bytes t) (if_true (is_letter b) (word_at (b ∷ bytes)) _ (Some found) t h)
+      | inl t ↦ word_front (b ∷ bytes) found (letter_run b bytes t) (if_true (is_letter b) (word_token (b ∷ bytes)) _ (Some found) t h)
       | inr f ↦
           let k = rw f at h in
           elim (cases_Bool (is_digit b)) [
-            | inl t ↦ number_front [] is_digit (b ∷ bytes) found (if_true (is_digit b) (number_at [] is_digit (b ∷ bytes)) _ (Some found) t k)
+            | inl t ↦ number_front [] is_digit (b ∷ bytes) found (if_true (is_digit b) (number_token [] is_digit (b ∷ bytes)) _ (Some found) t k)
             | inr f ↦ let m = rw f at k in other_front b bytes found m
           ]
     ]

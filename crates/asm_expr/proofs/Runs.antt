@@ -7,7 +7,7 @@ use Rattle.std.proofs.lemmas.List.Folds.{length-prefix_len}
 use Rattle.std.proofs.lemmas.List.{take_all, drop-drop}
 use Rattle.model.specs.declared.expression.TokenKind.TheVariants.{Word, Directive, Str}
 use Rattle.model.specs.Digits.{is_hex_byte}
-use Rattle.model.specs.Token.{run_of, begins, is_word_byte, is_letter, is_digit, is_binary_byte, is_string_byte, word_at, number_at, directive_at, string_at, token_at}
+use Rattle.model.specs.Token.{run_of, begins, is_word_byte, is_letter, is_digit, is_binary_byte, is_string_byte, word_token, number_token, directive_token, string_token, token_at}
 use Rattle.asm_expr.specs.Lexing.{number_in}
 
 -- a run is the bytes at the front that pass
@@ -33,22 +33,22 @@ run_length : (passes : ℕ → Bool) (bytes : List ℕ) (n : ℕ) → n ≡ pref
 run_length passes bytes n e = ap (λ m. length (take m bytes)) e ∙ length-prefix_len passes bytes ∙ sym e
 
 -- words
-word_is : (bytes : List ℕ) (n : ℕ) → n ≡ prefix_len is_word_byte bytes → word_at bytes ≡ (if nat_le n 31 then Some (Word, take n bytes) else None)
+word_is : (bytes : List ℕ) (n : ℕ) → n ≡ prefix_len is_word_byte bytes → word_token bytes ≡ (if nat_le n 31 then Some (Word, take n bytes) else None)
 word_is bytes n e = rw (run_is is_word_byte bytes n e, run_length is_word_byte bytes n e) refl
 
-pub word_short : (bytes : List ℕ) (n : ℕ) → n ≡ prefix_len is_word_byte bytes → n ≤ 31 → Some (Word, take n bytes) ≡ word_at bytes
+pub word_short : (bytes : List ℕ) (n : ℕ) → n ≡ prefix_len is_word_byte bytes → n ≤ 31 → Some (Word, take n bytes) ≡ word_token bytes
 word_short bytes n e le = sym (word_is bytes n e ∙ (rw (le-leb n 31 le) refl))
 
-pub word_long : (bytes : List ℕ) (n : ℕ) → n ≡ prefix_len is_word_byte bytes → 31 < n → None ≡ word_at bytes
+pub word_long : (bytes : List ℕ) (n : ℕ) → n ≡ prefix_len is_word_byte bytes → 31 < n → None ≡ word_token bytes
 word_long bytes n e lt = sym (word_is bytes n e ∙ (rw (lt-leb n 31 lt) refl))
 
 -- numbers
-decimal_is : (passes : ℕ → Bool) (bytes : List ℕ) (n : ℕ) → n ≡ prefix_len passes bytes → number_at [] passes bytes ≡ number_in 0 n bytes
+decimal_is : (passes : ℕ → Bool) (bytes : List ℕ) (n : ℕ) → n ≡ prefix_len passes bytes → number_token [] passes bytes ≡ number_in 0 n bytes
 decimal_is passes bytes n e =
     let z : 0 + n ≡ n = omega arith in
     rw (run_is passes bytes n e, run_length passes bytes n e, z) refl
 
-marked_is : (passes : ℕ → Bool) (mark : ℕ) (bytes : List ℕ) (n : ℕ) → n ≡ prefix_len passes bytes → number_at (mark ∷ []) passes bytes ≡ number_in 1 n (mark ∷ bytes)
+marked_is : (passes : ℕ → Bool) (mark : ℕ) (bytes : List ℕ) (n : ℕ) → n ≡ prefix_len passes bytes → number_token (mark ∷ []) passes bytes ≡ number_in 1 n (mark ∷ bytes)
 marked_is passes mark bytes n e =
     let s : 1 + n ≡ suc n = omega arith in
     rw (run_is passes bytes n e, run_length passes bytes n e, s) refl
@@ -66,7 +66,7 @@ unfolding token_at
 token_binary bytes rest n e count = rw e (sym (marked_is is_binary_byte 37 rest n count))
 
 -- directives
-pub directive_is : (bytes : List ℕ) (n : ℕ) → bytes ≡ 46 ∷ drop 1 bytes → n ≡ prefix_len is_letter (drop 1 bytes) → (n ≡ 0 → ⊥) → Some (Directive, take (n + 1) bytes) ≡ directive_at (drop 1 bytes)
+pub directive_is : (bytes : List ℕ) (n : ℕ) → bytes ≡ 46 ∷ drop 1 bytes → n ≡ prefix_len is_letter (drop 1 bytes) → (n ≡ 0 → ⊥) → Some (Directive, take (n + 1) bytes) ≡ directive_token (drop 1 bytes)
 directive_is bytes n e count some =
     let s : n + 1 ≡ suc n = omega arith in
     let text : take (suc n) bytes ≡ 46 ∷ take n (drop 1 bytes) = ap (λ (x : List ℕ). take (suc n) x) e in
@@ -80,16 +80,16 @@ quoted (b ∷ bytes) zero h = ap (λ (x : ℕ). x ∷ []) (eqb-true b 34 h)
 quoted (b ∷ bytes) (suc n) h = ap (λ (x : List ℕ). b ∷ x) (quoted bytes n h)
 
 pub string_is : (bytes : List ℕ) (n : ℕ) → bytes ≡ 34 ∷ drop 1 bytes → n ≡ prefix_len is_string_byte (drop 1 bytes) → (n ≡ 0 → ⊥) → begins (λ b. b == 34) (drop n (drop 1 bytes)) ≡ true
-    → Some (Str, take (n + 2) bytes) ≡ string_at (drop 1 bytes)
+    → Some (Str, take (n + 2) bytes) ≡ string_token (drop 1 bytes)
 string_is bytes n e count some quote =
     let s : n + 2 ≡ suc (suc n) = omega arith in
     let text : take (suc (suc n)) bytes ≡ 34 ∷ (take n (drop 1 bytes) ++ 34 ∷ []) = ap (λ (x : List ℕ). take (suc (suc n)) x) e ∙ ap (λ (x : List ℕ). 34 ∷ x) (quoted (drop 1 bytes) n quote) in
     rw (run_is is_string_byte (drop 1 bytes) n count, run_length is_string_byte (drop 1 bytes) n count, ne_eqb n 0 some, s, text, quote) refl
 
-pub string_empty : (bytes : List ℕ) (n : ℕ) → n ≡ prefix_len is_string_byte (drop 1 bytes) → n ≡ 0 → None ≡ string_at (drop 1 bytes)
+pub string_empty : (bytes : List ℕ) (n : ℕ) → n ≡ prefix_len is_string_byte (drop 1 bytes) → n ≡ 0 → None ≡ string_token (drop 1 bytes)
 string_empty bytes n count none = rw (run_is is_string_byte (drop 1 bytes) n count, run_length is_string_byte (drop 1 bytes) n count, none) refl
 
-pub string_open : (bytes : List ℕ) (n : ℕ) → n ≡ prefix_len is_string_byte (drop 1 bytes) → (n ≡ 0 → ⊥) → begins (λ b. b == 34) (drop n (drop 1 bytes)) ≡ false → None ≡ string_at (drop 1 bytes)
+pub string_open : (bytes : List ℕ) (n : ℕ) → n ≡ prefix_len is_string_byte (drop 1 bytes) → (n ≡ 0 → ⊥) → begins (λ b. b == 34) (drop n (drop 1 bytes)) ≡ false → None ≡ string_token (drop 1 bytes)
 string_open bytes n count some quote = rw (run_is is_string_byte (drop 1 bytes) n count, run_length is_string_byte (drop 1 bytes) n count, ne_eqb n 0 some, quote) refl
 
 pub behind : (n : ℕ) (bytes : List ℕ) → take (length bytes - (n + 1)) (drop (n + 1) bytes) ≡ drop n (drop 1 bytes)

@@ -51,10 +51,10 @@ token_inside line start kind text h =
     let f : Front (drop start line) text = token_front (drop start line) (kind, text) h in
     (omega (arith, f.some, length-drop start line, ap length f.spelled, length-append text f.behind), f.some)
 
-token_behind : (place b : ℕ) (bytes : List ℕ) (kind : TokenKind) (text : List ℕ) → is_blank b ≡ false → (b == 59) ≡ false → token_at (b ∷ bytes) ≡ Some (kind, text) → length text - 1 ≤ length bytes
+token_after : (place b : ℕ) (bytes : List ℕ) (kind : TokenKind) (text : List ℕ) → is_blank b ≡ false → (b == 59) ≡ false → token_at (b ∷ bytes) ≡ Some (kind, text) → length text - 1 ≤ length bytes
     → tokens_from place 0 (b ∷ bytes) ≡ option_map (λ ts. record { kind = kind; start = place; text = text } ∷ ts) (tokens_from (place + 1 + (length text - 1)) 0 (drop (length text - 1) bytes))
 unfolding tokens_from
-token_behind place b bytes kind text dark other found le = rw (dark, other, found) (ap (λ (x : Tokens). option_map (λ ts. record { kind = kind; start = place; text = text } ∷ ts) x) (covered (place + 1) (length text - 1) bytes le))
+token_after place b bytes kind text dark other found le = rw (dark, other, found) (ap (λ (x : Tokens). option_map (λ ts. record { kind = kind; start = place; text = text } ∷ ts) x) (covered (place + 1) (length text - 1) bytes le))
 
 pub token_passed : (front : List Lexeme) (line : List ℕ) (start : ℕ) (kind : TokenKind) (text : List ℕ) → start < length line → is_blank (get_or line start 0) ≡ false → (get_or line start 0 ≡ 59 → ⊥)
     → token_at (drop start line) ≡ Some (kind, text)
@@ -68,7 +68,7 @@ token_passed front line start kind text below dark semicolon found =
     let d : drop (length text - 1) (drop (start + 1) line) ≡ drop (start + length text) line = drop-drop (length text - 1) (start + 1) line ∙ ap (λ n. drop n line) p in
     sym (
     ap (λ (x : List ℕ). then_tokens front (tokens_from start 0 x)) at
-    ∙ ap (then_tokens front) (token_behind start (get_or line start 0) (drop (start + 1) line) kind text dark (ne_eqb (get_or line start 0) 59 semicolon) h (omega (arith, inside.0, length-drop (start + 1) line)))
+    ∙ ap (then_tokens front) (token_after start (get_or line start 0) (drop (start + 1) line) kind text dark (ne_eqb (get_or line start 0) 59 semicolon) h (omega (arith, inside.0, length-drop (start + 1) line)))
     ∙ then_push front t (tokens_from (start + 1 + (length text - 1)) 0 (drop (length text - 1) (drop (start + 1) line)))
     ∙ ap (λ n. then_tokens (front ++ t ∷ []) (tokens_from n 0 (drop (length text - 1) (drop (start + 1) line)))) p
     ∙ ap (λ (x : List ℕ). then_tokens (front ++ t ∷ []) (tokens_from (start + length text) 0 x)) d

@@ -1,4 +1,4 @@
--- What is left behind an expression, and that the expression is the longest.
+-- What is left after an expression, and that the expression is the longest.
 use Rattle.std.proofs.Common.{◌≡◌, ◌+◌, ◌-◌, ◌≤◌, List, ◌++◌, length, drop, Some, sym, ap, ◌∙◌, arith}
 use Rattle.std.proofs.lemmas.List.{length-append, length-map}
 use Rattle.std.proofs.Math.Seq.{drop-append_seam}

@@ -4,7 +4,7 @@ use Rattle.std.specs.Option.{option_map}
 use Rattle.model.specs.Token.{Found, Lexeme, Tokens, begins, is_word_byte}
 use Rattle.model.specs.declared.expression.TokenKind.TheVariants.{Number}
 
--- a number of so many digits, behind a mark of so many bytes
+-- a number of so many digits, after a mark of so many bytes
 abbrev pub number_in : ℕ → ℕ → List ℕ → Found
 number_in mark digits bytes =
     if digits == 0 then None

@@ -20,10 +20,10 @@ view (Binary' op p a q b) = binary op (view a) (view b)
 view (Low' p e) = low (view e)
 view (High' p e) = high (view e)
 
--- An expression, and the tokens behind it.
+-- An expression, and the tokens after it.
 abbrev pub seen : Option (Expr × Bor (List Token)) → Read
 seen r = option_map (λ p. (view p.0, lexemes p.1.now)) r
 
--- An operator, its right side, and the tokens behind it.
+-- An operator, its right side, and the tokens after it.
 abbrev pub seen_next : Option (Operator × Expr × Bor (List Token)) → Option (Operator × Term × List Lexeme)
 seen_next r = option_map (λ q. (q.0, view q.1, lexemes q.2.now)) r

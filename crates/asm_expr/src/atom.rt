@@ -3,7 +3,7 @@
 ghost use Rattle.std.specs.Prelude.{◌≡◌, ℕ, ◌≤◌};
 ghost use Rattle.std.specs.Option.{option_map};
 ghost use Rattle.model.specs.Digits.{digit_value};
-ghost use Rattle.model.specs.Expression.{atom_of, in_range, number_behind, number_of_text, operator_of, symbol_of};
+ghost use Rattle.model.specs.Expression.{atom_of, in_range, number_after, number_of_text, operator_of, symbol_of};
 ghost use Rattle.asm_expr.specs.Lexemes.{lexeme_of};
 ghost use Rattle.asm_expr.specs.Trees.{view};
 
@@ -57,7 +57,7 @@ fn digit(byte: u8) -> u8
 #[tactic(auto, using(crate::proofs::Literals::capped_end))]
 fn number_in(base: u8, digits: &[u8]) -> Option<i32>
     requires { 1 ≤ base }
-    ensures { result ≡ in_range (number_behind base 0 digits.now) }
+    ensures { result ≡ in_range (number_after base 0 digits.now) }
 {
     let mut number: u64 = 0;
     for byte in digits {

@@ -2,7 +2,7 @@
 
 ghost use Rattle.std.specs.Prelude.{◌≡◌, ◌==◌, ◌+◌, ◌<◌, ◌≤◌, ◌∷◌, true, length, drop, None, Some, IfOk, IsErrOf};
 ghost use Rattle.std.specs.List.{list_all};
-ghost use Rattle.model.specs.Token.{begins, is_source_byte, is_word_byte, word_at, directive_at, char_at, string_at, token_at, tokens_of};
+ghost use Rattle.model.specs.Token.{begins, is_source_byte, is_word_byte, word_token, directive_token, char_token, string_token, token_at, tokens_of};
 ghost use Rattle.asm_expr.specs.Lexemes.{lexemes, found_of};
 ghost use Rattle.asm_expr.specs.Lexing.{number_in};
 
@@ -20,7 +20,7 @@ const WORD_SIZE: usize = 31;
 /// A word, as long as it can be.
 #[tactic(auto, using(crate::proofs::Runs::word_short, crate::proofs::Runs::word_long))]
 fn word(bytes: &[u8]) -> Option<(TokenKind, &[u8])>
-    ensures { found_of result ≡ word_at bytes.now }
+    ensures { found_of result ≡ word_token bytes.now }
 {
     let length = word_run(bytes);
     if length > WORD_SIZE {
@@ -39,7 +39,7 @@ fn begins_in_word(bytes: &[u8]) -> bool
     }
 }
 
-/// A number of so many digits, behind a mark of so many bytes.
+/// A number of so many digits, after a mark of so many bytes.
 fn number(bytes: &[u8], mark: usize, digits: usize) -> Option<(TokenKind, &[u8])>
     requires { mark + digits ≤ length bytes.now }
     ensures { found_of result ≡ number_in mark digits bytes.now }
@@ -50,10 +50,10 @@ fn number(bytes: &[u8], mark: usize, digits: usize) -> Option<(TokenKind, &[u8])
     Some((TokenKind::Number, &bytes[..mark + digits]))
 }
 
-/// A `.` and the letters behind it.
+/// A `.` and the letters after it.
 fn directive(bytes: &[u8]) -> Option<(TokenKind, &[u8])>
     requires { bytes.now ≡ 46 ∷ drop 1 bytes.now }
-    ensures { found_of result ≡ directive_at (drop 1 bytes.now) }
+    ensures { found_of result ≡ directive_token (drop 1 bytes.now) }
 {
     let letters = letter_run(&bytes[1..]);
     if letters == 0 {
@@ -65,7 +65,7 @@ fn directive(bytes: &[u8]) -> Option<(TokenKind, &[u8])>
 /// A byte between two `'`.
 fn character(bytes: &[u8]) -> Option<(TokenKind, &[u8])>
     requires { bytes.now ≡ 39 ∷ drop 1 bytes.now }
-    ensures { found_of result ≡ char_at (drop 1 bytes.now) }
+    ensures { found_of result ≡ char_token (drop 1 bytes.now) }
 {
     match bytes {
         [_, byte, b'\'', ..] if may_be_char(*byte) => Some((TokenKind::Char, &bytes[..3])),
@@ -87,7 +87,7 @@ fn begins_with_quote(bytes: &[u8]) -> bool
 /// The bytes between two `"`.
 fn string(bytes: &[u8]) -> Option<(TokenKind, &[u8])>
     requires { bytes.now ≡ 34 ∷ drop 1 bytes.now }
-    ensures { found_of result ≡ string_at (drop 1 bytes.now) }
+    ensures { found_of result ≡ string_token (drop 1 bytes.now) }
 {
     let inside = string_run(&bytes[1..]);
     if inside == 0 || !begins_with_quote(&bytes[inside + 1..]) {

@@ -1,4 +1,8 @@
 //! Tokens and expressions of source lines.
+//!
+//! It owns the bytes of a line up to its expressions: `tokens_into` cuts a line, `parse_expr` finds the longest expression at the front of some
+//! tokens, `eval` gives its value. The lexer's loop is followed token by token in `proofs/Steps.antt`; that what is found is the grammar's is shown
+//! in both directions in `proofs/Derived.antt` and `proofs/Grammar.antt`, that it is the longest in `proofs/Longest.antt`.
 #![tactic(auto)]
 
 mod atom;

@@ -53,7 +53,7 @@ fn primary<'a, 't>(
     }
 }
 
-/// A primary, maybe behind a minus.
+/// A primary, maybe after a minus.
 #[cycle(parse)]
 fn unary<'a, 't>(
     alloc: Global,
@@ -132,7 +132,7 @@ fn next<'a, 't>(
     Ok(Some((op, right, after)))
 }
 
-/// A sum behind a `<`.
+/// A sum after a `<`.
 fn low<'a, 't>(
     alloc: Global,
     tokens: &'t [Token<'a>],
@@ -145,7 +145,7 @@ fn low<'a, 't>(
     Ok(Some((Expr::Low(Box::new(alloc, inner)?), rest)))
 }
 
-/// A sum behind a `>`.
+/// A sum after a `>`.
 fn high<'a, 't>(
     alloc: Global,
     tokens: &'t [Token<'a>],
@@ -158,7 +158,7 @@ fn high<'a, 't>(
     Ok(Some((Expr::High(Box::new(alloc, inner)?), rest)))
 }
 
-/// A sum, or one byte of it behind `<` or `>`.
+/// A sum, or one byte of it after `<` or `>`.
 #[tactic(auto, unfolding(model::specs::Reading::expression_of))]
 fn whole<'a, 't>(
     alloc: Global,
@@ -181,7 +181,7 @@ fn whole<'a, 't>(
 /// Source: profile.
 #[tactic(auto, using(crate::proofs::Whole::rest_within, crate::proofs::Whole::rest_dropped))]
 pub fn parse_expr<'a>(alloc: Global, tokens: &[Token<'a>]) -> Result<(Expr<'a>, usize), LineFault>
-    // What is read, and the tokens left behind it.
+    // What is read, and the tokens left after it.
     ensures found { IfOk result (λ p. expression_of (lexemes tokens.now) ≡ Some (view p.0, drop p.1 (lexemes tokens.now))) }
     ensures within { IfOk result (λ p. p.1 ≤ length tokens.now) }
     // No beginning is an expression.

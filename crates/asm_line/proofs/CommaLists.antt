@@ -5,7 +5,7 @@ use Rattle.std.specs.Option.{option_map, option_and_then}
 use Rattle.std.proofs.lemmas.List.{drop-drop}
 use Rattle.model.specs.Token.{Lexeme}
 use Rattle.model.specs.Reading.{is_symbol}
-use Rattle.model.specs.Line.{list_within, list_behind}
+use Rattle.model.specs.Line.{list_within, list_after}
 use Rattle.asm_line.specs.Lists.{goes_on}
 
 -- what is read of the beginning of some tokens, and the tokens after it
@@ -25,9 +25,9 @@ abbrev pub then_read : {A : Type 0} → (List Lexeme → Option (List A)) → A 
 then_read more a ts false = Some (a ∷ [])
 then_read more a ts true = option_map (λ rest. a ∷ rest) (more (drop 1 ts))
 
-list_behind_is : {A : Type 0} (more : List Lexeme → Option (List A)) (a : A) (ts : List Lexeme) → list_behind more a ts ≡ option_and_then (λ go. then_read more a ts go) (goes_on ts)
-list_behind_is more a [] = refl
-list_behind_is more a (c ∷ ts) = by (is_symbol 44 c)
+list_after_is : {A : Type 0} (more : List Lexeme → Option (List A)) (a : A) (ts : List Lexeme) → list_after more a ts ≡ option_and_then (λ go. then_read more a ts go) (goes_on ts)
+list_after_is more a [] = refl
+list_after_is more a (c ∷ ts) = by (is_symbol 44 c)
   where
     by : (t : Bool) → cond t (option_map (λ rest. a ∷ rest) (more ts)) None ≡ option_and_then (λ go. then_read more a (c ∷ ts) go) (cond t (Some true) None)
     by true = refl
@@ -55,21 +55,21 @@ pub last_read : {A : Type 0} (read : Reader A) (front : List A) (n m at taken : 
     → n ≡ suc m → read (drop at ls) ≡ Some (a, drop taken (drop at ls)) → goes_on (drop (at + taken) ls) ≡ Some false
     → before front (list_within read n (drop at ls)) ≡ Some (front ++ a ∷ [])
 unfolding list_within
-last_read read front n m at taken ls a count found last = rw (count, found, list_behind_is, taken_after, last) refl
+last_read read front n m at taken ls a count found last = rw (count, found, list_after_is, taken_after, last) refl
 
 -- one that another follows
 pub more_read : {A : Type 0} (read : Reader A) (front : List A) (n m at taken : ℕ) (ls : List Lexeme) (a : A)
     → n ≡ suc m → read (drop at ls) ≡ Some (a, drop taken (drop at ls)) → goes_on (drop (at + taken) ls) ≡ Some true
     → before front (list_within read n (drop at ls)) ≡ before (front ++ a ∷ []) (list_within read m (drop (at + taken + 1) ls))
 unfolding list_within
-more_read read front n m at taken ls a count found more = rw (count, found, list_behind_is, taken_after, more, after_comma) (one_more front a (list_within read m (drop (at + taken + 1) ls)))
+more_read read front n m at taken ls a count found more = rw (count, found, list_after_is, taken_after, more, after_comma) (one_more front a (list_within read m (drop (at + taken + 1) ls)))
 
 -- one that another token follows
 pub wrong_read : {A : Type 0} (read : Reader A) (front : List A) (n m at taken : ℕ) (ls : List Lexeme) (a : A)
     → n ≡ suc m → read (drop at ls) ≡ Some (a, drop taken (drop at ls)) → goes_on (drop (at + taken) ls) ≡ None
     → before front (list_within read n (drop at ls)) ≡ None
 unfolding list_within
-wrong_read read front n m at taken ls a count found wrong = rw (count, found, list_behind_is, taken_after, wrong) refl
+wrong_read read front n m at taken ls a count found wrong = rw (count, found, list_after_is, taken_after, wrong) refl
 
 -- none of none
 pub zero_read : {A : Type 0} (read : Reader A) (front : List A) (n : ℕ) (ts : List Lexeme) → n ≡ 0 → before front (list_within read n ts) ≡ None

@@ -16,7 +16,7 @@ use Rattle.model.specs.Mnemonics.{mnemonic_named}
 use Rattle.model.specs.Token.{Lexeme, Tokens, AreSlices, TokensAreSlices, is_source_byte, tokens_of}
 use Rattle.model.specs.Expression.{Term, Longest}
 use Rattle.model.specs.Reading.{ReadsLongest, is_symbol, expression_of}
-use Rattle.model.specs.Line.{Operand, Item, value, Statement, origin, bytes, words, words_high_first, reserve, instruction, Line, labelled, definition, list_behind, list_within, expressions_of, item_of, item_or, items_of, string_in, is_directive, directive_of, finish_alone, origin_behind, operand_of, operation_by, statement_of, whole_expression, unlabelled, word_line, line_by, line_of, line_reserves, unreserved, read_line}
+use Rattle.model.specs.Line.{Operand, Item, value, Statement, origin, bytes, words, words_high_first, reserve, instruction, Line, labelled, definition, list_after, list_within, expressions_of, item_of, item_or, items_of, string_in, is_directive, directive_of, finish_alone, origin_after, operand_of, operation_by, statement_of, whole_expression, unlabelled, word_line, line_by, line_of, line_reserves, unreserved, read_line}
 use Rattle.model.specs.Layout.{item_size, items_size}
 use Rattle.asm_line.specs.declared.fault.LineError.{LineError}
 use Rattle.asm_line.specs.declared.statement.Line as code
@@ -66,18 +66,18 @@ within_map : {A : Type 0} (n : ℕ) (x : A) (o : Option (List A)) → Within n o
 within_map n x None h = h
 within_map n x (Some xs) h = omega arith
 
-within_behind : {A : Type 0} (n : ℕ) (more : List Lexeme → Option (List A)) (x : A) (ts : List Lexeme) → ((us : List Lexeme) → Within n (more us)) → Within (suc n) (list_behind more x ts)
-within_behind n more x [] h = omega arith
-within_behind n more x (c ∷ ts) h = by (is_symbol 44 c)
+within_after : {A : Type 0} (n : ℕ) (more : List Lexeme → Option (List A)) (x : A) (ts : List Lexeme) → ((us : List Lexeme) → Within n (more us)) → Within (suc n) (list_after more x ts)
+within_after n more x [] h = omega arith
+within_after n more x (c ∷ ts) h = by (is_symbol 44 c)
   where
     by : (b : Bool) → Within (suc n) (if b then option_map (λ rest. x ∷ rest) (more ts) else None)
     by true = within_map n x (more ts) (h ts)
     by false = tt
 
 within_read : {A : Type 0} (n : ℕ) (more : List Lexeme → Option (List A)) (r : Option (A × List Lexeme)) → ((us : List Lexeme) → Within n (more us))
-    → Within (suc n) (option_and_then (λ p. list_behind more p.0 p.1) r)
+    → Within (suc n) (option_and_then (λ p. list_after more p.0 p.1) r)
 within_read n more None h = tt
-within_read n more (Some p) h = within_behind n more p.0 p.1 h
+within_read n more (Some p) h = within_after n more p.0 p.1 h
 
 list_few : {A : Type 0} (read : List Lexeme → Option (A × List Lexeme)) (n : ℕ) (ts : List Lexeme) → Within n (list_within read n ts)
 unfolding list_within
@@ -134,19 +134,19 @@ module _ (profile : Profile) (longest : ReadsLongest) where
   light_map n w i c ts None fits h = tt
   light_map n w i c ts (Some items) fits h = omega arith
 
-  light_behind : (n w : ℕ) (more : List Lexeme → Option (List Item)) (i : Item) (ts : List Lexeme) → item_size i + weight ts ≤ 1 + w → ((us : List Lexeme) → Light (n + weight us) (more us))
-      → Light (suc n + w) (list_behind more i ts)
-  light_behind n w more i [] fits h = omega arith
-  light_behind n w more i (c ∷ ts) fits h = by (is_symbol 44 c)
+  light_after : (n w : ℕ) (more : List Lexeme → Option (List Item)) (i : Item) (ts : List Lexeme) → item_size i + weight ts ≤ 1 + w → ((us : List Lexeme) → Light (n + weight us) (more us))
+      → Light (suc n + w) (list_after more i ts)
+  light_after n w more i [] fits h = omega arith
+  light_after n w more i (c ∷ ts) fits h = by (is_symbol 44 c)
     where
       by : (b : Bool) → Light (suc n + w) (if b then option_map (λ rest. i ∷ rest) (more ts) else None)
       by true = light_map n w i c ts (more ts) fits (h ts)
       by false = tt
 
   light_read : (n : ℕ) (ts : List Lexeme) (more : List Lexeme → Option (List Item)) (r : Option (Item × List Lexeme)) → ItemFits ts r → ((us : List Lexeme) → Light (n + weight us) (more us))
-      → Light (suc n + weight ts) (option_and_then (λ p. list_behind more p.0 p.1) r)
+      → Light (suc n + weight ts) (option_and_then (λ p. list_after more p.0 p.1) r)
   light_read n ts more None fits h = tt
-  light_read n ts more (Some p) fits h = light_behind n (weight ts) more p.0 p.1 fits h
+  light_read n ts more (Some p) fits h = light_after n (weight ts) more p.0 p.1 fits h
 
   items_light : (n : ℕ) (ts : List Lexeme) → Light (n + weight ts) (list_within item_of n ts)
   unfolding list_within
@@ -204,14 +204,14 @@ module _ (profile : Profile) (longest : ReadsLongest) where
       (small_if (is_directive text (codes ".RES")) (option_map reserve (whole_expression ts)) _ (small_reserve (whole_expression ts))
       (small_if (is_directive text (codes ".END")) (finish_alone ts) None (small_finish ts) tt))))
 
-  small_behind : (ts : List Lexeme) → Small (origin_behind ts)
-  small_behind [] = tt
-  small_behind (t ∷ ts) = small_if (is_symbol 61 t) (option_map origin (whole_expression ts)) None (small_origin (whole_expression ts)) tt
+  small_after : (ts : List Lexeme) → Small (origin_after ts)
+  small_after [] = tt
+  small_after (t ∷ ts) = small_if (is_symbol 61 t) (option_map origin (whole_expression ts)) None (small_origin (whole_expression ts)) tt
 
   small_operation : (kind : TokenKind) (t : Lexeme) (ts : List Lexeme) → length ts ≤ 255 → weight ts ≤ 255 → Small (operation_by profile kind t ts)
   small_operation Word t ts few light = small_named (mnemonic_named profile t.text) (operand_of ts)
   small_operation Directive t ts few light = small_directive t.text ts few light
-  small_operation Symbol t ts few light = small_if (is_symbol 42 t) (origin_behind ts) None (small_behind ts) tt
+  small_operation Symbol t ts few light = small_if (is_symbol 42 t) (origin_after ts) None (small_after ts) tt
   small_operation Number t ts few light = tt
   small_operation Char t ts few light = tt
   small_operation Str t ts few light = tt

@@ -12,7 +12,7 @@ use Rattle.model.specs.declared.line.Index.{Index}
 use Rattle.model.specs.Token.{Lexeme}
 use Rattle.model.specs.Expression.{Term, symbol_in, symbol_of, operator_for, operator_of, atom_in, Level, Derives, atom, group, plain as plain_unary, minus, single, chain, bare, low_byte, high_byte, IsExpression, OneExpression}
 use Rattle.model.specs.Reading.{ReadsLongest, is_symbol, expression_of}
-use Rattle.model.specs.Line.{Operand, direct, Item, value, Statement, Line, is_word, is_word_in, direct_behind, operand_of, list_within, item_of, item_or, string_in, directive_of, operation_by, origin_behind, statement_of, unlabelled, word_line, line_by, line_of}
+use Rattle.model.specs.Line.{Operand, direct, Item, value, Statement, Line, is_word, is_word_in, direct_after, operand_of, list_within, item_of, item_or, string_in, directive_of, operation_by, origin_after, statement_of, unlabelled, word_line, line_by, line_of}
 use Rattle.model.specs.Grammar.{IsIndex, unindexed, by_x, by_y, IsOperand, none, letter_a, after_hash, plain, after_mark, in_brackets, in_brackets_by_x, in_brackets_by_y, AreListed, last, more, IsItem, expression, quoted, IsOperation, by_mnemonic, sets_address, byte_directive, word_directive, dbyte_directive, res_directive, end_directive, IsRest, nothing_more, operation, no_label, label, defines, is_a, IsLine, EachLineIsRead}
 use Rattle.asm_line.proofs.SymbolsOutside as foreign
 use Rattle.asm_line.proofs.SymbolsOutside.{Ends, symbol_is, symbol_other, symbol_not, symbol_kind, not_a, none_is, read_before, read_whole, some_token}
@@ -85,7 +85,7 @@ index_ends unindexed = tt
 index_ends (by_x c x h k) = (44, foreign.comma, h)
 index_ends (by_y c y h k) = (44, foreign.comma, h)
 
-index_read : (marked : Bool) (e : Term) {by : Index} {us : List Lexeme} → IsIndex by us → direct_behind marked e us ≡ Some (direct marked e by)
+index_read : (marked : Bool) (e : Term) {by : Index} {us : List Lexeme} → IsIndex by us → direct_after marked e us ≡ Some (direct marked e by)
 index_read marked e unindexed = refl
 index_read marked e (by_x c x h k) = rw (symbol_is c 44 h, k) refl
 index_read marked e (by_y c y h k) = rw (symbol_is c 44 h, other_word y (codes "Y") (codes "X") refl k, k) refl
@@ -135,7 +135,7 @@ directive_line profile kind t ts e = rw e refl
 word_kind : (profile : Profile) (kind : TokenKind) (t : Lexeme) (ts : List Lexeme) → kind ≡ Word → line_by profile kind t ts ≡ word_line profile t ts
 word_kind profile kind t ts e = rw e refl
 
-star_operation : (profile : Profile) (kind : TokenKind) (t : Lexeme) (ts : List Lexeme) → kind ≡ Symbol → operation_by profile kind t ts ≡ (if is_symbol 42 t then origin_behind ts else None)
+star_operation : (profile : Profile) (kind : TokenKind) (t : Lexeme) (ts : List Lexeme) → kind ≡ Symbol → operation_by profile kind t ts ≡ (if is_symbol 42 t then origin_after ts else None)
 star_operation profile kind t ts e = rw e refl
 
 directive_operation : (profile : Profile) (kind : TokenKind) (t : Lexeme) (ts : List Lexeme) → kind ≡ Directive → operation_by profile kind t ts ≡ directive_of t.text ts

@@ -10,7 +10,7 @@ use Rattle.model.specs.Mnemonics.{mnemonic_named}
 use Rattle.model.specs.Token.{Lexeme}
 use Rattle.model.specs.Expression.{Term, IsExpression, Longest}
 use Rattle.model.specs.Reading.{ReadsLongest, is_symbol, expression_of}
-use Rattle.model.specs.Line.{Operand, absent, accumulator, immediate, direct, pointer, pointer_by_x, pointer_by_y, Item, value, string, Statement, nothing, origin, bytes, words, words_high_first, reserve, finish, instruction, is_word, is_alone, alone, whole_expression, direct_behind, pointer_behind, direct_operand, operand_of, list_behind, list_within, string_in, item_or, item_of, items_of, expressions_of, finish_alone, is_directive, directive_of, origin_behind, operation_by, statement_of, Line, labelled, definition, unlabelled, word_line, line_by, line_of}
+use Rattle.model.specs.Line.{Operand, absent, accumulator, immediate, direct, pointer, pointer_by_x, pointer_by_y, Item, value, string, Statement, nothing, origin, bytes, words, words_high_first, reserve, finish, instruction, is_word, is_alone, alone, whole_expression, direct_after, pointer_after, direct_operand, operand_of, list_after, list_within, string_in, item_or, item_of, items_of, expressions_of, finish_alone, is_directive, directive_of, origin_after, operation_by, statement_of, Line, labelled, definition, unlabelled, word_line, line_by, line_of}
 use Rattle.model.specs.Grammar.{IsIndex, unindexed, by_x, by_y, IsOperand, none, letter_a, after_hash, plain, after_mark, in_brackets, in_brackets_by_x, in_brackets_by_y, AreListed, last, more, IsItem, expression, quoted, IsOperation, by_mnemonic, sets_address, byte_directive, word_directive, dbyte_directive, res_directive, end_directive, IsRest, nothing_more, operation, IsDirective, IsLine, no_label, label, defines, is_a, IsSymbol, EachReadLineIsALine}
 use Rattle.asm_line.proofs.SymbolsOutside.{symbol_back}
 
@@ -50,7 +50,7 @@ bound f (Some a) b h = record { from = a; is = refl; to = h }
 
 -- ---- what is read of a beginning
 
--- the tokens are a part, and those left behind it
+-- the tokens are a part, and those left after it
 record Part {A : Type 0} (Is : A → List Lexeme → Type 0) (ts : List Lexeme) (a : A) (left : List Lexeme) : Type 0 where
   front : List Lexeme
   cut : ts ≡ front ++ left
@@ -58,7 +58,7 @@ record Part {A : Type 0} (Is : A → List Lexeme → Type 0) (ts : List Lexeme) 
 
 -- ---- an index
 
-index_is : (marked : Bool) (e : Term) (us : List Lexeme) (o : Operand) → direct_behind marked e us ≡ Some o → (by : Index) × (o ≡ direct marked e by) × IsIndex by us
+index_is : (marked : Bool) (e : Term) (us : List Lexeme) (o : Operand) → direct_after marked e us ≡ Some o → (by : Index) × (o ≡ direct marked e by) × IsIndex by us
 index_is marked e [] o h = (_, sym (some_is _ _ h), unindexed)
   where
     some_is : (a b : Operand) → Some a ≡ Some b → a ≡ b
@@ -86,13 +86,13 @@ pub record Reads {A : Type 0} (Is : A → List Lexeme → Type 0) (read : List L
   part : (ts : List Lexeme) (p : A × List Lexeme) → read ts ≡ Some p → Part Is ts p.0 p.1
 
 -- a list whose first part was read: the last one, or one before a comma
-behind_is : {A : Type 0} (Is : A → List Lexeme → Type 0) (rest : List Lexeme → Option (List A)) → ((ts : List Lexeme) (xs : List A) → rest ts ≡ Some xs → AreListed Is xs ts)
-    → (ts : List Lexeme) (a : A) (left : List Lexeme) (xs : List A) → Part Is ts a left → list_behind rest a left ≡ Some xs → AreListed Is xs ts
-behind_is {A} Is rest again ts a [] xs p h =
+after_is : {A : Type 0} (Is : A → List Lexeme → Type 0) (rest : List Lexeme → Option (List A)) → ((ts : List Lexeme) (xs : List A) → rest ts ≡ Some xs → AreListed Is xs ts)
+    → (ts : List Lexeme) (a : A) (left : List Lexeme) (xs : List A) → Part Is ts a left → list_after rest a left ≡ Some xs → AreListed Is xs ts
+after_is {A} Is rest again ts a [] xs p h =
     let one : a ∷ [] ≡ xs = cc in
     let all : ts ≡ p.front = p.cut ∙ append-nil p.front in
     subst (λ l. AreListed Is l ts) one (subst (λ l. AreListed Is (a ∷ []) l) (sym all) (last p.is))
-behind_is {A} Is rest again ts a (c ∷ left) xs p h = by (is_symbol 44 c) refl h where
+after_is {A} Is rest again ts a (c ∷ left) xs p h = by (is_symbol 44 c) refl h where
   by : (b : Bool) → is_symbol 44 c ≡ b → (if b then option_map (λ more. a ∷ more) (rest left) else None) ≡ Some xs → AreListed Is xs ts
   by true e k =
       let m = mapped (λ more. a ∷ more) (rest left) xs k in
@@ -104,8 +104,8 @@ list_is : {A : Type 0} (Is : A → List Lexeme → Type 0) (read : List Lexeme �
 unfolding list_within
 list_is Is read r zero ts xs h = cc
 list_is Is read r (suc n) ts xs h =
-    let b = bound (λ p. list_behind (λ more. list_within read n more) p.0 p.1) (read ts) xs h in
-    behind_is Is (λ more. list_within read n more) (list_is Is read r n) ts b.from.0 b.from.1 xs (r.part ts b.from b.is) b.to
+    let b = bound (λ p. list_after (λ more. list_within read n more) p.0 p.1) (read ts) xs h in
+    after_is Is (λ more. list_within read n more) (list_is Is read r n) ts b.from.0 b.from.1 xs (r.part ts b.from b.is) b.to
 
 module _ (profile : Profile) (longest : ReadsLongest) where
   -- ---- expressions
@@ -160,7 +160,7 @@ module _ (profile : Profile) (longest : ReadsLongest) where
 
   plain_is : (ts : List Lexeme) (o : Operand) → is_a ts ≡ false → direct_operand false ts ≡ Some o → IsOperand o ts
   plain_is ts o a h =
-      let b = bound (λ p. direct_behind false p.0 p.1) (expression_of ts) o h in
+      let b = bound (λ p. direct_after false p.0 p.1) (expression_of ts) o h in
       let read = expression_part ts b.from b.is in
       let index = index_is false b.from.0 b.from.1 o b.to in
       let not_a : is_a (read.front ++ b.from.1) ≡ false = ap is_a (sym read.cut) ∙ a in
@@ -169,14 +169,14 @@ module _ (profile : Profile) (longest : ReadsLongest) where
 
   marked_is : (t : Lexeme) (ts : List Lexeme) (o : Operand) → IsSymbol 33 t → direct_operand true ts ≡ Some o → IsOperand o (t ∷ ts)
   marked_is t ts o mark h =
-      let b = bound (λ p. direct_behind true p.0 p.1) (expression_of ts) o h in
+      let b = bound (λ p. direct_after true p.0 p.1) (expression_of ts) o h in
       let read = expression_part ts b.from b.is in
       let index = index_is true b.from.0 b.from.1 o b.to in
       subst (λ (x : Operand). IsOperand x (t ∷ ts)) (sym index.1)
       (subst (λ (l : List Lexeme). IsOperand (direct true b.from.0 index.0) (t ∷ l)) (sym read.cut) (after_mark t mark read.is index.2))
 
   -- what closes a bracket
-  closed_is : (t : Lexeme) (front : List Lexeme) (e : Term) (left : List Lexeme) (o : Operand) → IsSymbol 40 t → IsExpression e front → pointer_behind e left ≡ Some o
+  closed_is : (t : Lexeme) (front : List Lexeme) (e : Term) (left : List Lexeme) (o : Operand) → IsSymbol 40 t → IsExpression e front → pointer_after e left ≡ Some o
       → IsOperand o (t ∷ (front ++ left))
   closed_is t front e [] o opens d h = cc
   closed_is t front e (c ∷ []) o opens d h = by (is_symbol 41 c) refl h where
@@ -199,13 +199,13 @@ module _ (profile : Profile) (longest : ReadsLongest) where
         by false false hx hy k = cc
   closed_is t front e (a ∷ b ∷ c ∷ u ∷ us) o opens d h = cc
 
-  bracket_is : (t : Lexeme) (ts : List Lexeme) (o : Operand) → IsSymbol 40 t → option_and_then (λ p. pointer_behind p.0 p.1) (expression_of ts) ≡ Some o → IsOperand o (t ∷ ts)
+  bracket_is : (t : Lexeme) (ts : List Lexeme) (o : Operand) → IsSymbol 40 t → option_and_then (λ p. pointer_after p.0 p.1) (expression_of ts) ≡ Some o → IsOperand o (t ∷ ts)
   bracket_is t ts o opens h =
-      let b = bound (λ p. pointer_behind p.0 p.1) (expression_of ts) o h in
+      let b = bound (λ p. pointer_after p.0 p.1) (expression_of ts) o h in
       let read = expression_part ts b.from b.is in
       subst (λ (l : List Lexeme). IsOperand o (t ∷ l)) (sym read.cut) (closed_is t read.front b.from.0 b.from.1 o opens read.is b.to)
 
-  -- the word A and nothing behind it
+  -- the word A and nothing after it
   letter_is : (t : Lexeme) (ts : List Lexeme) (o : Operand) → (is_alone ts && is_word (codes "A") t) ≡ true → accumulator ≡ o → IsOperand o (t ∷ ts)
   letter_is t [] o h same = subst (λ (x : Operand). IsOperand x (t ∷ [])) same (letter_a t h)
   letter_is t (u ∷ ts) o h same = cc
@@ -214,7 +214,7 @@ module _ (profile : Profile) (longest : ReadsLongest) where
       → (is_alone ts && is_word (codes "A") t) ≡ a → is_symbol 35 t ≡ hash → is_symbol 40 t ≡ opening → is_symbol 33 t ≡ mark
       → (if a then Some accumulator
       else if hash then option_map immediate (whole_expression ts)
-      else if opening then option_and_then (λ p. pointer_behind p.0 p.1) (expression_of ts)
+      else if opening then option_and_then (λ p. pointer_after p.0 p.1) (expression_of ts)
       else if mark then direct_operand true ts
       else direct_operand false (t ∷ ts)) ≡ Some o
       → IsOperand o (t ∷ ts)
@@ -266,7 +266,7 @@ module _ (profile : Profile) (longest : ReadsLongest) where
   unfolding directive_of
   directive_read t ts s k h = directive_by t ts s _ _ _ _ _ k refl refl refl refl refl h
 
-  origin_is : (t : Lexeme) (ts : List Lexeme) (s : Statement) → IsSymbol 42 t → origin_behind ts ≡ Some s → IsOperation profile s (t ∷ ts)
+  origin_is : (t : Lexeme) (ts : List Lexeme) (s : Statement) → IsSymbol 42 t → origin_after ts ≡ Some s → IsOperation profile s (t ∷ ts)
   origin_is t [] s star h = cc
   origin_is t (u ∷ ts) s star h = by (is_symbol 61 u) refl h where
     by : (b : Bool) → is_symbol 61 u ≡ b → (if b then option_map origin (whole_expression ts) else None) ≡ Some s → IsOperation profile s (t ∷ u ∷ ts)
@@ -275,7 +275,7 @@ module _ (profile : Profile) (longest : ReadsLongest) where
         subst (λ (y : Statement). IsOperation profile y (t ∷ u ∷ ts)) m.to (sets_address t u star (symbol_back u 61 x) (whole_is ts m.from m.is))
     by false x k = cc
 
-  star_is : (t : Lexeme) (ts : List Lexeme) (s : Statement) (b : Bool) → is_symbol 42 t ≡ b → (if b then origin_behind ts else None) ≡ Some s → IsOperation profile s (t ∷ ts)
+  star_is : (t : Lexeme) (ts : List Lexeme) (s : Statement) (b : Bool) → is_symbol 42 t ≡ b → (if b then origin_after ts else None) ≡ Some s → IsOperation profile s (t ∷ ts)
   star_is t ts s true x h = origin_is t ts s (symbol_back t 42 x) h
   star_is t ts s false x h = cc
 

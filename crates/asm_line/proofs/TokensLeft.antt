@@ -1,4 +1,4 @@
--- Tokens behind what was read.
+-- Tokens after what was read.
 use Rattle.std.proofs.Common.{◌≡◌, ℕ, zero, suc, ◌-◌, Bool, List, [], ◌∷◌, refl, ap, sym, ◌∙◌, take, drop, length, length-drop, arith}
 use Rattle.std.specs.Prelude.{map, ◌||◌, Option, None, Result, Ok, Err, IsErrAnd}
 use Rattle.std.specs.List.{list_any}
@@ -15,9 +15,9 @@ lexemes_drop zero ts = refl
 lexemes_drop (suc n) [] = refl
 lexemes_drop (suc n) (t ∷ ts) = lexemes_drop n ts
 
--- the tokens behind the first n
-pub lexemes_behind : (n : ℕ) (ts : List Token) → lexemes (take (length ts - n) (drop n ts)) ≡ drop n (lexemes ts)
-lexemes_behind n ts =
+-- the tokens after the first n
+pub lexemes_after : (n : ℕ) (ts : List Token) → lexemes (take (length ts - n) (drop n ts)) ≡ drop n (lexemes ts)
+lexemes_after n ts =
     let all : take (length ts - n) (drop n ts) ≡ drop n ts = take_all _ (drop n ts) (omega (arith, length-drop n ts)) in
     ap lexemes all ∙ lexemes_drop n ts
 

@@ -62,12 +62,12 @@ Gives shown (Err errors.Memory) given = ⊤
 Gives shown (Err (errors.Kind kind)) given = given ≡ Err kind
 
 -- An expression, and the tokens after it.
-abbrev pub seen_behind : Expr × Bor (List Token) → Term × List Lexeme
-seen_behind p = (view p.0, lexemes p.1.now)
+abbrev pub seen_after : Expr × Bor (List Token) → Term × List Lexeme
+seen_after p = (view p.0, lexemes p.1.now)
 
 -- An item, and the tokens after it.
-abbrev pub seen_item_behind : Item × Bor (List Token) → line.Item × List Lexeme
-seen_item_behind p = (seen_item p.0, lexemes p.1.now)
+abbrev pub seen_item_after : Item × Bor (List Token) → line.Item × List Lexeme
+seen_item_after p = (seen_item p.0, lexemes p.1.now)
 
 -- What was read is what a definition finds, memory aside.
 abbrev pub Reads : {A B : Type 0} → (A → B) → Result A LineFault → Option B → Type 0

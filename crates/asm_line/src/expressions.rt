@@ -6,7 +6,7 @@ ghost use Rattle.model.specs.Reading.{expression_of};
 ghost use Rattle.asm_expr.specs.Lexemes.{lexemes};
 ghost use Rattle.asm_expr.specs.Trees.{view};
 ghost use Rattle.asm_line.specs.Lists.{goes_on};
-ghost use Rattle.asm_line.specs.Seen.{Reads, seen_behind, seen_item};
+ghost use Rattle.asm_line.specs.Seen.{Reads, seen_after, seen_item};
 ghost use Rattle.model.specs.declared.expression.LineFault.TheVariants.{Syntax};
 
 use crate::statement::Item;
@@ -20,7 +20,7 @@ pub fn expression<'a, 't>(
     alloc: Global,
     tokens: &'t [Token<'a>],
 ) -> Result<(Expr<'a>, &'t [Token<'a>]), LineFault>
-    ensures { Reads seen_behind result (expression_of (lexemes tokens.now)) }
+    ensures { Reads seen_after result (expression_of (lexemes tokens.now)) }
 {
     let (value, taken) = parse_expr(alloc, tokens)?;
     Ok((value, &tokens[taken..]))

@@ -3,7 +3,7 @@
 ghost use Rattle.std.specs.Prelude.{◌≡◌};
 ghost use Rattle.std.specs.Option.{option_and_then, option_map};
 ghost use Rattle.model.specs.Expression.{Term};
-ghost use Rattle.model.specs.Line.{direct_behind, direct_operand, operand_of, pointer_behind};
+ghost use Rattle.model.specs.Line.{direct_after, direct_operand, operand_of, pointer_after};
 ghost use Rattle.model.specs.Reading.{expression_of};
 ghost use Rattle.asm_expr.specs.Lexemes.{lexemes};
 ghost use Rattle.asm_expr.specs.Trees.{view};
@@ -18,8 +18,8 @@ use model::{Index, LineFault};
 use std::alloc::Global;
 
 /// An operand of one expression, by the tokens after it: none, `,X` or `,Y`.
-fn direct_behind<'a>(marked: bool, value: Expr<'a>, behind: &[Token<'a>]) -> Option<Operand<'a>>
-    ensures { option_map seen_operand result ≡ direct_behind marked (view value.entry) (lexemes behind.now) }
+fn direct_after<'a>(marked: bool, value: Expr<'a>, behind: &[Token<'a>]) -> Option<Operand<'a>>
+    ensures { option_map seen_operand result ≡ direct_after marked (view value.entry) (lexemes behind.now) }
 {
     let index = match behind {
         [] => Index::Unindexed,
@@ -36,7 +36,7 @@ fn direct_behind<'a>(marked: bool, value: Expr<'a>, behind: &[Token<'a>]) -> Opt
 
 /// How the tokens after the expression of a round bracket close it: `)`, `,X)` or `),Y`.
 fn closing(behind: &[Token<'_>]) -> Option<Index>
-    ensures { (value : Term) → option_map (pointer_by value) result ≡ pointer_behind value (lexemes behind.now) }
+    ensures { (value : Term) → option_map (pointer_by value) result ≡ pointer_after value (lexemes behind.now) }
 {
     match behind {
         [close] if is_symbol(close, b')') => Some(Index::Unindexed),
@@ -57,12 +57,12 @@ fn direct<'a>(alloc: Global, marked: bool, tokens: &[Token<'a>]) -> Result<Opera
     ensures { Reads seen_operand result (direct_operand marked (lexemes tokens.now)) }
 {
     let (value, behind) = expression(alloc, tokens)?;
-    direct_behind(marked, value, behind).ok_or(LineFault::Syntax)
+    direct_after(marked, value, behind).ok_or(LineFault::Syntax)
 }
 
 /// The operand after a `(`.
 fn pointer<'a>(alloc: Global, tokens: &[Token<'a>]) -> Result<Operand<'a>, LineFault>
-    ensures { Reads seen_operand result (option_and_then (λ p. pointer_behind p.0 p.1) (expression_of (lexemes tokens.now))) }
+    ensures { Reads seen_operand result (option_and_then (λ p. pointer_after p.0 p.1) (expression_of (lexemes tokens.now))) }
 {
     let (value, behind) = expression(alloc, tokens)?;
     match closing(behind) {

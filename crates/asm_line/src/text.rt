@@ -1,7 +1,7 @@
 //! What the text of a line says.
 
 ghost use Rattle.std.specs.Prelude.{◌≡◌, ◌∷◌, IfOk};
-ghost use Rattle.model.specs.Line.{directive_of, line_of, operation_by, origin_behind, read_line, statement_of, unlabelled, unreserved, word_line};
+ghost use Rattle.model.specs.Line.{directive_of, line_of, operation_by, origin_after, read_line, statement_of, unlabelled, unreserved, word_line};
 ghost use Rattle.asm_expr.specs.Lexemes.{lexeme_of, lexemes};
 ghost use Rattle.asm_line.specs.Seen.{Gives, Reads, seen, seen_line};
 ghost use Rattle.asm_line.specs.FewBytes.{IsSmallLine};
@@ -50,7 +50,7 @@ fn directive<'a>(
 
 /// What the tokens after a `*` say.
 fn origin<'a>(alloc: Global, after: &[Token<'a>]) -> Result<Statement<'a>, LineFault>
-    ensures { Reads seen result (origin_behind (lexemes after.now)) }
+    ensures { Reads seen result (origin_after (lexemes after.now)) }
 {
     let Some((equals, rest)) = after.split_first() else {
         return Err(LineFault::Syntax);

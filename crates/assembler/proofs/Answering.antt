@@ -11,7 +11,7 @@ use Rattle.model.specs.Names.{number_in}
 use Rattle.model.specs.Source.{Denotes, HasFault, OneAssignment, nothing_fixed, read_lines}
 use Rattle.model.specs.declared.source_fault.AsmFault.{AsmFault}
 use Rattle.source_laws.specs.Judging.{DenotedIsJudged, FaultIsJudged, Judged, JudgedIsMeant, Says, judged, judged_as, ◌>>=◌}
-use Rattle.assembler.specs.Assembly.{Answers, Assembled, IsImageOrMemory, Verdict, listing_of, out_of_memory, seen_verdict, verdict, verdict_of}
+use Rattle.assembler.specs.Assembly.{AnswersSource, Assembled, IsImageOrMemory, Verdict, listing_of, out_of_memory, seen_verdict, verdict, verdict_of}
 use Rattle.assembler.proofs.NoByteAtPort.{spared_image}
 use Rattle.assembler.proofs.RowsLeft.{rows_of_read}
 
@@ -55,13 +55,13 @@ meant_as meant m source a h = meant_by m source a (judged m source) (meant m sou
 image_is : (m : Map) (source : List ℕ) (a : Assembled) (x : Meant m source a) → x.judgement.image ≡ a.image
 image_is m source a x = ap (λ (v : Verdict). v.image) x.shown
 
-pub denoted_from : JudgedIsMeant → (m : Map) (source : List ℕ) (r : Given) → Answers seen_verdict r (verdict m source) → IfOk r (λ a. Denotes m source a.image)
+pub denoted_from : JudgedIsMeant → (m : Map) (source : List ℕ) (r : Given) → AnswersSource seen_verdict r (verdict m source) → IfOk r (λ a. Denotes m source a.image)
 denoted_from meant m source (Ok a) h =
     let x = meant_as meant m source a h in
     subst (λ (i : Cells). Denotes m source i) (image_is m source a x) x.denotes
 denoted_from meant m source (Err f) h = tt
 
-pub places_from : JudgedIsMeant → OneAssignment → (m : Map) (source : List ℕ) (r : Given) → Answers seen_verdict r (verdict m source)
+pub places_from : JudgedIsMeant → OneAssignment → (m : Map) (source : List ℕ) (r : Given) → AnswersSource seen_verdict r (verdict m source)
     → IfOk r (λ a. (placed : List Placed) (all : Fixed) → LaidOut (nothing_fixed m.profile) (read_lines m.profile source) placed all → a.places ≡ extents_of placed)
 places_from meant one m source (Ok a) h = λ placed all laid.
     let x = meant_as meant m source a h in
@@ -69,7 +69,7 @@ places_from meant one m source (Ok a) h = λ placed all laid.
     sym (ap (λ (v : Verdict). v.places) x.shown) ∙ ap extents_of same
 places_from meant one m source (Err f) h = tt
 
-pub names_from : JudgedIsMeant → OneAssignment → (m : Map) (source : List ℕ) (r : Given) → Answers seen_verdict r (verdict m source)
+pub names_from : JudgedIsMeant → OneAssignment → (m : Map) (source : List ℕ) (r : Given) → AnswersSource seen_verdict r (verdict m source)
     → IfOk r (λ a. (placed : List Placed) (all : Fixed) → LaidOut (nothing_fixed m.profile) (read_lines m.profile source) placed all → a.names ≡ all.names)
 names_from meant one m source (Ok a) h = λ placed all laid.
     let x = meant_as meant m source a h in
@@ -77,14 +77,14 @@ names_from meant one m source (Ok a) h = λ placed all laid.
     sym (ap (λ (v : Verdict). v.names) x.shown) ∙ ap (λ (f : Fixed). f.names) same
 names_from meant one m source (Err f) h = tt
 
-pub spared_from : JudgedIsMeant → (m : Map) (source : List ℕ) (r : Given) → Answers seen_verdict r (verdict m source) → IfOk r (λ a. has_port_byte m a.image ≡ false)
+pub spared_from : JudgedIsMeant → (m : Map) (source : List ℕ) (r : Given) → AnswersSource seen_verdict r (verdict m source) → IfOk r (λ a. has_port_byte m a.image ≡ false)
 spared_from meant m source (Ok a) h =
     let x = meant_as meant m source a h in
     let spared : has_port_byte m x.judgement.image ≡ false = spared_image m (number_in x.denotes.all.names) x.denotes.placed x.judgement.image x.denotes.made in
     subst (λ (i : Cells). has_port_byte m i ≡ false) (image_is m source a x) spared
 spared_from meant m source (Err f) h = tt
 
-pub only_from : DenotedIsJudged → (m : Map) (source : List ℕ) (r : Given) → Answers seen_verdict r (verdict m source) → (image : Cells) → Denotes m source image → IsImageOrMemory r image
+pub only_from : DenotedIsJudged → (m : Map) (source : List ℕ) (r : Given) → AnswersSource seen_verdict r (verdict m source) → (image : Cells) → Denotes m source image → IsImageOrMemory r image
 only_from denoted m source (Ok a) h image d =
     let v = verdict_of (judged_as d.placed d.all image) in
     let there : verdict m source ≡ Ok v = ap passed (denoted m source image d) in
@@ -99,12 +99,12 @@ refused_by : (m : Map) (source : List ℕ) (f : AsmFault) (r : Result Judged Asm
 refused_by m source f (Ok j) says h = absurd (not_both (verdict_of j) f (Ok (verdict_of j)) (Err f) refl refl h)
 refused_by m source f (Err g) says h = subst (λ (x : AsmFault). HasFault m source x) (err_same g f (Err g) (Err f) refl refl h) says
 
-pub refused_from : JudgedIsMeant → (m : Map) (source : List ℕ) (r : Given) → Answers seen_verdict r (verdict m source) → IfErr r (λ f. (f ≡ out_of_memory) ⊎ HasFault m source f)
+pub refused_from : JudgedIsMeant → (m : Map) (source : List ℕ) (r : Given) → AnswersSource seen_verdict r (verdict m source) → IfErr r (λ f. (f ≡ out_of_memory) ⊎ HasFault m source f)
 refused_from meant m source (Ok a) h = tt
 refused_from meant m source (Err f) (inl memory) = inl memory
 refused_from meant m source (Err f) (inr h) = inr (refused_by m source f (judged m source) (meant m source) h)
 
-pub faulty_from : FaultIsJudged → (m : Map) (source : List ℕ) (r : Given) → Answers seen_verdict r (verdict m source)
+pub faulty_from : FaultIsJudged → (m : Map) (source : List ℕ) (r : Given) → AnswersSource seen_verdict r (verdict m source)
     → (f : AsmFault) → HasFault m source f → (r ≡ Err f) ⊎ (r ≡ Err out_of_memory)
 faulty_from fault m source (Ok a) h f bad =
     let there : verdict m source ≡ Err f = ap passed (fault m source f bad) in
@@ -131,7 +131,7 @@ listing_by m source a x one =
       rows = rw (places, names, rows_of_read m.profile a.image (lines_of source) (nothing_fixed m.profile) d.placed d.all d.laid) refl;
     }
 
-pub listed_from : JudgedIsMeant → OneAssignment → (m : Map) (source : List ℕ) (r : Given) → Answers seen_verdict r (verdict m source) → IfOk r (λ a. a.source ≡ source) → IfOk r (λ a. IsListing m source (listing_of a))
+pub listed_from : JudgedIsMeant → OneAssignment → (m : Map) (source : List ℕ) (r : Given) → AnswersSource seen_verdict r (verdict m source) → IfOk r (λ a. a.source ≡ source) → IfOk r (λ a. IsListing m source (listing_of a))
 listed_from meant one m source (Ok a) h kept =
     let x = meant_as meant m source a h in
     rw kept (listing_by m source a x one)

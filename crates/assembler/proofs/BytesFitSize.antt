@@ -9,7 +9,7 @@ use Rattle.model.specs.FaultNames.{source_fault_number}
 use Rattle.model.specs.Value.{Numbers, eval_of}
 use Rattle.model.specs.Layout.{length_in, ◌>>>◌, Placed, Content, no_bytes, byte_list, word_list, word_list_high_first, code, size_of, items_size}
 use Rattle.model.specs.Line.{Item, value, string}
-use Rattle.model.specs.Bytes.{Piece, modulo, word_bytes, within, byte_piece, zero_page_piece, word_piece, address_piece, distance_piece, branch_piece, operand_piece, bytes_in, kinds_in, kind_if, lower, lowest, place_kinds, has_bytes, has_port, word_bytes_high_first, word_piece_high_first, item_piece, pieces_of, bytes_of, value_fault}
+use Rattle.model.specs.Bytes.{BytesOrFault, modulo, word_bytes, within, byte_piece, zero_page_piece, word_piece, address_piece, distance_piece, branch_piece, operand_piece, bytes_in, kinds_in, kind_if, lower, lowest, place_kinds, has_bytes, has_port, word_bytes_high_first, word_piece_high_first, item_piece, pieces_of, line_bytes, value_fault}
 use Rattle.model.specs.declared.expression.ExprFault.{ExprFault}
 use Rattle.model.specs.declared.instruction.Mode.{Mode}
 use Rattle.model.specs.declared.instruction.Mode.TheVariants.{Imp, Acc, Imm, Zp, ZpX, ZpY, Abs, AbsX, AbsY, IndX, IndY, Ind, Rel, IndZ}
@@ -18,7 +18,7 @@ use Rattle.model.specs.declared.source_fault.AsmFaultKind.TheVariants.{WordRange
 use Rattle.assembler.specs.Gathering.{Gathering, line_gathered}
 use Rattle.assembler.proofs.Gathers.{line_is, lowest-append}
 
-abbrev sized : Piece → ℕ
+abbrev sized : BytesOrFault → ℕ
 sized p = length (bytes_in p)
 
 -- ---- pieces
@@ -92,11 +92,11 @@ items_fit numbers a [] = omega arith
 items_fit numbers a (value e ∷ is) = rw length-append (omega (arith, byte_size (eval_of numbers (pos a) e), items_fit numbers a is))
 items_fit numbers a (string text ∷ is) = rw length-append (omega (arith, items_fit numbers a is))
 
-words_size : (f : Term → Piece) → ((e : Term) → sized (f e) ≤ 2) → (es : List Term) → length (flat_map bytes_in (map f es)) ≤ 2 * length es
+words_size : (f : Term → BytesOrFault) → ((e : Term) → sized (f e) ≤ 2) → (es : List Term) → length (flat_map bytes_in (map f es)) ≤ 2 * length es
 words_size f small [] = omega arith
 words_size f small (e ∷ es) = rw length-append (omega (arith, small e, words_size f small es))
 
-code_size : (p : Piece) → suc (length (bytes_in p ++ [])) ≡ suc (sized p)
+code_size : (p : BytesOrFault) → suc (length (bytes_in p ++ [])) ≡ suc (sized p)
 code_size p = ap (λ (x : List ℕ). suc (length x)) (append-nil (bytes_in p))
 
 content_size : (numbers : Numbers) (a : ℕ) (content : Content) → length (flat_map bytes_in (pieces_of numbers a content)) ≤ size_of content
@@ -108,8 +108,8 @@ content_size numbers a (word_list_high_first es) = words_size (λ (e : Term). wo
 content_size numbers a (code opcode mode None) = omega (arith, operand_size a mode (eval_of numbers (pos a) here))
 content_size numbers a (code opcode mode (Some e)) = omega (arith, operand_size a mode (eval_of numbers (pos a) e), code_size (operand_piece a mode (eval_of numbers (pos a) e)))
 
-pub line_size : (numbers : Numbers) (p : Placed) → length (bytes_of numbers p) ≤ size_of p.content
-unfolding bytes_of
+pub line_size : (numbers : Numbers) (p : Placed) → length (line_bytes numbers p) ≤ size_of p.content
+unfolding line_bytes
 line_size numbers p = content_size numbers p.address p.content
 
 -- ---- places
@@ -156,6 +156,6 @@ pub line_room : (m : Map) (numbers : Numbers) (image : List (Option ℕ)) (p : P
     → 0 < length g.bytes → p.address + length g.bytes ≤ 65536
 line_room m numbers image p g is met some =
     let right : value_fault m numbers image p ≡ None = sym (ap (λ (x : Gathering). x.kind) (is ∙ line_is m numbers image p)) ∙ met in
-    let bytes : g.bytes ≡ bytes_of numbers p = ap (λ (x : Gathering). x.bytes) (is ∙ line_is m numbers image p) in
+    let bytes : g.bytes ≡ line_bytes numbers p = ap (λ (x : Gathering). x.bytes) (is ∙ line_is m numbers image p) in
     let small : length g.bytes ≤ size_of p.content = rw bytes (line_size numbers p) in
     not_past p.address (size_of p.content) (length g.bytes) (placed_right m numbers image p right).past small some

@@ -8,7 +8,7 @@ use Rattle.model.specs.FaultNames.{source_fault_number}
 use Rattle.model.specs.Image.{with_bytes}
 use Rattle.model.specs.Value.{Numbers}
 use Rattle.model.specs.Layout.{Placed, size_of}
-use Rattle.model.specs.Bytes.{Piece, lower, lowest, bytes_in, kinds_in, place_kinds, bytes_of, pieces_of, value_fault}
+use Rattle.model.specs.Bytes.{BytesOrFault, lower, lowest, bytes_in, kinds_in, place_kinds, line_bytes, pieces_of, value_fault}
 use Rattle.model.specs.declared.source_fault.AsmFaultKind.{AsmFaultKind}
 use Rattle.assembler.specs.Gathering.{line_gathered, Gathering, nothing_gathered, added, gathered, noted, noted_all}
 use Rattle.source_laws.specs.Judging.{put}
@@ -17,7 +17,7 @@ use borrow.Author.Tests.{leb-true, leb-false}
 -- ---- loops over values
 
 -- one value more
-pub gathered_step : {A B : Type 0} (f : B → Piece) (view : A → B) (xs : List A) (i : ℕ) (x : A) (g new : Gathering) (piece : Piece) (total : Gathering)
+pub gathered_step : {A B : Type 0} (f : B → BytesOrFault) (view : A → B) (xs : List A) (i : ℕ) (x : A) (g new : Gathering) (piece : BytesOrFault) (total : Gathering)
     → i < length xs → x ≡ get_or xs i x → new ≡ added g piece → piece ≡ f (view x)
     → gathered g (map f (map view (drop i xs))) ≡ total → gathered new (map f (map view (drop (i + 1) xs))) ≡ total
 unfolding gathered
@@ -28,7 +28,7 @@ gathered_step {A = A} f view xs i x g new piece total within is now means so_far
     rw (now, means) opened
 
 -- no value more
-pub gathered_end : {A B : Type 0} (f : B → Piece) (view : A → B) (xs : List A) (i : ℕ) (g total : Gathering) → length xs ≤ i
+pub gathered_end : {A B : Type 0} (f : B → BytesOrFault) (view : A → B) (xs : List A) (i : ℕ) (g total : Gathering) → length xs ≤ i
     → gathered g (map f (map view (drop i xs))) ≡ total → g ≡ total
 unfolding gathered
 gathered_end f view xs i g total past so_far = rw (drop_all i xs past) at so_far
@@ -71,7 +71,7 @@ lowest-append (x ∷ xs) ys = ap (lower x) (lowest-append xs ys) ∙ sym (lower_
 abbrev pub both : List ℕ → Option AsmFaultKind → Gathering
 both bytes kind = record { bytes = bytes; kind = kind }
 
-pub gathered_is : (g : Gathering) (ps : List Piece) → gathered g ps ≡ both (g.bytes ++ flat_map bytes_in ps) (lower g.kind (lowest (kinds_in ps)))
+pub gathered_is : (g : Gathering) (ps : List BytesOrFault) → gathered g ps ≡ both (g.bytes ++ flat_map bytes_in ps) (lower g.kind (lowest (kinds_in ps)))
 unfolding gathered lowest lower
 gathered_is g [] = ap (λ (x : List ℕ). both x g.kind) (sym (append-nil g.bytes)) ∙ ap (both (g.bytes ++ [])) (sym (lower_nothing g.kind))
 gathered_is g (Ok bs ∷ ps) =
@@ -89,8 +89,8 @@ noted_is g (k ∷ ks) = noted_is (noted g k) ks ∙ ap (both g.bytes) (lower_aga
 -- ---- the whole line
 
 -- it is the line's bytes and its value fault
-pub line_is : (m : Map) (numbers : Numbers) (image : List (Option ℕ)) (p : Placed) → line_gathered m numbers image p ≡ both (bytes_of numbers p) (value_fault m numbers image p)
-unfolding bytes_of value_fault lower
+pub line_is : (m : Map) (numbers : Numbers) (image : List (Option ℕ)) (p : Placed) → line_gathered m numbers image p ≡ both (line_bytes numbers p) (value_fault m numbers image p)
+unfolding line_bytes value_fault lower
 line_is m numbers image p =
     let pieces = pieces_of numbers p.address p.content in
     let places = place_kinds m image p.address (size_of p.content) in
@@ -110,5 +110,5 @@ pub put_right : (m : Map) (numbers : Numbers) (image : List (Option ℕ)) (p : P
 unfolding put
 put_right m numbers image p g is met =
     let same : value_fault m numbers image p ≡ None = sym (ap (λ (x : Gathering). x.kind) (is ∙ line_is m numbers image p)) ∙ met in
-    let bytes : g.bytes ≡ bytes_of numbers p = ap (λ (x : Gathering). x.bytes) (is ∙ line_is m numbers image p) in
+    let bytes : g.bytes ≡ line_bytes numbers p = ap (λ (x : Gathering). x.bytes) (is ∙ line_is m numbers image p) in
     rw (same, bytes) refl

@@ -3,7 +3,7 @@ use Rattle.std.proofs.Common.{◌≡◌, ℕ, ◌+◌, ◌≤◌, Bool, true, fa
 use Rattle.std.specs.Prelude.{nat_lt, nat_le, not}
 use Rattle.std.specs.List.{flat_map}
 use Rattle.model.specs.Layout.{Placed, size_of}
-use Rattle.model.specs.Bytes.{lower, lowest, bytes_in, kinds_in, kind_if, bytes_of, pieces_of}
+use Rattle.model.specs.Bytes.{lower, lowest, bytes_in, kinds_in, kind_if, line_bytes, pieces_of}
 use Rattle.model.specs.OneLine.{no_numbers, bytes_alone}
 use Rattle.model.specs.declared.source_fault.AsmFaultKind.{AsmFaultKind}
 use Rattle.model.specs.declared.source_fault.AsmFaultKind.TheVariants.{PastEnd}
@@ -29,8 +29,8 @@ pub same_alone : (p : Placed) (g : Gathering) (count : ℕ) → g ≡ noted (gat
 same_alone p g count is counted = is ∙ ap (λ (n : ℕ). noted (gathered nothing_gathered (pieces_of no_numbers p.address p.content)) (kind_if (nat_lt 65536 (p.address + n)) PastEnd)) counted
 
 -- it is the line's bytes, and its value fault
-alone_is : (p : Placed) → gathered_alone p ≡ both (bytes_of no_numbers p) (kinds_alone p)
-unfolding bytes_of lowest lower
+alone_is : (p : Placed) → gathered_alone p ≡ both (line_bytes no_numbers p) (kinds_alone p)
+unfolding line_bytes lowest lower
 alone_is p =
     let pieces = pieces_of no_numbers p.address p.content in
     let past = nat_lt 65536 (p.address + size_of p.content) in
@@ -47,11 +47,11 @@ alone_faulty p g kind is met =
 pub alone_right : (p : Placed) (g : Gathering) → g ≡ gathered_alone p → g.kind ≡ None → bytes_alone p ≡ Ok g.bytes
 alone_right p g is met =
     let same : kinds_alone p ≡ None = sym (ap (λ (x : Gathering). x.kind) (is ∙ alone_is p)) ∙ met in
-    let bytes : g.bytes ≡ bytes_of no_numbers p = ap (λ (x : Gathering). x.bytes) (is ∙ alone_is p) in
+    let bytes : g.bytes ≡ line_bytes no_numbers p = ap (λ (x : Gathering). x.bytes) (is ∙ alone_is p) in
     rw (same, bytes) refl
 
 -- a short line has few bytes
 pub alone_short : (p : Placed) (g : Gathering) → g ≡ gathered_alone p → size_of p.content ≤ 3 → length g.bytes ≤ 3
 alone_short p g is short =
-    let bytes : g.bytes ≡ bytes_of no_numbers p = ap (λ (x : Gathering). x.bytes) (is ∙ alone_is p) in
+    let bytes : g.bytes ≡ line_bytes no_numbers p = ap (λ (x : Gathering). x.bytes) (is ∙ alone_is p) in
     rw bytes (omega (arith, line_size no_numbers p))

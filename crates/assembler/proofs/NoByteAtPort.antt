@@ -6,7 +6,7 @@ use Rattle.std.proofs.lemmas.List.{get_or-replicate, get_or_past, length-replica
 use Rattle.model.specs.State.{Map, is_port, has_port_byte}
 use Rattle.model.specs.Image.{empty_image, has_byte, with_bytes}
 use Rattle.model.specs.Value.{Numbers}
-use Rattle.model.specs.Bytes.{has_port, Makes, bytes_of}
+use Rattle.model.specs.Bytes.{has_port, Makes, line_bytes}
 use Rattle.model.specs.Layout.{Placed, size_of}
 use Rattle.assembler.proofs.BytesFitSize.{line_size, placed_right}
 
@@ -44,8 +44,8 @@ bytes_spared m (b ∷ bytes) image a (suc n) small off s =
 makes_spared : (m : Map) (numbers : Numbers) (ps : List Placed) (image final : Cells) → Makes m numbers image ps final → IsSpared m image → IsSpared m final
 makes_spared m numbers [] image final h s = rw h s
 makes_spared m numbers (p ∷ ps) image final h s =
-    makes_spared m numbers ps (with_bytes image p.address (bytes_of numbers p)) final h.1
-    (bytes_spared m (bytes_of numbers p) image p.address (size_of p.content) (line_size numbers p) (placed_right m numbers image p h.0).port s)
+    makes_spared m numbers ps (with_bytes image p.address (line_bytes numbers p)) final h.1
+    (bytes_spared m (line_bytes numbers p) image p.address (size_of p.content) (line_size numbers p) (placed_right m numbers image p h.0).port s)
 
 blank_cell : (n q : ℕ) → get_or (replicate n nothing) q None ≡ None
 blank_cell n q = elim (leb_tells (suc q) n) [

@@ -7,13 +7,13 @@ use Rattle.model.specs.Image.{empty_image}
 use Rattle.model.specs.Names.{Definitions, number_in}
 use Rattle.model.specs.Value.{Numbers}
 use Rattle.model.specs.Layout.{Content, no_bytes, byte_list, word_list, word_list_high_first, code, size_of, Fixed, Placed, Standing, extent_of, extents_of, layout_of}
-use Rattle.model.specs.Bytes.{pieces_of, bytes_of, value_fault, has_bytes, has_port, place_kinds, lower, lowest}
+use Rattle.model.specs.Bytes.{pieces_of, line_bytes, value_fault, has_bytes, has_port, place_kinds, lower, lowest}
 use Rattle.model.specs.Source.{most_bytes, nothing_fixed, read_lines}
 use Rattle.model.specs.declared.instruction.Profile.{Profile}
 use Rattle.model.specs.declared.source_fault.AsmFault.{AsmFault}
 use Rattle.model.specs.declared.source_fault.AsmFaultKind.{AsmFaultKind}
 use Rattle.source_laws.specs.Judging.{Judged, judged, judged_lines, laid_lines, made_lines, numbered, put, too_large, ◌>>=◌}
-use Rattle.assembler.specs.Assembly.{Answers, Assembled, Verdict, seen_verdict, out_of_memory, verdict, verdict_of}
+use Rattle.assembler.specs.Assembly.{AnswersSource, Assembled, Verdict, seen_verdict, out_of_memory, verdict, verdict_of}
 use Rattle.assembler.specs.Found.{Counted, counted, Found, found_lines, is_kept, made_kept, nothing_found, noting, taken}
 
 abbrev Cells : Type 0
@@ -85,7 +85,7 @@ found_all profile lines = found_is lines 1 (nothing_fixed profile) nothing_found
 
 -- a line without bytes changes no image
 put_nothing : (m : Map) (numbers : Numbers) (image : Cells) (a : ℕ) → put m numbers image (record { address = a; content = no_bytes }) ≡ Ok image
-unfolding put value_fault pieces_of place_kinds has_bytes has_port size_of lowest lower bytes_of
+unfolding put value_fault pieces_of place_kinds has_bytes has_port size_of lowest lower line_bytes
 put_nothing m numbers image a = refl
 
 kept_is : (m : Map) (numbers : Numbers) (ps : List Placed) (n : ℕ) (image : Cells) → made_kept m numbers image (kept_from n ps) ≡ made_lines m numbers n image ps
@@ -203,6 +203,6 @@ pub value_answer : (m : Map) (source : List ℕ) (found : Found) (all : Fixed) (
 value_answer m source found all f small first (inl memory) = inl memory
 value_answer m source found all f small first (inr second) = inr (verdict_value m source found all f small first second)
 
-pub passed_on : (given : Result Verdict AsmFault) (r : Result Assembled AsmFault) (f : AsmFault) → IsErrAnd r (λ e. e ≡ f) → (f ≡ out_of_memory) ⊎ (given ≡ Err f) → Answers seen_verdict r given
+pub passed_on : (given : Result Verdict AsmFault) (r : Result Assembled AsmFault) (f : AsmFault) → IsErrAnd r (λ e. e ≡ f) → (f ≡ out_of_memory) ⊎ (given ≡ Err f) → AnswersSource seen_verdict r given
 passed_on given (Ok a) f same h = absurd same
 passed_on given (Err g) f same h = rw same h

@@ -37,9 +37,9 @@ abbrev pub out_of_memory : AsmFault
 out_of_memory = record { line = 0; kind = OutOfMemory }
 
 -- What was answered is what a definition gives, memory aside.
-abbrev pub Answers : {A B : Type 0} → (A → B) → Result A AsmFault → Result B AsmFault → Type 0
-Answers shown (Ok a) given = given ≡ Ok (shown a)
-Answers shown (Err fault) given = (fault ≡ out_of_memory) ⊎ (given ≡ Err fault)
+abbrev pub AnswersSource : {A B : Type 0} → (A → B) → Result A AsmFault → Result B AsmFault → Type 0
+AnswersSource shown (Ok a) given = given ≡ Ok (shown a)
+AnswersSource shown (Err fault) given = (fault ≡ out_of_memory) ⊎ (given ≡ Err fault)
 
 -- The answer is this image, or memory was refused.
 abbrev pub IsImageOrMemory : Result Assembled AsmFault → List (Option ℕ) → Type 0

@@ -33,7 +33,7 @@ is_kept (word_list es) = true
 is_kept (word_list_high_first es) = true
 is_kept (code opcode mode e) = true
 
--- A line behind those that were found.
+-- A line after those that were found.
 abbrev pub noting : ℕ → Found → Placed → Found
 noting number found p = record {
   extents = found.extents ++ extent_of p ∷ [];
@@ -43,7 +43,7 @@ noting number found p = record {
 abbrev pub taken : ℕ → Found → Result Standing AsmFaultKind → Result (Found × Fixed) AsmFaultKind
 taken number found given = given >>> λ s. Ok (noting number found s.0, s.1)
 
--- All lines from a line's number on, behind those that were found and what these fix.
+-- All lines from a line's number on, after those that were found and what these fix.
 abbrev pub found_lines : ℕ → Fixed → Found → List (List ℕ) → Result (Found × Fixed) AsmFault
 found_lines number before found [] = Ok (found, before)
 found_lines number before found (line ∷ lines) =
@@ -51,7 +51,7 @@ found_lines number before found (line ∷ lines) =
 
 -- ---- the second pass
 
--- The image behind the lines that are kept.
+-- The image after the lines that are kept.
 abbrev pub made_kept : Map → Numbers → List (Option ℕ) → List Counted → Result (List (Option ℕ)) AsmFault
 made_kept bus_map numbers image [] = Ok image
 made_kept bus_map numbers image (k ∷ ks) =

@@ -1,7 +1,7 @@
 -- The bytes of one line, gathered from left to right.
 use Rattle.std.specs.Prelude.{◌≡◌, ℕ, ℤ, pos, ⊤, List, [], ◌∷◌, ◌++◌, map, Option, Some, None, Result, Ok, Err}
 use Rattle.model.specs.State.{Map}
-use Rattle.model.specs.Bytes.{Piece, lower, place_kinds, item_piece, pieces_of}
+use Rattle.model.specs.Bytes.{BytesOrFault, lower, place_kinds, item_piece, pieces_of}
 use Rattle.model.specs.Expression.{Term}
 use Rattle.model.specs.Value.{Numbers, eval_of}
 use Rattle.model.specs.declared.expression.ExprFault.{ExprFault}
@@ -13,11 +13,11 @@ use Rattle.assembler.specs.declared.emit.Encoded.TheVariants.{Nothing, Byte, Wor
 use Rattle.asm_line.specs.declared.fault.LineError.{LineError}
 use Rattle.asm_line.specs.declared.fault.LineError.TheVariants as errors
 
-abbrev pub item_pieces : Numbers → ℕ → List Item → List Piece
+abbrev pub item_pieces : Numbers → ℕ → List Item → List BytesOrFault
 item_pieces numbers address items = map (λ i. item_piece numbers address i) items
 
 -- The pieces of some values, each made in this way.
-abbrev pub value_pieces : (Result ℤ ExprFault → Piece) → Numbers → ℕ → List Term → List Piece
+abbrev pub value_pieces : (Result ℤ ExprFault → BytesOrFault) → Numbers → ℕ → List Term → List BytesOrFault
 value_pieces piece numbers address es = map (λ e. piece (eval_of numbers (pos address) e)) es
 
 abbrev pub seen_encoded : Encoded → List ℕ
@@ -25,7 +25,7 @@ seen_encoded Nothing = []
 seen_encoded (Byte b) = b ∷ []
 seen_encoded (Word first second) = first ∷ second ∷ []
 
-abbrev pub seen_piece : Result Encoded AsmFaultKind → Piece
+abbrev pub seen_piece : Result Encoded AsmFaultKind → BytesOrFault
 seen_piece (Ok encoded) = Ok (seen_encoded encoded)
 seen_piece (Err kind) = Err kind
 
@@ -48,11 +48,11 @@ abbrev pub noted_all : Gathering → List (Option AsmFaultKind) → Gathering
 noted_all g [] = g
 noted_all g (kind ∷ kinds) = noted_all (noted g kind) kinds
 
-abbrev pub added : Gathering → Piece → Gathering
+abbrev pub added : Gathering → BytesOrFault → Gathering
 added g (Ok bytes) = record { bytes = g.bytes ++ bytes; kind = g.kind }
 added g (Err kind) = refused g kind
 
-unfoldable pub gathered : Gathering → List Piece → Gathering
+unfoldable pub gathered : Gathering → List BytesOrFault → Gathering
 gathered g [] = g
 gathered g (p ∷ ps) = gathered (added g p) ps
 

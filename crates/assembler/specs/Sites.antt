@@ -3,7 +3,7 @@ use Rattle.std.specs.Prelude.{◌≡◌, ℕ, ⊤, Option, Some, None, ◌&&◌,
 use Rattle.model.specs.declared.instruction.Profile.{Profile}
 use Rattle.model.specs.declared.source_fault.AsmFaultKind.{AsmFaultKind}
 use Rattle.model.specs.Layout as model_layout
-use Rattle.model.specs.Layout.{one, by_size, term_of, only, either, has_row, is_unindexed, zero_page_mode, absolute_mode, Content, no_bytes, byte_list, word_list, word_list_high_first, code, Place, Placed, Fixed, Standing, items_size}
+use Rattle.model.specs.Layout.{one, by_size, term_of, only, either, has_row, is_unindexed, zero_page_mode, absolute_mode, Content, no_bytes, byte_list, word_list, word_list_high_first, code, PlacedAndNext, Placed, Fixed, Standing, items_size}
 use Rattle.model.specs.declared.instruction.Mnemonic.{Mnemonic}
 use Rattle.model.specs.declared.instruction.Mode.TheVariants.{Ind, Rel, IndZ}
 use Rattle.model.specs.declared.line.Index.{Index}
@@ -58,7 +58,7 @@ abbrev pub line_content : Option Code → Line → Content
 line_content c (labelled name s) = content_by c s
 line_content c (definition name e) = no_bytes
 
-abbrev pub site_of : ℕ → Statement → Site → Place
+abbrev pub site_of : ℕ → Statement → Site → PlacedAndNext
 site_of address s site = (record { address = address; content = content_by site.code s }, site.next)
 
 -- What was answered, and the names that are left, are what a definition gives, memory aside.

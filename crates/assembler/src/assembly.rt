@@ -1,7 +1,7 @@
 //! A source assembled.
 
 ghost use Rattle.std.specs.Prelude.{◌≡◌, ◌⊎◌, ℕ, List, Option, Err, IfOk, IfErr, false, length, slice_get};
-ghost use Rattle.assembler.specs.Assembly.{Answers, IsImageOrMemory, listing_of, out_of_memory, seen_verdict, verdict};
+ghost use Rattle.assembler.specs.Assembly.{AnswersSource, IsImageOrMemory, listing_of, out_of_memory, seen_verdict, verdict};
 ghost use Rattle.model.specs.Layout.{Fixed, LaidOut, Placed, extents_of};
 ghost use Rattle.model.specs.Listing.{IsListing};
 ghost use Rattle.model.specs.Names.{number_in};
@@ -88,7 +88,7 @@ impl Assembly {
 /// Assembles a source in its map's profile: lines that end with LF or CR LF, and after the last LF one more if it is not empty.
 ///
 /// The answer is the image that the source denotes, or its fault. Lines are counted from 1. A fault of the layout comes before
-/// any fault of a value; within each group the lowest line decides, then the lowest number on it. Nothing behind the line of `.END`
+/// any fault of a value; within each group the lowest line decides, then the lowest number on it. Nothing after the line of `.END`
 /// is read.
 ///
 /// - `TooLarge`, with line 0 and before all others: the source has more than 1,048,576 bytes.
@@ -135,7 +135,7 @@ pub fn assemble(alloc: Global, source: &[u8], map: &MapSpec) -> Result<Assembly,
 
 /// The source laid out, and then its bytes put.
 fn assemble_lines(alloc: Global, source: &[u8], map: &MapSpec) -> Result<Assembly, AsmFault>
-    ensures exact { Answers seen_verdict result (verdict map.now source.now) }
+    ensures exact { AnswersSource seen_verdict result (verdict map.now source.now) }
     ensures cells { IfOk result (λ a. IsImage a.image) }
     ensures kept { IfOk result (λ a. a.source ≡ source.now) }
 {

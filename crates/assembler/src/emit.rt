@@ -6,7 +6,7 @@ ghost use Rattle.assembler.specs.Gathering.{Stores, added, gathered, item_pieces
 ghost use Rattle.assembler.specs.Kept.{placed_of};
 ghost use Rattle.asm_line.specs.Seen.{seen, seen_item};
 ghost use Rattle.assembler.specs.Sites.{content_by, shown};
-ghost use Rattle.model.specs.Bytes.{item_piece, pieces_of, word_bytes_high_first, word_piece_high_first, address_piece, behind_opcode, branch_piece, byte_piece, distance_piece, has_bytes, has_port, kind_if, lower, lowest, modulo, operand_piece, place_kinds, within, word_bytes, word_piece, zero_page_piece};
+ghost use Rattle.model.specs.Bytes.{item_piece, pieces_of, word_bytes_high_first, word_piece_high_first, address_piece, after_opcode, branch_piece, byte_piece, distance_piece, has_bytes, has_port, kind_if, lower, lowest, modulo, operand_piece, place_kinds, within, word_bytes, word_piece, zero_page_piece};
 ghost use Rattle.source_laws.specs.Judging.{put};
 ghost use Rattle.model.specs.Names.{number_in};
 ghost use Rattle.model.specs.OneLine.{no_numbers};
@@ -155,7 +155,7 @@ fn branch(here: u32, value: Result<i32, ExprFault>) -> Result<Encoded, AsmFaultK
     distance(from_next.rem_euclid(65536) as u32)
 }
 
-/// What stands behind an opcode at an address.
+/// What stands after an opcode at an address.
 #[tactic(auto, unfolding(model::specs::Bytes::operand_piece))]
 fn operand(here: u32, mode: Mode, value: Result<i32, ExprFault>) -> Result<Encoded, AsmFaultKind>
     requires { here < 2 ^ 31 - 510 }
@@ -264,7 +264,7 @@ impl Gathered {
         }
     }
 
-    /// Bytes behind those so far.
+    /// Bytes after those so far.
     fn push(&mut self, encoded: Encoded) -> Result<(), AllocError>
         ensures { OnOk result (self.new ≡ added self.old (Ok (seen_encoded encoded))) }
     {
@@ -358,7 +358,7 @@ impl Gathered {
         Ok(())
     }
 
-    /// What stands behind an opcode.
+    /// What stands after an opcode.
     #[tactic(auto, unfolding(crate::specs::Gathering::gathered))]
     fn add_operand(
         &mut self,
@@ -368,7 +368,7 @@ impl Gathered {
         value: Option<&Expr<'_>>,
     ) -> Result<(), AllocError>
         requires { here < 2 ^ 31 - 510 }
-        ensures { OnOk result (self.new ≡ gathered self.old (behind_opcode (number_in names.now) here mode (shown (λ e. view e.now) value.entry))) }
+        ensures { OnOk result (self.new ≡ gathered self.old (after_opcode (number_in names.now) here mode (shown (λ e. view e.now) value.entry))) }
     {
         match value {
             None => Ok(()),
@@ -442,7 +442,7 @@ fn has_port(map: &MapSpec, address: u32, count: u32) -> bool
     (0 < count) & (address < port + 4) & (port < address + count)
 }
 
-/// What is wrong with where bytes stand, behind what is wrong with them.
+/// What is wrong with where bytes stand, after what is wrong with them.
 #[tactic(auto, unfolding(model::specs::Bytes::place_kinds))]
 fn judge_place(gathered: &mut Gathered, map: &MapSpec, image: &Image, address: u32, count: u32)
     requires { address + count < 2 ^ 32 }

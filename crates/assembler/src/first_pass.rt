@@ -32,7 +32,7 @@ fn is_finish(statement: &Statement<'_>) -> bool
     }
 }
 
-/// Whether nothing behind a line is read.
+/// Whether nothing after a line is read.
 fn ends(line: &Line<'_>) -> bool
     ensures { result ≡ ends_line (seen_line line.now) }
 {
@@ -42,7 +42,7 @@ fn ends(line: &Line<'_>) -> bool
     }
 }
 
-/// A line behind those that are found: read and laid out. The next line's address, and whether no more lines are read.
+/// A line after those that are found: read and laid out. The next line's address, and whether no more lines are read.
 #[tactic(auto, unfolding(model::specs::Layout::layout_of))]
 fn take_line<'a>(
     alloc: Global,

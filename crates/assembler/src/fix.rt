@@ -1,4 +1,4 @@
-//! A line behind the lines before it: its name, and where it stands.
+//! A line after the lines before it: its name, and where it stands.
 
 ghost use Rattle.std.specs.Prelude.{◌≡◌, ◌+◌, ◌-◌, ◌<◌, ◌≤◌, ◌^◌, None, Some, Ok, max, IfOk};
 ghost use Rattle.asm_line.specs.Seen.{seen, seen_line};

@@ -57,7 +57,7 @@ impl<'a> Lines<'a> {
         self.spans
     }
 
-    /// A line behind those that are there, its place found.
+    /// A line after those that are there, its place found.
     pub fn note(
         &mut self,
         number: u32,

@@ -5,7 +5,7 @@ ghost use Rattle.asm_expr.specs.Trees.{view};
 ghost use Rattle.asm_line.specs.Seen.{seen, seen_item, seen_operand};
 ghost use Rattle.asm_line.specs.FewBytes.{IsSmall};
 ghost use Rattle.assembler.specs.Sites.{Shows, content_by, seen_form, shown, site_of};
-ghost use Rattle.model.specs.Layout.{in_memory, length_in, mode_by, placing, sized, behind_room, item_size, items_size, laid, size_of};
+ghost use Rattle.model.specs.Layout.{in_memory, length_in, mode_by, placing, sized, after_room, item_size, items_size, laid, size_of};
 ghost use Rattle.model.specs.Value.{eval_of};
 ghost use Rattle.model.specs.Line.{instruction};
 
@@ -15,7 +15,7 @@ use asm_line::{Item, Operand, Statement};
 use model::{AsmFaultKind, ExprFault, Mnemonic, Mode, Profile};
 use optable::encode_in;
 
-/// An instruction's opcode, and the mode in which its operand stands behind it.
+/// An instruction's opcode, and the mode in which its operand stands after it.
 #[derive(Clone, Copy)]
 pub struct Code {
     pub opcode: u8,
@@ -138,10 +138,10 @@ fn length_in(mode: Mode) -> u32
     }
 }
 
-/// The address behind so many bytes, none of them past 65535.
-fn behind_room(address: u32, number: i32) -> Result<u32, AsmFaultKind>
+/// The address after so many bytes, none of them past 65535.
+fn after_room(address: u32, number: i32) -> Result<u32, AsmFaultKind>
     requires { address < 2 ^ 31 }
-    ensures exact { result ≡ behind_room address number }
+    ensures exact { result ≡ after_room address number }
     ensures near { IfOk result (λ n. n ≤ 65536) }
 {
     if number < 0 {
@@ -228,7 +228,7 @@ pub fn lay<N: Names>(
             Ok(Site::standing(address, None, 2 * values.len() as u32))
         }
         Statement::Reserve(value) => {
-            let next = behind_room(address, placing(value_at(value, names, address))?)?;
+            let next = after_room(address, placing(value_at(value, names, address))?)?;
             Ok(Site::without_bytes(next))
         }
         Statement::Instruction(mnemonic, operand) => instruct(

@@ -2,7 +2,7 @@
 
 ghost use Rattle.std.specs.Prelude.{◌≡◌, ◌+◌, ◌-◌, ◌<◌, ◌≤◌, ◌^◌, IfOk, OnOk, length, take, drop, replicate, map};
 ghost use Rattle.asm_line.specs.Seen.{Gives, seen};
-ghost use Rattle.assembler.specs.Assembly.{Answers};
+ghost use Rattle.assembler.specs.Assembly.{AnswersSource};
 ghost use Rattle.assembler.specs.Sites.{content_by};
 ghost use Rattle.assembler.specs.Gathering.{gathered, nothing_gathered, noted};
 ghost use Rattle.model.specs.Bytes.{kind_if, pieces_of};
@@ -20,7 +20,7 @@ use model::{AsmFault, AsmFaultKind, Profile};
 use std::alloc::Global;
 use symbols::Symbols;
 
-/// The bytes of one line: the first `count` of `bytes`, and 0 behind them.
+/// The bytes of one line: the first `count` of `bytes`, and 0 after them.
 #[derive(Clone, Copy, Debug, PartialEq, Eq)]
 pub struct Line {
     pub bytes: [u8; 3],
@@ -112,7 +112,7 @@ fn assemble_alone(
 /// The bytes that a text denotes at an address in a profile, as one line of a source without names: 1 to 3 bytes.
 ///
 /// The text is a line without its end, so that an LF or a CR in it is `NotAscii`, and more than 255 bytes are `LineTooLong`. Its
-/// faults are those of `assemble`, with line 1, but for three: `NotOneLine`, behind all faults of the layout and before those of
+/// faults are those of `assemble`, with line 1, but for three: `NotOneLine`, after all faults of the layout and before those of
 /// values, where the text has a label, a definition, no operation, `*=`, `.RES` or `.END`, or more than 3 bytes; `Overlap` and
 /// `PortAddress` are no fault of one line. `OutOfMemory` with line 0 says that a request for memory was refused.
 /// Source: profile.
@@ -123,7 +123,7 @@ pub fn assemble_line_in(
     text: &[u8],
 ) -> Result<Line, AsmFault>
     // The bytes or the fault are what the text denotes there, memory aside.
-    ensures exact { Answers (λ l. take l.count l.bytes) result (numbered 1 (one_line profile address text.now)) }
+    ensures exact { AnswersSource (λ l. take l.count l.bytes) result (numbered 1 (one_line profile address text.now)) }
     ensures rest { IfOk result (λ l. drop l.count l.bytes ≡ replicate (3 - l.count) 0) }
     ensures few { IfOk result (λ l. l.count ≤ 3) }
 {
@@ -136,7 +136,7 @@ pub fn assemble_line_in(
 /// `assemble_line_in` of profile N.
 pub fn assemble_line(alloc: Global, address: u16, text: &[u8]) -> Result<Line, AsmFault>
     // The bytes or the fault are what the text denotes there, memory aside.
-    ensures exact { Answers (λ l. take l.count l.bytes) result (numbered 1 (one_line Profile.N address text.now)) }
+    ensures exact { AnswersSource (λ l. take l.count l.bytes) result (numbered 1 (one_line Profile.N address text.now)) }
     ensures rest { IfOk result (λ l. drop l.count l.bytes ≡ replicate (3 - l.count) 0) }
     ensures few { IfOk result (λ l. l.count ≤ 3) }
 {

@@ -1,6 +1,6 @@
 //! The second pass: the bytes of all lines.
 
-ghost use Rattle.assembler.specs.Assembly.{Answers};
+ghost use Rattle.assembler.specs.Assembly.{AnswersSource};
 ghost use Rattle.assembler.specs.Found.{made_kept};
 ghost use Rattle.assembler.specs.Kept.{counted_in};
 ghost use Rattle.model.specs.Names.{number_in};
@@ -21,7 +21,7 @@ pub fn make_image(
     names: &Symbols,
     kept: &[Kept<'_>],
 ) -> Result<Image, AsmFault>
-    ensures { Answers (λ image. image) result (made_kept map.now (number_in names.now) empty_image (counted_in kept.now)) }
+    ensures { AnswersSource (λ image. image) result (made_kept map.now (number_in names.now) empty_image (counted_in kept.now)) }
 {
     let mut image = Image::new(alloc).map_err(|_| OUT_OF_MEMORY)?;
     let mut gathered = Gathered::new(alloc);

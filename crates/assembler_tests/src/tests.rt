@@ -42,7 +42,7 @@ fn line_of(alloc: Global, count: usize, byte: u8, end: &[u8]) -> Result<Vec<u8>,
     Ok(line)
 }
 
-/// Whether a source denotes these bytes under a map from an address on, and none before or behind them.
+/// Whether a source denotes these bytes under a map from an address on, and none before or after them.
 fn denotes_under(alloc: Global, map: &MapSpec, source: &[u8], from: u16, bytes: &[u8]) -> bool {
     let Ok(assembly) = assemble(alloc, source, map) else {
         return false;
@@ -258,7 +258,7 @@ fn tells_the_names(rt: HostRuntime) -> Result<(), Fail> {
     Ok(())
 }
 
-/// Each line's address, its bytes and its text, and the names behind; nothing behind the line of `.END`.
+/// Each line's address, its bytes and its text, and the names after; nothing after the line of `.END`.
 #[test]
 fn lists_lines_and_names(rt: HostRuntime) -> Result<(), Fail> {
     let map = map_of_n()?;

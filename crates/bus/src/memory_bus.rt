@@ -17,7 +17,7 @@ use model::{BusFault, Change, Profile};
 use std::alloc::{AllocError, Global};
 use std::marker::Model;
 
-/// Memory of 65,536 bytes, 0 at the port's addresses, with a console behind the port (profile).
+/// Memory of 65,536 bytes, 0 at the port's addresses, with a console after the port (profile).
 #[derive(Drop)]
 pub struct Bus {
     map: MapSpec,
@@ -104,12 +104,12 @@ impl Bus {
     {
         self.map.is_map();
         are_bytes(self.memory.as_slice());
-        let (given, given_behind) = self.given.as_slices();
+        let (given, given_after) = self.given.as_slices();
         are_bytes(given);
-        are_bytes(given_behind);
-        let (out, out_behind) = self.out.as_slices();
+        are_bytes(given_after);
+        let (out, out_after) = self.out.as_slices();
         are_bytes(out);
-        are_bytes(out_behind);
+        are_bytes(out_after);
     }
 
     /// A byte as the processor reads it, which at base+1 takes the next byte of input.
@@ -161,7 +161,7 @@ impl Bus {
         Ok(())
     }
 
-    /// A byte of input handed in, behind those that were. `InputFull` where 65,536 bytes were handed in, taken ones
+    /// A byte of input handed in, after those that were. `InputFull` where 65,536 bytes were handed in, taken ones
     /// among them; nothing is changed then. A change that could be put back before still can, and gives the same (profile).
     pub fn give(&mut self, byte: u8) -> Result<(), BusFault>
         ensures ok { OnOk result (self.new ≡ record self.old { given = self.old.given ++ byte ∷ [] }) }

@@ -1,4 +1,6 @@
 //! What the rows of memory and of a listing have in common: an address in four columns, and bytes in eight. Without memory.
+//!
+//! Rows of memory and of a listing take theirs from here.
 #![tactic(auto)]
 
 ghost use Rattle.std.specs.Prelude.{◌≡◌, take};

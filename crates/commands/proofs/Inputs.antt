@@ -5,7 +5,7 @@ use Rattle.std.specs.Str.{bytes_eq}
 use Rattle.std.proofs.lemmas.Slice.Eq.{bytes_eq-Decides}
 use Rattle.std.proofs.lemmas.Bool.{le-leb, lt-leb}
 use Rattle.model.specs.declared.command.Command.{Command}
-use Rattle.model.specs.Commands.{address_of, asm_command, is_asm, rest_of, second_word, text_of, unspaced, byte_of, byte_before, bytes_of, input_command, no_input, command_of, command_of_words, words_of}
+use Rattle.model.specs.Commands.{address_of, asm_command, is_asm, rest_of, second_word, text_of, unspaced, byte_of, byte_before, bytes_of_words, input_command, no_input, command_of, command_of_words, words_of}
 use Rattle.model.specs.declared.command.Command.TheVariants.{Bad, Input, Nothing}
 use Rattle.commands.specs.Words.{IsNextWord}
 use Rattle.commands.specs.Groups.{pair_command, triple_command}
@@ -21,7 +21,7 @@ assembled line words = asm_command (address_of (second_word words)) (text_of lin
 same : (w : List ℕ) → bytes_eq w (codes "in") ≡ true → w ≡ codes "in"
 same w e = (bytes_eq-Decides w (codes "in")).0 e
 
-input_words : (a : List ℕ) (ws : List (List ℕ)) → command_of_words (codes "in" ∷ a ∷ ws) ≡ input_command (bytes_of (a ∷ ws))
+input_words : (a : List ℕ) (ws : List (List ℕ)) → command_of_words (codes "in" ∷ a ∷ ws) ≡ input_command (bytes_of_words (a ∷ ws))
 unfolding command_of_words
 input_words a ws = refl
 
@@ -54,11 +54,11 @@ line_of_three line first behind second rest third after fourth left short p some
     triple_row first second third ∙ sym (other_line line first behind short p no_asm ∙ ap command_of_words words)
 
 pub in_line : (line first behind second rest : List ℕ) → nat_lt 255 (length line) ≡ false → IsNextWord line first behind → (length first ≡ 0 → ⊥) → IsNextWord behind second rest → (length second ≡ 0 → ⊥)
-    → bytes_eq first (codes "asm") ≡ false → bytes_eq first (codes "in") ≡ true → input_command (bytes_of (words_of behind)) ≡ command_of line
+    → bytes_eq first (codes "asm") ≡ false → bytes_eq first (codes "in") ≡ true → input_command (bytes_of_words (words_of behind)) ≡ command_of line
 in_line line first behind second rest short p some q more no_asm is_in =
     let words = next line first behind p some in
-    let words_behind = next behind second rest q more in
-    ap (λ ws. input_command (bytes_of ws)) words_behind ∙ sym (other_line line first behind short p no_asm ∙ ap command_of_words (words ∙ ap (λ w. w ∷ words_of behind) (same first is_in) ∙ ap (λ ws. codes "in" ∷ ws) words_behind) ∙ input_words second (words_of rest))
+    let words_after = next behind second rest q more in
+    ap (λ ws. input_command (bytes_of_words ws)) words_after ∙ sym (other_line line first behind short p no_asm ∙ ap command_of_words (words ∙ ap (λ w. w ∷ words_of behind) (same first is_in) ∙ ap (λ ws. codes "in" ∷ ws) words_after) ∙ input_words second (words_of rest))
 
 -- ---- lines that begin with `asm`
 
@@ -81,7 +81,7 @@ asm_line line first behind second rest text short p q e f t yes_asm =
     ∙ sym (ap (λ b. if b then Bad else if is_asm (words_of line) then assembled line (words_of line) else command_of_words (words_of line)) short
     ∙ ap (λ b. if b then assembled line (words_of line) else command_of_words (words_of line)) (ap is_asm words ∙ yes_asm))
 
--- ---- bytes with zeros behind them
+-- ---- bytes with zeros after them
 
 abbrev pub padded : ℕ → List ℕ → List ℕ
 padded zero xs = []
@@ -133,26 +133,26 @@ too_many taken (Some b) (Some more) h =
 -- Some bytes of a line were met, and the words of the rest are to come.
 abbrev pub Meets : List ℕ → List ℕ → ℕ → List ℕ → Type 0
 Meets line bytes count rest =
-    (taken : List ℕ) × (length taken ≡ count) × (bytes ≡ padded 16 taken) × (bytes_of (words_of line) ≡ joined taken (bytes_of (words_of rest)))
+    (taken : List ℕ) × (length taken ≡ count) × (bytes ≡ padded 16 taken) × (bytes_of_words (words_of line) ≡ joined taken (bytes_of_words (words_of rest)))
 
 pub meets_none : (line : List ℕ) → Meets line (padded 16 []) 0 line
-meets_none line = ([], refl, refl, joined_none (bytes_of (words_of line)))
+meets_none line = ([], refl, refl, joined_none (bytes_of_words (words_of line)))
 
 none : (line word rest : List ℕ) → IsNextWord line word rest → length word ≡ 0 → words_of line ≡ []
 none line [] rest h e = h.0
 none line (b ∷ w) rest h e = absurd (omega arith)
 
 pub meets_all : (line bytes : List ℕ) (count : ℕ) (rest word behind : List ℕ) → Meets line bytes count rest → count ≤ 16 → IsNextWord rest word behind → length word ≡ 0
-    → Input bytes count ≡ input_command (bytes_of (words_of line))
+    → Input bytes count ≡ input_command (bytes_of_words (words_of line))
 meets_all line bytes count rest word behind m h p empty =
     let few : length m.0 ≤ 16 = omega (arith, m.1, h) in
-    let whole = ap input_command (m.3 ∙ ap (λ ws. joined m.0 (bytes_of ws)) (none rest word behind p empty)) ∙ all_met m.0 few in
+    let whole = ap input_command (m.3 ∙ ap (λ ws. joined m.0 (bytes_of_words ws)) (none rest word behind p empty)) ∙ all_met m.0 few in
     ap (λ l. Input l count) m.2 ∙ ap (λ n. Input (padded 16 m.0) n) (sym m.1) ∙ sym whole
 
 pub meets_bad : (line bytes : List ℕ) (count : ℕ) (rest word behind : List ℕ) → Meets line bytes count rest → IsNextWord rest word behind → (length word ≡ 0 → ⊥) → byte_of word ≡ None
-    → Bad ≡ input_command (bytes_of (words_of line))
+    → Bad ≡ input_command (bytes_of_words (words_of line))
 meets_bad line bytes count rest word behind m p some e =
-    sym (ap input_command (m.3 ∙ ap (λ ws. joined m.0 (bytes_of ws)) (next rest word behind p some) ∙ ap (λ b. joined m.0 (byte_before b (bytes_of (words_of behind)))) e))
+    sym (ap input_command (m.3 ∙ ap (λ ws. joined m.0 (bytes_of_words ws)) (next rest word behind p some) ∙ ap (λ b. joined m.0 (byte_before b (bytes_of_words (words_of behind)))) e))
 
 pub meets_more : (line bytes : List ℕ) (count : ℕ) (rest word behind : List ℕ) (b : ℕ) → Meets line bytes count rest → count < 16 → IsNextWord rest word behind → (length word ≡ 0 → ⊥) → byte_of word ≡ Some b
     → Meets line (slice_set bytes count b) (count + 1) behind
@@ -161,10 +161,10 @@ meets_more line bytes count rest word behind b m h p some e =
       m.0 ++ b ∷ [],
       omega (arith, m.1, length-append m.0 (b ∷ [])),
       place ∙ pad_more 16 m.0 b (omega (arith, m.1, h)),
-      m.3 ∙ ap (λ ws. joined m.0 (bytes_of ws)) (next rest word behind p some) ∙ ap (λ c. joined m.0 (byte_before c (bytes_of (words_of behind)))) e ∙ joined_more m.0 b (bytes_of (words_of behind)),
+      m.3 ∙ ap (λ ws. joined m.0 (bytes_of_words ws)) (next rest word behind p some) ∙ ap (λ c. joined m.0 (byte_before c (bytes_of_words (words_of behind)))) e ∙ joined_more m.0 b (bytes_of_words (words_of behind)),
     )
 
 pub meets_too_many : (line bytes : List ℕ) (rest word behind : List ℕ) → Meets line bytes 16 rest → IsNextWord rest word behind → (length word ≡ 0 → ⊥)
-    → Bad ≡ input_command (bytes_of (words_of line))
+    → Bad ≡ input_command (bytes_of_words (words_of line))
 meets_too_many line bytes rest word behind m p some =
-    sym (ap input_command (m.3 ∙ ap (λ ws. joined m.0 (bytes_of ws)) (next rest word behind p some)) ∙ too_many m.0 (byte_of word) (bytes_of (words_of behind)) m.1)
+    sym (ap input_command (m.3 ∙ ap (λ ws. joined m.0 (bytes_of_words ws)) (next rest word behind p some)) ∙ too_many m.0 (byte_of word) (bytes_of_words (words_of behind)) m.1)

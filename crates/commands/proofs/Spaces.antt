@@ -4,7 +4,7 @@ use Rattle.std.proofs.lemmas.List.{take_all, drop_all, take_more, get_or-drop}
 use Rattle.std.proofs.lemmas.List.Folds.{list_all-append}
 use Rattle.std.proofs.lemmas.Bool.Decides.{eqb_tells}
 use Rattle.std.specs.List.{list_all}
-use Rattle.model.specs.Commands.{words_of, attached, goes_on, unspaced, behind_word, rest_of}
+use Rattle.model.specs.Commands.{words_of, attached, goes_on, unspaced, after_word, rest_of}
 use Rattle.commands.specs.Words.{no_space, IsNextWord}
 
 -- ---- spaces in front
@@ -40,20 +40,20 @@ front_starts (b ∷ bs) = elim (eqb_tells b 32) [
   | inr e ↦ rw e.0 (inr e.1)
 ]
 
--- ---- what stands behind a word
+-- ---- what stands after a word
 
-behind_byte : (b : ℕ) (bs : List ℕ) → b ≢ 32 → behind_word (b ∷ bs) ≡ behind_word bs
-behind_byte b bs ne = elim (eqb_tells b 32) [
+after_byte : (b : ℕ) (bs : List ℕ) → b ≢ 32 → after_word (b ∷ bs) ≡ after_word bs
+after_byte b bs ne = elim (eqb_tells b 32) [
   | inl e ↦ absurd (ne e.1)
   | inr e ↦ rw e.0 refl
 ]
 
-pub behind_more : (line : List ℕ) (i : ℕ) → i < length line → get_or line i 0 ≢ 32 → behind_word (drop (i + 1) line) ≡ behind_word (drop i line)
-behind_more line i h ne = rw (drop-cons line i 0, add-one) (sym (behind_byte _ _ ne))
+pub after_more : (line : List ℕ) (i : ℕ) → i < length line → get_or line i 0 ≢ 32 → after_word (drop (i + 1) line) ≡ after_word (drop i line)
+after_more line i h ne = rw (drop-cons line i 0, add-one) (sym (after_byte _ _ ne))
 
-pub behind_ends : (line : List ℕ) (i : ℕ) → ((i < length line) × (get_or line i 0 ≡ 32)) ⊎ (length line ≤ i) → behind_word (drop i line) ≡ drop i line
-behind_ends line i (inl h) = let within : i < length line = h.0 in rw (drop-cons line i 0, h.1) refl
-behind_ends line i (inr h) = rw (drop_all i line h) refl
+pub after_ends : (line : List ℕ) (i : ℕ) → ((i < length line) × (get_or line i 0 ≡ 32)) ⊎ (length line ≤ i) → after_word (drop i line) ≡ drop i line
+after_ends line i (inl h) = let within : i < length line = h.0 in rw (drop-cons line i 0, h.1) refl
+after_ends line i (inr h) = rw (drop_all i line h) refl
 
 -- ---- words
 
@@ -106,7 +106,7 @@ goes_end line e h = rw (drop_all e line h) refl
 words_end : (line : List ℕ) (e : ℕ) → length line ≤ e → words_of (drop e line) ≡ []
 words_end line e h = rw (drop_all e line h) refl
 
--- what the loop ends with: a space or the line's end behind the word
+-- what the loop ends with: a space or the line's end after the word
 ends_by : (line : List ℕ) (e : ℕ) → ((e < length line) × (get_or line e 0 ≡ 32)) ⊎ (length line ≤ e) → goes_on (drop e line) ≡ false
 ends_by line e (inl h) = goes_space line e h.0 h.1
 ends_by line e (inr h) = goes_end line e h

@@ -1,7 +1,7 @@
--- A text with zeros behind it, and how long texts are.
+-- A text with zeros after it, and how long texts are.
 use Rattle.std.proofs.Common.{◌≡◌, ℕ, zero, suc, ◌+◌, ◌-◌, ◌≤◌, List, [], ◌∷◌, ◌++◌, length, take, drop, replicate, refl, ap, ◌∙◌, sym, arith, inl, inr}
 use Rattle.std.proofs.lemmas.Bool.Decides.{eqb_tells}
-use Rattle.model.specs.Commands.{unspaced, behind_word, rest_of, text_of}
+use Rattle.model.specs.Commands.{unspaced, after_word, rest_of, text_of}
 
 zeros_front : (n m : ℕ) → n ≤ m → replicate {A = ℕ} n 0 ≡ take n (replicate {A = ℕ} m 0)
 zeros_front zero m h = refl
@@ -23,12 +23,12 @@ unspaced_short (b ∷ bs) = elim (eqb_tells b 32) [
   | inr e ↦ rw e.0 (omega arith)
 ]
 
-behind_short : (line : List ℕ) → length (behind_word line) ≤ length line
-behind_short [] = omega arith
-behind_short (b ∷ bs) = elim (eqb_tells b 32) [
+after_short : (line : List ℕ) → length (after_word line) ≤ length line
+after_short [] = omega arith
+after_short (b ∷ bs) = elim (eqb_tells b 32) [
   | inl e ↦ rw e.0 (omega arith)
-  | inr e ↦ rw e.0 (omega (arith, behind_short bs))
+  | inr e ↦ rw e.0 (omega (arith, after_short bs))
 ]
 
 pub text_short : (line : List ℕ) → length (text_of line) ≤ length line
-text_short line = omega (arith, unspaced_short (rest_of (rest_of line)), behind_short (unspaced (rest_of line)), unspaced_short (rest_of line), behind_short (unspaced line), unspaced_short line)
+text_short line = omega (arith, unspaced_short (rest_of (rest_of line)), after_short (unspaced (rest_of line)), unspaced_short (rest_of line), after_short (unspaced line), unspaced_short line)

@@ -2,7 +2,7 @@
 
 ghost use Rattle.std.specs.Prelude.{◌≡◌, ◌≤◌, ◌∷◌, ◌++◌, [], MatchOption, codes, drop, false, length, replicate, take};
 ghost use Rattle.std.specs.Str.{bytes_eq};
-ghost use Rattle.model.specs.Commands.{address_of, asm_command, bytes_of, command_of, decimal_of, dis_command, from_1_to, input_command, irq_command, mem_command, most_steps, number_command, patch_command, set_command, unspaced, words_of};
+ghost use Rattle.model.specs.Commands.{address_of, asm_command, bytes_of_words, command_of, decimal_of, dis_command, from_1_to, input_command, irq_command, mem_command, most_steps, number_command, patch_command, set_command, unspaced, words_of};
 ghost use Rattle.commands.specs.Groups.{long_command, pair_command, plain_command, triple_command};
 
 use crate::numbers::{address_of, byte_of, number_up_to};
@@ -170,7 +170,7 @@ fn unwatch_command(value: Option<u16>) -> Command
 
 /// Bytes of input, which all words of a line write: at most 16.
 fn input_command(line: &[u8]) -> Command
-    ensures { result ≡ input_command (bytes_of (words_of line.now)) }
+    ensures { result ≡ input_command (bytes_of_words (words_of line.now)) }
 {
     let mut bytes = [0u8; 16];
     let mut rest = line;
@@ -267,7 +267,7 @@ fn asm_command(address: Option<u16>, text: &[u8]) -> Command
     }
 }
 
-/// A text with zeros behind it.
+/// A text with zeros after it.
 fn padded(text: &[u8]) -> [u8; 255]
     requires { length text.now ≤ 255 }
     ensures { result ≡ take 255 (text.now ++ replicate 255 0) }
@@ -319,7 +319,7 @@ fn setting_of(name: &[u8], value: &[u8]) -> Option<Setting>
 
 /// A patch of one byte.
 fn patch_of_one(address: &[u8], first: &[u8]) -> Command
-    ensures { result ≡ patch_command (address_of address.now) (bytes_of (first.now ∷ [])) }
+    ensures { result ≡ patch_command (address_of address.now) (bytes_of_words (first.now ∷ [])) }
 {
     match (address_of(address), byte_of(first)) {
         (Some(address), Some(first)) => Command::Patch {
@@ -333,7 +333,7 @@ fn patch_of_one(address: &[u8], first: &[u8]) -> Command
 
 /// A patch of two bytes.
 fn patch_of_two(address: &[u8], first: &[u8], second: &[u8]) -> Command
-    ensures { result ≡ patch_command (address_of address.now) (bytes_of (first.now ∷ second.now ∷ [])) }
+    ensures { result ≡ patch_command (address_of address.now) (bytes_of_words (first.now ∷ second.now ∷ [])) }
 {
     match (address_of(address), byte_of(first), byte_of(second)) {
         (Some(address), Some(first), Some(second)) => Command::Patch {
@@ -347,7 +347,7 @@ fn patch_of_two(address: &[u8], first: &[u8], second: &[u8]) -> Command
 
 /// A patch of three bytes.
 fn patch_of_three(address: &[u8], first: &[u8], second: &[u8], third: &[u8]) -> Command
-    ensures { result ≡ patch_command (address_of address.now) (bytes_of (first.now ∷ second.now ∷ third.now ∷ [])) }
+    ensures { result ≡ patch_command (address_of address.now) (bytes_of_words (first.now ∷ second.now ∷ third.now ∷ [])) }
 {
     let bytes = (byte_of(first), byte_of(second), byte_of(third));
     match (address_of(address), bytes) {

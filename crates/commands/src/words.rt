@@ -15,7 +15,7 @@ pub fn unspaced(line: &[u8]) -> &[u8]
     &line[start..]
 }
 
-/// The first word of a line and what stands behind it. The word is empty where the line has none.
+/// The first word of a line and what stands after it. The word is empty where the line has none.
 /// Only spaces separate words (profile).
 pub fn next_word(line: &[u8]) -> (&[u8], &[u8])
     ensures word { IsNextWord line.now result.0.now result.1.now }

@@ -76,7 +76,7 @@ pub marks-later : (p : ℕ) (cs : List Checkpoint) (base : State) (es : List Eve
 marks-later p [] base es s t grows all = tt
 marks-later p (c ∷ cs) base es s t grows all = (leads-later c s t base all.0 grows, marks-later p cs (replayed base (take p es)) (drop p es) s t grows all.1)
 
--- one more event behind those that the checkpoints mark
+-- one more event after those that the checkpoints mark
 pub marks-more : (p : ℕ) (cs : List Checkpoint) (base : State) (es : List Event) (e : Event) (now : State) → p * length cs ≤ length es + p → AllMark p cs base es now → AllMark p cs base (es ++ e ∷ []) now
 marks-more p [] base es e now h all = tt
 marks-more p (c ∷ []) base es e now h all = (all.0, tt)

@@ -11,7 +11,7 @@ use Rattle.circular_buffer.specs.Buffer as ring
 use Rattle.debugger.proofs.Checkpoints.{leads-here}
 use Rattle.debugger.proofs.Trails.{after_event, without_part, with_mark}
 
--- an event stands behind the others, and one more is held
+-- an event stands after the others, and one more is held
 pub record Pushed (old new : Trail) (e : Event) : Type 0 where
   pub events : new.events.items ≡ old.events.items ++ e ∷ []
   pub capacity : new.events.capacity ≡ old.events.capacity
@@ -200,7 +200,7 @@ noted t0 t1 t2 t3 e s now r p g m h f =
     ] in
     record { history = third.history; states = third.states }
 
--- a ring with room takes an item behind the others
+-- a ring with room takes an item after the others
 pub kept_all : {X : Type 0} (n : ℕ) (xs : List X) (x : X) → length xs < n → ring.keep_last n (xs ++ x ∷ []) ≡ xs ++ x ∷ []
 kept_all n xs x h = let z : length (xs ++ x ∷ []) - n ≡ 0 = omega (arith, length-append xs (x ∷ [])) in ap (λ k. drop k (xs ++ x ∷ [])) z
 

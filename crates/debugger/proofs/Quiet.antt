@@ -103,7 +103,7 @@ quiet_now t more r part room = record {
     quiet_room : (held history len more : ℕ) → held ≤ history → len + more < held + 1024 → len + 0 + more < min (held + 0) history + 1024
     quiet_room held history len more h room = grind arith
 
--- some steps put behind the others at once
+-- some steps put after the others at once
 pub settled : (t : Trail) (steps count held : ℕ) (given : List Event) (events : Buffer Event) → given ≡ replicate steps Step → length t.events.items + steps ≤ t.events.capacity
     → count ≡ min (length given) (t.events.capacity - length t.events.items) → events ≡ buffer (t.events.items ++ take count given) t.events.capacity → held ≡ min (t.held + steps) t.history
     → record_of t events held ≡ with_steps t steps

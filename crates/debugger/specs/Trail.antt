@@ -45,7 +45,7 @@ pub record LetGo (old new : Trail) : Type 0 where
   pub spare : length new.spare.items ≡ length old.spare.items + 1
   pub room : SameRoom old new
 
--- a checkpoint was put behind the others
+-- a checkpoint was put after the others
 pub record Marked (old new : Trail) (c : Checkpoint) : Type 0 where
   pub events : new.events.items ≡ old.events.items
   pub kept : new.kept.items ≡ old.kept.items ++ c ∷ []

@@ -2,11 +2,11 @@
 use Rattle.std.proofs.Common.{◌≡◌, ℕ, Bool, true, false, List, [], ◌∷◌, ◌++◌, length, replicate, refl, codes}
 use Rattle.std.specs.Prelude.{◌==◌, ◌||◌, ◌&&◌, not, decimal, Ok, Err, None, Some}
 use Rattle.model.specs.State.{Map, State, is_map, is_port, is_rom, overflows, byte_read, after_read, after_write}
-use Rattle.model.specs.Operand.{place_of, word_at, word_in_page, jump_target}
+use Rattle.model.specs.Operand.{effective_address, word_at, word_in_page, jump_target}
 use Rattle.model.specs.Arithmetic.{adc, sbc}
 use Rattle.model.specs.Effect.{operation_of, loaded, load, operand, after_operand, moved, store, store_value, modify_a, modified, branch, branches, pushed, pulled, after_pull, pull_x, interrupted, break_entry, performed, status, flags_of_byte}
 use Rattle.model.specs.Table.{Entry, row_at, find_row, table, documented, added}
-use Rattle.model.specs.Step.{step, attempted, executed, fetched, stores}
+use Rattle.model.specs.Step.{step, attempted, executed, advanced, stores}
 use Rattle.model.specs.Event.{no_regs, no_flags, reset_of, reset_state}
 use Rattle.model.specs.Lines.{lines_from, lines_of}
 use Rattle.model.specs.Commands.{command_of, command_of_words, set_command}
@@ -142,18 +142,18 @@ after_load pc = record no_regs { a = 0x80; pc = pc; flags = record no_flags { n 
 -- LDA #$80 sets N and takes 2 cycles
 load_immediate : step (with_memory (0xA9 ∷ 0x80 ∷ 0x8D ∷ 0x06 ∷ 0x00 ∷ 0xEA ∷ 0x00 ∷ []) no_regs 7)
     ≡ Ok (with_memory (0xA9 ∷ 0x80 ∷ 0x8D ∷ 0x06 ∷ 0x00 ∷ 0xEA ∷ 0x00 ∷ []) (after_load 2) 9)
-unfolding step attempted executed fetched stores performed load loaded operand after_operand place_of operation_of row_at find_row table documented
+unfolding step attempted executed advanced stores performed load loaded operand after_operand effective_address operation_of row_at find_row table documented
 load_immediate = refl
 
 -- STA $0006 stores A and takes 4
 store_absolute : step (with_memory (0xA9 ∷ 0x80 ∷ 0x8D ∷ 0x06 ∷ 0x00 ∷ 0xEA ∷ 0x00 ∷ []) (after_load 2) 9)
     ≡ Ok (with_memory (0xA9 ∷ 0x80 ∷ 0x8D ∷ 0x06 ∷ 0x00 ∷ 0xEA ∷ 0x80 ∷ []) (after_load 5) 13)
-unfolding step attempted executed fetched stores performed store store_value after_write overflows is_port is_rom place_of word_at operation_of row_at find_row table documented
+unfolding step attempted executed advanced stores performed store store_value after_write overflows is_port is_rom effective_address word_at operation_of row_at find_row table documented
 store_absolute = refl
 
 -- NOP takes 2 cycles and changes nothing else
 no_operation : step (with_memory (0xEA ∷ []) no_regs 7) ≡ Ok (with_memory (0xEA ∷ []) (record no_regs { pc = 1 }) 9)
-unfolding step attempted executed fetched stores performed moved place_of operation_of row_at find_row table documented
+unfolding step attempted executed advanced stores performed moved effective_address operation_of row_at find_row table documented
 no_operation = refl
 
 abbrev with_x : ℕ → Regs
@@ -162,13 +162,13 @@ with_x x = record no_regs { x = x }
 -- LDA $FF,X with X = 2 stays in the zero page: it reads $0001, in 4 cycles
 zero_page_wraps : step (with_memory (0xB5 ∷ 0xFF ∷ []) (with_x 2) 7)
     ≡ Ok (with_memory (0xB5 ∷ 0xFF ∷ []) (record (with_x 2) { a = 0xFF; pc = 2; flags = record no_flags { n = true } }) 11)
-unfolding step attempted executed fetched stores performed load loaded operand after_operand place_of operation_of row_at find_row table documented is_port byte_read after_read
+unfolding step attempted executed advanced stores performed load loaded operand after_operand effective_address operation_of row_at find_row table documented is_port byte_read after_read
 zero_page_wraps = refl
 
 -- LDA $12FF,X with X = 1 leaves the page: 5 cycles
 page_left : step (with_memory (0xBD ∷ 0xFF ∷ 0x12 ∷ []) (with_x 1) 7)
     ≡ Ok (with_memory (0xBD ∷ 0xFF ∷ 0x12 ∷ []) (record (with_x 1) { pc = 3; flags = record no_flags { z = true } }) 12)
-unfolding step attempted executed fetched stores performed load loaded operand after_operand place_of word_at operation_of row_at find_row table documented is_port byte_read after_read
+unfolding step attempted executed advanced stores performed load loaded operand after_operand effective_address word_at operation_of row_at find_row table documented is_port byte_read after_read
 page_left = refl
 
 -- an opcode without a row
@@ -182,7 +182,7 @@ unfolding step
 cycles_full = refl
 
 cycles_not_full : step (with_memory (0xEA ∷ []) no_regs 18446744073709551599) ≡ Ok (with_memory (0xEA ∷ []) (record no_regs { pc = 1 }) 18446744073709551601)
-unfolding step attempted executed fetched stores performed moved place_of operation_of row_at find_row table documented
+unfolding step attempted executed advanced stores performed moved effective_address operation_of row_at find_row table documented
 cycles_not_full = refl
 
 -- the same of a reset
@@ -205,12 +205,12 @@ added_opcode = refl
 -- BRA $0301 at $02FD leaves the page: 4 cycles
 branch_always : step (in_profile C (replicate 0x2FD 0 ++ 0x80 ∷ 0x02 ∷ []) (record no_regs { pc = 0x2FD }) 7)
     ≡ Ok (in_profile C (replicate 0x2FD 0 ++ 0x80 ∷ 0x02 ∷ []) (record no_regs { pc = 0x301 }) 11)
-unfolding step attempted executed fetched stores performed branch branches place_of operation_of row_at find_row table documented added
+unfolding step attempted executed advanced stores performed branch branches effective_address operation_of row_at find_row table documented added
 branch_always = refl
 
 -- STZ $03 stores 0, changes no flag and takes 3 cycles
 store_zero : step (in_profile C (0x64 ∷ 0x03 ∷ 0xFF ∷ 0xFF ∷ []) (after_load 0) 7) ≡ Ok (in_profile C (0x64 ∷ 0x03 ∷ 0xFF ∷ 0 ∷ []) (after_load 2) 10)
-unfolding step attempted executed fetched stores performed store store_value after_write overflows is_port is_rom place_of operation_of row_at find_row table documented added
+unfolding step attempted executed advanced stores performed store store_value after_write overflows is_port is_rom effective_address operation_of row_at find_row table documented added
 store_zero = refl
 
 -- memory with a pointer at $FF and $00, LDA ($FF) at $0200, and the byte that it loads at $0310
@@ -219,7 +219,7 @@ with_pointer = 0x03 ∷ replicate 0xFE 0 ++ 0x10 ∷ replicate 0x100 0 ++ 0xB2 �
 
 -- LDA ($FF) takes the pointer's high byte at $0000, in 5 cycles
 load_indirect : step (in_profile C with_pointer (record no_regs { pc = 0x200 }) 7) ≡ Ok (in_profile C with_pointer (after_load 0x202) 12)
-unfolding step attempted executed fetched stores performed load loaded operand after_operand place_of word_in_page operation_of row_at find_row table documented added is_port byte_read after_read
+unfolding step attempted executed advanced stores performed load loaded operand after_operand effective_address word_in_page operation_of row_at find_row table documented added is_port byte_read after_read
 load_indirect = refl
 
 -- memory with JMP ($00FF) at 0, and bytes at $00FF and $0100
@@ -228,14 +228,14 @@ with_jump = 0x6C ∷ 0xFF ∷ 0x00 ∷ replicate 0xFC 0 ++ 0x10 ∷ 0x03 ∷ []
 
 -- JMP ($00FF) takes the high byte at $0100 in profile C, and at $0000 in profile N, in 5 cycles both
 jump_over_page : step (in_profile C with_jump no_regs 7) ≡ Ok (in_profile C with_jump (record no_regs { pc = 0x0310 }) 12)
-unfolding step attempted executed fetched stores performed place_of jump_target word_at operation_of row_at find_row table documented added
+unfolding step attempted executed advanced stores performed effective_address jump_target word_at operation_of row_at find_row table documented added
 jump_over_page = refl
 
 jump_in_page : step (in_profile N with_jump no_regs 7) ≡ Ok (in_profile N with_jump (record no_regs { pc = 0x6C10 }) 12)
-unfolding step attempted executed fetched stores performed place_of jump_target word_at word_in_page operation_of row_at find_row table documented
+unfolding step attempted executed advanced stores performed effective_address jump_target word_at word_in_page operation_of row_at find_row table documented
 jump_in_page = refl
 
--- registers at a BRK at $0200 in decimal mode, and memory behind it
+-- registers at a BRK at $0200 in decimal mode, and memory after it
 abbrev decimal_regs : Regs
 decimal_regs = record no_regs { s = 0xFD; pc = 0x200; flags = record no_flags { d = true } }
 
@@ -245,12 +245,12 @@ with_return = replicate 0x1FB 0 ++ 0x38 ∷ 0x02 ∷ 0x02 ∷ replicate 3 0
 -- BRK pushes the status with D, and then clears D in profile C and leaves it in profile N
 break_clears_decimal : step (in_profile C (replicate 0x201 0) decimal_regs 7)
     ≡ Ok (in_profile C with_return (record no_regs { s = 0xFA; flags = record no_flags { i = true } }) 14)
-unfolding step attempted executed fetched stores performed break_entry interrupted pushed status place_of word_at operation_of row_at find_row table documented added
+unfolding step attempted executed advanced stores performed break_entry interrupted pushed status effective_address word_at operation_of row_at find_row table documented added
 break_clears_decimal = refl
 
 break_keeps_decimal : step (in_profile N (replicate 0x201 0) decimal_regs 7)
     ≡ Ok (in_profile N with_return (record no_regs { s = 0xFA; flags = record no_flags { d = true; i = true } }) 14)
-unfolding step attempted executed fetched stores performed break_entry interrupted pushed status place_of word_at operation_of row_at find_row table documented
+unfolding step attempted executed advanced stores performed break_entry interrupted pushed status effective_address word_at operation_of row_at find_row table documented
 break_keeps_decimal = refl
 
 -- PLX pulls X, with N and Z of it, in 4 cycles
@@ -259,12 +259,12 @@ with_pulled = 0xFA ∷ replicate 0x1FD 0 ++ 0x80 ∷ []
 
 pull_into_x : step (in_profile C with_pulled (record no_regs { s = 0xFD }) 7)
     ≡ Ok (in_profile C with_pulled (record no_regs { x = 0x80; s = 0xFE; pc = 1; flags = record no_flags { n = true } }) 11)
-unfolding step attempted executed fetched stores performed pull_x pulled after_pull place_of operation_of row_at find_row table documented added
+unfolding step attempted executed advanced stores performed pull_x pulled after_pull effective_address operation_of row_at find_row table documented added
 pull_into_x = refl
 
 -- INC A
 increment_a : step (in_profile C (0x1A ∷ []) (record no_regs { a = 0xFF }) 7) ≡ Ok (in_profile C (0x1A ∷ []) (record no_regs { pc = 1; flags = record no_flags { z = true } }) 9)
-unfolding step attempted executed fetched stores performed modify_a modified place_of operation_of row_at find_row table documented added
+unfolding step attempted executed advanced stores performed modify_a modified effective_address operation_of row_at find_row table documented added
 increment_a = refl
 
 -- maps

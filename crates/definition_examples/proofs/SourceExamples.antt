@@ -11,7 +11,7 @@ use Rattle.model.specs.Value.{eval_of}
 use Rattle.model.specs.Names.{number_in}
 use Rattle.model.specs.Line.{nothing, bytes, instruction, value, string, labelled, definition, immediate, direct, accumulator, whole_expression, operand_of, list_within, directive_of, statement_of, line_of, is_reserved, read_line}
 use Rattle.model.specs.Layout.{no_bytes, code, size_of, form_of, has_row, laid, line_fixed, layout_of}
-use Rattle.model.specs.Bytes.{byte_piece, address_piece, zero_page_piece, branch_piece, operand_piece, pieces_of, bytes_of, has_bytes, has_port, place_kinds, lower, lowest, value_fault}
+use Rattle.model.specs.Bytes.{byte_piece, address_piece, zero_page_piece, branch_piece, operand_piece, pieces_of, line_bytes, has_bytes, has_port, place_kinds, lower, lowest, value_fault}
 use Rattle.model.specs.Source.{nothing_fixed}
 use Rattle.model.specs.OneLine.{one_line}
 use Rattle.model.specs.Instruction.{row_of, operand_text}
@@ -60,8 +60,8 @@ unfolding layout_of read_line tokens_of tokens_from token_at line_of statement_o
 placed = refl
 
 -- a branch to itself
-branch : bytes_of (number_in []) (record { address = 0xFFFD; content = code 0xD0 Rel (Some (literal (Some (pos 1)))) }) ≡ 0xD0 ∷ 2 ∷ []
-unfolding bytes_of pieces_of operand_piece branch_piece eval_of
+branch : line_bytes (number_in []) (record { address = 0xFFFD; content = code 0xD0 Rel (Some (literal (Some (pos 1)))) }) ≡ 0xD0 ∷ 2 ∷ []
+unfolding line_bytes pieces_of operand_piece branch_piece eval_of
 branch = refl
 
 -- the lowest kind decides: a byte at the port comes before a division by zero
@@ -124,28 +124,28 @@ free_by_profile = refl
 
 -- `!` takes the absolute mode
 store_zero : one_line C 0x0200 (codes "STZ !$10") ≡ Ok (0x9C ∷ 0x10 ∷ 0x00 ∷ [])
-unfolding one_line read_line tokens_of tokens_from token_at line_of statement_of mnemonic_named named_among mnemonics mnemonic_text operand_of whole_expression expression_of is_reserved line_fixed laid form_of has_row encoded find_opcode table documented added eval_of size_of pieces_of operand_piece byte_piece address_piece zero_page_piece branch_piece place_kinds bytes_of lower lowest
+unfolding one_line read_line tokens_of tokens_from token_at line_of statement_of mnemonic_named named_among mnemonics mnemonic_text operand_of whole_expression expression_of is_reserved line_fixed laid form_of has_row encoded find_opcode table documented added eval_of size_of pieces_of operand_piece byte_piece address_piece zero_page_piece branch_piece place_kinds line_bytes lower lowest
 store_zero = refl
 
 -- `(e)` is the zero page mode, but JMP's
 indirect : one_line C 0x0200 (codes "LDA ($10)") ≡ Ok (0xB2 ∷ 0x10 ∷ [])
-unfolding one_line read_line tokens_of tokens_from token_at line_of statement_of mnemonic_named named_among mnemonics mnemonic_text operand_of whole_expression expression_of is_reserved line_fixed laid form_of has_row encoded find_opcode table documented added eval_of size_of pieces_of operand_piece byte_piece address_piece zero_page_piece branch_piece place_kinds bytes_of lower lowest
+unfolding one_line read_line tokens_of tokens_from token_at line_of statement_of mnemonic_named named_among mnemonics mnemonic_text operand_of whole_expression expression_of is_reserved line_fixed laid form_of has_row encoded find_opcode table documented added eval_of size_of pieces_of operand_piece byte_piece address_piece zero_page_piece branch_piece place_kinds line_bytes lower lowest
 indirect = refl
 
 indirect_in_n : one_line N 0x0200 (codes "LDA ($10)") ≡ Err kind.NoSuchForm
-unfolding one_line read_line tokens_of tokens_from token_at line_of statement_of mnemonic_named named_among mnemonics mnemonic_text operand_of whole_expression expression_of is_reserved line_fixed laid form_of has_row encoded find_opcode table documented added eval_of size_of pieces_of operand_piece byte_piece address_piece zero_page_piece branch_piece place_kinds bytes_of lower lowest
+unfolding one_line read_line tokens_of tokens_from token_at line_of statement_of mnemonic_named named_among mnemonics mnemonic_text operand_of whole_expression expression_of is_reserved line_fixed laid form_of has_row encoded find_opcode table documented added eval_of size_of pieces_of operand_piece byte_piece address_piece zero_page_piece branch_piece place_kinds line_bytes lower lowest
 indirect_in_n = refl
 
 indirect_too_high : one_line C 0x0200 (codes "LDA ($100)") ≡ Err kind.ByteRange
-unfolding one_line read_line tokens_of tokens_from token_at line_of statement_of mnemonic_named named_among mnemonics mnemonic_text operand_of whole_expression expression_of is_reserved line_fixed laid form_of has_row encoded find_opcode table documented added eval_of size_of pieces_of operand_piece byte_piece address_piece zero_page_piece branch_piece place_kinds bytes_of lower lowest
+unfolding one_line read_line tokens_of tokens_from token_at line_of statement_of mnemonic_named named_among mnemonics mnemonic_text operand_of whole_expression expression_of is_reserved line_fixed laid form_of has_row encoded find_opcode table documented added eval_of size_of pieces_of operand_piece byte_piece address_piece zero_page_piece branch_piece place_kinds line_bytes lower lowest
 indirect_too_high = refl
 
 jump_indirect : one_line C 0x0200 (codes "JMP ($10)") ≡ Ok (0x6C ∷ 0x10 ∷ 0x00 ∷ [])
-unfolding one_line read_line tokens_of tokens_from token_at line_of statement_of mnemonic_named named_among mnemonics mnemonic_text operand_of whole_expression expression_of is_reserved line_fixed laid form_of has_row encoded find_opcode table documented added eval_of size_of pieces_of operand_piece byte_piece address_piece zero_page_piece branch_piece place_kinds bytes_of lower lowest
+unfolding one_line read_line tokens_of tokens_from token_at line_of statement_of mnemonic_named named_among mnemonics mnemonic_text operand_of whole_expression expression_of is_reserved line_fixed laid form_of has_row encoded find_opcode table documented added eval_of size_of pieces_of operand_piece byte_piece address_piece zero_page_piece branch_piece place_kinds line_bytes lower lowest
 jump_indirect = refl
 
 branch_always : one_line C 0x02FD (codes "BRA $0301") ≡ Ok (0x80 ∷ 0x02 ∷ [])
-unfolding one_line read_line tokens_of tokens_from token_at line_of statement_of mnemonic_named named_among mnemonics mnemonic_text operand_of whole_expression expression_of is_reserved line_fixed laid form_of has_row encoded find_opcode table documented added eval_of size_of pieces_of operand_piece byte_piece address_piece zero_page_piece branch_piece place_kinds bytes_of lower lowest
+unfolding one_line read_line tokens_of tokens_from token_at line_of statement_of mnemonic_named named_among mnemonics mnemonic_text operand_of whole_expression expression_of is_reserved line_fixed laid form_of has_row encoded find_opcode table documented added eval_of size_of pieces_of operand_piece byte_piece address_piece zero_page_piece branch_piece place_kinds line_bytes lower lowest
 branch_always = refl
 
 -- the same as text

@@ -34,9 +34,9 @@ semicolon_in_string : tokens_of (codes "\"a;b\"") ≡ Some (token Str 0 (codes "
 unfolding tokens_of tokens_from token_at
 semicolon_in_string = refl
 
-char_behind_number : tokens_of (codes "5'a'") ≡ Some (token Number 0 (codes "5") ∷ token Char 1 (codes "'a'") ∷ [])
+char_after_number : tokens_of (codes "5'a'") ≡ Some (token Number 0 (codes "5") ∷ token Char 1 (codes "'a'") ∷ [])
 unfolding tokens_of tokens_from token_at
-char_behind_number = refl
+char_after_number = refl
 
 -- 31 letters are a word, and 32 are none
 longest_word : tokens_of (replicate 31 97) ≡ Some (token Word 0 (replicate 31 97) ∷ [])

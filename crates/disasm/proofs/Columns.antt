@@ -9,7 +9,7 @@ all_of (a ∷ b ∷ []) few = refl
 all_of (a ∷ b ∷ c ∷ []) few = refl
 all_of (a ∷ b ∷ c ∷ d ∷ xs) few = absurd (omega (arith, few))
 
--- an address, the columns and a text, one behind the other
+-- an address, the columns and a text, one after the other
 pub joined : (w x y z : ℕ) (columns text : List ℕ)
     → (((((w ∷ x ∷ y ∷ z ∷ 32 ∷ 32 ∷ []) ++ columns) ++ (32 ∷ 32 ∷ [])) ++ text) ++ (10 ∷ []))
     ≡ w ∷ x ∷ y ∷ z ∷ 32 ∷ 32 ∷ (columns ++ (32 ∷ 32 ∷ (text ++ (10 ∷ []))))

@@ -1,4 +1,4 @@
--- Rows without the bytes behind their text.
+-- Rows without the bytes after their text.
 use Rattle.std.specs.Prelude.{take}
 use Rattle.model.specs.Instruction.{TextRow}
 use Rattle.disasm.specs.declared.line.TextLine.{TextLine}

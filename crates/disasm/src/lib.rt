@@ -1,4 +1,6 @@
 //! The disassembler: the text of the instructions in some memory. Nothing here takes memory.
+//!
+//! `line_at` gives one row, `row_text` its text; both are the definition's, in `Instruction.antt` and `Disassembly.antt` of `model`.
 #![tactic(auto)]
 
 pub use line::{TextLine, line_at, line_in};

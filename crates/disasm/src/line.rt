@@ -11,7 +11,7 @@ use hexdigits::digits_of;
 use model::{Profile, Row};
 use optable::decode_in;
 
-/// A row of memory: its length in bytes of memory, and its text, the first `text_len` bytes of `text`. The bytes behind are 0.
+/// A row of memory: its length in bytes of memory, and its text, the first `text_len` bytes of `text`. The bytes after are 0.
 #[derive(Clone, Copy, Debug, PartialEq, Eq)]
 pub struct TextLine {
     pub len: u8,
@@ -59,7 +59,7 @@ fn byte_line(byte: u8) -> TextLine
     row(1, &[b'.', b'B', b'Y', b'T', b'E', b' ', b'$', high, low])
 }
 
-/// The byte at a place, and 0 behind the last.
+/// The byte at a place, and 0 after the last.
 fn byte_or_0(bytes: &[u8], place: usize) -> u8
     ensures { result ≡ slice_index bytes.now place }
 {

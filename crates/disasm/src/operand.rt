@@ -30,7 +30,7 @@ fn target(address: u16, second: u8) -> u16
     ((next + distance) % 65536) as u16
 }
 
-/// An address in an absolute mode, and what stands behind it.
+/// An address in an absolute mode, and what stands after it.
 fn absolute(profile: Profile, mnemonic: Mnemonic, short: Mode, word: u16, suffix: &[u8]) -> Text
     requires { length suffix.now ≤ 2 }
     ensures exact { result.items ≡ 32 ∷ (absolute_text profile mnemonic short word ++ suffix.now) }
@@ -47,7 +47,7 @@ fn absolute(profile: Profile, mnemonic: Mnemonic, short: Mode, word: u16, suffix
     text
 }
 
-/// The operand of an instruction at an address as text, by the bytes behind its opcode.
+/// The operand of an instruction at an address as text, by the bytes after its opcode.
 #[tactic(auto, unfolding(model::specs::Instruction::operand_text))]
 pub fn operand(
     profile: Profile,

@@ -41,7 +41,7 @@ row_within memory bytes address len below size is short =
     let long : length bytes ≡ min 3 (length (drop address memory)) = ap length is ∙ length-take 3 (drop address memory) in
     omega (arith, length-drop address memory)
 
--- behind the last row
+-- after the last row
 pub behind : (profile : Profile) (memory : List ℕ) (last address left : ℕ) → last < address → rows_in profile memory last address left ≡ []
 unfolding rows_in
 behind profile memory last address zero past = refl

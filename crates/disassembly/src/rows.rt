@@ -1,4 +1,4 @@
-//! Rows of memory, one behind the other.
+//! Rows of memory, one after the other.
 
 ghost use Rattle.std.specs.Prelude.{◌≡◌, ◌++◌, IfOk, OnOk, length};
 ghost use Rattle.model.specs.Disassembly.{rows_in};

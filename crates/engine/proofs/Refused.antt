@@ -1,7 +1,7 @@
 -- What a refusal of a part makes of the engine's answer.
 use Rattle.std.proofs.Common.{◌≡◌, ℕ, List, [], Option, Result, Ok, Err, refl, sym, ap, ◌∙◌, subst, ◌⊎◌, inl, inr}
 use Rattle.std.specs.Result.{IsErrAnd}
-use Rattle.model.specs.Tape.{Denotes}
+use Rattle.model.specs.Tape.{TapeDenotes}
 use Rattle.model.specs.TapeFault as tape_faults
 use Rattle.model.specs.declared.tape.TapeFault.{TapeFault}
 use Rattle.model.specs.declared.tape.TapeFaultKind.{TapeFaultKind}
@@ -45,8 +45,8 @@ same_image image cells f (inl e) = ap image_in e
 same_image image cells f (inr e) = absurd cc
 
 -- What holds of the image that was read holds of each image that the text denotes.
-pub for_each : (P : Image → Type 0) (text : List ℕ) (image : Image) → ((cells : Image) → Denotes text cells → (read_ok image ≡ read_ok cells) ⊎ (read_ok image ≡ read_err tape_faults.out_of_memory))
-    → P image → (cells : Image) → Denotes text cells → P cells
+pub for_each : (P : Image → Type 0) (text : List ℕ) (image : Image) → ((cells : Image) → TapeDenotes text cells → (read_ok image ≡ read_ok cells) ⊎ (read_ok image ≡ read_err tape_faults.out_of_memory))
+    → P image → (cells : Image) → TapeDenotes text cells → P cells
 for_each P text image only p cells d = subst P (same_image image cells _ (only cells d)) p
 
 -- An image was read, so no fault was.

@@ -4,7 +4,7 @@ ghost use Rattle.std.specs.Prelude.{◌≡◌, ◌≤◌, ◌⊎◌, true, false
 ghost use Rattle.model.specs.Event.{start};
 ghost use Rattle.model.specs.Session.{fresh};
 ghost use Rattle.model.specs.State.{has_port_byte};
-ghost use Rattle.model.specs.Tape.{Denotes, FirstFault};
+ghost use Rattle.model.specs.Tape.{TapeDenotes, FirstFault};
 ghost use Rattle.model.specs.declared.session_fault.SessionFault.TheVariants.{PortAddress};
 ghost use Rattle.model.specs.declared.tape.TapeFaultKind.{TapeFaultKind};
 ghost use Rattle.engine.specs.Outcome.{Reaches, Serves};
@@ -42,26 +42,26 @@ pub fn debug_tape<R: Read, W: Write>(
     requires { history ≤ 65536 }
 
     // The session that starts with the image that the tape denotes is served.
-    ensures serves { (image : List (Option ℕ)) → Denotes tape.now image
+    ensures serves { (image : List (Option ℕ)) → TapeDenotes tape.now image
         → Serves (fresh history (start map image)) (R.remaining reader.old) (R.remaining reader.new) (W.contents writer.old) (W.contents writer.new) result }
 
     // Where a session stood, the tape denotes an image, and where none did, neither reader nor writer was asked.
-    ensures reaches { Reaches result ((image : List (Option ℕ)) × Denotes tape.now image) ((reader.new ≡ reader.old) × (writer.new ≡ writer.old)) }
+    ensures reaches { Reaches result ((image : List (Option ℕ)) × TapeDenotes tape.now image) ((reader.new ≡ reader.old) × (writer.new ≡ writer.old)) }
 
     // A tape with a fault is refused with it, and one that denotes an image is not, memory aside.
     ensures faulty { (kind : TapeFaultKind) (offset : ℕ) → FirstFault tape.now kind offset
         → (result ≡ Err (EngineFault.Tape (record { offset = offset; kind = kind }))) ⊎ (result ≡ Err EngineFault.OutOfMemory) }
-    ensures right { (image : List (Option ℕ)) → Denotes tape.now image → IfTape result (λ _. ⊥) }
+    ensures right { (image : List (Option ℕ)) → TapeDenotes tape.now image → IfTape result (λ _. ⊥) }
 
     // A refused tape is answered with its first fault.
     ensures refused { IfTape result (λ fault. FirstFault tape.now fault.kind fault.offset) }
 
     // A tape with a byte at a port address is refused, and one without is not, memory aside.
-    ensures port { (image : List (Option ℕ)) → Denotes tape.now image → has_port_byte map image ≡ true
+    ensures port { (image : List (Option ℕ)) → TapeDenotes tape.now image → has_port_byte map image ≡ true
         → (result ≡ Err (EngineFault.Session PortAddress)) ⊎ (result ≡ Err EngineFault.OutOfMemory) }
-    ensures spared { (image : List (Option ℕ)) → Denotes tape.now image → has_port_byte map image ≡ false → IfSession result (λ _. ⊥) }
+    ensures spared { (image : List (Option ℕ)) → TapeDenotes tape.now image → has_port_byte map image ≡ false → IfSession result (λ _. ⊥) }
     ensures session { IfSession result (λ fault. (fault ≡ PortAddress)
-        × ((image : List (Option ℕ)) × Denotes tape.now image × (has_port_byte map image ≡ true))) }
+        × ((image : List (Option ℕ)) × TapeDenotes tape.now image × (has_port_byte map image ≡ true))) }
 
     ensures source { IfSource result (λ _. ⊥) }
 {

@@ -24,7 +24,7 @@ use std::io::{Read, Write};
 ///
 /// # Errors
 ///
-/// - `Tape`: the tape has a fault, or goes on behind 4,294,967,295 bytes that have none (`TooLong`).
+/// - `Tape`: the tape has a fault, or goes on after 4,294,967,295 bytes that have none (`TooLong`).
 ///   No command line was read, and nothing was written.
 /// - `Session`: the tape has a byte at a port address (`PortAddress`). No command line was read, and
 ///   nothing was written.

@@ -382,7 +382,7 @@ fn quit_comes_before_a_failure(rt: HostRuntime) -> Result<(), Fail> {
 /// `LDA #$41`, `STA $F000`, `BRK` at $0200, and the reset vector.
 const TAPE: &[u8] = b";060200A9418D00F000026F\r\n;02FFFC000201FF\r\n;0000020002\r\n";
 
-/// Each read of a tape fails, the one behind its end too: no line is read, and nothing is written.
+/// Each read of a tape fails, the one after its end too: no line is read, and nothing is written.
 #[test]
 fn each_read_of_a_tape_fails(rt: HostRuntime) -> Result<(), Fail> {
     for reads in 0..=TAPE.len() {

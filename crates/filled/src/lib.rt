@@ -1,4 +1,6 @@
 //! The memory that an image fills.
+//!
+//! `memory_of` is the one call: the bytes of an image and 0 elsewhere, as a list that the disassembler reads.
 #![tactic(auto)]
 
 ghost use Rattle.std.specs.Prelude.{◌≡◌, IfOk, length};

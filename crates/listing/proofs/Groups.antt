@@ -2,7 +2,7 @@
 use Rattle.std.proofs.Common.{◌≡◌, ℕ, ◌+◌, ◌<◌, List, [], ◌∷◌, ◌++◌, length, take, drop, min, refl, sym, ap, ◌∙◌, append_assoc, append-nil, arith}
 use Rattle.model.specs.Listing.{group_row, group_rows}
 
--- the first group and the rows behind it
+-- the first group and the rows after it
 pub next_group : (at : ℕ) (bytes : List ℕ) → 0 < length bytes → group_rows at bytes ≡ group_row at (take (min (length bytes) 3) bytes) ++ group_rows (at + 3) (drop (min (length bytes) 3) bytes)
 next_group at [] some = absurd (omega (arith, some))
 next_group at (a ∷ []) some = sym (append-nil (group_row at (a ∷ [])))

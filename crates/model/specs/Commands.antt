@@ -30,14 +30,14 @@ abbrev pub unspaced : List ℕ → List ℕ
 unspaced [] = []
 unspaced (b ∷ bs) = if b == 32 then unspaced bs else b ∷ bs
 
--- What stands behind the word with which some bytes begin.
-abbrev pub behind_word : List ℕ → List ℕ
-behind_word [] = []
-behind_word (b ∷ bs) = if b == 32 then b ∷ bs else behind_word bs
+-- What stands after the word with which some bytes begin.
+abbrev pub after_word : List ℕ → List ℕ
+after_word [] = []
+after_word (b ∷ bs) = if b == 32 then b ∷ bs else after_word bs
 
--- What stands behind the first word of a line.
+-- What stands after the first word of a line.
 abbrev pub rest_of : List ℕ → List ℕ
-rest_of line = behind_word (unspaced line)
+rest_of line = after_word (unspaced line)
 
 -- ---- numbers
 
@@ -55,9 +55,9 @@ byte_before (Some b) None = None
 byte_before None bytes = None
 
 -- The bytes that some words write, if each word writes one.
-abbrev pub bytes_of : List (List ℕ) → Option (List ℕ)
-bytes_of [] = Some []
-bytes_of (w ∷ ws) = byte_before (byte_of w) (bytes_of ws)
+abbrev pub bytes_of_words : List (List ℕ) → Option (List ℕ)
+bytes_of_words [] = Some []
+bytes_of_words (w ∷ ws) = byte_before (byte_of w) (bytes_of_words ws)
 
 -- The number that 1 to 7 decimal digits write, leading zeros among them.
 unfoldable pub decimal_of : List ℕ → Option ℕ
@@ -104,10 +104,10 @@ patch_command (Some address) (Some bytes) = patch_at address bytes
 patch_command (Some address) None = Bad
 patch_command None bytes = Bad
 
--- The words behind `patch`: an address, and one for each byte.
+-- The words after `patch`: an address, and one for each byte.
 abbrev pub patch_words : List (List ℕ) → Command
 patch_words [] = Bad
-patch_words (a ∷ ws) = patch_command (address_of a) (bytes_of ws)
+patch_words (a ∷ ws) = patch_command (address_of a) (bytes_of_words ws)
 
 -- Sixteen zeros.
 abbrev pub no_input : List ℕ
@@ -125,10 +125,10 @@ abbrev pub input_command : Option (List ℕ) → Command
 input_command (Some bytes) = if nat_le (length bytes) 16 then Input (take 16 (bytes ++ no_input)) (length bytes) else Bad
 input_command None = Bad
 
--- The words behind `in`: one for each byte, and at least one.
+-- The words after `in`: one for each byte, and at least one.
 abbrev pub input_words : List (List ℕ) → Command
 input_words [] = Bad
-input_words (a ∷ ws) = input_command (bytes_of (a ∷ ws))
+input_words (a ∷ ws) = input_command (bytes_of_words (a ∷ ws))
 
 -- A command with a number, if the word writes one.
 abbrev pub number_command : (ℕ → Command) → Option ℕ → Command
@@ -147,7 +147,7 @@ dis_command None count = Bad
 
 -- ---- one row for each command
 
--- The words behind a command's name: none, one, or two. With any others the command is bad.
+-- The words after a command's name: none, one, or two. With any others the command is bad.
 abbrev pub with_none : Command → List (List ℕ) → Command
 with_none command [] = command
 with_none command (a ∷ ws) = Bad
@@ -160,7 +160,7 @@ abbrev pub with_two : (List ℕ → List ℕ → Command) → List (List ℕ) �
 with_two command (a ∷ b ∷ []) = command a b
 with_two command ws = Bad
 
--- Each command's name, and what it asks for with the words behind it.
+-- Each command's name, and what it asks for with the words after it.
 abbrev pub commands : List (List ℕ × (List (List ℕ) → Command))
 commands =
     (codes "regs", with_none Regs)
@@ -212,7 +212,7 @@ asm_command (Some address) (b ∷ bs) = Asm address (take 255 ((b ∷ bs) ++ rep
 asm_command (Some address) [] = Bad
 asm_command None text = Bad
 
--- The text of `asm`: the rest of the line behind the address and its spaces.
+-- The text of `asm`: the rest of the line after the address and its spaces.
 abbrev pub text_of : List ℕ → List ℕ
 text_of line = unspaced (rest_of (rest_of line))
 

@@ -23,7 +23,7 @@ digit_value b = unwrap_or (hex_value b) 0
 abbrev pub decimal_value : ℕ → Option ℕ
 decimal_value b = if nat_le (byte "0") b && nat_le b (byte "9") then Some (b - 48) else None
 
--- The number that digits to a base write behind those of another number, if each of the bytes is a digit.
+-- The number that digits to a base write after those of another number, if each of the bytes is a digit.
 abbrev pub number_from : (ℕ → Option ℕ) → ℕ → ℕ → List ℕ → Option ℕ
 number_from value base number [] = Some number
 number_from value base number (b ∷ bytes) = option_and_then (λ digit. number_from value base (number * base + digit) bytes) (value b)

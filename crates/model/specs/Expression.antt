@@ -23,18 +23,18 @@ pub data Term : Type 0 where
 
 -- ---- single tokens
 
--- The number that digits write behind a number.
-abbrev pub number_behind : ℕ → ℕ → List ℕ → ℕ
-number_behind base n [] = n
-number_behind base n (b ∷ digits) = number_behind base (n * base + digit_value b) digits
+-- The number that digits write after a number.
+abbrev pub number_after : ℕ → ℕ → List ℕ → ℕ
+number_after base n [] = n
+number_after base n (b ∷ digits) = number_after base (n * base + digit_value b) digits
 
 -- The number that a number's text writes: `$` and hex digits, `%` and binary digits, or decimal digits.
 abbrev pub number_of_text : List ℕ → ℕ
 number_of_text [] = 0
 number_of_text (b ∷ digits) =
-    if b == byte "$" then number_behind 16 0 digits
-    else if b == byte "%" then number_behind 2 0 digits
-    else number_behind 10 0 (b ∷ digits)
+    if b == byte "$" then number_after 16 0 digits
+    else if b == byte "%" then number_after 2 0 digits
+    else number_after 10 0 (b ∷ digits)
 
 -- A literal's number, where it is at most 2^31 - 1.
 abbrev pub in_range : ℕ → Option ℤ
@@ -106,7 +106,7 @@ pub data Derives : Level → ℕ → Term → List Lexeme → Type 0 where
 abbrev pub IsExpression : Term → List Lexeme → Type 0
 IsExpression e ts = Derives whole 8 e ts
 
--- The longest beginning of some tokens that is an expression, and what is left behind it.
+-- The longest beginning of some tokens that is an expression, and what is left after it.
 pub record Longest (tokens : List Lexeme) (term : Term) (rest : List Lexeme) : Type 0 where
   pub front : List Lexeme
   pub cut : tokens ≡ front ++ rest

@@ -18,7 +18,7 @@ byte_text b = 36 ∷ hex_byte b
 abbrev pub word_text : ℕ → List ℕ
 word_text w = 36 ∷ hex_word w
 
--- An address in an absolute mode: behind a `!` where it is below $0100 and the mnemonic has the zero page mode with the same index.
+-- An address in an absolute mode: after a `!` where it is below $0100 and the mnemonic has the zero page mode with the same index.
 abbrev pub absolute_text : Profile → Mnemonic → Mode → ℕ → List ℕ
 absolute_text profile m short w = if nat_lt w 256 && has_row profile m short then 33 ∷ word_text w else word_text w
 

@@ -123,7 +123,7 @@ mode_by numbers address None (Some (by_size short long)) = Ok long
 
 -- ---- what a line denotes
 
--- What a line will denote, its values still open: bytes, words, or an opcode and what stands behind it in a mode.
+-- What a line will denote, its values still open: bytes, words, or an opcode and what stands after it in a mode.
 pub data Content : Type 0 where
   no_bytes : Content
   byte_list : List Item → Content
@@ -155,15 +155,15 @@ pub record Placed : Type 0 where
 -- ---- the statement of a line
 
 -- A statement in its place, and the address of the next line.
-abbrev pub Place : Type 0
-Place = Placed × ℕ
+abbrev pub PlacedAndNext : Type 0
+PlacedAndNext = Placed × ℕ
 
--- What has a size stands at its line's address, and the next line behind it.
-abbrev pub standing : ℕ → Content → Place
+-- What has a size stands at its line's address, and the next line after it.
+abbrev pub standing : ℕ → Content → PlacedAndNext
 standing address content = (record { address = address; content = content }, address + size_of content)
 
 -- What has no bytes, and the address to go on from.
-abbrev pub going_on : ℕ → ℕ → Place
+abbrev pub going_on : ℕ → ℕ → PlacedAndNext
 going_on address next = (record { address = address; content = no_bytes }, next)
 
 -- An expression that places: its names have to be known here.
@@ -178,23 +178,23 @@ abbrev pub in_memory : ℤ → Result ℕ AsmFaultKind
 in_memory (pos n) = if nat_le n 65535 then Ok n else Err OriginRange
 in_memory (negsuc n) = Err OriginRange
 
-abbrev pub in_mode : Profile → Mnemonic → ℕ → Option Term → Mode → Place
+abbrev pub in_mode : Profile → Mnemonic → ℕ → Option Term → Mode → PlacedAndNext
 in_mode profile m address e mode = standing address (code (unwrap_or (encoded profile m mode) 0) mode e)
 
--- The address behind so many bytes, none of them past 65535.
-abbrev pub behind_room : ℕ → ℤ → Result ℕ AsmFaultKind
-behind_room address (pos n) = if nat_le (address + n) 65536 then Ok (address + n) else Err OriginRange
-behind_room address (negsuc n) = Err OriginRange
+-- The address after so many bytes, none of them past 65535.
+abbrev pub after_room : ℕ → ℤ → Result ℕ AsmFaultKind
+after_room address (pos n) = if nat_le (address + n) 65536 then Ok (address + n) else Err OriginRange
+after_room address (negsuc n) = Err OriginRange
 
 -- A statement at an address, under the numbers of the names that are known there, and the next line's address; or its layout fault.
--- The next line's address is the line's and its size, behind `*= e` the value of e.
-unfoldable pub laid : Profile → Numbers → ℕ → Statement → Result Place AsmFaultKind
+-- The next line's address is the line's and its size, after `*= e` the value of e.
+unfoldable pub laid : Profile → Numbers → ℕ → Statement → Result PlacedAndNext AsmFaultKind
 laid profile numbers address nothing = Ok (standing address no_bytes)
 laid profile numbers address (origin e) = placing (eval_of numbers (pos address) e) >>> λ v. in_memory v >>> λ n. Ok (going_on address n)
 laid profile numbers address (bytes items) = Ok (standing address (byte_list items))
 laid profile numbers address (words es) = Ok (standing address (word_list es))
 laid profile numbers address (words_high_first es) = Ok (standing address (word_list_high_first es))
-laid profile numbers address (reserve e) = placing (eval_of numbers (pos address) e) >>> λ v. behind_room address v >>> λ n. Ok (going_on address n)
+laid profile numbers address (reserve e) = placing (eval_of numbers (pos address) e) >>> λ v. after_room address v >>> λ n. Ok (going_on address n)
 laid profile numbers address finish = Ok (standing address no_bytes)
 laid profile numbers address (instruction m operand) = mode_by numbers address (term_of operand) (form_of profile m operand) >>> λ mode. Ok (in_mode profile m address (term_of operand) mode)
 
@@ -224,10 +224,10 @@ label_at address (Some name) = (name, pos address) ∷ []
 abbrev pub Standing : Type 0
 Standing = Placed × Fixed
 
-abbrev pub fixing : Profile → Definitions → Place → Standing
+abbrev pub fixing : Profile → Definitions → PlacedAndNext → Standing
 fixing profile names place = (place.0, record { profile = profile; address = place.1; names = names })
 
--- A line behind lines that fix so much: its own equation. A name is known where an earlier line defines it or it is the line's label.
+-- A line after lines that fix so much: its own equation. A name is known where an earlier line defines it or it is the line's label.
 abbrev pub line_at : Fixed → Line → Result Standing AsmFaultKind
 line_at before (labelled label s) =
     let names = before.names ++ label_at before.address label in
@@ -271,7 +271,7 @@ line_fixed before l =
 unfoldable pub layout_of : Fixed → List ℕ → Result Standing AsmFaultKind
 layout_of before line = read_line before.profile line >>> λ l. line_fixed before l
 
--- Behind lines that fix so much these lines stand so, and then so much is fixed: each one meets its own equation.
+-- After lines that fix so much these lines stand so, and then so much is fixed: each one meets its own equation.
 abbrev pub LaidOut : Fixed → List (List ℕ) → List Placed → Fixed → Type 0
 LaidOut before [] placed after = (placed ≡ []) × (after ≡ before)
 LaidOut before (line ∷ lines) [] after = ⊥

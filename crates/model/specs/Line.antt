@@ -38,7 +38,7 @@ pub data Item : Type 0 where
   value : Term → Item
   string : List ℕ → Item
 
--- What stands behind a line's label.
+-- What stands after a line's label.
 pub data Statement : Type 0 where
   nothing : Statement
   origin : Term → Statement
@@ -49,7 +49,7 @@ pub data Statement : Type 0 where
   finish : Statement
   instruction : Mnemonic → Operand → Statement
 
--- A line: a statement behind a label, if there is one; or the definition of a name.
+-- A line: a statement after a label, if there is one; or the definition of a name.
 pub data Line : Type 0 where
   labelled : Option (List ℕ) → Statement → Line
   definition : List ℕ → Term → Line
@@ -68,7 +68,7 @@ is_word_in Symbol text capitals = false
 abbrev pub is_word : List ℕ → Lexeme → Bool
 is_word capitals t = is_word_in t.kind t.text capitals
 
--- What was read, where no token is left behind it.
+-- What was read, where no token is left after it.
 abbrev pub alone : Term → List Lexeme → Option Term
 alone e [] = Some e
 alone e (t ∷ ts) = None
@@ -77,55 +77,55 @@ alone e (t ∷ ts) = None
 unfoldable pub whole_expression : List Lexeme → Option Term
 whole_expression ts = option_and_then (λ p. alone p.0 p.1) (expression_of ts)
 
--- `,X` or `,Y` behind an expression, or nothing.
-abbrev pub direct_behind : Bool → Term → List Lexeme → Option Operand
-direct_behind marked e [] = Some (direct marked e index.Unindexed)
-direct_behind marked e (c ∷ w ∷ []) =
+-- `,X` or `,Y` after an expression, or nothing.
+abbrev pub direct_after : Bool → Term → List Lexeme → Option Operand
+direct_after marked e [] = Some (direct marked e index.Unindexed)
+direct_after marked e (c ∷ w ∷ []) =
     if is_symbol (byte ",") c && is_word (codes "X") w then Some (direct marked e index.X)
     else if is_symbol (byte ",") c && is_word (codes "Y") w then Some (direct marked e index.Y)
     else None
-direct_behind marked e (c ∷ []) = None
-direct_behind marked e (c ∷ w ∷ t ∷ ts) = None
+direct_after marked e (c ∷ []) = None
+direct_after marked e (c ∷ w ∷ t ∷ ts) = None
 
--- What closes a round bracket behind its expression: `)`, `,X)` or `),Y`.
-abbrev pub pointer_behind : Term → List Lexeme → Option Operand
-pointer_behind e (c ∷ []) = if is_symbol (byte ")") c then Some (pointer e) else None
-pointer_behind e (a ∷ b ∷ c ∷ []) =
+-- What closes a round bracket after its expression: `)`, `,X)` or `),Y`.
+abbrev pub pointer_after : Term → List Lexeme → Option Operand
+pointer_after e (c ∷ []) = if is_symbol (byte ")") c then Some (pointer e) else None
+pointer_after e (a ∷ b ∷ c ∷ []) =
     if is_symbol (byte ",") a && is_word (codes "X") b && is_symbol (byte ")") c then Some (pointer_by_x e)
     else if is_symbol (byte ")") a && is_symbol (byte ",") b && is_word (codes "Y") c then Some (pointer_by_y e)
     else None
-pointer_behind e [] = None
-pointer_behind e (a ∷ b ∷ []) = None
-pointer_behind e (a ∷ b ∷ c ∷ t ∷ ts) = None
+pointer_after e [] = None
+pointer_after e (a ∷ b ∷ []) = None
+pointer_after e (a ∷ b ∷ c ∷ t ∷ ts) = None
 
 abbrev pub direct_operand : Bool → List Lexeme → Option Operand
-direct_operand marked ts = option_and_then (λ p. direct_behind marked p.0 p.1) (expression_of ts)
+direct_operand marked ts = option_and_then (λ p. direct_after marked p.0 p.1) (expression_of ts)
 
 abbrev pub is_alone : List Lexeme → Bool
 is_alone [] = true
 is_alone (t ∷ ts) = false
 
--- The operand that the tokens behind a mnemonic are. The word A alone is the accumulator.
+-- The operand that the tokens after a mnemonic are. The word A alone is the accumulator.
 unfoldable pub operand_of : List Lexeme → Option Operand
 operand_of [] = Some absent
 operand_of (t ∷ ts) =
     if is_alone ts && is_word (codes "A") t then Some accumulator
     else if is_symbol (byte "#") t then option_map immediate (whole_expression ts)
-    else if is_symbol (byte "(") t then option_and_then (λ p. pointer_behind p.0 p.1) (expression_of ts)
+    else if is_symbol (byte "(") t then option_and_then (λ p. pointer_after p.0 p.1) (expression_of ts)
     else if is_symbol (byte "!") t then direct_operand true ts
     else direct_operand false (t ∷ ts)
 
 -- ---- statements
 
--- What was read, and behind a comma what goes on.
-abbrev pub list_behind : {A : Type 0} → (List Lexeme → Option (List A)) → A → List Lexeme → Option (List A)
-list_behind more a [] = Some (a ∷ [])
-list_behind more a (c ∷ ts) = if is_symbol (byte ",") c then option_map (λ rest. a ∷ rest) (more ts) else None
+-- What was read, and after a comma what goes on.
+abbrev pub list_after : {A : Type 0} → (List Lexeme → Option (List A)) → A → List Lexeme → Option (List A)
+list_after more a [] = Some (a ∷ [])
+list_after more a (c ∷ ts) = if is_symbol (byte ",") c then option_map (λ rest. a ∷ rest) (more ts) else None
 
 -- At most so many of what is read, separated by commas.
 unfoldable pub list_within : {A : Type 0} → (List Lexeme → Option (A × List Lexeme)) → ℕ → List Lexeme → Option (List A)
 list_within read zero ts = None
-list_within read (suc n) ts = option_and_then (λ p. list_behind (λ more. list_within read n more) p.0 p.1) (read ts)
+list_within read (suc n) ts = option_and_then (λ p. list_after (λ more. list_within read n more) p.0 p.1) (read ts)
 
 -- The expressions, separated by commas, that some tokens are. There are no more of them than tokens.
 abbrev pub expressions_of : List Lexeme → Option (List Term)
@@ -168,15 +168,15 @@ directive_of text ts =
     else if is_directive text (codes ".END") then finish_alone ts
     else None
 
-abbrev pub origin_behind : List Lexeme → Option Statement
-origin_behind [] = None
-origin_behind (t ∷ ts) = if is_symbol (byte "=") t then option_map origin (whole_expression ts) else None
+abbrev pub origin_after : List Lexeme → Option Statement
+origin_after [] = None
+origin_after (t ∷ ts) = if is_symbol (byte "=") t then option_map origin (whole_expression ts) else None
 
 -- The operation that begins with a token.
 abbrev pub operation_by : Profile → TokenKind → Lexeme → List Lexeme → Option Statement
 operation_by profile Word t ts = option_and_then (λ m. option_map (instruction m) (operand_of ts)) (mnemonic_named profile t.text)
 operation_by profile Directive t ts = directive_of t.text ts
-operation_by profile Symbol t ts = if is_symbol (byte "*") t then origin_behind ts else None
+operation_by profile Symbol t ts = if is_symbol (byte "*") t then origin_after ts else None
 operation_by profile Number t ts = None
 operation_by profile Char t ts = None
 operation_by profile Str t ts = None

@@ -2,7 +2,7 @@
 use Rattle.std.specs.Prelude.{ℕ, List, [], ◌∷◌, ◌++◌, ◌==◌, if◌then◌else◌}
 use Rattle.std.specs.Io.BufRead.{strip_last}
 
--- What stands behind the last LF is a line where the input ends, if it is not empty.
+-- What stands after the last LF is a line where the input ends, if it is not empty.
 abbrev pub last_line : List ℕ → List (List ℕ)
 last_line [] = []
 last_line (b ∷ bs) = (b ∷ bs) ∷ []

@@ -21,7 +21,7 @@ abbrev pub separated : List ℕ → List ℕ
 separated [] = []
 separated (b ∷ bytes) = hex_byte b ++ spaced_bytes bytes
 
--- A text with spaces behind it up to 8 columns.
+-- A text with spaces after it up to 8 columns.
 abbrev pub padded : List ℕ → List ℕ
 padded text = text ++ replicate (8 - length text) 32
 

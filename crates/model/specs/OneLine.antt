@@ -4,7 +4,7 @@ use Rattle.model.specs.declared.instruction.Profile.{Profile}
 use Rattle.model.specs.declared.source_fault.AsmFaultKind.{AsmFaultKind}
 use Rattle.model.specs.declared.source_fault.AsmFaultKind.TheVariants.{NotOneLine, PastEnd}
 use Rattle.model.specs.Layout.{◌>>>◌, Fixed, Placed, size_of, unless, line_fixed}
-use Rattle.model.specs.Bytes.{kind_if, kinds_in, lowest, bytes_of, pieces_of}
+use Rattle.model.specs.Bytes.{kind_if, kinds_in, lowest, line_bytes, pieces_of}
 use Rattle.model.specs.Value.{Numbers}
 use Rattle.model.specs.Names.{number_in}
 use Rattle.model.specs.Line.{Statement, nothing, origin, bytes, words, words_high_first, reserve, finish, instruction, Line, labelled, definition, read_line}
@@ -37,7 +37,7 @@ begun_at profile address = record { profile = profile; address = address; names 
 abbrev pub bytes_alone : Placed → Result (List ℕ) AsmFaultKind
 bytes_alone p =
     unless (lowest (kinds_in (pieces_of no_numbers p.address p.content) ++ kind_if (not (nat_le (p.address + size_of p.content) 65536)) PastEnd ∷ []))
-    (Ok (bytes_of no_numbers p))
+    (Ok (line_bytes no_numbers p))
 
 -- Whether it has 1 to 3 bytes.
 abbrev pub is_short : Line → Placed → Bool

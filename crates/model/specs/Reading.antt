@@ -6,7 +6,7 @@ use Rattle.model.specs.declared.expression.Operator.{Operator}
 use Rattle.model.specs.Token.{Lexeme}
 use Rattle.model.specs.Expression.{Term, negated, binary, low, high, symbol_of, operator_of, atom_of, IsExpression, Longest}
 
--- What was read, and the tokens left behind it.
+-- What was read, and the tokens left after it.
 abbrev pub Read : Type 0
 Read = Option (Term × List Lexeme)
 
@@ -26,7 +26,7 @@ abbrev pub unary_with : (List Lexeme → Read) → List Lexeme → Read
 unary_with inner [] = None
 unary_with inner (t ∷ ts) = if is_symbol (byte "-") t then option_map (λ p. (negated p.0, p.1)) (primary_with inner ts) else primary_with inner (t ∷ ts)
 
--- An operator and its right side, and the tokens behind them.
+-- An operator and its right side, and the tokens after them.
 abbrev pub next_with : (List Lexeme → Read) → List Lexeme → Option (Operator × Term × List Lexeme)
 next_with inner [] = None
 next_with inner (t ∷ ts) = option_and_then (λ op. option_map (λ p. (op, p.0, p.1)) (unary_with inner ts)) (operator_of t)
@@ -48,7 +48,7 @@ abbrev pub inner_at : ℕ → List Lexeme → Read
 inner_at zero ts = None
 inner_at (suc d) ts = sum_with (inner_at d) ts
 
--- A sum, or one byte of it behind `<` or `>`.
+-- A sum, or one byte of it after `<` or `>`.
 abbrev pub whole_with : (List Lexeme → Read) → List Lexeme → Read
 whole_with inner [] = None
 whole_with inner (t ∷ ts) =
@@ -56,7 +56,7 @@ whole_with inner (t ∷ ts) =
     else if is_symbol (byte ">") t then option_map (λ p. (high p.0, p.1)) (sum_with inner ts)
     else sum_with inner (t ∷ ts)
 
--- The expression with which some tokens begin, as long as possible, and the tokens left behind it.
+-- The expression with which some tokens begin, as long as possible, and the tokens left after it.
 unfoldable pub expression_of : List Lexeme → Read
 expression_of tokens = whole_with (inner_at 8) tokens
 

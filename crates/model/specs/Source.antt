@@ -67,7 +67,7 @@ pub record IsTooLarge (source : List ℕ) (fault : AsmFault) : Type 0 where
   pub line : fault.line ≡ 0
   pub kind : fault.kind ≡ TooLarge
 
--- The first line that has a layout fault behind what the lines before it fix. Lines are counted from 1.
+-- The first line that has a layout fault after what the lines before it fix. Lines are counted from 1.
 pub record HasLayoutFault (profile : Profile) (source : List ℕ) (fault : AsmFault) : Type 0 where
   pub size : length source ≤ most_bytes
   pub front : List (List ℕ)

@@ -10,10 +10,10 @@ use Rattle.model.specs.Image.{empty_image, with_bytes}
 -- ---- the digits of a record
 
 -- The bytes that pairs of digits write, the high digit first. Source: KIM-1 manual.
-abbrev pub bytes_of : List ℕ → List ℕ
-bytes_of [] = []
-bytes_of (d ∷ []) = []
-bytes_of (high ∷ low ∷ digits) = (digit_value high * 16 + digit_value low) ∷ bytes_of digits
+abbrev pub bytes_of_digits : List ℕ → List ℕ
+bytes_of_digits [] = []
+bytes_of_digits (d ∷ []) = []
+bytes_of_digits (high ∷ low ∷ digits) = (digit_value high * 16 + digit_value low) ∷ bytes_of_digits digits
 
 -- How many digits a record has that begins so: two for the length, four for the address, two for each byte of data, four for the checksum. Source: KIM-1 manual.
 abbrev pub needed : List ℕ → ℕ
@@ -44,7 +44,7 @@ claim_in bytes =
 
 -- What the digits of a record claim. Source: KIM-1 manual.
 unfoldable pub claim_of : List ℕ → Claim
-claim_of digits = claim_in (bytes_of digits)
+claim_of digits = claim_in (bytes_of_digits digits)
 
 -- All digits of a record: hex digits, as many as the first two say. Source: KIM-1 manual.
 abbrev pub AreAllDigits : List ℕ → Type 0
@@ -60,13 +60,13 @@ AreFewDigits digits = (list_all is_hex_byte digits ≡ Bool.true) × (length dig
 abbrev pub is_skipped : ℕ → Bool
 is_skipped b = (b == 0) || (b == 13) || (b == 10) || (b == 19)
 
--- What stands before the end record: a skipped byte, or a data record by the digits behind its `;`. Source: profile.
-pub data Piece : Type 0 where
-  gap : ℕ → Piece
-  record_of : List ℕ → Piece
+-- What stands before the end record: a skipped byte, or a data record by the digits after its `;`. Source: profile.
+pub data Part : Type 0 where
+  gap : ℕ → Part
+  record_of : List ℕ → Part
 
 -- How a piece is spelled. Source: KIM-1 manual.
-abbrev pub text_of : Piece → List ℕ
+abbrev pub text_of : Part → List ℕ
 text_of (gap b) = b ∷ []
 text_of (record_of digits) = 59 ∷ digits
 
@@ -77,7 +77,7 @@ pub record IsData (digits : List ℕ) : Type 0 where
   pub checked : (claim_of digits).sum ≡ (claim_of digits).checksum
   pub fits : (claim_of digits).address + (claim_of digits).length ≤ 65536
 
--- The end record behind so many data records: no data, the checksum is the sum, and the number is theirs. Source: KIM-1 manual.
+-- The end record after so many data records: no data, the checksum is the sum, and the number is theirs. Source: KIM-1 manual.
 pub record IsEnd (count : ℕ) (digits : List ℕ) : Type 0 where
   pub all : AreAllDigits digits
   pub none : (claim_of digits).length ≡ 0
@@ -85,22 +85,22 @@ pub record IsEnd (count : ℕ) (digits : List ℕ) : Type 0 where
   pub counted : (claim_of digits).address ≡ count
 
 -- A skipped byte, or a data record. Source: profile.
-abbrev pub IsPiece : Piece → Type 0
+abbrev pub IsPiece : Part → Type 0
 IsPiece (gap b) = is_skipped b ≡ Bool.true
 IsPiece (record_of digits) = IsData digits
 
--- The text of pieces, one behind the other. Source: profile.
-abbrev pub front_of : List Piece → List ℕ
+-- The text of pieces, one after the other. Source: profile.
+abbrev pub front_of : List Part → List ℕ
 front_of pieces = flat_map text_of pieces
 
 -- How many of the pieces are data records. Source: profile.
-abbrev pub count_of : List Piece → ℕ
+abbrev pub count_of : List Part → ℕ
 count_of [] = 0
 count_of (gap b ∷ pieces) = count_of pieces
 count_of (record_of digits ∷ pieces) = 1 + count_of pieces
 
 -- The image with each record's bytes put in turn, so that a later one wins. Source: profile.
-abbrev pub with_records : List (Option ℕ) → List Piece → List (Option ℕ)
+abbrev pub with_records : List (Option ℕ) → List Part → List (Option ℕ)
 with_records cells [] = cells
 with_records cells (gap b ∷ pieces) = with_records cells pieces
 with_records cells (record_of digits ∷ pieces) = with_records (with_bytes cells (claim_of digits).address (claim_of digits).bytes) pieces
@@ -108,8 +108,8 @@ with_records cells (record_of digits ∷ pieces) = with_records (with_bytes cell
 -- ---- what a text denotes
 
 -- A text denotes an image: it is data records and skipped bytes, the end record that counts them, and skipped bytes; the image has what the records put. Source: KIM-1 manual for the records, profile for the rest.
-pub record Denotes (text : List ℕ) (cells : List (Option ℕ)) : Type 0 where
-  pub pieces : List Piece
+pub record TapeDenotes (text : List ℕ) (cells : List (Option ℕ)) : Type 0 where
+  pub pieces : List Part
   pub digits : List ℕ
   pub tail : List ℕ
   pub spelled : text ≡ front_of pieces ++ (59 ∷ digits ++ tail)
@@ -120,14 +120,14 @@ pub record Denotes (text : List ℕ) (cells : List (Option ℕ)) : Type 0 where
 
 -- ---- the first fault
 
--- Behind pieces with so many data records the rest of the text goes on in a way that no tape does. The kind says how, and the place, counted in the rest, is where that is told. Source: profile.
+-- After pieces with so many data records the rest of the text goes on in a way that no tape does. The kind says how, and the place, counted in the rest, is where that is told. Source: profile.
 -- NoRecord: the rest is empty, and there was no data record.
--- BadHex: a record begins, and behind some of its digits stands a byte that is no hex digit; told at that byte.
+-- BadHex: a record begins, and after some of its digits stands a byte that is no hex digit; told at that byte.
 -- BadChecksum: all digits of a record are there, and the sum is not the checksum; told at the record's `;`.
 -- PastEnd: a data record whose checksum is right has bytes past address 65535; told at its `;`.
--- Truncated: the rest is empty behind data records, or ends among the digits of a record; told at the end.
+-- Truncated: the rest is empty after data records, or ends among the digits of a record; told at the end.
 -- BadCount: an end record whose checksum is right has another number than there are data records; told at its `;`.
--- JunkAfterEnd: behind the end record and skipped bytes stands a byte that is not skipped; told at that byte.
+-- JunkAfterEnd: after the end record and skipped bytes stands a byte that is not skipped; told at that byte.
 -- JunkBetween: the next byte is neither skipped nor a `;`; told there.
 -- OutOfMemory, TooLong: no text has this fault.
 abbrev pub Breaks : TapeFaultKind → ℕ → List ℕ → ℕ → Type 0
@@ -151,7 +151,7 @@ Breaks TooLong count rest place = ⊥
 
 -- The first fault of a text, from left to right: pieces, and then a rest that breaks; the offset is counted from the text's begin. Source: profile.
 pub record FirstFault (text : List ℕ) (kind : TapeFaultKind) (offset : ℕ) : Type 0 where
-  pub pieces : List Piece
+  pub pieces : List Part
   pub rest : List ℕ
   pub place : ℕ
   pub spelled : text ≡ front_of pieces ++ rest
@@ -163,27 +163,27 @@ pub record FirstFault (text : List ℕ) (kind : TapeFaultKind) (offset : ℕ) : 
 
 -- Each text denotes an image or has a first fault. Source: profile.
 abbrev pub EachTextIsRead : Type 0
-EachTextIsRead = (text : List ℕ) → ((cells : List (Option ℕ)) × Denotes text cells) ⊎ ((kind : TapeFaultKind) × (offset : ℕ) × FirstFault text kind offset)
+EachTextIsRead = (text : List ℕ) → ((cells : List (Option ℕ)) × TapeDenotes text cells) ⊎ ((kind : TapeFaultKind) × (offset : ℕ) × FirstFault text kind offset)
 
 -- No text denotes two images. Source: profile.
-abbrev pub OneImage : Type 0
-OneImage = (text : List ℕ) (a b : List (Option ℕ)) → Denotes text a → Denotes text b → a ≡ b
+abbrev pub OneTapeImage : Type 0
+OneTapeImage = (text : List ℕ) (a b : List (Option ℕ)) → TapeDenotes text a → TapeDenotes text b → a ≡ b
 
 -- No text has two first faults, nor one at two offsets. Source: profile.
-abbrev pub OneFault : Type 0
-OneFault = (text : List ℕ) (k l : TapeFaultKind) (m n : ℕ) → FirstFault text k m → FirstFault text l n → (k ≡ l) × (m ≡ n)
+abbrev pub OneTapeFault : Type 0
+OneTapeFault = (text : List ℕ) (k l : TapeFaultKind) (m n : ℕ) → FirstFault text k m → FirstFault text l n → (k ≡ l) × (m ≡ n)
 
 -- No text does both. Source: profile.
-abbrev pub ImageOrFault : Type 0
-ImageOrFault = (text : List ℕ) (cells : List (Option ℕ)) (kind : TapeFaultKind) (offset : ℕ) → Denotes text cells → FirstFault text kind offset → ⊥
+abbrev pub TapeImageOrFault : Type 0
+TapeImageOrFault = (text : List ℕ) (cells : List (Option ℕ)) (kind : TapeFaultKind) (offset : ℕ) → TapeDenotes text cells → FirstFault text kind offset → ⊥
 
 -- ---- one digit changed
 
 -- In a text that denotes an image, one digit of a record's address, data or checksum is changed to a digit of another value; in an end record the number stands at the address's place. The text is then refused with BadChecksum at that record's `;`. Source: profile.
 abbrev pub OneDigitIsRefused : Type 0
 OneDigitIsRefused =
-    (text : List ℕ) (cells : List (Option ℕ)) (pieces : List Piece) (digits : List ℕ) (more : List ℕ) (k d : ℕ)
-    → Denotes text cells
+    (text : List ℕ) (cells : List (Option ℕ)) (pieces : List Part) (digits : List ℕ) (more : List ℕ) (k d : ℕ)
+    → TapeDenotes text cells
     → text ≡ front_of pieces ++ (59 ∷ digits ++ more)
     → AllByRecursion IsPiece pieces
     → AreAllDigits digits

@@ -2,13 +2,13 @@
 use Rattle.std.specs.Prelude.{◌≡◌, ℕ, ◌<◌, ◌≤◌, List, ◌++◌, length, ◌⊎◌, Option}
 use Rattle.model.specs.declared.tape.TapeFault.{TapeFault}
 use Rattle.model.specs.declared.tape.TapeFaultKind.TheVariants.{TooLong}
-use Rattle.model.specs.Tape.{Denotes, FirstFault}
+use Rattle.model.specs.Tape.{TapeDenotes, FirstFault}
 
 -- How many bytes a tape that is read in pieces has at most. Source: profile.
 abbrev pub longest : ℕ
 longest = 4294967295
 
--- The answer at the first byte behind them. Source: profile.
+-- The answer at the first byte after them. Source: profile.
 abbrev pub too_long : TapeFault
 too_long = record { offset = 4294967295; kind = TooLong }
 
@@ -19,7 +19,7 @@ Tells front fault = (more : List ℕ) → FirstFault (front ++ more) fault.kind 
 -- A text read in pieces has an image: it is not too long, and denotes it. Source: profile.
 pub record IsReadInPieces (text : List ℕ) (cells : List (Option ℕ)) : Type 0 where
   pub short : length text ≤ longest
-  pub denoted : Denotes text cells
+  pub denoted : TapeDenotes text cells
 
 -- A text that is too long, by what its longest front tells. Source: profile.
 pub record IsTooLong (text : List ℕ) (fault : TapeFault) : Type 0 where

@@ -7,7 +7,7 @@ use Rattle.hex.specs.Hex.{encode_upper}
 abbrev pub Stretch : Type 0
 Stretch = ℕ × List ℕ
 
--- A byte at an address, before the runs behind it: it begins the first of them where that begins right behind it, else it is a run
+-- A byte at an address, before the runs after it: it begins the first of them where that begins right after it, else it is a run
 -- of its own. Source: profile.
 abbrev pub before_runs : ℕ → ℕ → List Stretch → List Stretch
 before_runs address b [] = (address, b ∷ []) ∷ []
@@ -35,11 +35,11 @@ written_pieces cells = flat_map pieces_of_run (runs 0 cells)
 abbrev pub word : ℕ → List ℕ
 word n = n / 256 ∷ n % 256 ∷ []
 
--- A record's bytes with their sum behind them. Source: KIM-1 manual.
+-- A record's bytes with their sum after them. Source: KIM-1 manual.
 abbrev pub with_sum : List ℕ → List ℕ
 with_sum bytes = bytes ++ word (sum bytes % 65536)
 
--- A record in capital hex digits behind `;`, then CR LF. Source: KIM-1 manual; capitals and the line's end: profile.
+-- A record in capital hex digits after `;`, then CR LF. Source: KIM-1 manual; capitals and the line's end: profile.
 abbrev pub line : List ℕ → List ℕ
 line bytes = 59 ∷ encode_upper (with_sum bytes) ++ 13 ∷ 10 ∷ []
 
@@ -47,7 +47,7 @@ line bytes = 59 ∷ encode_upper (with_sum bytes) ++ 13 ∷ 10 ∷ []
 abbrev pub data_line : Stretch → List ℕ
 data_line piece = line (length piece.1 ∷ word piece.0 ++ piece.1)
 
--- The end record behind so many data records: length 0, then their number. Source: KIM-1 manual.
+-- The end record after so many data records: length 0, then their number. Source: KIM-1 manual.
 abbrev pub end_line : ℕ → List ℕ
 end_line count = line (0 ∷ word count)
 

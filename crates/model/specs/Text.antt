@@ -31,7 +31,7 @@ spaced_bytes bytes = flat_map (λ b. 32 ∷ hex_byte b) bytes
 abbrev pub bytes_between : List ℕ → ℕ → ℕ → List ℕ
 bytes_between memory first last = take (last + 1 - first) (drop first memory)
 
--- A row of memory: the first address and, two spaces behind it, the bytes.
+-- A row of memory: the first address and, two spaces after it, the bytes.
 unfoldable pub memory_row : List ℕ → ℕ → ℕ → List ℕ
 memory_row memory first last = hex_word first ++ 32 ∷ spaced_bytes (bytes_between memory first last) ++ 10 ∷ []
 
@@ -49,7 +49,7 @@ unfoldable pub output_text : List ℕ → List ℕ
 output_text out =
     codes "OUT " ++ decimal (length out) ++ 10 ∷ flat_map (λ k. output_row out (32 * k)) (range_with_len 0 ((length out + 31) / 32))
 
--- An address behind a space.
+-- An address after a space.
 unfoldable pub address_part : ℕ → List ℕ
 address_part address = 32 ∷ hex_word address
 

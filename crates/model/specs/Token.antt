@@ -67,34 +67,34 @@ abbrev pub Found : Type 0
 Found = Option (TokenKind × List ℕ)
 
 -- A word goes as far as it can, and has at most 31 bytes.
-abbrev pub word_at : List ℕ → Found
-word_at bytes =
+abbrev pub word_token : List ℕ → Found
+word_token bytes =
     let text = run_of is_word_byte bytes in
     if nat_le (length text) 31 then Some (Word, text) else None
 
--- Digits behind a mark: at least one, and no letter, digit or `_` follows them.
-abbrev pub number_at : List ℕ → (ℕ → Bool) → List ℕ → Found
-number_at mark passes bytes =
+-- Digits after a mark: at least one, and no letter, digit or `_` follows them.
+abbrev pub number_token : List ℕ → (ℕ → Bool) → List ℕ → Found
+number_token mark passes bytes =
     let digits = run_of passes bytes in
     if length digits == 0 then None
     else if begins is_word_byte (drop (length digits) bytes) then None
     else Some (Number, mark ++ digits)
 
--- The letters behind a `.`, as many as stand there.
-abbrev pub directive_at : List ℕ → Found
-directive_at bytes =
+-- The letters after a `.`, as many as stand there.
+abbrev pub directive_token : List ℕ → Found
+directive_token bytes =
     let letters = run_of is_letter bytes in
     if length letters == 0 then None else Some (Directive, byte "." ∷ letters)
 
--- One byte $20..$7E and a `'`, behind a `'`.
-abbrev pub char_at : List ℕ → Found
-char_at [] = None
-char_at (b ∷ []) = None
-char_at (b ∷ c ∷ bytes) = if is_printable b && (c == byte "'") then Some (Char, byte "'" ∷ b ∷ byte "'" ∷ []) else None
+-- One byte $20..$7E and a `'`, after a `'`.
+abbrev pub char_token : List ℕ → Found
+char_token [] = None
+char_token (b ∷ []) = None
+char_token (b ∷ c ∷ bytes) = if is_printable b && (c == byte "'") then Some (Char, byte "'" ∷ b ∷ byte "'" ∷ []) else None
 
--- One or more bytes $20..$7E other than `"`, and a `"`, behind a `"`.
-abbrev pub string_at : List ℕ → Found
-string_at bytes =
+-- One or more bytes $20..$7E other than `"`, and a `"`, after a `"`.
+abbrev pub string_token : List ℕ → Found
+string_token bytes =
     let inside = run_of is_string_byte bytes in
     if length inside == 0 then None
     else if begins (λ b. b == 34) (drop (length inside) bytes) then Some (Str, 34 ∷ inside ++ 34 ∷ [])
@@ -104,13 +104,13 @@ string_at bytes =
 unfoldable pub token_at : List ℕ → Found
 token_at [] = None
 token_at (b ∷ bytes) =
-    if is_letter b then word_at (b ∷ bytes)
-    else if is_digit b then number_at [] is_digit (b ∷ bytes)
-    else if b == byte "$" then number_at (byte "$" ∷ []) is_hex_byte bytes
-    else if b == byte "%" then number_at (byte "%" ∷ []) is_binary_byte bytes
-    else if b == byte "." then directive_at bytes
-    else if b == byte "'" then char_at bytes
-    else if b == 34 then string_at bytes
+    if is_letter b then word_token (b ∷ bytes)
+    else if is_digit b then number_token [] is_digit (b ∷ bytes)
+    else if b == byte "$" then number_token (byte "$" ∷ []) is_hex_byte bytes
+    else if b == byte "%" then number_token (byte "%" ∷ []) is_binary_byte bytes
+    else if b == byte "." then directive_token bytes
+    else if b == byte "'" then char_token bytes
+    else if b == 34 then string_token bytes
     else if is_symbol_byte b then Some (Symbol, b ∷ [])
     else None
 
@@ -119,7 +119,7 @@ token_at (b ∷ bytes) =
 abbrev pub Tokens : Type 0
 Tokens = Option (List Lexeme)
 
--- A token that was found, before the tokens behind it; none of them where there is none.
+-- A token that was found, before the tokens after it; none of them where there is none.
 abbrev pub found_before : ℕ → (ℕ → Tokens) → Found → Tokens
 found_before start behind None = None
 found_before start behind (Some found) = option_map (λ ts. record { kind = found.0; start = start; text = found.1 } ∷ ts) (behind (length found.1 - 1))
@@ -141,8 +141,8 @@ tokens_of line = if list_all is_source_byte line then tokens_from 0 0 line else 
 
 -- ---- where tokens stand
 
--- Tokens that stand in a line in order, from a place on: each begins at that place or behind it, its bytes are those of the
--- line at its start, at least one, and the others stand behind it.
+-- Tokens that stand in a line in order, from a place on: each begins at that place or after it, its bytes are those of the
+-- line at its start, at least one, and the others stand after it.
 abbrev pub AreSlices : List ℕ → ℕ → List Lexeme → Type 0
 AreSlices line place [] = Unit {0}
 AreSlices line place (t ∷ ts) =

@@ -130,7 +130,7 @@ pub struct Row {
 
 /// Where an operand stands, and whether its page was left on the way.
 #[derive(Clone, Copy, Debug, PartialEq, Eq)]
-pub struct Place {
+pub struct EffectiveAddress {
     /// The effective address, 0..65535.
     pub address: u16,
     /// Whether the effective address and its base have different high bytes.

@@ -3,10 +3,10 @@
 /// What a mnemonic does, by the way in which it uses its operand.
 #[derive(Clone, Copy, Debug, PartialEq, Eq)]
 pub enum Operation {
-    Load(LoadOp),
+    Read(ReadOp),
     Store(StoreOp),
     Modify(ModifyOp),
-    Inherent(InherentOp),
+    Register(RegisterOp),
     Branch(BranchOp),
     /// PHA.
     PushA,
@@ -38,7 +38,7 @@ pub enum Operation {
 
 /// Reads a byte and changes registers.
 #[derive(Clone, Copy, Debug, PartialEq, Eq)]
-pub enum LoadOp {
+pub enum ReadOp {
     Ora,
     And,
     Eor,
@@ -75,7 +75,7 @@ pub enum ModifyOp {
 
 /// Changes registers alone, or nothing.
 #[derive(Clone, Copy, Debug, PartialEq, Eq)]
-pub enum InherentOp {
+pub enum RegisterOp {
     Clc,
     Sec,
     Cli,

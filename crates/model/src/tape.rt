@@ -18,13 +18,13 @@ pub enum TapeFaultKind {
     /// A data record's bytes would go past address 65535.
     #[error("PastEnd 4")]
     PastEnd,
-    /// The text ends in a record, or behind data records without an end record.
+    /// The text ends in a record, or after data records without an end record.
     #[error("Truncated 5")]
     Truncated,
     /// The end record's number differs from the number of data records.
     #[error("BadCount 6")]
     BadCount,
-    /// A byte that is not skipped stands behind the end record.
+    /// A byte that is not skipped stands after the end record.
     #[error("JunkAfterEnd 7")]
     JunkAfterEnd,
     /// A byte that is neither `;` nor skipped stands where a record may begin.
@@ -33,7 +33,7 @@ pub enum TapeFaultKind {
     /// A request for memory was refused.
     #[error("OutOfMemory 9")]
     OutOfMemory,
-    /// A tape that is read in pieces goes on behind 4,294,967,295 bytes.
+    /// A tape that is read in pieces goes on after 4,294,967,295 bytes.
     #[error("TooLong 10")]
     TooLong,
 }

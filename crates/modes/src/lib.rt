@@ -1,19 +1,21 @@
 //! Where the operand of an instruction stands.
+//!
+//! It owns effective addresses. `resolve` is one equation with the definition, in `Operand.antt` of `model`, and needs no lemma.
 #![tactic(auto)]
 
 ghost use Rattle.std.specs.Prelude.{◌≡◌, ◌+◌, ◌%◌};
-ghost use Rattle.model.specs.Operand.{indexed, jump_target, place_of, straight, target, word_at, word_in_page};
+ghost use Rattle.model.specs.Operand.{indexed, jump_target, effective_address, straight, target, word_at, word_in_page};
 
 use bus::{Bus, Profile};
-pub use model::{Mode, Place, Regs};
+pub use model::{EffectiveAddress, Mode, Regs};
 
 /// Where the operand of the instruction at PC stands, and whether a page was left on the way there: the next byte for
 /// an immediate operand, the target of a branch, 0 where there is none. It reads plain memory alone, never the port
 /// (MCS6500 manual, chapters 4 to 6; profile for what profile C adds).
 #[inline(always)]
-#[tactic(auto, unfolding(model::specs::Operand::place_of))]
-pub fn resolve(bus: &Bus, regs: &Regs, mode: Mode) -> Place
-    ensures { result ≡ place_of bus.now regs.now mode }
+#[tactic(auto, unfolding(model::specs::Operand::effective_address))]
+pub fn resolve(bus: &Bus, regs: &Regs, mode: Mode) -> EffectiveAddress
+    ensures { result ≡ effective_address bus.now regs.now mode }
 {
     let next = regs.pc.wrapping_add(1);
     match mode {
@@ -72,10 +74,10 @@ fn jump_target(bus: &Bus, pointer: u16) -> u16
 
 /// An address that leaves no page.
 #[inline(always)]
-fn straight(address: u16) -> Place
+fn straight(address: u16) -> EffectiveAddress
     ensures { result ≡ straight address }
 {
-    Place {
+    EffectiveAddress {
         address,
         crossed: false,
     }
@@ -83,11 +85,11 @@ fn straight(address: u16) -> Place
 
 /// An index added to a base.
 #[inline(always)]
-fn indexed(base: u16, index: u8) -> Place
+fn indexed(base: u16, index: u8) -> EffectiveAddress
     ensures { result ≡ indexed base index }
 {
     let address = base.wrapping_add(index as u16);
-    Place {
+    EffectiveAddress {
         address,
         crossed: base >> 8 != address >> 8,
     }
@@ -95,7 +97,7 @@ fn indexed(base: u16, index: u8) -> Place
 
 /// A branch's target, from the next instruction's address and the distance, a signed byte.
 #[inline(always)]
-fn target(next: u16, byte: u8) -> Place
+fn target(next: u16, byte: u8) -> EffectiveAddress
     ensures { result ≡ target next byte }
 {
     let distance = if byte < 128 {
@@ -104,7 +106,7 @@ fn target(next: u16, byte: u8) -> Place
         byte as u16 + 0xff00
     };
     let address = next.wrapping_add(distance);
-    Place {
+    EffectiveAddress {
         address,
         crossed: next >> 8 != address >> 8,
     }

@@ -7,14 +7,14 @@ use Rattle.model.specs.declared.instruction.Mode.{Mode}
 use Rattle.model.specs.declared.instruction.Mode.TheVariants.{Imp, Acc, Imm, Zp, ZpX, ZpY, Abs, AbsX, AbsY, IndX, IndY, Ind, Rel, IndZ}
 use Rattle.model.specs.declared.operation.Operation.{Operation}
 use Rattle.model.specs.declared.operation.Operation.TheVariants as operation
-use Rattle.model.specs.declared.operation.LoadOp.{LoadOp}
-use Rattle.model.specs.declared.operation.LoadOp.TheVariants as load_op
+use Rattle.model.specs.declared.operation.ReadOp.{ReadOp}
+use Rattle.model.specs.declared.operation.ReadOp.TheVariants as read_op
 use Rattle.model.specs.declared.operation.StoreOp.{StoreOp}
 use Rattle.model.specs.declared.operation.StoreOp.TheVariants as store_op
 use Rattle.model.specs.declared.operation.ModifyOp.{ModifyOp}
 use Rattle.model.specs.declared.operation.ModifyOp.TheVariants as modify_op
-use Rattle.model.specs.declared.operation.InherentOp.{InherentOp}
-use Rattle.model.specs.declared.operation.InherentOp.TheVariants as inherent_op
+use Rattle.model.specs.declared.operation.RegisterOp.{RegisterOp}
+use Rattle.model.specs.declared.operation.RegisterOp.TheVariants as register_op
 use Rattle.model.specs.declared.operation.BranchOp.{BranchOp}
 use Rattle.model.specs.declared.operation.BranchOp.TheVariants as branch_op
 
@@ -71,23 +71,23 @@ call_code Abs = Some 0x20
 call_code other = None
 
 -- those that read a byte
-abbrev pub load_code : LoadOp → Mode → Option ℕ
-load_code load_op.Ora mode = arithmetic_code 0x01 mode
-load_code load_op.And mode = arithmetic_code 0x21 mode
-load_code load_op.Eor mode = arithmetic_code 0x41 mode
-load_code load_op.Adc mode = arithmetic_code 0x61 mode
-load_code load_op.Lda mode = arithmetic_code 0xA1 mode
-load_code load_op.Cmp mode = arithmetic_code 0xC1 mode
-load_code load_op.Sbc mode = arithmetic_code 0xE1 mode
-load_code load_op.Ldx ZpY = Some 0xB6
-load_code load_op.Ldx AbsY = Some 0xBE
-load_code load_op.Ldx other = immediate_code 0xA2 other
-load_code load_op.Ldy ZpX = Some 0xB4
-load_code load_op.Ldy AbsX = Some 0xBC
-load_code load_op.Ldy other = immediate_code 0xA0 other
-load_code load_op.Cpx mode = immediate_code 0xE0 mode
-load_code load_op.Cpy mode = immediate_code 0xC0 mode
-load_code load_op.Bit mode = direct_code 0x20 mode
+abbrev pub load_code : ReadOp → Mode → Option ℕ
+load_code read_op.Ora mode = arithmetic_code 0x01 mode
+load_code read_op.And mode = arithmetic_code 0x21 mode
+load_code read_op.Eor mode = arithmetic_code 0x41 mode
+load_code read_op.Adc mode = arithmetic_code 0x61 mode
+load_code read_op.Lda mode = arithmetic_code 0xA1 mode
+load_code read_op.Cmp mode = arithmetic_code 0xC1 mode
+load_code read_op.Sbc mode = arithmetic_code 0xE1 mode
+load_code read_op.Ldx ZpY = Some 0xB6
+load_code read_op.Ldx AbsY = Some 0xBE
+load_code read_op.Ldx other = immediate_code 0xA2 other
+load_code read_op.Ldy ZpX = Some 0xB4
+load_code read_op.Ldy AbsX = Some 0xBC
+load_code read_op.Ldy other = immediate_code 0xA0 other
+load_code read_op.Cpx mode = immediate_code 0xE0 mode
+load_code read_op.Cpy mode = immediate_code 0xC0 mode
+load_code read_op.Bit mode = direct_code 0x20 mode
 
 -- stores
 abbrev pub store_code : StoreOp → Mode → Option ℕ
@@ -115,25 +115,25 @@ modify_code modify_op.Inc Acc = Some 0x1A
 modify_code modify_op.Inc other = memory_code 0xE2 other
 
 -- those that change registers alone, in their one mode
-abbrev pub move_code : InherentOp → ℕ
-move_code inherent_op.Clc = 0x18
-move_code inherent_op.Sec = 0x38
-move_code inherent_op.Cli = 0x58
-move_code inherent_op.Sei = 0x78
-move_code inherent_op.Clv = 0xB8
-move_code inherent_op.Cld = 0xD8
-move_code inherent_op.Sed = 0xF8
-move_code inherent_op.Txa = 0x8A
-move_code inherent_op.Tya = 0x98
-move_code inherent_op.Txs = 0x9A
-move_code inherent_op.Tay = 0xA8
-move_code inherent_op.Tax = 0xAA
-move_code inherent_op.Tsx = 0xBA
-move_code inherent_op.Dey = 0x88
-move_code inherent_op.Dex = 0xCA
-move_code inherent_op.Iny = 0xC8
-move_code inherent_op.Inx = 0xE8
-move_code inherent_op.Nop = 0xEA
+abbrev pub move_code : RegisterOp → ℕ
+move_code register_op.Clc = 0x18
+move_code register_op.Sec = 0x38
+move_code register_op.Cli = 0x58
+move_code register_op.Sei = 0x78
+move_code register_op.Clv = 0xB8
+move_code register_op.Cld = 0xD8
+move_code register_op.Sed = 0xF8
+move_code register_op.Txa = 0x8A
+move_code register_op.Tya = 0x98
+move_code register_op.Txs = 0x9A
+move_code register_op.Tay = 0xA8
+move_code register_op.Tax = 0xAA
+move_code register_op.Tsx = 0xBA
+move_code register_op.Dey = 0x88
+move_code register_op.Dex = 0xCA
+move_code register_op.Iny = 0xC8
+move_code register_op.Inx = 0xE8
+move_code register_op.Nop = 0xEA
 
 -- branches
 abbrev pub branch_code : BranchOp → ℕ
@@ -149,10 +149,10 @@ branch_code branch_op.Bra = 0x80
 
 -- the opcode of an operation in a mode in profile C, if it has one
 abbrev pub code_of : Operation → Mode → Option ℕ
-code_of (operation.Load op) mode = load_code op mode
+code_of (operation.Read op) mode = load_code op mode
 code_of (operation.Store op) mode = store_code op mode
 code_of (operation.Modify op) mode = modify_code op mode
-code_of (operation.Inherent op) mode = implied_code (move_code op) mode
+code_of (operation.Register op) mode = implied_code (move_code op) mode
 code_of (operation.Branch op) mode = relative_code (branch_code op) mode
 code_of operation.PushA mode = implied_code 0x48 mode
 code_of operation.PushX mode = implied_code 0xDA mode

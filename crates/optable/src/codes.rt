@@ -6,7 +6,7 @@ ghost use Rattle.optable.specs.Codes.{within, code_of, load_code, store_code, mo
 
 use crate::operations::operation;
 use crate::rows::decode_in;
-use model::{BranchOp, InherentOp, LoadOp, Mnemonic, Mode, ModifyOp, Operation, Profile, StoreOp};
+use model::{BranchOp, Mnemonic, Mode, ModifyOp, Operation, Profile, ReadOp, RegisterOp, StoreOp};
 
 /// The opcode of a mnemonic in a mode in profile N: what `encode_in` gives for it.
 pub fn encode(mnemonic: Mnemonic, mode: Mode) -> Option<u8>
@@ -48,10 +48,10 @@ fn code_of(operation: Operation, mode: Mode) -> Option<u8>
     ensures { result ≡ code_of operation mode }
 {
     match operation {
-        Operation::Load(op) => load_code(op, mode),
+        Operation::Read(op) => load_code(op, mode),
         Operation::Store(op) => store_code(op, mode),
         Operation::Modify(op) => modify_code(op, mode),
-        Operation::Inherent(op) => implied_code(move_code(op), mode),
+        Operation::Register(op) => implied_code(move_code(op), mode),
         Operation::Branch(op) => relative_code(branch_code(op), mode),
         Operation::PushA => implied_code(0x48, mode),
         Operation::PushX => implied_code(0xda, mode),
@@ -69,30 +69,30 @@ fn code_of(operation: Operation, mode: Mode) -> Option<u8>
     }
 }
 
-fn load_code(op: LoadOp, mode: Mode) -> Option<u8>
+fn load_code(op: ReadOp, mode: Mode) -> Option<u8>
     ensures { result ≡ load_code op mode }
 {
     match op {
-        LoadOp::Ora => arithmetic_code(0x01, mode),
-        LoadOp::And => arithmetic_code(0x21, mode),
-        LoadOp::Eor => arithmetic_code(0x41, mode),
-        LoadOp::Adc => arithmetic_code(0x61, mode),
-        LoadOp::Lda => arithmetic_code(0xa1, mode),
-        LoadOp::Cmp => arithmetic_code(0xc1, mode),
-        LoadOp::Sbc => arithmetic_code(0xe1, mode),
-        LoadOp::Ldx => match mode {
+        ReadOp::Ora => arithmetic_code(0x01, mode),
+        ReadOp::And => arithmetic_code(0x21, mode),
+        ReadOp::Eor => arithmetic_code(0x41, mode),
+        ReadOp::Adc => arithmetic_code(0x61, mode),
+        ReadOp::Lda => arithmetic_code(0xa1, mode),
+        ReadOp::Cmp => arithmetic_code(0xc1, mode),
+        ReadOp::Sbc => arithmetic_code(0xe1, mode),
+        ReadOp::Ldx => match mode {
             Mode::ZpY => Some(0xb6),
             Mode::AbsY => Some(0xbe),
             _ => immediate_code(0xa2, mode),
         },
-        LoadOp::Ldy => match mode {
+        ReadOp::Ldy => match mode {
             Mode::ZpX => Some(0xb4),
             Mode::AbsX => Some(0xbc),
             _ => immediate_code(0xa0, mode),
         },
-        LoadOp::Cpx => immediate_code(0xe0, mode),
-        LoadOp::Cpy => immediate_code(0xc0, mode),
-        LoadOp::Bit => direct_code(0x20, mode),
+        ReadOp::Cpx => immediate_code(0xe0, mode),
+        ReadOp::Cpy => immediate_code(0xc0, mode),
+        ReadOp::Bit => direct_code(0x20, mode),
     }
 }
 
@@ -141,28 +141,28 @@ fn modify_code(op: ModifyOp, mode: Mode) -> Option<u8>
     }
 }
 
-fn move_code(op: InherentOp) -> u8
+fn move_code(op: RegisterOp) -> u8
     ensures { result ≡ move_code op }
 {
     match op {
-        InherentOp::Clc => 0x18,
-        InherentOp::Sec => 0x38,
-        InherentOp::Cli => 0x58,
-        InherentOp::Sei => 0x78,
-        InherentOp::Clv => 0xb8,
-        InherentOp::Cld => 0xd8,
-        InherentOp::Sed => 0xf8,
-        InherentOp::Txa => 0x8a,
-        InherentOp::Tya => 0x98,
-        InherentOp::Txs => 0x9a,
-        InherentOp::Tay => 0xa8,
-        InherentOp::Tax => 0xaa,
-        InherentOp::Tsx => 0xba,
-        InherentOp::Dey => 0x88,
-        InherentOp::Dex => 0xca,
-        InherentOp::Iny => 0xc8,
-        InherentOp::Inx => 0xe8,
-        InherentOp::Nop => 0xea,
+        RegisterOp::Clc => 0x18,
+        RegisterOp::Sec => 0x38,
+        RegisterOp::Cli => 0x58,
+        RegisterOp::Sei => 0x78,
+        RegisterOp::Clv => 0xb8,
+        RegisterOp::Cld => 0xd8,
+        RegisterOp::Sed => 0xf8,
+        RegisterOp::Txa => 0x8a,
+        RegisterOp::Tya => 0x98,
+        RegisterOp::Txs => 0x9a,
+        RegisterOp::Tay => 0xa8,
+        RegisterOp::Tax => 0xaa,
+        RegisterOp::Tsx => 0xba,
+        RegisterOp::Dey => 0x88,
+        RegisterOp::Dex => 0xca,
+        RegisterOp::Iny => 0xc8,
+        RegisterOp::Inx => 0xe8,
+        RegisterOp::Nop => 0xea,
     }
 }
 

@@ -7,7 +7,7 @@ use Rattle.model.specs.Digits.{is_hex_byte}
 use Rattle.model.specs.declared.tape.TapeFault.{TapeFault}
 use Rattle.papertape.specs.declared.reading.Place.TheVariants.{Between, Within, After}
 use Rattle.model.specs.Image.{with_bytes}
-use Rattle.model.specs.Tape.{Claim, claim_of, needed, AreAllDigits, Piece, gap, record_of, IsPiece, IsData, IsEnd, front_of, count_of, with_records, is_skipped, Denotes}
+use Rattle.model.specs.Tape.{Claim, claim_of, needed, AreAllDigits, Part, gap, record_of, IsPiece, IsData, IsEnd, front_of, count_of, with_records, is_skipped, TapeDenotes}
 use Rattle.papertape.specs.Reading.{Progress, settled, with_digit, step, next_count, run, finished, read_of, start, ◌>>=◌}
 use Rattle.papertape.proofs.Digits.{address_small}
 use Rattle.papertape.proofs.Grammar.{next-min}
@@ -57,7 +57,7 @@ digits_run (c ∷ es) b offset s place hexes len =
     ∙ settled_digits s (s.digits ++ b ∷ []) (claim_of ((s.digits ++ b ∷ []) ++ c ∷ es))
     ∙ ap (λ (ds : List ℕ). settled s (claim_of ds)) same
 
--- all digits of a record behind its `;`
+-- all digits of a record after its `;`
 pub record_run : (ds : List ℕ) (offset : ℕ) (s : Progress) → s.place ≡ Between → AreAllDigits ds → run offset s (59 ∷ ds) ≡ settled (record s { place = Within; start = offset }) (claim_of ds)
 unfolding step settled
 record_run [] offset s place all = absurd (omega (arith, all.1))
@@ -82,7 +82,7 @@ tail_run (b ∷ tail) offset s place h =
     let p = and_parts (is_skipped b) (list_all is_skipped tail) h in
     ap (λ (r : Result Progress TapeFault). r >>= λ u. run (offset + 1) u tail) (tail_step offset b s place p.0) ∙ tail_run tail (offset + 1) s place p.1
 
--- the state behind a data record
+-- the state after a data record
 abbrev after_data : ℕ → Progress → List ℕ → Progress
 after_data offset s ds = record { cells = with_bytes s.cells (claim_of ds).address (claim_of ds).bytes; count = next_count s.count; place = Between; start = offset; digits = [] }
 
@@ -95,14 +95,14 @@ unfolding settled
 end_settled ds count offset s h e = rw (eq-eqb _ _ h.checked, eq-eqb _ _ h.none, eq-eqb (claim_of ds).address s.count (omega (arith, h.counted, e, address_small ds))) refl
 
 -- where pieces lead
-pub record Led (offset : ℕ) (s : Progress) (pieces : List Piece) (n : ℕ) : Type 0 where
+pub record Led (offset : ℕ) (s : Progress) (pieces : List Part) (n : ℕ) : Type 0 where
   pub state : Progress
   pub ran : run offset s (front_of pieces) ≡ Ok state
   pub place : state.place ≡ Between
   pub cells : state.cells ≡ with_records s.cells pieces
   pub count : state.count ≡ min 65536 (n + count_of pieces)
 
-pub front_run : (pieces : List Piece) (offset : ℕ) (s : Progress) (n : ℕ) → AllByRecursion IsPiece pieces → s.place ≡ Between → s.count ≡ min 65536 n → Led offset s pieces n
+pub front_run : (pieces : List Part) (offset : ℕ) (s : Progress) (n : ℕ) → AllByRecursion IsPiece pieces → s.place ≡ Between → s.count ≡ min 65536 n → Led offset s pieces n
 front_run [] offset s n each place count = record { state = s; ran = refl; place = place; cells = refl; count = omega (arith, count) }
 front_run (gap b ∷ pieces) offset s n each place count =
     let l = front_run pieces (offset + 1) s n each.1 place count in
@@ -130,7 +130,7 @@ finished_After : (offset : ℕ) (s : Progress) → s.place ≡ After → finishe
 unfolding finished
 finished_After offset s e = rw e refl
 
-pub read_again : (text : List ℕ) (cells : List (Option ℕ)) → Denotes text cells → read_of text ≡ Ok cells
+pub read_again : (text : List ℕ) (cells : List (Option ℕ)) → TapeDenotes text cells → read_of text ≡ Ok cells
 unfolding read_of
 read_again text cells d =
     let l = front_run d.pieces 0 start 0 d.each refl refl in

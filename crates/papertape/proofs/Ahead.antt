@@ -1,4 +1,4 @@
--- Where the writer goes on behind a piece, and behind cells with nothing.
+-- Where the writer goes on after a piece, and after cells with nothing.
 use Rattle.std.proofs.Common.{◌≡◌, ℕ, zero, suc, ◌+◌, ◌-◌, ◌<◌, ◌≤◌, List, [], ◌∷◌, ◌++◌, length, take, drop, set, Option, Some, None, is_some, true, false, refl, sym, ap, subst, ◌∙◌, arith, append_assoc, length-drop}
 use Rattle.std.proofs.lemmas.List.{take_more_set, drop-drop}
 use Rattle.model.specs.TapeText.{Stretch}

@@ -6,7 +6,7 @@ use Rattle.std.proofs.lemmas.List.{length-set, length-append}
 use Rattle.model.specs.Digits.{is_hex_byte, digit_value}
 use Rattle.model.specs.declared.tape.TapeFault.{TapeFault}
 use Rattle.model.specs.declared.tape.TapeFaultKind.TheVariants.{BadChecksum}
-use Rattle.model.specs.Tape.{bytes_of, claim_of, claim_in, AreAllDigits, Piece, IsPiece, front_of, Denotes, FirstFault, OneDigitIsRefused}
+use Rattle.model.specs.Tape.{bytes_of_digits, claim_of, claim_in, AreAllDigits, Part, IsPiece, front_of, TapeDenotes, FirstFault, OneDigitIsRefused}
 use Rattle.papertape.proofs.Digits.{value_small, length-bytes_of}
 use Rattle.papertape.proofs.Texts.{sum-cons}
 use Rattle.papertape.proofs.Again.{read_again}
@@ -38,12 +38,12 @@ later x c = record {
 }
 
 -- one digit changed is one byte changed
-one_byte : (digits : List ℕ) (j d n : ℕ) → length digits ≡ 2 * n → j < length digits → digit_value d ≢ digit_value (slice_index digits j) → Changed (bytes_of digits) (bytes_of (set digits j d))
+one_byte : (digits : List ℕ) (j d n : ℕ) → length digits ≡ 2 * n → j < length digits → digit_value d ≢ digit_value (slice_index digits j) → Changed (bytes_of_digits digits) (bytes_of_digits (set digits j d))
 one_byte [] j d n len lt other = absurd (omega arith)
 one_byte (a ∷ []) j d n len lt other = absurd (omega arith)
 one_byte (a ∷ b ∷ digits) zero d n len lt other = record {
   front = [];
-  back = bytes_of digits;
+  back = bytes_of_digits digits;
   old = digit_value a * 16 + digit_value b;
   new = digit_value d * 16 + digit_value b;
   was = refl;
@@ -54,7 +54,7 @@ one_byte (a ∷ b ∷ digits) zero d n len lt other = record {
 }
 one_byte (a ∷ b ∷ digits) (suc zero) d n len lt other = record {
   front = [];
-  back = bytes_of digits;
+  back = bytes_of_digits digits;
   old = digit_value a * 16 + digit_value b;
   new = digit_value a * 16 + digit_value d;
   was = refl;
@@ -139,14 +139,14 @@ all_set (x ∷ digits) (suc k) d h hex =
     let p = and_parts (is_hex_byte x) (list_all is_hex_byte digits) h in
     and_from (is_hex_byte x) (list_all is_hex_byte (set digits k d)) p.0 (all_set digits k d p.1 hex)
 
--- what is refused behind pieces
-refused_there : (pieces : List Piece) (digits more : List ℕ) → AllByRecursion IsPiece pieces → AreAllDigits digits → (claim_of digits).sum ≢ (claim_of digits).checksum
+-- what is refused after pieces
+refused_there : (pieces : List Part) (digits more : List ℕ) → AllByRecursion IsPiece pieces → AreAllDigits digits → (claim_of digits).sum ≢ (claim_of digits).checksum
     → FirstFault (front_of pieces ++ (59 ∷ digits ++ more)) BadChecksum (length (front_of pieces))
 refused_there pieces digits more each all wrong_sum =
     record { pieces = pieces; rest = 59 ∷ digits ++ more; place = 0; spelled = refl; each = each; breaks = (digits, more, refl, all, wrong_sum, refl); there = omega arith }
 
 -- a record of a text that denotes an image has the right checksum
-right_there : (pieces : List Piece) (digits more : List ℕ) (cells : List (Option ℕ)) → AllByRecursion IsPiece pieces → AreAllDigits digits → Denotes (front_of pieces ++ (59 ∷ digits ++ more)) cells → (claim_of digits).sum ≡ (claim_of digits).checksum
+right_there : (pieces : List Part) (digits more : List ℕ) (cells : List (Option ℕ)) → AllByRecursion IsPiece pieces → AreAllDigits digits → TapeDenotes (front_of pieces ++ (59 ∷ digits ++ more)) cells → (claim_of digits).sum ≡ (claim_of digits).checksum
 right_there pieces digits more cells each all d =
     elim (cases_eq (claim_of digits).sum (claim_of digits).checksum) [
       | inl e ↦ e
@@ -175,9 +175,9 @@ then_wrong (a ∷ b ∷ digits) (suc zero) d all two lt other right = absurd (om
 then_wrong (a ∷ b ∷ digits) (suc (suc j)) d all two lt other right =
     let n = digit_value a * 16 + digit_value b in
     let len : length digits ≡ 2 * (4 + n) = omega (arith, all.1) in
-    wrong_claim n (bytes_of digits) (bytes_of (set digits j d)) (length-bytes_of digits (4 + n) len) (one_byte digits j d (4 + n) len (omega (arith, lt)) other) right
+    wrong_claim n (bytes_of_digits digits) (bytes_of_digits (set digits j d)) (length-bytes_of digits (4 + n) len) (one_byte digits j d (4 + n) len (omega (arith, lt)) other) right
 
 pub one_digit : OneDigitIsRefused
 one_digit text cells pieces digits more k d den spelled each all two lt hex other =
-    let right = right_there pieces digits more cells each all (subst (λ (t : List ℕ). Denotes t cells) spelled den) in
+    let right = right_there pieces digits more cells each all (subst (λ (t : List ℕ). TapeDenotes t cells) spelled den) in
     refused_there pieces (set digits k d) more each (still_all digits k d all two hex) (then_wrong digits k d all two lt other right)

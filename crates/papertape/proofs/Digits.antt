@@ -5,7 +5,7 @@ use Rattle.std.proofs.lemmas.Bool.{and_parts, ne_eqb, eq-eqb, cond_both, leb-tru
 use Rattle.std.proofs.lemmas.List.{length-append}
 use Rattle.hex.specs.Hex.{decode_pairs, decode_sized, digit_or_error, pair_value, hex_digit_value}
 use Rattle.model.specs.Digits.{is_hex_byte, digit_value}
-use Rattle.model.specs.Tape.{bytes_of, needed, claim_of}
+use Rattle.model.specs.Tape.{bytes_of_digits, needed, claim_of}
 
 some_value : (c i : ℕ) (o : Option ℕ) → is_some o ≡ true → digit_or_error c i o ≡ Ok (unwrap_or o 0)
 some_value c i (Some v) h = refl
@@ -15,7 +15,7 @@ pair_of : (high low i : ℕ) → is_hex_byte high ≡ true → is_hex_byte low �
 pair_of high low i h l =
     rw (some_value high i (hex_digit_value high) h, some_value low (i + 1) (hex_digit_value low) l) refl
 
-pub decode_pairs-digits : (i : ℕ) (digits : List ℕ) (n : ℕ) → length digits ≡ 2 * n → list_all is_hex_byte digits ≡ true → decode_pairs i digits ≡ Ok (bytes_of digits)
+pub decode_pairs-digits : (i : ℕ) (digits : List ℕ) (n : ℕ) → length digits ≡ 2 * n → list_all is_hex_byte digits ≡ true → decode_pairs i digits ≡ Ok (bytes_of_digits digits)
 unfolding decode_pairs
 decode_pairs-digits i [] n len h = refl
 decode_pairs-digits i (d ∷ []) n len h = absurd (omega arith)
@@ -24,13 +24,13 @@ decode_pairs-digits i (high ∷ low ∷ digits) n len h =
     let q = and_parts _ _ p.1 in
     rw (pair_of high low i p.0 q.0, decode_pairs-digits (i + 2) digits (n - 1) (omega arith) q.1) refl
 
-pub decode_sized-digits : (digits : List ℕ) (n : ℕ) → length digits ≡ 2 * n → list_all is_hex_byte digits ≡ true → decode_sized digits n ≡ Ok (bytes_of digits)
+pub decode_sized-digits : (digits : List ℕ) (n : ℕ) → length digits ≡ 2 * n → list_all is_hex_byte digits ≡ true → decode_sized digits n ≡ Ok (bytes_of_digits digits)
 decode_sized-digits digits n len h =
     let even : length digits % 2 ≡ 0 = omega arith in
     let half : length digits / 2 ≡ n = omega arith in
     rw (ne_eqb (length digits % 2) 1 (λ e. omega arith), eq-eqb (length digits / 2) n half, decode_pairs-digits 0 digits n len h) refl
 
-pub length-bytes_of : (digits : List ℕ) (n : ℕ) → length digits ≡ 2 * n → length (bytes_of digits) ≡ n
+pub length-bytes_of : (digits : List ℕ) (n : ℕ) → length digits ≡ 2 * n → length (bytes_of_digits digits) ≡ n
 length-bytes_of [] n len = omega arith
 length-bytes_of (d ∷ []) n len = absurd (omega arith)
 length-bytes_of (high ∷ low ∷ digits) n len = let e = length-bytes_of digits (n - 1) (omega arith) in omega (arith, e)
@@ -65,7 +65,7 @@ just_needed (high ∷ low ∷ digits) b few le = omega (arith, length-append dig
 byte_small : (bytes : List ℕ) (i : ℕ) → ((k : ℕ) → slice_index bytes k ≤ 255) → slice_index bytes i ≤ 255
 byte_small bytes i h = h i
 
-bytes_small : (digits : List ℕ) (k : ℕ) → slice_index (bytes_of digits) k ≤ 255
+bytes_small : (digits : List ℕ) (k : ℕ) → slice_index (bytes_of_digits digits) k ≤ 255
 bytes_small [] k = omega arith
 bytes_small (d ∷ []) k = omega arith
 bytes_small (high ∷ low ∷ digits) zero = omega (arith, value_small high, value_small low)

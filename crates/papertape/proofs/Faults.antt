@@ -87,7 +87,7 @@ count_settled : (ds : List ℕ) (n count : ℕ) (s : Progress) → (claim_of ds)
 unfolding settled
 count_settled ds n count s none same other e = rw (eq-eqb _ _ same, eq-eqb _ _ none, ne_eqb (claim_of ds).address s.count (λ h. other (omega (arith, h, e, address_small ds)))) refl
 
--- a byte that is refused, behind what was read
+-- a byte that is refused, after what was read
 byte_fault : (n : ℕ) (s t : Progress) (front : List ℕ) (b : ℕ) (more : List ℕ) (f : TapeFault) → run n s front ≡ Ok t → step (n + length front) t b ≡ Err f → answer n s (front ++ b ∷ more) ≡ Err f
 byte_fault n s t front b more f r e =
     let one : run n s (front ++ b ∷ []) ≡ Err f = run-append front (b ∷ []) n s ∙ ap (λ (x : Result Progress TapeFault). x >>= λ u. run (n + length front) u (b ∷ [])) r ∙ ap (λ (x : Result Progress TapeFault). x >>= λ u. Ok u) e in

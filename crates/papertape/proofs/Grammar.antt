@@ -8,51 +8,51 @@ use Rattle.model.specs.declared.tape.TapeFault.{TapeFault}
 use Rattle.papertape.specs.declared.reading.Place.{Place}
 use Rattle.papertape.specs.declared.reading.Place.TheVariants.{Between, Within, After}
 use Rattle.model.specs.Image.{empty_image, with_bytes}
-use Rattle.model.specs.Tape.{Claim, claim_of, needed, AreFewDigits, AreAllDigits, Piece, gap, record_of, IsPiece, IsEnd, front_of, count_of, with_records, text_of, is_skipped, Denotes, FirstFault}
+use Rattle.model.specs.Tape.{Claim, claim_of, needed, AreFewDigits, AreAllDigits, Part, gap, record_of, IsPiece, IsEnd, front_of, count_of, with_records, text_of, is_skipped, TapeDenotes, FirstFault}
 use Rattle.papertape.specs.Reading.{Progress, settled, with_digit, step, step_in, next_count, run, finished, finished_in, read_of, start, ◌>>=◌}
 use Rattle.papertape.proofs.Digits.{just_needed, address_small}
 use Rattle.papertape.proofs.Steps.{list_all-append}
 
 -- pieces were read
-pub record Front (pieces : List Piece) (s : Progress) : Type 0 where
+pub record Front (pieces : List Part) (s : Progress) : Type 0 where
   pub each : AllByRecursion IsPiece pieces
   pub cells : s.cells ≡ with_records empty_image pieces
   pub count : s.count ≡ min 65536 (count_of pieces)
 
 abbrev pub Reached : List ℕ → Progress → Place → Type 0
-Reached text s Between = (pieces : List Piece) × Front pieces s × (text ≡ front_of pieces) × (s.digits ≡ [])
-Reached text s Within = (pieces : List Piece) × Front pieces s × (text ≡ front_of pieces ++ (59 ∷ s.digits)) × AreFewDigits s.digits × (s.start ≡ length (front_of pieces))
-Reached text s After = (pieces : List Piece) × Front pieces s × (digits : List ℕ) × (tail : List ℕ) × (text ≡ front_of pieces ++ (59 ∷ digits ++ tail)) × IsEnd (count_of pieces) digits × (list_all is_skipped tail ≡ true)
+Reached text s Between = (pieces : List Part) × Front pieces s × (text ≡ front_of pieces) × (s.digits ≡ [])
+Reached text s Within = (pieces : List Part) × Front pieces s × (text ≡ front_of pieces ++ (59 ∷ s.digits)) × AreFewDigits s.digits × (s.start ≡ length (front_of pieces))
+Reached text s After = (pieces : List Part) × Front pieces s × (digits : List ℕ) × (tail : List ℕ) × (text ≡ front_of pieces ++ (59 ∷ digits ++ tail)) × IsEnd (count_of pieces) digits × (list_all is_skipped tail ≡ true)
 
 -- one more byte
 abbrev pub Sound : List ℕ → ℕ → Result Progress TapeFault → Type 0
 Sound text b (Ok t) = Reached (text ++ b ∷ []) t t.place
 Sound text b (Err f) = (more : List ℕ) → FirstFault (text ++ b ∷ more) f.kind f.offset
 
-front_of-push : (ps : List Piece) (p : Piece) → front_of (ps ++ p ∷ []) ≡ front_of ps ++ text_of p
+front_of-push : (ps : List Part) (p : Part) → front_of (ps ++ p ∷ []) ≡ front_of ps ++ text_of p
 front_of-push [] p = append-nil (text_of p)
 front_of-push (q ∷ ps) p = ap (λ (t : List ℕ). text_of q ++ t) (front_of-push ps p) ∙ sym (append_assoc (text_of q) (front_of ps) (text_of p))
 
-each-push : (ps : List Piece) (p : Piece) → AllByRecursion IsPiece ps → IsPiece p → AllByRecursion IsPiece (ps ++ p ∷ [])
+each-push : (ps : List Part) (p : Part) → AllByRecursion IsPiece ps → IsPiece p → AllByRecursion IsPiece (ps ++ p ∷ [])
 each-push [] p h k = (k, tt)
 each-push (q ∷ ps) p h k = (h.0, each-push ps p h.1 k)
 
-written-push_gap : (cells : List (Option ℕ)) (ps : List Piece) (b : ℕ) → with_records cells (ps ++ gap b ∷ []) ≡ with_records cells ps
+written-push_gap : (cells : List (Option ℕ)) (ps : List Part) (b : ℕ) → with_records cells (ps ++ gap b ∷ []) ≡ with_records cells ps
 written-push_gap cells [] b = refl
 written-push_gap cells (gap x ∷ ps) b = written-push_gap cells ps b
 written-push_gap cells (record_of ds ∷ ps) b = written-push_gap (with_bytes cells (claim_of ds).address (claim_of ds).bytes) ps b
 
-written-push : (cells : List (Option ℕ)) (ps : List Piece) (ds : List ℕ) → with_records cells (ps ++ record_of ds ∷ []) ≡ with_bytes (with_records cells ps) (claim_of ds).address (claim_of ds).bytes
+written-push : (cells : List (Option ℕ)) (ps : List Part) (ds : List ℕ) → with_records cells (ps ++ record_of ds ∷ []) ≡ with_bytes (with_records cells ps) (claim_of ds).address (claim_of ds).bytes
 written-push cells [] ds = refl
 written-push cells (gap x ∷ ps) ds = written-push cells ps ds
 written-push cells (record_of es ∷ ps) ds = written-push (with_bytes cells (claim_of es).address (claim_of es).bytes) ps ds
 
-count-push_gap : (ps : List Piece) (b : ℕ) → count_of (ps ++ gap b ∷ []) ≡ count_of ps
+count-push_gap : (ps : List Part) (b : ℕ) → count_of (ps ++ gap b ∷ []) ≡ count_of ps
 count-push_gap [] b = refl
 count-push_gap (gap x ∷ ps) b = count-push_gap ps b
 count-push_gap (record_of ds ∷ ps) b = ap (λ n. 1 + n) (count-push_gap ps b)
 
-count-push : (ps : List Piece) (ds : List ℕ) → count_of (ps ++ record_of ds ∷ []) ≡ 1 + count_of ps
+count-push : (ps : List Part) (ds : List ℕ) → count_of (ps ++ record_of ds ∷ []) ≡ 1 + count_of ps
 count-push [] ds = refl
 count-push (gap x ∷ ps) ds = count-push ps ds
 count-push (record_of es ∷ ps) ds = ap (λ n. 1 + n) (count-push ps ds)
@@ -63,12 +63,12 @@ next-min n m e = elim (cases_Bool (ltb n 65536)) [
   | inr f ↦ let ge = ltb-false n 65536 f in rw f (omega arith)
 ]
 
--- the text behind a front, one byte longer
+-- the text after a front, one byte longer
 longer : (front : List ℕ) (digits : List ℕ) (b : ℕ) → (front ++ (59 ∷ digits)) ++ b ∷ [] ≡ front ++ (59 ∷ (digits ++ b ∷ []))
 longer front digits b = append_assoc front (59 ∷ digits) (b ∷ [])
 
 -- all digits of a record are there
-settled_sound : (text : List ℕ) (s : Progress) (b : ℕ) (digits : List ℕ) (pieces : List Piece) → Front pieces s → s.start ≡ length (front_of pieces) → text ++ b ∷ [] ≡ front_of pieces ++ (59 ∷ digits) → AreAllDigits digits
+settled_sound : (text : List ℕ) (s : Progress) (b : ℕ) (digits : List ℕ) (pieces : List Part) → Front pieces s → s.start ≡ length (front_of pieces) → text ++ b ∷ [] ≡ front_of pieces ++ (59 ∷ digits) → AreAllDigits digits
     → Sound text b (settled s (claim_of digits))
 unfolding settled
 settled_sound text s b digits pieces front at spelled all =
@@ -108,7 +108,7 @@ settled_sound text s b digits pieces front at spelled all =
           ])
     ]
 
-digit_sound : (text : List ℕ) (s : Progress) (b : ℕ) (pieces : List Piece) → Front pieces s → text ≡ front_of pieces ++ (59 ∷ s.digits) → AreFewDigits s.digits → s.start ≡ length (front_of pieces) → s.place ≡ Within → is_hex_byte b ≡ true
+digit_sound : (text : List ℕ) (s : Progress) (b : ℕ) (pieces : List Part) → Front pieces s → text ≡ front_of pieces ++ (59 ∷ s.digits) → AreFewDigits s.digits → s.start ≡ length (front_of pieces) → s.place ≡ Within → is_hex_byte b ≡ true
     → Sound text b (with_digit s b)
 unfolding with_digit
 digit_sound text s b pieces front spelled few at place hex =
@@ -192,7 +192,7 @@ run_sound (b ∷ rest) text s h = go (λ t k. run_sound rest (text ++ b ∷ []) 
       moved rest text b t same (rw len at (next t k))
 
 abbrev pub SoundRead : List ℕ → Result (List (Option ℕ)) TapeFault → Type 0
-SoundRead text (Ok cells) = Denotes text cells
+SoundRead text (Ok cells) = TapeDenotes text cells
 SoundRead text (Err f) = FirstFault text f.kind f.offset
 
 none_min : (n m : ℕ) → n ≡ min 65536 m → n ≡ 0 → m ≡ 0

@@ -3,14 +3,14 @@ use Rattle.std.proofs.Common.{◌≡◌, ℕ, suc, ◌+◌, ◌*◌, ◌/◌, �
 use Rattle.std.proofs.lemmas.List.{take_at, get_or_at, length-append}
 use Rattle.hex.specs.Hex.{encode_with, encode_upper}
 use Rattle.hex.proofs.HexLemmas.{IsDigits-upper_digits}
-use Rattle.model.specs.Tape.{claim_in, bytes_of}
+use Rattle.model.specs.Tape.{claim_in, bytes_of_digits}
 use Rattle.model.specs.TapeText.{with_sum}
 
 abbrev pub AreBytes : List ℕ → Type 0
 AreBytes [] = Unit {0}
 AreBytes (b ∷ bs) = (b < 256) × AreBytes bs
 
-pub bytes_of-encode : (bs : List ℕ) → AreBytes bs → bytes_of (encode_upper bs) ≡ bs
+pub bytes_of-encode : (bs : List ℕ) → AreBytes bs → bytes_of_digits (encode_upper bs) ≡ bs
 unfolding encode_with
 bytes_of-encode [] h = refl
 bytes_of-encode (b ∷ bs) h =

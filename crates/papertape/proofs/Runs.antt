@@ -2,7 +2,7 @@
 use Rattle.std.proofs.Common.{◌≡◌, ℕ, zero, suc, ◌+◌, min, true, false, List, [], ◌∷◌, ◌++◌, length, take, Option, Some, None, refl, sym, ap, ◌∙◌, arith}
 use Rattle.std.specs.List.{flat_map}
 use Rattle.model.specs.TapeText.{Stretch, runs, pieces_of_run, written_pieces}
-use Rattle.papertape.proofs.Stretches.{front_run, runs_behind, pieces_behind, pieces_within, runs_are, pieces_are}
+use Rattle.papertape.proofs.Stretches.{front_run, runs_after, pieces_after, pieces_within, runs_are, pieces_are}
 use Rattle.papertape.specs.Writing.{front_bytes, cuts}
 
 front_taken : (n : ℕ) (cells : List (Option ℕ)) → front_bytes n cells ≡ take n (front_run cells)
@@ -18,13 +18,13 @@ front_count (suc n) (None ∷ cells) = omega arith
 front_count (suc n) (Some b ∷ cells) = let h = front_count n cells in omega (arith, h)
 
 abbrev rest_of : ℕ → List (Option ℕ) → List Stretch
-rest_of address cells = flat_map pieces_within (runs_behind true address cells)
+rest_of address cells = flat_map pieces_within (runs_after true address cells)
 
 abbrev Within : List (Option ℕ) → ℕ → Type 0
-Within cells address = (covered taken : ℕ) → covered ≡ min taken (length (front_run cells)) → cuts address covered cells ≡ pieces_behind taken address (front_run cells) ++ rest_of address cells
+Within cells address = (covered taken : ℕ) → covered ≡ min taken (length (front_run cells)) → cuts address covered cells ≡ pieces_after taken address (front_run cells) ++ rest_of address cells
 
 abbrev Outside : List (Option ℕ) → ℕ → Type 0
-Outside cells address = cuts address 0 cells ≡ flat_map pieces_within (runs_behind false address cells)
+Outside cells address = cuts address 0 cells ≡ flat_map pieces_within (runs_after false address cells)
 
 -- a piece begins
 begun : (b : ℕ) (cells : List (Option ℕ)) (address : ℕ) → Within cells (address + 1) → Outside (Some b ∷ cells) address

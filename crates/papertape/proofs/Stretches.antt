@@ -14,24 +14,24 @@ front_run (None ∷ cells) = []
 front_run (Some b ∷ cells) = b ∷ front_run cells
 
 -- the runs, where the cell before is in a run that has been taken, or in none
-abbrev pub runs_behind : Bool → ℕ → List (Option ℕ) → List Stretch
-runs_behind taken address [] = []
-runs_behind taken address (None ∷ cells) = runs_behind false (address + 1) cells
-runs_behind true address (Some b ∷ cells) = runs_behind true (address + 1) cells
-runs_behind false address (Some b ∷ cells) = (address, b ∷ front_run cells) ∷ runs_behind true (address + 1) cells
+abbrev pub runs_after : Bool → ℕ → List (Option ℕ) → List Stretch
+runs_after taken address [] = []
+runs_after taken address (None ∷ cells) = runs_after false (address + 1) cells
+runs_after true address (Some b ∷ cells) = runs_after true (address + 1) cells
+runs_after false address (Some b ∷ cells) = (address, b ∷ front_run cells) ∷ runs_after true (address + 1) cells
 
 -- the pieces of bytes, where the first `taken` bytes are in a piece before
-abbrev pub pieces_behind : ℕ → ℕ → List ℕ → List Stretch
-pieces_behind taken address [] = []
-pieces_behind (suc taken) address (b ∷ bytes) = pieces_behind taken (address + 1) bytes
-pieces_behind zero address (b ∷ bytes) = (address, b ∷ take 23 bytes) ∷ pieces_behind 23 (address + 1) bytes
+abbrev pub pieces_after : ℕ → ℕ → List ℕ → List Stretch
+pieces_after taken address [] = []
+pieces_after (suc taken) address (b ∷ bytes) = pieces_after taken (address + 1) bytes
+pieces_after zero address (b ∷ bytes) = (address, b ∷ take 23 bytes) ∷ pieces_after 23 (address + 1) bytes
 
 abbrev pub pieces_within : Stretch → List Stretch
-pieces_within run = pieces_behind 0 run.0 run.1
+pieces_within run = pieces_after 0 run.0 run.1
 
 -- ---- runs
 
--- the first run begins at an address or behind it
+-- the first run begins at an address or after it
 abbrev Behind : ℕ → List Stretch → Type 0
 Behind n [] = Unit {0}
 Behind n (run ∷ rest) = n ≤ run.0
@@ -52,13 +52,13 @@ behind n [] = tt
 behind n (None ∷ cells) = further n (runs (n + 1) cells) (behind (n + 1) cells)
 behind n (Some b ∷ cells) = begins_there n b (runs (n + 1) cells)
 
--- a byte with nothing behind it is a run of its own
+-- a byte with nothing after it is a run of its own
 alone : (n b : ℕ) (rs : List Stretch) → Behind (n + 1 + 1) rs → before_runs n b rs ≡ (n, b ∷ []) ∷ rs
 alone n b [] h = refl
 alone n b (run ∷ rest) h = rw (ne_eqb run.0 (n + 1) (λ e. omega (arith, h, e))) refl
 
 Counted : List (Option ℕ) → Type 0
-Counted cells = ((n : ℕ) → runs n cells ≡ runs_behind false n cells) × ((n b : ℕ) → runs n (Some b ∷ cells) ≡ (n, b ∷ front_run cells) ∷ runs_behind true (n + 1) cells)
+Counted cells = ((n : ℕ) → runs n cells ≡ runs_after false n cells) × ((n b : ℕ) → runs n (Some b ∷ cells) ≡ (n, b ∷ front_run cells) ∷ runs_after true (n + 1) cells)
 
 counted : (cells : List (Option ℕ)) → Counted cells
 unfolding Counted
@@ -74,20 +74,20 @@ counted (Some c ∷ cells) =
       λ n b. ap (λ (rs : List Stretch). before_runs n b rs) (next (n + 1) c) ∙ rw (eq-eqb (n + 1) (n + 1) refl) refl,
     )
 
-pub runs_are : (cells : List (Option ℕ)) → runs 0 cells ≡ runs_behind false 0 cells
+pub runs_are : (cells : List (Option ℕ)) → runs 0 cells ≡ runs_after false 0 cells
 unfolding Counted
 runs_are cells = (counted cells).0 0
 
 -- ---- pieces
 
-skipped : (taken address : ℕ) (bytes : List ℕ) → pieces_behind taken address bytes ≡ pieces_behind 0 (address + taken) (drop taken bytes)
-skipped zero address bytes = let same : address ≡ address + 0 = omega arith in ap (λ a. pieces_behind 0 a bytes) same
+skipped : (taken address : ℕ) (bytes : List ℕ) → pieces_after taken address bytes ≡ pieces_after 0 (address + taken) (drop taken bytes)
+skipped zero address bytes = let same : address ≡ address + 0 = omega arith in ap (λ a. pieces_after 0 a bytes) same
 skipped (suc taken) address [] = refl
 skipped (suc taken) address (b ∷ bytes) =
     let same : address + 1 + taken ≡ address + suc taken = omega arith in
-    skipped taken (address + 1) bytes ∙ ap (λ a. pieces_behind 0 a (drop taken bytes)) same
+    skipped taken (address + 1) bytes ∙ ap (λ a. pieces_after 0 a (drop taken bytes)) same
 
--- the pieces behind the first are those of the run behind it
+-- the pieces after the first are those of the run after it
 shifted : (address : ℕ) (bytes : List ℕ) (n s : ℕ)
     → map (λ k. piece_of_run (address, bytes) k) (range_with_len (s + 1) n) ≡ map (λ k. piece_of_run (address + 24, drop 24 bytes) k) (range_with_len s n)
 shifted address bytes zero s = refl
@@ -99,7 +99,7 @@ shifted address bytes (suc n) s =
     ∙ ap (λ (bs : List ℕ). (address + 24 + 24 * s, take 24 bs) ∷ map (λ k. piece_of_run (address, bytes) k) (range_with_len (s + 1 + 1) n)) them
     ∙ ap (λ (ps : List Stretch). (address + 24 + 24 * s, take 24 (drop (24 * s) (drop 24 bytes))) ∷ ps) (shifted address bytes n (s + 1))
 
-cut : (most address : ℕ) (bytes : List ℕ) → length bytes ≤ most → pieces_of_run (address, bytes) ≡ pieces_behind 0 address bytes
+cut : (most address : ℕ) (bytes : List ℕ) → length bytes ≤ most → pieces_of_run (address, bytes) ≡ pieces_after 0 address bytes
 cut most address [] h = refl
 cut zero address (b ∷ bytes) h = absurd (omega (arith, h))
 cut (suc most) address (b ∷ bytes) h =
@@ -112,7 +112,7 @@ cut (suc most) address (b ∷ bytes) h =
     ap (λ m. map (λ k. piece_of_run (address, b ∷ bytes) k) (range_with_len 0 m)) count
     ∙ ap (λ a. (a, b ∷ take 23 bytes) ∷ map (λ k. piece_of_run (address, b ∷ bytes) k) (range_with_len 1 n)) start
     ∙ ap (λ (ps : List Stretch). (address, b ∷ take 23 bytes) ∷ ps)
-    (shifted address (b ∷ bytes) n 0 ∙ cut most (address + 24) left (omega (arith, long, h)) ∙ ap (λ a. pieces_behind 0 a left) there ∙ sym (skipped 23 (address + 1) bytes))
+    (shifted address (b ∷ bytes) n 0 ∙ cut most (address + 24) left (omega (arith, long, h)) ∙ ap (λ a. pieces_after 0 a left) there ∙ sym (skipped 23 (address + 1) bytes))
 
 pub pieces_are : (rs : List Stretch) → flat_map pieces_of_run rs ≡ flat_map pieces_within rs
 pieces_are [] = refl

@@ -52,7 +52,7 @@ record_sum n number bytes = let h = fold-from bytes (0 + n + number / 256 + numb
 regroup : (a b c d e f t : List ℕ) → (((((a ++ b) ++ c) ++ d) ++ e) ++ f) ++ t ≡ a ++ (b ++ ((c ++ (d ++ (e ++ f))) ++ t))
 regroup a b c d e f t = simp append_assoc refl
 
--- a record's parts, one behind the other
+-- a record's parts, one after the other
 pub record_text : (n number check : ℕ) (bytes a b c d e f : List ℕ) → check ≡ (n + number / 256 + number % 256 + sum bytes) % 65536
     → b ≡ a ++ 59 ∷ [] → c ≡ b ++ encode_upper (n ∷ []) → d ≡ c ++ encode_upper (word number) → e ≡ d ++ encode_upper bytes → f ≡ e ++ encode_upper (word check)
     → f ++ 13 ∷ 10 ∷ [] ≡ a ++ line (n ∷ word number ++ bytes)

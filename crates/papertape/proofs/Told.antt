@@ -10,7 +10,7 @@ use Rattle.model.specs.TapePieces.{longest, too_long, Tells, IsReadInPieces, IsT
 use Rattle.papertape.specs.declared.reading.Place.{Place}
 use Rattle.papertape.specs.declared.reading.Place.TheVariants.{Between, Within, After}
 use Rattle.model.specs.TapeFault.{out_of_memory}
-use Rattle.papertape.specs.Reading.{Answers, Progress, step, run, finished, finished_in, read_of, start, ◌>>=◌}
+use Rattle.papertape.specs.Reading.{AnswersReading, Progress, step, run, finished, finished_in, read_of, start, ◌>>=◌}
 use Rattle.papertape.specs.Feeding.{Fed, unfed, fed_up_to, fed_byte, fed, ended, said}
 use Rattle.papertape.proofs.Grammar.{SoundRead, read_sound}
 use Rattle.papertape.proofs.Again.{run-append, read_again}
@@ -238,21 +238,21 @@ refused_in_pieces text f = (λ e. elim (cases_lt longest (length text)) [ inl h 
 
 -- ---- from an answer to what it says of the text
 
-pub found_in_pieces : (text : List ℕ) (r : Read) → Answers r (ended (fed unfed text)) → IfOk r (λ image. IsReadInPieces text image)
+pub found_in_pieces : (text : List ℕ) (r : Read) → AnswersReading r (ended (fed unfed text)) → IfOk r (λ image. IsReadInPieces text image)
 found_in_pieces text (Ok image) h = (in_pieces text image).0 h
 found_in_pieces text (Err f) h = tt
 
-pub only_in_pieces : (text : List ℕ) (r : Read) → Answers r (ended (fed unfed text)) → (cells : List (Option ℕ)) → IsReadInPieces text cells → (r ≡ Ok cells) ⊎ (r ≡ Err out_of_memory)
+pub only_in_pieces : (text : List ℕ) (r : Read) → AnswersReading r (ended (fed unfed text)) → (cells : List (Option ℕ)) → IsReadInPieces text cells → (r ≡ Ok cells) ⊎ (r ≡ Err out_of_memory)
 only_in_pieces text (Ok image) h cells d = inl (sym h ∙ (in_pieces text cells).1 d)
 only_in_pieces text (Err f) (inl m) cells d = inr (ap Err m)
 only_in_pieces text (Err f) (inr h) cells d = inl (sym h ∙ (in_pieces text cells).1 d)
 
-pub fault_in_pieces : (text : List ℕ) (r : Read) → Answers r (ended (fed unfed text)) → IfErr r (λ f. (f ≡ out_of_memory) ⊎ IsRefusedInPieces text f)
+pub fault_in_pieces : (text : List ℕ) (r : Read) → AnswersReading r (ended (fed unfed text)) → IfErr r (λ f. (f ≡ out_of_memory) ⊎ IsRefusedInPieces text f)
 fault_in_pieces text (Ok image) h = tt
 fault_in_pieces text (Err f) (inl m) = inl m
 fault_in_pieces text (Err f) (inr h) = inr ((refused_in_pieces text f).0 h)
 
-pub answered_in_pieces : (text : List ℕ) (r : Read) → Answers r (ended (fed unfed text)) → (fault : TapeFault) → IsRefusedInPieces text fault → (r ≡ Err fault) ⊎ (r ≡ Err out_of_memory)
+pub answered_in_pieces : (text : List ℕ) (r : Read) → AnswersReading r (ended (fed unfed text)) → (fault : TapeFault) → IsRefusedInPieces text fault → (r ≡ Err fault) ⊎ (r ≡ Err out_of_memory)
 answered_in_pieces text (Ok image) h fault d = inl (sym h ∙ (refused_in_pieces text fault).1 d)
 answered_in_pieces text (Err f) (inl m) fault d = inr (ap Err m)
 answered_in_pieces text (Err f) (inr h) fault d = inl (sym h ∙ (refused_in_pieces text fault).1 d)

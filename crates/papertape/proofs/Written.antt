@@ -7,7 +7,7 @@ use Rattle.hex.specs.Hex.{encode_with, encode_upper, upper_digits}
 use Rattle.hex.proofs.HexLemmas.{IsDigits-upper_digits, length-encode_with}
 use Rattle.model.specs.Digits.{is_hex_byte}
 use Rattle.model.specs.Image.{empty_image, with_bytes}
-use Rattle.model.specs.Tape.{Claim, claim_in, claim_of, bytes_of, needed, AreAllDigits, Piece, gap, record_of, IsPiece, front_of, count_of, with_records, Denotes}
+use Rattle.model.specs.Tape.{Claim, claim_in, claim_of, bytes_of_digits, needed, AreAllDigits, Part, gap, record_of, IsPiece, front_of, count_of, with_records, TapeDenotes}
 use Rattle.std.specs.List.{All}
 use Rattle.std.proofs.lemmas.List.Elements.{All-head, All-tail}
 use Rattle.model.specs.Image.{IsCell, IsImage}
@@ -60,7 +60,7 @@ is_line n a bs small e lt h =
     let w = with_sum (head_of n a bs) in
     let s = sum (head_of n a bs) % 65536 in
     let fits : AreBytes w = (small, (omega (arith, lt), (omega arith, AreBytes-append bs (word s) h (omega arith, (omega arith, tt))))) in
-    let same : bytes_of (digits_of n a bs) ≡ w = bytes_of-encode w fits in
+    let same : bytes_of_digits (digits_of n a bs) ≡ w = bytes_of-encode w fits in
     let c = ap claim_in same ∙ claim_line n (a / 256) (a % 256) bs e in
     let count : length w ≡ 5 + n = omega (arith, e, length-append bs (word s)) in
     let digits : length (digits_of n a bs) ≡ 2 * length w = length-encode_with upper_digits w in
@@ -133,7 +133,7 @@ cuts_count (x ∷ y ∷ cells) h = let k = cuts_fewer x y cells 0 in omega (arit
 abbrev piece_digits : ℕ × List ℕ → List ℕ
 piece_digits cut = digits_of (length cut.1) cut.0 cut.1
 
-abbrev pieces_of : List (ℕ × List ℕ) → List Piece
+abbrev pieces_of : List (ℕ × List ℕ) → List Part
 pieces_of [] = []
 pieces_of (c ∷ cs) = record_of (piece_digits c) ∷ gap 13 ∷ gap 10 ∷ pieces_of cs
 
@@ -173,7 +173,7 @@ AreCells-image (c ∷ cells) h = (All-head IsCell c cells h, AreCells-image cell
 abbrev pub cut_text : List Stretch → List ℕ
 cut_text cs = flat_map data_line cs ++ end_line (length cs)
 
-cut_denotes : (cells : List (Option ℕ)) → IsImage cells → Denotes (cut_text (cuts 0 0 cells)) cells
+cut_denotes : (cells : List (Option ℕ)) → IsImage cells → TapeDenotes (cut_text (cuts 0 0 cells)) cells
 cut_denotes cells h =
     let cs = cuts 0 0 cells in
     let each = are_cuts cells 0 0 (AreCells-image cells h.each) (omega (arith, h.size)) in
@@ -189,8 +189,8 @@ cut_denotes cells h =
       union = sym (pieces_write cs empty_image each ∙ whole_write cells h.size);
     }
 
-pub written_denotes : (cells : List (Option ℕ)) → IsImage cells → Denotes (tape_text cells) cells
-written_denotes cells h = subst (λ (cs : List Stretch). Denotes (cut_text cs) cells) (cuts_pieces cells) (cut_denotes cells h)
+pub written_denotes : (cells : List (Option ℕ)) → IsImage cells → TapeDenotes (tape_text cells) cells
+written_denotes cells h = subst (λ (cs : List Stretch). TapeDenotes (cut_text cs) cells) (cuts_pieces cells) (cut_denotes cells h)
 
 pub written_again : (cells : List (Option ℕ)) → IsImage cells → read_of (tape_text cells) ≡ Ok cells
 written_again cells h = read_again (tape_text cells) cells (written_denotes cells h)

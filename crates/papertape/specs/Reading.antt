@@ -55,7 +55,7 @@ step_in offset s b Between = if b == 59 then Ok (record s { place = Within; star
 step_in offset s b Within = if is_hex_byte b then with_digit s b else fault_at BadHex offset
 step_in offset s b After = if is_skipped b then Ok s else fault_at JunkAfterEnd offset
 
--- one byte more, at an offset: the state behind it, or the fault
+-- one byte more, at an offset: the state after it, or the fault
 unfoldable pub step : ℕ → Progress → ℕ → Result Progress TapeFault
 step offset s b = step_in offset s b s.place
 
@@ -97,6 +97,6 @@ pub record IsHeld (held : ℕ) (digits : List ℕ) : Type 0 where
   pub few : AreFewDigits (take held digits)
 
 -- an answer is what reading gives, unless memory was refused
-abbrev pub Answers : Result (List (Option ℕ)) TapeFault → Result (List (Option ℕ)) TapeFault → Type 0
-Answers (Ok cells) gives = gives ≡ Ok cells
-Answers (Err f) gives = (f ≡ out_of_memory) ⊎ (gives ≡ Err f)
+abbrev pub AnswersReading : Result (List (Option ℕ)) TapeFault → Result (List (Option ℕ)) TapeFault → Type 0
+AnswersReading (Ok cells) gives = gives ≡ Ok cells
+AnswersReading (Err f) gives = (f ≡ out_of_memory) ⊎ (gives ≡ Err f)

@@ -27,14 +27,14 @@ abbrev pub first_cell : List (Option ℕ) → Option ℕ
 first_cell [] = None
 first_cell (c ∷ cells) = c
 
--- behind an address a piece comes next, and the cuts go on behind it
+-- after an address a piece comes next, and the cuts go on after it
 pub record ComesNext (cells : List (Option ℕ)) (from : ℕ) (piece : Stretch) : Type 0 where
   pub cut : cuts from 0 (drop from cells) ≡ piece ∷ cuts (piece.0 + length piece.1) 0 (drop (piece.0 + length piece.1) cells)
   pub some : 0 < length piece.1
   pub ahead : from ≤ piece.0
   pub inside : piece.0 + length piece.1 ≤ 65536
 
--- the piece that comes next behind an address, if one does
+-- the piece that comes next after an address, if one does
 abbrev pub IsNext : List (Option ℕ) → ℕ → Option Stretch → Type 0
 IsNext cells from None = cuts from 0 (drop from cells) ≡ []
 IsNext cells from (Some piece) = ComesNext cells from piece

@@ -3,7 +3,7 @@
 ghost use Rattle.std.specs.Prelude.{◌≡◌, ◌+◌, ◌*◌, length, true, slice_index};
 ghost use Rattle.std.specs.List.{list_all};
 ghost use Rattle.model.specs.Digits.{is_hex_byte};
-ghost use Rattle.model.specs.Tape.{AreAllDigits, needed, bytes_of, claim_of, claim_in};
+ghost use Rattle.model.specs.Tape.{AreAllDigits, needed, bytes_of_digits, claim_of, claim_in};
 
 use crate::record::total;
 use std::marker::Model;
@@ -15,7 +15,7 @@ pub struct Claim {
     pub length: u8,
     /// The address of the first of them; in the end record the number of data records.
     pub address: u16,
-    /// The data, and zeroes behind them.
+    /// The data, and zeroes after them.
     pub data: [u8; 255],
     /// The sum of the bytes before the checksum, modulo 65536.
     pub sum: u16,
@@ -41,7 +41,7 @@ pub fn is_hex_digit(byte: u8) -> bool
 fn decode(digits: &[u8], bytes: &mut [u8])
     requires hex { list_all is_hex_byte digits.now ≡ true }
     requires room { length digits.now ≡ 2 * length bytes.old }
-    ensures { bytes.new ≡ bytes_of digits.now }
+    ensures { bytes.new ≡ bytes_of_digits digits.now }
 {
     let _ = hex::decode_to_slice(digits, bytes);
 }

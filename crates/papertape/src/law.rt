@@ -3,13 +3,13 @@
 ghost use Rattle.std.specs.Prelude.{◌≡◌, ◌≤◌, ◌++◌, ◌⊎◌, ◌↔◌, ℕ, List, Option, Ok, Err, IfOk, IfErr, length, map};
 ghost use Rattle.std.specs.List.{concat};
 ghost use Rattle.model.specs.Image.{IsImage};
-ghost use Rattle.model.specs.Tape.{Denotes, EachTextIsRead, ImageOrFault, OneDigitIsRefused, OneFault, OneImage};
+ghost use Rattle.model.specs.Tape.{TapeDenotes, EachTextIsRead, TapeImageOrFault, OneDigitIsRefused, OneTapeFault, OneTapeImage};
 ghost use Rattle.model.specs.TapeFault.{out_of_memory};
 ghost use Rattle.model.specs.TapePieces.{IsReadInPieces, IsRefusedInPieces, Tells, longest};
 ghost use Rattle.model.specs.TapeText.{tape_text};
 ghost use Rattle.model.specs.declared.tape.TapeFault.{TapeFault};
 ghost use Rattle.papertape.specs.Feeding.{Fed, ended, fed, unfed};
-ghost use Rattle.papertape.specs.Reading.{Answers};
+ghost use Rattle.papertape.specs.Reading.{AnswersReading};
 
 use crate::reader::{TapeReader, read_tape};
 use crate::writer::write_tape;
@@ -19,15 +19,15 @@ use std::alloc::Global;
 
 /// The written text of an image denotes that image. A law for proofs: it does nothing.
 pub fn written_is_read()
-    ensures { (cells : List (Option ℕ)) → IsImage cells → Denotes (tape_text cells) cells }
+    ensures { (cells : List (Option ℕ)) → IsImage cells → TapeDenotes (tape_text cells) cells }
 {}
 
 /// Each text denotes exactly one image or has exactly one first fault. A law for proofs: it does nothing.
 pub fn each_text_has_one_reading()
     ensures each { EachTextIsRead }
-    ensures image { OneImage }
-    ensures fault { OneFault }
-    ensures either { ImageOrFault }
+    ensures image { OneTapeImage }
+    ensures fault { OneTapeFault }
+    ensures either { TapeImageOrFault }
 {}
 
 /// One digit of a record's address, data or checksum changed makes a tape refused at that record. A law for proofs: it does nothing.
@@ -58,7 +58,7 @@ pub fn pieces_have_one_reading()
 
 /// The image of a tape that comes in these pieces, as `TapeReader` reads it.
 ///
-/// The errors are those of `read_tape` for the pieces one behind the other, and `TooLong` at offset 4,294,967,295 where they have more bytes than that and the bytes before tell no fault.
+/// The errors are those of `read_tape` for the pieces one after the other, and `TooLong` at offset 4,294,967,295 where they have more bytes than that and the bytes before tell no fault.
 pub fn read_pieces(alloc: Global, pieces: &[&[u8]]) -> Result<Image, TapeFault>
     // What is read is what the pieces denote together.
     ensures found { IfOk result (λ image. IsReadInPieces (concat (map (λ piece. piece.now) pieces.entry.now)) image) }
@@ -73,7 +73,7 @@ pub fn read_pieces(alloc: Global, pieces: &[&[u8]]) -> Result<Image, TapeFault>
 }
 
 fn read_each(alloc: Global, pieces: &[&[u8]]) -> Result<Image, TapeFault>
-    ensures { Answers result (ended (fed unfed (concat (map (λ piece. piece.now) pieces.entry.now)))) }
+    ensures { AnswersReading result (ended (fed unfed (concat (map (λ piece. piece.now) pieces.entry.now)))) }
 {
     let mut reader = TapeReader::new(alloc)?;
     for piece in pieces {

@@ -86,7 +86,7 @@ impl Piece {
         None
     }
 
-    /// The address behind the piece.
+    /// The address after the piece.
     pub fn end(&self) -> u32
         ensures { result ≡ self.now.0 + length self.now.1 }
     {

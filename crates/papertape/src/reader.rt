@@ -1,8 +1,8 @@
 //! Reading a tape.
 
 ghost use Rattle.std.specs.Prelude.{◌≡◌, Ok, Err, IfOk, IfErr, ◌⊎◌, ℕ, List, Option, [], ◌∷◌, true, false};
-ghost use Rattle.papertape.specs.Reading.{Answers, read_of};
-ghost use Rattle.model.specs.Tape.{Denotes, FirstFault};
+ghost use Rattle.papertape.specs.Reading.{AnswersReading, read_of};
+ghost use Rattle.model.specs.Tape.{TapeDenotes, FirstFault};
 ghost use Rattle.model.specs.declared.tape.TapeFaultKind.{TapeFaultKind};
 ghost use Rattle.model.specs.TapeFault.{out_of_memory};
 
@@ -14,12 +14,12 @@ use std::marker::Model;
 
 /// The image that a text denotes: its data records' bytes, a later record winning (form of the records: KIM-1 manual; what may stand between them and what is refused: profile).
 ///
-/// The errors, of which the first from left to right is answered: `JunkBetween` at a byte where a record may begin that is neither `;` nor skipped ($00, CR, LF, $13); `BadHex` at a byte in a record that is no hex digit; `BadChecksum`, and where that is right `PastEnd` or `BadCount`, at the record's `;` when all its digits are read; `JunkAfterEnd` at a byte behind the end record that is not skipped; and at the text's length `NoRecord` where no record began, `Truncated` where one did not end or the end record is missing. `OutOfMemory` at 0 where a request for memory was refused.
+/// The errors, of which the first from left to right is answered: `JunkBetween` at a byte where a record may begin that is neither `;` nor skipped ($00, CR, LF, $13); `BadHex` at a byte in a record that is no hex digit; `BadChecksum`, and where that is right `PastEnd` or `BadCount`, at the record's `;` when all its digits are read; `JunkAfterEnd` at a byte after the end record that is not skipped; and at the text's length `NoRecord` where no record began, `Truncated` where one did not end or the end record is missing. `OutOfMemory` at 0 where a request for memory was refused.
 pub fn read_tape(alloc: Global, text: &[u8]) -> Result<Image, TapeFault>
     // What is read is what the text denotes.
-    ensures found { IfOk result (λ image. Denotes text.now image) }
+    ensures found { IfOk result (λ image. TapeDenotes text.now image) }
     // What denotes an image is read, unless memory is refused.
-    ensures only { (cells : List (Option ℕ)) → Denotes text.now cells → (result ≡ Ok cells) ⊎ (result ≡ Err out_of_memory) }
+    ensures only { (cells : List (Option ℕ)) → TapeDenotes text.now cells → (result ≡ Ok cells) ⊎ (result ≡ Err out_of_memory) }
     // Each refusal is the first fault, or that memory was refused.
     ensures fault { IfErr result (λ f. (f ≡ out_of_memory) ⊎ FirstFault text.now f.kind f.offset) }
     // A text with a first fault is refused with it, unless memory is refused.
@@ -30,7 +30,7 @@ pub fn read_tape(alloc: Global, text: &[u8]) -> Result<Image, TapeFault>
 }
 
 fn read_whole(alloc: Global, text: &[u8]) -> Result<Image, TapeFault>
-    ensures { Answers result (read_of text.now) }
+    ensures { AnswersReading result (read_of text.now) }
 {
     let mut reader = TapeReader::new(alloc)?;
     reader.take_up_to(text.len() as u64, text);
@@ -136,7 +136,7 @@ impl TapeReader {
     ///
     /// The errors are those of `read_tape` that the bytes fed so far tell, whatever may follow: each but `NoRecord` and `Truncated`. `TooLong` at offset 4,294,967,295 where that many bytes were fed without a fault, and one more. After an error the reader has failed.
     pub fn feed(&mut self, piece: &[u8]) -> Result<(), TapeFault>
-        // The piece is behind what was fed.
+        // The piece is after what was fed.
         ensures after { self.new ≡ fed self.old piece.now }
         // The answer is the reader's fault, where it has one.
         ensures answer { result ≡ said self.new }

@@ -17,7 +17,7 @@ pub enum Place {
     Between,
     /// Among the digits of a record.
     Within,
-    /// Behind the end record.
+    /// After the end record.
     After,
 }
 

@@ -39,7 +39,7 @@ impl From<TapeFault> for TapeReadFault {
 /// # Errors
 ///
 /// - `Tape`: the tape is refused, with the fault that `TapeReader` answers for it (`TooLong` at offset 4,294,967,295 where it goes
-///   on behind that many bytes without a fault): nothing is read behind the piece that tells it. `OutOfMemory` at offset 0 where a
+///   on after that many bytes without a fault): nothing is read after the piece that tells it. `OutOfMemory` at offset 0 where a
 ///   request for memory was refused: nothing was read.
 /// - `Read`: a read failed, and what was read before tells no fault.
 pub fn read_tape_from<T: Read>(alloc: Global, tape: &mut T) -> Result<Image, TapeReadFault>

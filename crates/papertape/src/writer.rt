@@ -1,7 +1,7 @@
 //! Writing a tape.
 
 ghost use Rattle.std.specs.Prelude.{◌≡◌, IfOk, IfErr};
-ghost use Rattle.model.specs.Tape.{Denotes};
+ghost use Rattle.model.specs.Tape.{TapeDenotes};
 ghost use Rattle.model.specs.TapeFault.{out_of_memory};
 ghost use Rattle.model.specs.TapeText.{tape_text};
 
@@ -11,13 +11,13 @@ use bus::Image;
 use model::TapeFault;
 use std::alloc::Global;
 
-/// The text of an image: a data record for each piece of at most 24 bytes of its maximal runs, in rising order, then the end record, each with CR LF behind it (form of the records: KIM-1 manual; the rest: profile).
+/// The text of an image: a data record for each piece of at most 24 bytes of its maximal runs, in rising order, then the end record, each with CR LF after it (form of the records: KIM-1 manual; the rest: profile).
 /// The only error is `OutOfMemory`, at offset 0, where a request for memory was refused.
 pub fn write_tape(alloc: Global, image: &Image) -> Result<Vec<u8>, TapeFault>
     // What is written is the image's text.
     ensures text { IfOk result (λ t. t.items ≡ tape_text image.now) }
     // That text denotes the image.
-    ensures denotes { IfOk result (λ t. Denotes t.items image.now) }
+    ensures denotes { IfOk result (λ t. TapeDenotes t.items image.now) }
     // Nothing else is refused.
     ensures refused { IfErr result (λ f. f ≡ out_of_memory) }
 {

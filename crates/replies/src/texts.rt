@@ -33,7 +33,7 @@ pub fn register_text(session: &Session) -> Text
     text
 }
 
-/// Why an event was refused, behind `! `.
+/// Why an event was refused, after `! `.
 #[tactic(auto, unfolding(model::specs::Transcript::fault_line))]
 pub fn fault_text(fault: EventFault) -> Text
     ensures { result.items ≡ fault_line fault }
@@ -141,7 +141,7 @@ pub fn source_fault_text(kind: AsmFaultKind) -> Text
     text
 }
 
-/// An address behind a space.
+/// An address after a space.
 #[tactic(auto, unfolding(model::specs::Text::address_part))]
 pub fn address_text(address: u16) -> Text
     ensures { result.items ≡ address_part address }

@@ -92,7 +92,7 @@ fn put_break_list<W: Write>(session: &Session, writer: &mut W) -> Result<(), Rep
     }
 }
 
-/// The addresses of the breakpoints, each behind a space.
+/// The addresses of the breakpoints, each after a space.
 fn put_addresses<W: Write>(session: &Session, writer: &mut W) -> Result<(), ReplyFault>
     ensures writes { Writes (W.contents writer.old) (W.contents writer.new) (flat_map address_part session.now.breaks) result }
     ensures fault { OnErr result (result ≡ Err ReplyFault.Write) }
@@ -107,7 +107,7 @@ fn put_addresses<W: Write>(session: &Session, writer: &mut W) -> Result<(), Repl
     Ok(())
 }
 
-/// A breakpoint's address behind a space.
+/// A breakpoint's address after a space.
 fn break_text(session: &Session, index: u32) -> Text
     requires { index < length session.now.breaks }
     ensures { result.items ≡ address_part (slice_index session.now.breaks index) }

@@ -10,7 +10,7 @@ const ADDRESSES: [u16; 8] = [
     0x0000, 0x0001, 0x00fe, 0x02fd, 0x8000, 0xfffd, 0xfffe, 0xffff,
 ];
 
-/// The bytes behind the first: the ends of the zero page, of a branch's way, and some between.
+/// The bytes after the first: the ends of the zero page, of a branch's way, and some between.
 const FURTHER: [u8; 8] = [0x00, 0x01, 0x10, 0x7f, 0x80, 0xf0, 0xfe, 0xff];
 
 /// How many rows of a first byte come back in a profile as the bytes that they show.

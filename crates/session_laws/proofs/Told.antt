@@ -29,7 +29,7 @@ split begun (b ∷ bs) = elim (eqb_tells b 10) [
   | inr h ↦ split_byte begun bs b h.0 (split (begun ++ b ∷ []) bs)
 ]
 
--- More lines write more behind what the first ones write.
+-- More lines write more after what the first ones write.
 abbrev GoesOn : Session → Lines → Lines → Type 0
 GoesOn s xs ys = (more : List ℕ) × ((served s (xs ++ ys)).written ≡ (served s xs).written ++ more)
 

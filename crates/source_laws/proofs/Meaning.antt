@@ -10,7 +10,7 @@ use Rattle.model.specs.declared.source_fault.AsmFaultKind.{AsmFaultKind}
 use Rattle.model.specs.declared.source_fault.AsmFaultKind.TheVariants.{TooLarge}
 use Rattle.model.specs.Names.{number_in}
 use Rattle.model.specs.Layout.{Fixed, Placed, LaidOut, layout_of, unless}
-use Rattle.model.specs.Bytes.{Makes, bytes_of, value_fault}
+use Rattle.model.specs.Bytes.{Makes, line_bytes, value_fault}
 use Rattle.model.specs.Source.{nothing_fixed, read_lines, most_bytes, Denotes, HasFault}
 use Rattle.source_laws.specs.Judging.{Judged, judged, judged_lines, laid_lines, made_lines, numbered, put, too_large, Says, judged_as, ◌>>=◌}
 
@@ -158,13 +158,13 @@ unfolding put
 made_sound m numbers [] n image final h = sym (ok_same image final h)
 made_sound m numbers (p ∷ ps) n image final h =
     let first = bind_ok (numbered n (put m numbers image p)) _ final h in
-    let u = unless_ok (value_fault m numbers image p) (with_bytes image p.address (bytes_of numbers p)) first.0 (numbered_ok n _ first.0 first.1) in
-    (u.0, made_sound m numbers ps (n + 1) (with_bytes image p.address (bytes_of numbers p)) final (rw u.1 at first.2))
+    let u = unless_ok (value_fault m numbers image p) (with_bytes image p.address (line_bytes numbers p)) first.0 (numbered_ok n _ first.0 first.1) in
+    (u.0, made_sound m numbers ps (n + 1) (with_bytes image p.address (line_bytes numbers p)) final (rw u.1 at first.2))
 
 made_again : (m : Map) (numbers : Numbers) (ps : List Placed) (n : ℕ) (image final : Cells) → Makes m numbers image ps final → made_lines m numbers n image ps ≡ Ok final
 unfolding put
 made_again m numbers [] n image final h = ap (λ (x : Cells). Ok x) (sym h)
-made_again m numbers (p ∷ ps) n image final h = rw h.0 (made_again m numbers ps (n + 1) (with_bytes image p.address (bytes_of numbers p)) final h.1)
+made_again m numbers (p ∷ ps) n image final h = rw h.0 (made_again m numbers ps (n + 1) (with_bytes image p.address (line_bytes numbers p)) final h.1)
 
 record FirstValue (m : Map) (numbers : Numbers) (n : ℕ) (start : Cells) (placed : List Placed) (f : AsmFault) : Type 0 where
   front : List Placed
@@ -190,11 +190,11 @@ value_fault_of m numbers (p ∷ ps) n image f h = elim (bind_err (numbered n (pu
         image = image;
         made = refl;
         number = omega (arith, e.0);
-        kind = unless_err (value_fault m numbers image p) (with_bytes image p.address (bytes_of numbers p)) f.kind e.1;
+        kind = unless_err (value_fault m numbers image p) (with_bytes image p.address (line_bytes numbers p)) f.kind e.1;
       }
   | inr first ↦
-      let u = unless_ok (value_fault m numbers image p) (with_bytes image p.address (bytes_of numbers p)) first.0 (numbered_ok n _ first.0 first.1) in
-      let later = value_fault_of m numbers ps (n + 1) (with_bytes image p.address (bytes_of numbers p)) f (rw u.1 at first.2) in
+      let u = unless_ok (value_fault m numbers image p) (with_bytes image p.address (line_bytes numbers p)) first.0 (numbered_ok n _ first.0 first.1) in
+      let later = value_fault_of m numbers ps (n + 1) (with_bytes image p.address (line_bytes numbers p)) f (rw u.1 at first.2) in
       record {
         front = p ∷ later.front;
         line = later.line;
@@ -216,7 +216,7 @@ value_fault_again m numbers [] line back n number start image k made is bad =
     let there : value_fault m numbers start line ≡ Some k = rw made at bad in
     rw there (ap (λ (x : ℕ). Err (fault x k)) same)
 value_fault_again m numbers (p ∷ front) line back n number start image k made is bad =
-    rw made.0 (value_fault_again m numbers front line back (n + 1) number (with_bytes start p.address (bytes_of numbers p)) image k made.1 (omega (arith, is)) bad)
+    rw made.0 (value_fault_again m numbers front line back (n + 1) number (with_bytes start p.address (line_bytes numbers p)) image k made.1 (omega (arith, is)) bad)
 
 -- ---- the source
 

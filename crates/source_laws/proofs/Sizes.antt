@@ -8,8 +8,8 @@ use Rattle.model.specs.FaultNames.{source_fault_number}
 use Rattle.model.specs.Value.{Numbers, eval_of}
 use Rattle.model.specs.Names.{number_in}
 use Rattle.model.specs.Line.{Operand, absent, accumulator, immediate, direct, pointer, pointer_by_x, pointer_by_y, Item, value, string, Statement, nothing, origin, bytes, words, words_high_first, reserve, finish, instruction, Line, labelled, definition, read_line}
-use Rattle.model.specs.Layout.{◌>>>◌, length_in, one, has_row, form_of, term_of, mode_by, Content, no_bytes, byte_list, word_list, word_list_high_first, code, items_size, size_of, Place, going_on, placing, in_memory, behind_room, in_mode, laid, Fixed, name_of, label_at, Standing, fixing, line_at, is_defined, is_full, unless_full, line_fixed, layout_of}
-use Rattle.model.specs.Bytes.{Piece, modulo, within, word_bytes, word_bytes_high_first, byte_piece, zero_page_piece, word_piece, word_piece_high_first, address_piece, distance_piece, branch_piece, operand_piece, item_piece, pieces_of, bytes_in, kind_in, kinds_in, bytes_of, lower, lowest, place_kinds, value_fault, BytesFillTheirSize}
+use Rattle.model.specs.Layout.{◌>>>◌, length_in, one, has_row, form_of, term_of, mode_by, Content, no_bytes, byte_list, word_list, word_list_high_first, code, items_size, size_of, PlacedAndNext, going_on, placing, in_memory, after_room, in_mode, laid, Fixed, name_of, label_at, Standing, fixing, line_at, is_defined, is_full, unless_full, line_fixed, layout_of}
+use Rattle.model.specs.Bytes.{BytesOrFault, modulo, within, word_bytes, word_bytes_high_first, byte_piece, zero_page_piece, word_piece, word_piece_high_first, address_piece, distance_piece, branch_piece, operand_piece, item_piece, pieces_of, bytes_in, kind_in, kinds_in, line_bytes, lower, lowest, place_kinds, value_fault, BytesFillTheirSize}
 use Rattle.model.specs.declared.expression.ExprFault.{ExprFault}
 use Rattle.model.specs.declared.instruction.Profile.{Profile}
 use Rattle.model.specs.declared.instruction.Mnemonic.{Mnemonic}
@@ -20,10 +20,10 @@ use Rattle.model.specs.declared.source_fault.AsmFaultKind.TheVariants.{WordRange
 
 -- ---- pieces without a fault
 
-abbrev IsRight : Piece → Type 0
+abbrev IsRight : BytesOrFault → Type 0
 IsRight p = kind_in p ≡ None
 
-abbrev sized : Piece → ℕ
+abbrev sized : BytesOrFault → ℕ
 sized p = length (bytes_in p)
 
 one_size : (f : ℤ → ℕ) (w : Result ℤ AsmFaultKind) → IsRight (w >>> λ v. Ok (f v ∷ [])) → sized (w >>> λ v. Ok (f v ∷ [])) ≡ 1
@@ -92,7 +92,7 @@ operand_size a IndZ r h = ap (λ n. 1 + n) (zero_page_size r h)
 
 -- ---- contents
 
-abbrev AreRight : List Piece → Type 0
+abbrev AreRight : List BytesOrFault → Type 0
 AreRight [] = ⊤
 AreRight (p ∷ ps) = IsRight p × AreRight ps
 
@@ -110,11 +110,11 @@ items_fill numbers a [] h = refl
 items_fill numbers a (value e ∷ is) h = rw length-append (omega (arith, byte_size (eval_of numbers (pos a) e) h.0, items_fill numbers a is h.1))
 items_fill numbers a (string text ∷ is) h = rw length-append (omega (arith, items_fill numbers a is h.1))
 
-words_fill : (f : Term → Piece) → ((e : Term) → IsRight (f e) → sized (f e) ≡ 2) → (es : List Term) → AreRight (map f es) → length (flat_map bytes_in (map f es)) ≡ 2 * length es
+words_fill : (f : Term → BytesOrFault) → ((e : Term) → IsRight (f e) → sized (f e) ≡ 2) → (es : List Term) → AreRight (map f es) → length (flat_map bytes_in (map f es)) ≡ 2 * length es
 words_fill f two [] h = refl
 words_fill f two (e ∷ es) h = rw length-append (omega (arith, two e h.0, words_fill f two es h.1))
 
-code_size : (p : Piece) → suc (length (bytes_in p ++ [])) ≡ suc (sized p)
+code_size : (p : BytesOrFault) → suc (length (bytes_in p ++ [])) ≡ suc (sized p)
 code_size p = ap (λ (x : List ℕ). suc (length x)) (append-nil (bytes_in p))
 
 content_fills : (numbers : Numbers) (a : ℕ) (content : Content) → IsWhole content → AreRight (pieces_of numbers a content) → length (flat_map bytes_in (pieces_of numbers a content)) ≡ size_of content
@@ -143,7 +143,7 @@ neither None y h = (refl, h)
 neither (Some x) None h = cc
 neither (Some x) (Some y) h = absurd (chosen (nat_le (source_fault_number x) (source_fault_number y)) x y h)
 
-all_right : (pieces : List Piece) (others : List Kind) → lowest (kinds_in pieces ++ others) ≡ None → AreRight pieces
+all_right : (pieces : List BytesOrFault) (others : List Kind) → lowest (kinds_in pieces ++ others) ≡ None → AreRight pieces
 unfolding lowest
 all_right [] others h = tt
 all_right (p ∷ pieces) others h = let parts = neither (kind_in p) (lowest (kinds_in pieces ++ others)) h in (parts.0, all_right pieces others parts.1)
@@ -160,10 +160,10 @@ bind_ok (Err e) f b h = cc
 ok_same : {A : Type 0} (x y : A) → right A x ≡ Ok y → x ≡ y
 ok_same x y h = cc
 
-abbrev IsWholePlace : Place → Type 0
+abbrev IsWholePlace : PlacedAndNext → Type 0
 IsWholePlace place = IsWhole place.0.content
 
-of_place : (x y : Place) → right Place x ≡ Ok y → IsWholePlace x → IsWholePlace y
+of_place : (x y : PlacedAndNext) → right PlacedAndNext x ≡ Ok y → IsWholePlace x → IsWholePlace y
 of_place x y h w = subst IsWholePlace (ok_same x y h) w
 
 only_by : (numbers : Numbers) (address : ℕ) (b : Bool) (mode taken : Mode) → length_in mode ≡ 1 → mode_by numbers address None (cond b (Some (one mode)) None) ≡ Ok taken → length_in taken ≡ 1
@@ -181,7 +181,7 @@ mode_whole profile numbers address opcode m (pointer e) mode h = tt
 mode_whole profile numbers address opcode m (pointer_by_x e) mode h = tt
 mode_whole profile numbers address opcode m (pointer_by_y e) mode h = tt
 
-laid_whole : (profile : Profile) (numbers : Numbers) (address : ℕ) (s : Statement) (place : Place) → laid profile numbers address s ≡ Ok place → IsWholePlace place
+laid_whole : (profile : Profile) (numbers : Numbers) (address : ℕ) (s : Statement) (place : PlacedAndNext) → laid profile numbers address s ≡ Ok place → IsWholePlace place
 unfolding laid
 laid_whole profile numbers address nothing place h = of_place _ place h tt
 laid_whole profile numbers address (origin e) place h =
@@ -193,7 +193,7 @@ laid_whole profile numbers address (words es) place h = of_place _ place h tt
 laid_whole profile numbers address (words_high_first es) place h = of_place _ place h tt
 laid_whole profile numbers address (reserve e) place h =
     let v = bind_ok (placing (eval_of numbers (pos address) e)) _ place h in
-    let n = bind_ok (behind_room address v.0) _ place v.2 in
+    let n = bind_ok (after_room address v.0) _ place v.2 in
     of_place (going_on address n.0) place n.2 tt
 laid_whole profile numbers address finish place h = of_place _ place h tt
 laid_whole profile numbers address (instruction m operand) place h =
@@ -233,7 +233,7 @@ unfolding layout_of
 layout_whole before line x h = let l = bind_ok (read_line before.profile line) _ x h in line_fixed_whole before l.0 x l.2
 
 pub bytes_fill : BytesFillTheirSize
-unfolding value_fault bytes_of
+unfolding value_fault line_bytes
 bytes_fill bus_map numbers image before next line p laid none =
     content_fills numbers p.address p.content (layout_whole before line (p, next) laid)
     (all_right (pieces_of numbers p.address p.content) (place_kinds bus_map image p.address (size_of p.content)) none)

@@ -9,7 +9,7 @@ use Rattle.model.specs.declared.source_fault.AsmFault.{AsmFault}
 use Rattle.model.specs.declared.source_fault.AsmFaultKind.{AsmFaultKind}
 use Rattle.model.specs.declared.source_fault.AsmFaultKind.TheVariants.{TooLarge}
 use Rattle.model.specs.Names.{number_in}
-use Rattle.model.specs.Bytes.{bytes_of, value_fault}
+use Rattle.model.specs.Bytes.{line_bytes, value_fault}
 use Rattle.model.specs.Source.{most_bytes, nothing_fixed, read_lines, Denotes, HasFault}
 
 abbrev pub numbered : {A : Type 0} → ℕ → Result A AsmFaultKind → Result A AsmFault
@@ -21,16 +21,16 @@ abbrev pub ◌>>=◌ : {A B : Type 0} → Result A AsmFault → (A → Result B 
 (Ok a) >>= f = f a
 (Err fault) >>= f = Err fault
 
--- The lines from a line's number on laid out behind lines that fix so much: their places, and what is fixed in the end.
+-- The lines from a line's number on laid out after lines that fix so much: their places, and what is fixed in the end.
 abbrev pub laid_lines : ℕ → Fixed → List (List ℕ) → Result (List Placed × Fixed) AsmFault
 laid_lines number before [] = Ok ([], before)
 laid_lines number before (line ∷ lines) =
     numbered number (layout_of before line) >>= λ p. laid_lines (number + 1) p.1 lines >>= λ rest. Ok (p.0 ∷ rest.0, rest.1)
 
 unfoldable pub put : Map → Numbers → List (Option ℕ) → Placed → Result (List (Option ℕ)) AsmFaultKind
-put bus_map numbers image p = unless (value_fault bus_map numbers image p) (Ok (with_bytes image p.address (bytes_of numbers p)))
+put bus_map numbers image p = unless (value_fault bus_map numbers image p) (Ok (with_bytes image p.address (line_bytes numbers p)))
 
--- The image behind lines in their places.
+-- The image after lines in their places.
 abbrev pub made_lines : Map → Numbers → ℕ → List (Option ℕ) → List Placed → Result (List (Option ℕ)) AsmFault
 made_lines bus_map numbers number image [] = Ok image
 made_lines bus_map numbers number image (p ∷ ps) =

@@ -8,11 +8,11 @@ use Rattle.model.specs.Step.{stores}
 use Rattle.model.specs.Effect.{operand, after_operand, load, store, modify_a, modify_memory, branches, branch, jumped, pushed, pulled, after_pull, pulled_word, pull_a, pull_x, pull_y, pull_status, call, return_from_call, return_from_interrupt, interrupted, break_entry, performed, status, flags_of_byte, modified, store_value}
 use Rattle.model.specs.declared.registers.Regs.{Regs}
 use Rattle.model.specs.declared.registers.Flags.{Flags}
-use Rattle.model.specs.declared.instruction.Place.{Place}
+use Rattle.model.specs.declared.instruction.EffectiveAddress.{EffectiveAddress}
 use Rattle.model.specs.declared.instruction.Mode.{Mode}
 use Rattle.model.specs.declared.operation.Operation.{Operation}
 use Rattle.model.specs.declared.operation.Operation.TheVariants as operation
-use Rattle.model.specs.declared.operation.LoadOp.{LoadOp}
+use Rattle.model.specs.declared.operation.ReadOp.{ReadOp}
 use Rattle.model.specs.declared.operation.StoreOp.{StoreOp}
 use Rattle.model.specs.declared.operation.ModifyOp.{ModifyOp}
 use Rattle.model.specs.declared.operation.BranchOp.{BranchOp}
@@ -43,7 +43,7 @@ after_operand_is : (immediate : Bool) (bus : Bus) (address : ℕ) → IsBus bus 
 after_operand_is true bus address h = stays bus h
 after_operand_is false bus address h = becomes_read bus address h
 
-load_leads : (op : LoadOp) (mode : Mode) (place : Place) (s : State) → IsSound s → Leads s (load op mode place s)
+load_leads : (op : ReadOp) (mode : Mode) (place : EffectiveAddress) (s : State) → IsSound s → Leads s (load op mode place s)
 unfolding load operand after_operand
 load_leads op mode place s h = record {
   bus = after_operand_is (is_immediate mode) s.bus place.address h.bus;
@@ -51,7 +51,7 @@ load_leads op mode place s h = record {
   cycles = omega arith;
 }
 
-store_leads : (op : StoreOp) (place : Place) (s : State) → IsSound s → overflows s.bus place.address ≡ false → Leads s (store op place s)
+store_leads : (op : StoreOp) (place : EffectiveAddress) (s : State) → IsSound s → overflows s.bus place.address ≡ false → Leads s (store op place s)
 unfolding store
 store_leads op place s h room = record {
   bus = becomes_written s.bus place.address (store_value op s.regs) h.bus (stored_small op s.regs h.regs) room;
@@ -76,7 +76,7 @@ modify_a_leads op s h = record {
   cycles = omega arith;
 }
 
-modify_memory_leads : (op : ModifyOp) (place : Place) (s : State) → IsSound s → overflows s.bus place.address ≡ false → Leads s (modify_memory op place s)
+modify_memory_leads : (op : ModifyOp) (place : EffectiveAddress) (s : State) → IsSound s → overflows s.bus place.address ≡ false → Leads s (modify_memory op place s)
 unfolding modify_memory
 modify_memory_leads op place s h room =
     let sum = modified op (byte_read s.bus place.address) s.regs.flags.c in
@@ -89,7 +89,7 @@ modify_memory_leads op place s h room =
       cycles = omega arith;
     }
 
-modify_leads : (accumulator : Bool) (op : ModifyOp) (place : Place) (s : State) → IsSound s → (not accumulator && overflows s.bus place.address) ≡ false
+modify_leads : (accumulator : Bool) (op : ModifyOp) (place : EffectiveAddress) (s : State) → IsSound s → (not accumulator && overflows s.bus place.address) ≡ false
     → Leads s (cond accumulator (modify_a op s) (modify_memory op place s))
 modify_leads true op place s h room = modify_a_leads op s h
 modify_leads false op place s h room = modify_memory_leads op place s h room
@@ -106,7 +106,7 @@ jumped_leads before s address h k = record {
 same_leads : (s : State) → IsSound s → Leads s s
 same_leads s h = record { bus = stays s.bus h.bus; regs = h.regs; cycles = omega arith }
 
-branch_by : (taken : Bool) (place : Place) (s : State) → IsSound s → place.address < 65536
+branch_by : (taken : Bool) (place : EffectiveAddress) (s : State) → IsSound s → place.address < 65536
     → Leads s (cond taken (record s { regs = record s.regs { pc = place.address }; cycles = s.cycles + 1 + bit place.crossed }) s)
 branch_by true place s h k = record {
   bus = stays s.bus h.bus;
@@ -115,7 +115,7 @@ branch_by true place s h k = record {
 }
 branch_by false place s h k = same_leads s h
 
-branch_leads : (op : BranchOp) (place : Place) (s : State) → IsSound s → place.address < 65536 → Leads s (branch op place s)
+branch_leads : (op : BranchOp) (place : EffectiveAddress) (s : State) → IsSound s → place.address < 65536 → Leads s (branch op place s)
 unfolding branch
 branch_leads op place s h k = branch_by (branches op s.regs.flags) place s h k
 
@@ -175,7 +175,7 @@ pull_status_leads : (s : State) → IsSound s → Leads s (pull_status s)
 unfolding pull_status
 pull_status_leads s h = flags_lead s (after_pull s) (flags_of_byte (pulled s)) (after_pull_leads s s (same_leads s h))
 
-call_leads : (place : Place) (s : State) → IsSound s → Leads s (call place s)
+call_leads : (place : EffectiveAddress) (s : State) → IsSound s → Leads s (call place s)
 unfolding call
 call_leads place s h =
     let last = (s.regs.pc + 65535) % 65536 in
@@ -216,13 +216,13 @@ break_leads s h = interrupted_leads s ((s.regs.pc + 1) % 65536) true 0xFFFE h (o
 
 -- ---- all operations
 
-pub performed_leads : (op : Operation) (mode : Mode) (place : Place) (s : State) → IsSound s → place.address < 65536 → (stores op mode && overflows s.bus place.address) ≡ false
+pub performed_leads : (op : Operation) (mode : Mode) (place : EffectiveAddress) (s : State) → IsSound s → place.address < 65536 → (stores op mode && overflows s.bus place.address) ≡ false
     → Leads s (performed op mode place s)
 unfolding performed stores
-performed_leads (operation.Load op) mode place s h k room = load_leads op mode place s h
+performed_leads (operation.Read op) mode place s h k room = load_leads op mode place s h
 performed_leads (operation.Store op) mode place s h k room = store_leads op place s h room
 performed_leads (operation.Modify op) mode place s h k room = modify_leads (is_accumulator mode) op place s h room
-performed_leads (operation.Inherent op) mode place s h k room = record { bus = stays s.bus h.bus; regs = moved_small op s.regs h.regs; cycles = omega arith }
+performed_leads (operation.Register op) mode place s h k room = record { bus = stays s.bus h.bus; regs = moved_small op s.regs h.regs; cycles = omega arith }
 performed_leads (operation.Branch op) mode place s h k room = branch_leads op place s h k
 performed_leads operation.PushA mode place s h k room = pushed_leads s s s.regs.a (same_leads s h) h.regs.a
 performed_leads operation.PushX mode place s h k room = pushed_leads s s s.regs.x (same_leads s h) h.regs.x

@@ -9,7 +9,7 @@ use Rattle.std.proofs.lemmas.Bool.Decides.{nat_tests}
 use Rattle.std.proofs.lemmas.List.Elements.{All-head, All-tail}
 use Rattle.std.proofs.lemmas.List.FromFn.{get_or-map-range_with_len}
 use Rattle.model.specs.State.{Bus, State, AreBytes, IsBus, AreRegs}
-use Rattle.model.specs.Operand.{word_at, word_in_page, jump_target, place_of, next_byte}
+use Rattle.model.specs.Operand.{word_at, word_in_page, jump_target, effective_address, next_byte}
 use Rattle.model.specs.Arithmetic.{bit, modulo, high_part, sbc_low, adc, sbc, asl, rol, lsr, ror, with_carry}
 use Rattle.model.specs.Effect.{status, modified, loaded, store_value, moved, pulled}
 use Rattle.model.specs.Table.{row_at, find_row, table, documented, added}
@@ -20,14 +20,14 @@ use Rattle.model.specs.declared.instruction.Profile.TheVariants.{N, C}
 use Rattle.model.specs.declared.instruction.Row.{Row}
 use Rattle.model.specs.declared.instruction.Mode.{Mode}
 use Rattle.model.specs.declared.instruction.Mode.TheVariants.{Imp, Acc, Imm, Zp, ZpX, ZpY, Abs, AbsX, AbsY, IndX, IndY, Ind, Rel, IndZ}
-use Rattle.model.specs.declared.operation.LoadOp.{LoadOp}
-use Rattle.model.specs.declared.operation.LoadOp.TheVariants as load_op
+use Rattle.model.specs.declared.operation.ReadOp.{ReadOp}
+use Rattle.model.specs.declared.operation.ReadOp.TheVariants as read_op
 use Rattle.model.specs.declared.operation.StoreOp.{StoreOp}
 use Rattle.model.specs.declared.operation.StoreOp.TheVariants as store_op
 use Rattle.model.specs.declared.operation.ModifyOp.{ModifyOp}
 use Rattle.model.specs.declared.operation.ModifyOp.TheVariants as modify_op
-use Rattle.model.specs.declared.operation.InherentOp.{InherentOp}
-use Rattle.model.specs.declared.operation.InherentOp.TheVariants as inherent_op
+use Rattle.model.specs.declared.operation.RegisterOp.{RegisterOp}
+use Rattle.model.specs.declared.operation.RegisterOp.TheVariants as register_op
 
 -- ---- bytes of memory
 
@@ -55,8 +55,8 @@ unfolding jump_target
 jump_target_small N bus pointer h = word_in_page_small bus pointer h
 jump_target_small C bus pointer h = word_small bus pointer h
 
-pub place_small : (bus : Bus) (regs : Regs) (mode : Mode) → IsBus bus → (place_of bus regs mode).address < 65536
-unfolding place_of
+pub place_small : (bus : Bus) (regs : Regs) (mode : Mode) → IsBus bus → (effective_address bus regs mode).address < 65536
+unfolding effective_address
 place_small bus regs Imp h = omega arith
 place_small bus regs Acc h = omega arith
 place_small bus regs Imm h = omega arith
@@ -127,20 +127,20 @@ with_value_y regs after h y a x s pc = record { a = omega (arith, h.a); x = omeg
 pub with_flags : (regs : Regs) (flags : Flags) → AreRegs regs → AreRegs (record regs { flags = flags })
 with_flags regs flags h = record { a = h.a; x = h.x; y = h.y; s = h.s; pc = h.pc }
 
-pub loaded_small : (op : LoadOp) (m : ℕ) (regs : Regs) → m < 256 → AreRegs regs → AreRegs (loaded op m regs)
+pub loaded_small : (op : ReadOp) (m : ℕ) (regs : Regs) → m < 256 → AreRegs regs → AreRegs (loaded op m regs)
 unfolding loaded
-loaded_small load_op.Ora m regs k h = with_value_a regs _ h (or_lt 8 regs.a m h.a k) refl refl refl refl
-loaded_small load_op.And m regs k h = with_value_a regs _ h (and_lt 8 regs.a m h.a k) refl refl refl refl
-loaded_small load_op.Eor m regs k h = with_value_a regs _ h (xor_lt 8 regs.a m h.a k) refl refl refl refl
-loaded_small load_op.Adc m regs k h = with_value_a regs _ h (adc_small regs.a m regs.flags.c regs.flags.d) refl refl refl refl
-loaded_small load_op.Lda m regs k h = with_value_a regs _ h k refl refl refl refl
-loaded_small load_op.Cmp m regs k h = with_flags regs _ h
-loaded_small load_op.Sbc m regs k h = with_value_a regs _ h (sbc_small regs.a m regs.flags.c regs.flags.d) refl refl refl refl
-loaded_small load_op.Ldx m regs k h = with_value_x regs _ h k refl refl refl refl
-loaded_small load_op.Ldy m regs k h = with_value_y regs _ h k refl refl refl refl
-loaded_small load_op.Cpx m regs k h = with_flags regs _ h
-loaded_small load_op.Cpy m regs k h = with_flags regs _ h
-loaded_small load_op.Bit m regs k h = with_flags regs _ h
+loaded_small read_op.Ora m regs k h = with_value_a regs _ h (or_lt 8 regs.a m h.a k) refl refl refl refl
+loaded_small read_op.And m regs k h = with_value_a regs _ h (and_lt 8 regs.a m h.a k) refl refl refl refl
+loaded_small read_op.Eor m regs k h = with_value_a regs _ h (xor_lt 8 regs.a m h.a k) refl refl refl refl
+loaded_small read_op.Adc m regs k h = with_value_a regs _ h (adc_small regs.a m regs.flags.c regs.flags.d) refl refl refl refl
+loaded_small read_op.Lda m regs k h = with_value_a regs _ h k refl refl refl refl
+loaded_small read_op.Cmp m regs k h = with_flags regs _ h
+loaded_small read_op.Sbc m regs k h = with_value_a regs _ h (sbc_small regs.a m regs.flags.c regs.flags.d) refl refl refl refl
+loaded_small read_op.Ldx m regs k h = with_value_x regs _ h k refl refl refl refl
+loaded_small read_op.Ldy m regs k h = with_value_y regs _ h k refl refl refl refl
+loaded_small read_op.Cpx m regs k h = with_flags regs _ h
+loaded_small read_op.Cpy m regs k h = with_flags regs _ h
+loaded_small read_op.Bit m regs k h = with_flags regs _ h
 
 pub stored_small : (op : StoreOp) (regs : Regs) → AreRegs regs → store_value op regs < 256
 unfolding store_value
@@ -149,26 +149,26 @@ stored_small store_op.Stx regs h = h.x
 stored_small store_op.Sty regs h = h.y
 stored_small store_op.Stz regs h = omega arith
 
-pub moved_small : (op : InherentOp) (regs : Regs) → AreRegs regs → AreRegs (moved op regs)
+pub moved_small : (op : RegisterOp) (regs : Regs) → AreRegs regs → AreRegs (moved op regs)
 unfolding moved
-moved_small inherent_op.Clc regs h = with_flags regs _ h
-moved_small inherent_op.Sec regs h = with_flags regs _ h
-moved_small inherent_op.Cli regs h = with_flags regs _ h
-moved_small inherent_op.Sei regs h = with_flags regs _ h
-moved_small inherent_op.Clv regs h = with_flags regs _ h
-moved_small inherent_op.Cld regs h = with_flags regs _ h
-moved_small inherent_op.Sed regs h = with_flags regs _ h
-moved_small inherent_op.Txa regs h = with_value_a regs _ h h.x refl refl refl refl
-moved_small inherent_op.Tya regs h = with_value_a regs _ h h.y refl refl refl refl
-moved_small inherent_op.Txs regs h = record { a = h.a; x = h.x; y = h.y; s = h.x; pc = h.pc }
-moved_small inherent_op.Tay regs h = with_value_y regs _ h h.a refl refl refl refl
-moved_small inherent_op.Tax regs h = with_value_x regs _ h h.a refl refl refl refl
-moved_small inherent_op.Tsx regs h = with_value_x regs _ h h.s refl refl refl refl
-moved_small inherent_op.Dey regs h = with_value_y regs _ h (omega arith) refl refl refl refl
-moved_small inherent_op.Dex regs h = with_value_x regs _ h (omega arith) refl refl refl refl
-moved_small inherent_op.Iny regs h = with_value_y regs _ h (omega arith) refl refl refl refl
-moved_small inherent_op.Inx regs h = with_value_x regs _ h (omega arith) refl refl refl refl
-moved_small inherent_op.Nop regs h = h
+moved_small register_op.Clc regs h = with_flags regs _ h
+moved_small register_op.Sec regs h = with_flags regs _ h
+moved_small register_op.Cli regs h = with_flags regs _ h
+moved_small register_op.Sei regs h = with_flags regs _ h
+moved_small register_op.Clv regs h = with_flags regs _ h
+moved_small register_op.Cld regs h = with_flags regs _ h
+moved_small register_op.Sed regs h = with_flags regs _ h
+moved_small register_op.Txa regs h = with_value_a regs _ h h.x refl refl refl refl
+moved_small register_op.Tya regs h = with_value_a regs _ h h.y refl refl refl refl
+moved_small register_op.Txs regs h = record { a = h.a; x = h.x; y = h.y; s = h.x; pc = h.pc }
+moved_small register_op.Tay regs h = with_value_y regs _ h h.a refl refl refl refl
+moved_small register_op.Tax regs h = with_value_x regs _ h h.a refl refl refl refl
+moved_small register_op.Tsx regs h = with_value_x regs _ h h.s refl refl refl refl
+moved_small register_op.Dey regs h = with_value_y regs _ h (omega arith) refl refl refl refl
+moved_small register_op.Dex regs h = with_value_x regs _ h (omega arith) refl refl refl refl
+moved_small register_op.Iny regs h = with_value_y regs _ h (omega arith) refl refl refl refl
+moved_small register_op.Inx regs h = with_value_x regs _ h (omega arith) refl refl refl refl
+moved_small register_op.Nop regs h = h
 
 -- ---- cycles of a row, computed for all 256 bytes
 

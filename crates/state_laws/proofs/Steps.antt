@@ -3,11 +3,11 @@ use Rattle.std.proofs.Common.{◌≡◌, ℕ, ◌+◌, ◌<◌, ◌≤◌, Bool,
 use Rattle.std.specs.Prelude.{slice_index, ◌&&◌, not, nat_lt}
 use Rattle.std.proofs.lemmas.Bool.Decides.{nat_tests}
 use Rattle.model.specs.State.{State, overflows, IsBus, AreRegs, IsState}
-use Rattle.model.specs.Operand.{place_of}
+use Rattle.model.specs.Operand.{effective_address}
 use Rattle.model.specs.Effect.{performed, operation_of}
 use Rattle.model.specs.Table.{row_at}
-use Rattle.model.specs.Step.{stores, fetched, executed, attempted, entered, most_cycles, step}
-use Rattle.model.specs.declared.instruction.Place.{Place}
+use Rattle.model.specs.Step.{stores, advanced, executed, attempted, entered, most_cycles, step}
+use Rattle.model.specs.declared.instruction.EffectiveAddress.{EffectiveAddress}
 use Rattle.model.specs.declared.instruction.Row.{Row}
 use Rattle.model.specs.declared.event.EventFault.TheVariants.{CyclesFull, ConsoleFull}
 use Rattle.state_laws.proofs.Numbers.{byte_small, place_small, bit_small, cycles_small}
@@ -34,42 +34,42 @@ entered_follows s vector h room =
 -- ---- instructions
 
 -- what is fetched is sound, and has at most eight cycles more
-fetched_sound : (row : Row) (place : Place) (s : State) → IsState s → IsSound (fetched row place s)
-unfolding fetched
+fetched_sound : (row : Row) (place : EffectiveAddress) (s : State) → IsState s → IsSound (advanced row place s)
+unfolding advanced
 fetched_sound row place s h = record {
   bus = h.bus;
   regs = record { a = h.regs.a; x = h.regs.x; y = h.regs.y; s = h.regs.s; pc = omega arith };
 }
 
-cycles-fetched : (row : Row) (place : Place) (s : State) → row.cycles ≤ 7 → (fetched row place s).cycles ≤ s.cycles + 8
-unfolding fetched
+cycles-fetched : (row : Row) (place : EffectiveAddress) (s : State) → row.cycles ≤ 7 → (advanced row place s).cycles ≤ s.cycles + 8
+unfolding advanced
 cycles-fetched row place s few = omega (arith, bit_small (row.penalty && place.crossed))
 
-bus-fetched : (row : Row) (place : Place) (s : State) → (fetched row place s).bus ≡ s.bus
-unfolding fetched
+bus-fetched : (row : Row) (place : EffectiveAddress) (s : State) → (advanced row place s).bus ≡ s.bus
+unfolding advanced
 bus-fetched row place s = refl
 
-done_follows : (row : Row) (place : Place) (s : State) → IsState s → HasRoom s → row.cycles ≤ 7 → place.address < 65536
-    → (stores (operation_of row.mnemonic) row.mode && overflows s.bus place.address) ≡ false → Follows s (performed (operation_of row.mnemonic) row.mode place (fetched row place s))
+done_follows : (row : Row) (place : EffectiveAddress) (s : State) → IsState s → HasRoom s → row.cycles ≤ 7 → place.address < 65536
+    → (stores (operation_of row.mnemonic) row.mode && overflows s.bus place.address) ≡ false → Follows s (performed (operation_of row.mnemonic) row.mode place (advanced row place s))
 done_follows row place s h room few near fits =
-    let before = fetched row place s in
+    let before = advanced row place s in
     let same : (stores (operation_of row.mnemonic) row.mode && overflows before.bus place.address) ≡ false =
     ap (λ b. stores (operation_of row.mnemonic) row.mode && overflows b place.address) (bus-fetched row place s) ∙ fits in
     let after = performed_leads (operation_of row.mnemonic) row.mode place before (fetched_sound row place s h) near same in
     let few_more = cycles-fetched row place s few in
     record { state = record { bus = after.bus.bus; regs = after.regs; cycles = omega (arith, after.cycles) }; map = after.bus.map ∙ ap (λ (b : Rattle.model.specs.State.Bus). b.map) (bus-fetched row place s) }
 
-executed_by : (row : Row) (place : Place) (s after : State) (refused : Bool) → IsState s → HasRoom s → row.cycles ≤ 7 → place.address < 65536
+executed_by : (row : Row) (place : EffectiveAddress) (s after : State) (refused : Bool) → IsState s → HasRoom s → row.cycles ≤ 7 → place.address < 65536
     → (stores (operation_of row.mnemonic) row.mode && overflows s.bus place.address) ≡ refused
-    → cond refused (Err ConsoleFull) (Ok (performed (operation_of row.mnemonic) row.mode place (fetched row place s))) ≡ Ok after → Follows s after
+    → cond refused (Err ConsoleFull) (Ok (performed (operation_of row.mnemonic) row.mode place (advanced row place s))) ≡ Ok after → Follows s after
 executed_by row place s after true h room few near fits e = cc
 executed_by row place s after false h room few near fits e =
-    let same : performed (operation_of row.mnemonic) row.mode place (fetched row place s) ≡ after = cc in
+    let same : performed (operation_of row.mnemonic) row.mode place (advanced row place s) ≡ after = cc in
     rw same at (done_follows row place s h room few near fits)
 
 executed_follows : (row : Row) (s after : State) → IsState s → HasRoom s → row.cycles ≤ 7 → executed row s ≡ Ok after → Follows s after
 unfolding executed
-executed_follows row s after h room few e = executed_by row (place_of s.bus s.regs row.mode) s after _ h room few (place_small s.bus s.regs row.mode h.bus) refl e
+executed_follows row s after h room few e = executed_by row (effective_address s.bus s.regs row.mode) s after _ h room few (place_small s.bus s.regs row.mode h.bus) refl e
 
 attempted_follows : (row : Option Row) (s after : State) → IsState s → HasRoom s → row_at s.bus.map.profile (slice_index s.bus.memory s.regs.pc) ≡ row → attempted row s ≡ Ok after → Follows s after
 unfolding attempted

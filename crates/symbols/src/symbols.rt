@@ -66,7 +66,7 @@ impl Symbols {
         self.map.get(name).copied()
     }
 
-    /// A name with its number, behind those that are there. The only error is that a request for memory was refused; then the names
+    /// A name with its number, after those that are there. The only error is that a request for memory was refused; then the names
     /// are as they were.
     pub fn define(&mut self, alloc: Global, name: &[u8], number: i32) -> Result<(), AllocError>
         requires { number_in self.old name.now ≡ None }

@@ -207,23 +207,23 @@ pub encoded_exactly : (profile : Profile) (m : Mnemonic) (d : Mode) (opcode : �
 encoded_exactly profile m d opcode below =
     (λ is. (subst (λ code. IfSome code (λ k. (k < 256) × IsRowOf m d (row_at profile k))) is (row_of_encoded profile m d)).1, encoded_of_row profile m d opcode below)
 
--- ---- the rows that profile C adds stand behind those of profile N
+-- ---- the rows that profile C adds stand after those of profile N
 
 abbrev or_else : {X : Type 0} → Option X → Option X → Option X
 or_else None y = y
 or_else (Some x) y = Some x
 
-found_behind : (opcode : ℕ) (front back : List Entry) → find_row opcode (front ++ back) ≡ or_else (find_row opcode front) (find_row opcode back)
+found_after : (opcode : ℕ) (front back : List Entry) → find_row opcode (front ++ back) ≡ or_else (find_row opcode front) (find_row opcode back)
 unfolding find_row
-found_behind opcode [] back = refl
-found_behind opcode (e ∷ es) back = elim (cases_Bool (opcode == e.0)) [
+found_after opcode [] back = refl
+found_after opcode (e ∷ es) back = elim (cases_Bool (opcode == e.0)) [
   | inl t ↦ rw t refl
-  | inr f ↦ rw f (found_behind opcode es back)
+  | inr f ↦ rw f (found_after opcode es back)
 ]
 
 row_in_c : (opcode : ℕ) → row_at C opcode ≡ or_else (row_at N opcode) (find_row opcode added)
 unfolding row_at table
-row_in_c opcode = found_behind opcode documented added
+row_in_c opcode = found_after opcode documented added
 
 -- the row of an opcode in profile C is that of profile N, and else an added one
 pub row_kept : (opcode : ℕ) (row : Row) → row_at N opcode ≡ Some row → row_at C opcode ≡ Some row

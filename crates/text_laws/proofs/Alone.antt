@@ -15,14 +15,14 @@ use Rattle.model.specs.Operand.{distance}
 use Rattle.model.specs.Instruction.{target_of}
 use Rattle.model.specs.Line.{instruction, bytes, value, labelled, read_line}
 use Rattle.model.specs.Layout.{laid, line_fixed, size_of}
-use Rattle.model.specs.Bytes.{bytes_of, pieces_of}
+use Rattle.model.specs.Bytes.{line_bytes, pieces_of}
 use Rattle.model.specs.OneLine.{one_line, no_numbers}
 
 pub with_operand : (profile : Profile) (m : Mnemonic) (mode : Mode) (operand : Operand) (e : Term) (a op : ℕ) (text front : List ℕ)
     → read_line profile text ≡ Ok (labelled None (instruction m operand)) → term_of operand ≡ Some e → mode_by no_numbers a (Some e) (form_of profile m operand) ≡ Ok mode
     → encoded profile m mode ≡ Some op → length_in mode ≤ 3 → a + length_in mode ≤ 65536 → operand_piece a mode (eval_of no_numbers (pos a) e) ≡ Ok front
     → one_line profile a text ≡ Ok (op ∷ front ++ [])
-unfolding one_line line_fixed laid size_of bytes_of pieces_of lowest lower
+unfolding one_line line_fixed laid size_of line_bytes pieces_of lowest lower
 with_operand profile m mode operand e a op text front read term taken code small fits piece =
     rw (read, term, taken, code, le-leb (length_in mode) 3 small, le-leb (a + length_in mode) 65536 fits, piece) refl
 
@@ -30,7 +30,7 @@ pub without_operand : (profile : Profile) (m : Mnemonic) (mode : Mode) (operand 
     → read_line profile text ≡ Ok (labelled None (instruction m operand)) → term_of operand ≡ None → mode_by no_numbers a None (form_of profile m operand) ≡ Ok mode
     → encoded profile m mode ≡ Some op → length_in mode ≤ 3 → a + length_in mode ≤ 65536
     → one_line profile a text ≡ Ok (op ∷ [])
-unfolding one_line line_fixed laid size_of bytes_of pieces_of lowest lower
+unfolding one_line line_fixed laid size_of line_bytes pieces_of lowest lower
 without_operand profile m mode operand a op text read term taken code small fits =
     rw (read, term, taken, code, le-leb (length_in mode) 3 small, le-leb (a + length_in mode) 65536 fits) refl
 
@@ -104,6 +104,6 @@ branch_again a b here below =
 
 pub byte_line : (profile : Profile) (a b : ℕ) (e : Term) (text : List ℕ) → read_line profile text ≡ Ok (labelled None (bytes (value e ∷ []))) → eval_of no_numbers (pos a) e ≡ Ok (pos b) → b < 256 → a < 65536
     → one_line profile a text ≡ Ok (b ∷ [])
-unfolding one_line line_fixed laid size_of bytes_of pieces_of lowest lower
+unfolding one_line line_fixed laid size_of line_bytes pieces_of lowest lower
 byte_line profile a b e text read valued below here =
     rw (read, le-leb (a + 1) 65536 (omega (arith, here)), valued, byte_again b below) refl

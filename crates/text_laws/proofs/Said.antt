@@ -70,7 +70,7 @@ pointer_by_y_read o p q r s t = refl
 
 -- ---- lines
 
--- behind the mnemonic of a line stands no `:` and no `=`
+-- after the mnemonic of a line stands no `:` and no `=`
 pub alone_line : (profile : Profile) (m : Mnemonic) (p : ℕ) (w : List ℕ) (operand : Operand) → mnemonic_named profile w ≡ Some m → operand_of [] ≡ Some operand
     → line_of profile (word p w ∷ []) ≡ Some (labelled None (instruction m operand))
 unfolding line_of statement_of

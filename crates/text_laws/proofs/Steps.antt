@@ -35,7 +35,7 @@ address_token : (d e f g h i j k : ℕ) (rest : List ℕ) → Digit d h → Digi
 unfolding token_at
 address_token d e f g h i j k rest D E F G no_more behind = rw (D.hex, E.hex, F.hex, G.hex, no_more, behind) refl
 
--- ---- a token and those behind it
+-- ---- a token and those after it
 
 pub word_first : (a b c : ℕ) (rest : List ℕ) → Capital a → Capital b → Capital c → run_of is_word_byte rest ≡ []
     → tokens_from 0 0 (a ∷ b ∷ c ∷ rest) ≡ before (word 0 (a ∷ b ∷ c ∷ [])) (tokens_from 3 0 rest)

@@ -15,7 +15,7 @@ use Rattle.clap.specs.declared.parser.matches.ArgMatches.TheViews.{out-ArgMatche
 use Rattle.clap.specs.declared.parser.matches.Found.{Found}
 use Rattle.words.specs.Asked.{Asked, asked, asked_of, asm, asm_asked, debug, debug_asked, dis, dis_asked}
 use Rattle.words.specs.CommandLine.{mos65}
-use Rattle.words.specs.Refused.{Answers, IsRightRefusal, IsTaken}
+use Rattle.words.specs.Refused.{AnswersWords, IsRightRefusal, IsTaken}
 use Rattle.words.specs.declared.asked.Words.{Words}
 use Rattle.words.specs.declared.fault.WordsFault.{WordsFault}
 use Rattle.words.specs.declared.fault.WordsFault.TheVariants.{Help, OutOfMemory, Usage, Value}
@@ -42,32 +42,32 @@ parsed app words m is parse = ap asked_of ((parse (ap is_simple is ∙ mos65_sim
 pub faulted : (app : App) (words : List Text) (e : Error) → app ≡ mos65 → (is_simple_and_free app ≡ true → HasKind (fault_of app words) e) → HasKind (fault_of mos65 words) e
 faulted app words e is parse = subst (λ (a : App). HasKind (fault_of a words) e) is (parse (ap is_simple_and_free is ∙ mos65_free))
 
-memory_answered : (e : Error) (f : WordsFault) → kind_of e ≡ kind.OutOfMemory → Answers e f → f ≡ OutOfMemory
+memory_answered : (e : Error) (f : WordsFault) → kind_of e ≡ kind.OutOfMemory → AnswersWords e f → f ≡ OutOfMemory
 memory_answered e OutOfMemory m a = refl
 memory_answered e (Help text) m a = absurd cc
 memory_answered e (Usage text) m a = absurd (a.1 m)
 memory_answered e Value m a = absurd a
 
 -- words that clap takes are refused for want of memory alone
-only_memory : (words : List Text) (e : Error) (f : WordsFault) → HasKind (fault_of mos65 words) e → Answers e f → IsTaken words → f ≡ OutOfMemory
+only_memory : (words : List Text) (e : Error) (f : WordsFault) → HasKind (fault_of mos65 words) e → AnswersWords e f → IsTaken words → f ≡ OutOfMemory
 only_memory words e f (inl m) a taken = memory_answered e f m a
 only_memory words e f (inr among) a taken = absurd (subst (IsAmong (kind_of e)) taken among)
 
 abbrev Read : Type 0
 Read = Result Words WordsFault
 
-pub memory_unless : (words : List Text) (e : Error) (r : Read) → HasKind (fault_of mos65 words) e → IsErrAnd r (Answers e) → IsTaken words → IsOkUnless r OutOfMemory
+pub memory_unless : (words : List Text) (e : Error) (r : Read) → HasKind (fault_of mos65 words) e → IsErrAnd r (AnswersWords e) → IsTaken words → IsOkUnless r OutOfMemory
 memory_unless words e (Ok x) has a taken = absurd a
 memory_unless words e (Err f) has a taken = only_memory words e f has a taken
 
-pub memory_or : (words : List Text) (e : Error) (r : Read) → HasKind (fault_of mos65 words) e → IsErrAnd r (Answers e) → IsTaken words → (r ≡ Err Value) ⊎ (r ≡ Err OutOfMemory)
+pub memory_or : (words : List Text) (e : Error) (r : Read) → HasKind (fault_of mos65 words) e → IsErrAnd r (AnswersWords e) → IsTaken words → (r ≡ Err Value) ⊎ (r ≡ Err OutOfMemory)
 memory_or words e (Ok x) has a taken = absurd a
 memory_or words e (Err f) has a taken = inr (ap Err (only_memory words e f has a taken))
 
 among_of : (words : List Text) (e text : Error) → text ≡ e → IsAmong (kind_of e) (fault_of mos65 words) → IsAmong (kind_of text) (fault_of mos65 words)
 among_of words e text same among = subst (λ (t : Error). IsAmong (kind_of t) (fault_of mos65 words)) (sym same) among
 
-right : (words : List Text) (e : Error) (f : WordsFault) → HasKind (fault_of mos65 words) e → Answers e f → IsRightRefusal words f
+right : (words : List Text) (e : Error) (f : WordsFault) → HasKind (fault_of mos65 words) e → AnswersWords e f → IsRightRefusal words f
 right words e OutOfMemory has a = tt
 right words e Value has a = absurd a
 right words e (Help text) (inl m) a = absurd cc
@@ -75,7 +75,7 @@ right words e (Help text) (inr among) a = (ap kind_of a.0 ∙ a.1, subst (λ k. 
 right words e (Usage text) (inl m) a = absurd (a.1 m)
 right words e (Usage text) (inr among) a = (λ h. a.2 (ap kind_of (sym a.0) ∙ h), among_of words e text a.0 among)
 
-pub right_refusal : (words : List Text) (e : Error) (r : Read) → HasKind (fault_of mos65 words) e → IsErrAnd r (Answers e) → IfErr r (IsRightRefusal words)
+pub right_refusal : (words : List Text) (e : Error) (r : Read) → HasKind (fault_of mos65 words) e → IsErrAnd r (AnswersWords e) → IfErr r (IsRightRefusal words)
 right_refusal words e (Ok x) has a = absurd a
 right_refusal words e (Err f) has a = right words e f has a
 

@@ -9,11 +9,11 @@ use Rattle.words.specs.declared.fault.WordsFault.{WordsFault}
 use Rattle.words.specs.declared.fault.WordsFault.TheVariants.{Help, OutOfMemory, Usage, Value}
 
 -- what an error of clap is answered as
-abbrev pub Answers : Error → WordsFault → Type 0
-Answers e OutOfMemory = kind_of e ≡ kind.OutOfMemory
-Answers e (Help text) = (text ≡ e) × (kind_of e ≡ kind.DisplayHelp)
-Answers e (Usage text) = (text ≡ e) × (kind_of e ≢ kind.OutOfMemory) × (kind_of e ≢ kind.DisplayHelp)
-Answers e Value = ⊥
+abbrev pub AnswersWords : Error → WordsFault → Type 0
+AnswersWords e OutOfMemory = kind_of e ≡ kind.OutOfMemory
+AnswersWords e (Help text) = (text ≡ e) × (kind_of e ≡ kind.DisplayHelp)
+AnswersWords e (Usage text) = (text ≡ e) × (kind_of e ≢ kind.OutOfMemory) × (kind_of e ≢ kind.DisplayHelp)
+AnswersWords e Value = ⊥
 
 -- by clap's definition the words fit the command line
 abbrev pub IsTaken : List Text → Type 0

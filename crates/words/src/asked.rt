@@ -36,7 +36,7 @@ pub struct DisWords<'a> {
     pub tape: &'a str,
     /// The first address to list, at most the last one.
     pub first: u16,
-    /// The address behind which no row begins.
+    /// The address after which no row begins.
     pub last: u16,
     /// The processor whose instructions are listed.
     pub profile: Profile,

@@ -17,9 +17,9 @@ pub enum WordsFault {
 }
 
 impl From<Error> for WordsFault {
-    ghost use Rattle.words.specs.Refused.{Answers};
+    ghost use Rattle.words.specs.Refused.{AnswersWords};
 
-    ghost from_gives = { λ error fault. Answers error fault };
+    ghost from_gives = { λ error fault. AnswersWords error fault };
 
     fn from(error: Error) -> WordsFault {
         match error.kind() {

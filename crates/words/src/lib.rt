@@ -1,4 +1,7 @@
 //! The words of the program's command line, and what they ask for.
+//!
+//! It owns the command line's form and values. `read_words` is the one call; what it answers is said by `clap`'s own definition of a parse over the
+//! command that `command` makes, and by `specs/Asked.antt`, which a reader has to believe: it says what words ask for.
 #![tactic(auto)]
 
 mod asked;

@@ -6,7 +6,7 @@ use Rattle.asm_expr.specs.Trees.{view}
 use Rattle.model.specs.Reading.{expression_of}
 use Rattle.model.specs.Line.{expressions_of, list_within}
 use Rattle.asm_line.specs.Lists.{goes_on}
-use Rattle.asm_line.proofs.TokensLeft.{lexemes_behind, passed_on, fault_read}
+use Rattle.asm_line.proofs.TokensLeft.{lexemes_after, passed_on, fault_read}
 use Rattle.asm_line.proofs.CommaLists.{none_read, last_read, more_read, wrong_read, zero_read, before}
 use Rattle.asm_line.proofs.expressions.expressions.Goals as goal
 
@@ -14,7 +14,7 @@ pub returns-in_err-value : goal.returns-in_err-value
 returns-in_err-value c =
     let ls = lexemes c.args.tokens.now in
     passed_on _ (expressions_of ls) c.from_residual.result c.in_err-value.field-0.0 c.from_residual.ensures.1 (λ fault.
-    let none : expression_of (drop c.loop.at ls) ≡ None = ap expression_of (sym (lexemes_behind c.loop.at c.args.tokens.now)) ∙ c.in_err-value.ensures.syntax fault in
+    let none : expression_of (drop c.loop.at ls) ≡ None = ap expression_of (sym (lexemes_after c.loop.at c.args.tokens.now)) ∙ c.in_err-value.ensures.syntax fault in
     sym c.loop.invariant.read ∙ none_read expression_of (map view c.loop.found.items) (length c.args.tokens.now - c.loop.counter) (drop c.loop.at ls) none)
 
 pub returns-in_err-goes_on : goal.returns-in_err-goes_on
@@ -22,9 +22,9 @@ returns-in_err-goes_on c =
     let ls = lexemes c.args.tokens.now in
     passed_on _ (expressions_of ls) c.from_residual-in_err-goes_on.result c.in_err-goes_on.field-0.0 c.from_residual-in_err-goes_on.ensures.1 (λ fault.
     let found : expression_of (drop c.loop.at ls) ≡ Some (view c.in_ok-value.value, drop c.in_ok-value.taken (drop c.loop.at ls)) =
-    subst (λ ts. expression_of ts ≡ Some (view c.in_ok-value.value, drop c.in_ok-value.taken ts)) (lexemes_behind c.loop.at c.args.tokens.now) c.in_ok-value.ensures.found in
+    subst (λ ts. expression_of ts ≡ Some (view c.in_ok-value.value, drop c.in_ok-value.taken ts)) (lexemes_after c.loop.at c.args.tokens.now) c.in_ok-value.ensures.found in
     let none : goes_on (drop (c.loop.at + c.in_ok-value.taken) ls) ≡ None =
-    ap goes_on (sym (lexemes_behind (c.loop.at + c.in_ok-value.taken) c.args.tokens.now)) ∙ fault_read (λ (more : Bool). more) _ c.in_err-goes_on.field-0.0 c.in_err-goes_on.ensures.read fault in
+    ap goes_on (sym (lexemes_after (c.loop.at + c.in_ok-value.taken) c.args.tokens.now)) ∙ fault_read (λ (more : Bool). more) _ c.in_err-goes_on.field-0.0 c.in_err-goes_on.ensures.read fault in
     sym c.loop.invariant.read
     ∙ wrong_read expression_of (map view c.loop.found.items) (length c.args.tokens.now - c.loop.counter) (length c.args.tokens.now - (c.loop.counter + 1)) c.loop.at c.in_ok-value.taken ls (view c.in_ok-value.value) (omega arith) found none)
 
@@ -32,8 +32,8 @@ pub returns-then-not-branch : goal.returns-then-not-branch
 returns-then-not-branch c =
     let ls = lexemes c.args.tokens.now in
     let found : expression_of (drop c.loop.at ls) ≡ Some (view c.in_ok-value.value, drop c.in_ok-value.taken (drop c.loop.at ls)) =
-    subst (λ ts. expression_of ts ≡ Some (view c.in_ok-value.value, drop c.in_ok-value.taken ts)) (lexemes_behind c.loop.at c.args.tokens.now) c.in_ok-value.ensures.found in
-    let last : goes_on (drop (c.loop.at + c.in_ok-value.taken) ls) ≡ Some false = ap goes_on (sym (lexemes_behind (c.loop.at + c.in_ok-value.taken) c.args.tokens.now)) ∙ (c.in_ok-goes_on.ensures.read ∙ ap Some c.if-not-branch.true) in
+    subst (λ ts. expression_of ts ≡ Some (view c.in_ok-value.value, drop c.in_ok-value.taken ts)) (lexemes_after c.loop.at c.args.tokens.now) c.in_ok-value.ensures.found in
+    let last : goes_on (drop (c.loop.at + c.in_ok-value.taken) ls) ≡ Some false = ap goes_on (sym (lexemes_after (c.loop.at + c.in_ok-value.taken) c.args.tokens.now)) ∙ (c.in_ok-goes_on.ensures.read ∙ ap Some c.if-not-branch.true) in
     let pushed : map view c.push.new.self.items ≡ map view c.loop.found.items ++ view c.in_ok-value.value ∷ [] = ap (map view) c.in_ok-push.ensures.items ∙ map-append view c.loop.found.items (c.in_ok-value.value ∷ []) in
     sym c.loop.invariant.read
     ∙ (last_read expression_of (map view c.loop.found.items) (length c.args.tokens.now - c.loop.counter) (length c.args.tokens.now - (c.loop.counter + 1)) c.loop.at c.in_ok-value.taken ls (view c.in_ok-value.value) (omega arith) found last
@@ -43,8 +43,8 @@ pub loop-preserved : goal.loop-preserved
 loop-preserved c =
     let ls = lexemes c.args.tokens.now in
     let found : expression_of (drop c.loop.at ls) ≡ Some (view c.in_ok-value.value, drop c.in_ok-value.taken (drop c.loop.at ls)) =
-    subst (λ ts. expression_of ts ≡ Some (view c.in_ok-value.value, drop c.in_ok-value.taken ts)) (lexemes_behind c.loop.at c.args.tokens.now) c.in_ok-value.ensures.found in
-    let more : goes_on (drop (c.loop.at + c.in_ok-value.taken) ls) ≡ Some true = ap goes_on (sym (lexemes_behind (c.loop.at + c.in_ok-value.taken) c.args.tokens.now)) ∙ (c.in_ok-goes_on.ensures.read ∙ ap Some c.if-not-branch.false) in
+    subst (λ ts. expression_of ts ≡ Some (view c.in_ok-value.value, drop c.in_ok-value.taken ts)) (lexemes_after c.loop.at c.args.tokens.now) c.in_ok-value.ensures.found in
+    let more : goes_on (drop (c.loop.at + c.in_ok-value.taken) ls) ≡ Some true = ap goes_on (sym (lexemes_after (c.loop.at + c.in_ok-value.taken) c.args.tokens.now)) ∙ (c.in_ok-goes_on.ensures.read ∙ ap Some c.if-not-branch.false) in
     let pushed : map view c.push.new.self.items ≡ map view c.loop.found.items ++ view c.in_ok-value.value ∷ [] = ap (map view) c.in_ok-push.ensures.items ∙ map-append view c.loop.found.items (c.in_ok-value.value ∷ []) in
     record {
       read = ap (λ es. before es (list_within expression_of (length c.args.tokens.now - (c.loop.counter + 1)) (drop (c.loop.at + c.in_ok-value.taken + 1) ls))) pushed

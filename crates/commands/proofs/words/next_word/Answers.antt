@@ -1,7 +1,7 @@
 use Rattle.std.proofs.Common.{arith, ◌≡◌, ◌≢◌, ◌∙◌, ap, sym, ◌<◌, ◌≤◌, get_or, drop, take, length, ◌⊎◌, inl, inr, subst}
-use Rattle.model.specs.Commands.{behind_word}
+use Rattle.model.specs.Commands.{after_word}
 use Rattle.commands.specs.Words.{IsNextWord}
-use Rattle.commands.proofs.Spaces.{all_more, found_word, behind_more, behind_ends, rest_all}
+use Rattle.commands.proofs.Spaces.{all_more, found_word, after_more, after_ends, rest_all}
 use Rattle.commands.proofs.words.next_word.Goals as goal
 use Rattle.commands.proofs.words.next_word.Goals.{then-loop-end-test+else-front-end-ne32, else-loop-end-test}
 
@@ -11,7 +11,7 @@ loop-end-preserved c =
     record {
       within = omega (arith, c.loop-end-test.true);
       word = all_more front c.loop-end.end c.loop-end-test.true c.if-front-end-ne32.true c.loop-end.invariant.word;
-      behind = behind_more front c.loop-end.end c.loop-end-test.true c.if-front-end-ne32.true ∙ c.loop-end.invariant.behind;
+      behind = after_more front c.loop-end.end c.loop-end-test.true c.if-front-end-ne32.true ∙ c.loop-end.invariant.behind;
     }
 
 pub returns-clause-word : goal.returns-clause-word
@@ -32,4 +32,4 @@ returns-clause-behind c =
       | then-loop-end-test+else-front-end-ne32 w ↦ inl (w.loop-end-test.true, w.if-front-end-ne32.false)
       | else-loop-end-test w ↦ inr w.loop-end-test.false
     ] in
-    rest_all front e ∙ sym (behind_ends front e last) ∙ c.loop-end.invariant.behind ∙ ap behind_word c.unspaced-front.ensures
+    rest_all front e ∙ sym (after_ends front e last) ∙ c.loop-end.invariant.behind ∙ ap after_word c.unspaced-front.ensures

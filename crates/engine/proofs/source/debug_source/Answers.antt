@@ -39,8 +39,8 @@ returns-in_err-tape-clause-reaches g c =
 pub returns-clause-serves : goal.returns-clause-serves
 returns-clause-serves g c image h =
     let own = c.in_ok-assembly.assembly.image in
-    let of_image = subst (λ i. tapes.Denotes c.in_ok-tape.tape.items i) c.image.ensures c.in_ok-tape.ensures.denotes in
-    let tape = subst (λ t. tapes.Denotes t own) (sym c.as_slice.ensures.value) of_image in
+    let of_image = subst (λ i. tapes.TapeDenotes c.in_ok-tape.tape.items i) c.image.ensures c.in_ok-tape.ensures.denotes in
+    let tape = subst (λ t. tapes.TapeDenotes t own) (sym c.as_slice.ensures.value) of_image in
     subst (λ i. Serves (fresh c.args.history (start c.args.map i)) (g.R.Read.remaining c.args.reader.now) (g.R.Read.remaining c.debug_tape.new.reader)
     (g.W.Write.contents c.args.writer.now) (g.W.Write.contents c.debug_tape.new.writer) c.debug_tape.result)
     (c.in_ok-assembly.ensures.only image h) (c.debug_tape.ensures.serves own tape)

@@ -1,6 +1,6 @@
 use Rattle.std.proofs.Common.{◌∙◌, arith, subst, sym, ap}
 use Rattle.model.specs.Image.{IsImage}
-use Rattle.model.specs.Tape.{Denotes}
+use Rattle.model.specs.Tape.{TapeDenotes}
 use Rattle.model.specs.TapeText.{tape_text}
 use Rattle.papertape.proofs.Written.{cuts_count, written_denotes}
 use Rattle.papertape.proofs.Texts.{text_done}
@@ -26,4 +26,4 @@ returns-clause-denotes c =
     let text =
     text_done c.cells-cells.result.now c.loop-piece.out.items c.write_record.new.out.items c.loop-piece.from c.loop-piece.count c.in_default.ensures c.loop-piece.invariant.text c.loop-piece.invariant.count c.in_ok-write_record.ensures
     ∙ ap tape_text c.cells-cells.ensures.same in
-    subst (λ t. Denotes t c.args.image.now) (sym text) (written_denotes c.args.image.now c.cells-cells.ensures.image)
+    subst (λ t. TapeDenotes t c.args.image.now) (sym text) (written_denotes c.args.image.now c.cells-cells.ensures.image)
