@@ -17,7 +17,7 @@ use model::{BusFault, Change, Profile};
 use std::alloc::{AllocError, Global};
 use std::marker::Model;
 
-/// Memory of 65,536 bytes, 0 at the port's addresses, with a console after the port (profile).
+/// Memory of 65,536 bytes, 0 at the port's addresses, with a console at the port (profile).
 #[derive(Drop)]
 pub struct Bus {
     map: MapSpec,
