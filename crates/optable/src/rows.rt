@@ -80,6 +80,7 @@ impl OpTable {
     /// The row of an opcode that is documented, which is the same in each profile: of a known opcode it is a constant.
     #[inline(always)]
     pub fn documented(self, opcode: u8) -> Option<Row>
+        ensures exact { result ≡ row_at Profile.N opcode }
         ensures row { IfSome result (λ row. row_at self.profile opcode ≡ Some row) }
         ensures small { IfSome result (λ row. row.cycles < 8) }
     {
