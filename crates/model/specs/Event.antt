@@ -49,10 +49,12 @@ no_flags = record { n = false; v = false; d = false; i = false; z = false; c = f
 abbrev pub no_regs : Regs
 no_regs = record { a = 0; x = 0; y = 0; s = 0; pc = 0; flags = no_flags }
 
--- Reset: S is $FD, I is set, D is clear, PC comes from $FFFC, a pending NMI is forgotten, 7 cycles pass, all else stays.
+-- Reset: S is $FD, I is set, D is clear, PC comes from $FFFC, a pending NMI is forgotten, the port's control byte is 0, 7 cycles
+-- pass, all else stays.
 -- Source: MCS6500 manual, chapter 9, for the vector; profile for the rest.
 unfoldable pub reset_state : State → State
 reset_state state = record state {
+  bus = record state.bus { control = false };
   regs = record state.regs { s = 0xFD; pc = word_at state.bus 0xFFFC; flags = record state.regs.flags { i = true; d = false } };
   nmi = false;
   cycles = state.cycles + 7;

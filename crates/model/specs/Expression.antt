@@ -1,7 +1,7 @@
 -- The grammar of expressions. Source: profile.
 -- expr = ["<" | ">"] sum, sum = unary {operator unary}, unary = ["-"] primary,
 -- primary = number | char | name | "*" | "[" sum "]", with brackets nested at most 8 deep.
-use Rattle.std.specs.Prelude.{◌≡◌, ℕ, suc, ◌+◌, ◌-◌, ◌*◌, ◌^◌, ◌≤◌, ℤ, pos, ◌==◌, nat_lt, nat_le, if◌then◌else◌, List, [], ◌∷◌, ◌++◌, length, slice_get, Option, Some, None}
+use Rattle.std.specs.Prelude.{◌≡◌, ℕ, suc, ◌+◌, ◌*◌, ◌^◌, ◌≤◌, ℤ, pos, ◌==◌, nat_lt, if◌then◌else◌, List, [], ◌∷◌, ◌++◌, length, slice_get, Option, Some, None}
 use Rattle.std.specs.Str.{byte}
 use Rattle.std.specs.Option.{option_map, option_and_then}
 pub use Rattle.model.specs.Digits.{digit_value}

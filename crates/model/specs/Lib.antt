@@ -34,6 +34,7 @@ pub mod Listing
 pub mod Disassembly
 pub mod Transcript
 pub mod Looking
+pub mod Polled
 pub mod Written
 pub mod TapeFault
 pub mod Tape

@@ -1,4 +1,4 @@
--- A run of steps: how it ends, and where it leads. Source: profile.
+-- A run of steps: how it ends, and where it leads. Both are defined for any step, and then for the machine's. Source: profile.
 use Rattle.std.specs.Prelude.{ℕ, ◌≡◌, ◌-◌, zero, suc, not, ◌==◌, nat_eq, nat_le, if◌then◌else◌, min, List, [], ◌∷◌, filter, slice_index, Option, Some, None, unwrap_or, Result, Ok, Err}
 use Rattle.std.specs.List.{list_any}
 use Rattle.std.specs.Option.{option_map, option_map_or, option_or}
@@ -9,6 +9,10 @@ use Rattle.model.specs.declared.event.EventFault.{EventFault}
 use Rattle.model.specs.declared.run_end.Why.{Why}
 use Rattle.model.specs.declared.run_end.Why.TheVariants.{Watch, Break, Limit, Refused}
 use Rattle.model.specs.declared.run_end.RunEnd.{RunEnd}
+
+-- What a step gives: the next state, or why it is refused.
+abbrev pub OneStep : Type 0
+OneStep = State → Result State EventFault
 
 -- ---- what ends a run after a step
 
@@ -48,18 +52,18 @@ abbrev pub met_if_made : (State → State → Option Why) → State → Result S
 met_if_made met before (Ok after) rest = met_now_or_later (met before after) (rest after)
 met_if_made met before (Err fault) rest = None
 
-unfoldable pub first_met : (State → State → Option Why) → ℕ → State → Option RunEnd
-first_met met zero s = None
-first_met met (suc n) s = met_if_made met s (step s) (λ t. first_met met n t)
+unfoldable pub first_met : OneStep → (State → State → Option Why) → ℕ → State → Option RunEnd
+first_met one met zero s = None
+first_met one met (suc n) s = met_if_made met s (one s) (λ t. first_met one met n t)
 
 -- The first refused step of n, which is not counted.
 abbrev pub refused_now_or_later : Result State EventFault → (State → Option RunEnd) → Option RunEnd
 refused_now_or_later (Ok after) rest = option_map one_later (rest after)
 refused_now_or_later (Err fault) rest = Some (record { did = 0; why = Refused fault })
 
-unfoldable pub first_refused : ℕ → State → Option RunEnd
-first_refused zero s = None
-first_refused (suc n) s = refused_now_or_later (step s) (λ t. first_refused n t)
+unfoldable pub first_refused : OneStep → ℕ → State → Option RunEnd
+first_refused one zero s = None
+first_refused one (suc n) s = refused_now_or_later (one s) (λ t. first_refused one n t)
 
 -- ---- the run
 
@@ -70,20 +74,26 @@ sooner (Some a) b = if nat_le a.did b.did then a else b
 
 -- How a run of n steps ends: with the first of a step that changes a watched byte, a step that leads to a breakpoint, a refused step,
 -- and the limit of n steps. Of several that come after equally many steps, the reason is the first in this order.
-unfoldable pub run_end : ℕ → Session → RunEnd
-run_end n s =
-    sooner (first_met (watch_met s.watches) n s.current)
-    (sooner (first_met (break_met s.breaks) n s.current)
-    (unwrap_or (first_refused n s.current) (record { did = n; why = Limit })))
+unfoldable pub run_end_by : OneStep → ℕ → Session → RunEnd
+run_end_by one n s =
+    sooner (first_met one (watch_met s.watches) n s.current)
+    (sooner (first_met one (break_met s.breaks) n s.current)
+    (unwrap_or (first_refused one n s.current) (record { did = n; why = Limit })))
+
+abbrev pub run_end : ℕ → Session → RunEnd
+run_end n s = run_end_by step n s
 
 -- The session after k steps, or after as many as are made before a refused one.
 abbrev pub after_step : Session → Result State EventFault → (Session → Session) → Session
 after_step s (Ok state) rest = rest (appended s state)
 after_step s (Err fault) rest = s
 
-unfoldable pub after_steps : ℕ → Session → Session
-after_steps zero s = s
-after_steps (suc k) s = after_step s (step s.current) (λ t. after_steps k t)
+unfoldable pub after_steps_by : OneStep → ℕ → Session → Session
+after_steps_by one zero s = s
+after_steps_by one (suc k) s = after_step s (one s.current) (λ t. after_steps_by one k t)
+
+abbrev pub after_steps : ℕ → Session → Session
+after_steps k s = after_steps_by step k s
 
 -- The session after a run of n steps.
 abbrev pub after_run : ℕ → Session → Session

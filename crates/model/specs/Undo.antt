@@ -14,13 +14,14 @@ put_cells (cell ∷ cells) memory = put_cells cells (slice_set memory cell.0 cel
 abbrev pub cells_of : Change → List (ℕ × ℕ)
 cells_of change = take change.count change.cells
 
--- A bus with the old bytes put back, both lists of the console cut to their old lengths, and the old number taken.
+-- A bus with the old bytes put back, both lists of the console cut to their old lengths, the old number taken, and the old control byte.
 unfoldable pub restored : Change → Bus → Bus
 restored change bus = record bus {
   memory = put_cells (cells_of change) bus.memory;
   given = take change.given_len bus.given;
   taken = change.taken;
   out = take change.out_len bus.out;
+  control = change.control;
 }
 
 -- No cell in use stands at a port address.

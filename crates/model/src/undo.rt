@@ -6,7 +6,7 @@ ghost use Rattle.model.specs.Undo.{cells_of};
 use crate::registers::Regs;
 
 /// What puts a bus back: up to three memory cells with their old bytes, the newest first, how much
-/// input had been taken, and how long both lists of the console were.
+/// input had been taken, how long both lists of the console were, and the port's control byte.
 #[derive(Clone, Copy, Debug, PartialEq, Eq)]
 pub struct Change {
     pub cells: [(u16, u8); 3],
@@ -15,6 +15,8 @@ pub struct Change {
     pub taken: u32,
     pub given_len: u32,
     pub out_len: u32,
+    /// Whether the control byte was 1.
+    pub control: bool,
 }
 
 /// What puts a machine back to the state before an event.

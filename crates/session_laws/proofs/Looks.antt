@@ -6,6 +6,7 @@ use Rattle.model.specs.State.{State, console_size}
 use Rattle.model.specs.declared.event.EventFault.TheVariants.{InputFull}
 use Rattle.model.specs.Event.{event_of}
 use Rattle.model.specs.Session.{Session}
+use Rattle.model.specs.Step.{step}
 use Rattle.model.specs.declared.event.Event.TheVariants as event
 use Rattle.model.specs.declared.event.EventFault.{EventFault}
 use Rattle.model.specs.declared.session_fault.SessionFault.{SessionFault}
@@ -150,7 +151,7 @@ session-run n s = refl
 
 -- a run made again, or left out where it made no step
 again : (k : ℕ) (s : Session) (rest : List Command) → after_run k (bare s) ≡ bare (after_steps k s) → obeyed (bare s) (run_again k rest) ≡ obeyed (bare (after_steps k s)) rest
-again zero s rest h = ap (λ t. obeyed (bare t) rest) (sym (after_steps-zero s))
+again zero s rest h = ap (λ t. obeyed (bare t) rest) (sym (after_steps-zero step s))
 again (suc k) s rest h =
     let e : eqb (suc k) 0 ≡ false = grind (arith, nat_tests) in
     ap (λ b. obeyed (bare s) (cond b rest (Run (suc k) ∷ rest))) e ∙ obeyed-run (suc k) (bare s) rest ∙ ap (λ t. obeyed t rest) h

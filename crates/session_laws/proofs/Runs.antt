@@ -10,7 +10,7 @@ use Rattle.model.specs.declared.event.EventFault.{EventFault}
 use Rattle.model.specs.declared.run_end.Why.{Why}
 use Rattle.model.specs.declared.run_end.Why.TheVariants.{Limit, Refused}
 use Rattle.model.specs.declared.run_end.RunEnd.{RunEnd}
-use Rattle.model.specs.Run.{watch_met, break_met, one_later, met_now_or_later, first_met, first_refused, sooner, run_end, after_steps, bare, CutRunGoesOn, RunCanBeRepeated}
+use Rattle.model.specs.Run.{OneStep, watch_met, break_met, one_later, met_now_or_later, first_met, first_refused, sooner, run_end, run_end_by, after_steps, after_steps_by, bare, CutRunGoesOn, RunCanBeRepeated}
 
 -- ---- the earliest of ends
 
@@ -52,34 +52,34 @@ met_positive (Some why) rest e h = let same : now why ≡ e = cc in subst (λ (x
 met_positive None None e h = cc
 met_positive None (Some r) e h = let same : one_later r ≡ e = cc in subst (λ (x : RunEnd). 1 ≤ x.did) same (omega arith)
 
-first_met-suc : (met : State → State → Option Why) (n : ℕ) (s t : State) → step s ≡ Ok t → first_met met (suc n) s ≡ met_now_or_later (met s t) (first_met met n t)
+first_met-suc : (one : OneStep) (met : State → State → Option Why) (n : ℕ) (s t : State) → one s ≡ Ok t → first_met one met (suc n) s ≡ met_now_or_later (met s t) (first_met one met n t)
 unfolding first_met
-first_met-suc met n s t h = rw h refl
+first_met-suc one met n s t h = rw h refl
 
-first_met-refused : (met : State → State → Option Why) (n : ℕ) (s : State) (f : EventFault) → step s ≡ Err f → first_met met (suc n) s ≡ None
+first_met-refused : (one : OneStep) (met : State → State → Option Why) (n : ℕ) (s : State) (f : EventFault) → one s ≡ Err f → first_met one met (suc n) s ≡ None
 unfolding first_met
-first_met-refused met n s f h = rw h refl
+first_met-refused one met n s f h = rw h refl
 
-first_met-zero : (met : State → State → Option Why) (s : State) → first_met met zero s ≡ None
+first_met-zero : (one : OneStep) (met : State → State → Option Why) (s : State) → first_met one met zero s ≡ None
 unfolding first_met
-first_met-zero met s = refl
+first_met-zero one met s = refl
 
-first_refused-zero : (s : State) → first_refused zero s ≡ None
+first_refused-zero : (one : OneStep) (s : State) → first_refused one zero s ≡ None
 unfolding first_refused
-first_refused-zero s = refl
+first_refused-zero one s = refl
 
-first_refused-made : (n : ℕ) (s t : State) → step s ≡ Ok t → first_refused (suc n) s ≡ option_map one_later (first_refused n t)
+first_refused-made : (one : OneStep) (n : ℕ) (s t : State) → one s ≡ Ok t → first_refused one (suc n) s ≡ option_map one_later (first_refused one n t)
 unfolding first_refused
-first_refused-made n s t h = rw h refl
+first_refused-made one n s t h = rw h refl
 
-first_refused-now : (n : ℕ) (s : State) (f : EventFault) → step s ≡ Err f → first_refused (suc n) s ≡ Some (record { did = 0; why = Refused f })
+first_refused-now : (one : OneStep) (n : ℕ) (s : State) (f : EventFault) → one s ≡ Err f → first_refused one (suc n) s ≡ Some (record { did = 0; why = Refused f })
 unfolding first_refused
-first_refused-now n s f h = rw h refl
+first_refused-now one n s f h = rw h refl
 
-positive : (met : State → State → Option Why) (n : ℕ) (s : State) (r : Result State EventFault) → step s ≡ r → (e : RunEnd) → first_met met n s ≡ Some e → 1 ≤ e.did
-positive met zero s r h e m = let none = first_met-zero met s in cc
-positive met (suc n) s (Ok t) h e m = met_positive (met s t) (first_met met n t) e (sym (first_met-suc met n s t h) ∙ m)
-positive met (suc n) s (Err f) h e m = let none = first_met-refused met n s f h in cc
+positive : (one : OneStep) (met : State → State → Option Why) (n : ℕ) (s : State) (r : Result State EventFault) → one s ≡ r → (e : RunEnd) → first_met one met n s ≡ Some e → 1 ≤ e.did
+positive one met zero s r h e m = let none = first_met-zero one met s in cc
+positive one met (suc n) s (Ok t) h e m = met_positive (met s t) (first_met one met n t) e (sym (first_met-suc one met n s t h) ∙ m)
+positive one met (suc n) s (Err f) h e m = let none = first_met-refused one met n s f h in cc
 
 -- ---- a run by its first step
 
@@ -95,36 +95,37 @@ by_first (Some w) None ws bs rest h k = ap (sooner (Some (now w))) (sooner-later
 by_first None (Some b) ws bs rest h k = ap (sooner (option_map one_later ws)) (now_first b (one_later rest) (omega arith)) ∙ later_last ws b k
 by_first None None ws bs rest h k = ap (sooner (option_map one_later ws)) (sooner-later bs rest) ∙ sooner-later ws (sooner bs rest)
 
-pub run_end-zero : (s : Session) → run_end zero s ≡ limit zero
-unfolding run_end
-run_end-zero s = rw (first_met-zero (watch_met s.watches) s.current, first_met-zero (break_met s.breaks) s.current, first_refused-zero s.current) refl
+pub run_end-zero : (one : OneStep) (s : Session) → run_end_by one zero s ≡ limit zero
+unfolding run_end_by
+run_end-zero one s = rw (first_met-zero one (watch_met s.watches) s.current, first_met-zero one (break_met s.breaks) s.current, first_refused-zero one s.current) refl
 
-pub run_end-refused : (n : ℕ) (s : Session) (f : EventFault) → step s.current ≡ Err f → run_end (suc n) s ≡ record { did = 0; why = Refused f }
-unfolding run_end
-run_end-refused n s f h = rw (first_met-refused (watch_met s.watches) n s.current f h, first_met-refused (break_met s.breaks) n s.current f h, first_refused-now n s.current f h) refl
+pub run_end-refused : (one : OneStep) (n : ℕ) (s : Session) (f : EventFault) → one s.current ≡ Err f → run_end_by one (suc n) s ≡ record { did = 0; why = Refused f }
+unfolding run_end_by
+run_end-refused one n s f h =
+    rw (first_met-refused one (watch_met s.watches) n s.current f h, first_met-refused one (break_met s.breaks) n s.current f h, first_refused-now one n s.current f h) refl
 
-pub run_end-made : (n : ℕ) (s : Session) (t : State) → step s.current ≡ Ok t
-    → run_end (suc n) s ≡ ends_with (option_or (watch_met s.watches s.current t) (break_met s.breaks s.current t)) (run_end n (appended s t))
-unfolding run_end
-run_end-made n s t h =
-    rw (first_met-suc (watch_met s.watches) n s.current t h, first_met-suc (break_met s.breaks) n s.current t h, first_refused-made n s.current t h)
-    (ap (λ x. sooner (met_now_or_later (watch_met s.watches s.current t) (first_met (watch_met s.watches) n t)) (sooner (met_now_or_later (break_met s.breaks s.current t) (first_met (break_met s.breaks) n t)) x)) (unwrap-later (first_refused n t) n)
-    ∙ by_first (watch_met s.watches s.current t) (break_met s.breaks s.current t) (first_met (watch_met s.watches) n t) (first_met (break_met s.breaks) n t) (unwrap_or (first_refused n t) (limit n))
-    (positive (break_met s.breaks) n t (step t) refl) (positive (watch_met s.watches) n t (step t) refl))
+pub run_end-made : (one : OneStep) (n : ℕ) (s : Session) (t : State) → one s.current ≡ Ok t
+    → run_end_by one (suc n) s ≡ ends_with (option_or (watch_met s.watches s.current t) (break_met s.breaks s.current t)) (run_end_by one n (appended s t))
+unfolding run_end_by
+run_end-made one n s t h =
+    rw (first_met-suc one (watch_met s.watches) n s.current t h, first_met-suc one (break_met s.breaks) n s.current t h, first_refused-made one n s.current t h)
+    (ap (λ x. sooner (met_now_or_later (watch_met s.watches s.current t) (first_met one (watch_met s.watches) n t)) (sooner (met_now_or_later (break_met s.breaks s.current t) (first_met one (break_met s.breaks) n t)) x)) (unwrap-later (first_refused one n t) n)
+    ∙ by_first (watch_met s.watches s.current t) (break_met s.breaks s.current t) (first_met one (watch_met s.watches) n t) (first_met one (break_met s.breaks) n t) (unwrap_or (first_refused one n t) (limit n))
+    (positive one (break_met s.breaks) n t (one t) refl) (positive one (watch_met s.watches) n t (one t) refl))
 
 -- ---- steps of a session
 
-pub after_steps-zero : (s : Session) → after_steps zero s ≡ s
-unfolding after_steps
-after_steps-zero s = refl
+pub after_steps-zero : (one : OneStep) (s : Session) → after_steps_by one zero s ≡ s
+unfolding after_steps_by
+after_steps-zero one s = refl
 
-pub after_steps-made : (k : ℕ) (s : Session) (t : State) → step s.current ≡ Ok t → after_steps (suc k) s ≡ after_steps k (appended s t)
-unfolding after_steps
-after_steps-made k s t h = rw h refl
+pub after_steps-made : (one : OneStep) (k : ℕ) (s : Session) (t : State) → one s.current ≡ Ok t → after_steps_by one (suc k) s ≡ after_steps_by one k (appended s t)
+unfolding after_steps_by
+after_steps-made one k s t h = rw h refl
 
-pub after_steps-refused : (k : ℕ) (s : Session) (f : EventFault) → step s.current ≡ Err f → after_steps (suc k) s ≡ s
-unfolding after_steps
-after_steps-refused k s f h = rw h refl
+pub after_steps-refused : (one : OneStep) (k : ℕ) (s : Session) (f : EventFault) → one s.current ≡ Err f → after_steps_by one (suc k) s ≡ s
+unfolding after_steps_by
+after_steps-refused one k s f h = rw h refl
 
 -- with none set no step ends a run
 unmet : (before after : State) → option_or (watch_met [] before after) (break_met [] before after) ≡ None
@@ -132,29 +133,29 @@ unfolding watch_met break_met
 unmet before after = refl
 
 run_end-bare : (n : ℕ) (s : Session) (t : State) → step s.current ≡ Ok t → run_end (suc n) (bare s) ≡ one_later (run_end n (bare (appended s t)))
-run_end-bare n s t h = run_end-made n (bare s) t h ∙ ap (λ w. ends_with w (run_end n (bare (appended s t)))) (unmet s.current t)
+run_end-bare n s t h = run_end-made step n (bare s) t h ∙ ap (λ w. ends_with w (run_end n (bare (appended s t)))) (unmet s.current t)
 
 mutual_after : (k : ℕ) (s : Session) (r : Result State EventFault) → step s.current ≡ r → after_steps k (bare s) ≡ bare (after_steps k s)
-mutual_after zero s r h = after_steps-zero (bare s) ∙ ap bare (sym (after_steps-zero s))
-mutual_after (suc k) s (Ok t) h = after_steps-made k (bare s) t h ∙ mutual_after k (appended s t) (step t) refl ∙ ap bare (sym (after_steps-made k s t h))
-mutual_after (suc k) s (Err f) h = after_steps-refused k (bare s) f h ∙ ap bare (sym (after_steps-refused k s f h))
+mutual_after zero s r h = after_steps-zero step (bare s) ∙ ap bare (sym (after_steps-zero step s))
+mutual_after (suc k) s (Ok t) h = after_steps-made step k (bare s) t h ∙ mutual_after k (appended s t) (step t) refl ∙ ap bare (sym (after_steps-made step k s t h))
+mutual_after (suc k) s (Err f) h = after_steps-refused step k (bare s) f h ∙ ap bare (sym (after_steps-refused step k s f h))
 
 -- ---- a run repeated
 
 repeated_by : (n : ℕ) (s : Session) (t : State) (why : Option Why) → step s.current ≡ Ok t → run_end (run_end n (appended s t)).did (bare (appended s t)) ≡ limit (run_end n (appended s t)).did
     → run_end (ends_with why (run_end n (appended s t))).did (bare s) ≡ limit (ends_with why (run_end n (appended s t))).did
-repeated_by n s t (Some why) h again = run_end-bare zero s t h ∙ ap one_later (run_end-zero (bare (appended s t)))
+repeated_by n s t (Some why) h again = run_end-bare zero s t h ∙ ap one_later (run_end-zero step (bare (appended s t)))
 repeated_by n s t None h again = run_end-bare (run_end n (appended s t)).did s t h ∙ ap one_later again
 
 repeated_end : (n : ℕ) (s : Session) (r : Result State EventFault) → step s.current ≡ r → run_end (run_end n s).did (bare s) ≡ limit (run_end n s).did
-repeated_end zero s r h = ap (λ (e : RunEnd). run_end e.did (bare s)) (run_end-zero s) ∙ run_end-zero (bare s) ∙ ap (λ (e : RunEnd). limit e.did) (sym (run_end-zero s))
+repeated_end zero s r h = ap (λ (e : RunEnd). run_end e.did (bare s)) (run_end-zero step s) ∙ run_end-zero step (bare s) ∙ ap (λ (e : RunEnd). limit e.did) (sym (run_end-zero step s))
 repeated_end (suc n) s (Ok t) h =
-    let e = run_end-made n s t h in
+    let e = run_end-made step n s t h in
     ap (λ (x : RunEnd). run_end x.did (bare s)) e ∙ repeated_by n s t (option_or (watch_met s.watches s.current t) (break_met s.breaks s.current t)) h (repeated_end n (appended s t) (step t) refl)
     ∙ ap (λ (x : RunEnd). limit x.did) (sym e)
 repeated_end (suc n) s (Err f) h =
-    let e = run_end-refused n s f h in
-    ap (λ (x : RunEnd). run_end x.did (bare s)) e ∙ run_end-zero (bare s) ∙ ap (λ (x : RunEnd). limit x.did) (sym e)
+    let e = run_end-refused step n s f h in
+    ap (λ (x : RunEnd). run_end x.did (bare s)) e ∙ run_end-zero step (bare s) ∙ ap (λ (x : RunEnd). limit x.did) (sym e)
 
 pub run_can_be_repeated : RunCanBeRepeated
 run_can_be_repeated n s =
@@ -183,41 +184,41 @@ rest_of n cut s = beyond cut.did (run_end (n - cut.did) (bare (after_steps cut.d
 none_cut : (n : ℕ) (s : Session) (why : Why) → run_end n (bare s) ≡ rest_of n (record { did = 0; why = why }) s
 none_cut n s why =
     let z : n ≡ n - 0 = omega arith in
-    ap (λ m. run_end m (bare s)) z ∙ ap (λ x. run_end (n - 0) (bare x)) (sym (after_steps-zero s)) ∙ sym (none_before (run_end (n - 0) (bare (after_steps 0 s))))
+    ap (λ m. run_end m (bare s)) z ∙ ap (λ x. run_end (n - 0) (bare x)) (sym (after_steps-zero step s)) ∙ sym (none_before (run_end (n - 0) (bare (after_steps 0 s))))
 
 cut_by : (n : ℕ) (s : Session) (t : State) (why : Option Why) → step s.current ≡ Ok t → run_end n (bare (appended s t)) ≡ rest_of n (run_end n (appended s t)) (appended s t)
     → run_end (suc n) (bare s) ≡ rest_of (suc n) (ends_with why (run_end n (appended s t))) s
 cut_by n s t (Some why) h rest =
     let z : n ≡ suc n - 1 = omega arith in
-    run_end-bare n s t h ∙ ap one_later (ap (λ m. run_end m (bare (appended s t))) z ∙ ap (λ x. run_end (suc n - 1) (bare x)) (sym (after_steps-made zero s t h ∙ after_steps-zero (appended s t))))
+    run_end-bare n s t h ∙ ap one_later (ap (λ m. run_end m (bare (appended s t))) z ∙ ap (λ x. run_end (suc n - 1) (bare x)) (sym (after_steps-made step zero s t h ∙ after_steps-zero step (appended s t))))
     ∙ one_before (run_end (suc n - 1) (bare (after_steps 1 s)))
 cut_by n s t None h rest =
     let k = (run_end n (appended s t)).did in
     let z : n - k ≡ suc n - suc k = omega arith in
     run_end-bare n s t h ∙ ap one_later (rest ∙ ap (λ m. beyond k (run_end m (bare (after_steps k (appended s t))))) z
-    ∙ ap (λ x. beyond k (run_end (suc n - suc k) (bare x))) (sym (after_steps-made k s t h)))
+    ∙ ap (λ x. beyond k (run_end (suc n - suc k) (bare x))) (sym (after_steps-made step k s t h)))
     ∙ more_before k (run_end (suc n - suc k) (bare (after_steps (suc k) s)))
 
 cut_end_of : (n : ℕ) (s : Session) (r : Result State EventFault) → step s.current ≡ r → run_end n (bare s) ≡ rest_of n (run_end n s) s
-cut_end_of zero s r h = none_cut zero s Limit ∙ ap (λ e. rest_of zero e s) (sym (run_end-zero s))
+cut_end_of zero s r h = none_cut zero s Limit ∙ ap (λ e. rest_of zero e s) (sym (run_end-zero step s))
 cut_end_of (suc n) s (Ok t) h =
-    cut_by n s t (option_or (watch_met s.watches s.current t) (break_met s.breaks s.current t)) h (cut_end_of n (appended s t) (step t) refl) ∙ ap (λ e. rest_of (suc n) e s) (sym (run_end-made n s t h))
-cut_end_of (suc n) s (Err f) h = none_cut (suc n) s (Refused f) ∙ ap (λ e. rest_of (suc n) e s) (sym (run_end-refused n s f h))
+    cut_by n s t (option_or (watch_met s.watches s.current t) (break_met s.breaks s.current t)) h (cut_end_of n (appended s t) (step t) refl) ∙ ap (λ e. rest_of (suc n) e s) (sym (run_end-made step n s t h))
+cut_end_of (suc n) s (Err f) h = none_cut (suc n) s (Refused f) ∙ ap (λ e. rest_of (suc n) e s) (sym (run_end-refused step n s f h))
 
 -- ---- steps after steps
 
 still : (j : ℕ) (s : Session) (f : EventFault) → step s.current ≡ Err f → after_steps j s ≡ s
-still zero s f h = after_steps-zero s
-still (suc j) s f h = after_steps-refused j s f h
+still zero s f h = after_steps-zero step s
+still (suc j) s f h = after_steps-refused step j s f h
 
 pub after_steps-add : (k j : ℕ) (s : Session) (r : Result State EventFault) → step s.current ≡ r → after_steps (k + j) s ≡ after_steps j (after_steps k s)
-after_steps-add zero j s r h = (let z : zero + j ≡ j = omega arith in ap (λ m. after_steps m s) z) ∙ ap (after_steps j) (sym (after_steps-zero s))
+after_steps-add zero j s r h = (let z : zero + j ≡ j = omega arith in ap (λ m. after_steps m s) z) ∙ ap (after_steps j) (sym (after_steps-zero step s))
 after_steps-add (suc k) j s (Ok t) h =
-    (let z : suc k + j ≡ suc (k + j) = omega arith in ap (λ m. after_steps m s) z) ∙ after_steps-made (k + j) s t h ∙ after_steps-add k j (appended s t) (step t) refl
-    ∙ ap (after_steps j) (sym (after_steps-made k s t h))
+    (let z : suc k + j ≡ suc (k + j) = omega arith in ap (λ m. after_steps m s) z) ∙ after_steps-made step (k + j) s t h ∙ after_steps-add k j (appended s t) (step t) refl
+    ∙ ap (after_steps j) (sym (after_steps-made step k s t h))
 after_steps-add (suc k) j s (Err f) h =
-    (let z : suc k + j ≡ suc (k + j) = omega arith in ap (λ m. after_steps m s) z) ∙ after_steps-refused (k + j) s f h
-    ∙ sym (ap (after_steps j) (after_steps-refused k s f h) ∙ still j s f h)
+    (let z : suc k + j ≡ suc (k + j) = omega arith in ap (λ m. after_steps m s) z) ∙ after_steps-refused step (k + j) s f h
+    ∙ sym (ap (after_steps j) (after_steps-refused step k s f h) ∙ still j s f h)
 
 pub cut_run_goes_on : CutRunGoesOn
 cut_run_goes_on n s =
