@@ -40,7 +40,7 @@ polled_read bus address =
     0)
     else slice_index bus.memory address
 
--- Of a bus store the port's other addresses than base+0 took nothing.
+-- Of a bus store at base+0 the byte ended the output; the port's other addresses and the ROM took nothing; memory took the byte.
 unfoldable pub polled_write : Bus → ℕ → ℕ → Bus
 polled_write bus address value =
     if is_port bus.map address then
