@@ -1,15 +1,16 @@
 -- What the first pass finds of a line, seen as the definitions see it.
-use Rattle.std.specs.Prelude.{◌≡◌, ℕ, ⊤, Option, Some, None, ◌&&◌, if◌then◌else◌, Result, Ok, Err}
+use Rattle.std.specs.Prelude.{◌≡◌, ℕ, ⊤, Option, Some, None, Result, Ok, Err}
+use Rattle.std.specs.Option.{option_or}
 use Rattle.model.specs.declared.instruction.Profile.{Profile}
 use Rattle.model.specs.declared.source_fault.AsmFaultKind.{AsmFaultKind}
 use Rattle.model.specs.Layout as model_layout
-use Rattle.model.specs.Layout.{one, by_size, term_of, only, either, has_row, is_unindexed, zero_page_mode, absolute_mode, Content, no_bytes, byte_list, word_list, word_list_high_first, code, PlacedAndNext, Placed, Fixed, Standing, items_size}
+use Rattle.model.specs.Layout.{Coded, one, by_size, in_mode, term_of, only, either, branch_form, zero_page_mode, absolute_mode, Content, no_bytes, byte_list, word_list, word_list_high_first, code, PlacedAndNext, Placed, Fixed, Standing, items_size}
 use Rattle.model.specs.declared.instruction.Mnemonic.{Mnemonic}
-use Rattle.model.specs.declared.instruction.Mode.TheVariants.{Ind, Rel, IndZ}
+use Rattle.model.specs.declared.instruction.Mode.TheVariants.{Ind, IndZ}
 use Rattle.model.specs.declared.line.Index.{Index}
 use Rattle.assembler.specs.declared.forms.Form.{Form}
 use Rattle.assembler.specs.declared.forms.Form.TheVariants.{One, BySize}
-use Rattle.assembler.specs.declared.layout.Code.{Code}
+use Rattle.assembler.specs.declared.forms.Code.{Code}
 use Rattle.assembler.specs.declared.layout.Site.{Site}
 use Rattle.asm_line.specs.declared.fault.LineError.{LineError}
 use Rattle.asm_line.specs.declared.fault.LineError.TheVariants as errors
@@ -25,19 +26,20 @@ abbrev pub Shows : {A B : Type 0} → (A → B) → Result A AsmFaultKind → Re
 Shows f (Ok a) given = given ≡ Ok (f a)
 Shows f (Err kind) given = given ≡ Err kind
 
+abbrev pub seen_code : Code → Coded
+seen_code c = record { opcode = c.opcode; mode = c.mode }
+
 abbrev pub seen_form : Form → model_layout.Form
-seen_form (One mode) = one mode
-seen_form (BySize short long) = by_size short long
+seen_form (One c) = one (seen_code c)
+seen_form (BySize short long) = by_size (seen_code short) (seen_code long)
 
 -- The form for an unmarked operand that may have an index.
 abbrev pub direct_form : Profile → Mnemonic → Index → Option model_layout.Form
-direct_form profile m by =
-    if is_unindexed by && has_row profile m Rel then Some (one Rel)
-    else either profile m (zero_page_mode by) (absolute_mode by)
+direct_form profile m by = option_or (branch_form profile m by) (either (in_mode profile m (zero_page_mode by)) (in_mode profile m (absolute_mode by)))
 
 -- The form for a pointer in round brackets.
 abbrev pub pointer_form : Profile → Mnemonic → Option model_layout.Form
-pointer_form profile m = if has_row profile m Ind then Some (one Ind) else only profile m IndZ
+pointer_form profile m = option_or (only profile m Ind) (only profile m IndZ)
 
 abbrev pub code_by : Option Code → Statement → Content
 code_by (Some c) (instruction m operand) = code c.opcode c.mode (term_of operand)

@@ -14,9 +14,9 @@ ghost use Rattle.model.specs.declared.source_fault.AsmFaultKind.TheVariants.{Pas
 ghost use Rattle.model.specs.Image.{has_byte, with_bytes};
 ghost use Rattle.model.specs.Value.{eval_of};
 
-use crate::forms::term_of;
+use crate::forms::{Code, term_of};
 use crate::kept::Kept;
-use crate::layout::{Code, Site, value_at};
+use crate::layout::{Site, value_at};
 use asm_expr::Expr;
 use asm_line::{Item, LineError, Statement};
 use bus::{Image, MapSpec};

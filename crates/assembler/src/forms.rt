@@ -3,52 +3,58 @@
 ghost use Rattle.std.specs.Prelude.{◌≡◌};
 ghost use Rattle.asm_expr.specs.Trees.{view};
 ghost use Rattle.asm_line.specs.Seen.{seen_operand};
-ghost use Rattle.assembler.specs.Sites.{direct_form, pointer_form, seen_form, shown};
-ghost use Rattle.model.specs.Layout.{absolute_mode, either, form_of, has_row, is_unindexed, only, term_of, zero_page_mode};
+ghost use Rattle.assembler.specs.Sites.{direct_form, pointer_form, seen_code, seen_form, shown};
+ghost use Rattle.model.specs.Layout.{absolute_mode, branch_form, either, form_of, in_mode, only, term_of, zero_page_mode};
 
 use asm_expr::Expr;
 use asm_line::Operand;
 use model::{Index, Mnemonic, Mode, Profile};
 use optable::encode_in;
 
-/// The form of an instruction: one mode, or by its operand's value one of two.
-#[derive(Clone, Copy, Debug, PartialEq, Eq)]
-pub enum Form {
-    One(Mode),
-    /// The zero page mode and the absolute one.
-    BySize(Mode, Mode),
+/// An instruction's opcode, and the mode in which its operand stands after it.
+#[derive(Clone, Copy)]
+pub struct Code {
+    pub opcode: u8,
+    pub mode: Mode,
 }
 
-/// Whether an instruction has a mode in a profile.
-#[tactic(auto, unfolding(model::specs::Layout::has_row))]
-fn has_row(profile: Profile, mnemonic: Mnemonic, mode: Mode) -> bool
-    ensures { result ≡ has_row profile mnemonic mode }
+/// The form of an instruction: encoded in one way, or by its operand's value in one of two.
+#[derive(Clone, Copy)]
+pub enum Form {
+    One(Code),
+    /// In the zero page mode and in the absolute one.
+    BySize(Code, Code),
+}
+
+/// An instruction in a mode, if the profile has it.
+fn in_mode(profile: Profile, mnemonic: Mnemonic, mode: Mode) -> Option<Code>
+    ensures { shown seen_code result ≡ in_mode profile mnemonic mode }
 {
-    encode_in(profile, mnemonic, mode).is_some()
+    match encode_in(profile, mnemonic, mode) {
+        None => None,
+        Some(opcode) => Some(Code { opcode, mode }),
+    }
 }
 
 /// One mode, if the instruction has it.
 fn only(profile: Profile, mnemonic: Mnemonic, mode: Mode) -> Option<Form>
     ensures { shown seen_form result ≡ only profile mnemonic mode }
 {
-    if has_row(profile, mnemonic, mode) {
-        Some(Form::One(mode))
-    } else {
-        None
+    match in_mode(profile, mnemonic, mode) {
+        None => None,
+        Some(code) => Some(Form::One(code)),
     }
 }
 
 /// Of two modes those that the instruction has.
-fn either(profile: Profile, mnemonic: Mnemonic, short: Mode, long: Mode) -> Option<Form>
-    ensures { shown seen_form result ≡ either profile mnemonic short long }
+fn either(short: Option<Code>, long: Option<Code>) -> Option<Form>
+    ensures { shown seen_form result ≡ either (shown seen_code short) (shown seen_code long) }
 {
-    if !has_row(profile, mnemonic, short) {
-        return only(profile, mnemonic, long);
-    }
-    if has_row(profile, mnemonic, long) {
-        Some(Form::BySize(short, long))
-    } else {
-        Some(Form::One(short))
+    match (short, long) {
+        (None, None) => None,
+        (None, Some(code)) => Some(Form::One(code)),
+        (Some(code), None) => Some(Form::One(code)),
+        (Some(short), Some(long)) => Some(Form::BySize(short, long)),
     }
 }
 
@@ -74,14 +80,13 @@ fn absolute_mode(index: Index) -> Mode
     }
 }
 
-/// Whether there is no index.
-fn is_unindexed(index: Index) -> bool
-    ensures { result ≡ is_unindexed index }
+/// A branch's form: its target is an unindexed operand.
+fn branch_form(profile: Profile, mnemonic: Mnemonic, index: Index) -> Option<Form>
+    ensures { shown seen_form result ≡ branch_form profile mnemonic index }
 {
     match index {
-        Index::Unindexed => true,
-        Index::X => false,
-        Index::Y => false,
+        Index::Unindexed => only(profile, mnemonic, Mode::Rel),
+        Index::X | Index::Y => None,
     }
 }
 
@@ -89,25 +94,23 @@ fn is_unindexed(index: Index) -> bool
 fn direct_form(profile: Profile, mnemonic: Mnemonic, index: Index) -> Option<Form>
     ensures { shown seen_form result ≡ direct_form profile mnemonic index }
 {
-    if is_unindexed(index) & has_row(profile, mnemonic, Mode::Rel) {
-        return Some(Form::One(Mode::Rel));
+    match branch_form(profile, mnemonic, index) {
+        Some(form) => Some(form),
+        None => either(
+            in_mode(profile, mnemonic, zero_page_mode(index)),
+            in_mode(profile, mnemonic, absolute_mode(index)),
+        ),
     }
-    either(
-        profile,
-        mnemonic,
-        zero_page_mode(index),
-        absolute_mode(index),
-    )
 }
 
 /// The form for a pointer in round brackets: an address, or where the instruction has no such mode one in the zero page.
 fn pointer_form(profile: Profile, mnemonic: Mnemonic) -> Option<Form>
     ensures { shown seen_form result ≡ pointer_form profile mnemonic }
 {
-    if has_row(profile, mnemonic, Mode::Ind) {
-        return Some(Form::One(Mode::Ind));
+    match only(profile, mnemonic, Mode::Ind) {
+        Some(form) => Some(form),
+        None => only(profile, mnemonic, Mode::IndZ),
     }
-    only(profile, mnemonic, Mode::IndZ)
 }
 
 /// The form for an operand, if the instruction has one.

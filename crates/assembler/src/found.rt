@@ -7,8 +7,9 @@ ghost use Rattle.asm_line.specs.Seen.{seen, seen_line};
 ghost use Rattle.assembler.specs.Sites.{content_by, line_content};
 ghost use Rattle.model.specs.Layout.{size_of};
 
+use crate::forms::Code;
 use crate::kept::{Kept, Span};
-use crate::layout::{Code, Site};
+use crate::layout::Site;
 use asm_line::{Line, Statement};
 use std::alloc::{AllocError, Global};
 

@@ -5,7 +5,7 @@ ghost use Rattle.asm_line.specs.Seen.{seen};
 ghost use Rattle.assembler.specs.Sites.{content_by};
 ghost use Rattle.model.specs.Layout.{size_of};
 
-use crate::layout::Code;
+use crate::forms::Code;
 use asm_line::Statement;
 
 /// Where a line stands, and how many bytes it has.

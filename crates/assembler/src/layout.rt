@@ -4,23 +4,15 @@ ghost use Rattle.std.specs.Prelude.{None, ◌≡◌, ◌+◌, ◌-◌, ◌<◌, 
 ghost use Rattle.asm_expr.specs.Trees.{view};
 ghost use Rattle.asm_line.specs.Seen.{seen, seen_item, seen_operand};
 ghost use Rattle.asm_line.specs.FewBytes.{IsSmall};
-ghost use Rattle.assembler.specs.Sites.{Shows, content_by, seen_form, shown, site_of};
-ghost use Rattle.model.specs.Layout.{in_memory, length_in, mode_by, placing, sized, after_room, item_size, items_size, laid, size_of};
+ghost use Rattle.assembler.specs.Sites.{Shows, content_by, seen_code, seen_form, shown, site_of};
+ghost use Rattle.model.specs.Layout.{in_memory, coded_by, length_in, placing, sized, after_room, item_size, items_size, laid, size_of};
 ghost use Rattle.model.specs.Value.{eval_of};
 ghost use Rattle.model.specs.Line.{instruction};
 
-use crate::forms::{Form, form_of, term_of};
+use crate::forms::{Code, Form, form_of, term_of};
 use asm_expr::{Expr, Names, eval};
 use asm_line::{Item, Operand, Statement};
 use model::{AsmFaultKind, ExprFault, Mnemonic, Mode, Profile};
-use optable::encode_in;
-
-/// An instruction's opcode, and the mode in which its operand stands after it.
-#[derive(Clone, Copy)]
-pub struct Code {
-    pub opcode: u8,
-    pub mode: Mode,
-}
 
 /// What a line's instruction is encoded by, if it has one, its byte count, and the next line's address.
 #[derive(Clone, Copy)]
@@ -65,8 +57,8 @@ pub fn value_at<N: Names>(expr: &Expr<'_>, names: &N, address: u32) -> Result<i3
 }
 
 /// Of two modes the one that a value takes: the zero page mode where it is 0..255, the absolute one where a name is not known.
-fn sized(short: Mode, long: Mode, value: Result<i32, ExprFault>) -> Result<Mode, AsmFaultKind>
-    ensures { result ≡ sized short long value }
+fn sized(short: Code, long: Code, value: Result<i32, ExprFault>) -> Result<Code, AsmFaultKind>
+    ensures { Shows seen_code result (sized (seen_code short) (seen_code long) value) }
 {
     match value {
         Ok(number) => {
@@ -82,19 +74,19 @@ fn sized(short: Mode, long: Mode, value: Result<i32, ExprFault>) -> Result<Mode,
     }
 }
 
-/// The mode of an instruction, by the value of its operand where that decides.
-fn mode_of<N: Names>(
+/// How an instruction is encoded, by the value of its operand where that decides.
+fn code_of<N: Names>(
     address: u32,
     names: &N,
     value: Option<&Expr<'_>>,
     form: Option<Form>,
-) -> Result<Mode, AsmFaultKind>
+) -> Result<Code, AsmFaultKind>
     requires { address < 2 ^ 31 }
-    ensures { result ≡ mode_by (N.number_of names.now) address (shown (λ e. view e.now) value.entry) (shown seen_form form) }
+    ensures { Shows seen_code result (coded_by (N.number_of names.now) address (shown (λ e. view e.now) value.entry) (shown seen_form form)) }
 {
     match form {
         None => Err(AsmFaultKind::NoSuchForm),
-        Some(Form::One(mode)) => Ok(mode),
+        Some(Form::One(code)) => Ok(code),
         Some(Form::BySize(short, long)) => match value {
             None => Ok(long),
             Some(value) => sized(short, long, value_at(value, names, address)),
@@ -192,14 +184,13 @@ fn instruct<N: Names>(
     ensures small { IfOk result (λ s. s.count ≤ 510) }
     ensures sized { IfOk result (λ s. s.count ≡ size_of (content_by s.code (instruction mnemonic (seen_operand operand.now)))) }
 {
-    let mode = mode_of(
+    let code = code_of(
         address,
         names,
         term_of(operand),
         form_of(profile, mnemonic, operand),
     )?;
-    let opcode = encode_in(profile, mnemonic, mode).unwrap_or(0);
-    Ok(Site::standing(address, Some(Code { opcode, mode }), length_in(mode)))
+    Ok(Site::standing(address, Some(code), length_in(code.mode)))
 }
 
 /// A statement at an address, or its layout fault.

@@ -1,12 +1,12 @@
 -- Worked examples, computed from the definitions. A list that ends early stands for memory: what is past its end reads as 0.
 use Rattle.std.proofs.Common.{◌≡◌, ℕ, Bool, true, false, List, [], ◌∷◌, ◌++◌, length, replicate, refl, codes}
-use Rattle.std.specs.Prelude.{◌==◌, ◌||◌, ◌&&◌, not, decimal, Ok, Err, None, Some}
-use Rattle.model.specs.State.{Map, State, is_map, is_port, is_rom, overflows, byte_read, after_read, after_write}
+use Rattle.std.specs.Prelude.{◌==◌, ◌||◌, ◌&&◌, not, decimal, Result, Ok, Err, None, Some}
+use Rattle.model.specs.State.{Map, Bus, State, is_map, is_port, is_rom, overflows, byte_read, after_read, after_write}
 use Rattle.model.specs.Operand.{effective_address, word_at, word_in_page, jump_target}
 use Rattle.model.specs.Arithmetic.{adc, sbc}
 use Rattle.model.specs.Effect.{operation_of, loaded, load, operand, after_operand, moved, store, store_value, modify_a, modified, branch, branches, pushed, pulled, after_pull, pull_x, interrupted, break_entry, performed, status, flags_of_byte}
 use Rattle.model.specs.Table.{Entry, row_at, find_row, table, documented, added}
-use Rattle.model.specs.Step.{step, attempted, executed, advanced, stores}
+use Rattle.model.specs.Step.{step, attempted, executed, advanced, entered, stores}
 use Rattle.model.specs.Event.{no_regs, no_flags, reset_of, reset_state}
 use Rattle.model.specs.Lines.{lines_from, lines_of}
 use Rattle.model.specs.Commands.{command_of, command_of_words, set_command}
@@ -20,6 +20,7 @@ use Rattle.model.specs.contracts.instruction.Mnemonic as mnemonic
 use Rattle.model.specs.contracts.instruction.Mode as mode
 use denote.Enum.Bare.{sameb}
 use Rattle.model.specs.declared.command.Command.TheVariants as command
+use Rattle.model.specs.declared.event.EventFault.{EventFault}
 use Rattle.model.specs.declared.event.EventFault.TheVariants as event_fault
 use Rattle.model.specs.declared.event.Setting.TheVariants as setting
 
@@ -126,7 +127,7 @@ plain_map profile = record { profile = profile; rom = None; port = 0xF000 }
 
 abbrev in_profile : Profile → List ℕ → Regs → ℕ → State
 in_profile profile memory regs cycles = record {
-  bus = record { map = plain_map profile; memory = memory; given = []; taken = 0; out = [] };
+  bus = record { map = plain_map profile; memory = memory; given = []; taken = 0; out = []; control = false };
   regs = regs;
   irq = false;
   nmi = false;
@@ -266,6 +267,103 @@ pull_into_x = refl
 increment_a : step (in_profile C (0x1A ∷ []) (record no_regs { a = 0xFF }) 7) ≡ Ok (in_profile C (0x1A ∷ []) (record no_regs { pc = 1; flags = record no_flags { z = true } }) 9)
 unfolding step attempted executed advanced stores performed modify_a modified effective_address operation_of row_at find_row table documented added
 increment_a = refl
+
+-- ---- the port's control byte
+
+-- a bus with 0 or 1 in the control byte, and a port at $F000
+abbrev controlled : Bool → Bus
+controlled control = record { map = plain_map N; memory = []; given = []; taken = 0; out = []; control = control }
+
+-- an odd byte stored at base+3 makes it 1, an even one 0, and base+3 gives it back; the same byte at base+2 leaves it
+control_of_odd : after_write (controlled false) 0xF003 0x83 ≡ controlled true
+unfolding after_write is_port
+control_of_odd = refl
+
+control_of_even : after_write (controlled true) 0xF003 0xFE ≡ controlled false
+unfolding after_write is_port
+control_of_even = refl
+
+control_elsewhere : after_write (controlled false) 0xF002 0x83 ≡ controlled false
+unfolding after_write is_port
+control_elsewhere = refl
+
+control_is_one : byte_read (controlled true) 0xF003 ≡ 1
+unfolding byte_read is_port
+control_is_one = refl
+
+control_is_zero : byte_read (controlled false) 0xF003 ≡ 0
+unfolding byte_read is_port
+control_is_zero = refl
+
+-- a machine at a NOP at 0 with one byte of input; the control byte, how many input bytes were taken, I and the pending NMI are given
+abbrev asking : Bool → ℕ → Bool → Bool → State
+asking control taken i nmi = record {
+  bus = record { map = plain_map N; memory = 0xEA ∷ replicate 0x1FF 0; given = 0x41 ∷ []; taken = taken; out = []; control = control };
+  regs = record no_regs { s = 0xFF; flags = record no_flags { i = i } };
+  irq = false;
+  nmi = nmi;
+  cycles = 7;
+}
+
+-- after an entry: PC and the status are on the stack, I is set, PC comes from the vector, where 0 stands; the input still waits
+abbrev after_entry : State
+after_entry = record {
+  bus = record { map = plain_map N; memory = 0xEA ∷ replicate 0x1FC 0 ++ 0x20 ∷ 0 ∷ 0 ∷ []; given = 0x41 ∷ []; taken = 0; out = []; control = true };
+  regs = record no_regs { s = 0xFC; flags = record no_flags { i = true } };
+  irq = false;
+  nmi = false;
+  cycles = 14;
+}
+
+-- after the NOP
+abbrev after_nop : State → State
+after_nop s = record s { regs = record s.regs { pc = 1 }; cycles = 9 }
+
+-- input waits and I is 0: the IRQ entry, though the line is 0
+input_asks : step (asking true 0 false false) ≡ Ok after_entry
+unfolding step entered interrupted pushed status word_at
+input_asks = refl
+
+-- a pending NMI goes first, and is forgotten
+nmi_before_input : step (asking true 0 false true) ≡ Ok after_entry
+unfolding step entered interrupted pushed status word_at
+nmi_before_input = refl
+
+-- no input waits: the NOP is made
+no_input_asks : step (asking true 1 false false) ≡ Ok (after_nop (asking true 1 false false))
+unfolding step attempted executed advanced stores performed moved effective_address operation_of row_at find_row table documented
+no_input_asks = refl
+
+-- the control byte is 0: the NOP is made
+input_polled : step (asking false 0 false false) ≡ Ok (after_nop (asking false 0 false false))
+unfolding step attempted executed advanced stores performed moved effective_address operation_of row_at find_row table documented
+input_polled = refl
+
+-- I is 1: the NOP is made
+input_masked : step (asking true 0 true false) ≡ Ok (after_nop (asking true 0 true false))
+unfolding step attempted executed advanced stores performed moved effective_address operation_of row_at find_row table documented
+input_masked = refl
+
+-- a reset makes the control byte 0, and leaves the input
+control_reset : (reset_state (asking true 0 false false)).bus ≡ record (asking true 0 false false).bus { control = false }
+unfolding reset_state
+control_reset = refl
+
+-- the entries' vectors: the IRQ's at $FFFE, the NMI's at $FFFA
+abbrev with_vectors : Bool → State
+with_vectors nmi = record (asking true 0 false nmi) { bus = record (asking true 0 false nmi).bus { memory = replicate 0xFFFA 0 ++ 0x00 ∷ 0x03 ∷ 0x00 ∷ 0x02 ∷ 0x00 ∷ 0x04 ∷ [] } }
+
+abbrev pc_after : Result State EventFault → ℕ
+pc_after (Ok s) = s.regs.pc
+pc_after (Err f) = 0
+
+vector_irq : pc_after (step (with_vectors false)) ≡ 0x0400
+unfolding step entered interrupted pushed status word_at
+vector_irq = refl
+
+vector_nmi : pc_after (step (with_vectors true)) ≡ 0x0300
+unfolding step entered interrupted pushed status word_at
+vector_nmi = refl
 
 -- maps
 map_default : is_map None 0xF000 ≡ true

@@ -10,11 +10,11 @@ use Rattle.model.specs.Reading.{expression_of}
 use Rattle.model.specs.Value.{eval_of}
 use Rattle.model.specs.Names.{number_in}
 use Rattle.model.specs.Line.{nothing, bytes, instruction, value, string, labelled, definition, immediate, direct, accumulator, whole_expression, operand_of, list_within, directive_of, statement_of, line_of, is_reserved, read_line}
-use Rattle.model.specs.Layout.{no_bytes, code, size_of, form_of, has_row, laid, line_fixed, layout_of}
+use Rattle.model.specs.Layout.{no_bytes, code, size_of, form_of, laid, line_fixed, layout_of}
 use Rattle.model.specs.Bytes.{byte_piece, address_piece, zero_page_piece, branch_piece, operand_piece, pieces_of, line_bytes, has_bytes, has_port, place_kinds, lower, lowest, value_fault}
 use Rattle.model.specs.Source.{nothing_fixed}
 use Rattle.model.specs.OneLine.{one_line}
-use Rattle.model.specs.Instruction.{row_of, operand_text}
+use Rattle.model.specs.Instruction.{row_of, operand_text, has_row}
 use Rattle.model.specs.Table.{encoded, find_opcode, row_at, find_row, table, documented, added}
 use Rattle.model.specs.declared.instruction.Profile.TheVariants.{N, C}
 use Rattle.model.specs.declared.instruction.Mnemonic.TheVariants.{Asl, Lda}
@@ -103,12 +103,12 @@ reserved_room = refl
 -- a name that a line below defines takes the absolute form, one that a line above defines the zero page form
 below_here : layout_of (record { profile = N; address = 0; names = [] }) (codes "LDA zpname")
     ≡ Ok (record { address = 0; content = code 0xAD Abs (Some (name (codes "zpname"))) }, record { profile = N; address = 3; names = [] })
-unfolding layout_of read_line tokens_of tokens_from token_at line_of statement_of operand_of expression_of is_reserved mnemonic_named named_among mnemonics mnemonic_text line_fixed laid form_of has_row encoded find_opcode table documented eval_of size_of
+unfolding layout_of read_line tokens_of tokens_from token_at line_of statement_of operand_of expression_of is_reserved mnemonic_named named_among mnemonics mnemonic_text line_fixed laid form_of encoded find_opcode table documented eval_of size_of
 below_here = refl
 
 above_here : layout_of (record { profile = N; address = 0; names = (codes "zpname", pos 16) ∷ [] }) (codes "LDA zpname")
     ≡ Ok (record { address = 0; content = code 0xA5 Zp (Some (name (codes "zpname"))) }, record { profile = N; address = 2; names = (codes "zpname", pos 16) ∷ [] })
-unfolding layout_of read_line tokens_of tokens_from token_at line_of statement_of operand_of expression_of is_reserved mnemonic_named named_among mnemonics mnemonic_text line_fixed laid form_of has_row encoded find_opcode table documented eval_of size_of
+unfolding layout_of read_line tokens_of tokens_from token_at line_of statement_of operand_of expression_of is_reserved mnemonic_named named_among mnemonics mnemonic_text line_fixed laid form_of encoded find_opcode table documented eval_of size_of
 above_here = refl
 
 -- ---- profile C
@@ -124,28 +124,28 @@ free_by_profile = refl
 
 -- `!` takes the absolute mode
 store_zero : one_line C 0x0200 (codes "STZ !$10") ≡ Ok (0x9C ∷ 0x10 ∷ 0x00 ∷ [])
-unfolding one_line read_line tokens_of tokens_from token_at line_of statement_of mnemonic_named named_among mnemonics mnemonic_text operand_of whole_expression expression_of is_reserved line_fixed laid form_of has_row encoded find_opcode table documented added eval_of size_of pieces_of operand_piece byte_piece address_piece zero_page_piece branch_piece place_kinds line_bytes lower lowest
+unfolding one_line read_line tokens_of tokens_from token_at line_of statement_of mnemonic_named named_among mnemonics mnemonic_text operand_of whole_expression expression_of is_reserved line_fixed laid form_of encoded find_opcode table documented added eval_of size_of pieces_of operand_piece byte_piece address_piece zero_page_piece branch_piece place_kinds line_bytes lower lowest
 store_zero = refl
 
 -- `(e)` is the zero page mode, but JMP's
 indirect : one_line C 0x0200 (codes "LDA ($10)") ≡ Ok (0xB2 ∷ 0x10 ∷ [])
-unfolding one_line read_line tokens_of tokens_from token_at line_of statement_of mnemonic_named named_among mnemonics mnemonic_text operand_of whole_expression expression_of is_reserved line_fixed laid form_of has_row encoded find_opcode table documented added eval_of size_of pieces_of operand_piece byte_piece address_piece zero_page_piece branch_piece place_kinds line_bytes lower lowest
+unfolding one_line read_line tokens_of tokens_from token_at line_of statement_of mnemonic_named named_among mnemonics mnemonic_text operand_of whole_expression expression_of is_reserved line_fixed laid form_of encoded find_opcode table documented added eval_of size_of pieces_of operand_piece byte_piece address_piece zero_page_piece branch_piece place_kinds line_bytes lower lowest
 indirect = refl
 
 indirect_in_n : one_line N 0x0200 (codes "LDA ($10)") ≡ Err kind.NoSuchForm
-unfolding one_line read_line tokens_of tokens_from token_at line_of statement_of mnemonic_named named_among mnemonics mnemonic_text operand_of whole_expression expression_of is_reserved line_fixed laid form_of has_row encoded find_opcode table documented added eval_of size_of pieces_of operand_piece byte_piece address_piece zero_page_piece branch_piece place_kinds line_bytes lower lowest
+unfolding one_line read_line tokens_of tokens_from token_at line_of statement_of mnemonic_named named_among mnemonics mnemonic_text operand_of whole_expression expression_of is_reserved line_fixed laid form_of encoded find_opcode table documented added eval_of size_of pieces_of operand_piece byte_piece address_piece zero_page_piece branch_piece place_kinds line_bytes lower lowest
 indirect_in_n = refl
 
 indirect_too_high : one_line C 0x0200 (codes "LDA ($100)") ≡ Err kind.ByteRange
-unfolding one_line read_line tokens_of tokens_from token_at line_of statement_of mnemonic_named named_among mnemonics mnemonic_text operand_of whole_expression expression_of is_reserved line_fixed laid form_of has_row encoded find_opcode table documented added eval_of size_of pieces_of operand_piece byte_piece address_piece zero_page_piece branch_piece place_kinds line_bytes lower lowest
+unfolding one_line read_line tokens_of tokens_from token_at line_of statement_of mnemonic_named named_among mnemonics mnemonic_text operand_of whole_expression expression_of is_reserved line_fixed laid form_of encoded find_opcode table documented added eval_of size_of pieces_of operand_piece byte_piece address_piece zero_page_piece branch_piece place_kinds line_bytes lower lowest
 indirect_too_high = refl
 
 jump_indirect : one_line C 0x0200 (codes "JMP ($10)") ≡ Ok (0x6C ∷ 0x10 ∷ 0x00 ∷ [])
-unfolding one_line read_line tokens_of tokens_from token_at line_of statement_of mnemonic_named named_among mnemonics mnemonic_text operand_of whole_expression expression_of is_reserved line_fixed laid form_of has_row encoded find_opcode table documented added eval_of size_of pieces_of operand_piece byte_piece address_piece zero_page_piece branch_piece place_kinds line_bytes lower lowest
+unfolding one_line read_line tokens_of tokens_from token_at line_of statement_of mnemonic_named named_among mnemonics mnemonic_text operand_of whole_expression expression_of is_reserved line_fixed laid form_of encoded find_opcode table documented added eval_of size_of pieces_of operand_piece byte_piece address_piece zero_page_piece branch_piece place_kinds line_bytes lower lowest
 jump_indirect = refl
 
 branch_always : one_line C 0x02FD (codes "BRA $0301") ≡ Ok (0x80 ∷ 0x02 ∷ [])
-unfolding one_line read_line tokens_of tokens_from token_at line_of statement_of mnemonic_named named_among mnemonics mnemonic_text operand_of whole_expression expression_of is_reserved line_fixed laid form_of has_row encoded find_opcode table documented added eval_of size_of pieces_of operand_piece byte_piece address_piece zero_page_piece branch_piece place_kinds line_bytes lower lowest
+unfolding one_line read_line tokens_of tokens_from token_at line_of statement_of mnemonic_named named_among mnemonics mnemonic_text operand_of whole_expression expression_of is_reserved line_fixed laid form_of encoded find_opcode table documented added eval_of size_of pieces_of operand_piece byte_piece address_piece zero_page_piece branch_piece place_kinds line_bytes lower lowest
 branch_always = refl
 
 -- the same as text

@@ -1,11 +1,11 @@
 //! The disassembler: the text of the instructions in some memory. Nothing here takes memory.
 //!
 //! `line_in` gives one row in a profile, `row_text_in` the whole line of it; both are the definition's, in `Instruction.antt` and
-//! `Disassembly.antt` of `model`. `line_at` and `row_text` are the same in profile N.
+//! `Disassembly.antt` of `model`. `line_at` is `line_in` in profile N.
 #![tactic(auto)]
 
 pub use line::{TextLine, line_at, line_in};
-pub use row::{RowText, row_text, row_text_in};
+pub use row::{RowText, row_text_in};
 
 mod letters;
 mod line;

@@ -1,8 +1,7 @@
 //! Operands as text.
 
 ghost use Rattle.std.specs.Prelude.{◌≡◌, ◌≤◌, ◌∷◌, ◌++◌, length};
-ghost use Rattle.model.specs.Instruction.{absolute_text, operand_text, target_of};
-ghost use Rattle.model.specs.Layout.{has_row};
+ghost use Rattle.model.specs.Instruction.{absolute_text, has_row, operand_text, target_of};
 
 use crate::text::{Text, push_bytes, text_of};
 use hexdigits::{digits_of, digits_of_word};
@@ -10,7 +9,7 @@ use model::{Mnemonic, Mode, Profile};
 use optable::encode_in;
 
 /// Whether an instruction has a mode in a profile.
-#[tactic(auto, unfolding(model::specs::Layout::has_row))]
+#[tactic(auto, unfolding(model::specs::Instruction::has_row))]
 fn has_row(profile: Profile, mnemonic: Mnemonic, mode: Mode) -> bool
     ensures { result ≡ has_row profile mnemonic mode }
 {

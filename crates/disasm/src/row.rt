@@ -28,18 +28,6 @@ fn push_bytes(text: &mut Row, bytes: &[u8])
     let _ = text.try_extend_from_slice(bytes);
 }
 
-/// The row with which one to three bytes begin, at their address, in profile N: what `row_text_in` gives for it.
-pub fn row_text(bytes: &[u8], address: u16) -> RowText
-    requires some { 0 < length bytes.now }
-    requires few { length bytes.now ≤ 3 }
-    ensures text { result.text.items ≡ row_line address bytes.now (row_of Profile.N bytes.now address) }
-    ensures len { result.len ≡ (row_of Profile.N bytes.now address).len }
-    ensures within { result.len ≤ length bytes.now }
-    ensures some { 0 < result.len }
-{
-    row_text_in(Profile::N, bytes, address)
-}
-
 /// The row with which one to three bytes begin, at their address, in a profile: the address, two spaces, the row's bytes in 8
 /// columns, two spaces, its text, and LF. (Profile.)
 #[tactic(auto, unfolding(model::specs::Disassembly::row_line), using(crate::proofs::Columns::all_of))]

@@ -1,4 +1,3 @@
-pub mod Fronts
 pub mod Feeds
 pub mod Outcomes
 pub mod Refused

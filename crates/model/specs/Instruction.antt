@@ -1,14 +1,13 @@
 -- The text of an instruction. Source: profile; the forms are those of the MCS6500 manual, chapters 4 to 6.
-use Rattle.std.specs.Prelude.{ℕ, ◌+◌, ◌*◌, ◌%◌, ◌&&◌, nat_lt, nat_le, if◌then◌else◌, List, [], ◌∷◌, ◌++◌, codes, length, Option, Some, None, slice_index}
+use Rattle.std.specs.Prelude.{ℕ, ◌+◌, ◌*◌, ◌%◌, ◌&&◌, nat_lt, nat_le, if◌then◌else◌, List, [], ◌∷◌, ◌++◌, codes, length, Bool, Option, Some, None, is_some, slice_index}
 use Rattle.model.specs.declared.instruction.Profile.{Profile}
 use Rattle.model.specs.declared.instruction.Mnemonic.{Mnemonic}
 use Rattle.model.specs.declared.instruction.Mode.{Mode}
 use Rattle.model.specs.declared.instruction.Mode.TheVariants.{Imp, Acc, Imm, Zp, ZpX, ZpY, Abs, AbsX, AbsY, IndX, IndY, Ind, Rel, IndZ}
 use Rattle.model.specs.declared.instruction.Row.{Row}
-use Rattle.model.specs.Table.{row_at}
+use Rattle.model.specs.Table.{row_at, encoded}
 use Rattle.model.specs.Mnemonics.{mnemonic_text}
 use Rattle.model.specs.Operand.{distance}
-use Rattle.model.specs.Layout.{has_row}
 use Rattle.model.specs.Text.{hex_byte, hex_word}
 
 -- `$` and two hex digits, `$` and four.
@@ -17,6 +16,10 @@ byte_text b = 36 ∷ hex_byte b
 
 abbrev pub word_text : ℕ → List ℕ
 word_text w = 36 ∷ hex_word w
+
+-- Whether an instruction has a mode in a profile.
+unfoldable pub has_row : Profile → Mnemonic → Mode → Bool
+has_row profile m mode = is_some (encoded profile m mode)
 
 -- An address in an absolute mode: after a `!` where it is below $0100 and the mnemonic has the zero page mode with the same index.
 abbrev pub absolute_text : Profile → Mnemonic → Mode → ℕ → List ℕ

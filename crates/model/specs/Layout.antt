@@ -1,5 +1,6 @@
 -- Where the lines of a source stand, which form each instruction takes, and which names have which numbers. Source: profile.
-use Rattle.std.specs.Prelude.{◌≡◌, ℕ, ◌+◌, ◌*◌, ◌<◌, nat_le, ℤ, pos, negsuc, Bool, true, false, ◌&&◌, ◌==◌, if◌then◌else◌, List, [], ◌∷◌, ◌++◌, length, map, Option, Some, None, is_some, unwrap_or, Result, Ok, Err}
+use Rattle.std.specs.Prelude.{◌≡◌, ℕ, ◌+◌, ◌*◌, ◌<◌, nat_le, ℤ, pos, negsuc, Bool, true, false, ◌==◌, if◌then◌else◌, List, [], ◌∷◌, ◌++◌, length, map, Option, Some, None, is_some, Result, Ok, Err}
+use Rattle.std.specs.Option.{option_map, option_or}
 use Rattle.model.specs.declared.expression.ExprFault.{ExprFault}
 use Rattle.model.specs.declared.expression.ExprFault.TheVariants as expression
 use Rattle.model.specs.declared.line.Index.{Index}
@@ -58,39 +59,44 @@ absolute_mode Unindexed = Abs
 absolute_mode X = AbsX
 absolute_mode Y = AbsY
 
-abbrev pub is_unindexed : Index → Bool
-is_unindexed Unindexed = true
-is_unindexed X = false
-is_unindexed Y = false
+-- How an instruction is encoded: its opcode, and the mode in which its operand stands after it.
+pub record Coded : Type 0 where
+  pub opcode : ℕ
+  pub mode : Mode
 
--- The form of an instruction: one mode, or by the operand's value one of two, the zero page mode before the absolute one.
+-- A mnemonic in a mode, if the table has it.
+abbrev pub in_mode : Profile → Mnemonic → Mode → Option Coded
+in_mode profile m mode = option_map (λ opcode. record { opcode = opcode; mode = mode }) (encoded profile m mode)
+
+-- The form of an instruction: encoded in one way, or by the operand's value in one of two, in the zero page mode or in the absolute one.
 pub data Form : Type 0 where
-  one : Mode → Form
-  by_size : Mode → Mode → Form
-
-unfoldable pub has_row : Profile → Mnemonic → Mode → Bool
-has_row profile m mode = is_some (encoded profile m mode)
+  one : Coded → Form
+  by_size : Coded → Coded → Form
 
 -- One mode, if the table has it.
 abbrev pub only : Profile → Mnemonic → Mode → Option Form
-only profile m mode = if has_row profile m mode then Some (one mode) else None
+only profile m mode = option_map one (in_mode profile m mode)
 
 -- Of two modes those that the table has.
-abbrev pub either : Profile → Mnemonic → Mode → Mode → Option Form
-either profile m short long =
-    if has_row profile m short then (if has_row profile m long then Some (by_size short long) else Some (one short))
-    else only profile m long
+abbrev pub either : Option Coded → Option Coded → Option Form
+either None long = option_map one long
+either (Some short) None = Some (one short)
+either (Some short) (Some long) = Some (by_size short long)
 
--- The form for an operand, if the mnemonic has one in a profile. An unindexed operand of a branch is its target; `!` takes the absolute mode.
+-- A branch's form: its target is an unindexed operand.
+abbrev pub branch_form : Profile → Mnemonic → Index → Option Form
+branch_form profile m Unindexed = only profile m Rel
+branch_form profile m X = None
+branch_form profile m Y = None
+
+-- The form for an operand, if the mnemonic has one in a profile. `!` takes the absolute mode.
 unfoldable pub form_of : Profile → Mnemonic → Operand → Option Form
 form_of profile m absent = only profile m Imp
 form_of profile m accumulator = only profile m Acc
 form_of profile m (immediate e) = only profile m Imm
 form_of profile m (direct true e by) = only profile m (absolute_mode by)
-form_of profile m (direct false e by) =
-    if is_unindexed by && has_row profile m Rel then Some (one Rel)
-    else either profile m (zero_page_mode by) (absolute_mode by)
-form_of profile m (pointer e) = if has_row profile m Ind then Some (one Ind) else only profile m IndZ
+form_of profile m (direct false e by) = option_or (branch_form profile m by) (either (in_mode profile m (zero_page_mode by)) (in_mode profile m (absolute_mode by)))
+form_of profile m (pointer e) = option_or (only profile m Ind) (only profile m IndZ)
 form_of profile m (pointer_by_x e) = only profile m IndX
 form_of profile m (pointer_by_y e) = only profile m IndY
 
@@ -108,18 +114,18 @@ is_byte (pos n) = nat_le n 255
 is_byte (negsuc n) = false
 
 -- The zero page mode is taken exactly where all names are known and the value is 0..255.
-abbrev pub sized : Mode → Mode → Result ℤ ExprFault → Result Mode AsmFaultKind
+abbrev pub sized : Coded → Coded → Result ℤ ExprFault → Result Coded AsmFaultKind
 sized short long (Ok v) = if is_byte v then Ok short else Ok long
 sized short long (Err expression.UnknownName) = Ok long
 sized short long (Err expression.Range) = Err ExprRange
 sized short long (Err expression.DivideByZero) = Err DivideByZero
 
--- The mode of an instruction, by the value of its operand where that decides.
-abbrev pub mode_by : Numbers → ℕ → Option Term → Option Form → Result Mode AsmFaultKind
-mode_by numbers address e None = Err NoSuchForm
-mode_by numbers address e (Some (one mode)) = Ok mode
-mode_by numbers address (Some e) (Some (by_size short long)) = sized short long (eval_of numbers (pos address) e)
-mode_by numbers address None (Some (by_size short long)) = Ok long
+-- How an instruction is encoded, by the value of its operand where that decides.
+abbrev pub coded_by : Numbers → ℕ → Option Term → Option Form → Result Coded AsmFaultKind
+coded_by numbers address e None = Err NoSuchForm
+coded_by numbers address e (Some (one c)) = Ok c
+coded_by numbers address (Some e) (Some (by_size short long)) = sized short long (eval_of numbers (pos address) e)
+coded_by numbers address None (Some (by_size short long)) = Ok long
 
 -- ---- what a line denotes
 
@@ -178,9 +184,6 @@ abbrev pub in_memory : ℤ → Result ℕ AsmFaultKind
 in_memory (pos n) = if nat_le n 65535 then Ok n else Err OriginRange
 in_memory (negsuc n) = Err OriginRange
 
-abbrev pub in_mode : Profile → Mnemonic → ℕ → Option Term → Mode → PlacedAndNext
-in_mode profile m address e mode = standing address (code (unwrap_or (encoded profile m mode) 0) mode e)
-
 -- The address after so many bytes, none of them past 65535.
 abbrev pub after_room : ℕ → ℤ → Result ℕ AsmFaultKind
 after_room address (pos n) = if nat_le (address + n) 65536 then Ok (address + n) else Err OriginRange
@@ -196,7 +199,7 @@ laid profile numbers address (words es) = Ok (standing address (word_list es))
 laid profile numbers address (words_high_first es) = Ok (standing address (word_list_high_first es))
 laid profile numbers address (reserve e) = placing (eval_of numbers (pos address) e) >>> λ v. after_room address v >>> λ n. Ok (going_on address n)
 laid profile numbers address finish = Ok (standing address no_bytes)
-laid profile numbers address (instruction m operand) = mode_by numbers address (term_of operand) (form_of profile m operand) >>> λ mode. Ok (in_mode profile m address (term_of operand) mode)
+laid profile numbers address (instruction m operand) = coded_by numbers address (term_of operand) (form_of profile m operand) >>> λ c. Ok (standing address (code c.opcode c.mode (term_of operand)))
 
 -- ---- the line
 

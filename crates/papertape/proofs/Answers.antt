@@ -8,7 +8,7 @@ use Rattle.papertape.specs.Reading.{AnswersReading, read_of}
 use Rattle.papertape.proofs.Grammar.{SoundRead, read_sound}
 use Rattle.model.specs.declared.tape.TapeFaultKind.{TapeFaultKind}
 use Rattle.papertape.proofs.Faults.{fault_again}
-use Rattle.papertape.proofs.Again.{read_again}
+use Rattle.papertape.proofs.GrammarIsRead.{read_again}
 
 abbrev Read : Type 0
 Read = Result (List (Option ℕ)) TapeFault

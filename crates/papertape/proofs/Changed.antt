@@ -9,7 +9,7 @@ use Rattle.model.specs.declared.tape.TapeFaultKind.TheVariants.{BadChecksum}
 use Rattle.model.specs.Tape.{bytes_of_digits, claim_of, claim_in, AreAllDigits, Part, IsPiece, front_of, TapeDenotes, FirstFault, OneDigitIsRefused}
 use Rattle.papertape.proofs.Digits.{value_small, length-bytes_of}
 use Rattle.papertape.proofs.Texts.{sum-cons}
-use Rattle.papertape.proofs.Again.{read_again}
+use Rattle.papertape.proofs.GrammarIsRead.{read_again}
 use Rattle.papertape.proofs.Faults.{fault_again}
 
 -- one byte is another

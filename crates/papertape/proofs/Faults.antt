@@ -11,7 +11,7 @@ use Rattle.papertape.specs.declared.reading.Place.TheVariants.{Between, Within, 
 use Rattle.model.specs.Tape.{claim_of, needed, AreFewDigits, front_of, count_of, is_skipped, FirstFault, Breaks}
 use Rattle.papertape.specs.Reading.{Progress, settled, step, run, finished, read_of, start, fault_at, ◌>>=◌}
 use Rattle.papertape.proofs.Digits.{address_small}
-use Rattle.papertape.proofs.Again.{run-append, step_few, record_run, end_settled, tail_run, front_run}
+use Rattle.papertape.proofs.GrammarIsRead.{run-append, step_few, record_run, end_settled, tail_run, front_run}
 
 abbrev Answer : Type 0
 Answer = Result (List (Option ℕ)) TapeFault

@@ -1,7 +1,7 @@
 pub mod Digits
 pub mod Steps
 pub mod Grammar
-pub mod Again
+pub mod GrammarIsRead
 pub mod Answers
 pub mod Cuts
 pub mod Lines

@@ -4,7 +4,7 @@ use Rattle.model.specs.declared.tape.TapeFault.{TapeFault}
 use Rattle.model.specs.declared.tape.TapeFaultKind.{TapeFaultKind}
 use Rattle.model.specs.Tape.{TapeDenotes, FirstFault, EachTextIsRead, OneTapeImage, OneTapeFault, TapeImageOrFault}
 use Rattle.papertape.specs.Reading.{read_of}
-use Rattle.papertape.proofs.Again.{read_again}
+use Rattle.papertape.proofs.GrammarIsRead.{read_again}
 use Rattle.papertape.proofs.Faults.{fault_again}
 use Rattle.papertape.proofs.Grammar.{SoundRead, read_sound}
 

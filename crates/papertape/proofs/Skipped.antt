@@ -8,7 +8,7 @@ use Rattle.papertape.specs.declared.reading.Place.TheVariants.{Between, Within, 
 use Rattle.model.specs.Tape.{is_skipped}
 use Rattle.papertape.specs.Reading.{Progress, step}
 use Rattle.papertape.specs.Feeding.{Fed, fed_byte, fed_up_to, seen}
-use Rattle.papertape.proofs.Again.{gap_step, tail_step}
+use Rattle.papertape.proofs.GrammarIsRead.{gap_step, tail_step}
 
 skip_in : (p : Place) (offset b : ℕ) (s : Progress) → s.place ≡ p → p ≢ Within → is_skipped b ≡ true → step offset s b ≡ Ok s
 skip_in Between offset b s e ne h = gap_step offset b s e h

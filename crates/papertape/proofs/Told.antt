@@ -13,7 +13,7 @@ use Rattle.model.specs.TapeFault.{out_of_memory}
 use Rattle.papertape.specs.Reading.{AnswersReading, Progress, step, run, finished, finished_in, read_of, start, ◌>>=◌}
 use Rattle.papertape.specs.Feeding.{Fed, unfed, fed_up_to, fed_byte, fed, ended, said}
 use Rattle.papertape.proofs.Grammar.{SoundRead, read_sound}
-use Rattle.papertape.proofs.Again.{run-append, read_again}
+use Rattle.papertape.proofs.GrammarIsRead.{run-append, read_again}
 use Rattle.papertape.proofs.Faults.{fault_again}
 use Rattle.papertape.proofs.Pieces.{fed-append, fed-Err, fed-run, not_said, said_ok, whole_fed}
 

@@ -16,7 +16,7 @@ use Rattle.papertape.specs.Writing.{front_bytes, cuts, cut_writes}
 use Rattle.papertape.proofs.Runs.{cuts_pieces}
 use Rattle.papertape.proofs.Lines.{AreBytes, bytes_of-encode, claim_line}
 use Rattle.papertape.specs.Reading.{read_of}
-use Rattle.papertape.proofs.Again.{read_again}
+use Rattle.papertape.proofs.GrammarIsRead.{read_again}
 use Rattle.papertape.proofs.Cuts.{whole_write, front_short}
 
 -- what is written in capital digits

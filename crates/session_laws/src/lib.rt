@@ -2,7 +2,8 @@
 //!
 //! No function here does anything: each one's contract is a law, and who needs one calls it. They stand on `model` alone. `proofs` has a file
 //! for each: `Runs` (a run by its first step), `Backs` (going back), `Looks` (looking changes no state), `Told` (what was told so far),
-//! `Unset` and `Polled` (steps, and then sessions, that store no odd byte at base+3).
+//! `Unset` and `Polled` (steps, and then sessions, that store no odd byte at base+3). `Written` has lemmas on beginnings of a text that
+//! was to be written; they stand here because `replies` and `engine` share them.
 #![tactic(auto)]
 
 pub mod law;

@@ -1,6 +1,6 @@
 -- A line's bytes are as many as its size.
 use Rattle.std.proofs.Common.{◌≡◌, ℕ, suc, ◌+◌, ◌*◌, ℤ, Bool, true, false, cond, List, [], ◌∷◌, ◌++◌, map, length, Option, Some, None, Result, Ok, Err, refl, sym, ◌∙◌, ap, subst, append-nil, length-append, arith}
-use Rattle.std.specs.Prelude.{⊤, nat_le, ◌||◌, ◌%◌, ◌-ℤ◌, pos, if◌then◌else◌, unwrap_or}
+use Rattle.std.specs.Prelude.{⊤, nat_le, ◌||◌, ◌%◌, ◌-ℤ◌, pos, if◌then◌else◌, option_map}
 use Rattle.std.specs.List.{flat_map}
 use Rattle.model.specs.Table.{encoded}
 use Rattle.model.specs.Expression.{Term}
@@ -8,7 +8,7 @@ use Rattle.model.specs.FaultNames.{source_fault_number}
 use Rattle.model.specs.Value.{Numbers, eval_of}
 use Rattle.model.specs.Names.{number_in}
 use Rattle.model.specs.Line.{Operand, absent, accumulator, immediate, direct, pointer, pointer_by_x, pointer_by_y, Item, value, string, Statement, nothing, origin, bytes, words, words_high_first, reserve, finish, instruction, Line, labelled, definition, read_line}
-use Rattle.model.specs.Layout.{◌>>>◌, length_in, one, has_row, form_of, term_of, mode_by, Content, no_bytes, byte_list, word_list, word_list_high_first, code, items_size, size_of, PlacedAndNext, going_on, placing, in_memory, after_room, in_mode, laid, Fixed, name_of, label_at, Standing, fixing, line_at, is_defined, is_full, unless_full, line_fixed, layout_of}
+use Rattle.model.specs.Layout.{◌>>>◌, length_in, Coded, one, form_of, term_of, coded_by, Content, no_bytes, byte_list, word_list, word_list_high_first, code, items_size, size_of, PlacedAndNext, going_on, placing, in_memory, after_room, standing, laid, Fixed, name_of, label_at, Standing, fixing, line_at, is_defined, is_full, unless_full, line_fixed, layout_of}
 use Rattle.model.specs.Bytes.{BytesOrFault, modulo, within, word_bytes, word_bytes_high_first, byte_piece, zero_page_piece, word_piece, word_piece_high_first, address_piece, distance_piece, branch_piece, operand_piece, item_piece, pieces_of, bytes_in, kind_in, kinds_in, line_bytes, lower, lowest, place_kinds, value_fault, BytesFillTheirSize}
 use Rattle.model.specs.declared.expression.ExprFault.{ExprFault}
 use Rattle.model.specs.declared.instruction.Profile.{Profile}
@@ -166,20 +166,21 @@ IsWholePlace place = IsWhole place.0.content
 of_place : (x y : PlacedAndNext) → right PlacedAndNext x ≡ Ok y → IsWholePlace x → IsWholePlace y
 of_place x y h w = subst IsWholePlace (ok_same x y h) w
 
-only_by : (numbers : Numbers) (address : ℕ) (b : Bool) (mode taken : Mode) → length_in mode ≡ 1 → mode_by numbers address None (cond b (Some (one mode)) None) ≡ Ok taken → length_in taken ≡ 1
-only_by numbers address true mode taken short h = ap length_in (sym (ok_same mode taken h)) ∙ short
-only_by numbers address false mode taken short h = cc
+only_by : (numbers : Numbers) (address : ℕ) (opcode : Option ℕ) (mode : Mode) (c : Coded) → length_in mode ≡ 1
+    → coded_by numbers address None (option_map one (option_map (λ o. record { opcode = o; mode = mode }) opcode)) ≡ Ok c → length_in c.mode ≡ 1
+only_by numbers address (Some opcode) mode c short h = ap (λ (x : Coded). length_in x.mode) (sym (ok_same (record { opcode = opcode; mode = mode }) c h)) ∙ short
+only_by numbers address None mode c short h = cc
 
-mode_whole : (profile : Profile) (numbers : Numbers) (address opcode : ℕ) (m : Mnemonic) (operand : Operand) (mode : Mode) → mode_by numbers address (term_of operand) (form_of profile m operand) ≡ Ok mode
-    → IsWhole (code opcode mode (term_of operand))
+code_whole : (profile : Profile) (numbers : Numbers) (address : ℕ) (m : Mnemonic) (operand : Operand) (c : Coded) → coded_by numbers address (term_of operand) (form_of profile m operand) ≡ Ok c
+    → IsWhole (code c.opcode c.mode (term_of operand))
 unfolding form_of
-mode_whole profile numbers address opcode m absent mode h = only_by numbers address (has_row profile m Imp) Imp mode refl h
-mode_whole profile numbers address opcode m accumulator mode h = only_by numbers address (has_row profile m Acc) Acc mode refl h
-mode_whole profile numbers address opcode m (immediate e) mode h = tt
-mode_whole profile numbers address opcode m (direct marked e by) mode h = tt
-mode_whole profile numbers address opcode m (pointer e) mode h = tt
-mode_whole profile numbers address opcode m (pointer_by_x e) mode h = tt
-mode_whole profile numbers address opcode m (pointer_by_y e) mode h = tt
+code_whole profile numbers address m absent c h = only_by numbers address (encoded profile m Imp) Imp c refl h
+code_whole profile numbers address m accumulator c h = only_by numbers address (encoded profile m Acc) Acc c refl h
+code_whole profile numbers address m (immediate e) c h = tt
+code_whole profile numbers address m (direct marked e by) c h = tt
+code_whole profile numbers address m (pointer e) c h = tt
+code_whole profile numbers address m (pointer_by_x e) c h = tt
+code_whole profile numbers address m (pointer_by_y e) c h = tt
 
 laid_whole : (profile : Profile) (numbers : Numbers) (address : ℕ) (s : Statement) (place : PlacedAndNext) → laid profile numbers address s ≡ Ok place → IsWholePlace place
 unfolding laid
@@ -197,8 +198,8 @@ laid_whole profile numbers address (reserve e) place h =
     of_place (going_on address n.0) place n.2 tt
 laid_whole profile numbers address finish place h = of_place _ place h tt
 laid_whole profile numbers address (instruction m operand) place h =
-    let mode = bind_ok (mode_by numbers address (term_of operand) (form_of profile m operand)) _ place h in
-    of_place (in_mode profile m address (term_of operand) mode.0) place mode.2 (mode_whole profile numbers address (unwrap_or (encoded profile m mode.0) 0) m operand mode.0 mode.1)
+    let c = bind_ok (coded_by numbers address (term_of operand) (form_of profile m operand)) _ place h in
+    of_place (standing address (code c.0.opcode c.0.mode (term_of operand))) place c.2 (code_whole profile numbers address m operand c.0 c.1)
 
 abbrev IsWholeStanding : Standing → Type 0
 IsWholeStanding x = IsWhole x.0.content

@@ -1,5 +1,5 @@
 -- What the processor's accesses, patches and input make of a bus is a bus.
-use Rattle.std.proofs.Common.{◌≡◌, ◌≢◌, ℕ, ◌+◌, ◌<◌, ◌≤◌, Bool, true, false, cond, List, [], ◌∷◌, ◌++◌, length, Option, refl, sym, ap, ◌∙◌, arith, length-append, true≢false}
+use Rattle.std.proofs.Common.{◌≡◌, ◌≢◌, ℕ, ◌+◌, ◌%◌, ◌<◌, ◌≤◌, Bool, true, false, cond, List, [], ◌∷◌, ◌++◌, length, Option, refl, sym, ap, ◌∙◌, arith, length-append, true≢false}
 use Rattle.std.specs.Prelude.{slice_index, ◌&&◌, ◌||◌, ◌==◌, nat_le, nat_lt}
 use Rattle.std.proofs.lemmas.List.{length-set, get_or-set_other}
 use Rattle.std.proofs.lemmas.List.Elements.{All-set, All-push, All-head, All-tail}
@@ -87,6 +87,22 @@ becomes_given bus byte h small room = record { bus = kept; map = refl } where
     out_room = h.out_room;
   }
 
+-- a bus is one with either control byte
+pub becomes_controlled : (bus : Bus) (control : Bool) → IsBus bus → Becomes bus (record bus { control = control })
+becomes_controlled bus control h = record { bus = kept; map = refl } where
+  kept : IsBus (record bus { control = control })
+  kept = record {
+    map = h.map;
+    size = h.size;
+    memory = h.memory;
+    port = h.port;
+    given = h.given;
+    given_room = h.given_room;
+    taken = h.taken;
+    out = h.out;
+    out_room = h.out_room;
+  }
+
 taken_one : (bus : Bus) → IsBus bus → bus.taken < length bus.given → Becomes bus (record bus { taken = bus.taken + 1 })
 taken_one bus h waits = record { bus = kept; map = refl } where
   kept : IsBus (record bus { taken = bus.taken + 1 })
@@ -113,29 +129,34 @@ pub becomes_read : (bus : Bus) (address : ℕ) → IsBus bus → Becomes bus (af
 unfolding after_read
 becomes_read bus address h = read_by bus (address == bus.map.port + 1) (input_waits bus) h refl
 
-read_small_by : (bus : Bus) (address : ℕ) (port first second waits : Bool) → IsBus bus
-    → cond port (cond first (cond waits (slice_index bus.given bus.taken) 0) (cond second (cond waits 1 0) 0)) (slice_index bus.memory address) < 256
-read_small_by bus address false first second waits h = byte_small bus.memory address h.memory
-read_small_by bus address true true second true h = byte_small bus.given bus.taken h.given
-read_small_by bus address true true second false h = omega arith
-read_small_by bus address true false true true h = omega arith
-read_small_by bus address true false true false h = omega arith
-read_small_by bus address true false false waits h = omega arith
+one_or_none : (is : Bool) → cond is 1 0 < 256
+one_or_none true = omega arith
+one_or_none false = omega arith
+
+read_small_by : (bus : Bus) (address : ℕ) (port first second third waits : Bool) → IsBus bus
+    → cond port (cond first (cond waits (slice_index bus.given bus.taken) 0) (cond second (cond waits 1 0) (cond third (cond bus.control 1 0) 0))) (slice_index bus.memory address) < 256
+read_small_by bus address false first second third waits h = byte_small bus.memory address h.memory
+read_small_by bus address true true second third true h = byte_small bus.given bus.taken h.given
+read_small_by bus address true true second third false h = omega arith
+read_small_by bus address true false true third waits h = one_or_none waits
+read_small_by bus address true false false true waits h = one_or_none bus.control
+read_small_by bus address true false false false waits h = omega arith
 
 pub read_small : (bus : Bus) (address : ℕ) → IsBus bus → byte_read bus address < 256
 unfolding byte_read
-read_small bus address h = read_small_by bus address (is_port bus.map address) (address == bus.map.port + 1) (address == bus.map.port + 2) (input_waits bus) h
+read_small bus address h = read_small_by bus address (is_port bus.map address) (address == bus.map.port + 1) (address == bus.map.port + 2) (address == bus.map.port + 3) (input_waits bus) h
 
-write_by : (bus : Bus) (address value : ℕ) (port first rom : Bool) → IsBus bus → value < 256 → is_port bus.map address ≡ port → (first && nat_le console_size (length bus.out)) ≡ false
-    → Becomes bus (cond port (cond first (record bus { out = bus.out ++ value ∷ [] }) bus) (cond rom bus (stored bus address value)))
-write_by bus address value true true rom h small here room = let less : length bus.out < console_size = grind (arith, nat_tests) in appended bus value h small less
-write_by bus address value true false rom h small here room = stays bus h
-write_by bus address value false first true h small here room = stays bus h
-write_by bus address value false first false h small here room = becomes_stored bus address value h small here
+write_by : (bus : Bus) (address value : ℕ) (port first third rom : Bool) → IsBus bus → value < 256 → is_port bus.map address ≡ port → (first && nat_le console_size (length bus.out)) ≡ false
+    → Becomes bus (cond port (cond first (record bus { out = bus.out ++ value ∷ [] }) (cond third (record bus { control = value % 2 == 1 }) bus)) (cond rom bus (stored bus address value)))
+write_by bus address value true true third rom h small here room = let less : length bus.out < console_size = grind (arith, nat_tests) in appended bus value h small less
+write_by bus address value true false true rom h small here room = becomes_controlled bus (value % 2 == 1) h
+write_by bus address value true false false rom h small here room = stays bus h
+write_by bus address value false first third true h small here room = stays bus h
+write_by bus address value false first third false h small here room = becomes_stored bus address value h small here
 
 pub becomes_written : (bus : Bus) (address value : ℕ) → IsBus bus → value < 256 → overflows bus address ≡ false → Becomes bus (after_write bus address value)
 unfolding after_write overflows
-becomes_written bus address value h small room = write_by bus address value (is_port bus.map address) (address == bus.map.port) (is_rom bus.map address) h small refl room
+becomes_written bus address value h small room = write_by bus address value (is_port bus.map address) (address == bus.map.port) (address == bus.map.port + 3) (is_rom bus.map address) h small refl room
 
 -- a read changes neither the map nor the output
 room_by : (bus : Bus) (address : ℕ) (takes : Bool) → overflows (cond takes (record bus { taken = bus.taken + 1 }) bus) address ≡ overflows bus address

@@ -19,7 +19,7 @@ use Rattle.model.specs.declared.event.Event.TheVariants as event
 use Rattle.model.specs.declared.event.EventFault.TheVariants.{CyclesFull, PastEnd, PortAddress, BadLength, InputFull}
 use Rattle.state_laws.specs.Law.{IsSetting, IsEvent, StartsAreStates, EventsKeepStates}
 use Rattle.state_laws.proofs.Numbers.{word_small, with_flags}
-use Rattle.state_laws.proofs.Buses.{Becomes, becomes_given, becomes_patched}
+use Rattle.state_laws.proofs.Buses.{Becomes, becomes_controlled, becomes_given, becomes_patched}
 use Rattle.state_laws.proofs.Steps.{Follows, step_follows}
 
 abbrev IsByte : ℕ → Type 0
@@ -64,7 +64,7 @@ reset_follows : (s : State) → IsBus s.bus → AreRegs s.regs → s.cycles ≤ 
 unfolding reset_state
 reset_follows s bus regs room = record {
   state = record {
-    bus = bus;
+    bus = (becomes_controlled s.bus false bus).bus;
     regs = record { a = regs.a; x = regs.x; y = regs.y; s = omega arith; pc = word_small s.bus 0xFFFC bus };
     cycles = omega arith;
   };

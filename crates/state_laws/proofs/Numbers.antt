@@ -10,7 +10,7 @@ use Rattle.std.proofs.lemmas.List.Elements.{All-head, All-tail}
 use Rattle.std.proofs.lemmas.List.FromFn.{get_or-map-range_with_len}
 use Rattle.model.specs.State.{Bus, State, AreBytes, IsBus, AreRegs}
 use Rattle.model.specs.Operand.{word_at, word_in_page, jump_target, effective_address, next_byte}
-use Rattle.model.specs.Arithmetic.{bit, modulo, high_part, sbc_low, adc, sbc, asl, rol, lsr, ror, with_carry}
+use Rattle.model.specs.Arithmetic.{bit, modulo, high_part, sbc_low, adc, sbc, asl, rol, lsr, ror}
 use Rattle.model.specs.Effect.{status, modified, loaded, store_value, moved, pulled}
 use Rattle.model.specs.Table.{row_at, find_row, table, documented, added}
 use Rattle.model.specs.declared.registers.Regs.{Regs}

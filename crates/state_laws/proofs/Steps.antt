@@ -6,7 +6,7 @@ use Rattle.model.specs.State.{State, overflows, IsBus, AreRegs, IsState}
 use Rattle.model.specs.Operand.{effective_address}
 use Rattle.model.specs.Effect.{performed, operation_of}
 use Rattle.model.specs.Table.{row_at}
-use Rattle.model.specs.Step.{stores, advanced, executed, attempted, entered, most_cycles, step}
+use Rattle.model.specs.Step.{stores, advanced, executed, attempted, entered, most_cycles, irq_asked, step}
 use Rattle.model.specs.declared.instruction.EffectiveAddress.{EffectiveAddress}
 use Rattle.model.specs.declared.instruction.Row.{Row}
 use Rattle.model.specs.declared.event.EventFault.TheVariants.{CyclesFull, ConsoleFull}
@@ -103,4 +103,4 @@ step_by s after false false false h full e =
 
 pub step_follows : (s after : State) → IsState s → step s ≡ Ok after → Follows s after
 unfolding step
-step_follows s after h e = step_by s after (nat_lt most_cycles s.cycles) s.nmi (s.irq && not s.regs.flags.i) h refl e
+step_follows s after h e = step_by s after (nat_lt most_cycles s.cycles) s.nmi (irq_asked s && not s.regs.flags.i) h refl e

@@ -5,11 +5,10 @@ use Rattle.std.proofs.lemmas.Bool.{cases_Bool, le-leb, lt-leb, le-ltb, ltb-true,
 use Rattle.model.specs.declared.instruction.Profile.{Profile}
 use Rattle.model.specs.declared.instruction.Mnemonic.{Mnemonic}
 use Rattle.model.specs.declared.instruction.Mode.{Mode}
-use Rattle.model.specs.Table.{encoded}
 use Rattle.model.specs.Expression.{Term}
 use Rattle.model.specs.Value.{eval_of}
 use Rattle.model.specs.Line.{Operand}
-use Rattle.model.specs.Layout.{form_of, term_of, mode_by, length_in}
+use Rattle.model.specs.Layout.{form_of, term_of, coded_by, length_in}
 use Rattle.model.specs.Bytes.{operand_piece, byte_piece, zero_page_piece, address_piece, lowest, lower, modulo, branch_piece, distance_piece}
 use Rattle.model.specs.Operand.{distance}
 use Rattle.model.specs.Instruction.{target_of}
@@ -17,22 +16,23 @@ use Rattle.model.specs.Line.{instruction, bytes, value, labelled, read_line}
 use Rattle.model.specs.Layout.{laid, line_fixed, size_of}
 use Rattle.model.specs.Bytes.{line_bytes, pieces_of}
 use Rattle.model.specs.OneLine.{one_line, no_numbers}
+use Rattle.text_laws.proofs.Forms.{as_coded}
 
 pub with_operand : (profile : Profile) (m : Mnemonic) (mode : Mode) (operand : Operand) (e : Term) (a op : ℕ) (text front : List ℕ)
-    → read_line profile text ≡ Ok (labelled None (instruction m operand)) → term_of operand ≡ Some e → mode_by no_numbers a (Some e) (form_of profile m operand) ≡ Ok mode
-    → encoded profile m mode ≡ Some op → length_in mode ≤ 3 → a + length_in mode ≤ 65536 → operand_piece a mode (eval_of no_numbers (pos a) e) ≡ Ok front
+    → read_line profile text ≡ Ok (labelled None (instruction m operand)) → term_of operand ≡ Some e → coded_by no_numbers a (Some e) (form_of profile m operand) ≡ Ok (as_coded op mode)
+    → length_in mode ≤ 3 → a + length_in mode ≤ 65536 → operand_piece a mode (eval_of no_numbers (pos a) e) ≡ Ok front
     → one_line profile a text ≡ Ok (op ∷ front ++ [])
 unfolding one_line line_fixed laid size_of line_bytes pieces_of lowest lower
-with_operand profile m mode operand e a op text front read term taken code small fits piece =
-    rw (read, term, taken, code, le-leb (length_in mode) 3 small, le-leb (a + length_in mode) 65536 fits, piece) refl
+with_operand profile m mode operand e a op text front read term taken small fits piece =
+    rw (read, term, taken, le-leb (length_in mode) 3 small, le-leb (a + length_in mode) 65536 fits, piece) refl
 
 pub without_operand : (profile : Profile) (m : Mnemonic) (mode : Mode) (operand : Operand) (a op : ℕ) (text : List ℕ)
-    → read_line profile text ≡ Ok (labelled None (instruction m operand)) → term_of operand ≡ None → mode_by no_numbers a None (form_of profile m operand) ≡ Ok mode
-    → encoded profile m mode ≡ Some op → length_in mode ≤ 3 → a + length_in mode ≤ 65536
+    → read_line profile text ≡ Ok (labelled None (instruction m operand)) → term_of operand ≡ None → coded_by no_numbers a None (form_of profile m operand) ≡ Ok (as_coded op mode)
+    → length_in mode ≤ 3 → a + length_in mode ≤ 65536
     → one_line profile a text ≡ Ok (op ∷ [])
 unfolding one_line line_fixed laid size_of line_bytes pieces_of lowest lower
-without_operand profile m mode operand a op text read term taken code small fits =
-    rw (read, term, taken, code, le-leb (length_in mode) 3 small, le-leb (a + length_in mode) 65536 fits) refl
+without_operand profile m mode operand a op text read term taken small fits =
+    rw (read, term, taken, le-leb (length_in mode) 3 small, le-leb (a + length_in mode) 65536 fits) refl
 
 -- ---- operands
 

@@ -1,6 +1,6 @@
--- Which mode the assembler takes for what a row's text says.
+-- How the assembler encodes what a row's text says.
 use Rattle.std.proofs.Common.{◌≡◌, ℕ, ◌≤◌, ◌<◌, pos, Bool, true, false, map, refl, inl, inr, arith}
-use Rattle.std.specs.Prelude.{Some, None, Ok, ◌||◌, ◌&&◌}
+use Rattle.std.specs.Prelude.{Option, Some, None, is_some, option_map, Ok, ◌||◌, ◌&&◌}
 use Rattle.std.proofs.lemmas.Bool.{cases_Bool, le-leb, lt-leb}
 use Rattle.model.specs.declared.instruction.Profile.{Profile}
 use Rattle.model.specs.declared.instruction.Profile.TheVariants.{N, C}
@@ -10,10 +10,11 @@ use Rattle.model.specs.declared.instruction.Mode.TheVariants.{Imp, Acc, Imm, Zp,
 use Rattle.model.specs.declared.line.Index.{Index}
 use Rattle.model.specs.declared.line.Index.TheVariants.{Unindexed, X, Y}
 use Rattle.model.specs.Table.{encoded, find_opcode, table, documented, added}
+use Rattle.model.specs.Instruction.{has_row}
 use Rattle.model.specs.Expression.{Term, literal}
 use Rattle.model.specs.Value.{Numbers, eval_of}
 use Rattle.model.specs.Line.{absent, accumulator, immediate, direct, pointer, pointer_by_x, pointer_by_y}
-use Rattle.model.specs.Layout.{form_of, has_row, either, mode_by, zero_page_mode, absolute_mode, is_unindexed}
+use Rattle.model.specs.Layout.{form_of, Coded, in_mode, either, branch_form, coded_by, zero_page_mode, absolute_mode}
 use Rattle.table_laws.proofs.Encoding.{all_mnemonics, all_modes, same_at_each}
 
 -- a number as an expression
@@ -40,14 +41,30 @@ never_both_pointers C = refl
 apart : (profile : Profile) (m : Mnemonic) → both profile m Imp ≡ false
 apart profile m = same_at_each (both profile) (λ m d. false) (never_both profile) m Imp
 
-no_pointer : (profile : Profile) (m : Mnemonic) → has_row profile m IndZ ≡ true → has_row profile m Ind ≡ false
-no_pointer profile m h = rw h at (same_at_each (both_pointers profile) (λ m d. false) (never_both_pointers profile) m Imp)
+-- an opcode in a mode
+abbrev pub as_coded : ℕ → Mode → Coded
+as_coded op mode = record { opcode = op; mode = mode }
 
-no_branch : (profile : Profile) (m : Mnemonic) → has_row profile m Zp ≡ true → has_row profile m Rel ≡ false
-no_branch profile m zp = rw zp at (apart profile m)
+pub has_code : (profile : Profile) (m : Mnemonic) (d : Mode) (op : ℕ) → encoded profile m d ≡ Some op → has_row profile m d ≡ true
+unfolding has_row
+has_code profile m d op code = rw code refl
 
-no_branch_long : (profile : Profile) (m : Mnemonic) → has_row profile m Abs ≡ true → has_row profile m Rel ≡ false
-no_branch_long profile m long = by (has_row profile m Zp) (has_row profile m Abs) (has_row profile m Rel) long (apart profile m)
+no_code : (profile : Profile) (m : Mnemonic) (d : Mode) → has_row profile m d ≡ false → encoded profile m d ≡ None
+unfolding has_row
+no_code profile m d h = by (encoded profile m d) h
+  where
+    by : (code : Option ℕ) → is_some code ≡ false → code ≡ None
+    by None e = refl
+    by (Some op) e = absurd cc
+
+no_pointer : (profile : Profile) (m : Mnemonic) (op : ℕ) → encoded profile m IndZ ≡ Some op → encoded profile m Ind ≡ None
+no_pointer profile m op code = no_code profile m Ind (rw (has_code profile m IndZ op code) at (same_at_each (both_pointers profile) (λ m d. false) (never_both_pointers profile) m Imp))
+
+no_branch : (profile : Profile) (m : Mnemonic) (op : ℕ) → encoded profile m Zp ≡ Some op → encoded profile m Rel ≡ None
+no_branch profile m op code = no_code profile m Rel (rw (has_code profile m Zp op code) at (apart profile m))
+
+no_branch_long : (profile : Profile) (m : Mnemonic) (op : ℕ) → encoded profile m Abs ≡ Some op → encoded profile m Rel ≡ None
+no_branch_long profile m op code = no_code profile m Rel (by (has_row profile m Zp) (has_row profile m Abs) (has_row profile m Rel) (has_code profile m Abs op code) (apart profile m))
   where
     by : (a b c : Bool) → b ≡ true → ((a || b) && c) ≡ false → c ≡ false
     by true b c h e = e
@@ -56,79 +73,80 @@ no_branch_long profile m long = by (has_row profile m Zp) (has_row profile m Abs
 
 -- ---- one mode
 
-pub implied_mode : (profile : Profile) (m : Mnemonic) (n : Numbers) (a : ℕ) → has_row profile m Imp ≡ true → mode_by n a None (form_of profile m absent) ≡ Ok Imp
+pub implied_code : (profile : Profile) (m : Mnemonic) (n : Numbers) (a op : ℕ) → encoded profile m Imp ≡ Some op → coded_by n a None (form_of profile m absent) ≡ Ok (as_coded op Imp)
 unfolding form_of
-implied_mode profile m n a h = rw h refl
+implied_code profile m n a op code = rw code refl
 
-pub accumulator_mode : (profile : Profile) (m : Mnemonic) (n : Numbers) (a : ℕ) → has_row profile m Acc ≡ true → mode_by n a None (form_of profile m accumulator) ≡ Ok Acc
+pub accumulator_code : (profile : Profile) (m : Mnemonic) (n : Numbers) (a op : ℕ) → encoded profile m Acc ≡ Some op → coded_by n a None (form_of profile m accumulator) ≡ Ok (as_coded op Acc)
 unfolding form_of
-accumulator_mode profile m n a h = rw h refl
+accumulator_code profile m n a op code = rw code refl
 
-pub immediate_mode : (profile : Profile) (m : Mnemonic) (n : Numbers) (a : ℕ) (e : Term) → has_row profile m Imm ≡ true → mode_by n a (Some e) (form_of profile m (immediate e)) ≡ Ok Imm
+pub immediate_code : (profile : Profile) (m : Mnemonic) (n : Numbers) (a op : ℕ) (e : Term) → encoded profile m Imm ≡ Some op → coded_by n a (Some e) (form_of profile m (immediate e)) ≡ Ok (as_coded op Imm)
 unfolding form_of
-immediate_mode profile m n a e h = rw h refl
+immediate_code profile m n a op e code = rw code refl
 
-pub pointer_mode : (profile : Profile) (m : Mnemonic) (n : Numbers) (a : ℕ) (e : Term) → has_row profile m Ind ≡ true → mode_by n a (Some e) (form_of profile m (pointer e)) ≡ Ok Ind
+pub pointer_code : (profile : Profile) (m : Mnemonic) (n : Numbers) (a op : ℕ) (e : Term) → encoded profile m Ind ≡ Some op → coded_by n a (Some e) (form_of profile m (pointer e)) ≡ Ok (as_coded op Ind)
 unfolding form_of
-pointer_mode profile m n a e h = rw h refl
+pointer_code profile m n a op e code = rw code refl
 
-pub zero_page_pointer_mode : (profile : Profile) (m : Mnemonic) (n : Numbers) (a : ℕ) (e : Term) → has_row profile m IndZ ≡ true → mode_by n a (Some e) (form_of profile m (pointer e)) ≡ Ok IndZ
+pub zero_page_pointer_code : (profile : Profile) (m : Mnemonic) (n : Numbers) (a op : ℕ) (e : Term) → encoded profile m IndZ ≡ Some op → coded_by n a (Some e) (form_of profile m (pointer e)) ≡ Ok (as_coded op IndZ)
 unfolding form_of
-zero_page_pointer_mode profile m n a e h = rw (no_pointer profile m h, h) refl
+zero_page_pointer_code profile m n a op e code = rw (no_pointer profile m op code, code) refl
 
-pub pointer_by_x_mode : (profile : Profile) (m : Mnemonic) (n : Numbers) (a : ℕ) (e : Term) → has_row profile m IndX ≡ true → mode_by n a (Some e) (form_of profile m (pointer_by_x e)) ≡ Ok IndX
+pub pointer_by_x_code : (profile : Profile) (m : Mnemonic) (n : Numbers) (a op : ℕ) (e : Term) → encoded profile m IndX ≡ Some op → coded_by n a (Some e) (form_of profile m (pointer_by_x e)) ≡ Ok (as_coded op IndX)
 unfolding form_of
-pointer_by_x_mode profile m n a e h = rw h refl
+pointer_by_x_code profile m n a op e code = rw code refl
 
-pub pointer_by_y_mode : (profile : Profile) (m : Mnemonic) (n : Numbers) (a : ℕ) (e : Term) → has_row profile m IndY ≡ true → mode_by n a (Some e) (form_of profile m (pointer_by_y e)) ≡ Ok IndY
+pub pointer_by_y_code : (profile : Profile) (m : Mnemonic) (n : Numbers) (a op : ℕ) (e : Term) → encoded profile m IndY ≡ Some op → coded_by n a (Some e) (form_of profile m (pointer_by_y e)) ≡ Ok (as_coded op IndY)
 unfolding form_of
-pointer_by_y_mode profile m n a e h = rw h refl
+pointer_by_y_code profile m n a op e code = rw code refl
 
-pub branch_mode : (profile : Profile) (m : Mnemonic) (n : Numbers) (a : ℕ) (e : Term) → has_row profile m Rel ≡ true → mode_by n a (Some e) (form_of profile m (direct false e Unindexed)) ≡ Ok Rel
+pub branch_code : (profile : Profile) (m : Mnemonic) (n : Numbers) (a op : ℕ) (e : Term) → encoded profile m Rel ≡ Some op → coded_by n a (Some e) (form_of profile m (direct false e Unindexed)) ≡ Ok (as_coded op Rel)
 unfolding form_of
-branch_mode profile m n a e h = rw h refl
+branch_code profile m n a op e code = rw code refl
 
-pub marked_mode : (profile : Profile) (m : Mnemonic) (n : Numbers) (a : ℕ) (e : Term) (by : Index) → has_row profile m (absolute_mode by) ≡ true → mode_by n a (Some e) (form_of profile m (direct true e by)) ≡ Ok (absolute_mode by)
+pub marked_code : (profile : Profile) (m : Mnemonic) (n : Numbers) (a op : ℕ) (e : Term) (by : Index) → encoded profile m (absolute_mode by) ≡ Some op → coded_by n a (Some e) (form_of profile m (direct true e by)) ≡ Ok (as_coded op (absolute_mode by))
 unfolding form_of
-marked_mode profile m n a e by h = rw h refl
+marked_code profile m n a op e by code = rw code refl
 
 -- ---- two modes
 
-short_mode : (profile : Profile) (m : Mnemonic) (n : Numbers) (a v : ℕ) (short long : Mode) → v < 256 → has_row profile m short ≡ true → mode_by n a (Some (of_number v)) (either profile m short long) ≡ Ok short
+short_code : (n : Numbers) (a v : ℕ) (short : Coded) (long : Option Coded) → v < 256 → coded_by n a (Some (of_number v)) (either (Some short) long) ≡ Ok short
 unfolding eval_of
-short_mode profile m n a v short long small h = elim (cases_Bool (has_row profile m long)) [
-  | inl t ↦ rw (h, t, le-leb v 255 (omega (arith, small))) refl
-  | inr f ↦ rw (h, f) refl
-]
+short_code n a v short None small = refl
+short_code n a v short (Some long) small = rw (le-leb v 255 (omega (arith, small))) refl
 
-long_mode : (profile : Profile) (m : Mnemonic) (n : Numbers) (a v : ℕ) (short long : Mode) → (has_row profile m short ≡ true → 256 ≤ v) → has_row profile m long ≡ true → mode_by n a (Some (of_number v)) (either profile m short long) ≡ Ok long
+long_code : (n : Numbers) (a v : ℕ) (short : Option Coded) (long : Coded) → (is_some short ≡ true → 256 ≤ v) → coded_by n a (Some (of_number v)) (either short (Some long)) ≡ Ok long
 unfolding eval_of
-long_mode profile m n a v short long large h = elim (cases_Bool (has_row profile m short)) [
-  | inl t ↦ rw (t, h, lt-leb v 255 (omega (arith, large t))) refl
-  | inr f ↦ rw (f, h) refl
-]
+long_code n a v None long large = refl
+long_code n a v (Some short) long large = rw (lt-leb v 255 (omega (arith, large refl))) refl
 
-not_a_branch : (profile : Profile) (m : Mnemonic) (n : Numbers) (a v : ℕ) (by : Index) (mode : Mode) → (is_unindexed by && has_row profile m Rel) ≡ false
-    → mode_by n a (Some (of_number v)) (either profile m (zero_page_mode by) (absolute_mode by)) ≡ Ok mode → mode_by n a (Some (of_number v)) (form_of profile m (direct false (of_number v) by)) ≡ Ok mode
+no_branch_here : (profile : Profile) (m : Mnemonic) (by : Index) (op : ℕ) → encoded profile m (zero_page_mode by) ≡ Some op → branch_form profile m by ≡ None
+no_branch_here profile m Unindexed op code = rw (no_branch profile m op code) refl
+no_branch_here profile m X op code = refl
+no_branch_here profile m Y op code = refl
+
+no_branch_far : (profile : Profile) (m : Mnemonic) (by : Index) (op : ℕ) → encoded profile m (absolute_mode by) ≡ Some op → branch_form profile m by ≡ None
+no_branch_far profile m Unindexed op code = rw (no_branch_long profile m op code) refl
+no_branch_far profile m X op code = refl
+no_branch_far profile m Y op code = refl
+
+pub zero_page_code : (profile : Profile) (m : Mnemonic) (n : Numbers) (a v op : ℕ) (by : Index) → v < 256 → encoded profile m (zero_page_mode by) ≡ Some op
+    → coded_by n a (Some (of_number v)) (form_of profile m (direct false (of_number v) by)) ≡ Ok (as_coded op (zero_page_mode by))
 unfolding form_of
-not_a_branch profile m n a v by mode h is = rw h is
+zero_page_code profile m n a v op by small code =
+    rw (no_branch_here profile m by op code, code) (short_code n a v (as_coded op (zero_page_mode by)) (in_mode profile m (absolute_mode by)) small)
 
-no_rel_short : (profile : Profile) (m : Mnemonic) (by : Index) → has_row profile m (zero_page_mode by) ≡ true → (is_unindexed by && has_row profile m Rel) ≡ false
-no_rel_short profile m Unindexed h = no_branch profile m h
-no_rel_short profile m X h = refl
-no_rel_short profile m Y h = refl
+large_code : (profile : Profile) (m : Mnemonic) (v : ℕ) (mode : Mode) → (has_row profile m mode ≡ true → 256 ≤ v) → is_some (in_mode profile m mode) ≡ true → 256 ≤ v
+unfolding has_row
+large_code profile m v mode large h = by (encoded profile m mode) large h
+  where
+    by : (code : Option ℕ) → (is_some code ≡ true → 256 ≤ v) → is_some (option_map (λ o. as_coded o mode) code) ≡ true → 256 ≤ v
+    by None l e = absurd cc
+    by (Some op) l e = l refl
 
-no_rel_long : (profile : Profile) (m : Mnemonic) (by : Index) → has_row profile m (absolute_mode by) ≡ true → (is_unindexed by && has_row profile m Rel) ≡ false
-no_rel_long profile m Unindexed h = no_branch_long profile m h
-no_rel_long profile m X h = refl
-no_rel_long profile m Y h = refl
-
-pub zero_page_taken : (profile : Profile) (m : Mnemonic) (n : Numbers) (a v : ℕ) (by : Index) → v < 256 → has_row profile m (zero_page_mode by) ≡ true
-    → mode_by n a (Some (of_number v)) (form_of profile m (direct false (of_number v) by)) ≡ Ok (zero_page_mode by)
-zero_page_taken profile m n a v by small h =
-    not_a_branch profile m n a v by (zero_page_mode by) (no_rel_short profile m by h) (short_mode profile m n a v (zero_page_mode by) (absolute_mode by) small h)
-
-pub absolute_taken : (profile : Profile) (m : Mnemonic) (n : Numbers) (a v : ℕ) (by : Index) → (has_row profile m (zero_page_mode by) ≡ true → 256 ≤ v) → has_row profile m (absolute_mode by) ≡ true
-    → mode_by n a (Some (of_number v)) (form_of profile m (direct false (of_number v) by)) ≡ Ok (absolute_mode by)
-absolute_taken profile m n a v by large h =
-    not_a_branch profile m n a v by (absolute_mode by) (no_rel_long profile m by h) (long_mode profile m n a v (zero_page_mode by) (absolute_mode by) large h)
+pub absolute_code : (profile : Profile) (m : Mnemonic) (n : Numbers) (a v op : ℕ) (by : Index) → (has_row profile m (zero_page_mode by) ≡ true → 256 ≤ v) → encoded profile m (absolute_mode by) ≡ Some op
+    → coded_by n a (Some (of_number v)) (form_of profile m (direct false (of_number v) by)) ≡ Ok (as_coded op (absolute_mode by))
+unfolding form_of
+absolute_code profile m n a v op by large code =
+    rw (no_branch_far profile m by op code, code) (long_code n a v (in_mode profile m (zero_page_mode by)) (as_coded op (absolute_mode by)) (large_code profile m v (zero_page_mode by) large))

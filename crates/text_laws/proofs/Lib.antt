@@ -5,5 +5,5 @@ pub mod Said
 pub mod Forms
 pub mod Alone
 pub mod Texts
-pub mod Again
+pub mod InstructionIsRead
 pub mod Rows

@@ -25,7 +25,7 @@ use Rattle.text_laws.proofs.Forms as forms
 use Rattle.text_laws.proofs.Forms.{of_number}
 use Rattle.text_laws.proofs.Said.{written}
 use Rattle.text_laws.proofs.Alone.{without_operand, byte_line}
-use Rattle.text_laws.proofs.Again.{Read, has_code, byte_number, high, low, first_half, last_half, immediate_again, zero_page_again_by, pointer_by_x_again, pointer_by_y_again, zero_page_pointer_again, branch_again_at, absolute_again, pointer_again}
+use Rattle.text_laws.proofs.InstructionIsRead.{Read, byte_number, high, low, first_half, last_half, immediate_again, zero_page_again_by, pointer_by_x_again, pointer_by_y_again, zero_page_pointer_again, branch_again_at, absolute_again, pointer_again}
 
 word_below : (b c : ℕ) → b < 256 → c < 256 → b + 256 * c < 65536
 word_below b c l h = omega (arith, l, h)
@@ -59,9 +59,9 @@ instruction_again : (profile : Profile) (m : Mnemonic) (mode : Mode) (a op b c :
     → one_line profile a (mnemonic_text m ++ operand_text profile m mode a b c) ≡ Ok (take (length_in mode) (op ∷ b ∷ c ∷ []))
 unfolding operand_text
 instruction_again profile m Imp a op b c here code l h fits =
-    without_operand profile m Imp absent a op _ (texts.implied_said profile m (named_of_code profile m Imp op code)) refl (forms.implied_mode profile m no_numbers a (has_code profile m Imp op code)) code (omega arith) fits
+    without_operand profile m Imp absent a op _ (texts.implied_said profile m (named_of_code profile m Imp op code)) refl (forms.implied_code profile m no_numbers a op code) (omega arith) fits
 instruction_again profile m Acc a op b c here code l h fits =
-    without_operand profile m Acc accumulator a op _ (texts.accumulator_said profile m (named_of_code profile m Acc op code)) refl (forms.accumulator_mode profile m no_numbers a (has_code profile m Acc op code)) code (omega arith) fits
+    without_operand profile m Acc accumulator a op _ (texts.accumulator_said profile m (named_of_code profile m Acc op code)) refl (forms.accumulator_code profile m no_numbers a op code) (omega arith) fits
 instruction_again profile m Imm a op b c here code l h fits = immediate_again profile m a op b code l fits
 instruction_again profile m Zp a op b c here code l h fits = zero_page_again_by profile m Unindexed a op b _ (texts.zero_page_said profile m (named_of_code profile m Zp op code) _ _ _ _ (high b l) (low b)) code l fits
 instruction_again profile m ZpX a op b c here code l h fits = zero_page_again_by profile m X a op b _ (texts.zero_page_by_x_said profile m (named_of_code profile m ZpX op code) _ _ _ _ (high b l) (low b)) code l fits

@@ -1,4 +1,4 @@
--- Beginnings of what was to be written.
+-- Beginnings of what was to be written: one piece of a text after another.
 use Rattle.std.proofs.Common.{ℕ, List, [], ◌++◌, Option, refl, sym, ap, ◌∙◌, append_assoc}
 use Rattle.std.proofs.KnownBytes.{Appends-nil, Appends-trans}
 use Rattle.std.specs.Io.KnownBytes.{Appends}

@@ -1,4 +1,4 @@
--- The text of a row, read at its address, is the row's bytes again.
+-- The text of an instruction in each mode, read at its address, is its bytes again.
 use Rattle.std.proofs.Common.{◌≡◌, ℕ, ◌+◌, ◌*◌, ◌/◌, ◌%◌, ◌≤◌, ◌<◌, pos, List, [], ◌∷◌, ◌++◌, Bool, true, false, refl, ap, arith}
 use Rattle.std.specs.Prelude.{Some, None, Ok, nat_lt, ◌&&◌}
 use Rattle.std.proofs.lemmas.Bool.{ltb-false}
@@ -13,11 +13,11 @@ use Rattle.model.specs.Mnemonics.{mnemonic_text}
 use Rattle.model.specs.Expression.{Term, literal}
 use Rattle.model.specs.Value.{eval_of}
 use Rattle.model.specs.Line.{Operand, immediate, direct, pointer, pointer_by_x, pointer_by_y}
-use Rattle.model.specs.Layout.{has_row, length_in, zero_page_mode, absolute_mode}
+use Rattle.model.specs.Layout.{length_in, zero_page_mode, absolute_mode}
 use Rattle.model.specs.Bytes.{operand_piece}
 use Rattle.model.specs.Text.{hex_digit}
 use Rattle.model.specs.Line.{instruction, labelled, read_line}
-use Rattle.model.specs.Instruction.{byte_text, word_text, absolute_text, target_of}
+use Rattle.model.specs.Instruction.{has_row, byte_text, word_text, absolute_text, target_of}
 use Rattle.model.specs.OneLine.{one_line, no_numbers}
 use Rattle.table_laws.proofs.Encoding.{named_of_code}
 use Rattle.text_laws.proofs.Digits.{Digit, digit, two_digits, four_digits}
@@ -26,10 +26,6 @@ use Rattle.text_laws.proofs.Texts as texts
 use Rattle.text_laws.proofs.Forms as forms
 use Rattle.text_laws.proofs.Forms.{of_number}
 use Rattle.text_laws.proofs.Alone.{with_operand, byte_again, zero_page_again, address_again, branch_again}
-
-pub has_code : (profile : Profile) (m : Mnemonic) (d : Mode) (op : ℕ) → encoded profile m d ≡ Some op → has_row profile m d ≡ true
-unfolding has_row
-has_code profile m d op code = rw code refl
 
 pub byte_number : (b : ℕ) → b < 256 → written (byte_text b) ≡ of_number b
 byte_number b below = ap literal (two_digits b below)
@@ -67,7 +63,7 @@ unfolding operand_piece eval_of
 immediate_again profile m a op b code below fits =
     with_operand profile m Imm (immediate (of_number b)) (of_number b) a op _ (b ∷ [])
     (with_number profile _ m immediate _ _ (byte_number b below) (texts.immediate_said profile m (named_of_code profile m Imm op code) _ _ _ _ (high b below) (low b)))
-    refl (forms.immediate_mode profile m no_numbers a (of_number b) (has_code profile m Imm op code)) code (omega arith) fits (byte_again b below)
+    refl (forms.immediate_code profile m no_numbers a op (of_number b) code) (omega arith) fits (byte_again b below)
 
 zero_page_piece_of : (a : ℕ) (by : Index) (b : ℕ) → b < 256 → operand_piece a (zero_page_mode by) (eval_of no_numbers (pos a) (of_number b)) ≡ Ok (b ∷ [])
 unfolding operand_piece eval_of
@@ -84,28 +80,28 @@ pub zero_page_again_by : (profile : Profile) (m : Mnemonic) (by : Index) (a op b
 zero_page_again_by profile m by a op b text read code below fits =
     with_operand profile m (zero_page_mode by) (direct false (of_number b) by) (of_number b) a op text (b ∷ [])
     (with_number profile text m (λ e. direct false e by) _ _ (byte_number b below) read)
-    refl (forms.zero_page_taken profile m no_numbers a b by below (has_code profile m (zero_page_mode by) op code)) code (short_small by) fits (zero_page_piece_of a by b below)
+    refl (forms.zero_page_code profile m no_numbers a b op by below code) (short_small by) fits (zero_page_piece_of a by b below)
 
 pub pointer_by_x_again : (profile : Profile) (m : Mnemonic) (a op b : ℕ) (text : List ℕ) → Read profile text m (pointer_by_x (written (byte_text b))) → One profile m IndX a op b text
 unfolding operand_piece eval_of
 pointer_by_x_again profile m a op b text read code below fits =
     with_operand profile m IndX (pointer_by_x (of_number b)) (of_number b) a op text (b ∷ [])
     (with_number profile text m pointer_by_x _ _ (byte_number b below) read)
-    refl (forms.pointer_by_x_mode profile m no_numbers a (of_number b) (has_code profile m IndX op code)) code (omega arith) fits (zero_page_again b below)
+    refl (forms.pointer_by_x_code profile m no_numbers a op (of_number b) code) (omega arith) fits (zero_page_again b below)
 
 pub zero_page_pointer_again : (profile : Profile) (m : Mnemonic) (a op b : ℕ) (text : List ℕ) → Read profile text m (pointer (written (byte_text b))) → One profile m IndZ a op b text
 unfolding operand_piece eval_of
 zero_page_pointer_again profile m a op b text read code below fits =
     with_operand profile m IndZ (pointer (of_number b)) (of_number b) a op text (b ∷ [])
     (with_number profile text m pointer _ _ (byte_number b below) read)
-    refl (forms.zero_page_pointer_mode profile m no_numbers a (of_number b) (has_code profile m IndZ op code)) code (omega arith) fits (zero_page_again b below)
+    refl (forms.zero_page_pointer_code profile m no_numbers a op (of_number b) code) (omega arith) fits (zero_page_again b below)
 
 pub pointer_by_y_again : (profile : Profile) (m : Mnemonic) (a op b : ℕ) (text : List ℕ) → Read profile text m (pointer_by_y (written (byte_text b))) → One profile m IndY a op b text
 unfolding operand_piece eval_of
 pointer_by_y_again profile m a op b text read code below fits =
     with_operand profile m IndY (pointer_by_y (of_number b)) (of_number b) a op text (b ∷ [])
     (with_number profile text m pointer_by_y _ _ (byte_number b below) read)
-    refl (forms.pointer_by_y_mode profile m no_numbers a (of_number b) (has_code profile m IndY op code)) code (omega arith) fits (zero_page_again b below)
+    refl (forms.pointer_by_y_code profile m no_numbers a op (of_number b) code) (omega arith) fits (zero_page_again b below)
 
 pub branch_again_at : (profile : Profile) (m : Mnemonic) (a op b : ℕ) → a < 65536 → One profile m Rel a op b (mnemonic_text m ++ 32 ∷ word_text (target_of a b))
 unfolding operand_piece eval_of
@@ -114,7 +110,7 @@ branch_again_at profile m a op b here code below fits =
     let tb : t < 65536 = omega arith in
     with_operand profile m Rel (direct false (of_number t) Unindexed) (of_number t) a op _ (b ∷ [])
     (with_number profile _ m (λ e. direct false e Unindexed) _ _ (word_number t tb) (texts.absolute_said profile m (named_of_code profile m Rel op code) _ _ _ _ _ _ _ _ (high (t / 256) (first_half t tb)) (low (t / 256)) (high (t % 256) (last_half t)) (low (t % 256))))
-    refl (forms.branch_mode profile m no_numbers a (of_number t) (has_code profile m Rel op code)) code (omega arith) fits (branch_again a b here below)
+    refl (forms.branch_code profile m no_numbers a op (of_number t) code) (omega arith) fits (branch_again a b here below)
 
 -- ---- modes with an address
 
@@ -154,10 +150,10 @@ absolute_again profile m by a op b c suffix plain marked code l h fits = on (nat
     on : (t : Bool) → (nat_lt (b + 256 * c) 256 && has_row profile m (zero_page_mode by)) ≡ t → one_line profile a (mnemonic_text m ++ (32 ∷ (absolute_text profile m (zero_page_mode by) (b + 256 * c) ++ suffix))) ≡ Ok (op ∷ b ∷ c ∷ [])
     on true t = rw t (with_operand profile m (absolute_mode by) (direct true (of_number (b + 256 * c)) by) (of_number (b + 256 * c)) a op _ (b ∷ c ∷ [])
         (with_number profile _ m (λ e. direct true e by) _ _ (word_number (b + 256 * c) below) marked)
-        refl (forms.marked_mode profile m no_numbers a (of_number (b + 256 * c)) by (has_code profile m (absolute_mode by) op code)) code (long_small by) fits (absolute_piece_of a by b c l h))
+        refl (forms.marked_code profile m no_numbers a op (of_number (b + 256 * c)) by code) (long_small by) fits (absolute_piece_of a by b c l h))
     on false t = rw t (with_operand profile m (absolute_mode by) (direct false (of_number (b + 256 * c)) by) (of_number (b + 256 * c)) a op _ (b ∷ c ∷ [])
         (with_number profile _ m (λ e. direct false e by) _ _ (word_number (b + 256 * c) below) plain)
-        refl (forms.absolute_taken profile m no_numbers a (b + 256 * c) by (large_if (b + 256 * c) (has_row profile m (zero_page_mode by)) t) (has_code profile m (absolute_mode by) op code)) code (long_small by) fits (absolute_piece_of a by b c l h))
+        refl (forms.absolute_code profile m no_numbers a (b + 256 * c) op by (large_if (b + 256 * c) (has_row profile m (zero_page_mode by)) t) code) (long_small by) fits (absolute_piece_of a by b c l h))
 
 pub pointer_again : (profile : Profile) (m : Mnemonic) (a op b c : ℕ) (text : List ℕ) → Read profile text m (pointer (written (word_text (b + 256 * c)))) → encoded profile m Ind ≡ Some op → b < 256 → c < 256 → a + 3 ≤ 65536
     → one_line profile a text ≡ Ok (op ∷ b ∷ c ∷ [])
@@ -166,4 +162,4 @@ pointer_again profile m a op b c text read code l h fits =
     let below : b + 256 * c < 65536 = omega (arith, l, h) in
     with_operand profile m Ind (pointer (of_number (b + 256 * c))) (of_number (b + 256 * c)) a op text (b ∷ c ∷ [])
     (with_number profile text m pointer _ _ (word_number (b + 256 * c) below) read)
-    refl (forms.pointer_mode profile m no_numbers a (of_number (b + 256 * c)) (has_code profile m Ind op code)) code (omega arith) fits (address_again b c l h)
+    refl (forms.pointer_code profile m no_numbers a op (of_number (b + 256 * c)) code) (omega arith) fits (address_again b c l h)
