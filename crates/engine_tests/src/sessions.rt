@@ -172,6 +172,34 @@ fn runs_both_profiles(rt: HostRuntime) -> Result<(), Fail> {
     Ok(())
 }
 
+/// The port's control byte, which is the same in both profiles.
+const CONTROL: [Example; 2] = [
+    // input that waits interrupts a program that has set it; and back over the entry and the store
+    (
+        b"",
+        b"set PC 0200\npatch 0200 A9 01\npatch 0202 8D 03 F0\npatch 0205 58\nin 41\nrun 2\nstep\nstep\nback 4\npatch 0200 AD 03 F0\nstep\n",
+        b"OK\nOK\nOK\nOK\nOK\nDID 2 LIMIT\nA=01 X=00 Y=00 S=FD P=20 PC=0206 CYC=15\nA=01 X=00 Y=00 S=FA P=24 PC=0000 CYC=22\nA=00 X=00 Y=00 S=FD P=24 PC=0200 CYC=7\nOK\nA=00 X=00 Y=00 S=FD P=26 PC=0203 CYC=11\n",
+    ),
+    // of a read-modify-write it keeps the lowest bit: 0 becomes $FF, which sets it, and 1 becomes 2, which clears it; a reset clears it
+    (
+        b"",
+        b"set PC 0200\npatch 0200 CE 03 F0\npatch 0203 AD 03 F0\npatch 0206 EE 03 F0\npatch 0209 AE 03 F0\nstep\nstep\nstep\nstep\nback 2\nreset\nset PC 0203\nstep\n",
+        b"OK\nOK\nOK\nOK\nOK\nA=00 X=00 Y=00 S=FD P=A4 PC=0203 CYC=13\nA=01 X=00 Y=00 S=FD P=24 PC=0206 CYC=17\nA=01 X=00 Y=00 S=FD P=24 PC=0209 CYC=23\nA=01 X=00 Y=00 S=FD P=26 PC=020C CYC=27\nA=01 X=00 Y=00 S=FD P=24 PC=0206 CYC=17\nOK\nOK\nA=00 X=00 Y=00 S=FD P=26 PC=0206 CYC=28\n",
+    ),
+];
+
+#[test]
+fn serves_the_control_byte(rt: HostRuntime) -> Result<(), Fail> {
+    for (source, commands, want) in CONTROL {
+        let told = replied_with(rt.alloc(), port_alone()?, 1024, source, commands)?;
+        assert_eq!(rt; told.as_slice(), want);
+        let map = port_alone()?.profile_c();
+        let told = replied_with(rt.alloc(), map, 1024, source, commands)?;
+        assert_eq!(rt; told.as_slice(), want);
+    }
+    Ok(())
+}
+
 /// Texts assembled one line at a time: what is listed assembles back, and what is no one line is refused.
 const LINES: [Example; 3] = [
     (
