@@ -1,6 +1,6 @@
 //! Memory, ROM and the port.
 
-ghost use Rattle.std.specs.Prelude.{◌≡◌, ◌+◌, ◌-◌, ◌<◌, ◌≤◌, ◌↔◌, length, slice_index, slice_get, slice_set, IsErr, OnOk, OnErr, IfErr, IfOk, true, false, not, ◌||◌, ◌++◌, ◌∷◌, [], if◌then◌else◌, ℕ, List};
+ghost use Rattle.std.specs.Prelude.{◌≡◌, ◌+◌, ◌-◌, ◌<◌, ◌≤◌, ◌↔◌, length, slice_index, slice_get, slice_set, IsErr, OnOk, OnErr, IfErr, IfOk, true, false, not, ◌||◌, ◌&&◌, ◌++◌, ◌∷◌, [], if◌then◌else◌, ℕ, List};
 ghost use Rattle.std.specs.List.{list_all};
 ghost use Rattle.model.specs.State.{console_size, is_port, is_rom, byte_read, after_read, overflows, after_write, stored, input_waits, loaded_bus, has_port_byte, AreBytes, IsBus};
 ghost use Rattle.model.specs.Event.{meets_port, patched};
@@ -17,7 +17,7 @@ use model::{BusFault, Change, Profile};
 use std::alloc::{AllocError, Global};
 use std::marker::Model;
 
-/// Memory of 65,536 bytes, 0 at the port's addresses, with a console at the port (profile).
+/// Memory of 65,536 bytes, 0 at the port's addresses, with a console and a control byte, 0 or 1, at the port (profile).
 #[derive(Drop)]
 pub struct Bus {
     map: MapSpec,
@@ -25,6 +25,7 @@ pub struct Bus {
     given: HeapCircularBuffer<u8>,
     taken: u32,
     out: HeapCircularBuffer<u8>,
+    control: bool,
 }
 
 impl Model for Bus {
@@ -34,14 +35,14 @@ impl Model for Bus {
 
     ghost Value = { model.Bus };
 
-    ghost view = { λ b. record { map = b.map; memory = b.memory.items; given = b.given.items; taken = b.taken; out = b.out.items } };
+    ghost view = { λ b. record { map = b.map; memory = b.memory.items; given = b.given.items; taken = b.taken; out = b.out.items; control = b.control } };
 
     ghost invariant = { λ b. (length b.memory.items ≡ 65536) × (b.given.capacity ≡ 65536) × (b.out.capacity ≡ 65536) × (b.taken ≤ length b.given.items)
         × (length b.given.items ≤ 65536) × (length b.out.items ≤ 65536) × (512 ≤ b.map.port) × ((k : ℕ) → is_port b.map k ≡ true → slice_index b.memory.items k ≡ 0) };
 }
 
 impl Bus {
-    /// A bus whose memory is all 0, with an empty console. It takes all the room that the bus will need.
+    /// A bus whose memory is all 0, with an empty console and 0 in the control byte. It takes all the room that the bus will need.
     /// `OutOfMemory` where a request for memory was refused.
     #[tactic(auto, unfolding(model::specs::State::loaded_bus))]
     pub fn new(alloc: Global, map: MapSpec) -> Result<Bus, BusFault>
@@ -64,10 +65,11 @@ impl Bus {
             given,
             taken: 0,
             out,
+            control: false,
         })
     }
 
-    /// Puts an image into memory, 0 where it has no byte, and empties the console.
+    /// Puts an image into memory, 0 where it has no byte, empties the console, and makes the control byte 0.
     /// `PortAddress` where the image has a byte at a port address; nothing is changed then.
     #[tactic(auto, unfolding(model::specs::State::loaded_bus))]
     pub fn load(&mut self, image: &Image) -> Result<(), BusFault>
@@ -83,6 +85,7 @@ impl Bus {
         self.given.truncate_back(0);
         self.out.truncate_back(0);
         self.taken = 0;
+        self.control = false;
         Ok(())
     }
 
@@ -112,7 +115,8 @@ impl Bus {
         are_bytes(out_after);
     }
 
-    /// A byte as the processor reads it, which at base+1 takes the next byte of input.
+    /// A byte as the processor reads it: at base+1 the next byte of input, which is taken, at base+2 whether input waits, at base+3
+    /// the control byte, 0 at base+0, else of memory (profile).
     #[tactic(auto, unfolding(model::specs::State::byte_read, model::specs::State::after_read, model::specs::State::is_port))]
     pub fn read(&mut self, address: u16) -> u8
         ensures value { result ≡ byte_read self.old address }
@@ -127,13 +131,15 @@ impl Bus {
             self.take_input()
         } else if address == port + 2 {
             waits as u8
+        } else if address == port + 3 {
+            self.control as u8
         } else {
             0
         }
     }
 
-    /// A byte as the processor stores it: into the output at base+0, nowhere at the port's other addresses and in ROM,
-    /// else into memory. `ConsoleFull` where it would be the output's 65,537th byte; nothing is changed then.
+    /// A byte as the processor stores it: into the output at base+0, its remainder by 2 into the control byte at base+3, nowhere at
+    /// base+1, base+2 and in ROM, else into memory. `ConsoleFull` where it would be the output's 65,537th byte; nothing is changed then.
     pub fn write(&mut self, address: u16, value: u8) -> Result<(), BusFault>
         ensures ok { OnOk result (self.new ≡ after_write self.old address value) }
         ensures err { OnErr result (self.new ≡ self.old) }
@@ -234,7 +240,26 @@ impl Bus {
         self.taken
     }
 
+    /// Whether the port asks for an interrupt: its control byte is 1 and a byte of input waits (profile).
+    #[inline(always)]
+    pub fn asks_irq(&self) -> bool
+        ensures { result ≡ (self.now.control && input_waits self.now) }
+    {
+        self.control && self.input_waits()
+    }
+
+    /// Makes the control byte 0, as a reset does. A change that could be put back before still can, and gives the same (profile).
+    #[inline(always)]
+    pub fn clear_control(&mut self)
+        ensures after { self.new ≡ record self.old { control = false } }
+        ensures undo { (change : Change) → restored change self.new ≡ restored change self.old }
+        ensures fits { (change : Change) → CanRestore change self.old → CanRestore change self.new }
+    {
+        self.control = false;
+    }
+
     /// Whether a byte of input waits.
+    #[inline(always)]
     fn input_waits(&self) -> bool
         ensures { result ≡ input_waits self.now }
     {
@@ -283,6 +308,8 @@ impl Bus {
             self.set(address, value);
         } else if address == self.map.port() {
             let _ = self.out.try_push_back(value);
+        } else if address == self.map.port() + 3 {
+            self.control = value % 2 == 1;
         }
     }
 
@@ -309,6 +336,7 @@ impl Bus {
             taken: self.taken,
             given_len: self.given.len() as u32,
             out_len: self.out.len() as u32,
+            control: self.control,
         }
     }
 
@@ -328,8 +356,8 @@ impl Bus {
         spares_port(&self.map, &change.cells[..change.count as usize])
     }
 
-    /// Puts back what a change holds: its bytes in their order, in ROM too, the number taken, and both lists of the console cut
-    /// to their old lengths.
+    /// Puts back what a change holds: its bytes in their order, in ROM too, the number taken, the control byte, and both lists of
+    /// the console cut to their old lengths.
     #[tactic(auto, unfolding(model::specs::Undo::restored))]
     pub fn restore(&mut self, change: Change)
         requires { CanRestore change self.old }
@@ -339,6 +367,7 @@ impl Bus {
         self.given.truncate_back(change.given_len as usize);
         self.out.truncate_back(change.out_len as usize);
         self.taken = change.taken;
+        self.control = change.control;
     }
 
     /// Notes what leads back to this bus. It takes no memory.
@@ -351,6 +380,7 @@ impl Bus {
         into.taken = self.taken;
         into.given_len = self.given.len() as u32;
         into.out_len = self.out.len() as u32;
+        into.control = self.control;
     }
 
     /// Puts back what was saved, and cuts both lists of the console to their old lengths. It takes no memory.
@@ -363,6 +393,7 @@ impl Bus {
         self.given.truncate_back(old.given_len as usize);
         self.out.truncate_back(old.out_len as usize);
         self.taken = old.taken;
+        self.control = old.control;
     }
 
     /// A store into the stack's page, where neither port nor ROM stands. The change notes the byte that was there.
@@ -381,7 +412,8 @@ impl Bus {
         self.set_low(address, value);
     }
 
-    /// A byte as the processor stores it, where the output has room. The change notes the byte that was there.
+    /// A byte as the processor stores it, where the output has room. The change notes the byte of memory that was there; the
+    /// console and the control byte it holds since it was made.
     pub fn store(&mut self, change: &mut Change, address: u16, value: u8)
         requires room { overflows self.old address ≡ false }
         requires count { change.old.count < 3 }
@@ -485,7 +517,7 @@ fn noting(change: Change, address: u16, old: u8) -> Change
     requires { change.count < 3 }
     ensures cells { cells_of result ≡ (address, old) ∷ cells_of change }
     ensures count { result.count ≡ change.count + 1 }
-    ensures rest { (result.taken ≡ change.taken) × (result.given_len ≡ change.given_len) × (result.out_len ≡ change.out_len) }
+    ensures rest { (result.taken ≡ change.taken) × (result.given_len ≡ change.given_len) × (result.out_len ≡ change.out_len) × (result.control ≡ change.control) }
 {
     let cells = [(address, old), change.cells[0], change.cells[1]];
     Change {
@@ -501,7 +533,7 @@ fn note_first(change: &mut Change, address: u16, old: u8)
     requires { change.old.count ≡ 0 }
     ensures cells { cells_of change.new ≡ (address, old) ∷ cells_of change.old }
     ensures count { change.new.count ≡ change.old.count + 1 }
-    ensures rest { (change.new.taken ≡ change.old.taken) × (change.new.given_len ≡ change.old.given_len) × (change.new.out_len ≡ change.old.out_len) }
+    ensures rest { (change.new.taken ≡ change.old.taken) × (change.new.given_len ≡ change.old.given_len) × (change.new.out_len ≡ change.old.out_len) × (change.new.control ≡ change.old.control) }
 {
     let cells = [(address, old), (0, 0), (0, 0)];
     change.cells = cells;
