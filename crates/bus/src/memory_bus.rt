@@ -412,7 +412,8 @@ impl Bus {
         self.set_low(address, value);
     }
 
-    /// A byte as the processor stores it, where the output has room. The change notes the byte that was there.
+    /// A byte as the processor stores it, where the output has room. The change notes the byte of memory that was there; the
+    /// console and the control byte it holds since it was made.
     pub fn store(&mut self, change: &mut Change, address: u16, value: u8)
         requires room { overflows self.old address ≡ false }
         requires count { change.old.count < 3 }

@@ -9,8 +9,9 @@ use model::{EventFault, Undo};
 
 impl Machine {
     /// A reset, which takes 7 cycles, with the record that leads back: S is $FD, I is set, D is clear, PC comes from $FFFC, a
-    /// pending NMI is forgotten and the port's control byte is 0. Memory, the console and the IRQ line stay. `CyclesFull` where the cycle count is above
-    /// 2^64 - 17; nothing is changed then. It takes no memory. (MCS6500 manual, chapter 9, for the vector; profile for the rest.)
+    /// pending NMI is forgotten, and the port's control byte is 0. Memory, the console's bytes and the IRQ line stay. `CyclesFull`
+    /// where the cycle count is above 2^64 - 17; nothing is changed then. It takes no memory. (MCS6500 manual, chapter 9, for the
+    /// vector; profile for the rest.)
     #[tactic(auto, unfolding(model::specs::Event::reset_of))]
     pub fn reset(&mut self) -> Result<Undo, EventFault>
         ensures ok { OnOk result (reset_of self.old ≡ Ok self.new) }
