@@ -18,7 +18,7 @@ returned-grown c s t given out grows =
     let g = cut_alike c.bus.given_len s.bus.given t.bus.given given grows.given in
     let o = cut_alike c.bus.out_len s.bus.out t.bus.out out grows.out in
     λ i. record {
-      bus = record { map = grows.map i; memory = c.bus.memory; given = g i; taken = c.bus.taken; out = o i };
+      bus = record { map = grows.map i; memory = c.bus.memory; given = g i; taken = c.bus.taken; out = o i; control = c.bus.control };
       regs = c.regs;
       irq = c.irq;
       nmi = c.nmi;
@@ -62,7 +62,7 @@ leads-here s =
     record {
       fits = record { map = refl; given = omega arith; out = omega arith };
       back = λ i. record {
-        bus = record { map = s.bus.map; memory = s.bus.memory; given = g i; taken = s.bus.taken; out = o i };
+        bus = record { map = s.bus.map; memory = s.bus.memory; given = g i; taken = s.bus.taken; out = o i; control = s.bus.control };
         regs = s.regs;
         irq = s.irq;
         nmi = s.nmi;

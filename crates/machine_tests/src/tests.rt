@@ -115,6 +115,43 @@ fn reset_forgets_nmi(rt: HostRuntime) -> Result<(), Fail> {
     Ok(())
 }
 
+/// Base+3 keeps a stored byte modulo 2, and a load there gives it: 1 of $83, and 0 of $FE.
+#[test]
+fn control_of_a_store(rt: HostRuntime) -> Result<(), Fail> {
+    let bytes = [
+        0xa9, 0x83, 0x8d, 0x03, 0xf0, 0xad, 0x03, 0xf0, 0xa9, 0xfe, 0x8d, 0x03, 0xf0, 0xad, 0x03,
+        0xf0,
+    ];
+    let mut session = session_on(rt.alloc(), &bytes, 8)?;
+    for loaded in [(0x01, 0x24, 0x0208, 17u64), (0x00, 0x26, 0x0210, 27)] {
+        assert_eq!(rt; happened(&mut session, &[Event::Step, Event::Step]), Ok(()));
+        assert_eq!(rt; stepped(&mut session), Ok(loaded));
+    }
+    drop(session);
+    Ok(())
+}
+
+/// LDA #$01, STA $F003, CLI and a JMP to itself: a byte of input leads to the IRQ entry, again once that is gone back over, from a
+/// checkpoint before it; after a reset it does not, with I at 0.
+#[test]
+fn input_interrupts(rt: HostRuntime) -> Result<(), Fail> {
+    let bytes = [0xa9, 0x01, 0x8d, 0x03, 0xf0, 0x58, 0x4c, 0x06, 0x02];
+    let entered = Ok((0x01, 0x24, 0x0000, 3313));
+    let mut session = session_on(rt.alloc(), &bytes, 2048)?;
+    assert_eq!(rt; session.run(1100).did, 1100);
+    assert_eq!(rt; session.event(Event::Input(0x41)), Ok(()));
+    assert_eq!(rt; stepped(&mut session), entered);
+    assert_eq!(rt; (session.peek(0x01fb), session.peek(0x01fc)), (0x20, 0x06));
+    assert_eq!(rt; session.event(Event::Reset), Ok(()));
+    assert_eq!(rt; session.back(2), Ok(()));
+    assert_eq!(rt; stepped(&mut session), entered);
+    let events = [Event::Reset, Event::Set(Setting::P(0x00))];
+    assert_eq!(rt; happened(&mut session, &events), Ok(()));
+    assert_eq!(rt; stepped(&mut session), Ok((0x01, 0x20, 0x0202, 3322)));
+    drop(session);
+    Ok(())
+}
+
 /// Hands in bytes, and tells how many were taken before one was refused.
 fn taken(session: &mut Session, bytes: u32) -> u32 {
     for count in 0..bytes {

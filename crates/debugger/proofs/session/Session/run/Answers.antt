@@ -1,5 +1,6 @@
 use Rattle.std.proofs.Common.{arith, refl, sym, ap, ◌∙◌, ◌≡◌, ◌+◌, ◌-◌, ◌<◌}
 use Rattle.model.specs.Session.{appended}
+use Rattle.model.specs.Step.{step}
 use Rattle.model.specs.Run.{run_end, after_steps}
 use Rattle.session_laws.proofs.Runs.{after_steps-zero}
 use Rattle.debugger.proofs.Runs.{beyond, beyond-end, beyond-later, run_none, run_refused, run_stops, run_goes, step_after}
@@ -10,7 +11,7 @@ loop-did-init c =
     let all : c.args.count ≡ c.args.count - 0 = omega arith in
     let none = run_end (c.args.count - 0) c.args.self.now in
     let z : none.did ≡ 0 + none.did = omega arith in
-    record { end = ap (λ n. run_end n c.args.self.now) all ∙ (λ i. record { did = z i; why = none.why }); after = sym (after_steps-zero _); mark = rw (← c.self.view_is) (record { count = c.mark-change.ensures.count; fits = c.mark-change.ensures.fits; back = c.mark-change.ensures.undo }) }
+    record { end = ap (λ n. run_end n c.args.self.now) all ∙ (λ i. record { did = z i; why = none.why }); after = sym (after_steps-zero step _); mark = rw (← c.self.view_is) (record { count = c.mark-change.ensures.count; fits = c.mark-change.ensures.fits; back = c.mark-change.ensures.undo }) }
 
 pub returns-in-Ok-Some-clause-end : goal.returns-in-Ok-Some-clause-end
 returns-in-Ok-Some-clause-end c =
