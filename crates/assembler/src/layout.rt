@@ -170,7 +170,7 @@ fn items_size(items: &[Item<'_>]) -> u32
 }
 
 /// An instruction at an address.
-#[tactic(auto, using(source_laws::proofs::Lengths::length_in_small), unfolding(model::specs::Layout::laid, model::specs::Layout::size_of))]
+#[tactic(auto, unfolding(model::specs::Layout::laid, model::specs::Layout::size_of))]
 fn instruct<N: Names>(
     profile: Profile,
     address: u32,
