@@ -240,6 +240,14 @@ impl Bus {
         self.taken
     }
 
+    /// Whether the control byte is 1.
+    #[inline(always)]
+    pub fn control(&self) -> bool
+        ensures { result ≡ self.now.control }
+    {
+        self.control
+    }
+
     /// Whether the port asks for an interrupt: its control byte is 1 and a byte of input waits (profile).
     #[inline(always)]
     pub fn asks_irq(&self) -> bool
