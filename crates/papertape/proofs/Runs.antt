@@ -1,7 +1,7 @@
 -- The writer's cuts are the pieces of the maximal runs.
 use Rattle.std.proofs.Common.{◌≡◌, ℕ, zero, suc, ◌+◌, min, true, false, List, [], ◌∷◌, ◌++◌, length, take, Option, Some, None, refl, sym, ap, ◌∙◌, arith}
 use Rattle.std.specs.List.{flat_map}
-use Rattle.model.specs.TapeText.{Stretch, runs, pieces_of_run, written_pieces}
+use Rattle.model.specs.TapeText.{Stretch, runs, written_pieces}
 use Rattle.papertape.proofs.Stretches.{front_run, runs_after, pieces_after, pieces_within, runs_are, pieces_are}
 use Rattle.papertape.specs.Writing.{front_bytes, cuts}
 

@@ -1,5 +1,5 @@
 -- What is answered of a text that denotes bytes.
-use Rattle.std.proofs.Common.{◌≡◌, ℕ, List, Ok, Err, Result, sym, ◌∙◌, take}
+use Rattle.std.proofs.Common.{◌≡◌, ℕ, List, Ok, Err, Result, take}
 use Rattle.std.specs.Prelude.{IfOk, IfErr, ◌⊎◌}
 use Rattle.std.proofs.Common.{inl, inr}
 use Rattle.model.specs.declared.source_fault.AsmFault.{AsmFault}

@@ -1,7 +1,7 @@
 -- How the assembler encodes what a row's text says.
-use Rattle.std.proofs.Common.{◌≡◌, ℕ, ◌≤◌, ◌<◌, pos, Bool, true, false, map, refl, inl, inr, arith}
+use Rattle.std.proofs.Common.{◌≡◌, ℕ, ◌≤◌, ◌<◌, pos, Bool, true, false, map, refl, arith}
 use Rattle.std.specs.Prelude.{Option, Some, None, is_some, option_map, Ok, ◌||◌, ◌&&◌}
-use Rattle.std.proofs.lemmas.Bool.{cases_Bool, le-leb, lt-leb}
+use Rattle.std.proofs.lemmas.Bool.{le-leb, lt-leb}
 use Rattle.model.specs.declared.instruction.Profile.{Profile}
 use Rattle.model.specs.declared.instruction.Profile.TheVariants.{N, C}
 use Rattle.model.specs.declared.instruction.Mnemonic.{Mnemonic}

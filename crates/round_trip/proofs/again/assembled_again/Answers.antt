@@ -1,8 +1,6 @@
-use Rattle.std.proofs.Common.{◌≡◌, ℕ, List, Ok, take, ap, sym, ◌∙◌, arith}
-use Rattle.std.specs.Prelude.{Result}
+use Rattle.std.proofs.Common.{◌≡◌, Ok, take, ap, ◌∙◌}
 use Rattle.model.specs.Instruction.{TextRow, row_of}
 use Rattle.model.specs.OneLine.{one_line}
-use Rattle.model.specs.declared.source_fault.AsmFaultKind.{AsmFaultKind}
 use Rattle.round_trip.proofs.Answered.{right, only_memory}
 use Rattle.round_trip.proofs.again.assembled_again.Goals as goal
 
