@@ -1,9 +1,8 @@
 //! Going back to the borders of histories of many sizes, tables that are full, and what a machine and a bus save. A session here has
 //! nothing in memory, so that each step is a BRK: after so many, S is that many times 3 below FD, and each took 7 cycles.
 
-ghost use Rattle.std.specs.Prelude.{◌≤◌};
-
-use bus::{Bus, BusFault, Image, MapSpec, Saved};
+use crate::common::{empty_machine, empty_session, port_alone, went_back};
+use bus::{Bus, BusFault, Saved};
 use cpu::{Checkpoint, Machine, Setting};
 use debugger::{Session, SessionFault};
 use std::alloc::Global;
@@ -12,8 +11,9 @@ use std::test::Fail;
 /// A history, a count of steps run, a count of events gone back over, and what is told then: S, the cycles and the events replayed.
 type Border = (u32, u32, u32, Result<(u8, u64, u32), SessionFault>);
 
-const BORDERS: [Border; 16] = [
+const BORDERS: [Border; 17] = [
     (0, 3000, 1, Err(SessionFault::NoHistory { held: 0 })),
+    (0, 5000, 0, Ok((0x65, 35007, 0))),
     (1, 2049, 1, Ok((0xfd, 14343, 0))),
     (1, 2049, 2, Err(SessionFault::NoHistory { held: 1 })),
     (1023, 4000, 1023, Ok((0x1a, 20846, 929))),
@@ -50,23 +50,6 @@ const BORDERS: [Border; 16] = [
         Err(SessionFault::NoHistory { held: 65536 }),
     ),
 ];
-
-fn port_alone() -> Result<MapSpec, Fail> {
-    Ok(MapSpec::new(None, 0xf000)?)
-}
-
-fn empty_session(alloc: Global, history: u32) -> Result<Session, Fail>
-    requires { history ≤ 65536 }
-{
-    let image = Image::new(alloc)?;
-    Ok(Session::new(alloc, port_alone()?, &image, history)?)
-}
-
-/// Goes back, and tells S, the cycles and the events that were replayed.
-fn went_back(session: &mut Session, count: u32) -> Result<(u8, u64, u32), SessionFault> {
-    session.back(count)?;
-    Ok((session.regs().s, session.cycles(), session.replayed()))
-}
 
 /// What is told at one border.
 fn at_border(
@@ -136,8 +119,7 @@ fn saved_machine(machine: &mut Machine, into: &mut Checkpoint) -> (u8, u8) {
 
 #[test]
 fn restores_a_machine(rt: HostRuntime) -> Result<(), Fail> {
-    let image = Image::new(rt.alloc())?;
-    let mut machine = Machine::new(rt.alloc(), port_alone()?, &image)?;
+    let mut machine = empty_machine(rt.alloc())?;
     let mut checkpoint = Checkpoint::new(rt.alloc())?;
     assert_eq!(rt; saved_machine(&mut machine, &mut checkpoint), (0x55, 0x00));
     Ok(())

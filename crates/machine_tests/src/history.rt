@@ -1,31 +1,9 @@
 //! Runs, breakpoints, watches and going back. A session here has nothing in memory, so that each step is a BRK.
 
-ghost use Rattle.std.specs.Prelude.{◌≤◌};
-
-use bus::{Image, MapSpec};
+use crate::common::{empty_machine, empty_session, went_back};
 use cpu::Machine;
 use debugger::{RunEnd, Session, SessionFault, Why};
-use std::alloc::Global;
 use std::test::Fail;
-
-fn empty_session(alloc: Global, history: u32) -> Result<Session, Fail>
-    requires { history ≤ 65536 }
-{
-    let map = MapSpec::new(None, 0xf000)?;
-    let image = Image::new(alloc)?;
-    Ok(Session::new(alloc, map, &image, history)?)
-}
-
-/// Runs, and tells how it ended.
-fn ran(session: &mut Session, count: u32) -> RunEnd {
-    session.run(count)
-}
-
-/// Goes back, and tells S, the cycles and the events that were replayed.
-fn went_back(session: &mut Session, count: u32) -> Result<(u8, u64, u32), SessionFault> {
-    session.back(count)?;
-    Ok((session.regs().s, session.cycles(), session.replayed()))
-}
 
 /// The end of a run that nothing stopped.
 fn limit(did: u32) -> RunEnd {
@@ -39,7 +17,7 @@ fn limit(did: u32) -> RunEnd {
 #[test]
 fn back_replays(rt: HostRuntime) -> Result<(), Fail> {
     let mut session = empty_session(rt.alloc(), 4096)?;
-    assert_eq!(rt; ran(&mut session, 2000), limit(2000));
+    assert_eq!(rt; session.run(2000), limit(2000));
     assert_eq!(rt; session.held(), 2000);
     assert_eq!(rt; went_back(&mut session, 1), Ok((0x90, 14000, 975)));
     assert_eq!(rt; went_back(&mut session, 975), Ok((0xfd, 7175, 0)));
@@ -56,26 +34,12 @@ fn back_replays(rt: HostRuntime) -> Result<(), Fail> {
 #[test]
 fn full_history(rt: HostRuntime) -> Result<(), Fail> {
     let mut session = empty_session(rt.alloc(), 1024)?;
-    assert_eq!(rt; ran(&mut session, 3000), limit(3000));
+    assert_eq!(rt; session.run(3000), limit(3000));
     assert_eq!(rt; went_back(&mut session, 1024), Ok((0xd5, 13839, 952)));
     assert_eq!(rt;
         went_back(&mut session, 1),
         Err(SessionFault::NoHistory { held: 0 })
     );
-    drop(session);
-    Ok(())
-}
-
-/// With no history every event is gone at once.
-#[test]
-fn no_history(rt: HostRuntime) -> Result<(), Fail> {
-    let mut session = empty_session(rt.alloc(), 0)?;
-    assert_eq!(rt; ran(&mut session, 5000), limit(5000));
-    assert_eq!(rt;
-        went_back(&mut session, 1),
-        Err(SessionFault::NoHistory { held: 0 })
-    );
-    assert_eq!(rt; session.cycles(), 35007);
     drop(session);
     Ok(())
 }
@@ -96,24 +60,17 @@ fn marked(
 fn tables(rt: HostRuntime) -> Result<(), Fail> {
     let mut session = empty_session(rt.alloc(), 4)?;
     assert_eq!(rt; marked(&mut session, 0x0000, 0x01fb), Ok((1, Some(0x0000))));
-    assert_eq!(rt; ran(&mut session, 9).why, Why::Watch(0x01fb));
+    assert_eq!(rt; session.run(9).why, Why::Watch(0x01fb));
     assert_eq!(rt; session.clear_watch(0x01fb), Ok(()));
-    assert_eq!(rt; ran(&mut session, 9).why, Why::Break(0x0000));
+    assert_eq!(rt; session.run(9).why, Why::Break(0x0000));
     assert_eq!(rt; session.clear_break(0x0000), Ok(()));
-    assert_eq!(rt; ran(&mut session, 9), limit(9));
+    assert_eq!(rt; session.run(9), limit(9));
     drop(session);
     Ok(())
 }
 
-/// A machine that was loaded with nothing.
-fn empty_machine(alloc: Global) -> Result<Machine, Fail> {
-    let map = MapSpec::new(None, 0xf000)?;
-    let image = Image::new(alloc)?;
-    Ok(Machine::new(alloc, map, &image)?)
-}
-
 /// S, the cycles and the byte that a BRK at the start pushes last.
-fn shown(machine: &Machine) -> (u8, u64, u8) {
+fn pushed(machine: &Machine) -> (u8, u64, u8) {
     (machine.regs().s, machine.cycles(), machine.peek(0x01fb))
 }
 
@@ -124,11 +81,11 @@ fn record_of_a_break(rt: HostRuntime) -> Result<(), Fail> {
     let Ok(undo) = machine.step() else {
         panic!(rt; "a BRK is refused");
     };
-    assert_eq!(rt; shown(&machine), (0xfa, 14, 0x34));
+    assert_eq!(rt; pushed(&machine), (0xfa, 14, 0x34));
     assert_eq!(rt; (undo.cell(0), undo.cell(3)), (Some((0x01fb, 0)), None));
     assert!(rt; machine.fits(&undo));
     machine.undo(undo);
-    assert_eq!(rt; shown(&machine), (0xfd, 7, 0));
+    assert_eq!(rt; pushed(&machine), (0xfd, 7, 0));
     drop(machine);
     Ok(())
 }

@@ -4,7 +4,7 @@
 #[cfg(test)]
 mod borders;
 #[cfg(test)]
-mod flags;
+mod common;
 #[cfg(test)]
 mod history;
 #[cfg(test)]

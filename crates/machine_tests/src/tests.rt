@@ -2,6 +2,7 @@
 
 ghost use Rattle.std.specs.Prelude.{◌≤◌};
 
+use crate::common::{empty_machine, happened, port_alone};
 use bus::{Bus, Image, MapSpec};
 use cpu::Machine;
 use debugger::{Event, EventFault, Session, Setting};
@@ -9,15 +10,11 @@ use model::{AsmFaultKind, BusFault, SessionFault, Sum};
 use std::alloc::Global;
 use std::test::Fail;
 
-fn default_map() -> Result<MapSpec, Fail> {
-    Ok(MapSpec::new(None, 0xf000)?)
-}
-
 /// A session that starts with these bytes at $0200, where the reset vector leads.
 fn session_on(alloc: Global, bytes: &[u8], history: u32) -> Result<Session, Fail>
     requires { history ≤ 65536 }
 {
-    let map = default_map()?;
+    let map = port_alone()?;
     let mut image = Image::new(alloc)?;
     let mut address = 0x0200u16;
     for byte in bytes {
@@ -27,14 +24,6 @@ fn session_on(alloc: Global, bytes: &[u8], history: u32) -> Result<Session, Fail
     image.put(0xfffd, 0x02);
     image.put(0xfffc, 0x00);
     Ok(Session::new(alloc, map, &image, history)?)
-}
-
-/// Makes the events up to the first that is refused.
-fn happened(session: &mut Session, events: &[Event]) -> Result<(), EventFault> {
-    for event in events {
-        session.event(*event)?;
-    }
-    Ok(())
 }
 
 /// Makes a step, and tells A, the status with B clear, PC and the cycles.
@@ -60,19 +49,6 @@ fn load_store_break(rt: HostRuntime) -> Result<(), Fail> {
     ] {
         assert_eq!(rt; session.peek(address), byte);
     }
-    drop(session);
-    Ok(())
-}
-
-/// STA $F000 puts the byte into the output and leaves memory at the port 0.
-#[test]
-fn output_of_a_byte(rt: HostRuntime) -> Result<(), Fail> {
-    let mut session = session_on(rt.alloc(), &[0xa9, 0x41, 0x8d, 0x00, 0xf0], 0)?;
-    assert_eq!(rt; happened(&mut session, &[Event::Step, Event::Step]), Ok(()));
-    assert_eq!(rt; session.output_len(), 1);
-    assert_eq!(rt; session.output_at(0), Some(0x41));
-    assert_eq!(rt; session.peek(0xf000), 0);
-    assert_eq!(rt; session.input_room(), 65536);
     drop(session);
     Ok(())
 }
@@ -111,22 +87,6 @@ fn reset_forgets_nmi(rt: HostRuntime) -> Result<(), Fail> {
     ];
     assert_eq!(rt; happened(&mut session, &events), Ok(()));
     assert_eq!(rt; session.peek(0x01fb), 0x30);
-    drop(session);
-    Ok(())
-}
-
-/// Base+3 keeps a stored byte modulo 2, and a load there gives it: 1 of $83, and 0 of $FE.
-#[test]
-fn control_of_a_store(rt: HostRuntime) -> Result<(), Fail> {
-    let bytes = [
-        0xa9, 0x83, 0x8d, 0x03, 0xf0, 0xad, 0x03, 0xf0, 0xa9, 0xfe, 0x8d, 0x03, 0xf0, 0xad, 0x03,
-        0xf0,
-    ];
-    let mut session = session_on(rt.alloc(), &bytes, 8)?;
-    for loaded in [(0x01, 0x24, 0x0208, 17u64), (0x00, 0x26, 0x0210, 27)] {
-        assert_eq!(rt; happened(&mut session, &[Event::Step, Event::Step]), Ok(()));
-        assert_eq!(rt; stepped(&mut session), Ok(loaded));
-    }
     drop(session);
     Ok(())
 }
@@ -172,13 +132,6 @@ fn input_fills(rt: HostRuntime) -> Result<(), Fail> {
     assert_eq!(rt; session.input_room(), 0);
     drop(session);
     Ok(())
-}
-
-/// A machine that was loaded with nothing: 7 cycles have passed, and all registers but S are 0.
-fn empty_machine(alloc: Global) -> Result<Machine, Fail> {
-    let map = default_map()?;
-    let image = Image::new(alloc)?;
-    Ok(Machine::new(alloc, map, &image)?)
 }
 
 /// Puts one byte to each of the addresses.
@@ -331,7 +284,7 @@ fn received(bus: &mut Bus) -> (u8, u8, u32) {
 /// Input at the port: whether it waits, its bytes in their order, and 0 where none waits.
 #[test]
 fn input_at_the_port(rt: HostRuntime) -> Result<(), Fail> {
-    let map = default_map()?;
+    let map = port_alone()?;
     let mut bus = Bus::new(rt.alloc(), map)?;
     assert_eq!(rt; bus.give(0x41), Ok(()));
     assert_eq!(rt; bus.give(0x42), Ok(()));
