@@ -3,6 +3,8 @@
 
 use crate::tests::replied_with;
 use bus::MapSpec;
+use std::alloc::Global;
+use std::process::Abort;
 use std::test::Fail;
 
 /// An example: a source, command lines and the replies.
@@ -88,11 +90,23 @@ fn port_alone() -> Result<MapSpec, Fail> {
     Ok(MapSpec::new(None, 0xF000)?)
 }
 
+/// The replies to an example's command lines, on a machine with this map, are the example's.
+fn assert_replied(
+    rt: &impl Abort,
+    alloc: Global,
+    map: MapSpec,
+    example: Example,
+) -> Result<(), Fail> {
+    let (source, commands, want) = example;
+    let told = replied_with(alloc, map, 1024, source, commands)?;
+    assert_eq!(rt; told.as_slice(), want);
+    Ok(())
+}
+
 #[test]
 fn runs_sessions(rt: HostRuntime) -> Result<(), Fail> {
-    for (source, commands, want) in SESSIONS {
-        let told = replied_with(rt.alloc(), port_alone()?, 1024, source, commands)?;
-        assert_eq!(rt; told.as_slice(), want);
+    for example in SESSIONS {
+        assert_replied(&rt, rt.alloc(), port_alone()?, example)?;
     }
     Ok(())
 }
@@ -163,11 +177,9 @@ const PROFILES: [Both; 8] = [
 #[test]
 fn runs_both_profiles(rt: HostRuntime) -> Result<(), Fail> {
     for (source, commands, in_c, in_n) in PROFILES {
-        let map = port_alone()?.profile_c();
-        let told = replied_with(rt.alloc(), map, 1024, source, commands)?;
-        assert_eq!(rt; told.as_slice(), in_c);
-        let told = replied_with(rt.alloc(), port_alone()?, 1024, source, commands)?;
-        assert_eq!(rt; told.as_slice(), in_n);
+        let map = port_alone()?;
+        assert_replied(&rt, rt.alloc(), map.profile_c(), (source, commands, in_c))?;
+        assert_replied(&rt, rt.alloc(), map, (source, commands, in_n))?;
     }
     Ok(())
 }
@@ -190,12 +202,10 @@ const CONTROL: [Example; 2] = [
 
 #[test]
 fn serves_the_control_byte(rt: HostRuntime) -> Result<(), Fail> {
-    for (source, commands, want) in CONTROL {
-        let told = replied_with(rt.alloc(), port_alone()?, 1024, source, commands)?;
-        assert_eq!(rt; told.as_slice(), want);
-        let map = port_alone()?.profile_c();
-        let told = replied_with(rt.alloc(), map, 1024, source, commands)?;
-        assert_eq!(rt; told.as_slice(), want);
+    for example in CONTROL {
+        let map = port_alone()?;
+        assert_replied(&rt, rt.alloc(), map.profile_c(), example)?;
+        assert_replied(&rt, rt.alloc(), map, example)?;
     }
     Ok(())
 }
@@ -221,9 +231,8 @@ const LINES: [Example; 3] = [
 
 #[test]
 fn lists_and_assembles(rt: HostRuntime) -> Result<(), Fail> {
-    for (source, commands, want) in LINES {
-        let told = replied_with(rt.alloc(), port_alone()?, 1024, source, commands)?;
-        assert_eq!(rt; told.as_slice(), want);
+    for example in LINES {
+        assert_replied(&rt, rt.alloc(), port_alone()?, example)?;
     }
     Ok(())
 }
