@@ -1,3 +1,2 @@
-pub mod Lazy
 pub mod Plain
 pub mod Quick

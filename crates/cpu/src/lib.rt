@@ -1,8 +1,9 @@
 //! The processor: one step at a time, each with a record that leads back.
 //!
-//! It owns the machine's registers, lines and cycle count; memory is the bus's. A caller sees a `State` and may make each of its events. One body
-//! performs an instruction, with a record or without; `quick_step` is the same step for most instructions, by one jump. `specs/Plain.antt` and
-//! `proofs/Undoing.antt` have the proof's idea: a record leads back where what it changed leads back.
+//! It owns the machine's lines and cycle count; memory is the bus's, and what instructions do to the registers is in `registers`. A caller
+//! sees a `State` and may make each of its events. One body performs an instruction, with a record or without; `quick_step` is the same step
+//! for most instructions, by one jump. `specs/Plain.antt` and `proofs/Undoing.antt` have the proof's idea: a record leads back where what it
+//! changed leads back.
 #![tactic(auto)]
 
 pub use checkpoint::Checkpoint;
@@ -10,6 +11,4 @@ pub use machine::Machine;
 pub use model::{Event, EventFault, Flags, Profile, Regs, Setting, Undo};
 
 mod checkpoint;
-mod effects;
 mod machine;
-mod registers;

@@ -5,7 +5,7 @@ ghost use Rattle.model.specs.Checkpoint.{checkpoint_of, returned, CanPutBack};
 
 use crate::checkpoint::Checkpoint;
 use crate::machine::Machine;
-use crate::registers::Registers;
+use registers::Registers;
 
 impl Machine {
     /// Notes what leads back to this state. It takes no memory (profile).

@@ -4,8 +4,8 @@ ghost use Rattle.std.specs.Prelude.{◌≡◌, ◌↔◌, true};
 ghost use Rattle.model.specs.Undo.{CanRestore, undone};
 
 use crate::machine::Machine;
-use crate::registers::Registers;
 use model::Undo;
+use registers::Registers;
 
 impl Machine {
     /// Whether a record can be put back here: none of its addresses is a port address, and both lists of the console have at least
