@@ -2,6 +2,7 @@
 
 ghost use Rattle.model.specs.Back.{BackIsExact};
 ghost use Rattle.model.specs.Looking.{LooksAreHarmless};
+ghost use Rattle.model.specs.Polled.{PolledSessionsStay, PolledTranscriptsStay};
 ghost use Rattle.model.specs.Run.{CutRunGoesOn, RunCanBeRepeated};
 ghost use Rattle.model.specs.Transcript.{ToldBegins};
 
@@ -30,4 +31,16 @@ pub fn looks_are_harmless()
 /// The replies to the lines whose end was told are a beginning of the replies to the whole input, whatever is still to be told.
 pub fn told_begins_the_transcript()
     ensures { ToldBegins }
+{}
+
+/// A session that holds only states whose control byte is 0, and whose steps never store an odd byte at base+3, is served as by the
+/// machine whose port could only be polled: with the same text and the same states.
+pub fn polled_sessions_stay()
+    ensures { PolledSessionsStay }
+{}
+
+/// The transcript of a session from its start on, whose steps never store an odd byte at base+3, is that of the machine whose port could
+/// only be polled.
+pub fn polled_transcripts_stay()
+    ensures { PolledTranscriptsStay }
 {}
