@@ -7,6 +7,7 @@ use engine::{EngineFault, debug_tape, debug_tape_from};
 use std::alloc::Global;
 use std::io;
 use std::io::{ErrorKind, Read, Write};
+use std::process::Abort;
 use std::test::Fail;
 
 /// The lines of a session, each with its reply. Each command stands among them, an empty line and a bad one too.
@@ -150,6 +151,19 @@ fn served(
     Ok(debug_tape(alloc, map, 16, b";0000000000\r\n", reader, writer))
 }
 
+/// A session ended with this fault, and wrote these replies, after so many bytes, lines or calls.
+fn assert_failed(
+    rt: &impl Abort,
+    after: usize,
+    ended: Result<(), EngineFault>,
+    fault: EngineFault,
+    written: &[u8],
+    replies: &[u8],
+) {
+    assert_eq!(rt; ended, Err(fault), "after {after}");
+    assert_eq!(rt; written, replies, "after {after}");
+}
+
 #[test]
 fn serves_bytes_one_by_one(rt: HostRuntime) -> Result<(), Fail> {
     let (lines, replies) = first_lines(rt.alloc(), SESSION.len())?;
@@ -182,11 +196,13 @@ fn each_read_of_a_line_fails(rt: HostRuntime) -> Result<(), Fail> {
         let mut writer = wide_taker(rt.alloc());
         let ended = served(rt.alloc(), &mut reader, &mut writer)?;
         let (told, replies) = first_lines(rt.alloc(), reads)?;
-        assert_eq!(rt; ended, Err(EngineFault::Read), "after {reads} lines");
-        assert_eq!(rt;
-            writer.taken.as_slice(),
-            replies.as_slice(),
-            "after {reads} lines"
+        assert_failed(
+            &rt,
+            reads,
+            ended,
+            EngineFault::Read,
+            &writer.taken,
+            &replies,
         );
         assert!(rt; lines.ends_with(reader.rest));
         assert_eq!(rt; reader.rest.len().saturating_add(told.len()), lines.len());
@@ -218,13 +234,8 @@ fn each_read_of_a_piece_fails(rt: HostRuntime) -> Result<(), Fail> {
             .filter(|byte| **byte == b'\n')
             .count();
         let (_, replies) = first_lines(rt.alloc(), whole)?;
-        assert_eq!(rt; ended, Err(EngineFault::Read), "after {told} bytes");
         assert_eq!(rt; told, reads.saturating_mul(3));
-        assert_eq!(rt;
-            writer.taken.as_slice(),
-            replies.as_slice(),
-            "after {told} bytes"
-        );
+        assert_failed(&rt, told, ended, EngineFault::Read, &writer.taken, &replies);
     }
     Ok(())
 }
@@ -250,12 +261,8 @@ fn each_write_of_an_early_byte_fails(rt: HostRuntime) -> Result<(), Fail> {
     let (_, replies) = first_lines(rt.alloc(), SESSION.len())?;
     for writes in 0..HALF {
         let (ended, taken) = fails_after(rt.alloc(), writes)?;
-        assert_eq!(rt; ended, Err(EngineFault::Write), "after {writes} bytes");
-        assert_eq!(rt;
-            taken.as_slice(),
-            replies.get(..writes).unwrap_or(b""),
-            "after {writes} bytes"
-        );
+        let told = replies.get(..writes).unwrap_or(b"");
+        assert_failed(&rt, writes, ended, EngineFault::Write, &taken, told);
     }
     Ok(())
 }
@@ -265,12 +272,8 @@ fn each_write_of_a_late_byte_fails(rt: HostRuntime) -> Result<(), Fail> {
     let (_, replies) = first_lines(rt.alloc(), SESSION.len())?;
     for writes in HALF..replies.len() {
         let (ended, taken) = fails_after(rt.alloc(), writes)?;
-        assert_eq!(rt; ended, Err(EngineFault::Write), "after {writes} bytes");
-        assert_eq!(rt;
-            taken.as_slice(),
-            replies.get(..writes).unwrap_or(b""),
-            "after {writes} bytes"
-        );
+        let told = replies.get(..writes).unwrap_or(b"");
+        assert_failed(&rt, writes, ended, EngineFault::Write, &taken, told);
     }
     let (ended, taken) = fails_after(rt.alloc(), replies.len())?;
     assert_eq!(rt; ended, Ok(()));
@@ -332,11 +335,13 @@ fn each_flush_fails(rt: HostRuntime) -> Result<(), Fail> {
         failed = failed.saturating_add(1);
         let told = MANY.saturating_sub(reader.reads);
         let (_, replies) = first_lines(rt.alloc(), told)?;
-        assert_eq!(rt; ended, Err(EngineFault::Write), "after {flushes} flushes");
-        assert_eq!(rt;
-            writer.taken.as_slice(),
-            replies.as_slice(),
-            "after {flushes} flushes"
+        assert_failed(
+            &rt,
+            flushes,
+            ended,
+            EngineFault::Write,
+            &writer.taken,
+            &replies,
         );
     }
     // each of the 25 lines with a reply is flushed
@@ -419,7 +424,7 @@ const AFTER_REPLIES: &[u8] = b"A=00 X=00 Y=00 S=F7 P=24 PC=0000 CYC=21\n\
     A=00 X=00 Y=00 S=FD P=24 PC=0200 CYC=7\n! HISTORY 5\n! HISTORY 5\n";
 
 /// Lines that are no commands.
-const BAD: [&[u8]; 21] = [
+const BAD: &[&[u8]] = &[
     b"run 1000001",
     b"run 00000001",
     b"back 0",

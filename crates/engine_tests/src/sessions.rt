@@ -11,7 +11,7 @@ use std::test::Fail;
 type Example = (&'static [u8], &'static [u8], &'static [u8]);
 
 /// Sources and sessions on them: going back over output, interrupts, faults and input; runs with their ends; breakpoints and watches.
-const SESSIONS: [Example; 12] = [
+const SESSIONS: &[Example] = &[
     // output is taken back
     (
         b"*=$0200\nLDA #$41\nSTA $F000\nBRK\n*=$FFFC\n.WORD $0200\n",
@@ -106,7 +106,7 @@ fn assert_replied(
 #[test]
 fn runs_sessions(rt: HostRuntime) -> Result<(), Fail> {
     for example in SESSIONS {
-        assert_replied(&rt, rt.alloc(), port_alone()?, example)?;
+        assert_replied(&rt, rt.alloc(), port_alone()?, *example)?;
     }
     Ok(())
 }
@@ -115,7 +115,7 @@ fn runs_sessions(rt: HostRuntime) -> Result<(), Fail> {
 type Both = (&'static [u8], &'static [u8], &'static [u8], &'static [u8]);
 
 /// What differs between the profiles.
-const PROFILES: [Both; 8] = [
+const PROFILES: &[Both] = &[
     // an indirect jump takes its high byte at the next address
     (
         b"*=$0200\n.BYTE $12\n*=$02FF\n.BYTE $34,$99\n*=$0400\nJMP ($02FF)\n*=$FFFC\n.WORD $0400\n",
@@ -176,7 +176,8 @@ const PROFILES: [Both; 8] = [
 
 #[test]
 fn runs_both_profiles(rt: HostRuntime) -> Result<(), Fail> {
-    for (source, commands, in_c, in_n) in PROFILES {
+    for row in PROFILES {
+        let (source, commands, in_c, in_n) = *row;
         let map = port_alone()?;
         assert_replied(&rt, rt.alloc(), map.profile_c(), (source, commands, in_c))?;
         assert_replied(&rt, rt.alloc(), map, (source, commands, in_n))?;
@@ -185,7 +186,7 @@ fn runs_both_profiles(rt: HostRuntime) -> Result<(), Fail> {
 }
 
 /// The port's control byte, which is the same in both profiles.
-const CONTROL: [Example; 2] = [
+const CONTROL: &[Example] = &[
     // input that waits interrupts a program that has set it; and back over the entry and the store
     (
         b"",
@@ -204,14 +205,14 @@ const CONTROL: [Example; 2] = [
 fn serves_the_control_byte(rt: HostRuntime) -> Result<(), Fail> {
     for example in CONTROL {
         let map = port_alone()?;
-        assert_replied(&rt, rt.alloc(), map.profile_c(), example)?;
-        assert_replied(&rt, rt.alloc(), map, example)?;
+        assert_replied(&rt, rt.alloc(), map.profile_c(), *example)?;
+        assert_replied(&rt, rt.alloc(), map, *example)?;
     }
     Ok(())
 }
 
 /// Texts assembled one line at a time: what is listed assembles back, and what is no one line is refused.
-const LINES: [Example; 3] = [
+const LINES: &[Example] = &[
     (
         b"",
         b"asm 0200 LDA !$10\nmem 0200 0202\nasm 0200 BNE $0281\nmem 0200 0201\ndis 0200 1\nasm 0200  \tlda $10 ; low\ndis 0200 2\n",
@@ -232,7 +233,7 @@ const LINES: [Example; 3] = [
 #[test]
 fn lists_and_assembles(rt: HostRuntime) -> Result<(), Fail> {
     for example in LINES {
-        assert_replied(&rt, rt.alloc(), port_alone()?, example)?;
+        assert_replied(&rt, rt.alloc(), port_alone()?, *example)?;
     }
     Ok(())
 }

@@ -213,7 +213,7 @@ fn refuses_tapes(rt: HostRuntime) -> Result<(), Fail> {
 
 /// Registers set and patches: an undocumented opcode, a PC that wraps, a call over its own bytes,
 /// flags, and what is refused.
-const CHANGES: [(&[u8], &[u8]); 6] = [
+const CHANGES: &[(&[u8], &[u8])] = &[
     (
         b"set PC 0200\npatch 0200 02\nstep\nregs\npatch 0200 EA\nstep\n",
         b"OK\nOK\n! FAULT 02 AT 0200\nA=00 X=00 Y=00 S=FD P=24 PC=0200 CYC=7\nOK\nA=00 X=00 Y=00 S=FD P=24 PC=0201 CYC=9\n",
@@ -244,13 +244,13 @@ const CHANGES: [(&[u8], &[u8]); 6] = [
 fn sets_and_patches(rt: HostRuntime) -> Result<(), Fail> {
     for (commands, want) in CHANGES {
         let told = replied(rt.alloc(), commands)?;
-        assert_eq!(rt; told.as_slice(), want);
+        assert_eq!(rt; told.as_slice(), *want);
     }
     Ok(())
 }
 
 /// Interrupts, a reset, input, and what is no command.
-const INTERRUPTS: [(&[u8], &[u8]); 3] = [
+const INTERRUPTS: &[(&[u8], &[u8])] = &[
     (
         b"set PC 0300\nset P 08\npatch FFFA 00 04\nirq 1\nnmi\nnmi\nstep\nmem 01FB 01FD\nset P 00\nstep\nreset\nregs\nset P 00\nstep\n",
         b"OK\nOK\nOK\nOK\nOK\nOK\nA=00 X=00 Y=00 S=FA P=2C PC=0400 CYC=14\n01FB  28 00 03\nOK\nA=00 X=00 Y=00 S=F7 P=24 PC=0000 CYC=21\nOK\nA=00 X=00 Y=00 S=FD P=24 PC=0000 CYC=28\nOK\nA=00 X=00 Y=00 S=FA P=24 PC=0000 CYC=35\n",
@@ -269,7 +269,7 @@ const INTERRUPTS: [(&[u8], &[u8]); 3] = [
 fn interrupts_and_takes_input(rt: HostRuntime) -> Result<(), Fail> {
     for (commands, want) in INTERRUPTS {
         let told = replied(rt.alloc(), commands)?;
-        assert_eq!(rt; told.as_slice(), want);
+        assert_eq!(rt; told.as_slice(), *want);
     }
     Ok(())
 }
