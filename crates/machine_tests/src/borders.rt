@@ -89,14 +89,29 @@ fn fill(session: &mut Session, from: u16, count: u16) -> Result<(), SessionFault
 #[test]
 fn full_tables(rt: HostRuntime) -> Result<(), Fail> {
     let mut session = empty_session(rt.alloc(), 4)?;
-    assert_eq!(rt; fill(&mut session, 0x0200, 256), Ok(()));
-    assert_eq!(rt; session.set_break(0x0300), Err(SessionFault::TableFull));
-    assert_eq!(rt; session.set_watch(0x0300), Err(SessionFault::TableFull));
-    assert_eq!(rt; session.set_break(0x0200), Err(SessionFault::AlreadySet));
-    assert_eq!(rt; session.set_watch(0x02ff), Err(SessionFault::AlreadySet));
-    assert_eq!(rt; session.set_watch(0xf003), Err(SessionFault::PortAddress));
-    assert_eq!(rt; session.clear_break(0x0280), Ok(()));
-    assert_eq!(rt; session.set_break(0x0300), Ok(()));
+    let answers = [
+        fill(&mut session, 0x0200, 256),
+        session.set_break(0x0300),
+        session.set_watch(0x0300),
+        session.set_break(0x0200),
+        session.set_watch(0x02ff),
+        session.set_watch(0xf003),
+        session.clear_break(0x0280),
+        session.set_break(0x0300),
+    ];
+    assert_eq!(rt;
+        answers,
+        [
+            Ok(()),
+            Err(SessionFault::TableFull),
+            Err(SessionFault::TableFull),
+            Err(SessionFault::AlreadySet),
+            Err(SessionFault::AlreadySet),
+            Err(SessionFault::PortAddress),
+            Ok(()),
+            Ok(()),
+        ]
+    );
     assert_eq!(rt;
         (session.break_count(), session.break_at(255)),
         (256, Some(0x0300))

@@ -17,15 +17,23 @@ fn limit(did: u32) -> RunEnd {
 #[test]
 fn back_replays(rt: HostRuntime) -> Result<(), Fail> {
     let mut session = empty_session(rt.alloc(), 4096)?;
-    assert_eq!(rt; session.run(2000), limit(2000));
-    assert_eq!(rt; session.held(), 2000);
-    assert_eq!(rt; went_back(&mut session, 1), Ok((0x90, 14000, 975)));
-    assert_eq!(rt; went_back(&mut session, 975), Ok((0xfd, 7175, 0)));
-    assert_eq!(rt;
+    let end = session.run(2000);
+    assert_eq!(rt; (end, session.held()), (limit(2000), 2000));
+    let places = [
+        went_back(&mut session, 1),
+        went_back(&mut session, 975),
         went_back(&mut session, 1025),
-        Err(SessionFault::NoHistory { held: 1024 })
+        went_back(&mut session, 0),
+    ];
+    assert_eq!(rt;
+        places,
+        [
+            Ok((0x90, 14000, 975)),
+            Ok((0xfd, 7175, 0)),
+            Err(SessionFault::NoHistory { held: 1024 }),
+            Ok((0xfd, 7175, 0)),
+        ]
     );
-    assert_eq!(rt; went_back(&mut session, 0), Ok((0xfd, 7175, 0)));
     drop(session);
     Ok(())
 }
@@ -60,11 +68,16 @@ fn marked(
 fn tables(rt: HostRuntime) -> Result<(), Fail> {
     let mut session = empty_session(rt.alloc(), 4)?;
     assert_eq!(rt; marked(&mut session, 0x0000, 0x01fb), Ok((1, Some(0x0000))));
-    assert_eq!(rt; session.run(9).why, Why::Watch(0x01fb));
-    assert_eq!(rt; session.clear_watch(0x01fb), Ok(()));
-    assert_eq!(rt; session.run(9).why, Why::Break(0x0000));
-    assert_eq!(rt; session.clear_break(0x0000), Ok(()));
-    assert_eq!(rt; session.run(9), limit(9));
+    let at_watch = session.run(9).why;
+    let no_watch = session.clear_watch(0x01fb);
+    let at_break = session.run(9).why;
+    let no_break = session.clear_break(0x0000);
+    let at_end = session.run(9);
+    assert_eq!(rt; (no_watch, no_break), (Ok(()), Ok(())));
+    assert_eq!(rt;
+        (at_watch, at_break, at_end),
+        (Why::Watch(0x01fb), Why::Break(0x0000), limit(9))
+    );
     drop(session);
     Ok(())
 }

@@ -14,14 +14,14 @@ fn patch(address: u16, bytes: [u8; 3], count: u8) -> Event {
     }
 }
 
-/// A, X, Y, S, the status with B clear, PC and the cycles.
-fn shown(session: &Session) -> ((u8, u8, u8, u8), u8, u16, u64) {
+/// A, X, Y, S and the status with B clear; PC; the cycles; what stands at $0010 and at the top of the stack.
+fn shown(session: &Session) -> ([u8; 5], u16, u64, [u8; 2]) {
     let regs = session.regs();
     (
-        (regs.a, regs.x, regs.y, regs.s),
-        regs.flags.to_byte(false),
+        [regs.a, regs.x, regs.y, regs.s, regs.flags.to_byte(false)],
         regs.pc,
         session.cycles(),
+        [session.peek(0x0010), session.peek(0x01fd)],
     )
 }
 
@@ -45,12 +45,13 @@ fn runs_and_goes_back(rt: HostRuntime) -> Result<(), Fail> {
     assert_eq!(rt; session.run(6), all);
     assert_eq!(rt;
         shown(&session),
-        ((0x01, 0x80, 0x80, 0xfd), 0x24, 0x0207, 24)
+        ([0x01, 0x80, 0x80, 0xfd, 0x24], 0x0207, 24, [0x00, 0x80])
     );
-    assert_eq!(rt; (session.peek(0x0010), session.peek(0x01fd)), (0x00, 0x80));
     assert_eq!(rt; session.back(6), Ok(()));
-    assert_eq!(rt; shown(&session), ((0, 0, 0, 0xfd), 0x24, 0x0200, 7));
-    assert_eq!(rt; (session.peek(0x0010), session.peek(0x01fd)), (0xff, 0x00));
+    assert_eq!(rt;
+        shown(&session),
+        ([0, 0, 0, 0xfd, 0x24], 0x0200, 7, [0xff, 0x00])
+    );
     drop(session);
     Ok(())
 }

@@ -38,9 +38,19 @@ fn stepped(session: &mut Session) -> Result<(u8, u8, u16, u64), EventFault> {
 fn load_store_break(rt: HostRuntime) -> Result<(), Fail> {
     let bytes = [0xa9, 0x80, 0x8d, 0x10, 0x00, 0x00];
     let mut session = session_on(rt.alloc(), &bytes, 1024)?;
-    assert_eq!(rt; stepped(&mut session), Ok((0x80, 0xa4, 0x0202, 9)));
-    assert_eq!(rt; stepped(&mut session), Ok((0x80, 0xa4, 0x0205, 13)));
-    assert_eq!(rt; stepped(&mut session), Ok((0x80, 0xa4, 0x0000, 20)));
+    let steps = [
+        stepped(&mut session),
+        stepped(&mut session),
+        stepped(&mut session),
+    ];
+    assert_eq!(rt;
+        steps,
+        [
+            Ok((0x80, 0xa4, 0x0202, 9)),
+            Ok((0x80, 0xa4, 0x0205, 13)),
+            Ok((0x80, 0xa4, 0x0000, 20)),
+        ]
+    );
     for (address, byte) in [
         (0x0010, 0x80),
         (0x01fb, 0xb4),
@@ -98,16 +108,23 @@ fn input_interrupts(rt: HostRuntime) -> Result<(), Fail> {
     let bytes = [0xa9, 0x01, 0x8d, 0x03, 0xf0, 0x58, 0x4c, 0x06, 0x02];
     let entered = Ok((0x01, 0x24, 0x0000, 3313));
     let mut session = session_on(rt.alloc(), &bytes, 2048)?;
-    assert_eq!(rt; session.run(1100).did, 1100);
-    assert_eq!(rt; session.event(Event::Input(0x41)), Ok(()));
-    assert_eq!(rt; stepped(&mut session), entered);
-    assert_eq!(rt; (session.peek(0x01fb), session.peek(0x01fc)), (0x20, 0x06));
-    assert_eq!(rt; session.event(Event::Reset), Ok(()));
-    assert_eq!(rt; session.back(2), Ok(()));
-    assert_eq!(rt; stepped(&mut session), entered);
+    let did = session.run(1100).did;
+    let given = session.event(Event::Input(0x41));
+    let first = stepped(&mut session);
+    let pushed = (session.peek(0x01fb), session.peek(0x01fc));
+    let reset = session.event(Event::Reset);
+    assert_eq!(rt;
+        (did, pushed, session.back(2)),
+        (1100, (0x20, 0x06), Ok(()))
+    );
+    let again = stepped(&mut session);
     let events = [Event::Reset, Event::Set(Setting::P(0x00))];
-    assert_eq!(rt; happened(&mut session, &events), Ok(()));
-    assert_eq!(rt; stepped(&mut session), Ok((0x01, 0x20, 0x0202, 3322)));
+    let reset_again = happened(&mut session, &events);
+    assert_eq!(rt; [given, reset, reset_again], [Ok(()), Ok(()), Ok(())]);
+    assert_eq!(rt;
+        [first, again, stepped(&mut session)],
+        [entered, entered, Ok((0x01, 0x20, 0x0202, 3322))]
+    );
     drop(session);
     Ok(())
 }
@@ -286,11 +303,9 @@ fn received(bus: &mut Bus) -> (u8, u8, u32) {
 fn input_at_the_port(rt: HostRuntime) -> Result<(), Fail> {
     let map = port_alone()?;
     let mut bus = Bus::new(rt.alloc(), map)?;
-    assert_eq!(rt; bus.give(0x41), Ok(()));
-    assert_eq!(rt; bus.give(0x42), Ok(()));
-    assert_eq!(rt; received(&mut bus), (1, 0x41, 1));
-    assert_eq!(rt; received(&mut bus), (1, 0x42, 2));
-    assert_eq!(rt; received(&mut bus), (0, 0x00, 2));
+    assert_eq!(rt; [bus.give(0x41), bus.give(0x42)], [Ok(()), Ok(())]);
+    let bytes = [received(&mut bus), received(&mut bus), received(&mut bus)];
+    assert_eq!(rt; bytes, [(1, 0x41, 1), (1, 0x42, 2), (0, 0x00, 2)]);
     assert_eq!(rt; (bus.read(0xf000), bus.input_room()), (0, 65534));
     drop(bus);
     Ok(())
