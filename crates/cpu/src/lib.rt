@@ -7,7 +7,7 @@
 #![tactic(auto)]
 
 pub use checkpoint::Checkpoint;
-pub use machine::Machine;
+pub use machine::{Machine, QuickRun};
 pub use model::{Event, EventFault, Flags, Profile, Regs, Setting, Undo};
 
 mod checkpoint;

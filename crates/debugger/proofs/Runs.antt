@@ -14,15 +14,9 @@ use Rattle.model.specs.Run.{run_end, after_steps, stop_of, one_later, watch_met,
 use Rattle.model.specs.Undo.{CanRestore, restored, undone, Undoes}
 use Rattle.model.specs.declared.undo.Change.{Change}
 use Rattle.model.specs.declared.undo.Undo.{Undo}
+use Rattle.debugger.specs.Running.{beyond, end_at}
 use Rattle.debugger.specs.Stops.{stop_after}
 use Rattle.session_laws.proofs.Runs.{ends_with, run_end-zero, run_end-made, run_end-refused, after_steps-zero, after_steps-made, after_steps-add}
-
--- an end with so many steps before it
-abbrev pub beyond : ℕ → RunEnd → RunEnd
-beyond k e = record { did = k + e.did; why = e.why }
-
-abbrev pub end_at : ℕ → Why → RunEnd
-end_at did why = record { did = did; why = why }
 
 pub beyond-end : (k did n : ℕ) (why : Why) → k + did ≡ n → beyond k (end_at did why) ≡ end_at n why
 beyond-end k did n why e = λ i. record { did = e i; why = why }
@@ -31,7 +25,7 @@ pub beyond-later : (k : ℕ) (e : RunEnd) → beyond k (one_later e) ≡ beyond 
 beyond-later k e = let z : k + suc e.did ≡ k + 1 + e.did = omega arith in λ i. record { did = z i; why = e.why }
 
 -- a run of which some steps are left, by its first step
-run_made : (n : ℕ) (s : Session) (t : State) (why : Option Why) → 0 < n → step s.current ≡ Ok t → why ≡ stop_of s s.current t → run_end n s ≡ ends_with why (run_end (n - 1) (appended s t))
+pub run_made : (n : ℕ) (s : Session) (t : State) (why : Option Why) → 0 < n → step s.current ≡ Ok t → why ≡ stop_of s s.current t → run_end n s ≡ ends_with why (run_end (n - 1) (appended s t))
 unfolding stop_of
 run_made zero s t why h made stop = absurd (omega arith)
 run_made (suc n) s t why h made stop =

@@ -37,7 +37,7 @@ one_there (w ∷ ws) zero h e = cc
 one_there (w ∷ ws) (suc k) h e = one_there ws k (omega arith) e
 
 -- a step whose record has no cell changes no byte
-none_changed : (ws : List ℕ) (before after : State) → before.bus.memory ≡ after.bus.memory → changed ws before after ≡ []
+pub none_changed : (ws : List ℕ) (before after : State) → before.bus.memory ≡ after.bus.memory → changed ws before after ≡ []
 none_changed [] before after same = refl
 none_changed (w ∷ ws) before after same =
     let byte : slice_index before.bus.memory w ≡ slice_index after.bus.memory w = ap (λ m. slice_index m w) same in

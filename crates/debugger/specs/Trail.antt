@@ -1,13 +1,6 @@
 -- The trail of a session: how much of it there is, and what one step of it is.
-use Rattle.std.specs.Prelude.{◌≡◌, ℕ, ◌+◌, ◌*◌, ◌/◌, ◌<◌, ◌≤◌, List, [], ◌∷◌, ◌++◌, drop, length, Option, Result, Ok, Err}
-use Rattle.model.specs.State.{Bus, State}
-use Rattle.model.specs.Step.{step}
-use Rattle.model.specs.Session.{Session, appended}
-use Rattle.model.specs.declared.event.EventFault.{EventFault}
-use Rattle.model.specs.Run.{stop_of}
-use Rattle.model.specs.declared.run_end.Why.{Why}
-use Rattle.model.specs.Undo.{CanRestore, restored}
-use Rattle.model.specs.declared.undo.Change.{Change}
+use Rattle.std.specs.Prelude.{◌≡◌, ℕ, ◌+◌, ◌*◌, ◌/◌, ◌<◌, ◌≤◌, List, [], ◌∷◌, ◌++◌, drop, length}
+use Rattle.model.specs.State.{State}
 use Rattle.model.specs.Checkpoint.{Checkpoint}
 use Rattle.model.specs.Session.{keep_last}
 use Rattle.debugger.specs.Replay.{IsHistory, held_states}
@@ -51,14 +44,3 @@ pub record Marked (old new : Trail) (c : Checkpoint) : Type 0 where
   pub kept : new.kept.items ≡ old.kept.items ++ c ∷ []
   pub spare : length new.spare.items + 1 ≡ length old.spare.items
   pub room : SameRoom old new
-
--- a change that notes nothing puts a bus back to what it is
-pub record IsMark (change : Change) (bus : Bus) : Type 0 where
-  pub count : change.count ≡ 0
-  pub fits : CanRestore change bus
-  pub back : restored change bus ≡ bus
-
--- one step of a run leads from a session to another, and tells whether the run ends with it
-abbrev pub StepsTo : Session → Result (Option Why) EventFault → Session → Type 0
-StepsTo s (Ok why) t = (state : State) × (step s.current ≡ Ok state) × (why ≡ stop_of s s.current state) × (t ≡ appended s state)
-StepsTo s (Err fault) t = (step s.current ≡ Err fault) × (t ≡ s)

@@ -1,16 +1,20 @@
 //! The trail of a session, with the last steps of a run only counted: they are noted together, before anything else happens.
 
-ghost use Rattle.std.specs.Prelude.{◌≡◌, ◌+◌, ◌-◌, ◌*◌, ◌<◌, ◌≤◌, ◌++◌, ◌∷◌, ◌%◌, [], min, length, take, IfOk};
+ghost use Rattle.std.specs.Prelude.{◌≡◌, ◌+◌, ◌-◌, ◌*◌, ◌<◌, ◌≤◌, ◌++◌, ◌∷◌, ◌%◌, [], min, length, take, IfOk, ℕ, List, true, false};
 ghost use Rattle.model.specs.State.{State};
+ghost use Rattle.model.specs.Run.{after_steps};
 ghost use Rattle.model.specs.declared.event.Event.TheVariants.{Step};
 ghost use Rattle.circular_buffer.specs.Buffer.{buffer};
 ghost use Rattle.debugger.specs.Course.{IsQuiet, with_steps};
 ghost use Rattle.debugger.specs.Replay.{Follows, IsHistory, held_states};
+ghost use Rattle.debugger.specs.Running.{session_of};
 ghost use Rattle.debugger.specs.Trail.{HasRoom, IsNoted};
+ghost use Rattle.cpu.specs.Running.{AllButLast, AllGoOn, IsMark};
 
 use crate::trail;
 use crate::trail::{PART, Trail};
-use cpu::Machine;
+use bus::Change;
+use cpu::{Machine, QuickRun};
 use model::{Event, SessionFault};
 use std::alloc::Global;
 use std::marker::Model;
@@ -117,6 +121,34 @@ pub fn note_step(course: &mut Course, machine: &Machine)
     }
     course.quiet -= 1;
     course.steps += 1;
+}
+
+/// Steps one after another, as `Machine::quick_run` makes them, none of which makes a checkpoint or lets the oldest part go.
+#[inline(always)]
+pub fn run_quietly(
+    course: &mut Course,
+    machine: &mut Machine,
+    change: &mut Change,
+    limit: u32,
+    stops: &[u8],
+    watched: bool,
+) -> QuickRun
+    requires stops { length stops.now ≡ 65536 }
+    requires mark { IsMark change.old machine.old.bus }
+    requires history { IsHistory 1024 course.old.kept.items course.old.events.items machine.old }
+    ensures within { result.steps ≤ limit }
+    ensures on { result.stopped ≡ false → AllGoOn stops.now watched result.steps machine.old machine.new }
+    ensures mark { result.stopped ≡ false → IsMark change.new machine.new.bus }
+    ensures last { result.stopped ≡ true → AllButLast stops.now watched result.steps machine.old machine.new change.new }
+    ensures room { HasRoom course.new }
+    ensures history { IsHistory 1024 course.new.kept.items course.new.events.items machine.new }
+    ensures steps { (breaks watches : List ℕ) (replayed : ℕ) → session_of course.new machine.new breaks watches replayed ≡ after_steps result.steps (session_of course.old machine.old breaks watches replayed) }
+{
+    let most = limit.min(course.quiet);
+    let ran = machine.quick_run(change, most, stops, watched);
+    course.quiet -= ran.steps;
+    course.steps += ran.steps;
+    ran
 }
 
 /// Notes some steps, none of which makes a checkpoint or lets the oldest part go.

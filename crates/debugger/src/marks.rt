@@ -1,6 +1,6 @@
 //! Addresses in the order in which they were set.
 
-ghost use Rattle.std.specs.Prelude.{◌≡◌, ◌≢◌, ◌<◌, ◌≤◌, [], ◌∷◌, ◌++◌, length, nat_eq, slice_get, false, true, OnOk, OnErr, IfErr, IfOk, IsErrOf, Ok, Err};
+ghost use Rattle.std.specs.Prelude.{◌≡◌, ◌≢◌, ◌<◌, ◌≤◌, [], ◌∷◌, ◌++◌, length, nat_eq, slice_get, slice_index, ℕ, false, true, OnOk, OnErr, IfErr, IfOk, IsErrOf, Ok, Err};
 ghost use Rattle.std.specs.List.{list_any};
 ghost use Rattle.model.specs.Tables.{put_in, taken_out};
 
@@ -70,6 +70,15 @@ impl Marks {
             return false;
         }
         self.set.contains(&address)
+    }
+
+    /// A byte for each address, which is 0 only where the address is not in the table.
+    #[inline(always)]
+    pub fn map(&self) -> &[u8]
+        ensures size { length result.now ≡ 65536 }
+        ensures none { (k : ℕ) → slice_index result.now k ≡ 0 → list_any (nat_eq k) self.now ≡ false }
+    {
+        self.map.as_slice()
     }
 
     /// Puts an address at the end. `AlreadySet` where it is set, then `TableFull` where 256 are, then `OutOfMemory` where a request

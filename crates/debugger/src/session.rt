@@ -9,11 +9,13 @@ ghost use Rattle.model.specs.Back.{back_of, gone_back};
 ghost use Rattle.model.specs.Run.{run_end, after_steps};
 ghost use Rattle.model.specs.Tables.{break_set, break_cleared, watch_set, watch_cleared};
 ghost use Rattle.debugger.specs.Replay.{IsHistory, held_states};
-ghost use Rattle.debugger.specs.Trail.{HasRoom, IsMark, StepsTo};
+ghost use Rattle.debugger.specs.Running.{RunsTo, StepsTo};
+ghost use Rattle.debugger.specs.Trail.{HasRoom};
+ghost use Rattle.cpu.specs.Running.{IsMark};
 
-use crate::course::{Course, begin, note, note_step, rewind};
+use crate::course::{Course, begin, note, note_step, rewind, run_quietly};
 use crate::marks::Marks;
-use crate::stops::stop_after;
+use crate::stops::{Stretch, stop_after};
 use crate::trail::happen;
 use bus::{BusFault, Change, Image, MapSpec};
 use cpu::Machine;
@@ -113,10 +115,18 @@ impl Session {
         ensures after { self.new ≡ after_steps result.did self.old }
     {
         let mut change = self.machine.mark();
-        for did in 0..count {
-            match self.watched_step(&mut change) {
-                Ok(None) => {}
-                Ok(Some(why)) => return RunEnd { did: did + 1, why },
+        let mut did = 0;
+        while did < count {
+            match self.run_on(&mut change, count - did) {
+                Ok(stretch) => match stretch.why {
+                    None => did += stretch.steps,
+                    Some(why) => {
+                        return RunEnd {
+                            did: did + stretch.steps,
+                            why,
+                        };
+                    }
+                },
                 Err(fault) => {
                     return RunEnd {
                         did,
@@ -131,31 +141,46 @@ impl Session {
         }
     }
 
-    /// One step of a run, and why the run ends with it, if it does. The change notes what the step stored, and nothing after it.
-    #[inline(always)]
-    fn watched_step(&mut self, change: &mut Change) -> Result<Option<Why>, EventFault>
+    /// The first steps of a run, one at least, and why it ends with the last of them, if it does. The change notes nothing before and
+    /// after them.
+    fn run_on(&mut self, change: &mut Change, limit: u32) -> Result<Stretch, EventFault>
+        requires some { 0 < limit }
         requires mark { IsMark change.old self.old.current.bus }
-        ensures steps { StepsTo self.old result self.new }
+        ensures within { IfOk result (λ stretch. stretch.steps ≤ limit) }
+        ensures steps { RunsTo self.old result self.new }
         ensures mark { OnOk result (IsMark change.new self.new.current.bus) }
     {
-        if !self.machine.quick_step(change) {
-            return self.slow_step(change);
+        let watched = self.watches.len() != 0;
+        let stops = self.breaks.map();
+        let ran = run_quietly(
+            &mut self.trail,
+            &mut self.machine,
+            change,
+            limit,
+            stops,
+            watched,
+        );
+        if ran.stopped {
+            let why = stop_after(&self.machine, &self.watches, &self.breaks, change);
+            *change = self.machine.mark();
+            return Ok(Stretch {
+                steps: ran.steps,
+                why,
+            });
         }
-        match stop_after(&self.machine, &self.watches, &self.breaks, change) {
-            None => {
-                note_step(&mut self.trail, &self.machine);
-                forget(&self.machine, change);
-                Ok(None)
-            }
-            Some(why) => {
-                note_step(&mut self.trail, &self.machine);
-                forget(&self.machine, change);
-                Ok(Some(why))
-            }
+        if ran.steps > 0 {
+            return Ok(Stretch {
+                steps: ran.steps,
+                why: None,
+            });
+        }
+        match self.slow_step(change) {
+            Ok(why) => Ok(Stretch { steps: 1, why }),
+            Err(fault) => Err(fault),
         }
     }
 
-    /// The same for any step.
+    /// A step of a run by itself, and why the run ends with it, if it does. The change notes nothing after it.
     #[inline(never)]
     fn slow_step(&mut self, change: &mut Change) -> Result<Option<Why>, EventFault>
         ensures steps { StepsTo self.old result self.new }
@@ -315,17 +340,5 @@ impl Session {
         ensures { IsState self.now.current }
     {
         self.machine.is_state();
-    }
-}
-
-/// A change that notes what a step stored, made to note nothing.
-#[inline(always)]
-fn forget(machine: &Machine, change: &mut Change)
-    requires fits { CanRestore change.old machine.now.bus }
-    requires plain { change.old.count ≡ 0 → restored change.old machine.now.bus ≡ machine.now.bus }
-    ensures { IsMark change.new machine.now.bus }
-{
-    if change.count != 0 {
-        *change = machine.mark();
     }
 }

@@ -11,6 +11,13 @@ use bus::Change;
 use cpu::Machine;
 use model::Why;
 
+/// Steps of a run made one after another, and why the run ends with the last of them, if it does.
+#[derive(Clone, Copy, Debug, PartialEq, Eq)]
+pub struct Stretch {
+    pub steps: u32,
+    pub why: Option<Why>,
+}
+
 /// Why a run ends in this state after the step that the change is of, if it does.
 #[inline(always)]
 #[tactic(auto, unfolding(crate::specs::Stops::stop_after, model::specs::Run::watch_met, model::specs::Run::break_met))]

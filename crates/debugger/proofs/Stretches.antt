@@ -1,0 +1,240 @@
+-- Steps made one after another, as a run and as a trail see them.
+use Rattle.std.proofs.Common.{◌≡◌, ℕ, ◌+◌, ◌-◌, ◌%◌, ◌<◌, ◌≤◌, zero, suc, Bool, true, false, List, [], ◌∷◌, length, Option, Some, None, Ok, Err, refl, sym, ap, ◌∙◌, subst, arith}
+use Rattle.std.specs.Prelude.{nat_eq, slice_index}
+use Rattle.std.specs.List.{list_any}
+use Rattle.std.specs.Option.{option_map, option_or}
+use Rattle.model.specs.State.{Bus, State}
+use Rattle.model.specs.Step.{step}
+use Rattle.model.specs.Session.{Session, appended}
+use Rattle.model.specs.Run.{run_end, after_steps, stop_of, watch_met, break_met, lowest, changed}
+use Rattle.model.specs.declared.event.Event.TheVariants.{Step}
+use Rattle.model.specs.declared.event.EventFault.{EventFault}
+use Rattle.model.specs.declared.run_end.Why.{Why}
+use Rattle.model.specs.declared.run_end.Why.TheVariants.{Watch}
+use Rattle.model.specs.declared.run_end.RunEnd.{RunEnd}
+use Rattle.model.specs.declared.undo.Change.{Change}
+use Rattle.cpu.specs.Running.{AllButLast, AllGoOn, GoesOn, IsStep}
+use Rattle.debugger.specs.Course.{IsQuiet, with_steps}
+use Rattle.debugger.specs.Replay.{Follows, IsHistory}
+use Rattle.debugger.specs.Running.{RunsTo, StepsTo, beyond, end_after, end_at, session_of}
+use Rattle.debugger.specs.Stops.{stop_after}
+use Rattle.debugger.specs.declared.stops.Stretch.{Stretch}
+use Rattle.debugger.specs.Trail.{HasRoom, IsNoted}
+use Rattle.debugger.specs.declared.trail.Trail.{Trail}
+use Rattle.session_laws.proofs.Runs.{after_steps-add, after_steps-zero, ends_with}
+use Rattle.debugger.proofs.Quiet.{noted_then, number_then, quieter, room_then}
+use Rattle.debugger.proofs.Replays.{follows_of}
+use Rattle.debugger.proofs.Runs.{beyond-later, event_is_step, run_goes, run_made, run_refused, step_after, stop_is, undoes_by}
+use Rattle.debugger.proofs.Watching.{none_changed}
+
+-- ---- a trail
+
+-- steps, each with a change that leads back over it
+abbrev pub AllSteps : ℕ → State → State → Type 0
+AllSteps zero s t = t ≡ s
+AllSteps (suc n) s t = (m : State) × AllSteps n s m × ((change : Change) × IsStep m t change)
+
+pub steps_on : (stops : List ℕ) (watched : Bool) (n : ℕ) (s t : State) → AllGoOn stops watched n s t → AllSteps n s t
+steps_on stops watched zero s t all = all
+steps_on stops watched (suc n) s t all = (all.0, steps_on stops watched n s all.0 all.1, (all.2.change, all.2.step))
+
+pub steps_last : (stops : List ℕ) (watched : Bool) (n : ℕ) (s t : State) (change : Change) → AllButLast stops watched n s t change → AllSteps n s t
+steps_last stops watched zero s t change all = absurd (omega (arith, all.0))
+steps_last stops watched (suc n) s t change all =
+    let less : suc n - 1 ≡ n = omega arith in
+    (all.1.0, steps_on stops watched n s all.1.0 (subst (λ k. AllGoOn stops watched k s all.1.0) less all.1.1), (change, all.1.2))
+
+pub steps_made : (stops : List ℕ) (watched stopped : Bool) (n : ℕ) (s t : State) (change : Change) → (stopped ≡ false → AllGoOn stops watched n s t) → (stopped ≡ true → AllButLast stops watched n s t change) → AllSteps n s t
+steps_made stops watched true n s t change on last = steps_last stops watched n s t change (last refl)
+steps_made stops watched false n s t change on last = steps_on stops watched n s t (on refl)
+
+-- a trail on which some steps more are counted
+pub record IsLonger (t : Trail) (p q n : ℕ) (s now : State) : Type 0 where
+  pub room : HasRoom (with_steps t (p + n))
+  pub quiet : IsQuiet t (p + n) (q - n)
+  pub history : IsHistory 1024 (with_steps t (p + n)).kept.items (with_steps t (p + n)).events.items now
+  pub states : (breaks watches : List ℕ) (number : ℕ) → session_of (with_steps t (p + n)) now breaks watches number ≡ after_steps n (session_of (with_steps t p) s breaks watches number)
+
+follows_step : (s t : State) (change : Change) → IsStep s t change → Follows s Step t
+follows_step s t change is = follows_of _ s t Step (event_is_step s ∙ is.made) (undoes_by change s t is.fits is.back)
+
+longer_none : (t : Trail) (p q : ℕ) (s : State) → HasRoom (with_steps t p) → IsQuiet t p q → IsHistory 1024 (with_steps t p).kept.items (with_steps t p).events.items s → IsLonger t p q 0 s s
+longer_none t p q s room quiet history =
+    let same : p ≡ p + 0 = omega arith in
+    let all : q ≡ q - 0 = omega arith in
+    record {
+      room = subst (λ k. HasRoom (with_steps t k)) same room;
+      quiet = subst (λ k. IsQuiet t k (q - 0)) same (subst (λ k. IsQuiet t p k) all quiet);
+      history = subst (λ k. IsHistory 1024 (with_steps t k).kept.items (with_steps t k).events.items s) same history;
+      states = λ breaks watches number. ap (λ k. session_of (with_steps t k) s breaks watches number) (sym same) ∙ sym (after_steps-zero step (session_of (with_steps t p) s breaks watches number));
+    }
+
+longer_one : (t : Trail) (p q n : ℕ) (s m now : State) (change : Change) → n < q → IsLonger t p q n s m → IsStep m now change → IsLonger t p q (suc n) s now
+longer_one t p q n s m now change some before is =
+    let more : 0 < q - n = omega arith in
+    let same : p + n + 1 ≡ p + suc n = omega arith in
+    let less : q - n - 1 ≡ q - suc n = omega arith in
+    let noted = noted_then t (p + n) (q - n) m now before.room before.quiet more before.history (follows_step m now change is) in
+    let number = number_then t (p + n) (q - n) now before.room before.quiet more in
+    record {
+      room = subst (λ k. HasRoom (with_steps t k)) same (room_then t (p + n) (q - n) now before.room before.quiet more);
+      quiet = subst (λ k. IsQuiet t k (q - suc n)) same (subst (λ k. IsQuiet t (p + n + 1) k) less (quieter t (p + n) (q - n) before.quiet more));
+      history = subst (λ k. IsHistory 1024 (with_steps t k).kept.items (with_steps t k).events.items now) same noted.history;
+      states = λ breaks watches replayed.
+          let first = session_of (with_steps t p) s breaks watches replayed in
+          let middle = session_of (with_steps t (p + n)) m breaks watches replayed in
+          let count : n + 1 ≡ suc n = omega arith in
+          ap (λ k. session_of (with_steps t k) now breaks watches replayed) (sym same)
+          ∙ (λ i. record { earlier = noted.states i; current = now; history = t.history; breaks = breaks; watches = watches; number = number i; replayed = replayed })
+          ∙ step_after n first middle now (before.states breaks watches replayed) is.made ∙ ap (λ k. after_steps k first) count;
+    }
+
+pub longer : (t : Trail) (p q n : ℕ) (s now : State) → HasRoom (with_steps t p) → IsQuiet t p q → IsHistory 1024 (with_steps t p).kept.items (with_steps t p).events.items s
+    → n ≤ q → AllSteps n s now → IsLonger t p q n s now
+longer t p q zero s now room quiet history within all = subst (λ u. IsLonger t p q 0 s u) (sym all) (longer_none t p q s room quiet history)
+longer t p q (suc n) s now room quiet history within all =
+    let before = longer t p q n s all.0 room quiet history (omega arith) all.1 in
+    longer_one t p q n s all.0 now all.2.0 (omega arith) before all.2.1
+
+-- ---- a run
+
+-- what leads to no stop and stores nothing where stores are watched ends no run
+no_break : (breaks : List ℕ) (stops : List ℕ) (a b : State) → ((k : ℕ) → slice_index stops k ≡ 0 → list_any (nat_eq k) breaks ≡ false) → slice_index stops b.regs.pc ≡ 0 → break_met breaks a b ≡ None
+unfolding break_met
+no_break breaks stops a b marks pass = rw (marks b.regs.pc pass) refl
+
+no_watch : (watches : List ℕ) (watched : Bool) (a b : State) → (watched ≡ false → watches ≡ []) → (watched ≡ true → b.bus ≡ a.bus) → watch_met watches a b ≡ None
+unfolding watch_met
+no_watch watches true a b none kept = ap (λ l. option_map Watch (lowest l)) (none_changed watches a b (ap (λ (x : Bus). x.memory) (sym (kept refl))))
+no_watch watches false a b none kept = ap (λ l. option_map Watch (lowest (changed l a b))) (none refl)
+
+-- some steps after which a run goes on
+pub record IsOn (s : Session) (n : ℕ) (t : State) : Type 0 where
+  pub current : (after_steps n s).current ≡ t
+  pub breaks : (after_steps n s).breaks ≡ s.breaks
+  pub watches : (after_steps n s).watches ≡ s.watches
+  pub end : (count : ℕ) → n ≤ count → run_end count s ≡ beyond n (run_end (count - n) (after_steps n s))
+
+on_none : (s : Session) → IsOn s 0 s.current
+on_none s =
+    let here = after_steps-zero step s in
+    record {
+      current = ap (λ u. u.current) here;
+      breaks = ap (λ u. u.breaks) here;
+      watches = ap (λ u. u.watches) here;
+      end = λ count h.
+          let all : count ≡ count - 0 = omega arith in
+          let rest = run_end (count - 0) s in
+          let z : rest.did ≡ 0 + rest.did = omega arith in
+          ap (λ n. run_end n s) all ∙ (λ i. record { did = z i; why = rest.why }) ∙ ap (λ u. beyond 0 (run_end (count - 0) u)) (sym here);
+    }
+
+goes_none : (s u : Session) (t : State) (stops : List ℕ) (watched : Bool) (change : Change) → u.breaks ≡ s.breaks → u.watches ≡ s.watches
+    → ((k : ℕ) → slice_index stops k ≡ 0 → list_any (nat_eq k) s.breaks ≡ false) → (watched ≡ false → s.watches ≡ []) → GoesOn stops watched u.current t → None ≡ stop_of u u.current t
+unfolding stop_of
+goes_none s u t stops watched change breaks watches marks none g =
+    let first = no_watch u.watches watched u.current t (λ h. watches ∙ none h) g.kept in
+    let second = no_break u.breaks stops u.current t (λ k h. ap (list_any (nat_eq k)) breaks ∙ marks k h) g.pass in
+    sym (ap (λ w. option_or w (break_met u.breaks u.current t)) first ∙ second)
+
+on_one : (s : Session) (n : ℕ) (m t : State) (stops : List ℕ) (watched : Bool) → ((k : ℕ) → slice_index stops k ≡ 0 → list_any (nat_eq k) s.breaks ≡ false) → (watched ≡ false → s.watches ≡ [])
+    → IsOn s n m → GoesOn stops watched m t → IsOn s (suc n) t
+on_one s n m t stops watched marks none on goes =
+    let u = after_steps n s in
+    let g : GoesOn stops watched u.current t = subst (λ x. GoesOn stops watched x t) (sym on.current) goes in
+    let made = g.step.made in
+    let stop = goes_none s u t stops watched g.change on.breaks on.watches marks none g in
+    let count_on : n + 1 ≡ suc n = omega arith in
+    let next : appended u t ≡ after_steps (suc n) s = step_after n s u t refl made ∙ ap (λ k. after_steps k s) count_on in
+    record {
+      current = ap (λ x. x.current) (sym next);
+      breaks = ap (λ x. x.breaks) (sym next) ∙ on.breaks;
+      watches = ap (λ x. x.watches) (sym next) ∙ on.watches;
+      end = λ count h.
+          let some : 0 < count - n = omega arith in
+          let less : count - n - 1 ≡ count - suc n = omega arith in
+          on.end count (omega arith) ∙ ap (beyond n) (run_goes (count - n) u t some made stop) ∙ beyond-later n (run_end (count - n - 1) (appended u t))
+          ∙ ap (λ k. beyond k (run_end (count - n - 1) (appended u t))) count_on ∙ ap (λ k. beyond (suc n) (run_end k (appended u t))) less ∙ ap (λ x. beyond (suc n) (run_end (count - suc n) x)) next;
+    }
+
+pub on_all : (s : Session) (n : ℕ) (t : State) (stops : List ℕ) (watched : Bool) → ((k : ℕ) → slice_index stops k ≡ 0 → list_any (nat_eq k) s.breaks ≡ false) → (watched ≡ false → s.watches ≡ [])
+    → AllGoOn stops watched n s.current t → IsOn s n t
+on_all s zero t stops watched marks none all = subst (IsOn s 0) (sym all) (on_none s)
+on_all s (suc n) t stops watched marks none all = on_one s n all.0 t stops watched marks none (on_all s n all.0 stops watched marks none all.1) all.2
+
+-- a run whose first steps end nothing
+pub runs_on : (s u : Session) (n : ℕ) (t : State) (stops : List ℕ) (watched : Bool) → 0 < n → ((k : ℕ) → slice_index stops k ≡ 0 → list_any (nat_eq k) s.breaks ≡ false) → (watched ≡ false → s.watches ≡ [])
+    → AllGoOn stops watched n s.current t → u ≡ after_steps n s → RunsTo s (Ok (record { steps = n; why = None })) u
+runs_on s u n t stops watched some marks none all at =
+    let on = on_all s n t stops watched marks none all in
+    (some, at, λ count h. on.end count h ∙ ap (λ x. beyond n (run_end (count - n) x)) (sym at))
+
+ends_after : (k : ℕ) (why : Option Why) (rest : RunEnd) → beyond k (ends_with why rest) ≡ end_after (k + 1) why rest
+ends_after k (Some why) rest = refl
+ends_after k None rest = beyond-later k rest
+
+-- a run whose first steps but the last end nothing
+pub runs_last : (s u : Session) (n : ℕ) (t : State) (stops : List ℕ) (watched : Bool) (change : Change) (why : Option Why) → ((k : ℕ) → slice_index stops k ≡ 0 → list_any (nat_eq k) s.breaks ≡ false) → (watched ≡ false → s.watches ≡ [])
+    → AllButLast stops watched n s.current t change → why ≡ stop_after s.watches s.breaks change t → u ≡ after_steps n s → RunsTo s (Ok (record { steps = n; why = why })) u
+runs_last s u zero t stops watched change why marks none all told at = absurd (omega (arith, all.0))
+runs_last s u (suc n) t stops watched change why marks none all told at =
+    let less : suc n - 1 ≡ n = omega arith in
+    let m = all.1.0 in
+    let on = on_all s n m stops watched marks none (subst (λ k. AllGoOn stops watched k s.current m) less all.1.1) in
+    let v = after_steps n s in
+    let is : IsStep v.current t change = subst (λ x. IsStep x t change) (sym on.current) all.1.2 in
+    let stop : why ≡ stop_of v v.current t = told ∙ ap (λ w. stop_after w s.breaks change t) (sym on.watches) ∙ ap (λ b. stop_after v.watches b change t) (sym on.breaks) ∙ stop_is v change t is.back in
+    let count_on : n + 1 ≡ suc n = omega arith in
+    let next : appended v t ≡ u = step_after n s v t refl is.made ∙ ap (λ k. after_steps k s) count_on ∙ sym at in
+    (all.0, at, λ count h.
+        let some : 0 < count - n = omega arith in
+        let after : count - n - 1 ≡ count - suc n = omega arith in
+        on.end count (omega arith) ∙ ap (beyond n) (run_made (count - n) v t why some is.made stop) ∙ ends_after n why (run_end (count - n - 1) (appended v t))
+        ∙ ap (λ k. end_after k why (run_end (count - n - 1) (appended v t))) count_on ∙ ap (λ k. end_after (suc n) why (run_end k (appended v t))) after ∙ ap (λ x. end_after (suc n) why (run_end (count - suc n) x)) next)
+
+ends_first : (why : Option Why) (rest : RunEnd) → ends_with why rest ≡ end_after 1 why rest
+ends_first (Some why) rest = refl
+ends_first None rest = let z : suc rest.did ≡ 1 + rest.did = omega arith in λ i. record { did = z i; why = rest.why }
+
+-- a run whose first step is made by itself
+pub runs_one : (s v t : Session) (why : Option Why) → v ≡ s → StepsTo v (Ok why) t → RunsTo s (Ok (record { steps = 1; why = why })) t
+runs_one s v t why same told =
+    let is : StepsTo s (Ok why) t = subst (λ u. StepsTo u (Ok why) t) same told in
+    let none : 0 + 1 ≡ 1 = omega arith in
+    (omega arith, is.3 ∙ step_after 0 s s is.0 (sym (after_steps-zero step s)) is.1 ∙ ap (λ k. after_steps k s) none,
+    λ count h. run_made count s is.0 why (omega arith) is.1 is.2 ∙ ends_first why (run_end (count - 1) (appended s is.0)) ∙ ap (λ x. end_after 1 why (run_end (count - 1) x)) (sym is.3))
+
+pub runs_refused : (s v t : Session) (fault : EventFault) → v ≡ s → StepsTo v (Err fault) t → RunsTo s (Err fault) t
+runs_refused s v t fault same told = (λ count h. run_refused count s fault h (ap (λ u. step u.current) (sym same) ∙ told.0), told.1 ∙ same)
+
+-- nothing is watched
+pub none_watched : (ws : List ℕ) → length ws ≡ 0 → ws ≡ []
+none_watched [] h = refl
+none_watched (w ∷ ws) h = absurd (omega arith)
+
+-- ---- the rest of a run
+
+-- after some steps of a run, some more
+pub record IsFurther (s t : Session) (count did : ℕ) : Type 0 where
+  pub end : run_end count s ≡ beyond did (run_end (count - did) t)
+  pub after : t ≡ after_steps did s
+
+further_steps : (s u t : Session) (did steps : ℕ) → u ≡ after_steps did s → t ≡ after_steps steps u → t ≡ after_steps (did + steps) s
+further_steps s u t did steps at then = then ∙ ap (after_steps steps) at ∙ sym (after_steps-add did steps s (step s.current) refl)
+
+pub goes_further : (s u t : Session) (count did : ℕ) (r : Stretch) → r.why ≡ None → did + r.steps ≤ count → IsFurther s u count did → RunsTo u (Ok r) t → IsFurther s t count (did + r.steps)
+goes_further s u t count did r none within before told =
+    let rest = run_end (count - did - r.steps) t in
+    let less : count - did - r.steps ≡ count - (did + r.steps) = omega arith in
+    let z : did + (r.steps + rest.did) ≡ did + r.steps + rest.did = omega arith in
+    record {
+      end = before.end ∙ ap (beyond did) (told.2 (count - did) (omega arith)) ∙ ap (λ w. beyond did (end_after r.steps w rest)) none ∙ (λ i. record { did = z i; why = rest.why })
+          ∙ ap (λ k. beyond (did + r.steps) (run_end k t)) less;
+      after = further_steps s u t did r.steps before.after told.1;
+    }
+
+pub stops_further : (s u t : Session) (count did : ℕ) (r : Stretch) (why : Why) → r.why ≡ Some why → did + r.steps ≤ count → IsFurther s u count did → RunsTo u (Ok r) t
+    → (end_at (did + r.steps) why ≡ run_end count s) × (t ≡ after_steps (did + r.steps) s)
+stops_further s u t count did r why some within before told =
+    let rest = run_end (count - did - r.steps) t in
+    (sym (before.end ∙ ap (beyond did) (told.2 (count - did) (omega arith)) ∙ ap (λ w. beyond did (end_after r.steps w rest)) some), further_steps s u t did r.steps before.after told.1)
