@@ -12,7 +12,7 @@ use cpu::Machine;
 use model::Why;
 
 /// Steps of a run made one after another, and why the run ends with the last of them, if it does.
-#[derive(Clone, Copy, Debug, PartialEq, Eq)]
+#[derive(Clone, Copy)]
 pub struct Stretch {
     pub steps: u32,
     pub why: Option<Why>,
