@@ -1,4 +1,4 @@
-use Rattle.std.proofs.Common.{◌≡◌, ◌∙◌}
+use Rattle.std.proofs.Common.{◌∙◌}
 use Rattle.debugger.proofs.Steps.{step_follows, noted_follows, noted_refused}
 use Rattle.debugger.proofs.trail.make_step.Goals as goal
 

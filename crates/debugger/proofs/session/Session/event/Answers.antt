@@ -1,4 +1,3 @@
-use Rattle.std.proofs.Common.{◌≡◌}
 use Rattle.debugger.proofs.session.Session.event.Goals as goal
 
 pub invariant_of-self : goal.invariant_of-self
