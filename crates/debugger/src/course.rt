@@ -94,8 +94,22 @@ pub fn rewind(course: &mut Course, machine: &mut Machine, count: u32) -> u32
 }
 
 /// Notes an accepted event, which led to the machine's state.
-#[inline(never)]
+#[inline(always)]
 pub fn note(course: &mut Course, machine: &Machine, event: Event)
+    ensures room { HasRoom course.new }
+    ensures size { course.new.history ≡ course.old.history }
+    ensures number { length course.new.events.items % 1024 ≡ (length course.old.events.items % 1024 + 1) % 1024 }
+    ensures noted { (before : State) → IsHistory 1024 course.old.kept.items course.old.events.items before → Follows before event machine.now → IsNoted course.old course.new before machine.now }
+{
+    if let Event::Step = event {
+        return note_step(course, machine);
+    }
+    note_apart(course, machine, event);
+}
+
+/// The same, at once.
+#[inline(never)]
+fn note_apart(course: &mut Course, machine: &Machine, event: Event)
     ensures room { HasRoom course.new }
     ensures size { course.new.history ≡ course.old.history }
     ensures number { length course.new.events.items % 1024 ≡ (length course.old.events.items % 1024 + 1) % 1024 }
@@ -116,7 +130,7 @@ pub fn note_step(course: &mut Course, machine: &Machine)
     ensures noted { (before : State) → IsHistory 1024 course.old.kept.items course.old.events.items before → Follows before Step machine.now → IsNoted course.old course.new before machine.now }
 {
     if course.quiet == 0 {
-        note(course, machine, Event::Step);
+        note_apart(course, machine, Event::Step);
         return;
     }
     course.quiet -= 1;

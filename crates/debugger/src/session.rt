@@ -95,12 +95,13 @@ impl Session {
 
     /// One event. An accepted event is held until it is older than the last `history` events; a refused one changes nothing,
     /// and the fault is that of the machine's call, or `BadLength` where a patch counts more than three bytes. It takes no memory.
+    #[inline(always)]
     pub fn event(&mut self, event: Event) -> Result<(), EventFault>
         ensures ok { OnOk result ((state : State) × (event_of self.old.current event ≡ Ok state) × (self.new ≡ appended self.old state)) }
         ensures err { IfErr result (λ fault. (event_of self.old.current event ≡ Err fault) × (self.new ≡ self.old)) }
     {
         match happen(&mut self.machine, event) {
-            Ok(_) => {
+            Ok(()) => {
                 note(&mut self.trail, &self.machine, event);
                 Ok(())
             }

@@ -3,6 +3,7 @@
 ghost use Rattle.std.specs.Prelude.{◌≡◌, ◌+◌, ◌-◌, ◌*◌, ◌/◌, ◌%◌, ◌<◌, ◌≤◌, ◌++◌, ◌∷◌, [], min, length, take, drop, Some, Ok, Err, OnOk, IfOk, IfErr};
 ghost use Rattle.model.specs.State.{State};
 ghost use Rattle.model.specs.Event.{event_of};
+ghost use Rattle.model.specs.declared.event.Event.TheVariants.{Step};
 ghost use Rattle.model.specs.Session.{keep_last};
 ghost use Rattle.model.specs.Undo.{Undoes};
 ghost use Rattle.model.specs.Checkpoint.{Checkpoint as Seen, CanPutBack, checkpoint_of, returned};
@@ -31,9 +32,38 @@ pub struct Trail {
     pub history: u32,
 }
 
-/// What an event does to a machine, with the record that leads back.
+/// What an event does to a machine.
+#[inline(always)]
+pub fn happen(machine: &mut Machine, event: Event) -> Result<(), EventFault>
+    ensures ok { OnOk result (Follows machine.old event machine.new) }
+    ensures err { IfErr result (λ fault. (event_of machine.old event ≡ Err fault) × (machine.new ≡ machine.old)) }
+{
+    if let Event::Step = event {
+        return make_step(machine);
+    }
+    match happen_apart(machine, event) {
+        Ok(_) => Ok(()),
+        Err(fault) => Err(fault),
+    }
+}
+
+/// A step, quick where it can be, without a record.
+#[inline(always)]
+fn make_step(machine: &mut Machine) -> Result<(), EventFault>
+    ensures ok { OnOk result (Follows machine.old Step machine.new) }
+    ensures err { IfErr result (λ fault. (event_of machine.old Step ≡ Err fault) × (machine.new ≡ machine.old)) }
+{
+    let mut change = machine.mark();
+    if machine.quick_step(&mut change) {
+        return Ok(());
+    }
+    machine.step_noting(&mut change)
+}
+
+/// The same for any event, with the record that leads back.
+#[inline(never)]
 #[tactic(auto, unfolding(model::specs::Event::event_of))]
-pub fn happen(machine: &mut Machine, event: Event) -> Result<Undo, EventFault>
+fn happen_apart(machine: &mut Machine, event: Event) -> Result<Undo, EventFault>
     ensures ok { OnOk result (event_of machine.old event ≡ Ok machine.new) }
     ensures err { IfErr result (λ fault. (event_of machine.old event ≡ Err fault) × (machine.new ≡ machine.old)) }
     ensures undo { IfOk result (λ undo. Undoes undo machine.old machine.new) }

@@ -6,14 +6,14 @@ use Rattle.model.specs.State.{State}
 use Rattle.model.specs.Event.{event_of}
 use Rattle.model.specs.declared.event.Event.{Event}
 use Rattle.model.specs.declared.event.EventFault.{EventFault}
-use Rattle.model.specs.declared.undo.Undo.{Undo}
+use Rattle.debugger.specs.Replay.{Follows}
 use Rattle.debugger.proofs.Replays.{follow_at}
 use Rattle.debugger.proofs.trail.replay.Goals as goal
 use Rattle.debugger.proofs.trail.replay.Goals.{in-Some, in_default}
 
 -- an event that is accepted leads where the definition says
-went : (s t u : State) (e : Event) (r : Result Undo EventFault) → OnOk r (event_of s e ≡ Ok t) → IfErr r (λ f. (event_of s e ≡ Err f) × (t ≡ s)) → event_of s e ≡ Ok u → t ≡ u
-went s t u e (Ok x) ok err is = cc
+went : (s t u : State) (e : Event) (r : Result Unit EventFault) → OnOk r (Follows s e t) → IfErr r (λ f. (event_of s e ≡ Err f) × (t ≡ s)) → event_of s e ≡ Ok u → t ≡ u
+went s t u e (Ok x) ok err is = let there = ok.accepted in cc
 went s t u e (Err f) ok err is = let wrong = err.0 in cc
 
 pub loop-index-preserved : goal.loop-index-preserved

@@ -1,0 +1,14 @@
+use Rattle.std.proofs.Common.{◌∙◌}
+use Rattle.debugger.proofs.Steps.{step_follows, noted_follows, noted_refused}
+use Rattle.debugger.proofs.trail.make_step.Goals as goal
+
+pub returns-then-quick_step-clause-ok : goal.returns-then-quick_step-clause-ok
+returns-then-quick_step-clause-ok c =
+    step_follows c.quick_step.new.change _ _ (c.quick_step.ensures.made c.if-quick_step.true) c.quick_step.ensures.fits (c.quick_step.ensures.undo ∙ c.mark-change.ensures.undo)
+
+pub returns-clause-ok : goal.returns-clause-ok
+returns-clause-ok c =
+    noted_follows c.step_noting.result c.step_noting.new.change _ _ _ (c.quick_step.ensures.not c.if-quick_step.false).0 c.step_noting.ensures.ok c.step_noting.ensures.fits c.step_noting.ensures.undo
+
+pub returns-clause-err : goal.returns-clause-err
+returns-clause-err c = noted_refused c.step_noting.result _ _ _ (c.quick_step.ensures.not c.if-quick_step.false).0 c.step_noting.ensures.err
