@@ -13,11 +13,11 @@ impl Machine {
     pub fn save(&self, into: &mut Checkpoint)
         ensures { into.new ≡ checkpoint_of self.now }
     {
-        self.bus.save(&mut into.bus);
-        into.regs = self.regs.seen();
-        into.irq = self.irq;
-        into.nmi = self.nmi;
-        into.cycles = self.cycles;
+        self.processor.bus.save(&mut into.bus);
+        into.regs = self.processor.regs.seen();
+        into.irq = self.processor.irq;
+        into.nmi = self.processor.nmi;
+        into.cycles = self.processor.cycles;
     }
 
     /// Puts back what a checkpoint holds, and cuts both lists of the console to its lengths. It takes no memory (profile).
@@ -26,10 +26,10 @@ impl Machine {
         requires { CanPutBack old.now.bus self.old.bus }
         ensures { self.new ≡ returned old.now self.old }
     {
-        self.bus.restore_saved(&old.bus);
-        self.regs = Registers::of(old.regs);
-        self.irq = old.irq;
-        self.nmi = old.nmi;
-        self.cycles = old.cycles;
+        self.processor.bus.restore_saved(&old.bus);
+        self.processor.regs = Registers::of(old.regs);
+        self.processor.irq = old.irq;
+        self.processor.nmi = old.nmi;
+        self.processor.cycles = old.cycles;
     }
 }
