@@ -162,12 +162,19 @@ pub on_all : (s : Session) (n : ℕ) (t : State) (stops : List ℕ) (watched : B
 on_all s zero t stops watched marks none all = subst (IsOn s 0) (sym all) (on_none s)
 on_all s (suc n) t stops watched marks none all = on_one s n all.0 t stops watched marks none (on_all s n all.0 stops watched marks none all.1) all.2
 
--- a run whose first steps end nothing
-pub runs_on : (s u : Session) (n : ℕ) (t : State) (stops : List ℕ) (watched : Bool) → 0 < n → ((k : ℕ) → slice_index stops k ≡ 0 → list_any (nat_eq k) s.breaks ≡ false) → (watched ≡ false → s.watches ≡ [])
-    → AllGoOn stops watched n s.current t → u ≡ after_steps n s → RunsTo s (Ok (record { steps = n; why = None })) u
-runs_on s u n t stops watched some marks none all at =
+-- steps of a run that end nothing, none perhaps
+pub record GoesTo (s : Session) (n : ℕ) (u : Session) : Type 0 where
+  pub after : u ≡ after_steps n s
+  pub end : (count : ℕ) → n ≤ count → run_end count s ≡ beyond n (run_end (count - n) u)
+
+pub goes_to : (s u : Session) (n : ℕ) (t : State) (stops : List ℕ) (watched : Bool) → ((k : ℕ) → slice_index stops k ≡ 0 → list_any (nat_eq k) s.breaks ≡ false) → (watched ≡ false → s.watches ≡ [])
+    → AllGoOn stops watched n s.current t → u ≡ after_steps n s → GoesTo s n u
+goes_to s u n t stops watched marks none all at =
     let on = on_all s n t stops watched marks none all in
-    (some, at, λ count h. on.end count h ∙ ap (λ x. beyond n (run_end (count - n) x)) (sym at))
+    record { after = at; end = λ count h. on.end count h ∙ ap (λ x. beyond n (run_end (count - n) x)) (sym at) }
+
+pub runs_on : (s u : Session) (n : ℕ) → 0 < n → GoesTo s n u → RunsTo s (Ok (record { steps = n; why = None })) u
+runs_on s u n some goes = (some, goes.after, goes.end)
 
 ends_after : (k : ℕ) (why : Option Why) (rest : RunEnd) → beyond k (ends_with why rest) ≡ end_after (k + 1) why rest
 ends_after k (Some why) rest = refl
@@ -192,20 +199,25 @@ runs_last s u (suc n) t stops watched change why marks none all told at =
         on.end count (omega arith) ∙ ap (beyond n) (run_made (count - n) v t why some is.made stop) ∙ ends_after n why (run_end (count - n - 1) (appended v t))
         ∙ ap (λ k. end_after k why (run_end (count - n - 1) (appended v t))) count_on ∙ ap (λ k. end_after (suc n) why (run_end k (appended v t))) after ∙ ap (λ x. end_after (suc n) why (run_end (count - suc n) x)) next)
 
-ends_first : (why : Option Why) (rest : RunEnd) → ends_with why rest ≡ end_after 1 why rest
-ends_first (Some why) rest = refl
-ends_first None rest = let z : suc rest.did ≡ 1 + rest.did = omega arith in λ i. record { did = z i; why = rest.why }
+-- a step by itself comes after the others
+pub runs_then : (s u t : Session) (n : ℕ) (why : Option Why) → GoesTo s n u → StepsTo u (Ok why) t → RunsTo s (Ok (record { steps = n + 1; why = why })) t
+runs_then s u t n why goes told =
+    let next : appended u told.0 ≡ t = sym told.3 in
+    (omega arith, told.3 ∙ step_after n s u told.0 goes.after told.1, λ count h.
+        let some : 0 < count - n = omega arith in
+        let less : count - n - 1 ≡ count - (n + 1) = omega arith in
+        goes.end count (omega arith) ∙ ap (beyond n) (run_made (count - n) u told.0 why some told.1 told.2) ∙ ends_after n why (run_end (count - n - 1) (appended u told.0))
+        ∙ ap (λ k. end_after (n + 1) why (run_end k (appended u told.0))) less ∙ ap (λ x. end_after (n + 1) why (run_end (count - (n + 1)) x)) next)
 
--- a run whose first step is made by itself
-pub runs_one : (s v t : Session) (why : Option Why) → v ≡ s → StepsTo v (Ok why) t → RunsTo s (Ok (record { steps = 1; why = why })) t
-runs_one s v t why same told =
-    let is : StepsTo s (Ok why) t = subst (λ u. StepsTo u (Ok why) t) same told in
-    let none : 0 + 1 ≡ 1 = omega arith in
-    (omega arith, is.3 ∙ step_after 0 s s is.0 (sym (after_steps-zero step s)) is.1 ∙ ap (λ k. after_steps k s) none,
-    λ count h. run_made count s is.0 why (omega arith) is.1 is.2 ∙ ends_first why (run_end (count - 1) (appended s is.0)) ∙ ap (λ x. end_after 1 why (run_end (count - 1) x)) (sym is.3))
+-- a step by itself is refused after the others, which are told first
+pub runs_before : (s u t : Session) (n : ℕ) (fault : EventFault) → 0 < n → GoesTo s n u → StepsTo u (Err fault) t → RunsTo s (Ok (record { steps = n; why = None })) t
+runs_before s u t n fault some goes told =
+    (some, told.1 ∙ goes.after, λ count h. goes.end count h ∙ ap (λ x. beyond n (run_end (count - n) x)) (sym told.1))
 
-pub runs_refused : (s v t : Session) (fault : EventFault) → v ≡ s → StepsTo v (Err fault) t → RunsTo s (Err fault) t
-runs_refused s v t fault same told = (λ count h. run_refused count s fault h (ap (λ u. step u.current) (sym same) ∙ told.0), told.1 ∙ same)
+pub runs_refused : (s u t : Session) (n : ℕ) (fault : EventFault) → n ≡ 0 → GoesTo s n u → StepsTo u (Err fault) t → RunsTo s (Err fault) t
+runs_refused s u t n fault none goes told =
+    let same : u ≡ s = goes.after ∙ ap (λ k. after_steps k s) none ∙ after_steps-zero step s in
+    (λ count h. run_refused count s fault h (ap (λ x. step x.current) (sym same) ∙ told.0), told.1 ∙ same)
 
 -- nothing is watched
 pub none_watched : (ws : List ℕ) → length ws ≡ 0 → ws ≡ []

@@ -169,23 +169,30 @@ impl Session {
                 why,
             });
         }
-        if ran.steps > 0 {
+        if ran.steps == limit {
             return Ok(Stretch {
-                steps: ran.steps,
+                steps: limit,
                 why: None,
             });
         }
         match self.slow_step(change) {
-            Ok(why) => Ok(Stretch { steps: 1, why }),
+            Ok(why) => Ok(Stretch {
+                steps: ran.steps + 1,
+                why,
+            }),
+            Err(_) if ran.steps > 0 => Ok(Stretch {
+                steps: ran.steps,
+                why: None,
+            }),
             Err(fault) => Err(fault),
         }
     }
 
-    /// A step of a run by itself, and why the run ends with it, if it does. The change notes nothing after it.
+    /// A step of a run by itself, and why the run ends with it, if it does. The change notes nothing then.
     #[inline(never)]
     fn slow_step(&mut self, change: &mut Change) -> Result<Option<Why>, EventFault>
         ensures steps { StepsTo self.old result self.new }
-        ensures mark { OnOk result (IsMark change.new self.new.current.bus) }
+        ensures mark { IsMark change.new self.new.current.bus }
     {
         match self.machine.step_noting(change) {
             Ok(()) => {
@@ -194,7 +201,10 @@ impl Session {
                 *change = self.machine.mark();
                 Ok(why)
             }
-            Err(fault) => Err(fault),
+            Err(fault) => {
+                *change = self.machine.mark();
+                Err(fault)
+            }
         }
     }
 
