@@ -1,11 +1,11 @@
 -- Checkpoints along events.
-use Rattle.std.proofs.Common.{◌≡◌, ℕ, ◌+◌, ◌-◌, ◌*◌, ◌<◌, ◌≤◌, zero, suc, min, List, [], ◌∷◌, ◌++◌, length, take, drop, Option, Some, None, refl, sym, ap, ◌∙◌, subst, arith, length-append, length-take, length-drop}
+use Rattle.std.proofs.Common.{◌≡◌, ℕ, ◌+◌, ◌-◌, ◌*◌, ◌≤◌, zero, suc, List, [], ◌∷◌, ◌++◌, length, take, drop, Some, refl, sym, ap, ◌∙◌, subst, arith, length-drop}
 use Rattle.std.specs.Prelude.{slice_get}
-use Rattle.std.proofs.lemmas.List.{take-append-le, drop-append-le, take-take, drop-drop, take_all, drop-take, length-take-le}
-use Rattle.model.specs.State.{State, Bus}
+use Rattle.std.proofs.lemmas.List.{take-append-le, drop-append-le, take-take, take_all, drop-take, length-take-le}
+use Rattle.model.specs.State.{State}
 use Rattle.model.specs.declared.event.Event.{Event}
 use Rattle.model.specs.Checkpoint.{Checkpoint, checkpoint_of, returned, CanPutBack, saved, put_back}
-use Rattle.debugger.specs.Replay.{next, replayed, Grows, AllFollow, LeadsBack, AllMark, base_of}
+use Rattle.debugger.specs.Replay.{replayed, Grows, AllFollow, LeadsBack, AllMark}
 use Rattle.debugger.proofs.Replays.{replayed-split, grows_along, AllFollow-take, AllFollow-drop}
 
 cut_alike : (n : ℕ) (xs ys : List ℕ) → n ≤ length xs → take (length xs) ys ≡ xs → take n ys ≡ take n xs

@@ -5,7 +5,7 @@ use Rattle.model.specs.Session.{keep_last}
 use Rattle.model.specs.declared.event.Event.{Event}
 use Rattle.model.specs.Checkpoint.{Checkpoint, checkpoint_of}
 use Rattle.debugger.specs.Replay.{Follows, IsHistory, held_states}
-use Rattle.debugger.specs.Trail.{HasRoom, IsNoted, LetGo, Marked, SameRoom}
+use Rattle.debugger.specs.Trail.{HasRoom, IsNoted, LetGo, Marked}
 use Rattle.debugger.specs.declared.trail.Trail.{Trail}
 use Rattle.circular_buffer.specs.Buffer as ring
 use Rattle.debugger.proofs.Checkpoints.{leads-here}

@@ -1,13 +1,12 @@
 -- Replays: the states along accepted events.
-use Rattle.std.proofs.Common.{◌≡◌, ℕ, ◌+◌, ◌-◌, ◌*◌, ◌<◌, ◌≤◌, zero, suc, min, List, [], ◌∷◌, ◌++◌, length, take, drop, get_or, Option, Some, None, Ok, Err, Result, refl, sym, ap, ◌∙◌, subst, arith, length-append, length-take, length-drop, append_assoc}
+use Rattle.std.proofs.Common.{◌≡◌, ℕ, ◌+◌, ◌-◌, ◌≤◌, zero, suc, min, List, [], ◌∷◌, ◌++◌, length, take, drop, Some, Ok, refl, sym, ap, ◌∙◌, subst, arith, length-append, length-take, length-drop}
 use Rattle.std.specs.Prelude.{slice_get}
-use Rattle.std.proofs.lemmas.List.{take-append-le, drop-append-le, take-take, drop-drop, take_all, drop-take, length-take-le, take-append-drop}
-use Rattle.model.specs.State.{State, Bus}
+use Rattle.std.proofs.lemmas.List.{drop-append-le, take-take, drop-drop, take_all, drop-take, length-take-le, take-append-drop}
+use Rattle.model.specs.State.{State}
 use Rattle.model.specs.Event.{event_of}
 use Rattle.model.specs.Undo.{CanRestore, undone, restored, Undoes}
 use Rattle.model.specs.Session.{keep_last}
 use Rattle.model.specs.declared.event.Event.{Event}
-use Rattle.model.specs.declared.event.EventFault.{EventFault}
 use Rattle.model.specs.declared.undo.Undo.{Undo}
 use Rattle.debugger.specs.Replay.{next, replayed, before_each, Grows, Follows, AllFollow}
 

@@ -1,5 +1,5 @@
 -- Steps made one after another, as a run and as a trail see them.
-use Rattle.std.proofs.Common.{◌≡◌, ℕ, ◌+◌, ◌-◌, ◌%◌, ◌<◌, ◌≤◌, zero, suc, Bool, true, false, List, [], ◌∷◌, length, Option, Some, None, Ok, Err, refl, sym, ap, ◌∙◌, subst, arith}
+use Rattle.std.proofs.Common.{◌≡◌, ℕ, ◌+◌, ◌-◌, ◌<◌, ◌≤◌, zero, suc, Bool, true, false, List, [], ◌∷◌, length, Option, Some, None, Ok, Err, refl, sym, ap, ◌∙◌, subst, arith}
 use Rattle.std.specs.Prelude.{nat_eq, slice_index}
 use Rattle.std.specs.List.{list_any}
 use Rattle.std.specs.Option.{option_map, option_or}
@@ -19,7 +19,7 @@ use Rattle.debugger.specs.Replay.{Follows, IsHistory}
 use Rattle.debugger.specs.Running.{RunsTo, StepsTo, beyond, end_after, end_at, session_of}
 use Rattle.debugger.specs.Stops.{stop_after}
 use Rattle.debugger.specs.declared.stops.Stretch.{Stretch}
-use Rattle.debugger.specs.Trail.{HasRoom, IsNoted}
+use Rattle.debugger.specs.Trail.{HasRoom}
 use Rattle.debugger.specs.declared.trail.Trail.{Trail}
 use Rattle.session_laws.proofs.Runs.{after_steps-add, after_steps-zero, ends_with}
 use Rattle.debugger.proofs.Quiet.{noted_then, number_then, quieter, room_then}
@@ -192,22 +192,28 @@ runs_last s u (suc n) t stops watched change why marks none all told at =
     let is : IsStep v.current t change = subst (λ x. IsStep x t change) (sym on.current) all.1.2 in
     let stop : why ≡ stop_of v v.current t = told ∙ ap (λ w. stop_after w s.breaks change t) (sym on.watches) ∙ ap (λ b. stop_after v.watches b change t) (sym on.breaks) ∙ stop_is v change t is.back in
     let count_on : n + 1 ≡ suc n = omega arith in
-    let next : appended v t ≡ u = step_after n s v t refl is.made ∙ ap (λ k. after_steps k s) count_on ∙ sym at in
-    (all.0, at, λ count h.
-        let some : 0 < count - n = omega arith in
-        let after : count - n - 1 ≡ count - suc n = omega arith in
-        on.end count (omega arith) ∙ ap (beyond n) (run_made (count - n) v t why some is.made stop) ∙ ends_after n why (run_end (count - n - 1) (appended v t))
-        ∙ ap (λ k. end_after k why (run_end (count - n - 1) (appended v t))) count_on ∙ ap (λ k. end_after (suc n) why (run_end k (appended v t))) after ∙ ap (λ x. end_after (suc n) why (run_end (count - suc n) x)) next)
+    let next : appended v t ≡ u = step_after n s v t refl is.made ∙ ap (λ k. after_steps k s) count_on ∙ sym at in (
+      all.0,
+      at,
+      λ count h.
+          let some : 0 < count - n = omega arith in
+          let after : count - n - 1 ≡ count - suc n = omega arith in
+          on.end count (omega arith) ∙ ap (beyond n) (run_made (count - n) v t why some is.made stop) ∙ ends_after n why (run_end (count - n - 1) (appended v t))
+          ∙ ap (λ k. end_after k why (run_end (count - n - 1) (appended v t))) count_on ∙ ap (λ k. end_after (suc n) why (run_end k (appended v t))) after ∙ ap (λ x. end_after (suc n) why (run_end (count - suc n) x)) next,
+    )
 
 -- a step by itself comes after the others
 pub runs_then : (s u t : Session) (n : ℕ) (why : Option Why) → GoesTo s n u → StepsTo u (Ok why) t → RunsTo s (Ok (record { steps = n + 1; why = why })) t
 runs_then s u t n why goes told =
-    let next : appended u told.0 ≡ t = sym told.3 in
-    (omega arith, told.3 ∙ step_after n s u told.0 goes.after told.1, λ count h.
-        let some : 0 < count - n = omega arith in
-        let less : count - n - 1 ≡ count - (n + 1) = omega arith in
-        goes.end count (omega arith) ∙ ap (beyond n) (run_made (count - n) u told.0 why some told.1 told.2) ∙ ends_after n why (run_end (count - n - 1) (appended u told.0))
-        ∙ ap (λ k. end_after (n + 1) why (run_end k (appended u told.0))) less ∙ ap (λ x. end_after (n + 1) why (run_end (count - (n + 1)) x)) next)
+    let next : appended u told.0 ≡ t = sym told.3 in (
+      omega arith,
+      told.3 ∙ step_after n s u told.0 goes.after told.1,
+      λ count h.
+          let some : 0 < count - n = omega arith in
+          let less : count - n - 1 ≡ count - (n + 1) = omega arith in
+          goes.end count (omega arith) ∙ ap (beyond n) (run_made (count - n) u told.0 why some told.1 told.2) ∙ ends_after n why (run_end (count - n - 1) (appended u told.0))
+          ∙ ap (λ k. end_after (n + 1) why (run_end k (appended u told.0))) less ∙ ap (λ x. end_after (n + 1) why (run_end (count - (n + 1)) x)) next,
+    )
 
 -- a step by itself is refused after the others, which are told first
 pub runs_before : (s u t : Session) (n : ℕ) (fault : EventFault) → 0 < n → GoesTo s n u → StepsTo u (Err fault) t → RunsTo s (Ok (record { steps = n; why = None })) t

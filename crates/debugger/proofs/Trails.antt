@@ -1,15 +1,13 @@
 -- A history after an event, without its oldest part, with a checkpoint more, and gone back.
-use Rattle.std.proofs.Common.{◌≡◌, ℕ, ◌+◌, ◌-◌, ◌*◌, ◌/◌, ◌<◌, ◌≤◌, zero, suc, min, List, [], ◌∷◌, ◌++◌, length, take, drop, Option, Some, None, refl, sym, ap, ◌∙◌, subst, arith, length-append, length-take, length-drop, Ok}
-use Rattle.std.specs.Prelude.{slice_get}
-use Rattle.std.proofs.lemmas.List.{take_all, length-take-le, take-append-le}
+use Rattle.std.proofs.Common.{◌≡◌, ℕ, ◌+◌, ◌-◌, ◌*◌, ◌<◌, ◌≤◌, zero, suc, min, List, [], ◌∷◌, ◌++◌, length, take, drop, Some, refl, sym, ap, ◌∙◌, subst, arith}
+use Rattle.std.proofs.lemmas.List.{take_all, length-take-le}
 use Rattle.model.specs.State.{State}
-use Rattle.model.specs.Event.{event_of}
 use Rattle.model.specs.Session.{keep_last}
 use Rattle.model.specs.declared.event.Event.{Event}
-use Rattle.model.specs.Checkpoint.{Checkpoint, checkpoint_of, returned, CanPutBack}
+use Rattle.model.specs.Checkpoint.{Checkpoint, checkpoint_of, returned}
 use Rattle.circular_buffer.specs.Buffer.{last_item}
 use Rattle.circular_buffer.proofs.Places.{slice_get-some}
-use Rattle.debugger.specs.Replay.{next, replayed, before_each, Grows, Follows, AllFollow, LeadsBack, AllMark, base_of, IsHistory, held_states}
+use Rattle.debugger.specs.Replay.{replayed, before_each, Grows, Follows, AllFollow, LeadsBack, AllMark, base_of, IsHistory, held_states}
 use Rattle.debugger.proofs.Replays.{length-keep_last, replayed-append, replayed-split, next-accepted, AllFollow-append, AllFollow-take, AllFollow-drop, before_each-append, before_each-drop, length-before_each, kept-event, kept-drop, kept-back}
 use Rattle.debugger.proofs.Checkpoints.{leads-here, leads-later, marks-later, marks-more, marks-push, marks-take, marks-back, mark_at}
 

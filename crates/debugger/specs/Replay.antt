@@ -1,6 +1,6 @@
 -- The states that a checkpoint and the events after it stand for.
-use Rattle.std.specs.Prelude.{◌≡◌, ℕ, ◌+◌, ◌*◌, ◌<◌, ◌≤◌, List, [], ◌∷◌, length, take, drop, Result, Ok, Err}
-use Rattle.model.specs.State.{State, Map}
+use Rattle.std.specs.Prelude.{◌≡◌, ℕ, ◌≤◌, List, [], ◌∷◌, length, take, drop, Result, Ok, Err}
+use Rattle.model.specs.State.{State}
 use Rattle.model.specs.Event.{event_of}
 use Rattle.model.specs.Session.{keep_last}
 use Rattle.model.specs.declared.event.Event.{Event}

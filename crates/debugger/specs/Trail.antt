@@ -1,5 +1,5 @@
 -- The trail of a session: how much of it there is, and what one step of it is.
-use Rattle.std.specs.Prelude.{◌≡◌, ℕ, ◌+◌, ◌*◌, ◌/◌, ◌<◌, ◌≤◌, List, [], ◌∷◌, ◌++◌, drop, length}
+use Rattle.std.specs.Prelude.{◌≡◌, ◌+◌, ◌/◌, ◌<◌, ◌≤◌, [], ◌∷◌, ◌++◌, drop, length}
 use Rattle.model.specs.State.{State}
 use Rattle.model.specs.Checkpoint.{Checkpoint}
 use Rattle.model.specs.Session.{keep_last}

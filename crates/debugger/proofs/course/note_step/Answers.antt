@@ -1,4 +1,4 @@
-use Rattle.std.proofs.Common.{◌≡◌, ◌<◌, arith}
+use Rattle.std.proofs.Common.{◌<◌, arith}
 use Rattle.debugger.proofs.Quiet.{noted_then}
 use Rattle.debugger.proofs.course.note_step.Goals as goal
 

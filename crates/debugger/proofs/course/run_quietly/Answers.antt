@@ -1,4 +1,4 @@
-use Rattle.std.proofs.Common.{◌≡◌, ◌≤◌, arith}
+use Rattle.std.proofs.Common.{◌≤◌, arith}
 use Rattle.debugger.proofs.Stretches.{longer, steps_made}
 use Rattle.debugger.proofs.course.run_quietly.Goals as goal
 

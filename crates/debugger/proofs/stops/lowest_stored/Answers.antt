@@ -1,4 +1,4 @@
-use Rattle.std.proofs.Common.{◌≡◌, ◌<◌, ◌-◌, length, sym, ap, ◌∙◌, arith, Some, min}
+use Rattle.std.proofs.Common.{◌<◌, ◌-◌, length, sym, ap, ◌∙◌, arith, Some, min}
 use Rattle.std.specs.Option.{option_map_or}
 use Rattle.debugger.specs.Stops.{before_of}
 use Rattle.debugger.proofs.Watching.{changed_here, changed_later, one_there}

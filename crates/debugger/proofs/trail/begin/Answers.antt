@@ -1,5 +1,4 @@
-use Rattle.std.proofs.Common.{◌≡◌, ◌<◌, ◌∙◌, ap, refl, arith, length, ◌++◌, ◌∷◌, []}
-use Rattle.model.specs.declared.event.Event.{Event}
+use Rattle.std.proofs.Common.{◌<◌, ◌∙◌, ap, refl, arith, length, ◌++◌, ◌∷◌, []}
 use Rattle.debugger.proofs.Noting.{kept_all}
 use Rattle.debugger.proofs.Trails.{begun, renamed}
 use Rattle.debugger.proofs.trail.begin.Goals as goal

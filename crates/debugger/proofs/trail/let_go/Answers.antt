@@ -1,4 +1,4 @@
-use Rattle.std.proofs.Common.{◌≡◌, ◌+◌, ◌-◌, ◌<◌, ◌∙◌, sym, ap, refl, arith, length, drop, length-append, length-drop, None}
+use Rattle.std.proofs.Common.{◌≡◌, ◌-◌, ◌∙◌, sym, ap, refl, arith, length, drop, length-append, None}
 use Rattle.std.specs.Prelude.{slice_get}
 use Rattle.circular_buffer.proofs.Places.{slice_get-some}
 use Rattle.debugger.proofs.Noting.{kept_all}

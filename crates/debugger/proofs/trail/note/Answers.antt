@@ -1,4 +1,3 @@
-use Rattle.std.proofs.Common.{◌≡◌}
 use Rattle.debugger.proofs.Noting.{pushed, due, due_spare, due_room, room_after, noted, numbered}
 use Rattle.debugger.proofs.trail.note.Goals as goal
 

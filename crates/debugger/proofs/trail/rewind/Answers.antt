@@ -1,10 +1,6 @@
-use Rattle.std.proofs.Common.{◌≡◌, ◌+◌, ◌-◌, ◌*◌, ◌/◌, ◌<◌, ◌≤◌, ◌∙◌, sym, ap, subst, refl, arith, length, take, Some, length-take, ◌++◌, ◌∷◌, []}
-use Rattle.std.specs.Prelude.{slice_get}
-use Rattle.std.proofs.lemmas.List.{length-take-le}
+use Rattle.std.proofs.Common.{◌≡◌, ◌+◌, ◌-◌, ◌*◌, ◌/◌, ◌≤◌, ◌∙◌, sym, ap, arith, length, take, length-take, ◌++◌, ◌∷◌, []}
 use Rattle.circular_buffer.specs.Buffer.{last_item}
-use Rattle.circular_buffer.proofs.Places.{slice_get-some}
-use Rattle.model.specs.State.{State}
-use Rattle.debugger.specs.Replay.{replayed, base_of, IsHistory, held_states}
+use Rattle.debugger.specs.Replay.{held_states}
 use Rattle.debugger.proofs.Trails.{kept_leads, gone_back, returned_there, renamed}
 use Rattle.debugger.proofs.trail.rewind.Goals as goal
 

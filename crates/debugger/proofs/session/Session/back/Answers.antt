@@ -1,6 +1,6 @@
 use Rattle.std.proofs.Common.{arith, refl, ◌≡◌, ◌<◌, ◌≤◌, ◌+◌, ◌-◌, ◌%◌, ◌++◌, ◌∷◌, [], ap, length, take, ◌∙◌, sym, subst, Ok, Err, ℕ}
 use Rattle.model.specs.declared.session_fault.SessionFault.TheVariants.{NoHistory}
-use Rattle.model.specs.Back.{gone_back, back_of, states, number_back}
+use Rattle.model.specs.Back.{back_of, number_back}
 use Rattle.session_laws.proofs.Backs.{back_of-held, back_of-refused, is_gone_back, rest-gone_back, gone_back-zero}
 use Rattle.debugger.specs.Replay.{held_states}
 use Rattle.debugger.proofs.Trails.{length-held_states}

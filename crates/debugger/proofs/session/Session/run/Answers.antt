@@ -1,6 +1,6 @@
-use Rattle.std.proofs.Common.{arith, refl, sym, ap, ◌∙◌, ◌≡◌, ◌+◌, ◌-◌, ◌<◌, ◌≤◌}
+use Rattle.std.proofs.Common.{arith, sym, ap, ◌∙◌, ◌≡◌, ◌+◌, ◌-◌, ◌≤◌}
 use Rattle.model.specs.Step.{step}
-use Rattle.model.specs.Run.{run_end, after_steps}
+use Rattle.model.specs.Run.{run_end}
 use Rattle.session_laws.proofs.Runs.{after_steps-zero}
 use Rattle.debugger.specs.Running.{beyond}
 use Rattle.debugger.proofs.Runs.{beyond-end, run_none}

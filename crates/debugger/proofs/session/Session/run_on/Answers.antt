@@ -1,7 +1,5 @@
-use Rattle.std.proofs.Common.{◌≡◌, ◌≤◌, ◌<◌, ◌∙◌, sym, [], length, arith, false}
+use Rattle.std.proofs.Common.{◌≡◌, arith}
 use Rattle.std.proofs.lemmas.Bool.Decides.{nat_tests}
-use Rattle.model.specs.Step.{step}
-use Rattle.session_laws.proofs.Runs.{after_steps-zero}
 use Rattle.debugger.specs.Running.{session_of}
 use Rattle.debugger.proofs.Stretches.{goes_to, none_watched, runs_before, runs_last, runs_on, runs_refused, runs_then}
 use Rattle.debugger.proofs.session.Session.run_on.Goals as goal
@@ -13,8 +11,8 @@ returns-then-ran-clause-steps c =
     let s = session_of before.trail before.machine before.breaks before.watches before.replayed in
     let t = session_of ran.new.course ran.new.machine before.breaks before.watches before.replayed in
     rw (← c.self.view_is) (runs_last s t ran.result.steps ran.new.machine c.map-stops.result.now _ ran.new.change c.stop_after-why.result c.map-stops.ensures.none
-        (λ h. none_watched before.watches (grind (arith, nat_tests, c.len-watched.ensures)))
-        (ran.ensures.last c.if-ran.true) c.stop_after-why.ensures (ran.ensures.steps before.breaks before.watches before.replayed))
+    (λ h. none_watched before.watches (grind (arith, nat_tests, c.len-watched.ensures)))
+    (ran.ensures.last c.if-ran.true) c.stop_after-why.ensures (ran.ensures.steps before.breaks before.watches before.replayed))
 
 pub returns-then-ran-limit-clause-steps : goal.returns-then-ran-limit-clause-steps
 returns-then-ran-limit-clause-steps c =
@@ -23,8 +21,8 @@ returns-then-ran-limit-clause-steps c =
     let s = session_of before.trail before.machine before.breaks before.watches before.replayed in
     let t = session_of ran.new.course ran.new.machine before.breaks before.watches before.replayed in
     let goes = goes_to s t ran.result.steps ran.new.machine c.map-stops.result.now _ c.map-stops.ensures.none
-        (λ h. none_watched before.watches (grind (arith, nat_tests, c.len-watched.ensures)))
-        (ran.ensures.on c.if-ran.false) (ran.ensures.steps before.breaks before.watches before.replayed) in
+    (λ h. none_watched before.watches (grind (arith, nat_tests, c.len-watched.ensures)))
+    (ran.ensures.on c.if-ran.false) (ran.ensures.steps before.breaks before.watches before.replayed) in
     rw (← c.if-ran-limit.true) (rw (← c.self.view_is) (runs_on s t ran.result.steps (omega (arith, c.requires.some, c.if-ran-limit.true)) goes))
 
 pub returns-in-Ok-clause-steps : goal.returns-in-Ok-clause-steps
@@ -34,8 +32,8 @@ returns-in-Ok-clause-steps c =
     let s = session_of before.trail before.machine before.breaks before.watches before.replayed in
     let t = session_of ran.new.course ran.new.machine before.breaks before.watches before.replayed in
     let goes = goes_to s t ran.result.steps ran.new.machine c.map-stops.result.now _ c.map-stops.ensures.none
-        (λ h. none_watched before.watches (grind (arith, nat_tests, c.len-watched.ensures)))
-        (ran.ensures.on c.if-ran.false) (ran.ensures.steps before.breaks before.watches before.replayed) in
+    (λ h. none_watched before.watches (grind (arith, nat_tests, c.len-watched.ensures)))
+    (ran.ensures.on c.if-ran.false) (ran.ensures.steps before.breaks before.watches before.replayed) in
     rw (← c.self.view_is) (runs_then s t c.slow_step.new.self ran.result.steps c.in-Ok.why goes c.in-Ok.ensures.steps)
 
 pub returns-in-Err-clause-steps : goal.returns-in-Err-clause-steps
@@ -45,8 +43,8 @@ returns-in-Err-clause-steps c =
     let s = session_of before.trail before.machine before.breaks before.watches before.replayed in
     let t = session_of ran.new.course ran.new.machine before.breaks before.watches before.replayed in
     let goes = goes_to s t ran.result.steps ran.new.machine c.map-stops.result.now _ c.map-stops.ensures.none
-        (λ h. none_watched before.watches (grind (arith, nat_tests, c.len-watched.ensures)))
-        (ran.ensures.on c.if-ran.false) (ran.ensures.steps before.breaks before.watches before.replayed) in
+    (λ h. none_watched before.watches (grind (arith, nat_tests, c.len-watched.ensures)))
+    (ran.ensures.on c.if-ran.false) (ran.ensures.steps before.breaks before.watches before.replayed) in
     rw (← c.self.view_is) (runs_before s t c.slow_step.new.self ran.result.steps c.in-Err.field-0 c.if-ran-gt0.true goes c.in-Err.ensures.steps)
 
 pub returns-in-Err-2-clause-steps : goal.returns-in-Err-2-clause-steps
@@ -56,7 +54,7 @@ returns-in-Err-2-clause-steps c =
     let s = session_of before.trail before.machine before.breaks before.watches before.replayed in
     let t = session_of ran.new.course ran.new.machine before.breaks before.watches before.replayed in
     let goes = goes_to s t ran.result.steps ran.new.machine c.map-stops.result.now _ c.map-stops.ensures.none
-        (λ h. none_watched before.watches (grind (arith, nat_tests, c.len-watched.ensures)))
-        (ran.ensures.on c.if-ran.false) (ran.ensures.steps before.breaks before.watches before.replayed) in
+    (λ h. none_watched before.watches (grind (arith, nat_tests, c.len-watched.ensures)))
+    (ran.ensures.on c.if-ran.false) (ran.ensures.steps before.breaks before.watches before.replayed) in
     let none : ran.result.steps ≡ 0 = omega (arith, c.if-ran-gt0.false) in
     rw (← c.self.view_is) (runs_refused s t c.slow_step.new.self ran.result.steps c.in-Err.field-0 none goes c.in-Err.ensures.steps)

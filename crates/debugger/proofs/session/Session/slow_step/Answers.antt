@@ -1,4 +1,4 @@
-use Rattle.std.proofs.Common.{◌≡◌, ◌∙◌, sym, refl, ap}
+use Rattle.std.proofs.Common.{◌≡◌, ◌∙◌, refl}
 use Rattle.model.specs.Step.{step}
 use Rattle.model.specs.State.{State}
 use Rattle.model.specs.Event.{event_of}
