@@ -1,17 +1,16 @@
 //! One session that uses every command, with each read, each write and each flush failing in turn; `quit` before a failure; and lines
 //! that are no commands. The replies come from an independent program.
 
-use crate::tests::replied_with;
+use crate::tests::{assert_ended, replied_with};
 use bus::MapSpec;
 use engine::{EngineFault, debug_tape, debug_tape_from};
 use std::alloc::Global;
 use std::io;
 use std::io::{ErrorKind, Read, Write};
-use std::process::Abort;
 use std::test::Fail;
 
 /// The lines of a session, each with its reply. Each command stands among them, an empty line and a bad one too.
-const SESSION: [(&[u8], &[u8]); 27] = [
+const SESSION: &[(&[u8], &[u8])] = &[
     (b"set PC 0200\n", b"OK\n"),
     (b"patch 0200 A9 41 8D\n", b"OK\n"),
     (b"patch 0203 00 F0\r\n", b"OK\n"),
@@ -151,19 +150,6 @@ fn served(
     Ok(debug_tape(alloc, map, 16, b";0000000000\r\n", reader, writer))
 }
 
-/// A session ended with this fault, and wrote these replies, after so many bytes, lines or calls.
-fn assert_failed(
-    rt: &impl Abort,
-    after: usize,
-    ended: Result<(), EngineFault>,
-    fault: EngineFault,
-    written: &[u8],
-    replies: &[u8],
-) {
-    assert_eq!(rt; ended, Err(fault), "after {after}");
-    assert_eq!(rt; written, replies, "after {after}");
-}
-
 #[test]
 fn serves_bytes_one_by_one(rt: HostRuntime) -> Result<(), Fail> {
     let (lines, replies) = first_lines(rt.alloc(), SESSION.len())?;
@@ -178,8 +164,7 @@ fn serves_bytes_one_by_one(rt: HostRuntime) -> Result<(), Fail> {
             ..wide_taker(rt.alloc())
         };
         let ended = served(rt.alloc(), &mut reader, &mut writer)?;
-        assert_eq!(rt; ended, Ok(()));
-        assert_eq!(rt; writer.taken.as_slice(), replies.as_slice());
+        assert_ended(&rt, at_once, ended, Ok(()), &writer.taken, &replies);
     }
     Ok(())
 }
@@ -196,11 +181,11 @@ fn each_read_of_a_line_fails(rt: HostRuntime) -> Result<(), Fail> {
         let mut writer = wide_taker(rt.alloc());
         let ended = served(rt.alloc(), &mut reader, &mut writer)?;
         let (told, replies) = first_lines(rt.alloc(), reads)?;
-        assert_failed(
+        assert_ended(
             &rt,
             reads,
             ended,
-            EngineFault::Read,
+            Err(EngineFault::Read),
             &writer.taken,
             &replies,
         );
@@ -235,7 +220,14 @@ fn each_read_of_a_piece_fails(rt: HostRuntime) -> Result<(), Fail> {
             .count();
         let (_, replies) = first_lines(rt.alloc(), whole)?;
         assert_eq!(rt; told, reads.saturating_mul(3));
-        assert_failed(&rt, told, ended, EngineFault::Read, &writer.taken, &replies);
+        assert_ended(
+            &rt,
+            told,
+            ended,
+            Err(EngineFault::Read),
+            &writer.taken,
+            &replies,
+        );
     }
     Ok(())
 }
@@ -262,7 +254,7 @@ fn each_write_of_an_early_byte_fails(rt: HostRuntime) -> Result<(), Fail> {
     for writes in 0..HALF {
         let (ended, taken) = fails_after(rt.alloc(), writes)?;
         let told = replies.get(..writes).unwrap_or(b"");
-        assert_failed(&rt, writes, ended, EngineFault::Write, &taken, told);
+        assert_ended(&rt, writes, ended, Err(EngineFault::Write), &taken, told);
     }
     Ok(())
 }
@@ -273,11 +265,10 @@ fn each_write_of_a_late_byte_fails(rt: HostRuntime) -> Result<(), Fail> {
     for writes in HALF..replies.len() {
         let (ended, taken) = fails_after(rt.alloc(), writes)?;
         let told = replies.get(..writes).unwrap_or(b"");
-        assert_failed(&rt, writes, ended, EngineFault::Write, &taken, told);
+        assert_ended(&rt, writes, ended, Err(EngineFault::Write), &taken, told);
     }
     let (ended, taken) = fails_after(rt.alloc(), replies.len())?;
-    assert_eq!(rt; ended, Ok(()));
-    assert_eq!(rt; taken.as_slice(), replies.as_slice());
+    assert_ended(&rt, replies.len(), ended, Ok(()), &taken, &replies);
     Ok(())
 }
 
@@ -335,11 +326,11 @@ fn each_flush_fails(rt: HostRuntime) -> Result<(), Fail> {
         failed = failed.saturating_add(1);
         let told = MANY.saturating_sub(reader.reads);
         let (_, replies) = first_lines(rt.alloc(), told)?;
-        assert_failed(
+        assert_ended(
             &rt,
             flushes,
             ended,
-            EngineFault::Write,
+            Err(EngineFault::Write),
             &writer.taken,
             &replies,
         );
@@ -349,7 +340,7 @@ fn each_flush_fails(rt: HostRuntime) -> Result<(), Fail> {
     Ok(())
 }
 
-/// `quit` ends the engine before the read that would fail, wherever it stands and whatever was told with it.
+/// `quit` ends the engine before the read that would fail, wherever it stands.
 #[test]
 fn quit_comes_before_a_failure(rt: HostRuntime) -> Result<(), Fail> {
     for count in 0..SESSION.len() {
@@ -364,14 +355,15 @@ fn quit_comes_before_a_failure(rt: HostRuntime) -> Result<(), Fail> {
             };
             let mut writer = wide_taker(rt.alloc());
             let ended = served(rt.alloc(), &mut reader, &mut writer)?;
-            assert_eq!(rt; ended, Ok(()), "after {count} lines");
-            assert_eq!(rt;
-                writer.taken.as_slice(),
-                replies.as_slice(),
-                "after {count} lines"
-            );
+            assert_ended(&rt, count, ended, Ok(()), &writer.taken, &replies);
         }
     }
+    Ok(())
+}
+
+/// One read tells lines after `quit` too.
+#[test]
+fn quit_comes_before_lines_told_with_it(rt: HostRuntime) -> Result<(), Fail> {
     let mut reader = Teller {
         reads: 1,
         by_lines: false,
@@ -379,8 +371,7 @@ fn quit_comes_before_a_failure(rt: HostRuntime) -> Result<(), Fail> {
     };
     let mut writer = wide_taker(rt.alloc());
     let ended = served(rt.alloc(), &mut reader, &mut writer)?;
-    assert_eq!(rt; ended, Ok(()));
-    assert_eq!(rt; writer.taken.as_slice(), b"? BAD COMMAND\n".as_slice());
+    assert_ended(&rt, 1, ended, Ok(()), &writer.taken, b"? BAD COMMAND\n");
     Ok(())
 }
 

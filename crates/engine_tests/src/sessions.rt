@@ -1,6 +1,8 @@
 //! Worked examples of sessions as command lines: each is named by what it shows. The replies come from the profile's own tables and
 //! from an independent program.
 
+ghost use Rattle.std.specs.Prelude.{◌≤◌};
+
 use crate::tests::replied_with;
 use bus::MapSpec;
 use std::alloc::Global;
@@ -242,46 +244,74 @@ fn lists_and_assembles(rt: HostRuntime) -> Result<(), Fail> {
 const BAD: &[u8] =
     b"run 1000001\nrun 00000001\nback 0\nbreak 200\ndis 0200 0\ndis 0200 257\nbreaks x\nasm 0200\nasm 0200  \nasm 0200\tNOP\nquit x\nrun\nwatch\n";
 
-#[test]
-fn takes_no_bad_line(rt: HostRuntime) -> Result<(), Fail> {
-    let told = replied_with(rt.alloc(), port_alone()?, 1024, b"", BAD)?;
+/// The replies to these lines, with so much history, are such.
+fn assert_told(
+    rt: &impl Abort,
+    alloc: Global,
+    map: MapSpec,
+    history: u32,
+    commands: &[u8],
+    want: &[u8],
+) -> Result<(), Fail>
+    requires { history ≤ 65536 }
+{
+    let told = replied_with(alloc, map, history, b"", commands)?;
+    assert_eq!(rt; told.as_slice(), want);
+    Ok(())
+}
+
+/// Each of these replies is that a line is no command.
+fn assert_bad(rt: &impl Abort, told: &[u8]) {
     for line in told.split(|byte| *byte == b'\n') {
         assert!(rt; line.is_empty() || line == b"? BAD COMMAND".as_slice());
     }
+}
+
+#[test]
+fn takes_no_bad_line(rt: HostRuntime) -> Result<(), Fail> {
+    let told = replied_with(rt.alloc(), port_alone()?, 1024, b"", BAD)?;
+    assert_bad(&rt, &told);
     assert_eq!(rt; told.len(), 13 * 14);
-    let right = replied_with(rt.alloc(), port_alone()?, 1024, b"", b"run 0000001\n")?;
-    assert_eq!(rt; right.as_slice(), b"DID 1 LIMIT\n".as_slice());
     Ok(())
 }
 
 #[test]
-fn holds_so_much_history(rt: HostRuntime) -> Result<(), Fail> {
-    let two = replied_with(
+fn takes_a_long_count(rt: HostRuntime) -> Result<(), Fail> {
+    assert_replied(
+        &rt,
         rt.alloc(),
         port_alone()?,
-        2,
-        b"",
-        b"step\nstep\nstep\nback 3\nback 2\nback 1\n",
-    )?;
-    let want =
-        b"A=00 X=00 Y=00 S=FA P=24 PC=0000 CYC=14\nA=00 X=00 Y=00 S=F7 P=24 PC=0000 CYC=21\nA=00 X=00 Y=00 S=F4 P=24 PC=0000 CYC=28\n! HISTORY 2\nA=00 X=00 Y=00 S=FA P=24 PC=0000 CYC=14\n! HISTORY 0\n";
-    assert_eq!(rt; two.as_slice(), want.as_slice());
+        (b"", b"run 0000001\n", b"DID 1 LIMIT\n"),
+    )
+}
+
+/// Three steps, and the way back over two of them.
+const STEPS_BACK: &[u8] = b"step\nstep\nstep\nback 3\nback 2\nback 1\n";
+
+const HELD_TWO: &[u8] =
+    b"A=00 X=00 Y=00 S=FA P=24 PC=0000 CYC=14\nA=00 X=00 Y=00 S=F7 P=24 PC=0000 CYC=21\nA=00 X=00 Y=00 S=F4 P=24 PC=0000 CYC=28\n! HISTORY 2\nA=00 X=00 Y=00 S=FA P=24 PC=0000 CYC=14\n! HISTORY 0\n";
+
+#[test]
+fn holds_so_much_history(rt: HostRuntime) -> Result<(), Fail> {
+    assert_told(&rt, rt.alloc(), port_alone()?, 2, STEPS_BACK, HELD_TWO)
+}
+
+#[test]
+fn holds_no_history(rt: HostRuntime) -> Result<(), Fail> {
     let none = replied_with(rt.alloc(), port_alone()?, 0, b"", b"step\nback 1\n")?;
     assert!(rt; none.ends_with(b"! HISTORY 0\n"));
     Ok(())
 }
 
+/// A store into ROM and a patch of it.
+const ROM_LINES: &[u8] =
+    b"set A 55\nset PC 0200\npatch 0200 8D 00 80\nstep\nmem 8000 8000\npatch 8000 AA\nmem 8000 8000\n";
+
+const ROM_REPLIES: &[u8] =
+    b"OK\nOK\nOK\nA=55 X=00 Y=00 S=FD P=24 PC=0203 CYC=11\n8000  00\nOK\n8000  AA\n";
+
 #[test]
 fn keeps_stores_off_rom(rt: HostRuntime) -> Result<(), Fail> {
     let map = MapSpec::new(Some((0x8000, 0x8FFF)), 0xF000)?;
-    let told = replied_with(
-        rt.alloc(),
-        map,
-        1024,
-        b"",
-        b"set A 55\nset PC 0200\npatch 0200 8D 00 80\nstep\nmem 8000 8000\npatch 8000 AA\nmem 8000 8000\n",
-    )?;
-    let want = b"OK\nOK\nOK\nA=55 X=00 Y=00 S=FD P=24 PC=0203 CYC=11\n8000  00\nOK\n8000  AA\n";
-    assert_eq!(rt; told.as_slice(), want.as_slice());
-    Ok(())
+    assert_told(&rt, rt.alloc(), map, 1024, ROM_LINES, ROM_REPLIES)
 }

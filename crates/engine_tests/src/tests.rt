@@ -10,6 +10,7 @@ use std::alloc::Global;
 use std::cell::Cell;
 use std::io;
 use std::io::{ErrorKind, Read, Write};
+use std::process::Abort;
 use std::test::Fail;
 
 const START: &[u8] = b"A=00 X=00 Y=00 S=FD P=24 PC=0000 CYC=7\n";
@@ -141,6 +142,26 @@ pub fn replied_with(
     Ok(writer.taken)
 }
 
+/// The replies to some commands, where the source is empty and nothing fails, are these.
+fn assert_told(rt: &impl Abort, alloc: Global, commands: &[u8], want: &[u8]) -> Result<(), Fail> {
+    let told = replied(alloc, commands)?;
+    assert_eq!(rt; told.as_slice(), want);
+    Ok(())
+}
+
+/// A session ended so, and wrote these replies, after so many bytes, lines or calls.
+pub fn assert_ended(
+    rt: &impl Abort,
+    after: usize,
+    ended: Result<(), EngineFault>,
+    want: Result<(), EngineFault>,
+    written: &[u8],
+    replies: &[u8],
+) {
+    assert_eq!(rt; ended, want, "after {after}");
+    assert_eq!(rt; written, replies, "after {after}");
+}
+
 /// How a call with a tape and some bytes of commands ends, and what it writes.
 fn run_tape(
     alloc: Global,
@@ -159,13 +180,17 @@ fn run_tape(
     Ok((ended, writer.taken))
 }
 
+const FIRST_REPLIES: &[u8] =
+    b"A=00 X=00 Y=00 S=FD P=24 PC=0000 CYC=7\nA=00 X=00 Y=00 S=FA P=24 PC=0000 CYC=14\n01FB  34 02 00\n";
+
 #[test]
 fn runs_first(rt: HostRuntime) -> Result<(), Fail> {
-    let told = replied(rt.alloc(), b"regs\nstep\nmem 01FB 01FD\n")?;
-    let want =
-        b"A=00 X=00 Y=00 S=FD P=24 PC=0000 CYC=7\nA=00 X=00 Y=00 S=FA P=24 PC=0000 CYC=14\n01FB  34 02 00\n";
-    assert_eq!(rt; told.as_slice(), want.as_slice());
-    Ok(())
+    assert_told(
+        &rt,
+        rt.alloc(),
+        b"regs\nstep\nmem 01FB 01FD\n",
+        FIRST_REPLIES,
+    )
 }
 
 const PROGRAM: &[u8] = b"*=$0200\nLDA #$41\nSTA $F000\nBRK\n*=$FFFC\n.WORD $0200\n";
@@ -181,9 +206,8 @@ const PROGRAM_REPLIES: &[u8] =
 fn runs_sources_and_tapes(rt: HostRuntime) -> Result<(), Fail> {
     let of_source = replied_on_source(rt.alloc(), PROGRAM, PROGRAM_COMMANDS)?;
     assert_eq!(rt; of_source.as_slice(), PROGRAM_REPLIES);
-    let (ended, of_tape) = run_tape(rt.alloc(), PROGRAM_TAPE, PROGRAM_COMMANDS)?;
-    assert_eq!(rt; ended, Ok(()));
-    assert_eq!(rt; of_tape.as_slice(), PROGRAM_REPLIES);
+    let (ended, written) = run_tape(rt.alloc(), PROGRAM_TAPE, PROGRAM_COMMANDS)?;
+    assert_ended(&rt, 0, ended, Ok(()), &written, PROGRAM_REPLIES);
     Ok(())
 }
 
@@ -205,8 +229,7 @@ fn refuses_tapes(rt: HostRuntime) -> Result<(), Fail> {
     ];
     for (tape, fault) in refused {
         let (ended, written) = run_tape(rt.alloc(), tape, COMMANDS)?;
-        assert_eq!(rt; ended, Err(fault));
-        assert!(rt; written.is_empty());
+        assert_ended(&rt, 0, ended, Err(fault), &written, b"");
     }
     Ok(())
 }
@@ -243,8 +266,7 @@ const CHANGES: &[(&[u8], &[u8])] = &[
 #[test]
 fn sets_and_patches(rt: HostRuntime) -> Result<(), Fail> {
     for (commands, want) in CHANGES {
-        let told = replied(rt.alloc(), commands)?;
-        assert_eq!(rt; told.as_slice(), *want);
+        assert_told(&rt, rt.alloc(), commands, want)?;
     }
     Ok(())
 }
@@ -268,8 +290,7 @@ const INTERRUPTS: &[(&[u8], &[u8])] = &[
 #[test]
 fn interrupts_and_takes_input(rt: HostRuntime) -> Result<(), Fail> {
     for (commands, want) in INTERRUPTS {
-        let told = replied(rt.alloc(), commands)?;
-        assert_eq!(rt; told.as_slice(), *want);
+        assert_told(&rt, rt.alloc(), commands, want)?;
     }
     Ok(())
 }
@@ -278,10 +299,10 @@ const SIXTEEN: &[u8] = b"in 00 01 02 03 04 05 06 07 08 09 0A 0B 0C 0D 0E 0F\n";
 
 const FIFTEEN: &[u8] = b"in 00 01 02 03 04 05 06 07 08 09 0A 0B 0C 0D 0E\n";
 
-#[test]
-fn takes_input_until_it_is_full(rt: HostRuntime) -> Result<(), Fail> {
-    let mut commands = Vec::new(rt.alloc());
-    let mut want = Vec::new(rt.alloc());
+/// Lines that fill the input, and the replies to them.
+fn filling(alloc: Global) -> Result<(Vec<u8>, Vec<u8>), Fail> {
+    let mut commands = Vec::new(alloc);
+    let mut want = Vec::new(alloc);
     for _ in 0..4095 {
         commands.extend_from_slice(SIXTEEN)?;
         want.extend_from_slice(b"OK\n")?;
@@ -289,6 +310,12 @@ fn takes_input_until_it_is_full(rt: HostRuntime) -> Result<(), Fail> {
     commands.extend_from_slice(FIFTEEN)?;
     commands.extend_from_slice(b"in 01 02\nin 01\nin 02\n")?;
     want.extend_from_slice(b"OK\n! InputFull 7\nOK\n! InputFull 7\n")?;
+    Ok((commands, want))
+}
+
+#[test]
+fn takes_input_until_it_is_full(rt: HostRuntime) -> Result<(), Fail> {
+    let (commands, want) = filling(rt.alloc())?;
     let flushed = Cell::new(0);
     let mut reader = Teller {
         rest: &commands,
@@ -299,8 +326,8 @@ fn takes_input_until_it_is_full(rt: HostRuntime) -> Result<(), Fail> {
         flushes: 10_000,
         ..wide_taker(rt.alloc(), &flushed)
     };
-    run(rt.alloc(), b"", &mut reader, &mut writer)??;
-    assert_eq!(rt; writer.taken.as_slice(), want.as_slice());
+    let ended = run(rt.alloc(), b"", &mut reader, &mut writer)?;
+    assert_ended(&rt, 0, ended, Ok(()), &writer.taken, &want);
     Ok(())
 }
 
@@ -328,45 +355,46 @@ const LINES: &[u8] =
 const ANSWERS: &[u8] =
     b"A=00 X=00 Y=00 S=FD P=24 PC=0000 CYC=7\nA=00 X=00 Y=00 S=FD P=24 PC=0000 CYC=7\n? BAD COMMAND\n? BAD COMMAND\n? BAD COMMAND\n? BAD COMMAND\n01FB  00 00 00\n? BAD COMMAND\n? BAD COMMAND\n? BAD COMMAND\n? BAD COMMAND\n? BAD COMMAND\n? BAD COMMAND\n";
 
+/// Lines with their replies; `quit` before a line; and a line that does not end.
+const READ: &[(&[u8], &[u8])] = &[(LINES, ANSWERS), (b"quit\nregs", b""), (b"regs", START)];
+
 #[test]
 fn reads_lines(rt: HostRuntime) -> Result<(), Fail> {
-    let told = replied(rt.alloc(), LINES)?;
-    assert_eq!(rt; told.as_slice(), ANSWERS);
-    let last = replied(rt.alloc(), b"quit\nregs")?;
-    assert_eq!(rt; last.as_slice(), b"".as_slice());
-    let unended = replied(rt.alloc(), b"regs")?;
-    assert_eq!(rt; unended.as_slice(), START);
+    for (commands, want) in READ {
+        assert_told(&rt, rt.alloc(), commands, want)?;
+    }
     Ok(())
 }
+
+/// So many spaces, what follows them, and the replies: a line of 256 bytes is too long, and one of 255 and a carriage return is not.
+const MEASURED: &[(u32, &[u8], &[u8])] = &[
+    (256, b"\n", b"? BAD COMMAND\n"),
+    (252, b"regs\n", b"? BAD COMMAND\n"),
+    (251, b"regs\r\n", START),
+    (0, &[b'x'; 2000], b"? BAD COMMAND\n"),
+];
 
 #[test]
 fn measures_lines(rt: HostRuntime) -> Result<(), Fail> {
-    let bad = b"? BAD COMMAND\n".as_slice();
-    let mut line = [b' '; 257];
-    line[256] = b'\n';
-    let spaces = replied(rt.alloc(), &line)?;
-    assert_eq!(rt; spaces.as_slice(), bad);
-    line[252..256].copy_from_slice(b"regs");
-    let long = replied(rt.alloc(), &line)?;
-    assert_eq!(rt; long.as_slice(), bad);
-    line[251..256].copy_from_slice(b"regs\r");
-    let longest = replied(rt.alloc(), &line)?;
-    assert_eq!(rt; longest.as_slice(), START);
-    let endless = replied(rt.alloc(), &[b'x'; 2000])?;
-    assert_eq!(rt; endless.as_slice(), bad);
+    for (spaces, rest, want) in MEASURED {
+        let mut line = Vec::new(rt.alloc());
+        for _ in 0..*spaces {
+            line.push(b' ')?;
+        }
+        line.extend_from_slice(rest)?;
+        assert_told(&rt, rt.alloc(), &line, want)?;
+    }
     Ok(())
 }
 
+const ROWS: &[u8] = b"step\nstep\nmem 01F0 0205\nmem FFF5 FFFF\nmem FFFF FFFF\nmem 0000 0010\n";
+
+const ROWS_TOLD: &[u8] =
+    b"A=00 X=00 Y=00 S=FA P=24 PC=0000 CYC=14\nA=00 X=00 Y=00 S=F7 P=24 PC=0000 CYC=21\n01F0  00 00 00 00 00 00 00 00 34 02 00 34 02 00 00 00\n0200  00 00 00 00 00 00\nFFF5  00 00 00 00 00 00 00 00 00 00 00\nFFFF  00\n0000  00 00 00 00 00 00 00 00 00 00 00 00 00 00 00 00\n0010  00\n";
+
 #[test]
 fn writes_rows(rt: HostRuntime) -> Result<(), Fail> {
-    let told = replied(
-        rt.alloc(),
-        b"step\nstep\nmem 01F0 0205\nmem FFF5 FFFF\nmem FFFF FFFF\nmem 0000 0010\n",
-    )?;
-    let want =
-        b"A=00 X=00 Y=00 S=FA P=24 PC=0000 CYC=14\nA=00 X=00 Y=00 S=F7 P=24 PC=0000 CYC=21\n01F0  00 00 00 00 00 00 00 00 34 02 00 34 02 00 00 00\n0200  00 00 00 00 00 00\nFFF5  00 00 00 00 00 00 00 00 00 00 00\nFFFF  00\n0000  00 00 00 00 00 00 00 00 00 00 00 00 00 00 00 00\n0010  00\n";
-    assert_eq!(rt; told.as_slice(), want.as_slice());
-    Ok(())
+    assert_told(&rt, rt.alloc(), ROWS, ROWS_TOLD)
 }
 
 /// Three lines, and the lengths of the input and of the replies after each of them.
@@ -390,8 +418,7 @@ fn serves_small_pieces(rt: HostRuntime) -> Result<(), Fail> {
         ..wide_taker(rt.alloc(), &flushed)
     };
     let ended = run(rt.alloc(), b"; remark\n", &mut reader, &mut writer)?;
-    assert_eq!(rt; ended, Ok(()));
-    assert_eq!(rt; writer.taken.as_slice(), REPLIES);
+    assert_ended(&rt, 0, ended, Ok(()), &writer.taken, REPLIES);
     Ok(())
 }
 
@@ -412,10 +439,14 @@ fn serves_until_the_reader_fails(rt: HostRuntime) -> Result<(), Fail> {
                 replied = output;
             }
         }
-        assert_eq!(rt; ended, Err(EngineFault::Read), "after {told} bytes");
-        assert_eq!(rt;
-            writer.taken.as_slice(),
-            REPLIES.get(..replied).unwrap_or(b"")
+        let written = REPLIES.get(..replied).unwrap_or(b"");
+        assert_ended(
+            &rt,
+            told,
+            ended,
+            Err(EngineFault::Read),
+            &writer.taken,
+            written,
         );
     }
     Ok(())
@@ -435,8 +466,15 @@ fn writes_a_beginning(rt: HostRuntime) -> Result<(), Fail> {
             ..wide_taker(rt.alloc(), &flushed)
         };
         let ended = run(rt.alloc(), b"", &mut reader, &mut writer)?;
-        assert_eq!(rt; ended, Err(EngineFault::Write), "in a room of {room}");
-        assert_eq!(rt; writer.taken.as_slice(), REPLIES.get(..room).unwrap_or(b""));
+        let written = REPLIES.get(..room).unwrap_or(b"");
+        assert_ended(
+            &rt,
+            room,
+            ended,
+            Err(EngineFault::Write),
+            &writer.taken,
+            written,
+        );
     }
     Ok(())
 }
@@ -455,12 +493,16 @@ fn ends_where_a_flush_fails(rt: HostRuntime) -> Result<(), Fail> {
             ..wide_taker(rt.alloc(), &flushed)
         };
         let ended = run(rt.alloc(), b"", &mut reader, &mut writer)?;
-        assert_eq!(rt; ended, Err(EngineFault::Write));
         assert_eq!(rt; flushed.get(), flushes);
-        let (_, written) = ENDS[flushes + 1];
-        assert_eq!(rt;
-            writer.taken.as_slice(),
-            REPLIES.get(..written).unwrap_or(b"")
+        let (_, replied) = ENDS[flushes + 1];
+        let written = REPLIES.get(..replied).unwrap_or(b"");
+        assert_ended(
+            &rt,
+            flushes,
+            ended,
+            Err(EngineFault::Write),
+            &writer.taken,
+            written,
         );
     }
     Ok(())
@@ -476,8 +518,7 @@ fn flushes_before_it_reads_on(rt: HostRuntime) -> Result<(), Fail> {
     };
     let mut writer = wide_taker(rt.alloc(), &flushed);
     let ended = run(rt.alloc(), b"", &mut reader, &mut writer)?;
-    assert_eq!(rt; ended, Ok(()));
-    assert_eq!(rt; writer.taken.as_slice(), REPLIES);
+    assert_ended(&rt, 0, ended, Ok(()), &writer.taken, REPLIES);
     Ok(())
 }
 
@@ -491,8 +532,7 @@ fn asks_no_more_after_quit(rt: HostRuntime) -> Result<(), Fail> {
     };
     let mut writer = wide_taker(rt.alloc(), &flushed);
     let ended = run(rt.alloc(), b"", &mut reader, &mut writer)?;
-    assert_eq!(rt; ended, Ok(()));
-    assert_eq!(rt; writer.taken.as_slice(), START);
+    assert_ended(&rt, 0, ended, Ok(()), &writer.taken, START);
     Ok(())
 }
 
