@@ -294,7 +294,10 @@ class Run:
         """The last lines of its log, without those that count what was loaded."""
         lines = read(self.log).decode(errors="replace").rstrip().split("\n")
         told = [it for it in lines if not re.match(r"(axioms|logic) |\w+ \w+: modules loaded=", it)]
-        return "\n".join(told[-count:])
+        return told[-count:]
+
+    def unproved(self):
+        return re.findall(r"(?m)^fn \S+: (?:not proved|no proof).*", read(self.log).decode())
 
 
 def end_all(runs):
