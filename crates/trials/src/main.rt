@@ -9,7 +9,8 @@ use bus::{Bus, BusFault, Image, MapSpec};
 use cpu::Machine;
 use debugger::{Session, SessionFault};
 use papertape::{
-    TapeFault, TapeFaultKind, TapeReader, read_pieces, read_tape, through_tape, write_tape,
+    TapeFault, TapeFaultKind, TapeReadFault, TapeReader, read_pieces, read_tape, read_tape_from,
+    through_tape, write_tape,
 };
 use std::alloc::Global;
 use std::process::ExitCode;
@@ -37,6 +38,8 @@ enum Fault {
     Source(AsmFaultKind),
     #[error("{0}")]
     Tape(TapeFaultKind),
+    #[error("Read")]
+    Read,
     #[error("NoSuchCall")]
     NoSuchCall,
 }
@@ -132,6 +135,16 @@ fn read_in_pieces(alloc: Global) -> Result<(), Fault> {
     Ok(())
 }
 
+/// Reads a tape from a reader that never fails.
+fn read_from(alloc: Global) -> Result<(), Fault> {
+    let mut tape = b";0000000000".as_slice();
+    match read_tape_from(alloc, &mut tape) {
+        Ok(_) => Ok(()),
+        Err(TapeReadFault::Tape(fault)) => Err(Fault::Tape(fault.kind)),
+        Err(TapeReadFault::Read) => Err(Fault::Read),
+    }
+}
+
 fn new_reader(alloc: Global) -> Result<(), Fault> {
     TapeReader::new(alloc)?;
     Ok(())
@@ -168,6 +181,7 @@ fn make(alloc: Global, word: &str) -> Result<(), Fault> {
         "set_watch" => set_watch(alloc, map),
         "read_tape" => read_at_once(alloc),
         "read_pieces" => read_in_pieces(alloc),
+        "read_tape_from" => read_from(alloc),
         "tape_reader_new" => new_reader(alloc),
         "write_tape" => write(alloc),
         "through_tape" => write_and_read(alloc),

@@ -1,0 +1,408 @@
+"""Proves crates side by side.
+
+`rt` locks every crate below the one that it works in, so two runs of it in one workspace wait for
+each other. Here each crate is proved in a workspace of its own: a crates.txt, copies of its sources
+and of those below it, links to the libraries built from them, and its own out/, which is moved
+there and back. out/ can be moved: the same kit can use it at any path.
+
+All of this stands in a folder of the user's cache, one for each clone:
+
+    logs/NAME.log   what the tools printed about a crate
+    sources/        the sources as they were when the run began
+    work/NAME/      the workspace of a crate that is being proved
+    seconds         processor seconds of each crate that was proved from nothing
+    proved          the sums of the crates that were proved and tested, for `tools/prove quick`
+"""
+
+import ctypes
+import fcntl
+import hashlib
+import os
+import re
+import shutil
+import signal
+import subprocess
+import sys
+import time
+
+TOP = os.path.dirname(os.path.dirname(os.path.realpath(__file__)))
+MEMORY_OF_A_JOB = 3_000_000_000
+NOT_BUILT = 125
+PR_SET_PDEATHSIG, PR_SET_CHILD_SUBREAPER = 1, 36
+SYSTEM = ctypes.CDLL(None)
+
+
+class Failure(Exception):
+    """The run cannot go on: what the user is told."""
+
+
+class Stop:
+    """The signal that asks this run to end, once one has come."""
+
+    signal = None
+
+    @classmethod
+    def watch(cls):
+        for it in (signal.SIGINT, signal.SIGTERM, signal.SIGHUP):
+            signal.signal(it, lambda number, _: setattr(cls, "signal", number))
+
+    @classmethod
+    def pause(cls, seconds):
+        time.sleep(seconds)
+        if cls.signal:
+            raise SystemExit(128 + cls.signal)
+
+
+class Crate:
+    """A line of crates.txt. `below` are the crates that it stands on, each after its own."""
+
+    def __init__(self, name, row, uses):
+        self.name, self.row, self.uses = name, row, uses
+        self.below = [*dict.fromkeys(it for use in uses for it in [*use.below, use])]
+        self.folder = f"{TOP}/crates/{name}"
+        self.is_program = os.path.isfile(f"{self.folder}/src/main.rt")
+
+    def has_tests(self):
+        files = (file for file in files_of(f"{self.folder}/src") if file.endswith(".rt"))
+        return any(re.search(rb"#\s*\[[^]]*\btest\b", read(it)) for it in files)
+
+    def program(self):
+        return f"{self.folder}/out/{self.name}"
+
+    def mark(self):
+        """The file that keeps what out/ was proved from. rt removes it with an out/rlib that is old."""
+        return f"{self.program()}.proved" if self.is_program else f"{self.folder}/out/rlib/proved"
+
+    def proof(self):
+        """What the mark holds once the crate is proved, and built."""
+        is_built = self.is_program and os.path.isfile(self.program())
+        return self.sum + (hashlib.sha256(read(self.program())).hexdigest() if is_built else "")
+
+    def is_proved(self):
+        return os.path.isfile(self.mark()) and read(self.mark()).decode() == self.proof()
+
+
+def read(file):
+    with open(file, "rb") as it:
+        return it.read()
+
+
+def write(file, text):
+    os.makedirs(os.path.dirname(file), exist_ok=True)
+    with open(f"{file}.part", "w", encoding="utf-8") as it:
+        it.write(text)
+    os.replace(f"{file}.part", file)
+
+
+def files_of(folder):
+    for at, folders, names in os.walk(folder):
+        folders.sort()
+        yield from (f"{at}/{name}" for name in sorted(names))
+
+
+def read_crates(top=TOP):
+    """The crates of crates.txt by name, each after those that it stands on."""
+    rows, crates = {}, {}
+    for line in read(f"{top}/crates.txt").decode().splitlines():
+        row = line.partition("#")[0].strip()
+        if row:
+            head, _, uses = row.partition(":")
+            rows[head.split()[0]] = row, re.split(r"[\s,]+", uses)
+
+    def add(name):
+        row, uses = rows[name]
+        own = [it for it in uses if it in rows]
+        for it in own:
+            if it not in crates:
+                add(it)
+        crates[name] = Crate(name, row, [crates[it] for it in own])
+
+    for name in rows:
+        if name not in crates:
+            add(name)
+    return crates
+
+
+def sum_up(crates, sources):
+    """Gives each crate the sum of what it is proved from: its files, those below it, and the kit."""
+    kit = subprocess.run(["rt", "version"], capture_output=True, check=True).stdout
+    for crate in crates.values():
+        found = hashlib.sha256(kit + crate.row.encode())
+        folder = f"{sources}/{crate.name}"
+        for file in files_of(folder):
+            inside = os.path.relpath(file, folder)
+            if not inside.startswith("must-fail/"):
+                found.update(repr((inside, read(file))).encode())
+        for it in crate.uses:
+            found.update(it.sum.encode())
+        crate.sum = found.hexdigest()
+
+
+def copy_sources(crates, top, to):
+    """Copies the crates without out/, so that no edit comes between one proof and another."""
+    shutil.rmtree(to, ignore_errors=True)
+    for crate in crates.values():
+        leave = lambda at, names: [it for it in names if it == "out"]
+        shutil.copytree(f"{top}/crates/{crate.name}", f"{to}/{crate.name}", ignore=leave)
+
+
+def cache():
+    """This clone's folder in the user's cache."""
+    above = os.environ.get("XDG_CACHE_HOME") or os.path.expanduser("~/.cache")
+    return f"{above}/mos65/{hashlib.sha256(TOP.encode()).hexdigest()[:16]}"
+
+
+def number_in(file, pattern):
+    try:
+        return int(re.search(pattern, read(file).decode())[1])
+    except (OSError, TypeError):
+        return None
+
+
+def jobs_at_once():
+    """How many provers run at a time: MOS65_JOBS, or one for each core that has 3 GB of memory."""
+    if re.fullmatch("[1-9][0-9]*", os.environ.get("MOS65_JOBS", "")):
+        return int(os.environ["MOS65_JOBS"])
+    group = "/sys/fs/cgroup"
+    cores = len(os.sched_getaffinity(0))
+    quota = number_in(f"{group}/cpu.max", r"^(\d+)")
+    period = number_in(f"{group}/cpu.max", r" (\d+)")
+    if quota and period:
+        cores = min(cores, max(quota // period, 1))
+    free = 1024 * (number_in("/proc/meminfo", r"MemAvailable:\s+(\d+)") or 0)
+    limit = number_in(f"{group}/memory.max", r"^(\d+)")
+    held = number_in(f"{group}/memory.stat", r"anon (\d+)")
+    if limit and held is not None:
+        free = min(free, limit - held)
+    return max(1, min(cores, free // MEMORY_OF_A_JOB))
+
+
+def lock(crates, say):
+    """Waits until no other build and no rt works in these crates. Returns what keeps others out."""
+    held, has_said = [], False
+    for folder in sorted(os.path.realpath(it.folder) for it in crates):
+        held.append(os.open(folder, os.O_RDONLY))
+        while True:
+            try:
+                fcntl.flock(held[-1], fcntl.LOCK_EX | fcntl.LOCK_NB)
+                break
+            except BlockingIOError:
+                if not has_said:
+                    say(f"waiting for another build at work in {folder}")
+                has_said = True
+                Stop.pause(0.5)
+            except OSError:
+                break  # a file system without locks
+    return held
+
+
+def link_or_copy(source, to):
+    try:
+        os.link(source, to)
+    except OSError:
+        shutil.copy2(source, to)
+
+
+def move(source, to):
+    """Moves a folder, and takes away what stood there."""
+    shutil.rmtree(to, ignore_errors=True)
+    os.makedirs(os.path.dirname(to), exist_ok=True)
+    shutil.move(source, to)
+
+
+class Workspace:
+    """The workspace in which one crate is proved."""
+
+    def __init__(self, room, crate):
+        self.crate, self.sources = crate, f"{room}/sources"
+        self.top = f"{room}/work/{crate.name}"
+        self.folder = f"{self.top}/crates/{crate.name}"
+
+    def fill(self):
+        crates = [*self.crate.below, self.crate]
+        write(f"{self.top}/crates.txt", "".join(f"{it.row}\n" for it in crates))
+        for it in crates:
+            shutil.copytree(f"{self.sources}/{it.name}", f"{self.top}/crates/{it.name}")
+        for it in self.crate.below:
+            built = f"{self.top}/crates/{it.name}/out/rlib"
+            shutil.copytree(f"{it.folder}/out/rlib", built, copy_function=link_or_copy)
+        if os.path.isdir(f"{self.crate.folder}/out"):
+            move(f"{self.crate.folder}/out", f"{self.folder}/out")
+
+    def give_back(self):
+        """Puts out/ back where it came from, with all that was proved."""
+        if os.path.isdir(f"{self.folder}/out"):
+            move(f"{self.folder}/out", f"{self.crate.folder}/out")
+        shutil.rmtree(self.top, ignore_errors=True)
+
+
+class Run:
+    """A crate at work: its steps in turn, each a command of rt in the crate's workspace."""
+
+    def __init__(self, room, crate, steps, jobs):
+        self.crate, self.jobs, self.steps = crate, jobs, [*steps]
+        self.log, self.seconds, self.status = f"{room}/logs/{crate.name}.log", 0, None
+        self.is_new = not os.path.isdir(f"{crate.folder}/out/incremental")
+        self.space = Workspace(room, crate)
+        self.space.fill()
+        open(self.log, "wb").close()
+        self.begin()
+
+    def begin(self):
+        """Begins the next step: the command of rt, and the words for it."""
+        self.verb, *words = self.steps.pop(0)
+        if self.verb != "fmt":
+            words = ["--jobs", str(self.jobs), *words]
+        with open(self.log, "ab") as log:
+            self.began = log.tell()
+            # rt ends with this process, however that ends, and what rt has started ends with rt.
+            self.process = subprocess.Popen(
+                ["rt", self.verb, *words], cwd=self.space.folder, start_new_session=True,
+                stdin=subprocess.DEVNULL, stdout=log, stderr=log,
+                preexec_fn=lambda: SYSTEM.prctl(PR_SET_PDEATHSIG, signal.SIGKILL),
+            )
+
+    def has_passed(self, status):
+        with open(self.log, "rb") as it:
+            it.seek(self.began)
+            said = it.read()
+        if self.verb == "run":
+            return b"rt: running out/" in said  # its status is that of the program
+        if self.verb == "fmt":
+            return status == 0 and not re.search(rb"rt: formatted |cannot be applied", said)
+        return status == 0
+
+    def poll(self):
+        """Returns whether it has ended, and begins the next step where one has passed."""
+        ended, status, used = os.wait4(self.process.pid, os.WNOHANG)
+        if not ended:
+            return False
+        self.process.returncode = status
+        self.seconds += used.ru_utime + used.ru_stime
+        has_passed = self.has_passed(status)
+        if has_passed and self.steps:
+            self.begin()
+            return False
+        self.status = 0 if has_passed else 1
+        return True
+
+    def kill(self):
+        if self.process.returncode is None:
+            os.killpg(self.process.pid, signal.SIGKILL)
+
+    def last_lines(self, count=12):
+        """The last lines of its log, without those that count what was loaded."""
+        lines = read(self.log).decode(errors="replace").rstrip().split("\n")
+        told = [it for it in lines if not re.match(r"(axioms|logic) |\w+ \w+: modules loaded=", it)]
+        return told[-count:]
+
+    def unproved(self):
+        return re.findall(r"(?m)^fn \S+: (?:not proved|no proof).*", read(self.log).decode())
+
+
+def end_all(runs):
+    """Ends these runs with all that they have started, and waits until it has ended."""
+    for it in runs:
+        it.kill()
+    deadline = time.monotonic() + 20
+    while time.monotonic() < deadline:
+        try:
+            if os.waitpid(-1, os.WNOHANG) == (0, 0):
+                time.sleep(0.02)
+        except ChildProcessError:
+            return
+
+
+class Build:
+    """Proves crates side by side, those first that the longest chain of others waits for."""
+
+    def __init__(self, room, plan, seconds, at_once, goes_on=False):
+        """`plan` has the steps of each crate, each crate after those below it. Where the build
+        `goes_on`, a crate that fails stops only those above it."""
+        self.room, self.plan, self.at_once, self.goes_on = room, plan, at_once, goes_on
+        self.left, self.running, self.passed, self.failed = [*plan], [], [], []
+        self.seconds = {it: seconds.get(it.name) or len(read_all(it)) / 1000 for it in plan}
+        self.chain = {}
+        for crate in reversed([*plan]):
+            above = [self.chain[it] for it in self.chain if crate in it.below]
+            self.chain[crate] = self.seconds[crate] + max(above, default=0)
+
+    def ready(self):
+        lacking = {*self.left, *(it.crate for it in [*self.running, *self.failed])}
+        found = [it for it in self.left if not lacking.intersection(it.below)]
+        return sorted(found, key=lambda it: -self.chain[it])
+
+    def jobs_for(self, crate, count, idle):
+        """The jobs that are idle, shared with the others that are ready; or as many as the crate's
+        chain needs to end with the rest of the work, if at most one of them is not idle."""
+        work = sum(self.seconds[it] for it in [*self.left, *(run.crate for run in self.running)])
+        needed = round(self.chain[crate] * self.at_once / max(work, 1))
+        return max(1, idle // count, min(needed, idle + (self.at_once > 2)))
+
+    def begin_ready(self):
+        ready = self.ready()
+        for at, crate in enumerate(ready):
+            idle = self.at_once - sum(it.jobs for it in self.running)
+            if idle <= 0:
+                return
+            jobs = self.jobs_for(crate, len(ready) - at, idle)
+            self.left.remove(crate)
+            self.running.append(Run(self.room, crate, self.plan[crate], jobs))
+
+    def collect(self):
+        for run in [*self.running]:
+            if run.poll():
+                self.running.remove(run)
+                run.space.give_back()
+                (self.failed if run.status else self.passed).append(run)
+                if not run.status:
+                    write(run.crate.mark(), run.crate.proof())
+
+    def run(self, show):
+        """Returns the runs that failed: the first alone, unless the build goes on."""
+        SYSTEM.prctl(PR_SET_CHILD_SUBREAPER, 1)
+        try:
+            while self.running or self.ready():
+                self.begin_ready()
+                show(len(self.passed))
+                Stop.pause(0.1)
+                self.collect()
+                if self.failed and not self.goes_on:
+                    break
+            show(len(self.passed))
+        finally:
+            end_all(self.running)
+            SYSTEM.prctl(PR_SET_CHILD_SUBREAPER, 0)
+            for it in self.running:
+                it.space.give_back()
+        return self.failed
+
+
+def read_all(crate):
+    parts = (f"{crate.folder}/{part}" for part in ("src", "specs", "proofs"))
+    return b"".join(read(file) for part in parts for file in files_of(part))
+
+
+def take_back(room, crates):
+    """Puts back what a run left in its workspaces that was killed."""
+    for name in os.listdir(f"{room}/work") if os.path.isdir(f"{room}/work") else []:
+        if name in crates:
+            Workspace(room, crates[name]).give_back()
+    shutil.rmtree(f"{room}/work", ignore_errors=True)
+
+
+def read_seconds(*files):
+    """Processor seconds of crates, from lines 'NAME SECONDS'; of two files the later one counts."""
+    found = {}
+    for file in filter(os.path.isfile, files):
+        rows = (line.partition("#")[0].split() for line in read(file).decode().splitlines())
+        found.update((row[0], float(row[1])) for row in rows if len(row) == 2)
+    return found
+
+
+def note_seconds(room, runs):
+    """Keeps what each crate cost that was proved from nothing."""
+    found = read_seconds(f"{room}/seconds")
+    found.update((it.crate.name, it.seconds) for it in runs if it.is_new and not it.status)
+    if found:
+        write(f"{room}/seconds", "".join(f"{name} {found[name]:.0f}\n" for name in sorted(found)))
