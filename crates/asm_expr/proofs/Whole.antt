@@ -2,8 +2,8 @@
 use Rattle.std.proofs.Common.{◌≡◌, ◌+◌, ◌-◌, ◌≤◌, List, ◌++◌, length, drop, Some, sym, ap, ◌∙◌, arith}
 use Rattle.std.proofs.lemmas.List.{length-append, length-map}
 use Rattle.std.proofs.Math.Seq.{drop-append_seam}
-use Rattle.asm_expr.specs.declared.token.Token.{Token}
-use Rattle.asm_expr.specs.Lexemes.{lexeme_of, lexemes}
+use Rattle.line_parts.specs.declared.token.Token.{Token}
+use Rattle.line_parts.specs.Lexemes.{lexeme_of, lexemes}
 use Rattle.model.specs.Token.{Lexeme}
 use Rattle.model.specs.Expression.{Term, whole}
 use Rattle.model.specs.Reading.{expression_of}

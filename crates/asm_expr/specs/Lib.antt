@@ -1,3 +1,3 @@
-pub mod Lexemes
-pub mod Trees
 pub mod Lexing
+pub use Rattle.line_parts.specs.Lexemes
+pub use Rattle.line_parts.specs.Trees

@@ -4,11 +4,10 @@ ghost use Rattle.std.specs.Prelude.{◌≡◌, ℕ, ◌≤◌};
 ghost use Rattle.std.specs.Option.{option_map};
 ghost use Rattle.model.specs.Digits.{digit_value};
 ghost use Rattle.model.specs.Expression.{atom_of, in_range, number_after, number_of_text, operator_of, symbol_of};
-ghost use Rattle.asm_expr.specs.Lexemes.{lexeme_of};
-ghost use Rattle.asm_expr.specs.Trees.{view};
+ghost use Rattle.line_parts.specs.Lexemes.{lexeme_of};
+ghost use Rattle.line_parts.specs.Trees.{view};
 
-use crate::token::Token;
-use crate::tree::Expr;
+use line_parts::{Expr, Token};
 use model::{Operator, TokenKind};
 
 /// The byte of a token that is a symbol.

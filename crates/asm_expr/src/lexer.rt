@@ -3,14 +3,14 @@
 ghost use Rattle.std.specs.Prelude.{◌≡◌, ◌==◌, ◌+◌, ◌<◌, ◌≤◌, ◌∷◌, true, length, drop, None, Some, IfOk, IsErrOf};
 ghost use Rattle.std.specs.List.{list_all};
 ghost use Rattle.model.specs.Token.{begins, is_source_byte, is_word_byte, word_token, directive_token, char_token, string_token, token_at, tokens_of};
-ghost use Rattle.asm_expr.specs.Lexemes.{lexemes, found_of};
+ghost use Rattle.line_parts.specs.Lexemes.{lexemes, found_of};
 ghost use Rattle.asm_expr.specs.Lexing.{number_in};
 
 use crate::byte_class::{
     binary_run, digit_run, hex_run, is_blank_byte, letter_run, may_be_char, may_be_in_word,
     may_be_symbol, may_begin_decimal, may_begin_word, may_stand, string_run, word_run,
 };
-use crate::token::Token;
+use line_parts::Token;
 use model::{LineFault, TokenKind};
 use std::alloc::Global;
 

@@ -5,12 +5,11 @@ ghost use Rattle.std.specs.Option.{option_map};
 ghost use Rattle.model.specs.Expression.{binary, high, low};
 ghost use Rattle.model.specs.Reading.{closed_by, expression_of, inner_at, more_with, next_with, primary_with, sum_with, unary_with, whole_with};
 ghost use Rattle.model.specs.declared.expression.LineFault.TheVariants.{Syntax};
-ghost use Rattle.asm_expr.specs.Lexemes.{lexemes};
-ghost use Rattle.asm_expr.specs.Trees.{seen, seen_next, view};
+ghost use Rattle.line_parts.specs.Lexemes.{lexemes};
+ghost use Rattle.line_parts.specs.Trees.{seen, seen_next, view};
 
 use crate::atom::{atom, operator, symbol};
-use crate::token::Token;
-use crate::tree::Expr;
+use line_parts::{Expr, Token};
 use model::{LineFault, Operator};
 use std::alloc::{AllocError, Global};
 

@@ -2,9 +2,9 @@
 
 ghost use Rattle.std.specs.Prelude.{◌≡◌, ℕ, pos, IfOk, IfErr, Err};
 ghost use Rattle.model.specs.Value.{applied, bits, checked, eval_of, knows, value_of};
-ghost use Rattle.asm_expr.specs.Trees.{view};
+ghost use Rattle.line_parts.specs.Trees.{view};
 
-use crate::tree::Expr;
+use line_parts::Expr;
 use model::{ExprFault, Operator};
 
 /// What names stand for.

@@ -18,10 +18,10 @@ use Rattle.model.specs.Expression.{Term, Longest}
 use Rattle.model.specs.Reading.{ReadsLongest, is_symbol, expression_of}
 use Rattle.model.specs.Line.{Operand, Item, value, Statement, origin, bytes, words, words_high_first, reserve, instruction, Line, labelled, definition, list_after, list_within, expressions_of, item_of, item_or, items_of, string_in, is_directive, directive_of, finish_alone, origin_after, operand_of, operation_by, statement_of, whole_expression, unlabelled, word_line, line_by, line_of, line_reserves, unreserved, read_line}
 use Rattle.model.specs.Layout.{item_size, items_size}
-use Rattle.asm_line.specs.declared.fault.LineError.{LineError}
-use Rattle.asm_line.specs.declared.statement.Line as code
-use Rattle.asm_line.specs.Seen.{Gives, seen_line}
-use Rattle.asm_line.specs.FewBytes.{IsSmall, IsSmallLine}
+use Rattle.line_parts.specs.declared.fault.LineError.{LineError}
+use Rattle.line_parts.specs.declared.statement.Line as code
+use Rattle.line_parts.specs.Seen.{Gives, seen_line}
+use Rattle.line_parts.specs.FewBytes.{IsSmall, IsSmallLine}
 
 -- ---- tokens
 

@@ -3,11 +3,11 @@ use Rattle.std.proofs.Common.{◌≡◌, ℕ, zero, suc, ◌-◌, Bool, List, []
 use Rattle.std.specs.Prelude.{map, ◌||◌, Option, None, Result, Ok, Err, IsErrAnd}
 use Rattle.std.specs.List.{list_any}
 use Rattle.std.proofs.lemmas.List.{take_all}
-use Rattle.asm_expr.specs.declared.token.Token.{Token}
-use Rattle.asm_expr.specs.Lexemes.{lexemes}
+use Rattle.line_parts.specs.declared.token.Token.{Token}
+use Rattle.line_parts.specs.Lexemes.{lexemes}
 use Rattle.model.specs.declared.expression.LineFault.{LineFault}
 use Rattle.model.specs.declared.expression.LineFault.TheVariants.{Syntax, OutOfMemory}
-use Rattle.asm_line.specs.Seen.{Reads}
+use Rattle.line_parts.specs.Seen.{Reads}
 
 -- tokens dropped with or without where they lie
 pub lexemes_drop : (n : ℕ) (ts : List Token) → lexemes (drop n ts) ≡ drop n (lexemes ts)

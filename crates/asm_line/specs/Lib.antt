@@ -1,5 +1,5 @@
 pub mod Lists
 pub mod Pointers
-pub mod Seen
-pub mod FewBytes
 pub mod Tokens
+pub use Rattle.line_parts.specs.FewBytes
+pub use Rattle.line_parts.specs.Seen

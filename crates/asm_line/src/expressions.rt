@@ -3,15 +3,15 @@
 ghost use Rattle.std.specs.Prelude.{◌≡◌, ◌<◌, ◌≤◌, ◌-◌, IfOk, IfErr, None, Some, drop, length, map, take, true};
 ghost use Rattle.model.specs.Line.{expressions_of, item_of, items_of, whole_expression};
 ghost use Rattle.model.specs.Reading.{expression_of};
-ghost use Rattle.asm_expr.specs.Lexemes.{lexemes};
-ghost use Rattle.asm_expr.specs.Trees.{view};
+ghost use Rattle.line_parts.specs.Lexemes.{lexemes};
+ghost use Rattle.line_parts.specs.Trees.{view};
 ghost use Rattle.asm_line.specs.Lists.{goes_on};
-ghost use Rattle.asm_line.specs.Seen.{Reads, seen_after, seen_item};
+ghost use Rattle.line_parts.specs.Seen.{Reads, seen_after, seen_item};
 ghost use Rattle.model.specs.declared.expression.LineFault.TheVariants.{Syntax};
 
-use crate::statement::Item;
 use crate::token_tests::is_symbol;
-use asm_expr::{Expr, Token, parse_expr};
+use asm_expr::parse_expr;
+use line_parts::{Expr, Item, Token};
 use model::{LineFault, TokenKind};
 use std::alloc::Global;
 

@@ -5,17 +5,13 @@
 #![tactic(auto)]
 
 mod expressions;
-mod fault;
 mod law;
 mod operand;
 mod reserved;
-mod statement;
 mod text;
 mod token_tests;
 
-pub use asm_expr::{Expr, Token};
-pub use fault::LineError;
 pub use law::{each_line_is_read, each_read_line_is_a_line};
+pub use line_parts::{Expr, Item, Line, LineError, Operand, Statement, Token};
 pub use model::{AsmFaultKind, Index, Mnemonic, Profile};
-pub use statement::{Item, Line, Operand, Statement};
 pub use text::{read_line, read_line_with};

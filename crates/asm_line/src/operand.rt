@@ -5,15 +5,14 @@ ghost use Rattle.std.specs.Option.{option_and_then, option_map};
 ghost use Rattle.model.specs.Expression.{Term};
 ghost use Rattle.model.specs.Line.{direct_after, direct_operand, operand_of, pointer_after};
 ghost use Rattle.model.specs.Reading.{expression_of};
-ghost use Rattle.asm_expr.specs.Lexemes.{lexemes};
-ghost use Rattle.asm_expr.specs.Trees.{view};
+ghost use Rattle.line_parts.specs.Lexemes.{lexemes};
+ghost use Rattle.line_parts.specs.Trees.{view};
 ghost use Rattle.asm_line.specs.Pointers.{pointer_by};
-ghost use Rattle.asm_line.specs.Seen.{Reads, seen_operand};
+ghost use Rattle.line_parts.specs.Seen.{Reads, seen_operand};
 
 use crate::expressions::{expression, whole_expression};
-use crate::statement::Operand;
 use crate::token_tests::{is_symbol, is_word};
-use asm_expr::{Expr, Token};
+use line_parts::{Expr, Operand, Token};
 use model::{Index, LineFault};
 use std::alloc::Global;
 

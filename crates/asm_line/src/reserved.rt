@@ -3,12 +3,11 @@
 ghost use Rattle.std.specs.Prelude.{◌≡◌};
 ghost use Rattle.std.specs.List.{list_any};
 ghost use Rattle.model.specs.Line.{is_reserved, item_reserves, line_reserves, operand_reserves, reserves, term_reserves};
-ghost use Rattle.asm_expr.specs.Trees.{view};
-ghost use Rattle.asm_line.specs.Seen.{seen, seen_item, seen_line, seen_operand};
+ghost use Rattle.line_parts.specs.Trees.{view};
+ghost use Rattle.line_parts.specs.Seen.{seen, seen_item, seen_line, seen_operand};
 
-use crate::statement::{Item, Line, Operand, Statement};
 use crate::token_tests::is_in_capitals;
-use asm_expr::Expr;
+use line_parts::{Expr, Item, Line, Operand, Statement};
 use model::Profile;
 use optable::mnemonic_in;
 

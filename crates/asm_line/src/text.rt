@@ -2,18 +2,17 @@
 
 ghost use Rattle.std.specs.Prelude.{◌≡◌, ◌∷◌, IfOk};
 ghost use Rattle.model.specs.Line.{directive_of, line_of, operation_by, origin_after, read_line, statement_of, unlabelled, unreserved, word_line};
-ghost use Rattle.asm_expr.specs.Lexemes.{lexeme_of, lexemes};
-ghost use Rattle.asm_line.specs.Seen.{Gives, Reads, seen, seen_line};
-ghost use Rattle.asm_line.specs.FewBytes.{IsSmallLine};
+ghost use Rattle.line_parts.specs.Lexemes.{lexeme_of, lexemes};
+ghost use Rattle.line_parts.specs.Seen.{Gives, Reads, seen, seen_line};
+ghost use Rattle.line_parts.specs.FewBytes.{IsSmallLine};
 ghost use Rattle.asm_line.specs.Tokens.{fault_of_bytes, line_tokens, said_by};
 
 use crate::expressions::{expressions, items, whole_expression};
-use crate::fault::LineError;
 use crate::operand::operand;
 use crate::reserved::line_reserves;
-use crate::statement::{Line, Statement};
 use crate::token_tests::{is_in_capitals, is_symbol};
-use asm_expr::{Token, all_may_stand, expressions_are_longest, tokens_are_slices, tokens_into};
+use asm_expr::{all_may_stand, expressions_are_longest, tokens_are_slices, tokens_into};
+use line_parts::{Line, LineError, Statement, Token};
 use model::{AsmFaultKind, LineFault, Profile, TokenKind};
 use optable::mnemonic_in;
 use std::alloc::Global;

@@ -4,9 +4,10 @@ ghost use Rattle.std.specs.Prelude.{◌≡◌};
 ghost use Rattle.std.specs.Str.{bytes_eq, str_to_ascii_uppercase};
 ghost use Rattle.model.specs.Reading.{is_symbol};
 ghost use Rattle.model.specs.Line.{is_word};
-ghost use Rattle.asm_expr.specs.Lexemes.{lexeme_of};
+ghost use Rattle.line_parts.specs.Lexemes.{lexeme_of};
 
-use asm_expr::{Token, symbol};
+use asm_expr::symbol;
+use line_parts::Token;
 use model::TokenKind;
 
 /// Whether a text is some capitals, in either letter case.

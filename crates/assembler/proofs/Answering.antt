@@ -1,9 +1,9 @@
 -- What an answer says of a source.
-use Rattle.std.proofs.Common.{◌≡◌, ℕ, List, Option, false, Result, Ok, Err, ◌⊎◌, inl, inr, refl, sym, ap, subst, ◌∙◌}
+use Rattle.std.proofs.Common.{◌≡◌, ℕ, List, Option, Result, Ok, Err, ◌⊎◌, inl, inr, refl, sym, ap, subst, ◌∙◌}
 use Rattle.std.specs.Prelude.{IfOk, IfErr}
 use Rattle.model.specs.Bytes.{Makes}
 use Rattle.model.specs.Image.{empty_image}
-use Rattle.model.specs.State.{Map, has_port_byte}
+use Rattle.model.specs.State.{Map}
 use Rattle.model.specs.Layout.{Fixed, Placed, LaidOut, extents_of}
 use Rattle.model.specs.Lines.{lines_of}
 use Rattle.model.specs.Listing.{IsListing}
@@ -12,8 +12,7 @@ use Rattle.model.specs.Source.{Denotes, HasFault, OneAssignment, nothing_fixed, 
 use Rattle.model.specs.declared.source_fault.AsmFault.{AsmFault}
 use Rattle.source_laws.specs.Judging.{DenotedIsJudged, FaultIsJudged, Judged, JudgedIsMeant, Says, judged, judged_as, ◌>>=◌}
 use Rattle.assembler.specs.Assembly.{AnswersSource, Assembled, IsImageOrMemory, Verdict, listing_of, out_of_memory, seen_verdict, verdict, verdict_of}
-use Rattle.assembler.proofs.NoByteAtPort.{spared_image}
-use Rattle.assembler.proofs.RowsLeft.{rows_of_read}
+use Rattle.assembler.proofs.RowsRead.{rows_of_read}
 
 abbrev Cells : Type 0
 Cells = List (Option ℕ)
@@ -76,13 +75,6 @@ names_from meant one m source (Ok a) h = λ placed all laid.
     let same : x.judgement.all ≡ all = (one (read_lines m.profile source) (nothing_fixed m.profile) x.judgement.placed placed x.judgement.all all x.laid laid).1 in
     sym (ap (λ (v : Verdict). v.names) x.shown) ∙ ap (λ (f : Fixed). f.names) same
 names_from meant one m source (Err f) h = tt
-
-pub spared_from : JudgedIsMeant → (m : Map) (source : List ℕ) (r : Given) → AnswersSource seen_verdict r (verdict m source) → IfOk r (λ a. has_port_byte m a.image ≡ false)
-spared_from meant m source (Ok a) h =
-    let x = meant_as meant m source a h in
-    let spared : has_port_byte m x.judgement.image ≡ false = spared_image m (number_in x.denotes.all.names) x.denotes.placed x.judgement.image x.denotes.made in
-    subst (λ (i : Cells). has_port_byte m i ≡ false) (image_is m source a x) spared
-spared_from meant m source (Err f) h = tt
 
 pub only_from : DenotedIsJudged → (m : Map) (source : List ℕ) (r : Given) → AnswersSource seen_verdict r (verdict m source) → (image : Cells) → Denotes m source image → IsImageOrMemory r image
 only_from denoted m source (Ok a) h image d =

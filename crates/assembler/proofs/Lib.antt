@@ -1,12 +1,4 @@
-pub mod Sizes
-pub mod CutAtLineFeed
 pub mod FirstPass
-pub mod Ports
-pub mod Gathers
-pub mod BytesFitSize
-pub mod NoByteAtPort
-pub mod SecondPass
 pub mod Verdicts
+pub mod RowsRead
 pub mod Answering
-pub mod LineAlone
-pub mod RowsLeft

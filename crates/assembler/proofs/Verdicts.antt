@@ -14,7 +14,9 @@ use Rattle.model.specs.declared.source_fault.AsmFault.{AsmFault}
 use Rattle.model.specs.declared.source_fault.AsmFaultKind.{AsmFaultKind}
 use Rattle.source_laws.specs.Judging.{Judged, judged, judged_lines, laid_lines, made_lines, numbered, put, too_large, ◌>>=◌}
 use Rattle.assembler.specs.Assembly.{AnswersSource, Assembled, Verdict, seen_verdict, out_of_memory, verdict, verdict_of}
-use Rattle.assembler.specs.Found.{Counted, counted, Found, found_lines, is_kept, made_kept, nothing_found, noting, taken}
+use Rattle.assembler.specs.Found.{Found, found_lines, is_kept, nothing_found, noting, taken}
+use Rattle.emission.specs.Made.{made_kept}
+use Rattle.line_parts.specs.Kept.{Counted, counted}
 
 abbrev Cells : Type 0
 Cells = List (Option ℕ)

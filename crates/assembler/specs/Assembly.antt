@@ -1,5 +1,6 @@
 -- What an assembly shows, and the refusal that is no fault of the source.
-use Rattle.std.specs.Prelude.{◌≡◌, ℕ, List, map, Option, ◌⊎◌, Result, Ok, Err}
+use Rattle.std.specs.Prelude.{◌≡◌, ℕ, List, map, Option, Result, Ok, Err}
+pub use Rattle.line_parts.specs.Located.{AnswersSource, out_of_memory}
 use Rattle.model.specs.Names.{Definitions}
 use Rattle.model.specs.Layout.{extents_of}
 use Rattle.model.specs.Lines.{lines_of}
@@ -7,7 +8,6 @@ use Rattle.model.specs.Listing.{listing_text, shown_in}
 use Rattle.source_laws.specs.Judging.{Judged, judged, ◌>>=◌}
 use Rattle.model.specs.State.{Map}
 use Rattle.model.specs.declared.source_fault.AsmFault.{AsmFault}
-use Rattle.model.specs.declared.source_fault.AsmFaultKind.TheVariants.{OutOfMemory}
 
 -- What clauses see of an assembly: the byte at each address, where the source denotes one; the source; each line's address and
 -- byte count, in the order of the lines; and the names with their numbers, in order of definition.
@@ -31,15 +31,6 @@ verdict bus_map source = judged bus_map source >>= λ j. Ok (verdict_of j)
 
 abbrev pub seen_verdict : Assembled → Verdict
 seen_verdict a = record { image = a.image; places = a.places; names = a.names }
-
--- A request for memory was refused. No line is at fault.
-abbrev pub out_of_memory : AsmFault
-out_of_memory = record { line = 0; kind = OutOfMemory }
-
--- What was answered is what a definition gives, memory aside.
-abbrev pub AnswersSource : {A B : Type 0} → (A → B) → Result A AsmFault → Result B AsmFault → Type 0
-AnswersSource shown (Ok a) given = given ≡ Ok (shown a)
-AnswersSource shown (Err fault) given = (fault ≡ out_of_memory) ⊎ (given ≡ Err fault)
 
 -- The answer is this image, or memory was refused.
 abbrev pub IsImageOrMemory : Result Assembled AsmFault → List (Option ℕ) → Type 0

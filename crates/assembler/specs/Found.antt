@@ -1,21 +1,10 @@
--- What the first pass finds of all lines, and what the second one makes of it.
-use Rattle.std.specs.Prelude.{ℕ, ◌+◌, Bool, true, false, if◌then◌else◌, List, [], ◌∷◌, ◌++◌, Option, Result, Ok}
-use Rattle.model.specs.State.{Map}
+-- What the first pass finds of all lines.
+use Rattle.std.specs.Prelude.{ℕ, ◌+◌, Bool, true, false, if◌then◌else◌, List, [], ◌∷◌, ◌++◌, Result, Ok}
 use Rattle.model.specs.Layout.{◌>>>◌, Content, no_bytes, byte_list, word_list, word_list_high_first, code, Fixed, Placed, Standing, extent_of, layout_of}
-use Rattle.model.specs.Value.{Numbers}
-use Rattle.source_laws.specs.Judging.{numbered, put, ◌>>=◌}
+use Rattle.line_parts.specs.Kept.{Counted, counted}
+use Rattle.source_laws.specs.Judging.{numbered, ◌>>=◌}
 use Rattle.model.specs.declared.source_fault.AsmFault.{AsmFault}
 use Rattle.model.specs.declared.source_fault.AsmFaultKind.{AsmFaultKind}
-
--- ---- the first pass
-
--- A line in its place, with its number.
-pub record Counted : Type 0 where
-  pub number : ℕ
-  pub place : Placed
-
-abbrev pub counted : ℕ → Placed → Counted
-counted number p = record { number = number; place = p }
 
 -- Each line's address and byte count, and the lines that denote bytes, in the order of the lines.
 pub record Found : Type 0 where
@@ -48,11 +37,3 @@ abbrev pub found_lines : ℕ → Fixed → Found → List (List ℕ) → Result 
 found_lines number before found [] = Ok (found, before)
 found_lines number before found (line ∷ lines) =
     numbered number (taken number found (layout_of before line)) >>= λ p. found_lines (number + 1) p.1 p.0 lines
-
--- ---- the second pass
-
--- The image after the lines that are kept.
-abbrev pub made_kept : Map → Numbers → List (Option ℕ) → List Counted → Result (List (Option ℕ)) AsmFault
-made_kept bus_map numbers image [] = Ok image
-made_kept bus_map numbers image (k ∷ ks) =
-    numbered k.number (put bus_map numbers image k.place) >>= λ i. made_kept bus_map numbers i ks

@@ -1,36 +1,19 @@
--- The lines that are found and kept, seen as the definitions see them.
-use Rattle.std.specs.Prelude.{◌≡◌, ℕ, ⊤, Bool, false, List, map, ◌⊎◌, Result, Ok, Err}
+-- The lines that are found, seen as the definitions see them.
+use Rattle.std.specs.Prelude.{◌≡◌, ℕ, ⊤, Bool, false, List, ◌⊎◌, Result, Ok, Err}
 use Rattle.model.specs.declared.instruction.Profile.{Profile}
 use Rattle.model.specs.declared.source_fault.AsmFault.{AsmFault}
 use Rattle.model.specs.declared.source_fault.AsmFaultKind.{AsmFaultKind}
-use Rattle.asm_line.specs.declared.fault.LineError.{LineError}
-use Rattle.asm_line.specs.declared.fault.LineError.TheVariants as errors
-use Rattle.assembler.specs.declared.kept.Kept.{Kept}
-use Rattle.assembler.specs.declared.kept.Span.{Span}
+use Rattle.line_parts.specs.declared.fault.LineError.{LineError}
+use Rattle.line_parts.specs.declared.fault.LineError.TheVariants as errors
 use Rattle.assembler.specs.declared.found.Lines.{Lines}
-use Rattle.assembler.specs.Assembly.{out_of_memory}
-use Rattle.assembler.specs.Found.{Counted, Found}
-use Rattle.asm_line.specs.Seen.{seen}
-use Rattle.assembler.specs.Sites.{content_by}
+use Rattle.line_parts.specs.Kept.{counted_in}
+use Rattle.line_parts.specs.Located.{out_of_memory}
+use Rattle.source_lines.specs.Spans.{pairs_of}
+use Rattle.assembler.specs.Found.{Found}
 use Rattle.model.specs.Names.{Definitions}
 use Rattle.model.specs.Line.{Line, labelled, definition, read_line}
-use Rattle.model.specs.Layout.{Fixed, Placed}
+use Rattle.model.specs.Layout.{Fixed}
 use Rattle.model.specs.Source.{is_end, is_finish}
-
-abbrev pub placed_of : Kept → Placed
-placed_of k = record { address = k.address; content = content_by k.code (seen k.statement) }
-
-abbrev pub counted_of : Kept → Counted
-counted_of k = record { number = k.number; place = placed_of k }
-
-abbrev pub counted_in : List Kept → List Counted
-counted_in ks = map counted_of ks
-
-abbrev pub pair_of : Span → ℕ × ℕ
-pair_of span = (span.address, span.count)
-
-abbrev pub pairs_of : List Span → List (ℕ × ℕ)
-pairs_of spans = map pair_of spans
 
 abbrev pub found_of : Lines → Found
 found_of l = record { extents = pairs_of l.spans.items; kept = counted_in l.kept.items }

@@ -1,6 +1,4 @@
-pub mod Sites
-pub mod Gathering
 pub mod Found
 pub mod Kept
-pub mod Located
 pub mod Assembly
+pub use Rattle.line_parts.specs.Located

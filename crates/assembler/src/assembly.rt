@@ -11,14 +11,14 @@ ghost use Rattle.model.specs.State.{has_port_byte};
 ghost use Rattle.model.specs.declared.source_fault.AsmFault.{AsmFault};
 ghost use Rattle.symbols.specs.Entries.{shown};
 
-use crate::fault::OUT_OF_MEMORY;
 use crate::first_pass::lay_out;
-use crate::kept::Span;
-use crate::listed::listing_of;
-use crate::second_pass::make_image;
 use bus::{Image, MapSpec};
+use emission::make_image;
+use line_parts::OUT_OF_MEMORY;
 use model::{AsmFault, AsmFaultKind};
 use source_laws::{judging_is_right, one_assignment};
+use source_lines::Span;
+use source_listing::listing_of;
 use std::alloc::Global;
 use std::marker::Model;
 use symbols::Symbols;
@@ -37,7 +37,7 @@ pub struct Assembly {
 
 impl Model for Assembly {
     ghost use Rattle.assembler.specs.Assembly.{Assembled};
-    ghost use Rattle.assembler.specs.Kept.{pairs_of};
+    ghost use Rattle.source_lines.specs.Spans.{pairs_of};
 
     ghost Value = { Assembled };
 
@@ -138,6 +138,7 @@ fn assemble_lines(alloc: Global, source: &[u8], map: &MapSpec) -> Result<Assembl
     ensures exact { AnswersSource seen_verdict result (verdict map.now source.now) }
     ensures cells { IfOk result (λ a. IsImage a.image) }
     ensures kept { IfOk result (λ a. a.source ≡ source.now) }
+    ensures spared { IfOk result (λ a. has_port_byte map.now a.image ≡ false) }
 {
     if source.len() > SOURCE_SIZE {
         return Err(AsmFault {

@@ -3,16 +3,16 @@
 ghost use Rattle.std.specs.Prelude.{◌≡◌, ◌+◌, ◌-◌, ◌<◌, ◌≤◌, ◌^◌, [], max, length, IfOk};
 ghost use Rattle.assembler.specs.Found.{found_lines, nothing_found, taken};
 ghost use Rattle.assembler.specs.Kept.{Lays, Takes, ends_line, found_of};
-ghost use Rattle.asm_line.specs.Seen.{seen, seen_line};
+ghost use Rattle.line_parts.specs.Seen.{seen, seen_line};
 ghost use Rattle.model.specs.Layout.{layout_of};
 ghost use Rattle.model.specs.Source.{is_finish, nothing_fixed, read_lines};
 
-use crate::fault::{OUT_OF_MEMORY, located};
-use crate::fix::fix;
 use crate::found::Lines;
-use crate::line::next_line;
-use asm_line::{Line, LineError, Statement, Token, read_line_with};
+use asm_line::read_line_with;
+use layout::fix;
+use line_parts::{Line, LineError, OUT_OF_MEMORY, Statement, Token, located};
 use model::{AsmFault, Profile};
+use source_lines::next_line;
 use std::alloc::Global;
 use symbols::Symbols;
 

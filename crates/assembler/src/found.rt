@@ -2,15 +2,16 @@
 
 ghost use Rattle.std.specs.Prelude.{◌≡◌, ◌<◌, ◌≤◌, ◌-◌, ◌^◌, OnOk};
 ghost use Rattle.assembler.specs.Found.{is_kept, noting, nothing_found};
-ghost use Rattle.assembler.specs.Kept.{counted_in, found_of, pairs_of};
-ghost use Rattle.asm_line.specs.Seen.{seen, seen_line};
-ghost use Rattle.assembler.specs.Sites.{content_by, line_content};
+ghost use Rattle.assembler.specs.Kept.{found_of};
+ghost use Rattle.line_parts.specs.Seen.{seen, seen_line};
+ghost use Rattle.line_parts.specs.Contents.{content_by, line_content};
+ghost use Rattle.line_parts.specs.Kept.{counted_in};
 ghost use Rattle.model.specs.Layout.{size_of};
+ghost use Rattle.source_lines.specs.Spans.{pairs_of};
 
-use crate::forms::Code;
-use crate::kept::{Kept, Span};
-use crate::layout::Site;
-use asm_line::{Line, Statement};
+use layout::Site;
+use line_parts::{Code, Kept, Line, Statement};
+use source_lines::Span;
 use std::alloc::{AllocError, Global};
 
 /// Where each line stands, and the lines that denote bytes.

@@ -1,24 +1,15 @@
 //! The assembler: from a source to the image that it denotes, and the names that it defines.
 //!
-//! `first_pass` reads each line once, by the reader of `asm_line`: `fix` defines its name and finds its place and its size, and `found`
-//! keeps where it stands and, if it denotes bytes, what it says. `second_pass` puts the bytes of the lines that were kept, by `emit`,
-//! under the numbers of all names. `assembly` has both, and the public calls. That the two passes compute what a source denotes is a
-//! law of `source_laws`, over `Source.antt` of `model`.
+//! `first_pass` reads each line once, by the reader of `asm_line`: `layout::fix` defines its name and finds its place and its size,
+//! and `found` keeps where it stands and, if it denotes bytes, what it says. `emission::make_image` puts the bytes of the lines that
+//! were kept, under the numbers of all names. `assembly` has both, and the public calls. That the two passes compute what a source
+//! denotes is a law of `source_laws`, over `Source.antt` of `model`.
 #![tactic(auto)]
 
 mod assembly;
-mod emit;
-mod fault;
 mod first_pass;
-mod fix;
-mod forms;
 mod found;
-mod kept;
-mod layout;
-mod line;
-mod listed;
 mod one_line;
-mod second_pass;
 
 pub use assembly::{Assembly, assemble};
 pub use model::{AsmFault, AsmFaultKind, Profile};

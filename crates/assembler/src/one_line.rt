@@ -1,21 +1,17 @@
 //! One line alone.
 
 ghost use Rattle.std.specs.Prelude.{◌≡◌, ◌+◌, ◌-◌, ◌<◌, ◌≤◌, ◌^◌, IfOk, OnOk, length, take, drop, replicate, map};
-ghost use Rattle.asm_line.specs.Seen.{Gives, seen};
-ghost use Rattle.assembler.specs.Assembly.{AnswersSource};
-ghost use Rattle.assembler.specs.Sites.{content_by};
-ghost use Rattle.assembler.specs.Gathering.{gathered, nothing_gathered, noted};
-ghost use Rattle.model.specs.Bytes.{kind_if, pieces_of};
+ghost use Rattle.line_parts.specs.Seen.{Gives, seen};
+ghost use Rattle.line_parts.specs.Located.{AnswersSource};
+ghost use Rattle.line_parts.specs.Contents.{content_by};
 ghost use Rattle.model.specs.Layout.{size_of};
-ghost use Rattle.model.specs.Names.{number_in};
-ghost use Rattle.model.specs.OneLine.{bytes_alone, may_stand_alone, no_numbers, one_line};
+ghost use Rattle.model.specs.OneLine.{bytes_alone, may_stand_alone, one_line};
 ghost use Rattle.source_laws.specs.Judging.{numbered};
 
-use crate::emit::gather_alone;
-use crate::fault::located;
-use crate::fix::fix;
-use crate::layout::Site;
-use asm_line::{LineError, Statement, read_line};
+use asm_line::read_line;
+use emission::bytes_alone;
+use layout::{Site, fix};
+use line_parts::{LineError, Statement, located};
 use model::{AsmFault, AsmFaultKind, Profile};
 use std::alloc::Global;
 use symbols::Symbols;
@@ -72,11 +68,8 @@ fn encode_alone(
     ensures rest { IfOk result (λ l. drop l.count l.bytes ≡ replicate (3 - l.count) 0) }
     ensures few { IfOk result (λ l. l.count ≤ 3) }
 {
-    let gathered = gather_alone(alloc, address, site, statement)?;
-    match gathered.kind() {
-        Some(kind) => Err(LineError::Kind(kind)),
-        None => Ok(line_of(gathered.bytes())),
-    }
+    let bytes = bytes_alone(alloc, address, site.code, site.count, statement)?;
+    Ok(line_of(&bytes))
 }
 
 /// The bytes of a line alone at an address, or its fault.
@@ -96,14 +89,14 @@ fn assemble_alone(
     let mut symbols = Symbols::new(alloc);
     let site = fix(alloc, profile, &mut symbols, address, &line)?;
     match &line {
-        asm_line::Line::Labelled(None, statement) => {
+        line_parts::Line::Labelled(None, statement) => {
             if may_stand_alone(statement) && site.count <= 3 {
                 encode_alone(alloc, address, site, statement)
             } else {
                 Err(LineError::Kind(AsmFaultKind::NotOneLine))
             }
         }
-        asm_line::Line::Labelled(Some(_), _) | asm_line::Line::Definition(..) => {
+        line_parts::Line::Labelled(Some(_), _) | line_parts::Line::Definition(..) => {
             Err(LineError::Kind(AsmFaultKind::NotOneLine))
         }
     }

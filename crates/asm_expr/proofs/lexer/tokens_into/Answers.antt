@@ -3,7 +3,7 @@ use Rattle.std.proofs.lemmas.List.{map-append}
 use Rattle.model.specs.Token.{Lexeme, token_at, tokens_from}
 use Rattle.asm_expr.specs.Lexing.{then_tokens}
 use Rattle.asm_expr.proofs.Runs.{from}
-use Rattle.asm_expr.specs.Lexemes.{lexeme_of, lexemes}
+use Rattle.line_parts.specs.Lexemes.{lexeme_of, lexemes}
 use Rattle.asm_expr.proofs.Steps.{whole, refused, at_start, blank_passed, at_comment, at_end, none_found, token_inside, token_passed}
 use Rattle.asm_expr.proofs.lexer.tokens_into.Goals as goal
 

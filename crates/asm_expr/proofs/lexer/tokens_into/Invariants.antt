@@ -1,6 +1,6 @@
 use Rattle.std.proofs.Common.{◌≡◌, ◌≤◌, ◌-◌, length, drop}
 use Rattle.model.specs.Token.{tokens_from}
-use Rattle.asm_expr.specs.Lexemes.{lexemes}
+use Rattle.line_parts.specs.Lexemes.{lexemes}
 use Rattle.asm_expr.specs.Lexing.{then_tokens}
 use Rattle.asm_expr.proofs.lexer.tokens_into.Given as goal
 

@@ -1,6 +1,6 @@
 use Rattle.std.proofs.Common.{◌≡◌, ◌+◌, ◌-◌, ◌*◌, Some}
-use Rattle.asm_expr.specs.Lexemes.{lexemes}
-use Rattle.asm_expr.specs.Trees.{view}
+use Rattle.line_parts.specs.Lexemes.{lexemes}
+use Rattle.line_parts.specs.Trees.{view}
 use Rattle.model.specs.Reading.{inner_at, more_with, sum_with}
 use Rattle.asm_expr.proofs.parse.+parse.Given as goal
 

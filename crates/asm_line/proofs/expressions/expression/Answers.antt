@@ -1,5 +1,5 @@
 use Rattle.std.proofs.Common.{◌∙◌, ap, sym, Some}
-use Rattle.asm_expr.specs.Trees.{view}
+use Rattle.line_parts.specs.Trees.{view}
 use Rattle.asm_line.proofs.TokensLeft.{lexemes_after}
 use Rattle.asm_line.proofs.expressions.expression.Goals as goal
 

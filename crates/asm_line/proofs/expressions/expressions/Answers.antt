@@ -1,8 +1,8 @@
 use Rattle.std.proofs.Common.{◌≡◌, Bool, ◌+◌, ◌-◌, [], ◌∷◌, ◌++◌, drop, length, length-drop, sym, ◌∙◌, ap, subst, arith, true, false}
 use Rattle.std.specs.Prelude.{map, Some, None}
 use Rattle.std.proofs.lemmas.List.{map-append}
-use Rattle.asm_expr.specs.Lexemes.{lexemes}
-use Rattle.asm_expr.specs.Trees.{view}
+use Rattle.line_parts.specs.Lexemes.{lexemes}
+use Rattle.line_parts.specs.Trees.{view}
 use Rattle.model.specs.Reading.{expression_of}
 use Rattle.model.specs.Line.{expressions_of, list_within}
 use Rattle.asm_line.specs.Lists.{goes_on}

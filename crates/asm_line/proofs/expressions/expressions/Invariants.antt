@@ -1,7 +1,7 @@
 use Rattle.std.proofs.Common.{◌≡◌, ◌-◌, ◌≤◌, drop, length}
 use Rattle.std.specs.Prelude.{map}
-use Rattle.asm_expr.specs.Lexemes.{lexemes}
-use Rattle.asm_expr.specs.Trees.{view}
+use Rattle.line_parts.specs.Lexemes.{lexemes}
+use Rattle.line_parts.specs.Trees.{view}
 use Rattle.model.specs.Reading.{expression_of}
 use Rattle.model.specs.Line.{expressions_of, list_within}
 use Rattle.asm_line.proofs.CommaLists.{before}

@@ -1,10 +1,10 @@
 use Rattle.std.proofs.Common.{◌≡◌, Bool, ◌+◌, ◌-◌, [], ◌∷◌, ◌++◌, drop, length, length-drop, sym, ◌∙◌, ap, subst, arith, true, false}
 use Rattle.std.specs.Prelude.{map, Some, None}
 use Rattle.std.proofs.lemmas.List.{map-append}
-use Rattle.asm_expr.specs.Lexemes.{lexemes}
+use Rattle.line_parts.specs.Lexemes.{lexemes}
 use Rattle.model.specs.Line.{item_of, items_of, list_within}
 use Rattle.asm_line.specs.Lists.{goes_on}
-use Rattle.asm_line.specs.Seen.{seen_item}
+use Rattle.line_parts.specs.Seen.{seen_item}
 use Rattle.asm_line.proofs.TokensLeft.{lexemes_after, passed_on, fault_read}
 use Rattle.asm_line.proofs.CommaLists.{none_read, last_read, more_read, wrong_read, zero_read, before}
 use Rattle.asm_line.proofs.expressions.items.Goals as goal

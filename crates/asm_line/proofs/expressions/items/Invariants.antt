@@ -1,8 +1,8 @@
 use Rattle.std.proofs.Common.{◌≡◌, ◌-◌, ◌≤◌, drop, length}
 use Rattle.std.specs.Prelude.{map}
-use Rattle.asm_expr.specs.Lexemes.{lexemes}
+use Rattle.line_parts.specs.Lexemes.{lexemes}
 use Rattle.model.specs.Line.{item_of, items_of, list_within}
-use Rattle.asm_line.specs.Seen.{seen_item}
+use Rattle.line_parts.specs.Seen.{seen_item}
 use Rattle.asm_line.proofs.CommaLists.{before}
 use Rattle.asm_line.proofs.expressions.items.Given as goal
 

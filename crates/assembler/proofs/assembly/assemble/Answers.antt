@@ -1,4 +1,4 @@
-use Rattle.assembler.proofs.Answering.{denoted_from, only_from, refused_from, faulty_from, spared_from, places_from, names_from, listed_from}
+use Rattle.assembler.proofs.Answering.{denoted_from, only_from, refused_from, faulty_from, places_from, names_from, listed_from}
 use Rattle.assembler.proofs.assembly.assemble.Goals as goal
 
 pub returns-clause-denoted : goal.returns-clause-denoted
@@ -12,9 +12,6 @@ returns-clause-refused c = refused_from c.judging_is_right.ensures.meant c.args.
 
 pub returns-clause-faulty : goal.returns-clause-faulty
 returns-clause-faulty c = faulty_from c.judging_is_right.ensures.fault c.args.map.now c.args.source.now c.assemble_lines.result c.assemble_lines.ensures.exact
-
-pub returns-clause-spared : goal.returns-clause-spared
-returns-clause-spared c = spared_from c.judging_is_right.ensures.meant c.args.map.now c.args.source.now c.assemble_lines.result c.assemble_lines.ensures.exact
 
 pub returns-clause-places : goal.returns-clause-places
 returns-clause-places c = places_from c.judging_is_right.ensures.meant c.one_assignment.ensures c.args.map.now c.args.source.now c.assemble_lines.result c.assemble_lines.ensures.exact

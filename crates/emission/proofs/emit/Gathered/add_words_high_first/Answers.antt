@@ -1,0 +1,21 @@
+use Rattle.std.proofs.Common.{◌∙◌, ap, arith, ℤ, pos, Result}
+use Rattle.line_parts.specs.Trees.{view}
+use Rattle.model.specs.Bytes.{word_piece_high_first}
+use Rattle.model.specs.Names.{number_in}
+use Rattle.model.specs.Expression.{Term}
+use Rattle.model.specs.Value.{eval_of}
+use Rattle.model.specs.declared.expression.ExprFault.{ExprFault}
+use Rattle.emission.specs.Gathering.{seen_piece}
+use Rattle.emission.proofs.Gathers.{gathered_step, gathered_end}
+use Rattle.emission.proofs.emit.Gathered.add_words_high_first.Goals as goal
+
+pub loop-value-preserved : goal.loop-value-preserved
+loop-value-preserved c =
+    gathered_step (λ (e : Term). word_piece_high_first (eval_of (number_in c.args.names.now) (pos c.args.here) e)) view c.args.values.now c.loop-value.value-index c.value-item.result
+    c.loop-value.self c.add.new.self (seen_piece c.word_high_first.result) _ c.loop-value-test.true c.value-item.is c.in_ok-add.ensures
+    (c.word_high_first.ensures ∙ ap (λ (r : Result ℤ ExprFault). word_piece_high_first r) c.number_at.ensures) c.loop-value.invariant
+
+pub returns : goal.returns
+returns c =
+    gathered_end (λ (e : Term). word_piece_high_first (eval_of (number_in c.args.names.now) (pos c.args.here) e)) view c.args.values.now c.loop-value.value-index
+    c.loop-value.self _ (omega arith) c.loop-value.invariant

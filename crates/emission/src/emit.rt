@@ -1,0 +1,547 @@
+//! The bytes of a line in its place, or its value fault.
+
+ghost use Rattle.std.specs.Prelude.{◌≡◌, ◌+◌, ◌<◌, ◌≤◌, ◌^◌, ◌-◌, ◌∷◌, [], nat_lt, pos, length, map, IfErr, IfOk, OnOk, Ok, Some, Err};
+ghost use Rattle.line_parts.specs.Trees.{view};
+ghost use Rattle.emission.specs.Gathering.{Stores, added, gathered, item_pieces, line_gathered, noted, noted_all, nothing_gathered, refused, seen_encoded, seen_piece, value_pieces};
+ghost use Rattle.line_parts.specs.Kept.{placed_of};
+ghost use Rattle.line_parts.specs.Seen.{Gives, seen, seen_item};
+ghost use Rattle.line_parts.specs.Contents.{content_by, shown};
+ghost use Rattle.model.specs.Bytes.{item_piece, pieces_of, word_bytes_high_first, word_piece_high_first, address_piece, after_opcode, branch_piece, byte_piece, distance_piece, has_bytes, has_port, kind_if, lower, lowest, modulo, operand_piece, place_kinds, within, word_bytes, word_piece, zero_page_piece};
+ghost use Rattle.source_laws.specs.Judging.{put};
+ghost use Rattle.model.specs.Names.{number_in};
+ghost use Rattle.model.specs.Layout.{size_of};
+ghost use Rattle.model.specs.OneLine.{bytes_alone, no_numbers};
+ghost use Rattle.model.specs.declared.source_fault.AsmFaultKind.TheVariants.{PastEnd};
+ghost use Rattle.model.specs.Image.{has_byte, with_bytes};
+ghost use Rattle.model.specs.Value.{eval_of};
+
+use asm_expr::eval;
+use bus::{Image, MapSpec};
+use line_parts::{Code, Expr, Item, Kept, LineError, Statement, term_of};
+use model::{AsmFaultKind, ExprFault, Mode};
+use std::alloc::{AllocError, Global};
+use std::marker::Model;
+use symbols::Symbols;
+
+/// The bytes that one expression gives.
+#[derive(Clone, Copy, Debug, PartialEq, Eq)]
+pub enum Encoded {
+    Nothing,
+    Byte(u8),
+    /// The first byte and the second.
+    Word(u8, u8),
+}
+
+/// The number that an expression on a line at an address gives under the numbers of all names, or its first fault.
+fn number_at(value: &Expr<'_>, names: &Symbols, here: u32) -> Result<i32, ExprFault>
+    requires { here < 2 ^ 31 }
+    ensures { result ≡ eval_of (number_in names.now) (pos here) (view value.now) }
+{
+    eval(value, names, here as i32)
+}
+
+/// A value within bounds.
+fn within(
+    value: Result<i32, ExprFault>,
+    least: i32,
+    most: i32,
+    kind: AsmFaultKind,
+) -> Result<i32, AsmFaultKind>
+    ensures { result ≡ within least most kind value }
+{
+    match value {
+        Ok(number) => {
+            if (number < least) | (number > most) {
+                Err(kind)
+            } else {
+                Ok(number)
+            }
+        }
+        Err(ExprFault::UnknownName) => Err(AsmFaultKind::UndefinedName),
+        Err(ExprFault::Range) => Err(AsmFaultKind::ValueExprRange),
+        Err(ExprFault::DivideByZero) => Err(AsmFaultKind::ValueDivideByZero),
+    }
+}
+
+/// A number modulo 256, as one byte.
+fn byte_of(number: i32) -> Encoded
+    ensures { seen_encoded result ≡ modulo number 256 ∷ [] }
+{
+    Encoded::Byte(number.rem_euclid(256) as u8)
+}
+
+/// A number modulo 65536, the low byte first.
+fn word_of(number: i32) -> Encoded
+    ensures { seen_encoded result ≡ word_bytes (modulo number 65536) }
+{
+    let word = number.rem_euclid(65536) as u16;
+    Encoded::Word((word % 256) as u8, (word / 256) as u8)
+}
+
+/// A number modulo 65536, the high byte first.
+fn word_of_high_first(number: i32) -> Encoded
+    ensures { seen_encoded result ≡ word_bytes_high_first (modulo number 65536) }
+{
+    let word = number.rem_euclid(65536) as u16;
+    Encoded::Word((word / 256) as u8, (word % 256) as u8)
+}
+
+/// One byte: -128..255.
+#[tactic(auto, unfolding(model::specs::Bytes::byte_piece))]
+fn byte(value: Result<i32, ExprFault>) -> Result<Encoded, AsmFaultKind>
+    ensures { seen_piece result ≡ byte_piece value }
+{
+    let number = within(value, -128, 255, AsmFaultKind::ByteRange)?;
+    Ok(byte_of(number))
+}
+
+/// An address in the zero page: 0..255.
+#[tactic(auto, unfolding(model::specs::Bytes::zero_page_piece))]
+fn zero_page(value: Result<i32, ExprFault>) -> Result<Encoded, AsmFaultKind>
+    ensures { seen_piece result ≡ zero_page_piece value }
+{
+    let number = within(value, 0, 255, AsmFaultKind::ByteRange)?;
+    Ok(byte_of(number))
+}
+
+/// Two bytes: -32768..65535.
+#[tactic(auto, unfolding(model::specs::Bytes::word_piece))]
+fn word(value: Result<i32, ExprFault>) -> Result<Encoded, AsmFaultKind>
+    ensures { seen_piece result ≡ word_piece value }
+{
+    let number = within(value, -32768, 65535, AsmFaultKind::WordRange)?;
+    Ok(word_of(number))
+}
+
+/// Two bytes, the high one first: -32768..65535.
+#[tactic(auto, unfolding(model::specs::Bytes::word_piece_high_first))]
+fn word_high_first(value: Result<i32, ExprFault>) -> Result<Encoded, AsmFaultKind>
+    ensures { seen_piece result ≡ word_piece_high_first value }
+{
+    let number = within(value, -32768, 65535, AsmFaultKind::WordRange)?;
+    Ok(word_of_high_first(number))
+}
+
+/// An address: 0..65535.
+#[tactic(auto, unfolding(model::specs::Bytes::address_piece))]
+fn address(value: Result<i32, ExprFault>) -> Result<Encoded, AsmFaultKind>
+    ensures { seen_piece result ≡ address_piece value }
+{
+    let number = within(value, 0, 65535, AsmFaultKind::WordRange)?;
+    Ok(word_of(number))
+}
+
+/// A branch's distance modulo 65536, where it is -128..127.
+fn distance(distance: u32) -> Result<Encoded, AsmFaultKind>
+    ensures { seen_piece result ≡ distance_piece distance }
+{
+    if (distance <= 127) | (65408 <= distance) {
+        Ok(Encoded::Byte((distance % 256) as u8))
+    } else {
+        Err(AsmFaultKind::BranchRange)
+    }
+}
+
+/// The distance of a branch at an address to its target.
+#[tactic(auto, unfolding(model::specs::Bytes::branch_piece))]
+fn branch(here: u32, value: Result<i32, ExprFault>) -> Result<Encoded, AsmFaultKind>
+    requires { here < 2 ^ 31 - 510 }
+    ensures { seen_piece result ≡ branch_piece here value }
+{
+    let target = within(value, 0, 65535, AsmFaultKind::WordRange)?;
+    let from_next = target - (here as i32 + 2);
+    distance(from_next.rem_euclid(65536) as u32)
+}
+
+/// What stands after an opcode at an address.
+#[tactic(auto, unfolding(model::specs::Bytes::operand_piece))]
+fn operand(here: u32, mode: Mode, value: Result<i32, ExprFault>) -> Result<Encoded, AsmFaultKind>
+    requires { here < 2 ^ 31 - 510 }
+    ensures { seen_piece result ≡ operand_piece here mode value }
+{
+    match mode {
+        Mode::Imp => Ok(Encoded::Nothing),
+        Mode::Acc => Ok(Encoded::Nothing),
+        Mode::Imm => byte(value),
+        Mode::Zp => zero_page(value),
+        Mode::ZpX => zero_page(value),
+        Mode::ZpY => zero_page(value),
+        Mode::Abs => address(value),
+        Mode::AbsX => address(value),
+        Mode::AbsY => address(value),
+        Mode::IndX => zero_page(value),
+        Mode::IndY => zero_page(value),
+        Mode::Ind => address(value),
+        Mode::Rel => branch(here, value),
+        Mode::IndZ => zero_page(value),
+    }
+}
+
+/// Of two kinds, if there are two, the one with the lower number.
+#[tactic(auto, unfolding(model::specs::Bytes::lower))]
+fn lower(first: Option<AsmFaultKind>, second: Option<AsmFaultKind>) -> Option<AsmFaultKind>
+    ensures { result ≡ lower first second }
+{
+    match first {
+        None => second,
+        Some(one) => match second {
+            None => first,
+            Some(other) => {
+                if one.number() <= other.number() {
+                    first
+                } else {
+                    second
+                }
+            }
+        },
+    }
+}
+
+/// A line's bytes so far, and the lowest kind of its faults so far.
+#[derive(Drop)]
+pub struct Gathered {
+    bytes: Vec<u8>,
+    kind: Option<AsmFaultKind>,
+}
+
+impl Model for Gathered {
+    ghost use Rattle.emission.specs.Gathering.{Gathering};
+
+    ghost Value = { Gathering };
+
+    ghost view = { λ g. record { bytes = g.bytes.items; kind = g.kind } };
+}
+
+impl Gathered {
+    /// Nothing yet.
+    pub fn new(alloc: Global) -> Gathered
+        ensures { result ≡ nothing_gathered }
+    {
+        Gathered {
+            bytes: Vec::new(alloc),
+            kind: None,
+        }
+    }
+
+    /// Nothing again. What room there is stays, so that the next line takes none.
+    fn clear(&mut self)
+        ensures { self.new ≡ nothing_gathered }
+    {
+        self.bytes.clear();
+        self.kind = None;
+    }
+
+    /// The lowest kind of its faults.
+    pub fn kind(&self) -> Option<AsmFaultKind>
+        ensures { result ≡ self.now.kind }
+    {
+        self.kind
+    }
+
+    /// Its bytes.
+    pub fn bytes(&self) -> &[u8]
+        ensures { result.now ≡ self.now.bytes }
+    {
+        &self.bytes
+    }
+
+    /// Its bytes alone.
+    fn into_bytes(self) -> Vec<u8>
+        ensures { result.items ≡ self.bytes }
+    {
+        self.bytes
+    }
+
+    /// A fault.
+    fn refuse(&mut self, kind: AsmFaultKind)
+        ensures { self.new ≡ refused self.old kind }
+    {
+        self.kind = lower(self.kind, Some(kind));
+    }
+
+    /// A fault, if this holds.
+    #[tactic(auto, using(crate::proofs::Gathers::lower_nothing))]
+    fn refuse_if(&mut self, holds: bool, kind: AsmFaultKind)
+        ensures { self.new ≡ noted self.old (kind_if holds kind) }
+    {
+        if holds {
+            self.refuse(kind);
+        }
+    }
+
+    /// Bytes after those so far.
+    fn push(&mut self, encoded: Encoded) -> Result<(), AllocError>
+        ensures { OnOk result (self.new ≡ added self.old (Ok (seen_encoded encoded))) }
+    {
+        match encoded {
+            Encoded::Nothing => {}
+            Encoded::Byte(byte) => self.bytes.push(byte)?,
+            Encoded::Word(first, second) => {
+                self.bytes.push(first)?;
+                self.bytes.push(second)?;
+            }
+        }
+        Ok(())
+    }
+
+    /// Bytes or a fault.
+    fn add(&mut self, piece: Result<Encoded, AsmFaultKind>) -> Result<(), AllocError>
+        ensures { OnOk result (self.new ≡ added self.old (seen_piece piece)) }
+    {
+        match piece {
+            Ok(encoded) => self.push(encoded),
+            Err(kind) => {
+                self.refuse(kind);
+                Ok(())
+            }
+        }
+    }
+
+    /// The bytes between the quotes of a string.
+    fn push_text(&mut self, text: &[u8]) -> Result<(), AllocError>
+        ensures { OnOk result (self.new ≡ added self.old (Ok text.now)) }
+    {
+        self.bytes.extend_from_slice(text)
+    }
+
+    /// An item of `.BYTE`.
+    fn add_item(&mut self, names: &Symbols, here: u32, item: &Item<'_>) -> Result<(), AllocError>
+        requires { here < 2 ^ 31 - 510 }
+        ensures { OnOk result (self.new ≡ added self.old (item_piece (number_in names.now) here (seen_item item.now))) }
+    {
+        match item {
+            Item::Value(value) => self.add(byte(number_at(value, names, here))),
+            Item::Text(text) => self.push_text(text),
+        }
+    }
+
+    /// The bytes of `.BYTE`.
+    fn add_items(
+        &mut self,
+        names: &Symbols,
+        here: u32,
+        items: &[Item<'_>],
+    ) -> Result<(), AllocError>
+        requires { here < 2 ^ 31 - 510 }
+        ensures { OnOk result (self.new ≡ gathered self.old (item_pieces (number_in names.now) here (map seen_item items.now))) }
+    {
+        for item in items {
+            self.add_item(names, here, item)?;
+        }
+        Ok(())
+    }
+
+    /// The bytes of `.WORD`.
+    fn add_words(
+        &mut self,
+        names: &Symbols,
+        here: u32,
+        values: &[Expr<'_>],
+    ) -> Result<(), AllocError>
+        requires { here < 2 ^ 31 - 510 }
+        ensures { OnOk result (self.new ≡ gathered self.old (value_pieces word_piece (number_in names.now) here (map view values.now))) }
+    {
+        for value in values {
+            self.add(word(number_at(value, names, here)))?;
+        }
+        Ok(())
+    }
+
+    /// The bytes of `.DBYTE`.
+    fn add_words_high_first(
+        &mut self,
+        names: &Symbols,
+        here: u32,
+        values: &[Expr<'_>],
+    ) -> Result<(), AllocError>
+        requires { here < 2 ^ 31 - 510 }
+        ensures { OnOk result (self.new ≡ gathered self.old (value_pieces word_piece_high_first (number_in names.now) here (map view values.now))) }
+    {
+        for value in values {
+            self.add(word_high_first(number_at(value, names, here)))?;
+        }
+        Ok(())
+    }
+
+    /// What stands after an opcode.
+    #[tactic(auto, unfolding(crate::specs::Gathering::gathered))]
+    fn add_operand(
+        &mut self,
+        names: &Symbols,
+        here: u32,
+        mode: Mode,
+        value: Option<&Expr<'_>>,
+    ) -> Result<(), AllocError>
+        requires { here < 2 ^ 31 - 510 }
+        ensures { OnOk result (self.new ≡ gathered self.old (after_opcode (number_in names.now) here mode (shown (λ e. view e.now) value.entry))) }
+    {
+        match value {
+            None => Ok(()),
+            Some(value) => self.add(operand(here, mode, number_at(value, names, here))),
+        }
+    }
+
+    /// All pieces of a statement, an instruction by its opcode.
+    #[tactic(auto, unfolding(model::specs::Bytes::pieces_of, crate::specs::Gathering::gathered))]
+    fn add_statement(
+        &mut self,
+        names: &Symbols,
+        here: u32,
+        code: Option<Code>,
+        statement: &Statement<'_>,
+    ) -> Result<(), AllocError>
+        requires { here < 2 ^ 31 - 510 }
+        ensures { OnOk result (self.new ≡ gathered self.old (pieces_of (number_in names.now) here (content_by code (seen statement.now)))) }
+    {
+        match statement {
+            Statement::Bytes(items) => self.add_items(names, here, items),
+            Statement::Words(values) => self.add_words(names, here, values),
+            Statement::WordsHighFirst(values) => self.add_words_high_first(names, here, values),
+            Statement::Instruction(_, operand) => match code {
+                Some(code) => {
+                    self.push(Encoded::Byte(code.opcode))?;
+                    self.add_operand(names, here, code.mode, term_of(operand))
+                }
+                None => Ok(()),
+            },
+            Statement::Nothing | Statement::Origin(_) | Statement::Reserve(_) | Statement::Finish =>
+                Ok(()),
+        }
+    }
+}
+
+/// Whether an image has a byte at an address.
+#[tactic(auto, unfolding(model::specs::Image::has_byte))]
+fn has_byte(image: &Image, address: u32) -> bool
+    ensures { result ≡ has_byte image.now address }
+{
+    let cells = image.cells();
+    let at = address as usize;
+    if at < cells.len() {
+        cells[at].is_some()
+    } else {
+        false
+    }
+}
+
+/// Whether an image has a byte at one of so many addresses from an address on.
+fn has_bytes(image: &Image, address: u32, count: u32) -> bool
+    requires { address + count < 2 ^ 32 }
+    ensures { result ≡ has_bytes image.now address count }
+{
+    for i in 0..count {
+        if has_byte(image, address + i) {
+            return true;
+        }
+    }
+    false
+}
+
+/// Whether one of so many addresses from an address on is a port address.
+#[tactic(auto, using(crate::proofs::Ports::has_port_is))]
+fn has_port(map: &MapSpec, address: u32, count: u32) -> bool
+    requires { address + count < 2 ^ 32 }
+    ensures { result ≡ has_port map.now address count }
+{
+    let port = map.port() as u32;
+    (0 < count) & (address < port + 4) & (port < address + count)
+}
+
+/// What is wrong with where bytes stand, after what is wrong with them.
+#[tactic(auto, unfolding(model::specs::Bytes::place_kinds))]
+fn judge_place(gathered: &mut Gathered, map: &MapSpec, image: &Image, address: u32, count: u32)
+    requires { address + count < 2 ^ 32 }
+    ensures { gathered.new ≡ noted_all gathered.old (place_kinds map.now image.now address count) }
+{
+    let past_end = (0 < count) & (65536 < address + count);
+    gathered.refuse_if(past_end, AsmFaultKind::PastEnd);
+    gathered.refuse_if(has_bytes(image, address, count), AsmFaultKind::Overlap);
+    gathered.refuse_if(has_port(map, address, count), AsmFaultKind::PortAddress);
+}
+
+/// Puts bytes into an image, none of them past address 65535.
+fn store(image: &mut Image, address: u32, bytes: &[u8])
+    requires { 0 < length bytes.now → address + length bytes.now ≤ 65536 }
+    ensures { image.new ≡ with_bytes image.old address bytes.now }
+{
+    if !bytes.is_empty() {
+        image.store(address as u16, bytes);
+    }
+}
+
+/// The bytes of a line, and the lowest kind of all its value faults.
+fn gather(
+    gathered: &mut Gathered,
+    map: &MapSpec,
+    image: &Image,
+    names: &Symbols,
+    line: &Kept<'_>,
+) -> Result<(), AllocError>
+    ensures { OnOk result (gathered.new ≡ line_gathered map.now (number_in names.now) image.now (placed_of line.now)) }
+{
+    gathered.clear();
+    gathered.add_statement(names, line.address, line.code, &line.statement)?;
+    judge_place(gathered, map, image, line.address, line.count);
+    Ok(())
+}
+
+/// The bytes of a statement that stands alone at an address, and the lowest kind of its value faults: no port and no other line
+/// stands in the way.
+fn gather_alone(
+    alloc: Global,
+    address: u32,
+    code: Option<Code>,
+    count: u32,
+    statement: &Statement<'_>,
+) -> Result<Gathered, AllocError>
+    requires near { address < 2 ^ 31 - 510 }
+    requires small { count ≤ 510 }
+    ensures { IfOk result (λ g. g ≡ noted (gathered nothing_gathered (pieces_of no_numbers address (content_by code (seen statement.now)))) (kind_if (nat_lt 65536 (address + count)) PastEnd)) }
+{
+    let mut gathered = Gathered::new(alloc);
+    gathered.add_statement(&Symbols::new(alloc), address, code, statement)?;
+    gathered.refuse_if(65536 < address + count, AsmFaultKind::PastEnd);
+    Ok(gathered)
+}
+
+/// The bytes of a statement that stands alone at an address, with so many bytes by the layout; or its value fault, the lowest kind
+/// of all. `Memory`: a request for memory was refused.
+pub fn bytes_alone(
+    alloc: Global,
+    address: u32,
+    code: Option<Code>,
+    count: u32,
+    statement: &Statement<'_>,
+) -> Result<Vec<u8>, LineError>
+    requires near { address < 2 ^ 31 - 510 }
+    requires small { count ≤ 510 }
+    requires sized { count ≡ size_of (content_by code (seen statement.now)) }
+    ensures exact { Gives (λ bytes. bytes.items) result (bytes_alone (record { address = address; content = content_by code (seen statement.now) })) }
+    ensures few { IfOk result (λ bytes. length bytes.items ≤ count) }
+{
+    let gathered = gather_alone(alloc, address, code, count, statement)?;
+    match gathered.kind() {
+        Some(kind) => Err(LineError::Kind(kind)),
+        None => Ok(gathered.into_bytes()),
+    }
+}
+
+/// Puts the bytes of a line into an image, or answers its value fault.
+pub fn put_line(
+    gathered: &mut Gathered,
+    map: &MapSpec,
+    image: &mut Image,
+    names: &Symbols,
+    line: &Kept<'_>,
+) -> Result<(), LineError>
+    ensures { Stores result image.new (put map.now (number_in names.now) image.old (placed_of line.now)) }
+{
+    gather(gathered, map, image, names, line)?;
+    match gathered.kind() {
+        Some(kind) => Err(LineError::Kind(kind)),
+        None => {
+            store(image, line.address, gathered.bytes());
+            Ok(())
+        }
+    }
+}

@@ -1,0 +1,46 @@
+//! The second pass: the bytes of all lines.
+
+ghost use Rattle.std.specs.Prelude.{◌≡◌, IfErr, IfOk, false};
+ghost use Rattle.emission.specs.Made.{made_kept};
+ghost use Rattle.line_parts.specs.Kept.{counted_in};
+ghost use Rattle.line_parts.specs.Located.{AnswersSource, out_of_memory};
+ghost use Rattle.model.specs.Names.{number_in};
+ghost use Rattle.model.specs.Image.{empty_image};
+ghost use Rattle.model.specs.State.{has_port_byte};
+
+use crate::emit::{Gathered, put_line};
+use bus::{Image, MapSpec};
+use line_parts::{Kept, OUT_OF_MEMORY, located};
+use model::AsmFault;
+use std::alloc::Global;
+use symbols::Symbols;
+
+/// The image that has no byte yet.
+fn no_bytes(alloc: Global) -> Result<Image, AsmFault>
+    ensures empty { IfOk result (λ image. image ≡ empty_image) }
+    ensures memory { IfErr result (λ fault. fault ≡ out_of_memory) }
+{
+    Image::new(alloc).map_err(|_| OUT_OF_MEMORY)
+}
+
+/// The bytes of the lines that are kept, under the numbers of all names; or the first value fault.
+pub fn make_image(
+    alloc: Global,
+    map: &MapSpec,
+    names: &Symbols,
+    kept: &[Kept<'_>],
+) -> Result<Image, AsmFault>
+    ensures exact { AnswersSource (λ image. image) result (made_kept map.now (number_in names.now) empty_image (counted_in kept.now)) }
+    // No line without a fault puts a byte at a port address.
+    ensures spared { IfOk result (λ image. has_port_byte map.now image ≡ false) }
+{
+    let mut image = no_bytes(alloc)?;
+    let mut gathered = Gathered::new(alloc);
+    for line in kept {
+        match put_line(&mut gathered, map, &mut image, names, line) {
+            Ok(()) => {}
+            Err(error) => return Err(located(line.number, error)),
+        }
+    }
+    Ok(image)
+}

@@ -1,0 +1,131 @@
+//! Which form an instruction takes.
+
+ghost use Rattle.std.specs.Prelude.{◌≡◌};
+ghost use Rattle.line_parts.specs.Contents.{shown};
+ghost use Rattle.line_parts.specs.Seen.{seen_operand};
+ghost use Rattle.layout.specs.Sites.{direct_form, pointer_form, seen_code, seen_form};
+ghost use Rattle.model.specs.Layout.{absolute_mode, branch_form, either, form_of, in_mode, only, zero_page_mode};
+
+use line_parts::{Code, Operand};
+use model::{Index, Mnemonic, Mode, Profile};
+use optable::encode_in;
+
+/// The form of an instruction: encoded in one way, or by its operand's value in one of two.
+#[derive(Clone, Copy)]
+pub enum Form {
+    One(Code),
+    /// In the zero page mode and in the absolute one.
+    BySize(Code, Code),
+}
+
+/// An instruction in a mode, if the profile has it.
+fn in_mode(profile: Profile, mnemonic: Mnemonic, mode: Mode) -> Option<Code>
+    ensures { shown seen_code result ≡ in_mode profile mnemonic mode }
+{
+    match encode_in(profile, mnemonic, mode) {
+        None => None,
+        Some(opcode) => Some(Code { opcode, mode }),
+    }
+}
+
+/// One mode, if the instruction has it.
+fn only(profile: Profile, mnemonic: Mnemonic, mode: Mode) -> Option<Form>
+    ensures { shown seen_form result ≡ only profile mnemonic mode }
+{
+    match in_mode(profile, mnemonic, mode) {
+        None => None,
+        Some(code) => Some(Form::One(code)),
+    }
+}
+
+/// Of two modes those that the instruction has.
+fn either(short: Option<Code>, long: Option<Code>) -> Option<Form>
+    ensures { shown seen_form result ≡ either (shown seen_code short) (shown seen_code long) }
+{
+    match (short, long) {
+        (None, None) => None,
+        (None, Some(code)) => Some(Form::One(code)),
+        (Some(code), None) => Some(Form::One(code)),
+        (Some(short), Some(long)) => Some(Form::BySize(short, long)),
+    }
+}
+
+/// The zero page mode with an index.
+fn zero_page_mode(index: Index) -> Mode
+    ensures { result ≡ zero_page_mode index }
+{
+    match index {
+        Index::Unindexed => Mode::Zp,
+        Index::X => Mode::ZpX,
+        Index::Y => Mode::ZpY,
+    }
+}
+
+/// The absolute mode with an index.
+fn absolute_mode(index: Index) -> Mode
+    ensures { result ≡ absolute_mode index }
+{
+    match index {
+        Index::Unindexed => Mode::Abs,
+        Index::X => Mode::AbsX,
+        Index::Y => Mode::AbsY,
+    }
+}
+
+/// A branch's form: its target is an unindexed operand.
+fn branch_form(profile: Profile, mnemonic: Mnemonic, index: Index) -> Option<Form>
+    ensures { shown seen_form result ≡ branch_form profile mnemonic index }
+{
+    match index {
+        Index::Unindexed => only(profile, mnemonic, Mode::Rel),
+        Index::X | Index::Y => None,
+    }
+}
+
+/// The form for an unmarked operand that may have an index.
+fn direct_form(profile: Profile, mnemonic: Mnemonic, index: Index) -> Option<Form>
+    ensures { shown seen_form result ≡ direct_form profile mnemonic index }
+{
+    match branch_form(profile, mnemonic, index) {
+        Some(form) => Some(form),
+        None => either(
+            in_mode(profile, mnemonic, zero_page_mode(index)),
+            in_mode(profile, mnemonic, absolute_mode(index)),
+        ),
+    }
+}
+
+/// The form for a pointer in round brackets: an address, or where the instruction has no such mode one in the zero page.
+fn pointer_form(profile: Profile, mnemonic: Mnemonic) -> Option<Form>
+    ensures { shown seen_form result ≡ pointer_form profile mnemonic }
+{
+    match only(profile, mnemonic, Mode::Ind) {
+        Some(form) => Some(form),
+        None => only(profile, mnemonic, Mode::IndZ),
+    }
+}
+
+/// The form for an operand, if the instruction has one.
+#[tactic(auto, unfolding(model::specs::Layout::form_of))]
+pub fn form_of(profile: Profile, mnemonic: Mnemonic, operand: &Operand<'_>) -> Option<Form>
+    ensures { shown seen_form result ≡ form_of profile mnemonic (seen_operand operand.now) }
+{
+    match operand {
+        Operand::Absent => only(profile, mnemonic, Mode::Imp),
+        Operand::Accumulator => only(profile, mnemonic, Mode::Acc),
+        Operand::Immediate(_) => only(profile, mnemonic, Mode::Imm),
+        Operand::Direct {
+            marked: true,
+            value: _,
+            index,
+        } => only(profile, mnemonic, absolute_mode(*index)),
+        Operand::Direct {
+            marked: false,
+            value: _,
+            index,
+        } => direct_form(profile, mnemonic, *index),
+        Operand::Pointer(_) => pointer_form(profile, mnemonic),
+        Operand::PointerByX(_) => only(profile, mnemonic, Mode::IndX),
+        Operand::PointerByY(_) => only(profile, mnemonic, Mode::IndY),
+    }
+}

@@ -1,0 +1,230 @@
+//! Where a line stands.
+
+ghost use Rattle.std.specs.Prelude.{None, ◌≡◌, ◌+◌, ◌-◌, ◌<◌, ◌≤◌, ◌^◌, ◌*◌, map, max, pos, length, IfOk};
+ghost use Rattle.line_parts.specs.Trees.{view};
+ghost use Rattle.line_parts.specs.Seen.{seen, seen_item, seen_operand};
+ghost use Rattle.line_parts.specs.FewBytes.{IsSmall};
+ghost use Rattle.layout.specs.Sites.{Shows, seen_code, seen_form, site_of};
+ghost use Rattle.line_parts.specs.Contents.{content_by, shown};
+ghost use Rattle.model.specs.Layout.{in_memory, coded_by, length_in, placing, sized, after_room, item_size, items_size, laid, size_of};
+ghost use Rattle.model.specs.Value.{eval_of};
+ghost use Rattle.model.specs.Line.{instruction};
+
+use crate::forms::{Form, form_of};
+use asm_expr::{Names, eval};
+use line_parts::{Code, Expr, Item, Operand, Statement, term_of};
+use model::{AsmFaultKind, ExprFault, Mnemonic, Mode, Profile};
+
+/// What a line's instruction is encoded by, if it has one, its byte count, and the next line's address.
+#[derive(Clone, Copy)]
+pub struct Site {
+    pub code: Option<Code>,
+    pub count: u32,
+    pub next: u32,
+}
+
+impl Site {
+    /// A line without bytes, and the next line's address.
+    pub fn without_bytes(next: u32) -> Site
+        ensures { result ≡ record { code = None; count = 0; next = next } }
+    {
+        Site {
+            code: None,
+            count: 0,
+            next,
+        }
+    }
+
+    /// A line at an address with so many bytes.
+    fn standing(address: u32, code: Option<Code>, count: u32) -> Site
+        requires near { address < 2 ^ 31 - 510 }
+        requires small { count ≤ 510 }
+        ensures { result ≡ record { code = code; count = count; next = address + count } }
+    {
+        Site {
+            code,
+            count,
+            next: address + count,
+        }
+    }
+}
+
+/// The value of an expression on a line at an address, or its first fault.
+pub fn value_at<N: Names>(expr: &Expr<'_>, names: &N, address: u32) -> Result<i32, ExprFault>
+    requires { address < 2 ^ 31 }
+    ensures { result ≡ eval_of (N.number_of names.now) (pos address) (view expr.now) }
+{
+    eval(expr, names, address as i32)
+}
+
+/// Of two modes the one that a value takes: the zero page mode where it is 0..255, the absolute one where a name is not known.
+fn sized(short: Code, long: Code, value: Result<i32, ExprFault>) -> Result<Code, AsmFaultKind>
+    ensures { Shows seen_code result (sized (seen_code short) (seen_code long) value) }
+{
+    match value {
+        Ok(number) => {
+            if (number >= 0) & (number <= 255) {
+                Ok(short)
+            } else {
+                Ok(long)
+            }
+        }
+        Err(ExprFault::UnknownName) => Ok(long),
+        Err(ExprFault::Range) => Err(AsmFaultKind::ExprRange),
+        Err(ExprFault::DivideByZero) => Err(AsmFaultKind::DivideByZero),
+    }
+}
+
+/// How an instruction is encoded, by the value of its operand where that decides.
+fn code_of<N: Names>(
+    address: u32,
+    names: &N,
+    value: Option<&Expr<'_>>,
+    form: Option<Form>,
+) -> Result<Code, AsmFaultKind>
+    requires { address < 2 ^ 31 }
+    ensures { Shows seen_code result (coded_by (N.number_of names.now) address (shown (λ e. view e.now) value.entry) (shown seen_form form)) }
+{
+    match form {
+        None => Err(AsmFaultKind::NoSuchForm),
+        Some(Form::One(code)) => Ok(code),
+        Some(Form::BySize(short, long)) => match value {
+            None => Ok(long),
+            Some(value) => sized(short, long, value_at(value, names, address)),
+        },
+    }
+}
+
+/// The value of an expression that places.
+pub fn placing(value: Result<i32, ExprFault>) -> Result<i32, AsmFaultKind>
+    ensures { result ≡ placing value }
+{
+    match value {
+        Ok(number) => Ok(number),
+        Err(ExprFault::UnknownName) => Err(AsmFaultKind::UnknownHere),
+        Err(ExprFault::Range) => Err(AsmFaultKind::ExprRange),
+        Err(ExprFault::DivideByZero) => Err(AsmFaultKind::DivideByZero),
+    }
+}
+
+/// An address to go on from.
+fn in_memory(number: i32) -> Result<u32, AsmFaultKind>
+    ensures exact { result ≡ in_memory number }
+    ensures near { IfOk result (λ n. n ≤ 65535) }
+{
+    if number < 0 || number > 65535 {
+        return Err(AsmFaultKind::OriginRange);
+    }
+    Ok(number as u32)
+}
+
+/// How many bytes an instruction has in a mode.
+fn length_in(mode: Mode) -> u32
+    ensures exact { result ≡ length_in mode }
+    ensures near { result ≤ 3 }
+{
+    match mode {
+        Mode::Imp | Mode::Acc => 1,
+        Mode::Imm | Mode::Zp | Mode::ZpX | Mode::ZpY => 2,
+        Mode::IndX | Mode::IndY | Mode::IndZ | Mode::Rel => 2,
+        Mode::Abs | Mode::AbsX | Mode::AbsY | Mode::Ind => 3,
+    }
+}
+
+/// The address after so many bytes, none of them past 65535.
+fn after_room(address: u32, number: i32) -> Result<u32, AsmFaultKind>
+    requires { address < 2 ^ 31 }
+    ensures exact { result ≡ after_room address number }
+    ensures near { IfOk result (λ n. n ≤ 65536) }
+{
+    if number < 0 {
+        return Err(AsmFaultKind::OriginRange);
+    }
+    let end = address + number as u32;
+    if end > 65536 {
+        return Err(AsmFaultKind::OriginRange);
+    }
+    Ok(end)
+}
+
+/// How many bytes an item has.
+fn item_size(item: &Item<'_>) -> usize
+    ensures { result ≡ item_size (seen_item item.now) }
+{
+    match item {
+        Item::Value(_) => 1,
+        Item::Text(text) => text.len(),
+    }
+}
+
+/// How many bytes items have.
+#[tactic(auto, using(crate::proofs::Sizes::size_next, crate::proofs::Sizes::size_end))]
+fn items_size(items: &[Item<'_>]) -> u32
+    requires { items_size (map seen_item items.now) ≤ 510 }
+    ensures { result ≡ items_size (map seen_item items.now) }
+{
+    let mut size = 0u32;
+    for item in items {
+        size += item_size(item) as u32;
+    }
+    size
+}
+
+/// An instruction at an address.
+#[tactic(auto, unfolding(model::specs::Layout::laid, model::specs::Layout::size_of))]
+fn instruct<N: Names>(
+    profile: Profile,
+    address: u32,
+    names: &N,
+    mnemonic: Mnemonic,
+    operand: &Operand<'_>,
+) -> Result<Site, AsmFaultKind>
+    requires { address < 2 ^ 31 - 510 }
+    ensures exact { Shows (site_of address (instruction mnemonic (seen_operand operand.now))) result (laid profile (N.number_of names.now) address (instruction mnemonic (seen_operand operand.now))) }
+    ensures near { IfOk result (λ s. s.next ≤ address + 510) }
+    ensures small { IfOk result (λ s. s.count ≤ 510) }
+    ensures sized { IfOk result (λ s. s.count ≡ size_of (content_by s.code (instruction mnemonic (seen_operand operand.now)))) }
+{
+    let code = code_of(
+        address,
+        names,
+        term_of(operand),
+        form_of(profile, mnemonic, operand),
+    )?;
+    Ok(Site::standing(address, Some(code), length_in(code.mode)))
+}
+
+/// A statement at an address, or its layout fault.
+#[tactic(auto, unfolding(model::specs::Layout::laid, model::specs::Layout::size_of))]
+pub fn lay<N: Names>(
+    profile: Profile,
+    address: u32,
+    names: &N,
+    statement: &Statement<'_>,
+) -> Result<Site, AsmFaultKind>
+    requires room { address < 2 ^ 31 - 510 }
+    requires small { IsSmall (seen statement.now) }
+    ensures exact { Shows (site_of address (seen statement.now)) result (laid profile (N.number_of names.now) address (seen statement.now)) }
+    ensures near { IfOk result (λ s. s.next ≤ max (address + 510) 65536) }
+    ensures small { IfOk result (λ s. s.count ≤ 510) }
+    ensures sized { IfOk result (λ s. s.count ≡ size_of (content_by s.code (seen statement.now))) }
+{
+    match statement {
+        Statement::Nothing | Statement::Finish => Ok(Site::without_bytes(address)),
+        Statement::Origin(value) => {
+            let next = in_memory(placing(value_at(value, names, address))?)?;
+            Ok(Site::without_bytes(next))
+        }
+        Statement::Bytes(items) => Ok(Site::standing(address, None, items_size(items))),
+        Statement::Words(values) | Statement::WordsHighFirst(values) => {
+            Ok(Site::standing(address, None, 2 * values.len() as u32))
+        }
+        Statement::Reserve(value) => {
+            let next = after_room(address, placing(value_at(value, names, address))?)?;
+            Ok(Site::without_bytes(next))
+        }
+        Statement::Instruction(mnemonic, operand) => instruct(
+            profile, address, names, *mnemonic, operand,
+        ),
+    }
+}

@@ -1,0 +1,10 @@
+//! What an instruction is encoded by.
+
+use model::Mode;
+
+/// An instruction's opcode, and the mode in which its operand stands after it.
+#[derive(Clone, Copy)]
+pub struct Code {
+    pub opcode: u8,
+    pub mode: Mode,
+}

@@ -1,0 +1,19 @@
+//! The parts of a source's lines, borrowed from its text: tokens, expressions, operands and statements, and what is kept of a line
+//! that denotes bytes. Nothing runs here but the fault of a line with its number, and the look at an operand's expression.
+#![tactic(auto)]
+
+mod code;
+mod fault;
+mod kept;
+mod refusal;
+mod statement;
+mod token;
+mod tree;
+
+pub use code::Code;
+pub use fault::LineError;
+pub use kept::Kept;
+pub use refusal::{OUT_OF_MEMORY, located};
+pub use statement::{Item, Line, Operand, Statement, term_of};
+pub use token::Token;
+pub use tree::Expr;

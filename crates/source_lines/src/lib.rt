@@ -1,0 +1,8 @@
+//! The lines of a source: cut from its text one after another, and where each stands.
+#![tactic(auto)]
+
+mod line;
+mod span;
+
+pub use line::next_line;
+pub use span::Span;

@@ -1,0 +1,11 @@
+//! Where lines stand.
+
+ghost use Rattle.std.specs.Prelude.{◌<◌, ◌-◌, ◌^◌};
+
+/// Where a line stands, and how many bytes it has.
+#[derive(Clone, Copy, Debug, PartialEq, Eq)]
+pub struct Span {
+    pub address: u32,
+    pub count: u32,
+    ghost near: { address < 2 ^ 31 - 510 },
+}

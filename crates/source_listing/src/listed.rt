@@ -1,0 +1,99 @@
+//! The rows of an assembly's lines and names.
+
+ghost use Rattle.std.specs.Prelude.{◌≡◌, ◌+◌, ◌-◌, ◌<◌, ◌≤◌, ◌^◌, ◌++◌, IfOk, OnOk, drop, length, map, take};
+ghost use Rattle.source_lines.specs.Spans.{pairs_of};
+ghost use Rattle.model.specs.Lines.{lines_of};
+ghost use Rattle.model.specs.Listing.{bytes_at, lines_rows, listing_text, name_row, names_rows, shown_in};
+
+use bus::Image;
+use listing::{push_line, push_name};
+use source_lines::{Span, next_line};
+use std::alloc::{AllocError, Global};
+use symbols::Symbols;
+
+/// So many cells from an address on, or those that there are.
+#[tactic(auto, using(crate::proofs::RowsLeft::cells_cut))]
+fn cells_at(cells: &[Option<u8>], address: usize, count: usize) -> &[Option<u8>]
+    ensures { result.now ≡ take count (drop address cells.now) }
+{
+    let behind = &cells[address.min(cells.len())..];
+    &behind[..count.min(behind.len())]
+}
+
+/// So many of an image's bytes from an address on, in place of those that stood in the room.
+fn take_bytes(room: &mut Vec<u8>, cells: &[Option<u8>], span: &Span) -> Result<(), AllocError>
+    ensures { OnOk result (room.new.items ≡ bytes_at cells.now span.now.address span.now.count) }
+{
+    room.clear();
+    let part = cells_at(cells, span.address as usize, span.count as usize);
+    for cell in part {
+        room.push(cell.unwrap_or(0))?;
+    }
+    Ok(())
+}
+
+/// The rows of lines, as many as have a place.
+fn push_lines(
+    out: &mut Vec<u8>,
+    alloc: Global,
+    source: &[u8],
+    spans: &[Span],
+    cells: &[Option<u8>],
+) -> Result<(), AllocError>
+    requires { length cells.now ≡ 65536 }
+    ensures { OnOk result (out.new.items ≡ out.old.items ++ lines_rows (lines_of source.now) (map (shown_in cells.now) (pairs_of spans.now))) }
+{
+    let mut room = Vec::new(alloc);
+    let mut rest = source;
+    for span in spans {
+        if rest.is_empty() {
+            return Ok(());
+        }
+        let (line, behind) = next_line(rest);
+        take_bytes(&mut room, cells, span)?;
+        push_line(out, span.address, &room, line)?;
+        rest = behind;
+    }
+    Ok(())
+}
+
+/// A name's row.
+fn push_symbol(out: &mut Vec<u8>, symbol: (&[u8], i32)) -> Result<(), AllocError>
+    ensures { OnOk result (out.new.items ≡ out.old.items ++ name_row (symbol.entry.0.now, symbol.entry.1)) }
+{
+    let (name, number) = symbol;
+    push_name(out, name, number)
+}
+
+/// An empty line and the rows of the names, if there are names.
+fn push_names(out: &mut Vec<u8>, names: &Symbols) -> Result<(), AllocError>
+    ensures { OnOk result (out.new.items ≡ out.old.items ++ names_rows names.now) }
+{
+    if names.count() == 0 {
+        return Ok(());
+    }
+    out.push(b'\n')?;
+    for index in 0..names.count() {
+        match names.symbol(index) {
+            Some(symbol) => push_symbol(out, symbol)?,
+            None => {}
+        }
+    }
+    Ok(())
+}
+
+/// The rows of lines, as many as have a place, and those of the names.
+pub fn listing_of(
+    alloc: Global,
+    source: &[u8],
+    spans: &[Span],
+    image: &Image,
+    names: &Symbols,
+) -> Result<Vec<u8>, AllocError>
+    ensures { IfOk result (λ out. out.items ≡ listing_text (lines_of source.now) (map (shown_in image.now) (pairs_of spans.now)) names.now) }
+{
+    let mut out = Vec::new(alloc);
+    push_lines(&mut out, alloc, source, spans, image.cells())?;
+    push_names(&mut out, names)?;
+    Ok(out)
+}
