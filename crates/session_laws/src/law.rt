@@ -1,6 +1,7 @@
 //! The laws. Each is the contract of a function that does nothing.
 
 ghost use Rattle.model.specs.Back.{BackIsExact};
+ghost use Rattle.model.specs.Calls.{BackIsExactAmongCalls};
 ghost use Rattle.model.specs.Looking.{LooksAreHarmless};
 ghost use Rattle.model.specs.Polled.{PolledSessionsStay, PolledTranscriptsStay};
 ghost use Rattle.model.specs.Run.{CutRunGoesOn, RunCanBeRepeated};
@@ -10,6 +11,13 @@ ghost use Rattle.model.specs.Transcript.{ToldBegins};
 /// is refused, and the number of events held is the history size.
 pub fn going_back_is_exact()
     ensures { BackIsExact }
+{}
+
+/// Whatever calls came before, events that were accepted or refused, runs, breakpoints, watches, views, and going back itself: going
+/// back over k events gives the state before the last k accepted events that were not undone, exactly where the history holds it,
+/// and leaves breakpoints and watches as they are; otherwise it is refused with the number of events held.
+pub fn going_back_is_exact_among_calls()
+    ensures { BackIsExactAmongCalls }
 {}
 
 /// A run that is cut short and goes on ends as one run does that nothing cuts.
