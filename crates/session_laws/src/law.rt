@@ -2,7 +2,7 @@
 
 ghost use Rattle.model.specs.Back.{BackIsExact};
 ghost use Rattle.model.specs.Calls.{BackIsExactAmongCalls};
-ghost use Rattle.model.specs.Looking.{LooksAreHarmless};
+ghost use Rattle.model.specs.Looking.{EachRunHasALine, LooksAreHarmless, WhatIsKeptHasLines};
 ghost use Rattle.model.specs.Polled.{PolledSessionsStay, PolledTranscriptsStay};
 ghost use Rattle.model.specs.Run.{CutRunGoesOn, RunCanBeRepeated};
 ghost use Rattle.model.specs.Transcript.{ToldBegins};
@@ -34,6 +34,17 @@ pub fn run_can_be_repeated()
 /// lead to the same states.
 pub fn looks_are_harmless()
     ensures { LooksAreHarmless }
+{}
+
+/// Each run of 1 to 1,000,000 steps has a line that asks for it.
+pub fn each_run_has_a_line()
+    ensures { EachRunHasALine }
+{}
+
+/// Whatever lines ask for, there are lines that ask for what `looks_are_harmless` keeps of it: the commands that are no look, and for
+/// each run one of as many steps as it made.
+pub fn what_is_kept_has_lines()
+    ensures { WhatIsKeptHasLines }
 {}
 
 /// The replies to the lines whose end was told are a beginning of the replies to the whole input, whatever is still to be told.
