@@ -1,6 +1,6 @@
 //! Tokens cut from a line.
 
-ghost use Rattle.std.specs.Prelude.{◌≡◌, ◌==◌, ◌+◌, ◌<◌, ◌≤◌, ◌∷◌, true, length, drop, None, Some, IfOk, IsErrOf};
+ghost use Rattle.std.specs.Prelude.{◌≡◌, ◌==◌, ◌+◌, ◌<◌, ◌≤◌, ◌∷◌, true, length, drop, [], None, Some, IfOk, IsErrOf, OnErr};
 ghost use Rattle.std.specs.List.{list_all};
 ghost use Rattle.model.specs.Token.{begins, is_source_byte, is_word_byte, word_token, directive_token, char_token, string_token, token_at, tokens_of};
 ghost use Rattle.line_parts.specs.Lexemes.{lexemes, found_of};
@@ -126,13 +126,9 @@ pub fn all_may_stand(line: &[u8]) -> bool
     line.iter().all(|byte| may_stand(*byte))
 }
 
-/// The tokens of a line, in order, put into a list in place of what it holds; the list's memory is used again.
-/// `Syntax`: a byte is neither $20..$7E nor a tab, or bytes outside a comment are no token (profile).
-/// `OutOfMemory`: a request for memory was refused.
-pub fn tokens_into<'a>(found: &mut Vec<Token<'a>>, line: &'a [u8]) -> Result<(), LineFault>
-    // What is found are the line's tokens.
+/// The tokens of a line, in order, put into a list in place of what it holds, as far as they are found.
+fn find_tokens<'a>(found: &mut Vec<Token<'a>>, line: &'a [u8]) -> Result<(), LineFault>
     ensures found { IfOk result (λ _. tokens_of line.now ≡ Some (lexemes found.new.items)) }
-    // A line that is refused for its bytes has none.
     ensures syntax { IsErrOf result LineFault.Syntax → tokens_of line.now ≡ None }
 {
     if !all_may_stand(line) {
@@ -155,6 +151,26 @@ pub fn tokens_into<'a>(found: &mut Vec<Token<'a>>, line: &'a [u8]) -> Result<(),
         }
     }
     Ok(())
+}
+
+/// The tokens of a line, in order, put into a list in place of what it holds; the list's memory is used again.
+/// `Syntax`: a byte is neither $20..$7E nor a tab, or bytes outside a comment are no token (profile).
+/// `OutOfMemory`: a request for memory was refused. At each fault the list is empty.
+pub fn tokens_into<'a>(found: &mut Vec<Token<'a>>, line: &'a [u8]) -> Result<(), LineFault>
+    // What is found are the line's tokens.
+    ensures found { IfOk result (λ _. tokens_of line.now ≡ Some (lexemes found.new.items)) }
+    // A line that is refused for its bytes has none.
+    ensures syntax { IsErrOf result LineFault.Syntax → tokens_of line.now ≡ None }
+    // Nothing is left in the list then.
+    ensures err { OnErr result (found.new.items ≡ []) }
+{
+    match find_tokens(found, line) {
+        Ok(()) => Ok(()),
+        Err(fault) => {
+            found.clear();
+            Err(fault)
+        }
+    }
 }
 
 /// The tokens of a line, in order, in a list of their own. Its faults are those of `tokens_into`.

@@ -1,6 +1,6 @@
 //! What the text of a line says.
 
-ghost use Rattle.std.specs.Prelude.{◌≡◌, ◌∷◌, IfOk};
+ghost use Rattle.std.specs.Prelude.{◌≡◌, ◌∷◌, [], IfOk, OnErr};
 ghost use Rattle.model.specs.Line.{directive_of, line_of, operation_by, origin_after, read_line, statement_of, unlabelled, unreserved, word_line};
 ghost use Rattle.line_parts.specs.Lexemes.{lexeme_of, lexemes};
 ghost use Rattle.line_parts.specs.Seen.{Gives, Reads, seen, seen_line};
@@ -200,7 +200,7 @@ fn read<'a>(
 }
 
 /// What a line says in a profile, without its end. Its tokens are put into `room` in place of what that holds, so that the
-/// memory of one list serves line after line.
+/// memory of one list serves line after line. At each fault `room` is empty.
 ///
 /// `Kind` has the first fault of its text, in this order: `LineTooLong` above 255 bytes; `NotAscii` where a byte is
 /// neither $20..$7E nor a tab; `Syntax` where the line is none of the grammar, with reserved words read as names;
@@ -215,11 +215,19 @@ pub fn read_line_with<'a>(
     ensures exact { Gives seen_line result (read_line profile line.now) }
     // What it denotes has few bytes, since it has few itself.
     ensures small { IfOk result (λ l. IsSmallLine (seen_line l)) }
+    // Nothing is left in the list where the line has a fault.
+    ensures err { OnErr result (room.new.items ≡ []) }
 {
     // For the proof: tokens are slices of the line, and expressions are beginnings of its tokens.
     tokens_are_slices();
     expressions_are_longest();
-    read(alloc, profile, room, line)
+    match read(alloc, profile, room, line) {
+        Ok(found) => Ok(found),
+        Err(error) => {
+            room.clear();
+            Err(error)
+        }
+    }
 }
 
 /// What one line says in a profile, as `read_line_with`.

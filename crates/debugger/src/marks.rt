@@ -1,6 +1,6 @@
 //! Addresses in the order in which they were set.
 
-ghost use Rattle.std.specs.Prelude.{◌≡◌, ◌≢◌, ◌<◌, ◌≤◌, [], ◌∷◌, ◌++◌, length, nat_eq, slice_get, slice_index, ℕ, false, true, OnOk, OnErr, IfErr, IfOk, IsErrOf, Ok, Err};
+ghost use Rattle.std.specs.Prelude.{◌≡◌, ◌≢◌, ◌<◌, ◌≤◌, [], ◌∷◌, ◌++◌, length, nat_eq, slice_get, slice_index, ℕ, false, true, OnOk, OnErr, IfErr, IfOk, IsErrOf, IsOk, Ok, Err};
 ghost use Rattle.std.specs.List.{list_any};
 ghost use Rattle.model.specs.Tables.{put_in, taken_out};
 
@@ -87,6 +87,7 @@ impl Marks {
     pub fn set(&mut self, address: u16) -> Result<(), SessionFault>
         ensures ok { OnOk result (put_in self.old address ≡ Ok self.new) }
         ensures err { IfErr result (λ fault. (self.new ≡ self.old) × (fault ≢ SessionFault.OutOfMemory → put_in self.old address ≡ Err fault)) }
+        ensures memory { IsErrOf result SessionFault.OutOfMemory → IsOk (put_in self.old address) }
     {
         if self.contains(address) {
             return Err(SessionFault::AlreadySet);

@@ -1,6 +1,6 @@
 //! A session.
 
-ghost use Rattle.std.specs.Prelude.{◌≡◌, ◌≢◌, ◌+◌, ◌-◌, ◌<◌, ◌≤◌, ◌⊎◌, ◌++◌, ◌∷◌, [], true, false, length, take, slice_get, slice_index, OnOk, IfOk, IfErr, IsErrOf, Ok, Err};
+ghost use Rattle.std.specs.Prelude.{◌≡◌, ◌≢◌, ◌+◌, ◌-◌, ◌<◌, ◌≤◌, ◌⊎◌, ◌++◌, ◌∷◌, [], true, false, length, take, slice_get, slice_index, OnOk, IfOk, IfErr, IsErrOf, IsOk, Ok, Err};
 ghost use Rattle.model.specs.State.{has_port_byte, IsState, State};
 ghost use Rattle.model.specs.Event.{event_of, start};
 ghost use Rattle.model.specs.Undo.{CanRestore, restored, Undoes};
@@ -245,6 +245,7 @@ impl Session {
     pub fn set_break(&mut self, address: u16) -> Result<(), SessionFault>
         ensures ok { OnOk result (break_set address self.old ≡ Ok self.new) }
         ensures err { IfErr result (λ fault. (self.new ≡ self.old) × (fault ≢ SessionFault.OutOfMemory → break_set address self.old ≡ Err fault)) }
+        ensures memory { IsErrOf result SessionFault.OutOfMemory → IsOk (break_set address self.old) }
     {
         self.breaks.set(address)
     }
@@ -264,6 +265,7 @@ impl Session {
     pub fn set_watch(&mut self, address: u16) -> Result<(), SessionFault>
         ensures ok { OnOk result (watch_set address self.old ≡ Ok self.new) }
         ensures err { IfErr result (λ fault. (self.new ≡ self.old) × (fault ≢ SessionFault.OutOfMemory → watch_set address self.old ≡ Err fault)) }
+        ensures memory { IsErrOf result SessionFault.OutOfMemory → IsOk (watch_set address self.old) }
     {
         if self.machine.is_port(address) {
             return Err(SessionFault::PortAddress);

@@ -1,5 +1,5 @@
 -- A text assembled, or refused.
-use Rattle.std.proofs.Common.{◌≡◌, ◌≢◌, ℕ, ◌≤◌, List, Option, Result, Ok, Err, OnOk, refl, sym, ap, ◌∙◌, subst, take, ◌⊎◌, inl, inr}
+use Rattle.std.proofs.Common.{◌≡◌, ◌≢◌, ℕ, ◌≤◌, List, Option, Result, Ok, Err, refl, sym, ap, ◌∙◌, subst, take, ◌⊎◌, inl, inr}
 use Rattle.std.proofs.lemmas.Bool.{le-ltb}
 use Rattle.model.specs.State.{State}
 use Rattle.model.specs.Session.{Session}
@@ -69,12 +69,8 @@ module _ (a b : Option (List ℕ)) (s : Session) (address : ℕ) (given : Given)
     ]
   ]
 
-  pub refused_session : OnOk r (s ≡ (asm_answer s address given).session)
-  refused_session = elim why [
-    | inl out ↦ subst (λ (q : Told). OnOk q (s ≡ (asm_answer s address given).session)) (sym (memory (ap (λ (f : AsmFault). f.kind) out)).0) tt
-    | inr e ↦ subst (λ (g : Given). OnOk r (s ≡ (asm_answer s address g).session)) (sym (given_fault given fault e)) (stays r)
+  pub refused_session : r ≢ Err reply_fault.OutOfMemory → s ≡ (asm_answer s address given).session
+  refused_session other = elim why [
+    | inl out ↦ absurd (other (memory (ap (λ (f : AsmFault). f.kind) out)).0)
+    | inr e ↦ sym (ap (λ (g : Given). (asm_answer s address g).session) (given_fault given fault e))
   ]
-    where
-      stays : (q : Told) → OnOk q (s ≡ s)
-      stays (Ok x) = refl
-      stays (Err f) = tt

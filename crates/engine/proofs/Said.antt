@@ -1,5 +1,5 @@
 -- A reply that was written, or was not, in the engine's words.
-use Rattle.std.proofs.Common.{◌≡◌, ℕ, ◌+◌, ◌≤◌, Bool, true, cond, codes, false, List, Option, Result, Ok, Err, MatchResult, OnOk, IfOk, IfErr, subst, sym, refl, length, take}
+use Rattle.std.proofs.Common.{◌≡◌, ◌≢◌, ℕ, ◌+◌, ◌≤◌, Bool, true, cond, codes, false, List, Option, Result, Ok, Err, MatchResult, IfOk, IfErr, subst, sym, refl, length, take}
 use Rattle.std.proofs.lemmas.List.{take_all}
 use Rattle.std.specs.Prelude.{nat_lt}
 use Rattle.model.specs.State.{console_size}
@@ -33,9 +33,13 @@ pub said_ends : (r : Told) (q : Result Bool EngineFault) → Says r q → IfErr 
 said_ends (Ok x) q h = subst (λ p. IfErr p EndsReply) (sym h) tt
 said_ends (Err e) q h = subst (λ p. IfErr p EndsReply) (sym h) (ends e)
 
-pub said_ok : (P : Type 0) (r : Told) (q : Result Bool EngineFault) → Says r q → OnOk r P → IfOk q (λ quit. (quit ≡ false) × P)
-said_ok P (Ok x) q h p = subst (λ t. IfOk t (λ quit. (quit ≡ false) × P)) (sym h) (refl, p)
-said_ok P (Err e) q h p = subst (λ t. IfOk t (λ quit. (quit ≡ false) × P)) (sym h) tt
+pub said_after : (P : Type 0) (r : Told) (q : Result Bool EngineFault) → Says r q → P → IfOk q (λ quit. (quit ≡ false) × P)
+said_after P (Ok x) q h p = subst (λ t. IfOk t (λ quit. (quit ≡ false) × P)) (sym h) (refl, p)
+said_after P (Err e) q h p = subst (λ t. IfOk t (λ quit. (quit ≡ false) × P)) (sym h) tt
+
+pub said_unless : (P : Type 0) (r : Told) (q : Result Bool EngineFault) → Says r q → (r ≢ Err reply_fault.OutOfMemory → P) → IfOk q (λ quit. (quit ≡ false) × P)
+said_unless P (Ok x) q h p = subst (λ t. IfOk t (λ quit. (quit ≡ false) × P)) (sym h) (refl, p (λ e. cc))
+said_unless P (Err e) q h p = subst (λ t. IfOk t (λ quit. (quit ≡ false) × P)) (sym h) tt
 
 -- ---- input
 
@@ -48,12 +52,12 @@ unfolding input_answer
 input_goes_on s bytes = either_goes_on (nat_lt console_size (length s.current.bus.given + length bytes)) (answer (fault_line InputFull) s) (answer (codes "OK\n") (after_input s bytes)) refl refl
 
 pub said_input : (s n : Session) (command : Command) (bytes first : List ℕ) (count : ℕ) (r : Told) (q : Result Bool EngineFault) → command ≡ Input bytes count → first ≡ take count bytes → Says r q
-    → OnOk r (n ≡ (input_answer s first).session) → IfOk q (λ quit. (quit ≡ (answer_to command s).quit) × (n ≡ (answer_to command s).session))
+    → n ≡ (input_answer s first).session → IfOk q (λ quit. (quit ≡ (answer_to command s).quit) × (n ≡ (answer_to command s).session))
 unfolding answer_to
-said_input s n command bytes first count r q is e h ok =
+said_input s n command bytes first count r q is e h after =
     subst (λ (c : Command). IfOk q (λ quit. (quit ≡ (answer_to c s).quit) × (n ≡ (answer_to c s).session))) (sym is)
     (subst (λ (l : List ℕ). IfOk q (λ quit. (quit ≡ (input_answer s l).quit) × (n ≡ (input_answer s l).session))) e
-    (subst (λ (b : Bool). IfOk q (λ quit. (quit ≡ b) × (n ≡ (input_answer s first).session))) (sym (input_goes_on s first)) (said_ok (n ≡ (input_answer s first).session) r q h ok)))
+    (subst (λ (b : Bool). IfOk q (λ quit. (quit ≡ b) × (n ≡ (input_answer s first).session))) (sym (input_goes_on s first)) (said_after (n ≡ (input_answer s first).session) r q h after)))
 
 pub first_all : (bytes : List ℕ) (count : ℕ) → length bytes ≤ count → bytes ≡ take count bytes
 first_all bytes count h = sym (take_all count bytes h)

@@ -1,20 +1,23 @@
 -- What reading a tape from a reader makes of the engine's answer.
-use Rattle.std.proofs.Common.{◌≡◌, ℕ, List, Option, Some, None, IfSome, Result, Ok, Err, refl, sym, ap, ◌∙◌, subst, ◌⊎◌, inl, inr}
+use Rattle.std.proofs.Common.{◌≡◌, ℕ, List, [], ◌++◌, Option, Some, None, IfSome, Result, Ok, Err, refl, sym, ap, ◌∙◌, subst, ◌⊎◌, inl, inr}
 use Rattle.std.specs.Prelude.{⊤}
 use Rattle.std.specs.Result.{IsErrAnd}
 use Rattle.model.specs.TapeFault.{out_of_memory}
-use Rattle.model.specs.TapePieces.{IsReadInPieces, IsRefusedInPieces}
+use Rattle.model.specs.Tape.{Breaks}
+use Rattle.model.specs.TapePieces.{IsReadInPieces, IsRefusedInPieces, too_long}
 use Rattle.model.specs.declared.session_fault.SessionFault.{SessionFault}
 use Rattle.model.specs.declared.session_fault.SessionFault.TheVariants.{PortAddress}
 use Rattle.model.specs.declared.tape.TapeFault.{TapeFault}
-use Rattle.papertape.specs.Streaming.{EndsReading, IsRefusalOf}
+use Rattle.model.specs.declared.tape.TapeFaultKind.{TapeFaultKind}
+use Rattle.model.specs.declared.tape.TapeFaultKind.TheVariants as tape_fault
+use Rattle.papertape.specs.Streaming.{EndsReading, EndsWithPiece, IsRefusalOf, Reads, Shows}
 use Rattle.papertape.specs.declared.stream.TapeReadFault.{TapeReadFault}
 use Rattle.papertape.specs.declared.stream.TapeReadFault.TheVariants as tape_read_fault
 use Rattle.engine.specs.declared.fault.EngineFault.{EngineFault}
-use Rattle.engine.specs.declared.fault.EngineFault.TheVariants.{Tape, Session, Read, Write, OutOfMemory}
+use Rattle.engine.specs.declared.fault.EngineFault.TheVariants.{Source, Tape, Session, Read, Write, OutOfMemory}
 use Rattle.engine.specs.Outcome.{Reaches}
-use Rattle.engine.specs.Refusals.{of_tape, of_tape_read, IfSession, IfSource, IfTape}
-use Rattle.engine.specs.TapeReads.{ReachesFrom}
+use Rattle.engine.specs.Refusals.{of_tape, of_tape_kind, of_tape_read, IfSession, IfSource, IfTape}
+use Rattle.engine.specs.TapeReads.{IsReadWhole, ReachesFrom, ReadsTape, ShowsTape}
 use Rattle.engine.proofs.Refused.{tape_either}
 
 abbrev Image : Type 0
@@ -131,6 +134,54 @@ pub early_faulty : (a : Option (List ℕ)) (f : TapeReadFault) → IfSome a (λ 
 early_faulty a f only =
     with_known a (λ text. (fault : TapeFault) → IsRefusedInPieces text fault → Is (read_err f) (read_err (tape_read_fault.Tape fault))) (λ text. (fault : TapeFault) → IsRefusedInPieces text fault → Ends (of_tape_read f) (Err (Tape fault))) only
     (λ text o fault r. refusal_ends f fault (o fault r))
+
+-- ---- what was consumed of the tape
+
+-- no text's fault is want of memory
+breaks_not_memory : (kind : TapeFaultKind) (g : TapeFault) (count : ℕ) (rest : List ℕ) (place : ℕ) → Breaks kind count rest place → of_tape_kind kind g ≡ OutOfMemory → ⊥
+breaks_not_memory tape_fault.OutOfMemory g count rest place breaks out = breaks
+breaks_not_memory kind g count rest place breaks out = cc
+
+refused_not_memory : (text : List ℕ) (g : TapeFault) → IsRefusedInPieces text g → of_tape g ≡ OutOfMemory → ⊥
+refused_not_memory text g (inl first) out = breaks_not_memory g.kind g _ _ _ first.1.breaks out
+refused_not_memory text g (inr long) out = elim long.told [
+  | inl tells ↦ breaks_not_memory g.kind g _ _ _ (tells []).breaks out
+  | inr only ↦ differ (sym (ap of_tape only.1) ∙ out)
+]
+  where
+    differ : of_tape too_long ≡ OutOfMemory → ⊥
+    differ e = cc
+
+module _ (told : List ℕ) (AtEnd : Type 0) where
+  told_fault : (g : TapeFault) → Shows told AtEnd (read_err (tape_read_fault.Tape g)) → of_tape g ≡ Tape g → EndsWithPiece told g ⊎ (AtEnd × IsRefusedInPieces told g)
+  told_fault g (inl memory) is = absurd (not_memory g memory.0 is)
+  told_fault g (inr fault) is = fault
+
+  told_memory : (g : TapeFault) → Shows told AtEnd (read_err (tape_read_fault.Tape g)) → of_tape g ≡ OutOfMemory → IsReadWhole told AtEnd ⊎ (told ≡ [])
+  told_memory g (inl memory) out = inr memory.1
+  told_memory g (inr (inl ends)) out = absurd (refused_not_memory (told ++ []) g (ends.refused []) out)
+  told_memory g (inr (inr end)) out = absurd (refused_not_memory told g end.1 out)
+
+  early_shows : (f : TapeReadFault) → Shows told AtEnd (read_err f) → ShowsTape told AtEnd (failed (of_tape_read f))
+  early_shows tape_read_fault.Read h = inr h
+  early_shows (tape_read_fault.Tape g) h = elim (tape_either g.kind g) [
+    | inl is ↦ subst (λ (e : EngineFault). ShowsTape told AtEnd (failed e)) (sym is) (told_fault g h is)
+    | inr out ↦ subst (λ (e : EngineFault). ShowsTape told AtEnd (failed e)) (sym out) (told_memory g h out)
+  ]
+
+  late_shows : {X : Type 0} (result : Result X EngineFault) → IsReadWhole told AtEnd → IfSource result (λ _. ⊥) → IfTape result (λ _. ⊥) → ShowsTape told AtEnd result
+  late_shows (Ok x) whole source tape = whole
+  late_shows (Err (Source f)) whole source tape = source
+  late_shows (Err (Tape f)) whole source tape = absurd tape
+  late_shows (Err Read) whole source tape = inl whole
+  late_shows (Err OutOfMemory) whole source tape = inl whole
+  late_shows (Err e) whole source tape = whole
+
+pub early_reads : (a b : Option (List ℕ)) (f : TapeReadFault) → Reads a b (read_err f) → ReadsTape a b (failed (of_tape_read f))
+early_reads a b f (told, c, shows) = (told, c, early_shows told _ f shows)
+
+pub late_reads : {X : Type 0} (a b : Option (List ℕ)) (image : Image) (result : Result X EngineFault) → Reads a b (read_ok image) → IfSource result (λ _. ⊥) → IfTape result (λ _. ⊥) → ReadsTape a b result
+late_reads a b image result (told, c, shows) source tape = (told, c, late_shows told _ result (shows.0, (image, shows.1)) source tape)
 
 -- ---- an image was read
 

@@ -1,5 +1,8 @@
 -- What was read and written where the engine reads its tape itself. Source: profile.
-use Rattle.std.specs.Prelude.{◌⊎◌, Result, Ok, Err}
+use Rattle.std.specs.Prelude.{◌≡◌, ◌⊎◌, ℕ, List, [], Option, Result, Ok, Err}
+use Rattle.std.specs.Io.KnownBytes.{Consumes, IsAtEnd}
+use Rattle.model.specs.TapePieces.{IsReadInPieces, IsRefusedInPieces}
+use Rattle.papertape.specs.Streaming.{EndsWithPiece, GoesOn}
 use Rattle.engine.specs.declared.fault.EngineFault.{EngineFault}
 use Rattle.engine.specs.declared.fault.EngineFault.TheVariants as engine_fault
 
@@ -10,3 +13,21 @@ ReachesFrom (Err engine_fault.Read) Stood Alone = Stood ⊎ Alone
 ReachesFrom (Err engine_fault.Write) Stood Alone = Stood
 ReachesFrom (Err engine_fault.OutOfMemory) Stood Alone = Stood ⊎ Alone
 ReachesFrom (Err fault) Stood Alone = Alone
+
+-- All of the tape was consumed, and it has an image.
+abbrev pub IsReadWhole : List ℕ → Type 0 → Type 0
+IsReadWhole told AtEnd = AtEnd × ((image : List (Option ℕ)) × IsReadInPieces told image)
+
+-- What the bytes that were consumed of the tape say of the engine's answer. A fault of the tape came with the piece that tells it, or at the
+-- end; the read that failed was one of command lines, or one of the tape, where nothing was told yet; memory ran out after the tape was read, or
+-- before any of it was. Every other answer comes after the tape was read.
+abbrev pub ShowsTape : {X : Type 0} → List ℕ → Type 0 → Result X EngineFault → Type 0
+ShowsTape told AtEnd (Err (engine_fault.Source fault)) = ⊥
+ShowsTape told AtEnd (Err (engine_fault.Tape fault)) = EndsWithPiece told fault ⊎ (AtEnd × IsRefusedInPieces told fault)
+ShowsTape told AtEnd (Err engine_fault.Read) = IsReadWhole told AtEnd ⊎ GoesOn told
+ShowsTape told AtEnd (Err engine_fault.OutOfMemory) = IsReadWhole told AtEnd ⊎ (told ≡ [])
+ShowsTape told AtEnd answer = IsReadWhole told AtEnd
+
+-- What was consumed of the tape, of which this was known before and is now, where the engine answered this.
+abbrev pub ReadsTape : {X : Type 0} → Option (List ℕ) → Option (List ℕ) → Result X EngineFault → Type 0
+ReadsTape before now answer = (told : List ℕ) × Consumes before now told × ShowsTape told (IsAtEnd now) answer

@@ -1,6 +1,6 @@
 //! The command that assembles a text.
 
-ghost use Rattle.std.specs.Prelude.{◌≡◌, ◌≢◌, OnOk, Err};
+ghost use Rattle.std.specs.Prelude.{◌≡◌, ◌≢◌, IsErrOf, Err};
 ghost use Rattle.model.specs.OneLine.{one_line};
 ghost use Rattle.model.specs.Transcript.{asm_answer, source_fault_line};
 ghost use Rattle.model.specs.Written.{Writes};
@@ -22,7 +22,9 @@ pub fn assembled<W: Write>(
     writer: &mut W,
 ) -> Result<(), ReplyFault>
     ensures writes { Writes (W.contents writer.old) (W.contents writer.new) (asm_answer session.old address (one_line session.old.current.bus.map.profile address text.now)).written result }
-    ensures ok { OnOk result (session.new ≡ (asm_answer session.old address (one_line session.old.current.bus.map.profile address text.now)).session) }
+    ensures after { result ≢ Err ReplyFault.OutOfMemory
+        → session.new ≡ (asm_answer session.old address (one_line session.old.current.bus.map.profile address text.now)).session }
+    ensures memory { IsErrOf result ReplyFault.OutOfMemory → (session.new ≡ session.old) × (writer.new ≡ writer.old) }
 {
     match assemble_line_in(alloc, session.profile(), address, text) {
         Ok(line) => {
@@ -43,6 +45,7 @@ pub fn assembled<W: Write>(
 fn refuse_text<W: Write>(kind: AsmFaultKind, writer: &mut W) -> Result<(), ReplyFault>
     ensures writes { kind ≢ AsmFaultKind.OutOfMemory → Writes (W.contents writer.old) (W.contents writer.new) (source_fault_line kind) result }
     ensures memory { kind ≡ AsmFaultKind.OutOfMemory → ((result ≡ Err ReplyFault.OutOfMemory) × (writer.new ≡ writer.old)) }
+    ensures only { IsErrOf result ReplyFault.OutOfMemory → kind ≡ AsmFaultKind.OutOfMemory }
 {
     match kind {
         AsmFaultKind::OutOfMemory => Err(ReplyFault::OutOfMemory),

@@ -23,7 +23,7 @@ use std::io::Write;
 ///
 /// - `Write`: the reply could not be written. A beginning of it was.
 /// - `OutOfMemory`: a request for memory was refused. A beginning of the reply was written.
-#[tactic(auto, using(crate::proofs::Said::said_writes, crate::proofs::Said::said_ends, crate::proofs::Said::said_ok), unfolding(model::specs::Transcript::answer_to))]
+#[tactic(auto, using(crate::proofs::Said::said_writes, crate::proofs::Said::said_ends, crate::proofs::Said::said_after, crate::proofs::Said::said_unless), unfolding(model::specs::Transcript::answer_to))]
 pub fn execute<W: Write>(
     alloc: Global,
     session: &mut Session,

@@ -9,7 +9,7 @@ ghost use Rattle.model.specs.declared.session_fault.SessionFault.TheVariants.{Po
 ghost use Rattle.model.specs.declared.tape.TapeFault.{TapeFault};
 ghost use Rattle.engine.specs.Outcome.{Serves};
 ghost use Rattle.engine.specs.Refusals.{IfSession, IfSource, IfTape};
-ghost use Rattle.engine.specs.TapeReads.{ReachesFrom};
+ghost use Rattle.engine.specs.TapeReads.{ReachesFrom, ReadsTape};
 ghost use Rattle.papertape.specs.Streaming.{IsImageOf, IsRefusalOf};
 
 use crate::fault::EngineFault;
@@ -49,6 +49,9 @@ pub fn debug_tape_from<T: Read, R: Read, W: Write>(
         ((image : List (Option ℕ)) × IsImageOf (T.remaining tape.old) image
         × Serves (fresh history (start map image)) (R.remaining reader.old) (R.remaining reader.new) (W.contents writer.old) (W.contents writer.new) result)
         ((reader.new ≡ reader.old) × (writer.new ≡ writer.old)) }
+
+    // What was consumed of the tape: all where a session stood, and no more than the piece that tells its fault where it is refused.
+    ensures reads { ReadsTape (T.remaining tape.old) (T.remaining tape.new) result }
 
     // A tape with a fault is refused with it, and one that denotes an image is not, unless a read of it fails or memory is refused.
     ensures faulty { IfSome (T.remaining tape.old) (λ text. (fault : TapeFault) → IsRefusedInPieces text fault

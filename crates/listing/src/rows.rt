@@ -1,6 +1,6 @@
 //! The rows of a line, and of a name.
 
-ghost use Rattle.std.specs.Prelude.{◌≡◌, ◌+◌, ◌-◌, ◌≤◌, ◌<◌, ◌^◌, ◌++◌, ◌∷◌, OnOk, length};
+ghost use Rattle.std.specs.Prelude.{◌≡◌, ◌+◌, ◌-◌, ◌≤◌, ◌<◌, ◌^◌, ◌++◌, ◌∷◌, OnErr, OnOk, length, take};
 ghost use Rattle.model.specs.Listing.{group_row, group_rows, line_rows, name_row, number_text, separated};
 ghost use Rattle.model.specs.Text.{spaced_bytes};
 
@@ -13,7 +13,8 @@ use std::alloc::AllocError;
 #[tactic(auto, unfolding(model::specs::Text::spaced_bytes))]
 fn push_separated(out: &mut Vec<u8>, bytes: &[u8]) -> Result<(), AllocError>
     requires { length bytes.now ≤ 3 }
-    ensures { OnOk result (out.new.items ≡ out.old.items ++ separated bytes.now) }
+    ensures rows { OnOk result (out.new.items ≡ out.old.items ++ separated bytes.now) }
+    ensures kept { take (length out.old.items) out.new.items ≡ out.old.items }
 {
     match bytes {
         [a] => out.extend_from_slice(&digits_of(*a)),
@@ -35,7 +36,8 @@ fn push_separated(out: &mut Vec<u8>, bytes: &[u8]) -> Result<(), AllocError>
 /// A row of one to three further bytes.
 fn push_group(out: &mut Vec<u8>, address: u32, bytes: &[u8]) -> Result<(), AllocError>
     requires { length bytes.now ≤ 3 }
-    ensures { OnOk result (out.new.items ≡ out.old.items ++ group_row address bytes.now) }
+    ensures rows { OnOk result (out.new.items ≡ out.old.items ++ group_row address bytes.now) }
+    ensures kept { take (length out.old.items) out.new.items ≡ out.old.items }
 {
     out.extend_from_slice(&address_text(address))?;
     out.extend_from_slice(b"  ")?;
@@ -48,7 +50,8 @@ fn push_group(out: &mut Vec<u8>, address: u32, bytes: &[u8]) -> Result<(), Alloc
 #[tactic(auto, using(crate::proofs::Groups::next_group, crate::proofs::Groups::no_group))]
 fn push_groups(out: &mut Vec<u8>, address: u32, bytes: &[u8]) -> Result<(), AllocError>
     requires { address + length bytes.now < 2 ^ 32 - 3 }
-    ensures { OnOk result (out.new.items ≡ out.old.items ++ group_rows address bytes.now) }
+    ensures rows { OnOk result (out.new.items ≡ out.old.items ++ group_rows address bytes.now) }
+    ensures kept { take (length out.old.items) out.new.items ≡ out.old.items }
 {
     let mut at = address;
     let mut rest = bytes;
@@ -61,15 +64,16 @@ fn push_groups(out: &mut Vec<u8>, address: u32, bytes: &[u8]) -> Result<(), Allo
     Ok(())
 }
 
-/// A line's rows: its address, its first three bytes and its text, and then its further bytes.
-pub fn push_line(
+/// A line's rows, as far as memory is there for them.
+fn extend_with_line(
     out: &mut Vec<u8>,
     address: u32,
     bytes: &[u8],
     line: &[u8],
 ) -> Result<(), AllocError>
     requires { address + length bytes.now < 2 ^ 32 - 6 }
-    ensures { OnOk result (out.new.items ≡ out.old.items ++ line_rows address bytes.now line.now) }
+    ensures rows { OnOk result (out.new.items ≡ out.old.items ++ line_rows address bytes.now line.now) }
+    ensures kept { take (length out.old.items) out.new.items ≡ out.old.items }
 {
     out.extend_from_slice(&address_text(address))?;
     out.extend_from_slice(b"  ")?;
@@ -80,9 +84,32 @@ pub fn push_line(
     push_groups(out, address + 3, &bytes[bytes.len().min(3)..])
 }
 
+/// A line's rows: its address, its first three bytes and its text, and then its further bytes. Where memory runs out the
+/// text is as it was.
+pub fn push_line(
+    out: &mut Vec<u8>,
+    address: u32,
+    bytes: &[u8],
+    line: &[u8],
+) -> Result<(), AllocError>
+    requires { address + length bytes.now < 2 ^ 32 - 6 }
+    ensures rows { OnOk result (out.new.items ≡ out.old.items ++ line_rows address bytes.now line.now) }
+    ensures err { OnErr result (out.new.items ≡ out.old.items) }
+{
+    let before = out.len();
+    match extend_with_line(out, address, bytes, line) {
+        Ok(()) => Ok(()),
+        Err(error) => {
+            out.truncate(before);
+            Err(error)
+        }
+    }
+}
+
 /// A number as an address where it is one, and in decimal elsewhere.
 fn push_number(out: &mut Vec<u8>, number: i32) -> Result<(), AllocError>
-    ensures { OnOk result (out.new.items ≡ out.old.items ++ number_text number) }
+    ensures rows { OnOk result (out.new.items ≡ out.old.items ++ number_text number) }
+    ensures kept { take (length out.old.items) out.new.items ≡ out.old.items }
 {
     if number >= 0 && number < 65536 {
         let [a, b, c, d] = digits_of_word(number as u16);
@@ -91,13 +118,29 @@ fn push_number(out: &mut Vec<u8>, number: i32) -> Result<(), AllocError>
     out.extend_from_slice(Buffer::new().format(number).as_bytes())
 }
 
-/// A name's row.
-pub fn push_name(out: &mut Vec<u8>, name: &[u8], number: i32) -> Result<(), AllocError>
-    ensures { OnOk result (out.new.items ≡ out.old.items ++ name_row (name.now, number)) }
+/// A name's row, as far as memory is there for it.
+fn extend_with_name(out: &mut Vec<u8>, name: &[u8], number: i32) -> Result<(), AllocError>
+    ensures rows { OnOk result (out.new.items ≡ out.old.items ++ name_row (name.now, number)) }
+    ensures kept { take (length out.old.items) out.new.items ≡ out.old.items }
 {
     out.extend_from_slice(name)?;
     out.extend_from_slice(b" = ")?;
     push_number(out, number)?;
     out.push(b'\n')?;
     Ok(())
+}
+
+/// A name's row. Where memory runs out the text is as it was.
+pub fn push_name(out: &mut Vec<u8>, name: &[u8], number: i32) -> Result<(), AllocError>
+    ensures rows { OnOk result (out.new.items ≡ out.old.items ++ name_row (name.now, number)) }
+    ensures err { OnErr result (out.new.items ≡ out.old.items) }
+{
+    let before = out.len();
+    match extend_with_name(out, name, number) {
+        Ok(()) => Ok(()),
+        Err(error) => {
+            out.truncate(before);
+            Err(error)
+        }
+    }
 }

@@ -33,6 +33,7 @@ pub mod Instruction
 pub mod Listing
 pub mod Disassembly
 pub mod Transcript
+pub mod Calls
 pub mod Looking
 pub mod Polled
 pub mod Written

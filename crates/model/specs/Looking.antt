@@ -1,9 +1,9 @@
 -- Looking changes no state. Source: profile.
-use Rattle.std.specs.Prelude.{◌≡◌, ℕ, ◌==◌, Bool, true, false, if◌then◌else◌, List, [], ◌∷◌, map}
+use Rattle.std.specs.Prelude.{◌≡◌, ℕ, ◌≤◌, ◌==◌, Bool, true, false, if◌then◌else◌, List, [], ◌∷◌, map}
 use Rattle.model.specs.Session.{Session}
 use Rattle.model.specs.Run.{run_end, bare}
 use Rattle.model.specs.Back.{states}
-use Rattle.model.specs.Commands.{command_of}
+use Rattle.model.specs.Commands.{command_of, most_steps}
 use Rattle.model.specs.Transcript.{answer_to, served}
 use Rattle.model.specs.declared.command.Command.{Command}
 use Rattle.model.specs.declared.command.Command.TheVariants.{Regs, Mem, Out, Run, Break, Unbreak, Watch, Unwatch, Breaks, Dis, Nothing, Bad}
@@ -42,3 +42,11 @@ kept s (command ∷ commands) = kept_of command s (kept (answer_to command s).se
 abbrev pub LooksAreHarmless : Type 0
 LooksAreHarmless = (s : Session) (lines others : List (List ℕ)) → map command_of others ≡ kept s (map command_of lines) →
     states (served (bare s) others).session ≡ states (served s lines).session
+
+-- Each run that a line may ask for has a line that asks for it.
+abbrev pub EachRunHasALine : Type 0
+EachRunHasALine = (k : ℕ) → 1 ≤ k → k ≤ most_steps → (line : List ℕ) × (command_of line ≡ Run k)
+
+-- There are lines that ask for what is left of other lines, whatever these ask for: so what looking is compared with is always there.
+abbrev pub WhatIsKeptHasLines : Type 0
+WhatIsKeptHasLines = (s : Session) (lines : List (List ℕ)) → (others : List (List ℕ)) × (map command_of others ≡ kept s (map command_of lines))

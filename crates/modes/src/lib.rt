@@ -9,12 +9,15 @@ ghost use Rattle.model.specs.Operand.{indexed, jump_target, effective_address, s
 use bus::{Bus, Profile};
 pub use model::{EffectiveAddress, Mode, Regs};
 
+/// What `resolve` answers: an effective address, and whether a page was left on the way there.
+pub type Place = EffectiveAddress;
+
 /// Where the operand of the instruction at PC stands, and whether a page was left on the way there: the next byte for
 /// an immediate operand, the target of a branch, 0 where there is none. It reads plain memory alone, never the port
 /// (MCS6500 manual, chapters 4 to 6; profile for what profile C adds).
 #[inline(always)]
 #[tactic(auto, unfolding(model::specs::Operand::effective_address))]
-pub fn resolve(bus: &Bus, regs: &Regs, mode: Mode) -> EffectiveAddress
+pub fn resolve(bus: &Bus, regs: &Regs, mode: Mode) -> Place
     ensures { result ≡ effective_address bus.now regs.now mode }
 {
     let next = regs.pc.wrapping_add(1);

@@ -8,7 +8,7 @@ use Rattle.model.specs.declared.tape.TapeFault.{TapeFault}
 use Rattle.model.specs.TapeFault.{out_of_memory}
 use Rattle.model.specs.TapePieces.{IsReadInPieces, IsRefusedInPieces, longest}
 use Rattle.papertape.specs.Feeding.{Fed, ended, fed, said, unfed}
-use Rattle.papertape.specs.Streaming.{EndsReading, GoesOn, IsImageOf, IsRefusalOf, IsRefusedAlready, IsTextOf, Reads}
+use Rattle.papertape.specs.Streaming.{EndsReading, EndsWithPiece, GoesOn, IsImageOf, IsRefusalOf, IsRefusedAlready, IsTextOf, Reads}
 use Rattle.papertape.specs.declared.stream.TapeReadFault.{TapeReadFault}
 use Rattle.papertape.specs.declared.stream.TapeReadFault.TheVariants.{Tape, Read}
 use Rattle.papertape.proofs.Pieces.{fed-append, fed-Err, not_said, said_ok}
@@ -46,13 +46,20 @@ reads_nothing a (Ok image) f h memory = absurd h
 reads_nothing a (Err e) f h memory = subst (λ (x : TapeReadFault). Reads a a (failed x)) (sym h) ([], Consumes-nil a, inl (memory, refl))
 
 pub reads_refused : (a b c : Option (List ℕ)) (answer : Answer) (f : TapeFault) (front bytes : List ℕ) (reader : Fed) → IsErrAnd answer (λ e. e ≡ Tape f)
-    → Consumes a b front → Consumes b c bytes → reader ≡ fed unfed front → fed reader bytes ≡ Err f → Reads a c answer
-reads_refused a b c (Ok image) f front bytes reader h p q e refused = absurd h
-reads_refused a b c (Err e) f front bytes reader h p q same refused =
+    → Consumes a b front → Consumes b c bytes → length bytes ≤ 4096 → reader ≡ fed unfed front → said reader ≡ said_ok → fed reader bytes ≡ Err f → Reads a c answer
+reads_refused a b c (Ok image) f front bytes reader h p q short same on refused = absurd h
+reads_refused a b c (Err e) f front bytes reader h p q short same on refused =
     subst (λ (x : TapeReadFault). Reads a c (failed x)) (sym h) (
       front ++ bytes,
       Consumes-trans a b c front bytes p q,
-      inr (inl (refused_already (front ++ bytes) f (fed-append longest front bytes unfed ∙ ap (λ (s : Fed). fed s bytes) (sym same) ∙ refused))),
+      inr (inl (record {
+        front = front;
+        piece = bytes;
+        parts = refl;
+        short = short;
+        right = goes_on front (ap said (sym same) ∙ on);
+        refused = refused_already (front ++ bytes) f (fed-append longest front bytes unfed ∙ ap (λ (s : Fed). fed s bytes) (sym same) ∙ refused);
+      })),
     )
 
 pub reads_fault_at_end : (a b c : Option (List ℕ)) (answer : Answer) (f : TapeFault) (front : List ℕ) (reader : Fed) → IsErrAnd answer (λ e. e ≡ Tape f)
@@ -75,10 +82,10 @@ at_end : (a b : Option (List ℕ)) (front : List ℕ) (P : List ℕ → Type 0) 
 at_end None b front P c end p = (front, tt, p)
 at_end (Some bytes) b front P c end p = (bytes, refl, Consumes-whole (Some bytes) b front P c end p)
 
-already : (a b : Option (List ℕ)) (front : List ℕ) (f : TapeFault) → Consumes a b front → IsRefusedAlready front f → IsRefusalOf a f
-already None b front f c refused = (front ++ [], tt, refused [])
-already (Some bytes) None front f c refused = absurd c
-already (Some bytes) (Some left) front f c refused = (front ++ left, c, refused left)
+already : (a b : Option (List ℕ)) (told : List ℕ) (f : TapeFault) → Consumes a b told → EndsWithPiece told f → IsRefusalOf a f
+already None b told f c ends = (told ++ [], tt, ends.refused [])
+already (Some bytes) None told f c ends = absurd c
+already (Some bytes) (Some left) told f c ends = (told ++ left, c, ends.refused left)
 
 pub image_read : (a b : Option (List ℕ)) (answer : Answer) → Reads a b answer → IfOk answer (IsImageOf a)
 image_read a b (Ok image) h = at_end a b h.0 (λ text. IsReadInPieces text image) h.1 h.2.0 h.2.1

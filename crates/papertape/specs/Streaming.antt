@@ -33,12 +33,24 @@ IsRefusedAlready front fault = (more : List ℕ) → IsRefusedInPieces (front ++
 abbrev pub GoesOn : List ℕ → Type 0
 GoesOn front = (length front ≤ longest) × ((fault : TapeFault) → Tells front fault → ⊥)
 
+-- The longest piece in which a tape is read. Source: profile.
+abbrev pub longest_piece : ℕ
+longest_piece = 4096
+
+-- What was consumed tells the fault, and nothing was read after the piece that tells it: what came before that piece goes on.
+pub record EndsWithPiece (told : List ℕ) (fault : TapeFault) : Type 0 where
+  pub front : List ℕ
+  pub piece : List ℕ
+  pub parts : told ≡ front ++ piece
+  pub short : length piece ≤ longest_piece
+  pub right : GoesOn front
+  pub refused : IsRefusedAlready told fault
+
 -- What the bytes that were consumed say of the answer. An image, and a fault that only the end tells, come at the reader's end;
--- any other fault as soon as what was consumed tells it; and a read failed where nothing was told yet. Where memory ran out none
--- was consumed.
+-- any other fault with the piece that tells it; and a read failed where nothing was told yet. Where memory ran out none was consumed.
 abbrev pub Shows : List ℕ → Type 0 → Result (List (Option ℕ)) TapeReadFault → Type 0
 Shows told AtEnd (Ok image) = AtEnd × IsReadInPieces told image
-Shows told AtEnd (Err (Tape fault)) = ((fault ≡ out_of_memory) × (told ≡ [])) ⊎ (IsRefusedAlready told fault ⊎ (AtEnd × IsRefusedInPieces told fault))
+Shows told AtEnd (Err (Tape fault)) = ((fault ≡ out_of_memory) × (told ≡ [])) ⊎ (EndsWithPiece told fault ⊎ (AtEnd × IsRefusedInPieces told fault))
 Shows told AtEnd (Err Read) = GoesOn told
 
 -- What was consumed of a reader, of which this was known before and is now, where this was answered.

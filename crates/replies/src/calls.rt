@@ -1,6 +1,6 @@
 //! Calls of the session that are no events, and the replies to them.
 
-ghost use Rattle.std.specs.Prelude.{◌≡◌, ◌≢◌, OnErr, OnOk, Ok, Err};
+ghost use Rattle.std.specs.Prelude.{◌≡◌, ◌≢◌, IsErrOf, IsOk, OnErr, Ok, Err};
 ghost use Rattle.model.specs.Written.{Writes};
 ghost use Rattle.model.specs.Run.{after_steps, run_end};
 ghost use Rattle.model.specs.Back.{back_of};
@@ -17,7 +17,7 @@ use std::io::Write;
 /// A run of at most so many steps: the reply is how many were made, and why it ended.
 pub fn run<W: Write>(session: &mut Session, count: u32, writer: &mut W) -> Result<(), ReplyFault>
     ensures writes { Writes (W.contents writer.old) (W.contents writer.new) (run_line (run_end count session.old)) result }
-    ensures ok { OnOk result (session.new ≡ after_steps (run_end count session.old).did session.old) }
+    ensures after { session.new ≡ after_steps (run_end count session.old).did session.old }
     ensures fault { OnErr result (result ≡ Err ReplyFault.Write) }
 {
     let end = session.run(count);
@@ -31,7 +31,7 @@ pub fn go_back<W: Write>(
     writer: &mut W,
 ) -> Result<(), ReplyFault>
     ensures writes { Writes (W.contents writer.old) (W.contents writer.new) (back_answer session.old (back_of count session.old)).written result }
-    ensures ok { OnOk result (session.new ≡ (back_answer session.old (back_of count session.old)).session) }
+    ensures after { session.new ≡ (back_answer session.old (back_of count session.old)).session }
     ensures fault { OnErr result (result ≡ Err ReplyFault.Write) }
 {
     match session.back(count) {
@@ -47,7 +47,8 @@ pub fn set_break<W: Write>(
     writer: &mut W,
 ) -> Result<(), ReplyFault>
     ensures writes { Writes (W.contents writer.old) (W.contents writer.new) (table_answer session.old (break_set address session.old)).written result }
-    ensures ok { OnOk result (session.new ≡ (table_answer session.old (break_set address session.old)).session) }
+    ensures after { result ≢ Err ReplyFault.OutOfMemory → session.new ≡ (table_answer session.old (break_set address session.old)).session }
+    ensures memory { IsErrOf result ReplyFault.OutOfMemory → (session.new ≡ session.old) × (writer.new ≡ writer.old) × IsOk (break_set address session.old) }
 {
     match session.set_break(address) {
         Ok(()) => put(writer, b"OK\n"),
@@ -62,7 +63,8 @@ pub fn set_watch<W: Write>(
     writer: &mut W,
 ) -> Result<(), ReplyFault>
     ensures writes { Writes (W.contents writer.old) (W.contents writer.new) (table_answer session.old (watch_set address session.old)).written result }
-    ensures ok { OnOk result (session.new ≡ (table_answer session.old (watch_set address session.old)).session) }
+    ensures after { result ≢ Err ReplyFault.OutOfMemory → session.new ≡ (table_answer session.old (watch_set address session.old)).session }
+    ensures memory { IsErrOf result ReplyFault.OutOfMemory → (session.new ≡ session.old) × (writer.new ≡ writer.old) × IsOk (watch_set address session.old) }
 {
     match session.set_watch(address) {
         Ok(()) => put(writer, b"OK\n"),
@@ -77,7 +79,7 @@ pub fn clear_break<W: Write>(
     writer: &mut W,
 ) -> Result<(), ReplyFault>
     ensures writes { Writes (W.contents writer.old) (W.contents writer.new) (table_answer session.old (break_cleared address session.old)).written result }
-    ensures ok { OnOk result (session.new ≡ (table_answer session.old (break_cleared address session.old)).session) }
+    ensures after { session.new ≡ (table_answer session.old (break_cleared address session.old)).session }
     ensures fault { OnErr result (result ≡ Err ReplyFault.Write) }
 {
     match session.clear_break(address) {
@@ -93,7 +95,7 @@ pub fn clear_watch<W: Write>(
     writer: &mut W,
 ) -> Result<(), ReplyFault>
     ensures writes { Writes (W.contents writer.old) (W.contents writer.new) (table_answer session.old (watch_cleared address session.old)).written result }
-    ensures ok { OnOk result (session.new ≡ (table_answer session.old (watch_cleared address session.old)).session) }
+    ensures after { session.new ≡ (table_answer session.old (watch_cleared address session.old)).session }
     ensures fault { OnErr result (result ≡ Err ReplyFault.Write) }
 {
     match session.clear_watch(address) {
@@ -106,6 +108,7 @@ pub fn clear_watch<W: Write>(
 fn refuse<W: Write>(fault: SessionFault, writer: &mut W) -> Result<(), ReplyFault>
     ensures writes { fault ≢ SessionFault.OutOfMemory → Writes (W.contents writer.old) (W.contents writer.new) (refusal_line fault) result }
     ensures memory { fault ≡ SessionFault.OutOfMemory → ((result ≡ Err ReplyFault.OutOfMemory) × (writer.new ≡ writer.old)) }
+    ensures only { IsErrOf result ReplyFault.OutOfMemory → fault ≡ SessionFault.OutOfMemory }
 {
     match fault {
         SessionFault::OutOfMemory => Err(ReplyFault::OutOfMemory),

@@ -1,6 +1,6 @@
 //! Events, and the replies to them.
 
-ghost use Rattle.std.specs.Prelude.{◌≡◌, ◌≤◌, ◌+◌, ◌∷◌, ◌++◌, [], length, OnErr, OnOk, Ok, Err, nat_lt};
+ghost use Rattle.std.specs.Prelude.{◌≡◌, ◌≤◌, ◌+◌, ◌∷◌, ◌++◌, [], length, OnErr, Ok, Err, nat_lt};
 ghost use Rattle.model.specs.Written.{Writes};
 ghost use Rattle.model.specs.Event.{event_of};
 ghost use Rattle.model.specs.State.{console_size};
@@ -16,7 +16,7 @@ use std::io::Write;
 /// A step: the reply is the register line after it, or why it was refused.
 pub fn step<W: Write>(session: &mut Session, writer: &mut W) -> Result<(), ReplyFault>
     ensures writes { Writes (W.contents writer.old) (W.contents writer.new) (stepped_answer session.old (event_of session.old.current Event.Step)).written result }
-    ensures ok { OnOk result (session.new ≡ (stepped_answer session.old (event_of session.old.current Event.Step)).session) }
+    ensures after { session.new ≡ (stepped_answer session.old (event_of session.old.current Event.Step)).session }
     ensures fault { OnErr result (result ≡ Err ReplyFault.Write) }
 {
     match session.event(Event::Step) {
@@ -32,7 +32,7 @@ pub fn happen<W: Write>(
     writer: &mut W,
 ) -> Result<(), ReplyFault>
     ensures writes { Writes (W.contents writer.old) (W.contents writer.new) (event_answer session.old (event_of session.old.current event)).written result }
-    ensures ok { OnOk result (session.new ≡ (event_answer session.old (event_of session.old.current event)).session) }
+    ensures after { session.new ≡ (event_answer session.old (event_of session.old.current event)).session }
     ensures fault { OnErr result (result ≡ Err ReplyFault.Write) }
 {
     match session.event(event) {
@@ -49,7 +49,7 @@ pub fn take_input<W: Write>(
     writer: &mut W,
 ) -> Result<(), ReplyFault>
     ensures writes { Writes (W.contents writer.old) (W.contents writer.new) (input_answer session.old bytes.now).written result }
-    ensures ok { OnOk result (session.new ≡ (input_answer session.old bytes.now).session) }
+    ensures after { session.new ≡ (input_answer session.old bytes.now).session }
     ensures fault { OnErr result (result ≡ Err ReplyFault.Write) }
 {
     if exceeds_room(session, bytes) {

@@ -10,18 +10,18 @@ use Rattle.model.specs.Back.{states, number_back, gone_back, back_of, Accepts, h
 
 -- ---- the last states
 
-length-keep_last : (n : ℕ) (xs : List State) → length (keep_last n xs) ≡ min n (length xs)
+pub length-keep_last : (n : ℕ) (xs : List State) → length (keep_last n xs) ≡ min n (length xs)
 length-keep_last n xs = omega (arith, length-drop (length xs - n) xs)
 
-keep_last-all : (n : ℕ) (xs : List State) → length xs ≤ n → keep_last n xs ≡ xs
+pub keep_last-all : (n : ℕ) (xs : List State) → length xs ≤ n → keep_last n xs ≡ xs
 keep_last-all n xs h = let z : length xs - n ≡ 0 = omega arith in ap (λ k. drop k xs) z
 
-keep_last-push : (n : ℕ) (xs : List State) (x : State) → 0 < n → keep_last n (xs ++ x ∷ []) ≡ keep_last (n - 1) xs ++ x ∷ []
+pub keep_last-push : (n : ℕ) (xs : List State) (x : State) → 0 < n → keep_last n (xs ++ x ∷ []) ≡ keep_last (n - 1) xs ++ x ∷ []
 keep_last-push n xs x h =
     let z : length (xs ++ x ∷ []) - n ≡ length xs - (n - 1) = omega (arith, length-append xs (x ∷ [])) in
     ap (λ k. drop k (xs ++ x ∷ [])) z ∙ drop-append-le (length xs - (n - 1)) xs (x ∷ []) (omega arith)
 
-keep_last-keep_last : (m n : ℕ) (xs : List State) → m ≤ n → keep_last m (keep_last n xs) ≡ keep_last m xs
+pub keep_last-keep_last : (m n : ℕ) (xs : List State) → m ≤ n → keep_last m (keep_last n xs) ≡ keep_last m xs
 keep_last-keep_last m n xs h =
     let kept = keep_last n xs in
     let z : (length xs - n) + (length kept - m) ≡ length xs - m = omega (arith, length-keep_last n xs) in

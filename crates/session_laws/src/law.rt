@@ -1,7 +1,8 @@
 //! The laws. Each is the contract of a function that does nothing.
 
 ghost use Rattle.model.specs.Back.{BackIsExact};
-ghost use Rattle.model.specs.Looking.{LooksAreHarmless};
+ghost use Rattle.model.specs.Calls.{BackIsExactAmongCalls};
+ghost use Rattle.model.specs.Looking.{EachRunHasALine, LooksAreHarmless, WhatIsKeptHasLines};
 ghost use Rattle.model.specs.Polled.{PolledSessionsStay, PolledTranscriptsStay};
 ghost use Rattle.model.specs.Run.{CutRunGoesOn, RunCanBeRepeated};
 ghost use Rattle.model.specs.Transcript.{ToldBegins};
@@ -10,6 +11,13 @@ ghost use Rattle.model.specs.Transcript.{ToldBegins};
 /// is refused, and the number of events held is the history size.
 pub fn going_back_is_exact()
     ensures { BackIsExact }
+{}
+
+/// Whatever calls came before, events that were accepted or refused, runs, breakpoints, watches, views, and going back itself: going
+/// back over k events gives the state before the last k accepted events that were not undone, exactly where the history holds it,
+/// and leaves breakpoints and watches as they are; otherwise it is refused with the number of events held.
+pub fn going_back_is_exact_among_calls()
+    ensures { BackIsExactAmongCalls }
 {}
 
 /// A run that is cut short and goes on ends as one run does that nothing cuts.
@@ -26,6 +34,17 @@ pub fn run_can_be_repeated()
 /// lead to the same states.
 pub fn looks_are_harmless()
     ensures { LooksAreHarmless }
+{}
+
+/// Each run of 1 to 1,000,000 steps has a line that asks for it.
+pub fn each_run_has_a_line()
+    ensures { EachRunHasALine }
+{}
+
+/// Whatever lines ask for, there are lines that ask for what `looks_are_harmless` keeps of it: the commands that are no look, and for
+/// each run one of as many steps as it made.
+pub fn what_is_kept_has_lines()
+    ensures { WhatIsKeptHasLines }
 {}
 
 /// The replies to the lines whose end was told are a beginning of the replies to the whole input, whatever is still to be told.

@@ -1,14 +1,24 @@
 -- All states of a session are states with one map.
-use Rattle.std.proofs.Common.{◌≡◌, ℕ, ◌-◌, Bool, true, false, cond, List, [], ◌∷◌, ◌++◌, length, take, get_or, Ok, Err, refl, sym, ◌∙◌, subst, zero, suc}
+use Rattle.std.proofs.Common.{◌≡◌, ℕ, ◌-◌, Bool, true, false, cond, List, [], ◌∷◌, ◌++◌, length, take, get_or, Result, Ok, Err, refl, sym, ◌∙◌, subst, zero, suc}
 use Rattle.std.specs.Prelude.{nat_le}
 use Rattle.std.specs.List.{All}
 use Rattle.std.proofs.lemmas.List.Elements.{All-nil, All-cons, All-head, All-tail, All-push, All-take, All-drop}
 use Rattle.model.specs.State.{Map, State, IsState}
 use Rattle.model.specs.Session.{Session, fresh, appended, keep_last}
 use Rattle.model.specs.Back.{Accepts, states, gone_back, back_of}
+use Rattle.model.specs.Event.{event_of}
+use Rattle.model.specs.Step.{step}
+use Rattle.model.specs.Run.{run_end, after_step, after_steps, after_steps_by}
+use Rattle.model.specs.Tables.{with_breaks, with_watches, break_set, break_cleared, watch_set, watch_cleared}
+use Rattle.model.specs.Transcript.{after_event}
+use Rattle.model.specs.Calls.{Call, after_answer, after_call, after_calls}
+use Rattle.model.specs.Calls.Call.{happen, run, back, set_break, clear_break, set_watch, clear_watch, view}
 use Rattle.model.specs.declared.event.Event.{Event}
+use Rattle.model.specs.declared.event.Event.TheVariants.{Step}
+use Rattle.model.specs.declared.event.EventFault.{EventFault}
+use Rattle.model.specs.declared.session_fault.SessionFault.{SessionFault}
 use Rattle.model.specs.declared.session_fault.SessionFault.TheVariants.{NoHistory}
-use Rattle.state_laws.specs.Law.{IsEvent, HoldsStates, SessionsHoldStates}
+use Rattle.state_laws.specs.Law.{IsCall, IsEvent, HoldsStates, SessionsHoldStates}
 use Rattle.state_laws.proofs.Kept.{events_keep_states}
 
 abbrev IsWith : Map → State → Type 0
@@ -60,5 +70,59 @@ back_holds : (map : Map) (k : ℕ) (s t : Session) → HoldsStates map s → bac
 unfolding back_of
 back_holds map k s t h e = back_by map k s t (nat_le k (length s.earlier)) h e
 
+-- ---- any call
+
+event_holds : (map : Map) (s : Session) (event : Event) (r : Result State EventFault) → HoldsStates map s → IsEvent event → event_of s.current event ≡ r → HoldsStates map (after_event s r)
+event_holds map s event (Ok state) h is e =
+    let now = current_is map s h in
+    let next = events_keep_states s.current state event now.0 is e in
+    appended_holds map s state h (next.0, next.1 ∙ now.1)
+event_holds map s event (Err fault) h is e = h
+
+step_holds : (map : Map) (s : Session) (r : Result State EventFault) (rest : Session → Session) → HoldsStates map s → event_of s.current Step ≡ r
+    → ((t : Session) → HoldsStates map t → HoldsStates map (rest t)) → HoldsStates map (after_step s r rest)
+step_holds map s (Ok state) rest h e on = on (appended s state) (event_holds map s Step (Ok state) h tt e)
+step_holds map s (Err fault) rest h e on = h
+
+is_step : (state : State) → event_of state Step ≡ step state
+unfolding event_of
+is_step state = refl
+
+steps_hold : (map : Map) (k : ℕ) (s : Session) → HoldsStates map s → HoldsStates map (after_steps k s)
+unfolding after_steps_by
+steps_hold map zero s h = h
+steps_hold map (suc k) s h = step_holds map s (step s.current) (λ t. after_steps k t) h (is_step s.current) (λ t held. steps_hold map k t held)
+
+answer_holds : (map : Map) (s : Session) (r : Result Session SessionFault) → HoldsStates map s → ((t : Session) → r ≡ Ok t → HoldsStates map t) → HoldsStates map (after_answer s r)
+answer_holds map s (Ok t) h on = on t refl
+answer_holds map s (Err fault) h on = h
+
+breaks_hold : (map : Map) (s : Session) (r : Result (List ℕ) SessionFault) → HoldsStates map s → HoldsStates map (after_answer s (with_breaks s r))
+breaks_hold map s (Ok table) h = h
+breaks_hold map s (Err fault) h = h
+
+watches_hold : (map : Map) (s : Session) (r : Result (List ℕ) SessionFault) → HoldsStates map s → HoldsStates map (after_answer s (with_watches s r))
+watches_hold map s (Ok table) h = h
+watches_hold map s (Err fault) h = h
+
+watch_holds : (map : Map) (s : Session) (b : Bool) (f : SessionFault) (r : Result (List ℕ) SessionFault) → HoldsStates map s → HoldsStates map (after_answer s (cond b (Err f) (with_watches s r)))
+watch_holds map s true f r h = h
+watch_holds map s false f r h = watches_hold map s r h
+
+call_holds : (map : Map) (s : Session) (call : Call) → HoldsStates map s → IsCall call → HoldsStates map (after_call s call)
+unfolding after_call break_set break_cleared watch_set watch_cleared
+call_holds map s (happen event) h is = event_holds map s event (event_of s.current event) h is refl
+call_holds map s (run n) h is = steps_hold map (run_end n s).did s h
+call_holds map s (back k) h is = answer_holds map s (back_of k s) h (λ t e. back_holds map k s t h e)
+call_holds map s (set_break address) h is = breaks_hold map s _ h
+call_holds map s (clear_break address) h is = breaks_hold map s _ h
+call_holds map s (set_watch address) h is = watch_holds map s _ _ _ h
+call_holds map s (clear_watch address) h is = watches_hold map s _ h
+call_holds map s view h is = h
+
+calls_hold : (map : Map) (calls : List Call) (s : Session) → HoldsStates map s → All IsCall calls → HoldsStates map (after_calls s calls)
+calls_hold map [] s h all = h
+calls_hold map (call ∷ calls) s h all = calls_hold map calls (after_call s call) (call_holds map s call h (All-head IsCall call calls all)) (All-tail IsCall call calls all)
+
 pub sessions_hold_states : SessionsHoldStates
-sessions_hold_states = (fresh_holds, λ map s t events h k a. accepted_holds map events s t h k a, back_holds)
+sessions_hold_states = (fresh_holds, λ map s t events h k a. accepted_holds map events s t h k a, back_holds, λ map s calls h all. calls_hold map calls s h all)

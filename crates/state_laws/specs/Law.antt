@@ -6,6 +6,8 @@ use Rattle.model.specs.Image.{IsImage}
 use Rattle.model.specs.Event.{event_of, start}
 use Rattle.model.specs.Session.{Session, fresh}
 use Rattle.model.specs.Back.{Accepts, back_of, states}
+use Rattle.model.specs.Calls.{Call, after_calls}
+use Rattle.model.specs.Calls.Call.{happen}
 use Rattle.model.specs.declared.event.Setting.{Setting}
 use Rattle.model.specs.declared.event.Setting.TheVariants.{A, X, Y, S, P, Pc}
 use Rattle.model.specs.declared.event.Event.{Event}
@@ -43,9 +45,16 @@ EventsKeepStates = (before after : State) (event : Event) → IsState before →
 abbrev pub HoldsStates : Map → Session → Type 0
 HoldsStates map s = All (λ (state : State). IsState state × (state.bus.map ≡ map)) (states s)
 
--- A session that begins in a state holds nothing but states with its map, after all events and after going back over any number of them.
+-- The event of a call is one in the same sense.
+abbrev pub IsCall : Call → Type 0
+IsCall (happen event) = IsEvent event
+IsCall call = ⊤
+
+-- A session that begins in a state holds nothing but states with its map, after all events, after going back over any number of them, and after
+-- any calls.
 abbrev pub SessionsHoldStates : Type 0
 SessionsHoldStates =
     ((history : ℕ) (state : State) → IsState state → HoldsStates state.bus.map (fresh history state))
     × ((map : Map) (s t : Session) (events : List Event) → HoldsStates map s → All IsEvent events → Accepts s events t → HoldsStates map t)
     × ((map : Map) (k : ℕ) (s t : Session) → HoldsStates map s → back_of k s ≡ Ok t → HoldsStates map t)
+    × ((map : Map) (s : Session) (calls : List Call) → HoldsStates map s → All IsCall calls → HoldsStates map (after_calls s calls))

@@ -16,8 +16,8 @@ pub fn events_keep_states()
     ensures { EventsKeepStates }
 {}
 
-/// All states that a session holds are states, from the first on, after events, and after going back. A law for proofs: it does
-/// nothing.
+/// All states that a session holds are states, from the first on, after events, after going back, and after any calls. A law for
+/// proofs: it does nothing.
 pub fn sessions_hold_states()
     ensures { SessionsHoldStates }
 {}

@@ -4,12 +4,16 @@ use Rattle.model.specs.declared.session_fault.SessionFault.TheVariants.{PortAddr
 use Rattle.engine.specs.Refusals.{IfSession, of_tape_read}
 use Rattle.engine.specs.declared.fault.EngineFault.TheVariants.{Tape, Session, Read, OutOfMemory}
 use Rattle.engine.proofs.Refused.{no_session}
-use Rattle.engine.proofs.TapeReads.{early_faulty, early_no_source, early_port, early_reaches_from, early_refused, early_right, early_session, early_spared, for_each_known, is_fault, read_excluded, third_answer}
+use Rattle.engine.proofs.TapeReads.{early_faulty, early_no_source, early_port, early_reaches_from, early_reads, early_refused, early_right, early_session, early_spared, for_each_known, is_fault, late_reads, read_excluded, third_answer}
 use Rattle.engine.proofs.tape_from.debug_tape_from.Goals as goal
 
 pub returns-in_err-image-clause-serves : goal.returns-in_err-image-clause-serves
 returns-in_err-image-clause-serves g c =
     rw (is_fault c.from_residual.result (of_tape_read c.in_err-image.field-0.0) c.from_residual.ensures.1) (early_reaches_from c.in_err-image.field-0.0 _ _ (refl, refl))
+
+pub returns-in_err-image-clause-reads : goal.returns-in_err-image-clause-reads
+returns-in_err-image-clause-reads g c =
+    rw (is_fault c.from_residual.result (of_tape_read c.in_err-image.field-0.0) c.from_residual.ensures.1) (early_reads _ _ c.in_err-image.field-0.0 c.in_err-image.ensures.reads)
 
 pub returns-in_err-image-clause-faulty : goal.returns-in_err-image-clause-faulty
 returns-in_err-image-clause-faulty g c =
@@ -40,6 +44,9 @@ returns-in_err-image-clause-session g c =
 pub returns-in_err-image-clause-source : goal.returns-in_err-image-clause-source
 returns-in_err-image-clause-source g c =
     rw (is_fault c.from_residual.result (of_tape_read c.in_err-image.field-0.0) c.from_residual.ensures.1) (early_no_source c.in_err-image.field-0.0)
+
+pub returns-clause-reads : goal.returns-clause-reads
+returns-clause-reads g c = late_reads _ _ c.in_ok-image.image c.debug_image.result c.in_ok-image.ensures.reads c.debug_image.ensures.source c.debug_image.ensures.tape
 
 pub returns-clause-faulty : goal.returns-clause-faulty
 returns-clause-faulty g c =

@@ -1,5 +1,5 @@
 use Rattle.std.proofs.KnownBytes.{Consumes-trans, Keeps-refl}
-use Rattle.std.proofs.Common.{◌++◌, sym, ap, ◌∙◌, take, refl, arith}
+use Rattle.std.proofs.Common.{◌++◌, sym, ap, ◌∙◌, take, refl, arith, length-take}
 use Rattle.model.specs.TapePieces.{longest}
 use Rattle.papertape.specs.Feeding.{Fed, fed, unfed}
 use Rattle.papertape.proofs.Pieces.{fed-append, said_fault}
@@ -28,7 +28,7 @@ returns-in_err-feed-in-Ok g c =
     let bs = take c.in-Ok.n c.read.new.buf in
     let fault = c.in_err-feed-in-Ok.field-0.0 in
     reads_refused _ _ _ c.from_residual-in_err-feed-in-Ok.result fault inv.0 bs c.loop.reader c.from_residual-in_err-feed-in-Ok.ensures.1
-    inv.1 c.in-Ok.ensures.bytes.0 inv.2 (sym c.in_err-feed-in-Ok.ensures.after ∙ said_fault c.feed.new.self fault c.in_err-feed-in-Ok.ensures.answer)
+    inv.1 c.in-Ok.ensures.bytes.0 (omega (arith, length-take c.in-Ok.n c.read.new.buf)) inv.2 inv.3 (sym c.in_err-feed-in-Ok.ensures.after ∙ said_fault c.feed.new.self fault c.in_err-feed-in-Ok.ensures.answer)
 
 pub returns-in-Err : goal.returns-in-Err
 returns-in-Err g c =

@@ -5,7 +5,7 @@ use Rattle.asm_expr.specs.Lexing.{then_tokens}
 use Rattle.asm_expr.proofs.Runs.{from}
 use Rattle.line_parts.specs.Lexemes.{lexeme_of, lexemes}
 use Rattle.asm_expr.proofs.Steps.{whole, refused, at_start, blank_passed, at_comment, at_end, none_found, token_inside, token_passed}
-use Rattle.asm_expr.proofs.lexer.tokens_into.Goals as goal
+use Rattle.asm_expr.proofs.lexer.find_tokens.Goals as goal
 
 pub returns-then-not-all_may_stand-clause-syntax : goal.returns-then-not-all_may_stand-clause-syntax
 returns-then-not-all_may_stand-clause-syntax c _ = refused c.args.line.now (sym c.all_may_stand.ensures ∙ c.if-not-all_may_stand.true)

@@ -2,7 +2,7 @@ use Rattle.std.proofs.Common.{◌≡◌, ◌≤◌, ◌-◌, length, drop}
 use Rattle.model.specs.Token.{tokens_from}
 use Rattle.line_parts.specs.Lexemes.{lexemes}
 use Rattle.asm_expr.specs.Lexing.{then_tokens}
-use Rattle.asm_expr.proofs.lexer.tokens_into.Given as goal
+use Rattle.asm_expr.proofs.lexer.find_tokens.Given as goal
 
 abbrev pub invariant-loop-start : goal.invariant-loop-start
 invariant-loop-start l = record {
