@@ -1,6 +1,6 @@
 //! Memory, ROM and the port.
 
-ghost use Rattle.std.specs.Prelude.{◌≡◌, ◌+◌, ◌-◌, ◌<◌, ◌≤◌, ◌↔◌, length, slice_index, slice_get, slice_set, IsErr, OnOk, OnErr, IfErr, IfOk, true, false, not, ◌||◌, ◌&&◌, ◌++◌, ◌∷◌, [], if◌then◌else◌, ℕ, List};
+ghost use Rattle.std.specs.Prelude.{◌≡◌, ◌+◌, ◌-◌, ◌<◌, ◌≤◌, ◌↔◌, length, slice_index, slice_get, slice_set, IsErr, OnOk, OnErr, IfErr, IfOk, Some, true, false, not, ◌||◌, ◌&&◌, ◌++◌, ◌∷◌, [], if◌then◌else◌, ℕ, List};
 ghost use Rattle.std.specs.List.{list_all};
 ghost use Rattle.model.specs.State.{console_size, is_port, is_rom, byte_read, after_read, overflows, after_write, stored, input_waits, loaded_bus, has_port_byte, AreBytes, IsBus};
 ghost use Rattle.model.specs.Event.{meets_port, patched};
@@ -8,9 +8,11 @@ ghost use Rattle.model.specs.Image.{empty_image, has_byte};
 ghost use Rattle.model.specs.Undo.{CanRestore, restored, cells_of, put_cells};
 ghost use Rattle.model.specs.Checkpoint.{saved, put_back, CanPutBack};
 ghost use Rattle.bus.specs.Memory.{zeros};
+ghost use Rattle.bus.specs.Pages.{AreSameBelow};
 
 use crate::image::Image;
 use crate::map_spec::MapSpec;
+use crate::pages::{Stamps, copy_pages};
 use crate::saved::Saved;
 use circular_buffer::HeapCircularBuffer;
 use model::{BusFault, Change, Profile};
@@ -379,12 +381,32 @@ impl Bus {
     }
 
     /// Notes what leads back to this bus. It takes no memory.
-    #[tactic(auto, unfolding(model::specs::Checkpoint::saved))]
     pub fn save(&self, into: &mut Saved)
         ensures { into.new ≡ saved self.now }
     {
         into.memory.copy_from_slice(&self.memory);
         into.map = Some(self.map);
+        self.save_counts(into);
+    }
+
+    /// Notes the same, where memory differs from what is noted there only in pages whose stamp is not below `since`. No other page
+    /// is copied. It takes no memory.
+    pub fn save_pages(&self, into: &mut Saved, stamps: &Stamps, since: u32)
+        requires { AreSameBelow since stamps.now into.old.memory self.now.memory }
+        ensures { into.new ≡ saved self.now }
+    {
+        copy_pages(&mut into.memory, &self.memory, stamps, since);
+        into.map = Some(self.map);
+        self.save_counts(into);
+    }
+
+    /// Notes the rest, once memory and map are noted.
+    #[tactic(auto, unfolding(model::specs::Checkpoint::saved))]
+    fn save_counts(&self, into: &mut Saved)
+        requires memory { into.old.memory ≡ self.now.memory }
+        requires map { into.old.map ≡ Some self.now.map }
+        ensures { into.new ≡ saved self.now }
+    {
         into.taken = self.taken;
         into.given_len = self.given.len() as u32;
         into.out_len = self.out.len() as u32;

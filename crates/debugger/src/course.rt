@@ -5,12 +5,15 @@ ghost use Rattle.model.specs.State.{State};
 ghost use Rattle.model.specs.Run.{after_steps};
 ghost use Rattle.model.specs.declared.event.Event.TheVariants.{Step};
 ghost use Rattle.circular_buffer.specs.Buffer.{buffer};
+ghost use Rattle.model.specs.Checkpoint.{checkpoint_of};
 ghost use Rattle.debugger.specs.Course.{IsQuiet, with_steps};
+ghost use Rattle.debugger.specs.Pages.{TellsPages};
 ghost use Rattle.debugger.specs.Replay.{Follows, IsHistory, held_states};
 ghost use Rattle.debugger.specs.Running.{session_of};
 ghost use Rattle.debugger.specs.Trail.{HasRoom, IsNoted};
 ghost use Rattle.cpu.specs.Running.{AllButLast, AllGoOn, IsMark};
 
+use crate::pages::Pages;
 use crate::trail;
 use crate::trail::{PART, Trail};
 use bus::Change;
@@ -53,6 +56,7 @@ pub fn begin(alloc: Global, machine: &Machine, history: u32) -> Result<Course, S
     ensures history { IfOk result (λ course. IsHistory 1024 course.kept.items course.events.items machine.now) }
     ensures none { IfOk result (λ course. length course.events.items ≡ 0) }
     ensures states { IfOk result (λ course. held_states course.held course.kept.items course.events.items machine.now ≡ []) }
+    ensures first { IfOk result (λ course. course.kept.items ≡ checkpoint_of machine.now ∷ []) }
 {
     match trail::begin(alloc, machine, history) {
         Ok(trail) => Ok(Course {
@@ -75,8 +79,8 @@ impl Course {
 }
 
 /// Goes back over the last `count` events: to the last checkpoint that is not later, and over the events from there on.
-/// Answers how many these were.
-pub fn rewind(course: &mut Course, machine: &mut Machine, count: u32) -> u32
+/// Answers how many these were. All pages may have changed then.
+pub fn rewind(course: &mut Course, machine: &mut Machine, pages: &mut Pages, count: u32) -> u32
     requires held { count ≤ course.old.held }
     requires history { IsHistory 1024 course.old.kept.items course.old.events.items machine.old }
     ensures room { HasRoom course.new }
@@ -86,51 +90,58 @@ pub fn rewind(course: &mut Course, machine: &mut Machine, count: u32) -> u32
         ≡ take (course.old.held - count + 1) (held_states course.old.held course.old.kept.items course.old.events.items machine.old ++ machine.old ∷ []) }
     ensures number { result ≡ length course.new.events.items % 1024 }
     ensures fewer { length course.new.events.items + count ≡ length course.old.events.items }
+    ensures pages { TellsPages pages.new course.new.kept.items course.new.spare.items machine.new.bus.memory }
 {
     settle(&mut course.trail, course.steps);
     course.steps = 0;
     course.quiet = 0;
-    trail::rewind(&mut course.trail, machine, count)
+    trail::rewind(&mut course.trail, machine, pages, count)
 }
 
 /// Notes an accepted event, which led to the machine's state.
 #[inline(always)]
-pub fn note(course: &mut Course, machine: &Machine, event: Event)
+pub fn note(course: &mut Course, machine: &Machine, pages: &mut Pages, event: Event)
+    requires { TellsPages pages.old course.old.kept.items course.old.spare.items machine.now.bus.memory }
     ensures room { HasRoom course.new }
     ensures size { course.new.history ≡ course.old.history }
     ensures number { length course.new.events.items % 1024 ≡ (length course.old.events.items % 1024 + 1) % 1024 }
     ensures noted { (before : State) → IsHistory 1024 course.old.kept.items course.old.events.items before → Follows before event machine.now → IsNoted course.old course.new before machine.now }
+    ensures pages { TellsPages pages.new course.new.kept.items course.new.spare.items machine.now.bus.memory }
 {
     if let Event::Step = event {
-        return note_step(course, machine);
+        return note_step(course, machine, pages);
     }
-    note_apart(course, machine, event);
+    note_apart(course, machine, pages, event);
 }
 
 /// The same, at once.
 #[inline(never)]
-fn note_apart(course: &mut Course, machine: &Machine, event: Event)
+fn note_apart(course: &mut Course, machine: &Machine, pages: &mut Pages, event: Event)
+    requires { TellsPages pages.old course.old.kept.items course.old.spare.items machine.now.bus.memory }
     ensures room { HasRoom course.new }
     ensures size { course.new.history ≡ course.old.history }
     ensures number { length course.new.events.items % 1024 ≡ (length course.old.events.items % 1024 + 1) % 1024 }
     ensures noted { (before : State) → IsHistory 1024 course.old.kept.items course.old.events.items before → Follows before event machine.now → IsNoted course.old course.new before machine.now }
+    ensures pages { TellsPages pages.new course.new.kept.items course.new.spare.items machine.now.bus.memory }
 {
     settle(&mut course.trail, course.steps);
     course.steps = 0;
-    trail::note(&mut course.trail, machine, event);
+    trail::note(&mut course.trail, machine, pages, event);
     course.quiet = quiet_steps(&course.trail);
 }
 
 /// Notes a step, which led to the machine's state.
 #[inline(always)]
-pub fn note_step(course: &mut Course, machine: &Machine)
+pub fn note_step(course: &mut Course, machine: &Machine, pages: &mut Pages)
+    requires { TellsPages pages.old course.old.kept.items course.old.spare.items machine.now.bus.memory }
     ensures room { HasRoom course.new }
     ensures size { course.new.history ≡ course.old.history }
     ensures number { length course.new.events.items % 1024 ≡ (length course.old.events.items % 1024 + 1) % 1024 }
     ensures noted { (before : State) → IsHistory 1024 course.old.kept.items course.old.events.items before → Follows before Step machine.now → IsNoted course.old course.new before machine.now }
+    ensures pages { TellsPages pages.new course.new.kept.items course.new.spare.items machine.now.bus.memory }
 {
     if course.quiet == 0 {
-        note_apart(course, machine, Event::Step);
+        note_apart(course, machine, pages, Event::Step);
         return;
     }
     course.quiet -= 1;
@@ -142,6 +153,7 @@ pub fn note_step(course: &mut Course, machine: &Machine)
 pub fn run_quietly(
     course: &mut Course,
     machine: &mut Machine,
+    pages: &mut Pages,
     change: &mut Change,
     limit: u32,
     stops: &[u8],
@@ -150,6 +162,7 @@ pub fn run_quietly(
     requires stops { length stops.now ≡ 65536 }
     requires mark { IsMark change.old machine.old.bus }
     requires history { IsHistory 1024 course.old.kept.items course.old.events.items machine.old }
+    requires pages { TellsPages pages.old course.old.kept.items course.old.spare.items machine.old.bus.memory }
     ensures within { result.steps ≤ limit }
     ensures on { result.stopped ≡ false → AllGoOn stops.now watched result.steps machine.old machine.new }
     ensures mark { result.stopped ≡ false → IsMark change.new machine.new.bus }
@@ -157,9 +170,11 @@ pub fn run_quietly(
     ensures room { HasRoom course.new }
     ensures history { IsHistory 1024 course.new.kept.items course.new.events.items machine.new }
     ensures steps { (breaks watches : List ℕ) (replayed : ℕ) → session_of course.new machine.new breaks watches replayed ≡ after_steps result.steps (session_of course.old machine.old breaks watches replayed) }
+    ensures pages { TellsPages pages.new course.new.kept.items course.new.spare.items machine.new.bus.memory }
 {
     let most = limit.min(course.quiet);
-    let ran = machine.quick_run(change, most, stops, watched);
+    let now = pages.now;
+    let ran = machine.quick_run(change, most, stops, watched, &mut pages.stamps, now);
     course.quiet -= ran.steps;
     course.steps += ran.steps;
     ran

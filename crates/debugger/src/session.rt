@@ -8,6 +8,7 @@ ghost use Rattle.model.specs.Session.{appended, fresh};
 ghost use Rattle.model.specs.Back.{back_of, gone_back};
 ghost use Rattle.model.specs.Run.{run_end, after_steps};
 ghost use Rattle.model.specs.Tables.{break_set, break_cleared, watch_set, watch_cleared};
+ghost use Rattle.debugger.specs.Pages.{TellsPages};
 ghost use Rattle.debugger.specs.Replay.{IsHistory, held_states};
 ghost use Rattle.debugger.specs.Running.{RunsTo, StepsTo};
 ghost use Rattle.debugger.specs.Trail.{HasRoom};
@@ -15,6 +16,7 @@ ghost use Rattle.cpu.specs.Running.{IsMark};
 
 use crate::course::{Course, begin, note, note_step, rewind, run_quietly};
 use crate::marks::Marks;
+use crate::pages::Pages;
 use crate::stops::{Stretch, stop_after};
 use crate::trail::happen;
 use bus::{BusFault, Change, Image, MapSpec};
@@ -28,6 +30,7 @@ use std::marker::Model;
 pub struct Session {
     machine: Machine,
     trail: Course,
+    pages: Pages,
     replayed: u32,
     breaks: Marks,
     watches: Marks,
@@ -36,6 +39,7 @@ pub struct Session {
 impl Model for Session {
     ghost use Rattle.std.specs.Prelude.{◌<◌, ◌%◌, length};
     ghost use Rattle.model.specs.Session.{Session as Seen};
+    ghost use Rattle.debugger.specs.Pages.{TellsPages};
     ghost use Rattle.debugger.specs.Replay.{IsHistory, held_states};
     ghost use Rattle.debugger.specs.Trail.{HasRoom};
 
@@ -51,7 +55,7 @@ impl Model for Session {
       replayed = s.replayed;
     } };
 
-    ghost invariant = { λ s. HasRoom s.trail × IsHistory 1024 s.trail.kept.items s.trail.events.items s.machine × (s.replayed < 1024) };
+    ghost invariant = { λ s. HasRoom s.trail × IsHistory 1024 s.trail.kept.items s.trail.events.items s.machine × (s.replayed < 1024) × TellsPages s.pages s.trail.kept.items s.trail.spare.items s.machine.bus.memory };
 }
 
 impl Session {
@@ -87,6 +91,7 @@ impl Session {
         Ok(Session {
             machine,
             trail,
+            pages: Pages::new(),
             replayed: 0,
             breaks,
             watches,
@@ -100,9 +105,10 @@ impl Session {
         ensures ok { OnOk result ((state : State) × (event_of self.old.current event ≡ Ok state) × (self.new ≡ appended self.old state)) }
         ensures err { IfErr result (λ fault. (event_of self.old.current event ≡ Err fault) × (self.new ≡ self.old)) }
     {
-        match happen(&mut self.machine, event) {
+        let now = self.pages.now;
+        match happen(&mut self.machine, &mut self.pages.stamps, now, event) {
             Ok(()) => {
-                note(&mut self.trail, &self.machine, event);
+                note(&mut self.trail, &self.machine, &mut self.pages, event);
                 Ok(())
             }
             Err(fault) => Err(fault),
@@ -156,6 +162,7 @@ impl Session {
         let ran = run_quietly(
             &mut self.trail,
             &mut self.machine,
+            &mut self.pages,
             change,
             limit,
             stops,
@@ -194,10 +201,13 @@ impl Session {
         ensures steps { StepsTo self.old result self.new }
         ensures mark { IsMark change.new self.new.current.bus }
     {
-        match self.machine.step_noting(change) {
+        let made = self.machine.step_noting(change);
+        self.machine
+            .stamp(change, &mut self.pages.stamps, self.pages.now);
+        match made {
             Ok(()) => {
                 let why = stop_after(&self.machine, &self.watches, &self.breaks, change);
-                note_step(&mut self.trail, &self.machine);
+                note_step(&mut self.trail, &self.machine, &mut self.pages);
                 *change = self.machine.mark();
                 Ok(why)
             }
@@ -218,7 +228,7 @@ impl Session {
             return Err(SessionFault::NoHistory { held });
         }
         if count > 0 {
-            self.replayed = rewind(&mut self.trail, &mut self.machine, count);
+            self.replayed = rewind(&mut self.trail, &mut self.machine, &mut self.pages, count);
         }
         Ok(())
     }

@@ -1,6 +1,6 @@
 //! The events that led to the current state, and checkpoints along them.
 
-ghost use Rattle.std.specs.Prelude.{◌≡◌, ◌+◌, ◌-◌, ◌*◌, ◌/◌, ◌%◌, ◌<◌, ◌≤◌, ◌++◌, ◌∷◌, [], min, length, take, drop, Some, Ok, Err, OnOk, IfOk, IfErr};
+ghost use Rattle.std.specs.Prelude.{◌≡◌, ◌+◌, ◌-◌, ◌*◌, ◌/◌, ◌%◌, ◌<◌, ◌≤◌, ◌++◌, ◌∷◌, [], min, length, take, drop, Some, Ok, Err, OnOk, IfOk, IfErr, List, ℕ};
 ghost use Rattle.model.specs.State.{State};
 ghost use Rattle.model.specs.Event.{event_of};
 ghost use Rattle.model.specs.declared.event.Event.TheVariants.{Step};
@@ -8,9 +8,13 @@ ghost use Rattle.model.specs.Session.{keep_last};
 ghost use Rattle.model.specs.Undo.{Undoes};
 ghost use Rattle.model.specs.Checkpoint.{Checkpoint as Seen, CanPutBack, checkpoint_of, returned};
 ghost use Rattle.circular_buffer.specs.Buffer.{last_item};
+ghost use Rattle.bus.specs.Pages.{StaySame};
+ghost use Rattle.debugger.specs.Pages.{TellsPages};
 ghost use Rattle.debugger.specs.Replay.{AllFollow, Follows, IsHistory, held_states, replayed, base_of};
 ghost use Rattle.debugger.specs.Trail.{HasRoom, IsNoted, LetGo, Marked};
 
+use crate::pages::Pages;
+use bus::{Stamps, stamp_all};
 use circular_buffer::HeapCircularBuffer;
 use cpu::{Checkpoint, Machine};
 use model::{Event, EventFault, SessionFault, Undo};
@@ -32,15 +36,22 @@ pub struct Trail {
     pub history: u32,
 }
 
-/// What an event does to a machine.
+/// What an event does to a machine. Pages that it changes get the stamp `now`.
 #[inline(always)]
-pub fn happen(machine: &mut Machine, event: Event) -> Result<(), EventFault>
+pub fn happen(
+    machine: &mut Machine,
+    stamps: &mut Stamps,
+    now: u32,
+    event: Event,
+) -> Result<(), EventFault>
     ensures ok { OnOk result (Follows machine.old event machine.new) }
     ensures err { IfErr result (λ fault. (event_of machine.old event ≡ Err fault) × (machine.new ≡ machine.old)) }
+    ensures same { StaySame now stamps.old stamps.new machine.old.bus.memory machine.new.bus.memory }
 {
     if let Event::Step = event {
-        return make_step(machine);
+        return make_step(machine, stamps, now);
     }
+    stamp_all(stamps, now);
     match happen_apart(machine, event) {
         Ok(_) => Ok(()),
         Err(fault) => Err(fault),
@@ -49,15 +60,19 @@ pub fn happen(machine: &mut Machine, event: Event) -> Result<(), EventFault>
 
 /// A step, quick where it can be, without a record.
 #[inline(always)]
-fn make_step(machine: &mut Machine) -> Result<(), EventFault>
+fn make_step(machine: &mut Machine, stamps: &mut Stamps, now: u32) -> Result<(), EventFault>
     ensures ok { OnOk result (Follows machine.old Step machine.new) }
     ensures err { IfErr result (λ fault. (event_of machine.old Step ≡ Err fault) × (machine.new ≡ machine.old)) }
+    ensures same { StaySame now stamps.old stamps.new machine.old.bus.memory machine.new.bus.memory }
 {
     let mut change = machine.mark();
     if machine.quick_step(&mut change) {
+        machine.stamp(&change, stamps, now);
         return Ok(());
     }
-    machine.step_noting(&mut change)
+    let made = machine.step_noting(&mut change);
+    machine.stamp(&change, stamps, now);
+    made
 }
 
 /// The same for any event, with the record that leads back.
@@ -84,15 +99,21 @@ fn happen_apart(machine: &mut Machine, event: Event) -> Result<Undo, EventFault>
     }
 }
 
-/// Events from one place to another, one after another.
-fn replay(machine: &mut Machine, events: &HeapCircularBuffer<Event>, from: usize, to: usize)
+/// Events from one place to another, one after another. The stamps tell nothing afterwards.
+fn replay(
+    machine: &mut Machine,
+    stamps: &mut Stamps,
+    events: &HeapCircularBuffer<Event>,
+    from: usize,
+    to: usize,
+)
     requires order { from ≤ to }
     requires within { to ≤ length events.now.items }
     ensures { (base : State) → AllFollow base events.now.items → machine.old ≡ replayed base (take from events.now.items) → machine.new ≡ replayed base (take to events.now.items) }
 {
     for index in from..to {
         if let Some(event) = events.get(index) {
-            let _ = happen(machine, *event);
+            let _ = happen(machine, stamps, 0, *event);
         }
     }
 }
@@ -128,8 +149,8 @@ fn put_aside(
 }
 
 /// Goes back over the last `count` events: to the last checkpoint that is not later, and over the events from there on.
-/// Answers how many these were.
-pub fn rewind(trail: &mut Trail, machine: &mut Machine, count: u32) -> u32
+/// Answers how many these were. All pages may have changed then.
+pub fn rewind(trail: &mut Trail, machine: &mut Machine, pages: &mut Pages, count: u32) -> u32
     requires room { HasRoom trail.old }
     requires held { count ≤ trail.old.held }
     requires history { IsHistory 1024 trail.old.kept.items trail.old.events.items machine.old }
@@ -140,12 +161,21 @@ pub fn rewind(trail: &mut Trail, machine: &mut Machine, count: u32) -> u32
         ≡ take (trail.old.held - count + 1) (held_states trail.old.held trail.old.kept.items trail.old.events.items machine.old ++ machine.old ∷ []) }
     ensures number { result ≡ length trail.new.events.items % 1024 }
     ensures fewer { length trail.new.events.items + count ≡ length trail.old.events.items }
+    ensures pages { TellsPages pages.new trail.new.kept.items trail.new.spare.items machine.new.bus.memory }
 {
     let target = trail.events.len() - count as usize;
     let place = target / PART;
     put_aside(&mut trail.kept, &mut trail.spare, place + 1);
     return_to_last(machine, &trail.kept);
-    replay(machine, &trail.events, place * PART, target);
+    replay(
+        machine,
+        &mut pages.stamps,
+        &trail.events,
+        place * PART,
+        target,
+    );
+    stamp_all(&mut pages.stamps, pages.now);
+    pages.spare = 0;
     trail.events.truncate_back(target);
     trail.held -= count;
     (target % PART) as u32
@@ -153,17 +183,19 @@ pub fn rewind(trail: &mut Trail, machine: &mut Machine, count: u32) -> u32
 
 /// Notes an accepted event, which led to the machine's state.
 #[inline(always)]
-pub fn note(trail: &mut Trail, machine: &Machine, event: Event)
-    requires { HasRoom trail.old }
+pub fn note(trail: &mut Trail, machine: &Machine, pages: &mut Pages, event: Event)
+    requires room { HasRoom trail.old }
+    requires pages { TellsPages pages.old trail.old.kept.items trail.old.spare.items machine.now.bus.memory }
     ensures room { HasRoom trail.new }
     ensures size { trail.new.history ≡ trail.old.history }
     ensures number { length trail.new.events.items % 1024 ≡ (length trail.old.events.items % 1024 + 1) % 1024 }
     ensures noted { (before : State) → IsHistory 1024 trail.old.kept.items trail.old.events.items before → Follows before event machine.now → IsNoted trail.old trail.new before machine.now }
+    ensures pages { TellsPages pages.new trail.new.kept.items trail.new.spare.items machine.now.bus.memory }
 {
     trail.events.push_back(event);
     trail.held = one_more(trail.held, trail.history);
-    let_go(trail);
-    mark(trail, machine);
+    let_go(trail, pages);
+    mark(trail, machine, pages);
 }
 
 /// One more, but not more than a limit.
@@ -177,36 +209,44 @@ fn one_more(held: u32, limit: u32) -> u32
 
 /// The oldest events let go with their checkpoint, once there are as many between two checkpoints that can't be gone back over.
 #[inline(always)]
-fn let_go(trail: &mut Trail)
+fn let_go(trail: &mut Trail, pages: &mut Pages)
     requires kept { 0 < length trail.old.kept.items }
+    requires few_kept { length trail.old.kept.items ≤ 66 }
     requires room { length trail.old.spare.items < trail.old.spare.capacity }
     ensures few { length trail.old.events.items < trail.old.held + 1024 → trail.new ≡ trail.old }
     ensures many { trail.old.held + 1024 ≤ length trail.old.events.items → LetGo trail.old trail.new }
+    ensures pages { (memory : List ℕ) → TellsPages pages.old trail.old.kept.items trail.old.spare.items memory → TellsPages pages.new trail.new.kept.items trail.new.spare.items memory }
 {
     if trail.events.len() < trail.held as usize + PART {
         return;
     }
     let rest = trail.events.len() - PART;
     trail.events.truncate_front(rest);
+    let count = trail.kept.len() as u32;
     if let Some(checkpoint) = trail.kept.pop_front() {
         trail.spare.push_back(checkpoint);
+        pages.spare = pages.now.saturating_sub(count - 1);
     }
 }
 
 /// A checkpoint at the machine's state, where one is due.
 #[inline(always)]
-fn mark(trail: &mut Trail, machine: &Machine)
+fn mark(trail: &mut Trail, machine: &Machine, pages: &mut Pages)
+    requires pages { TellsPages pages.old trail.old.kept.items trail.old.spare.items machine.now.bus.memory }
     requires spare { length trail.old.events.items % 1024 ≡ 0 → 0 < length trail.old.spare.items }
     requires room { length trail.old.events.items % 1024 ≡ 0 → length trail.old.kept.items < trail.old.kept.capacity }
     ensures none { 0 < length trail.old.events.items % 1024 → trail.new ≡ trail.old }
     ensures one { length trail.old.events.items % 1024 ≡ 0 → Marked trail.old trail.new (checkpoint_of machine.now) }
+    ensures pages { TellsPages pages.new trail.new.kept.items trail.new.spare.items machine.now.bus.memory }
 {
     if trail.events.len() % PART != 0 {
         return;
     }
     if let Some(mut checkpoint) = trail.spare.pop_back() {
-        machine.save(&mut checkpoint);
+        machine.save_pages(&mut checkpoint, &pages.stamps, pages.spare);
         trail.kept.push_back(checkpoint);
+        pages.spare = 0;
+        pages.now = pages.now.saturating_add(1);
     }
 }
 
@@ -219,6 +259,7 @@ pub fn begin(alloc: Global, machine: &Machine, history: u32) -> Result<Trail, Se
     ensures history { IfOk result (λ trail. IsHistory 1024 trail.kept.items trail.events.items machine.now) }
     ensures none { IfOk result (λ trail. length trail.events.items ≡ 0) }
     ensures states { IfOk result (λ trail. held_states trail.held trail.kept.items trail.events.items machine.now ≡ []) }
+    ensures first { IfOk result (λ trail. trail.kept.items ≡ checkpoint_of machine.now ∷ []) }
 {
     let size = history as usize / PART + 2;
     let Ok(events) = HeapCircularBuffer::with_capacity(alloc, history as usize + PART) else {

@@ -1,19 +1,39 @@
 //! Coming back to a state that was saved.
 
 ghost use Rattle.std.specs.Prelude.{◌≡◌};
-ghost use Rattle.model.specs.Checkpoint.{checkpoint_of, returned, CanPutBack};
+ghost use Rattle.bus.specs.Pages.{AreSameBelow};
+ghost use Rattle.model.specs.Checkpoint.{checkpoint_of, returned, saved, CanPutBack};
 
 use crate::checkpoint::Checkpoint;
 use crate::machine::Machine;
+use bus::Stamps;
 use registers::Registers;
 
 impl Machine {
     /// Notes what leads back to this state. It takes no memory (profile).
-    #[tactic(auto, unfolding(model::specs::Checkpoint::checkpoint_of))]
     pub fn save(&self, into: &mut Checkpoint)
         ensures { into.new ≡ checkpoint_of self.now }
     {
         self.processor.bus.save(&mut into.bus);
+        self.save_processor(into);
+    }
+
+    /// Notes the same, where memory differs from what is noted there only in pages whose stamp is not below `since`. No other page
+    /// is copied. It takes no memory.
+    pub fn save_pages(&self, into: &mut Checkpoint, stamps: &Stamps, since: u32)
+        requires { AreSameBelow since stamps.now into.old.bus.memory self.now.bus.memory }
+        ensures { into.new ≡ checkpoint_of self.now }
+    {
+        self.processor.bus.save_pages(&mut into.bus, stamps, since);
+        self.save_processor(into);
+    }
+
+    /// Notes the rest, once the bus is noted.
+    #[tactic(auto, unfolding(model::specs::Checkpoint::checkpoint_of))]
+    fn save_processor(&self, into: &mut Checkpoint)
+        requires { into.old.bus ≡ saved self.now.bus }
+        ensures { into.new ≡ checkpoint_of self.now }
+    {
         into.regs = self.processor.regs.seen();
         into.irq = self.processor.irq;
         into.nmi = self.processor.nmi;

@@ -1,6 +1,14 @@
-use Rattle.std.proofs.Common.{◌∙◌}
+use Rattle.std.proofs.Common.{◌∙◌, ap}
 use Rattle.debugger.proofs.Steps.{step_follows, noted_follows, noted_refused}
+use Rattle.debugger.proofs.Stamps.{stamped}
 use Rattle.debugger.proofs.trail.make_step.Goals as goal
+
+pub returns-then-quick_step-clause-same : goal.returns-then-quick_step-clause-same
+returns-then-quick_step-clause-same c = stamped _ _ _ _ _ _ (c.quick_step.ensures.undo ∙ c.mark-change.ensures.undo) c.stamp.ensures
+
+pub returns-clause-same : goal.returns-clause-same
+returns-clause-same c =
+    stamped _ _ _ _ _ _ (c.step_noting-made.ensures.undo ∙ ap (λ s. s.bus) (c.quick_step.ensures.not c.if-quick_step.false).0) c.stamp-2.ensures
 
 pub returns-then-quick_step-clause-ok : goal.returns-then-quick_step-clause-ok
 returns-then-quick_step-clause-ok c =
@@ -8,7 +16,7 @@ returns-then-quick_step-clause-ok c =
 
 pub returns-clause-ok : goal.returns-clause-ok
 returns-clause-ok c =
-    noted_follows c.step_noting.result c.step_noting.new.change _ _ _ (c.quick_step.ensures.not c.if-quick_step.false).0 c.step_noting.ensures.ok c.step_noting.ensures.fits c.step_noting.ensures.undo
+    noted_follows c.step_noting-made.result c.step_noting-made.new.change _ _ _ (c.quick_step.ensures.not c.if-quick_step.false).0 c.step_noting-made.ensures.ok c.step_noting-made.ensures.fits c.step_noting-made.ensures.undo
 
 pub returns-clause-err : goal.returns-clause-err
-returns-clause-err c = noted_refused c.step_noting.result _ _ _ (c.quick_step.ensures.not c.if-quick_step.false).0 c.step_noting.ensures.err
+returns-clause-err c = noted_refused c.step_noting-made.result _ _ _ (c.quick_step.ensures.not c.if-quick_step.false).0 c.step_noting-made.ensures.err

@@ -1,9 +1,12 @@
+use Rattle.std.proofs.Common.{subst, sym}
+use Rattle.debugger.specs.Replay.{IsHistory}
+use Rattle.debugger.proofs.Stamps.{tells_on}
 use Rattle.debugger.proofs.session.Session.event.Goals as goal
 
 pub invariant_of-self : goal.invariant_of-self
 invariant_of-self c =
     let noted = c.note.ensures.noted c.self.inside.machine c.self.invariant.1 c.in-Ok.ensures.ok in
-    (c.note.ensures.room, noted.history, c.self.invariant.2)
+    (c.note.ensures.room, noted.history, c.self.invariant.2, c.note.ensures.pages)
 
 pub returns-in-Ok-clause-ok : goal.returns-in-Ok-clause-ok
 returns-in-Ok-clause-ok c =
@@ -13,3 +16,12 @@ returns-in-Ok-clause-ok c =
       c.in-Ok.ensures.ok.accepted,
       λ i. record { earlier = noted.states i; current = c.happen.new.machine; history = c.note.ensures.size i; breaks = c.self.inside.breaks; watches = c.self.inside.watches; number = c.note.ensures.number i; replayed = c.self.inside.replayed },
     )
+
+pub note-requires : goal.note-requires
+note-requires c = tells_on _ _ _ _ _ _ _ _ c.happen.ensures.same c.self.invariant.3
+
+pub invariant_of-self-in-Err : goal.invariant_of-self-in-Err
+invariant_of-self-in-Err c =
+    let same = c.in-Err.ensures.err.1 in
+    let inside = c.self.inside in
+    (c.self.invariant.0, subst (IsHistory 1024 inside.trail.kept.items inside.trail.events.items) (sym same) c.self.invariant.1, c.self.invariant.2, tells_on _ _ _ _ _ _ _ _ c.happen.ensures.same c.self.invariant.3)

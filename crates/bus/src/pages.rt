@@ -1,0 +1,67 @@
+//! Pages of memory, and stamps that tell which of them changed.
+
+ghost use Rattle.std.specs.Prelude.{◌≡◌, ◌<◌, ◌≤◌, ◌/◌, length, slice_index, ℕ, List};
+ghost use Rattle.model.specs.Undo.{cells_of, put_cells};
+ghost use Rattle.bus.specs.Pages.{AreSameBelow, SparesPage, StaySame};
+
+use model::Change;
+
+/// For each page of memory, 256 bytes, the number that was current when a byte of it last changed.
+pub type Stamps = [u32; 256];
+
+/// Copies the pages whose stamp is not below `since`. The others are the same in both, so that the whole memories are in the end.
+pub(crate) fn copy_pages(into: &mut [u8], from: &[u8], stamps: &Stamps, since: u32)
+    requires into_size { length into.old ≡ 65536 }
+    requires from_size { length from.now ≡ 65536 }
+    requires same { AreSameBelow since stamps.now into.old from.now }
+    ensures { into.new ≡ from.now }
+{
+    for page in 0..256usize {
+        if stamps[page] >= since {
+            copy_page(into, from, page);
+        }
+    }
+}
+
+/// Copies one page.
+#[inline(always)]
+fn copy_page(into: &mut [u8], from: &[u8], page: usize)
+    requires into_size { length into.old ≡ 65536 }
+    requires from_size { length from.now ≡ 65536 }
+    requires page { page < 256 }
+    ensures size { length into.new ≡ 65536 }
+    ensures copied { (k : ℕ) → k / 256 ≡ page → slice_index into.new k ≡ slice_index from.now k }
+    ensures kept { (k : ℕ) → slice_index into.old k ≡ slice_index from.now k → slice_index into.new k ≡ slice_index from.now k }
+{
+    let start = page * 256;
+    into[start..start + 256].copy_from_slice(&from[start..start + 256]);
+}
+
+/// Gives the pages in which a step stored the stamp `now`. A change notes where that was: what was the same as memory before the
+/// step still is, in each page with a lower stamp.
+#[inline(always)]
+pub fn stamp_pages(stamps: &mut Stamps, now: u32, change: &Change)
+    requires { change.now.count ≤ 3 }
+    ensures { (memory : List ℕ) → StaySame now stamps.old stamps.new (put_cells (cells_of change.now) memory) memory }
+{
+    stamp_cells(stamps, now, change);
+}
+
+/// The same, by page: one whose stamp is lower then has none of the cells, and its stamp is what it was.
+#[inline(always)]
+fn stamp_cells(stamps: &mut Stamps, now: u32, change: &Change)
+    requires { change.now.count ≤ 3 }
+    ensures kept { (page : ℕ) → slice_index stamps.new page < now → slice_index stamps.new page ≡ slice_index stamps.old page }
+    ensures others { (page : ℕ) → slice_index stamps.new page < now → SparesPage (cells_of change.now) page }
+{
+    for (place, _) in &change.cells[..change.count as usize] {
+        stamps[(*place >> 8) as usize] = now;
+    }
+}
+
+/// Gives all pages the stamp `now`: no page has a lower one then, so that there is none in which memories had to be the same.
+pub fn stamp_all(stamps: &mut Stamps, now: u32)
+    ensures { (since : ℕ) → since ≤ now → (xs ys : List ℕ) → AreSameBelow since stamps.new xs ys }
+{
+    *stamps = [now; 256];
+}
