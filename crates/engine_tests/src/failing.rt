@@ -1,12 +1,11 @@
-//! One session that uses every command, with each read, each write and each flush failing in turn; `quit` before a failure; and lines
-//! that are no commands. The replies come from an independent program.
+//! One session that uses every command, with each read, each write and each flush failing in turn; `quit` before a failure; and a tape
+//! whose reads fail. The replies come from an independent program.
 
-use crate::tests::{assert_ended, replied_with};
+use crate::streams::{MANY, Taker, Teller, by_lines, in_pieces, wide_taker};
 use bus::MapSpec;
 use engine::{EngineFault, debug_tape, debug_tape_from};
 use std::alloc::Global;
-use std::io;
-use std::io::{ErrorKind, Read, Write};
+use std::process::Abort;
 use std::test::Fail;
 
 /// The lines of a session, each with its reply. Each command stands among them, an empty line and a bad one too.
@@ -54,97 +53,24 @@ fn first_lines(alloc: Global, count: usize) -> Result<(Vec<u8>, Vec<u8>), Fail> 
     Ok((lines, replies))
 }
 
-/// More than the bytes and the calls of the session.
-const MANY: usize = 100_000;
-
-/// Tells its bytes: no more than some at a time, and of no two lines at once where it goes by lines. A read fails where none is left.
-#[derive(Drop)]
-struct Teller<'a> {
-    rest: &'a [u8],
-    at_once: usize,
-    by_lines: bool,
-    reads: usize,
-}
-
-impl<'a> Read for Teller<'a> {
-    fn read(&mut self, buf: &mut [u8]) -> io::Result<usize> {
-        if self.reads == 0 {
-            return Err(io::Error::from(ErrorKind::Other));
-        }
-        self.reads -= 1;
-        let line = match self.rest.iter().position(|byte| *byte == b'\n') {
-            Some(end) if self.by_lines => end + 1,
-            _ => self.rest.len(),
-        };
-        let count = line.min(self.at_once).min(buf.len());
-        let (now, later) = self.rest.split_at(count);
-        buf[..count].copy_from_slice(now);
-        self.rest = later;
-        Ok(count)
-    }
-}
-
-/// Takes bytes, no more than some at a time. Where no write is left, one takes no byte or fails, and where no flush is left, one fails.
-#[derive(Drop)]
-struct Taker {
-    taken: Vec<u8>,
-    at_once: usize,
-    writes: usize,
-    takes_none: bool,
-    flushes: usize,
-}
-
-impl Write for Taker {
-    fn write(&mut self, buf: &[u8]) -> io::Result<usize> {
-        if self.writes == 0 {
-            if self.takes_none {
-                return Ok(0);
-            }
-            return Err(io::Error::from(ErrorKind::Other));
-        }
-        self.writes -= 1;
-        let count = self.at_once.min(buf.len());
-        for byte in &buf[..count] {
-            self.taken.push(*byte)?;
-        }
-        Ok(count)
-    }
-
-    fn flush(&mut self) -> io::Result<()> {
-        if self.flushes == 0 {
-            return Err(io::Error::from(ErrorKind::Other));
-        }
-        self.flushes -= 1;
-        Ok(())
-    }
-}
-
-/// Tells these bytes a line at a time, and does not fail.
-fn by_lines<'a>(rest: &'a [u8]) -> Teller<'a> {
-    Teller {
-        rest,
-        at_once: MANY,
-        by_lines: true,
-        reads: MANY,
-    }
-}
-
-/// Takes all, and does not fail.
-fn wide_taker(alloc: Global) -> Taker {
-    Taker {
-        taken: Vec::new(alloc),
-        at_once: MANY,
-        writes: MANY,
-        takes_none: false,
-        flushes: MANY,
-    }
+/// A session ended so, and wrote these replies, after so many bytes, lines or calls.
+pub fn assert_ended(
+    rt: &impl Abort,
+    after: usize,
+    ended: Result<(), EngineFault>,
+    want: Result<(), EngineFault>,
+    written: &[u8],
+    replies: &[u8],
+) {
+    assert_eq!(rt; ended, want, "after {after}");
+    assert_eq!(rt; written, replies, "after {after}");
 }
 
 /// How a session ends that starts with an empty tape.
-fn served(
+pub fn served(
     alloc: Global,
     reader: &mut Teller<'_>,
-    writer: &mut Taker,
+    writer: &mut Taker<'_>,
 ) -> Result<Result<(), EngineFault>, Fail> {
     let map = MapSpec::new(None, 0xF000)?;
     Ok(debug_tape(alloc, map, 16, b";0000000000\r\n", reader, writer))
@@ -156,8 +82,7 @@ fn serves_bytes_one_by_one(rt: HostRuntime) -> Result<(), Fail> {
     for (at_once, taken_at_once) in [(1, 1), (1, MANY), (MANY, 1), (7, 5), (MANY, MANY)] {
         let mut reader = Teller {
             at_once,
-            by_lines: false,
-            ..by_lines(&lines)
+            ..in_pieces(&lines)
         };
         let mut writer = Taker {
             at_once: taken_at_once,
@@ -203,8 +128,7 @@ fn each_read_of_a_piece_fails(rt: HostRuntime) -> Result<(), Fail> {
         let mut reader = Teller {
             reads,
             at_once: 3,
-            by_lines: false,
-            ..by_lines(&lines)
+            ..in_pieces(&lines)
         };
         let mut writer = wide_taker(rt.alloc());
         let ended = served(rt.alloc(), &mut reader, &mut writer)?;
@@ -366,8 +290,7 @@ fn quit_comes_before_a_failure(rt: HostRuntime) -> Result<(), Fail> {
 fn quit_comes_before_lines_told_with_it(rt: HostRuntime) -> Result<(), Fail> {
     let mut reader = Teller {
         reads: 1,
-        by_lines: false,
-        ..by_lines(b"stepp\nquit\nregs\nquit\nre")
+        ..in_pieces(b"stepp\nquit\nregs\nquit\nre")
     };
     let mut writer = wide_taker(rt.alloc());
     let ended = served(rt.alloc(), &mut reader, &mut writer)?;
@@ -376,7 +299,7 @@ fn quit_comes_before_lines_told_with_it(rt: HostRuntime) -> Result<(), Fail> {
 }
 
 /// `LDA #$41`, `STA $F000`, `BRK` at $0200, and the reset vector.
-const TAPE: &[u8] = b";060200A9418D00F000026F\r\n;02FFFC000201FF\r\n;0000020002\r\n";
+pub const TAPE: &[u8] = b";060200A9418D00F000026F\r\n;02FFFC000201FF\r\n;0000020002\r\n";
 
 /// Each read of a tape fails, the one after its end too: no line is read, and nothing is written.
 #[test]
@@ -385,90 +308,15 @@ fn each_read_of_a_tape_fails(rt: HostRuntime) -> Result<(), Fail> {
         let mut tape = Teller {
             reads,
             at_once: 1,
-            ..by_lines(TAPE)
+            ..in_pieces(TAPE)
         };
-        let mut reader: &[u8] = b"regs\n";
+        let mut reader = in_pieces(b"regs\n");
         let mut writer = wide_taker(rt.alloc());
         let map = MapSpec::new(None, 0xF000)?;
         let ended = debug_tape_from(rt.alloc(), map, 16, &mut tape, &mut reader, &mut writer);
         assert_eq!(rt; ended, Err(EngineFault::Read), "after {reads} bytes");
         assert!(rt; writer.taken.is_empty(), "after {reads} bytes");
-        assert_eq!(rt; reader.len(), 5, "after {reads} bytes");
-    }
-    Ok(())
-}
-
-/// A session with output, input, a line, a breakpoint, a watch and a history.
-const BEFORE: &[u8] =
-    b"set PC 0200\npatch 0200 E8\nbreak 0300\nwatch 0010\nin 41\nirq 1\nnmi\nstep\nstep\n";
-
-const BEFORE_REPLIES: &[u8] = b"OK\nOK\nOK\nOK\nOK\nOK\nOK\n\
-    A=00 X=00 Y=00 S=FA P=24 PC=0000 CYC=14\n\
-    A=00 X=00 Y=00 S=F7 P=24 PC=0000 CYC=21\n";
-
-/// What shows that session: registers, tables, memory, and how far it can go back.
-const AFTER: &[u8] =
-    b"regs\nbreaks\nout\nmem 0200 0203\nmem 01F8 01FF\nrun 1\nback 3\nback 9\nback 1000000\n";
-
-const AFTER_REPLIES: &[u8] = b"A=00 X=00 Y=00 S=F7 P=24 PC=0000 CYC=21\n\
-    BREAKS 0300\nOUT 0\n0200  E8 00 00 00\n01F8  34 02 00 24 00 02 00 00\nDID 1 LIMIT\n\
-    A=00 X=00 Y=00 S=FD P=24 PC=0200 CYC=7\n! HISTORY 5\n! HISTORY 5\n";
-
-/// Lines that are no commands.
-const BAD: &[&[u8]] = &[
-    b"run 1000001",
-    b"run 00000001",
-    b"back 0",
-    b"mem 0300 0200",
-    b"in",
-    b"in 1",
-    b"patch 0200",
-    b"patch 0200 01 02 03 04",
-    b"set a 01",
-    b"STEP",
-    b"step 1",
-    b"irq 2",
-    b"break 200",
-    b"dis 0200 0",
-    b"dis 0200 257",
-    b"breaks x",
-    b"asm 0200",
-    b"quit x",
-    b"step\t",
-    b"\xFF",
-    &[b' '; 256],
-];
-
-#[test]
-fn bad_lines_change_nothing(rt: HostRuntime) -> Result<(), Fail> {
-    let mut want = Vec::new(rt.alloc());
-    want.extend_from_slice(BEFORE_REPLIES)?;
-    want.extend_from_slice(b"? BAD COMMAND\n")?;
-    want.extend_from_slice(AFTER_REPLIES)?;
-    for line in BAD {
-        let mut lines = Vec::new(rt.alloc());
-        lines.extend_from_slice(BEFORE)?;
-        lines.extend_from_slice(line)?;
-        lines.extend_from_slice(b"\n")?;
-        lines.extend_from_slice(AFTER)?;
-        let map = MapSpec::new(None, 0xF000)?;
-        let told = replied_with(rt.alloc(), map, 16, b"", &lines)?;
-        assert_eq!(rt; told.as_slice(), want.as_slice(), "{line:?}");
-    }
-    Ok(())
-}
-
-#[test]
-fn lines_that_are_just_right(rt: HostRuntime) -> Result<(), Fail> {
-    let right: [(&[u8], &[u8]); 3] = [
-        (b"run 0000001\n", b"DID 1 LIMIT\n"),
-        (&[b' '; 255], b""),
-        (b"\nregs", b"A=00 X=00 Y=00 S=FD P=24 PC=0000 CYC=7\n"),
-    ];
-    for (line, reply) in right {
-        let map = MapSpec::new(None, 0xF000)?;
-        let told = replied_with(rt.alloc(), map, 16, b"", line)?;
-        assert_eq!(rt; told.as_slice(), reply, "{line:?}");
+        assert_eq!(rt; reader.reads, MANY, "after {reads} bytes");
     }
     Ok(())
 }

@@ -4,8 +4,8 @@
 #[cfg(test)]
 mod failing;
 #[cfg(test)]
-mod sessions;
+mod lines;
 #[cfg(test)]
-mod tape_pieces;
+mod refusals;
 #[cfg(test)]
-mod tests;
+mod streams;

@@ -1,10 +1,10 @@
-//! What the tests of several files share: a session and a machine on nothing, events, and the way back.
+//! What the tests of several files share: a session and a machine on nothing, and events.
 
 ghost use Rattle.std.specs.Prelude.{◌≤◌};
 
 use bus::{Image, MapSpec};
 use cpu::Machine;
-use debugger::{Event, EventFault, Session, SessionFault};
+use debugger::{Event, EventFault, Session};
 use std::alloc::Global;
 use std::test::Fail;
 
@@ -27,16 +27,8 @@ pub fn empty_machine(alloc: Global) -> Result<Machine, Fail> {
     Ok(Machine::new(alloc, port_alone()?, &image)?)
 }
 
-/// Makes the events up to the first that is refused.
-pub fn happened(session: &mut Session, events: &[Event]) -> Result<(), EventFault> {
-    for event in events {
-        session.event(*event)?;
-    }
-    Ok(())
-}
-
-/// Goes back, and tells S, the cycles and the events that were replayed.
-pub fn went_back(session: &mut Session, count: u32) -> Result<(u8, u64, u32), SessionFault> {
-    session.back(count)?;
-    Ok((session.regs().s, session.cycles(), session.replayed()))
+/// One event. What an event does stands where it is called, so it is called here alone.
+#[inline(never)]
+pub fn happened(session: &mut Session, event: Event) -> Result<(), EventFault> {
+    session.event(event)
 }

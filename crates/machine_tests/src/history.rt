@@ -1,8 +1,10 @@
-//! Runs, breakpoints, watches and going back. A session here has nothing in memory, so that each step is a BRK.
+//! Runs, breakpoints, watches, going back and what it replays, and the record of a step. A session here has nothing in memory, so that
+//! each step is a BRK.
 
-use crate::common::{empty_machine, empty_session, went_back};
+use crate::common::{empty_machine, empty_session};
 use cpu::Machine;
 use debugger::{RunEnd, Session, SessionFault, Why};
+use std::alloc::Global;
 use std::test::Fail;
 
 /// The end of a run that nothing stopped.
@@ -11,6 +13,42 @@ fn limit(did: u32) -> RunEnd {
         did,
         why: Why::Limit,
     }
+}
+
+/// Goes back, and tells S, the cycles and the events that were replayed.
+fn went_back(session: &mut Session, count: u32) -> Result<(u8, u64, u32), SessionFault> {
+    session.back(count)?;
+    Ok((session.regs().s, session.cycles(), session.replayed()))
+}
+
+/// A history, a count of steps run, a count of events gone back over, and how many were replayed. Which states these are stands in
+/// `tests/sessions.md`.
+const REPLAYED: &[(u32, u32, u32, u32)] = &[
+    (0, 5000, 0, 0),
+    (1, 2049, 1, 0),
+    (1023, 4000, 1023, 929),
+    (1024, 3071, 1024, 1023),
+    (1024, 3072, 1024, 0),
+    (1024, 3072, 1, 1023),
+    (1025, 3072, 1025, 1023),
+    (4096, 10000, 4096, 784),
+    (65536, 70000, 65536, 368),
+];
+
+/// How many events were replayed at one of these.
+fn replayed(alloc: Global, history: u32, steps: u32, back: u32) -> Result<u32, Fail> {
+    let mut session = empty_session(alloc, history.min(65536))?;
+    session.run(steps);
+    session.back(back)?;
+    Ok(session.replayed())
+}
+
+#[test]
+fn replays_from_a_checkpoint(rt: HostRuntime) -> Result<(), Fail> {
+    for (history, steps, back, count) in REPLAYED {
+        assert_eq!(rt; replayed(rt.alloc(), *history, *steps, *back)?, *count);
+    }
+    Ok(())
 }
 
 /// Going back replays the events since the last checkpoint, and none where it stands there.
@@ -33,20 +71,6 @@ fn back_replays(rt: HostRuntime) -> Result<(), Fail> {
             Err(SessionFault::NoHistory { held: 1024 }),
             Ok((0xfd, 7175, 0)),
         ]
-    );
-    drop(session);
-    Ok(())
-}
-
-/// A history that is full holds its last events and no other.
-#[test]
-fn full_history(rt: HostRuntime) -> Result<(), Fail> {
-    let mut session = empty_session(rt.alloc(), 1024)?;
-    assert_eq!(rt; session.run(3000), limit(3000));
-    assert_eq!(rt; went_back(&mut session, 1024), Ok((0xd5, 13839, 952)));
-    assert_eq!(rt;
-        went_back(&mut session, 1),
-        Err(SessionFault::NoHistory { held: 0 })
     );
     drop(session);
     Ok(())

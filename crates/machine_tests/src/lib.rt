@@ -1,13 +1,12 @@
-//! Worked examples of the machine and its session, as calls. Each is a test; no code stands here.
+//! Worked examples of the machine and its session, as calls. Each is a test; no code stands here. What command lines show stands in
+//! `tests/sessions.md`.
 #![tactic(auto)]
 
-#[cfg(test)]
-mod borders;
 #[cfg(test)]
 mod common;
 #[cfg(test)]
 mod history;
 #[cfg(test)]
-mod profiles;
+mod saved;
 #[cfg(test)]
 mod tests;

@@ -1,232 +1,55 @@
-//! Maps, the bus, single steps, and images stepped through by a session. What command lines show too stands in `engine_tests`.
+//! Maps, the bus, patches, a step of a machine, decimal sums and the texts of faults.
 
-ghost use Rattle.std.specs.Prelude.{◌≤◌};
-
-use crate::common::{empty_machine, happened, port_alone};
+use crate::common::{empty_machine, empty_session, happened, port_alone};
 use bus::{Bus, Image, MapSpec};
 use cpu::Machine;
 use debugger::{Event, EventFault, Session, Setting};
 use model::{AsmFaultKind, BusFault, SessionFault, Sum};
-use std::alloc::Global;
 use std::test::Fail;
 
-/// A session that starts with these bytes at $0200, where the reset vector leads.
-fn session_on(alloc: Global, bytes: &[u8], history: u32) -> Result<Session, Fail>
-    requires { history ≤ 65536 }
-{
-    let map = port_alone()?;
-    let mut image = Image::new(alloc)?;
-    let mut address = 0x0200u16;
-    for byte in bytes {
-        image.put(address, *byte);
-        address = address.wrapping_add(1);
-    }
-    image.put(0xfffd, 0x02);
-    image.put(0xfffc, 0x00);
-    Ok(Session::new(alloc, map, &image, history)?)
-}
-
-/// Makes a step, and tells A, the status with B clear, PC and the cycles.
-fn stepped(session: &mut Session) -> Result<(u8, u8, u16, u64), EventFault> {
-    session.event(Event::Step)?;
-    let regs = session.regs();
-    Ok((regs.a, regs.flags.to_byte(false), regs.pc, session.cycles()))
-}
-
-/// LDA #$80, STA $0010, BRK: three steps, and what they leave in memory.
-#[test]
-fn load_store_break(rt: HostRuntime) -> Result<(), Fail> {
-    let bytes = [0xa9, 0x80, 0x8d, 0x10, 0x00, 0x00];
-    let mut session = session_on(rt.alloc(), &bytes, 1024)?;
-    let steps = [
-        stepped(&mut session),
-        stepped(&mut session),
-        stepped(&mut session),
-    ];
-    assert_eq!(rt;
-        steps,
-        [
-            Ok((0x80, 0xa4, 0x0202, 9)),
-            Ok((0x80, 0xa4, 0x0205, 13)),
-            Ok((0x80, 0xa4, 0x0000, 20)),
-        ]
-    );
-    for (address, byte) in [
-        (0x0010, 0x80),
-        (0x01fb, 0xb4),
-        (0x01fc, 0x07),
-        (0x01fd, 0x02),
-    ] {
-        assert_eq!(rt; session.peek(address), byte);
-    }
-    drop(session);
-    Ok(())
+/// Patches bytes of which so many count, and tells memory at the second and the third.
+fn patched(session: &mut Session, count: u8) -> (Result<(), EventFault>, [u8; 2]) {
+    let patch = Event::Patch {
+        address: 0x0200,
+        bytes: [0xe8, 0xca, 0xff],
+        count,
+    };
+    let answer = happened(session, patch);
+    (answer, [session.peek(0x0201), session.peek(0x0202)])
 }
 
 /// A patch: bytes that are not counted stay out, and none or more than three are refused.
 #[test]
 fn patches_count_their_bytes(rt: HostRuntime) -> Result<(), Fail> {
-    let mut session = session_on(rt.alloc(), &[], 8)?;
+    let mut session = empty_session(rt.alloc(), 8)?;
     for (count, answer) in [
         (2, Ok(())),
         (0, Err(EventFault::BadLength)),
         (4, Err(EventFault::BadLength)),
     ] {
-        let patch = Event::Patch {
-            address: 0x0200,
-            bytes: [0xe8, 0xca, 0xff],
-            count,
-        };
-        assert_eq!(rt; session.event(patch), answer);
+        assert_eq!(rt; patched(&mut session, count), (answer, [0xca, 0x00]));
     }
-    assert_eq!(rt; (session.peek(0x0201), session.peek(0x0202)), (0xca, 0x00));
     drop(session);
     Ok(())
 }
 
-/// A reset forgets an NMI: the next step is a BRK, which pushes its status with B set.
-#[test]
-fn reset_forgets_nmi(rt: HostRuntime) -> Result<(), Fail> {
-    let mut session = session_on(rt.alloc(), &[], 8)?;
-    let events = [
-        Event::Nmi,
-        Event::Reset,
-        Event::Irq(false),
-        Event::Set(Setting::P(0x00)),
-        Event::Step,
-    ];
-    assert_eq!(rt; happened(&mut session, &events), Ok(()));
-    assert_eq!(rt; session.peek(0x01fb), 0x30);
-    drop(session);
-    Ok(())
-}
-
-/// LDA #$01, STA $F003, CLI and a JMP to itself: a byte of input leads to the IRQ entry, again once that is gone back over, from a
-/// checkpoint before it; after a reset it does not, with I at 0.
-#[test]
-fn input_interrupts(rt: HostRuntime) -> Result<(), Fail> {
-    let bytes = [0xa9, 0x01, 0x8d, 0x03, 0xf0, 0x58, 0x4c, 0x06, 0x02];
-    let entered = Ok((0x01, 0x24, 0x0000, 3313));
-    let mut session = session_on(rt.alloc(), &bytes, 2048)?;
-    let did = session.run(1100).did;
-    let given = session.event(Event::Input(0x41));
-    let first = stepped(&mut session);
-    let pushed = (session.peek(0x01fb), session.peek(0x01fc));
-    let reset = session.event(Event::Reset);
-    assert_eq!(rt;
-        (did, pushed, session.back(2)),
-        (1100, (0x20, 0x06), Ok(()))
-    );
-    let again = stepped(&mut session);
-    let events = [Event::Reset, Event::Set(Setting::P(0x00))];
-    let reset_again = happened(&mut session, &events);
-    assert_eq!(rt; [given, reset, reset_again], [Ok(()), Ok(()), Ok(())]);
-    assert_eq!(rt;
-        [first, again, stepped(&mut session)],
-        [entered, entered, Ok((0x01, 0x20, 0x0202, 3322))]
-    );
-    drop(session);
-    Ok(())
-}
-
-/// Hands in bytes, and tells how many were taken before one was refused.
-fn taken(session: &mut Session, bytes: u32) -> u32 {
-    for count in 0..bytes {
-        if session.event(Event::Input(0x42)).is_err() {
-            return count;
-        }
-    }
-    bytes
-}
-
-/// 65,536 bytes of input are taken and no more, also after one was read.
-#[test]
-fn input_fills(rt: HostRuntime) -> Result<(), Fail> {
-    let mut session = session_on(rt.alloc(), &[0xad, 0x01, 0xf0], 2)?;
-    assert_eq!(rt; taken(&mut session, 65537), 65536);
-    assert_eq!(rt; stepped(&mut session), Ok((0x42, 0x24, 0x0203, 11)));
-    assert_eq!(rt; taken(&mut session, 1), 0);
-    assert_eq!(rt; session.input_room(), 0);
-    drop(session);
-    Ok(())
-}
-
-/// Puts one byte to each of the addresses.
-fn put(machine: &mut Machine, cells: &[(u16, u8)]) -> Result<(), EventFault> {
-    for (address, byte) in cells {
-        machine.patch(*address, &[*byte])?;
-    }
-    Ok(())
-}
-
-/// Makes one step of an instruction that is put to an address with a register set, and tells its cycles, A and PC.
-fn step_of(
-    machine: &mut Machine,
-    setting: Setting,
-    address: u16,
-    bytes: &[u8],
-) -> Result<(u64, u8, u16), EventFault> {
-    machine.patch(address, bytes)?;
+/// A step after a setting and a PC: the cycles that it took, A and PC.
+fn step_of(machine: &mut Machine, setting: Setting) -> Result<(u64, u8, u16), EventFault> {
+    machine.patch(0x0200, &[0xb5, 0xff])?;
+    machine.patch(0x0001, &[0x77])?;
     machine.set_register(setting)?;
-    machine.set_register(Setting::Pc(address))?;
+    machine.set_register(Setting::Pc(0x0200))?;
     let before = machine.cycles();
     machine.step()?;
     let passed = machine.cycles().saturating_sub(before);
     Ok((passed, machine.regs().a, machine.pc()))
 }
 
-/// Indexed addresses in the zero page wrap, and so does the pointer of LDA ($FF),Y.
+/// LDA $FF,X with 2 in X, which wraps in the zero page.
 #[test]
-fn zero_page_wraps(rt: HostRuntime) -> Result<(), Fail> {
+fn a_step_of_a_machine(rt: HostRuntime) -> Result<(), Fail> {
     let mut machine = empty_machine(rt.alloc())?;
-    let cells = [
-        (0x0001, 0x77),
-        (0x00ff, 0x10),
-        (0x0000, 0x03),
-        (0x0405, 0x99),
-    ];
-    assert_eq!(rt; put(&mut machine, &cells), Ok(()));
-    assert_eq!(rt;
-        step_of(&mut machine, Setting::X(2), 0x0200, &[0xb5, 0xff]),
-        Ok((4, 0x77, 0x0202))
-    );
-    assert_eq!(rt;
-        step_of(&mut machine, Setting::Y(0xf5), 0x0200, &[0xb1, 0xff]),
-        Ok((6, 0x99, 0x0202))
-    );
-    drop(machine);
-    Ok(())
-}
-
-/// A page that is left costs a load a cycle, and a store none.
-#[test]
-fn page_crossings(rt: HostRuntime) -> Result<(), Fail> {
-    let mut machine = empty_machine(rt.alloc())?;
-    for (bytes, cycles) in [
-        ([0xbd, 0xff, 0x12], 5u64),
-        ([0xbd, 0xfe, 0x12], 4),
-        ([0x9d, 0xfe, 0x12], 5),
-        ([0x9d, 0xff, 0x12], 5),
-    ] {
-        assert_eq!(rt;
-            step_of(&mut machine, Setting::X(1), 0x0200, &bytes),
-            Ok((cycles, 0, 0x0203))
-        );
-    }
-    drop(machine);
-    Ok(())
-}
-
-/// BNE at $02FD by 2: taken into the next page, and not taken.
-#[test]
-fn branch_leaves_page(rt: HostRuntime) -> Result<(), Fail> {
-    let mut machine = empty_machine(rt.alloc())?;
-    for (status, cycles, pc) in [(0x00, 4u64, 0x0301), (0x02, 2, 0x02ff)] {
-        assert_eq!(rt;
-            step_of(&mut machine, Setting::P(status), 0x02fd, &[0xd0, 0x02]),
-            Ok((cycles, 0, pc))
-        );
-    }
+    assert_eq!(rt; step_of(&mut machine, Setting::X(2)), Ok((4, 0x77, 0x0202)));
     drop(machine);
     Ok(())
 }

@@ -1,11 +1,12 @@
-//! Tapes whose texts and faults are known from outside.
+//! The calls on tapes, each once and in pieces. Tapes whose texts and faults are known from outside stand in `data`, which the program
+//! reads.
 
 use bus::Image;
 use papertape::{
     TapeFault, TapeFaultKind, TapeReadFault, TapeReader, read_pieces, read_tape, read_tape_from,
     through_tape, write_tape,
 };
-use std::alloc::Global;
+use std::alloc::{AllocError, Global};
 use std::process::Abort;
 use std::test::Fail;
 
@@ -24,40 +25,6 @@ fn program(alloc: Global) -> Result<Image, Fail> {
 
 fn fault(kind: TapeFaultKind, offset: u64) -> Option<TapeFault> {
     Some(TapeFault { offset, kind })
-}
-
-/// What reading a tape at once says.
-fn read_at_once(alloc: Global, text: &[u8]) -> Option<TapeFault> {
-    read_tape(alloc, text).err()
-}
-
-/// What a reader says that is fed one byte at a time: the fault of the first call that meets it.
-fn read_by_bytes(alloc: Global, text: &[u8]) -> Option<TapeFault> {
-    fed_by_bytes(alloc, text).err()
-}
-
-fn fed_by_bytes(alloc: Global, text: &[u8]) -> Result<Image, TapeFault> {
-    let mut reader = TapeReader::new(alloc)?;
-    for byte in text {
-        reader.feed(&[*byte])?;
-    }
-    reader.finish()
-}
-
-/// Reading this text gives this fault or none, at once and byte by byte.
-fn assert_read(
-    rt: &impl Abort,
-    alloc: Global,
-    text: &[u8],
-    wanted: Option<TapeFault>,
-    case: usize,
-) {
-    assert_eq!(rt; read_at_once(alloc, text), wanted, "case {case}");
-    assert_eq!(rt;
-        read_by_bytes(alloc, text),
-        wanted,
-        "case {case}, byte by byte"
-    );
 }
 
 /// An image is written as this text.
@@ -101,90 +68,6 @@ fn the_manual_example(rt: HostRuntime) -> Result<(), Fail> {
     let cells = [(0, Some(0xFF)), (23, Some(0x99)), (24, None)];
     assert_has(&rt, &image, &cells);
     assert_written(&rt, rt.alloc(), &image, MANUAL_TAPE)
-}
-
-#[test]
-fn a_later_record_wins(rt: HostRuntime) -> Result<(), Fail> {
-    let image = read_tape(rt.alloc(), b";010010ff0110\n;010010FE010F\n;0000020002")?;
-    assert_has(&rt, &image, &[(0x10, Some(0xFE)), (0x11, None)]);
-    Ok(())
-}
-
-/// Texts, each with its fault and where it stands.
-const FAULTY: &[(&[u8], TapeFaultKind, u64)] = &[
-    (
-        b";180000FFEEDDCCBBAA0099887766554433221122334455667788990AFD\r\n;0000010001\r\n",
-        TapeFaultKind::BadChecksum,
-        0,
-    ),
-    (
-        b";010010ff0110\n;010010FE010F\n;0000010001",
-        TapeFaultKind::BadCount,
-        28,
-    ),
-    (b";02FFFF01020203", TapeFaultKind::PastEnd, 0),
-    (
-        b";050200A9418D00F000026F\r\n;0000010001\r\n",
-        TapeFaultKind::BadChecksum,
-        0,
-    ),
-    (
-        b";000200A9418D00F000026F\r\n;0000010001\r\n",
-        TapeFaultKind::BadChecksum,
-        0,
-    ),
-    (
-        b";160200A9418D00F000026F\r\n;0000010001\r\n",
-        TapeFaultKind::BadHex,
-        23,
-    ),
-    (b"\r\n\0\x13", TapeFaultKind::NoRecord, 4),
-    (b";", TapeFaultKind::Truncated, 1),
-    (b";01G", TapeFaultKind::BadHex, 3),
-    (b"\n:", TapeFaultKind::JunkBetween, 1),
-    (b";0000000000;", TapeFaultKind::JunkAfterEnd, 11),
-    (b";010010FF0110\r\n\n", TapeFaultKind::Truncated, 16),
-    (
-        b";0000000000\r\n ;0000000000",
-        TapeFaultKind::JunkAfterEnd,
-        13,
-    ),
-];
-
-#[test]
-fn first_faults(rt: HostRuntime) {
-    for (row, (text, kind, offset)) in FAULTY.iter().enumerate() {
-        assert_read(&rt, rt.alloc(), text, fault(*kind, *offset), row);
-    }
-}
-
-#[test]
-fn a_tape_cut_short(rt: HostRuntime) {
-    for length in 0..=38usize {
-        let wanted = if length == 0 {
-            fault(TapeFaultKind::NoRecord, 0)
-        } else if length <= 35 {
-            fault(TapeFaultKind::Truncated, length as u64)
-        } else {
-            None
-        };
-        assert_read(&rt, rt.alloc(), &PROGRAM_TAPE[..length], wanted, length);
-    }
-}
-
-#[test]
-fn one_digit_changed(rt: HostRuntime) {
-    for place in 3..36usize {
-        // The line's end, and the end record's `;` and length.
-        if place >= 23 && place < 28 {
-            continue;
-        }
-        let mut text = *PROGRAM_TAPE;
-        text[place] = if text[place] == b'7' { b'8' } else { b'7' };
-        let start = if place < 25 { 0 } else { 25 };
-        let wanted = fault(TapeFaultKind::BadChecksum, start);
-        assert_read(&rt, rt.alloc(), &text, wanted, place);
-    }
 }
 
 /// The first fault is answered by the call that meets it and by each later one, also where nothing is fed.
@@ -249,16 +132,21 @@ fn pieces_of_a_tape(rt: HostRuntime) -> Result<(), Fail> {
     Ok(())
 }
 
-#[test]
-fn too_many_records_to_count(rt: HostRuntime) -> Result<(), Fail> {
-    let mut text = Vec::new(rt.alloc());
+/// More records than a record count can tell, and an end record that counts none.
+fn too_many_records(alloc: Global) -> Result<Vec<u8>, AllocError> {
+    let mut text = Vec::new(alloc);
     for _ in 0..65536u32 {
         text.extend_from_slice(b";010010010012")?;
     }
-    let end = text.len() as u64;
     text.extend_from_slice(b";0000000000")?;
-    let wanted = fault(TapeFaultKind::BadCount, end);
-    assert_eq!(rt; read_at_once(rt.alloc(), &text), wanted);
+    Ok(text)
+}
+
+#[test]
+fn too_many_records_to_count(rt: HostRuntime) -> Result<(), Fail> {
+    let text = too_many_records(rt.alloc())?;
+    let wanted = fault(TapeFaultKind::BadCount, 65536 * 13);
+    assert_eq!(rt; read_tape(rt.alloc(), &text).err(), wanted);
     Ok(())
 }
 

@@ -1,80 +1,10 @@
-//! Going back to the borders of histories of many sizes, tables that are full, and what a machine and a bus save. A session here has
-//! nothing in memory, so that each step is a BRK: after so many, S is that many times 3 below FD, and each took 7 cycles.
+//! Tables that are full, and what a machine and a bus save.
 
-use crate::common::{empty_machine, empty_session, port_alone, went_back};
+use crate::common::{empty_machine, empty_session, port_alone};
 use bus::{Bus, BusFault, Saved};
 use cpu::{Checkpoint, Machine, Setting};
 use debugger::{Session, SessionFault};
-use std::alloc::Global;
 use std::test::Fail;
-
-/// A history, a count of steps run, a count of events gone back over, and what is told then: S, the cycles and the events replayed.
-type Border = (u32, u32, u32, Result<(u8, u64, u32), SessionFault>);
-
-const BORDERS: [Border; 17] = [
-    (0, 3000, 1, Err(SessionFault::NoHistory { held: 0 })),
-    (0, 5000, 0, Ok((0x65, 35007, 0))),
-    (1, 2049, 1, Ok((0xfd, 14343, 0))),
-    (1, 2049, 2, Err(SessionFault::NoHistory { held: 1 })),
-    (1023, 4000, 1023, Ok((0x1a, 20846, 929))),
-    (
-        1023,
-        4000,
-        1024,
-        Err(SessionFault::NoHistory { held: 1023 }),
-    ),
-    (1024, 1024, 1024, Ok((0xfd, 7, 0))),
-    (1024, 3071, 1024, Ok((0x00, 14336, 1023))),
-    (1024, 3072, 1024, Ok((0xfd, 14343, 0))),
-    (1024, 3072, 1, Ok((0x00, 21504, 1023))),
-    (1025, 3072, 1025, Ok((0x00, 14336, 1023))),
-    (1025, 3072, 1024, Ok((0xfd, 14343, 0))),
-    (
-        1025,
-        3072,
-        1026,
-        Err(SessionFault::NoHistory { held: 1025 }),
-    ),
-    (4096, 10000, 4096, Ok((0xcd, 41335, 784))),
-    (
-        4096,
-        10000,
-        4097,
-        Err(SessionFault::NoHistory { held: 4096 }),
-    ),
-    (65536, 70000, 65536, Ok((0xad, 31255, 368))),
-    (
-        65536,
-        70000,
-        65537,
-        Err(SessionFault::NoHistory { held: 65536 }),
-    ),
-];
-
-/// What is told at one border.
-fn at_border(
-    alloc: Global,
-    history: u32,
-    steps: u32,
-    back: u32,
-) -> Result<Result<(u8, u64, u32), SessionFault>, Fail> {
-    if history > 65536 {
-        return Ok(Err(SessionFault::NoHistory { held: 0 }));
-    }
-    let mut session = empty_session(alloc, history)?;
-    session.run(steps);
-    let told = went_back(&mut session, back);
-    drop(session);
-    Ok(told)
-}
-
-#[test]
-fn goes_back_to_each_border(rt: HostRuntime) -> Result<(), Fail> {
-    for (history, steps, back, want) in BORDERS {
-        assert_eq!(rt; at_border(rt.alloc(), history, steps, back)?, want);
-    }
-    Ok(())
-}
 
 /// Sets breakpoints and watches from an address on, so many of each.
 fn fill(session: &mut Session, from: u16, count: u16) -> Result<(), SessionFault> {
