@@ -334,10 +334,11 @@ class Build:
 
     def jobs_for(self, crate, count, idle):
         """The jobs that are idle, shared with the others that are ready; or as many as the crate's
-        chain needs to end with the rest of the work, if at most one of them is not idle."""
+        chain needs to end with the rest of the work, if nearly so many are idle: no crate keeps all
+        of its jobs at work all of the time."""
         work = sum(self.seconds[it] for it in [*self.left, *(run.crate for run in self.running)])
-        needed = round(self.chain[crate] * self.at_once / max(work, 1))
-        return max(1, idle // count, min(needed, idle + (self.at_once > 2)))
+        needed = int(self.chain[crate] * self.at_once / max(work, 1))
+        return max(1, idle // count, min(needed, idle + self.at_once // 4))
 
     def begin_ready(self):
         ready = self.ready()
