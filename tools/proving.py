@@ -385,9 +385,9 @@ def read_all(crate):
 
 
 def take_back(room, crates):
-    """Puts back what a run left in its workspaces that was killed."""
+    """Puts back what a run left in its workspaces that was killed, unless there is something newer."""
     for name in os.listdir(f"{room}/work") if os.path.isdir(f"{room}/work") else []:
-        if name in crates:
+        if name in crates and not os.path.exists(f"{crates[name].folder}/out"):
             Workspace(room, crates[name]).give_back()
     shutil.rmtree(f"{room}/work", ignore_errors=True)
 
