@@ -44,7 +44,10 @@ class Stop:
     @classmethod
     def watch(cls):
         for it in (signal.SIGINT, signal.SIGTERM, signal.SIGHUP):
-            signal.signal(it, lambda number, _: setattr(cls, "signal", number))
+            # nohup has SIGHUP ignored, and means it.
+            if it != signal.SIGHUP or signal.getsignal(it) is not signal.SIG_IGN:
+                signal.signal(it, lambda number, _: setattr(cls, "signal", number))
+        signal.signal(signal.SIGCHLD, signal.SIG_DFL)
 
     @classmethod
     def pause(cls, seconds):
