@@ -44,7 +44,10 @@ class Stop:
     @classmethod
     def watch(cls):
         for it in (signal.SIGINT, signal.SIGTERM, signal.SIGHUP):
-            signal.signal(it, lambda number, _: setattr(cls, "signal", number))
+            # nohup has SIGHUP ignored, and means it.
+            if it != signal.SIGHUP or signal.getsignal(it) is not signal.SIG_IGN:
+                signal.signal(it, lambda number, _: setattr(cls, "signal", number))
+        signal.signal(signal.SIGCHLD, signal.SIG_DFL)
 
     @classmethod
     def pause(cls, seconds):
@@ -334,10 +337,11 @@ class Build:
 
     def jobs_for(self, crate, count, idle):
         """The jobs that are idle, shared with the others that are ready; or as many as the crate's
-        chain needs to end with the rest of the work, if at most one of them is not idle."""
+        chain needs to end with the rest of the work, if nearly so many are idle: no crate keeps all
+        of its jobs at work all of the time."""
         work = sum(self.seconds[it] for it in [*self.left, *(run.crate for run in self.running)])
-        needed = round(self.chain[crate] * self.at_once / max(work, 1))
-        return max(1, idle // count, min(needed, idle + (self.at_once > 2)))
+        needed = int(self.chain[crate] * self.at_once / max(work, 1))
+        return max(1, idle // count, min(needed, idle + self.at_once // 4))
 
     def begin_ready(self):
         ready = self.ready()
@@ -384,9 +388,9 @@ def read_all(crate):
 
 
 def take_back(room, crates):
-    """Puts back what a run left in its workspaces that was killed."""
+    """Puts back what a run left in its workspaces that was killed, unless there is something newer."""
     for name in os.listdir(f"{room}/work") if os.path.isdir(f"{room}/work") else []:
-        if name in crates:
+        if name in crates and not os.path.exists(f"{crates[name].folder}/out"):
             Workspace(room, crates[name]).give_back()
     shutil.rmtree(f"{room}/work", ignore_errors=True)
 
