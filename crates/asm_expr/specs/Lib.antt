@@ -1,3 +1,2 @@
-pub mod Lexing
 pub use Rattle.line_parts.specs.Lexemes
 pub use Rattle.line_parts.specs.Trees

@@ -10,9 +10,9 @@ ghost use Rattle.line_parts.specs.Seen.{Reads, seen_after, seen_item};
 ghost use Rattle.model.specs.declared.expression.LineFault.TheVariants.{Syntax};
 
 use crate::token_tests::is_symbol;
-use asm_expr::parse_expr;
 use line_parts::{Expr, Item, Token};
 use model::{LineFault, TokenKind};
+use parser::parse_expr;
 use std::alloc::Global;
 
 /// The longest expression with which some tokens begin, and the tokens after it.

@@ -2,7 +2,7 @@
 
 ghost use Rattle.model.specs.Grammar.{EachLineIsRead, EachReadLineIsALine};
 
-use asm_expr::{expressions_are_longest, one_expression};
+use parser::{expressions_are_longest, one_expression};
 
 /// Each line of the grammar is read, to what the grammar says of it; so it says one thing only. A law for proofs: it does nothing.
 pub fn each_line_is_read()

@@ -11,10 +11,11 @@ use crate::expressions::{expressions, items, whole_expression};
 use crate::operand::operand;
 use crate::reserved::line_reserves;
 use crate::token_tests::{is_in_capitals, is_symbol};
-use asm_expr::{all_may_stand, expressions_are_longest, tokens_are_slices, tokens_into};
+use lexer::{all_may_stand, tokens_are_slices, tokens_into};
 use line_parts::{Line, LineError, Statement, Token};
 use model::{AsmFaultKind, LineFault, Profile, TokenKind};
 use optable::mnemonic_in;
+use parser::expressions_are_longest;
 use std::alloc::Global;
 
 /// The most bytes that a line has without its end (profile).

@@ -6,9 +6,9 @@ ghost use Rattle.model.specs.Reading.{is_symbol};
 ghost use Rattle.model.specs.Line.{is_word};
 ghost use Rattle.line_parts.specs.Lexemes.{lexeme_of};
 
-use asm_expr::symbol;
 use line_parts::Token;
 use model::TokenKind;
+use parser::symbol;
 
 /// Whether a text is some capitals, in either letter case.
 pub fn is_in_capitals(text: &[u8], capitals: &[u8]) -> bool

@@ -15,8 +15,8 @@ ghost use Rattle.model.specs.declared.source_fault.AsmFaultKind.TheVariants.{Pas
 ghost use Rattle.model.specs.Image.{has_byte, with_bytes};
 ghost use Rattle.model.specs.Value.{eval_of};
 
-use asm_expr::eval;
 use bus::{Image, MapSpec};
+use evaluator::eval;
 use line_parts::{Code, Expr, Item, Kept, LineError, Statement, term_of};
 use model::{AsmFaultKind, ExprFault, Mode};
 use std::alloc::{AllocError, Global};

@@ -11,7 +11,7 @@ ghost use Rattle.model.specs.Value.{eval_of};
 ghost use Rattle.model.specs.Line.{instruction};
 
 use crate::forms::{Form, form_of};
-use asm_expr::{Names, eval};
+use evaluator::{Names, eval};
 use line_parts::{Code, Expr, Item, Operand, Statement, term_of};
 use model::{AsmFaultKind, ExprFault, Mnemonic, Mode, Profile};
 

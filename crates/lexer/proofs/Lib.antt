@@ -1,0 +1,4 @@
+pub mod Runs
+pub mod Fronts
+pub mod Steps
+pub mod Slices
