@@ -7,7 +7,7 @@ use Rattle.model.specs.Session.{Session, appended, keep_last}
 use Rattle.model.specs.Run.{after_run, run_end}
 use Rattle.model.specs.Back.{back_of}
 use Rattle.model.specs.Tables.{break_set, break_cleared, watch_set, watch_cleared}
-use Rattle.model.specs.Transcript.{after_event}
+use Rattle.model.specs.Transcript.{after_event, served}
 use Rattle.model.specs.declared.event.Event.{Event}
 use Rattle.model.specs.declared.event.EventFault.{EventFault}
 use Rattle.model.specs.declared.session_fault.SessionFault.{SessionFault}
@@ -111,3 +111,7 @@ GoesBack k s past =
 -- Going back is exact, whatever calls came before: events that were accepted or refused, runs, breakpoints, watches, views, and going back itself.
 abbrev pub BackIsExactAmongCalls : Type 0
 BackIsExactAmongCalls = (s : Session) (calls : List Call) (k : ℕ) → length s.earlier ≤ s.history → GoesBack k (after_calls s calls) (past_after_calls s calls (past_of s))
+
+-- Command lines are such calls: what some lines do to a session, some calls do to it. So what the law says holds after any lines.
+abbrev pub LinesAreCalls : Type 0
+LinesAreCalls = (s : Session) (lines : List (List ℕ)) → (calls : List Call) × ((served s lines).session ≡ after_calls s calls)

@@ -1,11 +1,11 @@
 -- What a part's answer makes of the program's.
-use Rattle.std.proofs.Common.{◌≡◌, ◌∙◌, ℕ, List, Option, None, Some, IfSome, Result, Ok, Err, IfErr, MatchResult, ◌⊎◌, inl, inr, refl, sym, ap, subst}
+use Rattle.std.proofs.Common.{◌≡◌, ◌∙◌, ℕ, Bool, true, List, Option, None, Some, IfSome, Result, Ok, Err, IfErr, MatchResult, ◌⊎◌, inl, inr, refl, sym, ap, subst}
 use Rattle.std.specs.Io.KnownBytes.{Appends}
 use Rattle.std.specs.Prelude.{OnErr}
 use Rattle.std.specs.Result.{IsErrAnd}
 use Rattle.assembler.specs.Assembly.{out_of_memory}
 use Rattle.engine.specs.Outcome.{Reaches, Serves}
-use Rattle.engine.specs.Refusals.{of_source, of_source_kind, of_tape, of_tape_kind, of_tape_read}
+use Rattle.engine.specs.Refusals.{of_source, of_source_kind, of_tape, of_tape_kind, of_tape_read, IfSession, IfSource, IfTape}
 use Rattle.engine.specs.TapeReads.{ReachesFrom}
 use Rattle.engine.specs.declared.fault.EngineFault.{EngineFault}
 use Rattle.engine.specs.declared.fault.EngineFault.TheVariants as engine_fault
@@ -13,21 +13,22 @@ use Rattle.model.specs.Disassembly.{rows_in}
 use Rattle.model.specs.Event.{start}
 use Rattle.model.specs.Session.{fresh}
 use Rattle.model.specs.Source.{HasFault}
-use Rattle.model.specs.State.{Map, memory_of}
+use Rattle.model.specs.State.{Map, has_port_byte, memory_of}
 use Rattle.model.specs.TapePieces.{IsReadInPieces, IsRefusedInPieces}
 use Rattle.model.specs.TapeFault.{out_of_memory as tape_out_of_memory}
 use Rattle.model.specs.Written.{AppendsFront, Writes}
 use Rattle.model.specs.declared.instruction.Profile.{Profile}
+use Rattle.model.specs.declared.session_fault.SessionFault.TheVariants.{PortAddress}
 use Rattle.model.specs.declared.tape.TapeFault.{TapeFault}
 use Rattle.model.specs.declared.tape.TapeFaultKind.{TapeFaultKind}
 use Rattle.model.specs.declared.tape.TapeFaultKind.TheVariants as tape_fault
 use Rattle.model.specs.declared.source_fault.AsmFault.{AsmFault}
 use Rattle.model.specs.declared.source_fault.AsmFaultKind.{AsmFaultKind}
 use Rattle.model.specs.declared.source_fault.AsmFaultKind.TheVariants as source_fault
-use Rattle.papertape.specs.Streaming.{EndsReading}
+use Rattle.papertape.specs.Streaming.{EndsReading, IsImageOf, IsRefusalOf}
 use Rattle.papertape.specs.declared.stream.TapeReadFault.{TapeReadFault}
 use Rattle.papertape.specs.declared.stream.TapeReadFault.TheVariants as tape_read_fault
-use Rattle.program.specs.Refusals.{EndsAsm, EndsDis, of_engine}
+use Rattle.program.specs.Refusals.{EndsAsm, EndsDebug, EndsDis, of_engine}
 use Rattle.program.specs.Streams.{IsListed, IsServed}
 use Rattle.program.specs.declared.refusal.Refusal.{Refusal}
 use Rattle.program.specs.declared.refusal.Refusal.TheVariants.{Write}
@@ -237,3 +238,19 @@ served_from m h i l e n A D (Err engine_fault.OutOfMemory) o (inr alone) same = 
 served_from m h i l e n A D (Err (engine_fault.Source f)) o alone same = subst (λ r. IsServed m h i l e n r A) (sym same) alone
 served_from m h i l e n A D (Err (engine_fault.Tape f)) o alone same = subst (λ r. IsServed m h i l e n r A) (sym same) alone
 served_from m h i l e n A D (Err (engine_fault.Session f)) o alone same = subst (λ r. IsServed m h i l e n r A) (sym same) alone
+
+-- Why a tape that is read in pieces is not debugged.
+pub refused_from : (map : Map) (is_tape : Bool) (known : Option (List ℕ)) (answer : Result (Unit {0}) EngineFault) (result : Result (Unit {0}) Refusal) → is_tape ≡ true
+    → IfTape answer (IsRefusalOf known)
+    → IfSession answer (λ fault. (fault ≡ PortAddress) × ((image : List (Option ℕ)) × IsImageOf known image × (has_port_byte map image ≡ true)))
+    → IfSource answer (λ _. ⊥)
+    → MatchResult answer (λ _. result ≡ Ok tt) (λ fault. result ≡ Err (of_engine fault)) → IfErr result (EndsDebug is_tape map)
+refused_from map is_tape known (Ok x) result is tape session source said = subst (λ (r : Result (Unit {0}) Refusal). IfErr r (EndsDebug is_tape map)) (sym said) tt
+refused_from map is_tape known (Err (engine_fault.Source f)) result is tape session source said = absurd source
+refused_from map is_tape known (Err (engine_fault.Tape f)) result is tape session source said =
+    subst (λ (r : Result (Unit {0}) Refusal). IfErr r (EndsDebug is_tape map)) (sym said) (is, (tape.0, tape.2))
+refused_from map is_tape known (Err (engine_fault.Session f)) result is tape session source said =
+    subst (λ (r : Result (Unit {0}) Refusal). IfErr r (EndsDebug is_tape map)) (sym said) (is, session.0, (session.1.1.0, session.1.0, session.1.1.2, session.1.2))
+refused_from map is_tape known (Err engine_fault.Read) result is tape session source said = subst (λ (r : Result (Unit {0}) Refusal). IfErr r (EndsDebug is_tape map)) (sym said) tt
+refused_from map is_tape known (Err engine_fault.Write) result is tape session source said = subst (λ (r : Result (Unit {0}) Refusal). IfErr r (EndsDebug is_tape map)) (sym said) tt
+refused_from map is_tape known (Err engine_fault.OutOfMemory) result is tape session source said = subst (λ (r : Result (Unit {0}) Refusal). IfErr r (EndsDebug is_tape map)) (sym said) tt

@@ -34,7 +34,8 @@ fn refused<E: Write>(refusal: Refusal, errors: &mut E) -> u8
 
 /// The exit status of what was tried, 0 where it is done; a refusal is said by a fault line.
 fn ended<E: Write>(outcome: Result<(), Refusal>, errors: &mut E) -> u8
-    ensures { MatchResult outcome (λ _. result ≡ 0) (λ refusal. result ≡ status_of refusal) }
+    ensures status { MatchResult outcome (λ _. result ≡ 0) (λ refusal. result ≡ status_of refusal) }
+    ensures quiet { result ≡ 0 → errors.new ≡ errors.old }
 {
     match outcome {
         Ok(()) => 0,
@@ -46,6 +47,7 @@ fn ended<E: Write>(outcome: Result<(), Refusal>, errors: &mut E) -> u8
 fn refused_words<O: Write, E: Write>(fault: WordsFault, output: &mut O, errors: &mut E) -> u8
     ensures status { IsStatusOf fault result }
     ensures untouched { 1 ≤ result → result ≤ 3 → output.new ≡ output.old }
+    ensures quiet { result ≡ 0 → errors.new ≡ errors.old }
 {
     match fault {
         WordsFault::Help(text) => match write!(output, "{text}") {
@@ -87,6 +89,8 @@ pub fn program<H: Files + AllocGlobal, R: Read, O: Write, E: Write>(
     errors: &mut E,
 ) -> u8
     ensures status { result ≤ 4 }
+    // Where it is done nothing is said on the error stream.
+    ensures quiet { result ≡ 0 → errors.new ≡ errors.old }
     // A source, a tape, words or a map that are refused leave the input and the output as they were.
     ensures untouched { 1 ≤ result → result ≤ 2 → (input.new ≡ input.old) × (output.new ≡ output.old) }
     // So do words that fit nothing, or one of whose values is wrong, where memory runs out too.

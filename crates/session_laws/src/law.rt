@@ -1,7 +1,7 @@
 //! The laws. Each is the contract of a function that does nothing.
 
 ghost use Rattle.model.specs.Back.{BackIsExact};
-ghost use Rattle.model.specs.Calls.{BackIsExactAmongCalls};
+ghost use Rattle.model.specs.Calls.{BackIsExactAmongCalls, LinesAreCalls};
 ghost use Rattle.model.specs.Looking.{EachRunHasALine, LooksAreHarmless, WhatIsKeptHasLines};
 ghost use Rattle.model.specs.Polled.{PolledSessionsStay, PolledTranscriptsStay};
 ghost use Rattle.model.specs.Run.{CutRunGoesOn, RunCanBeRepeated};
@@ -18,6 +18,11 @@ pub fn going_back_is_exact()
 /// and leaves breakpoints and watches as they are; otherwise it is refused with the number of events held.
 pub fn going_back_is_exact_among_calls()
     ensures { BackIsExactAmongCalls }
+{}
+
+/// What command lines do to a session, some calls do to it: so going back is exact after any lines.
+pub fn lines_are_calls()
+    ensures { LinesAreCalls }
 {}
 
 /// A run that is cut short and goes on ends as one run does that nothing cuts.

@@ -1,9 +1,16 @@
-use Rattle.std.proofs.Common.{◌≡◌, subst}
+use Rattle.std.proofs.Common.{◌≡◌, IfErr, subst}
 use Rattle.model.specs.Source as sources
 use Rattle.papertape.specs.Streaming.{IsImageOf}
+use Rattle.program.specs.Refusals.{EndsDebug}
 use Rattle.program.specs.Streams.{IsServed}
-use Rattle.program.proofs.Ends.{served_from, served_of}
+use Rattle.program.proofs.Ends.{refused_from, served_from, served_of}
 use Rattle.program.proofs.debugging.debug.Goals as goal
+
+pub returns-in_ok-tape-clause-refused : goal.returns-in_ok-tape-clause-refused
+returns-in_ok-tape-clause-refused g c =
+    subst (λ map. IfErr c.answered.result (EndsDebug c.args.words.now.is_tape map)) c.in_ok-map.ensures.map
+    (refused_from c.in_ok-map.map c.args.words.now.is_tape (g.H.File.Read.remaining c.in_ok-tape.tape) c.debug_tape_from.result c.answered.result c.if-words.true
+    c.debug_tape_from.ensures.refused c.debug_tape_from.ensures.session c.debug_tape_from.ensures.source c.answered.ensures)
 
 pub returns-in_ok-tape-clause-served : goal.returns-in_ok-tape-clause-served
 returns-in_ok-tape-clause-served g c =
