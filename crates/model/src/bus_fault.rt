@@ -3,26 +3,29 @@
 ghost use Rattle.std.specs.Prelude.{◌≡◌};
 ghost use Rattle.model.specs.FaultNames.{bus_fault_name, bus_fault_number};
 
+use std::fmt;
 use thiserror::Error;
 
 /// A fault of the bus (profile).
 #[derive(Clone, Copy, Debug, PartialEq, Eq, Error)]
 pub enum BusFault {
     /// The port or the ROM stands where it may not.
-    #[error("BadMap 1")]
     BadMap,
     /// A request for memory was refused.
-    #[error("OutOfMemory 2")]
     OutOfMemory,
     /// The output holds 65,536 bytes.
-    #[error("ConsoleFull 3")]
     ConsoleFull,
     /// 65,536 bytes of input were handed in, those taken among them.
-    #[error("InputFull 4")]
     InputFull,
     /// A load or a patch would put a byte at a port address.
-    #[error("PortAddress 5")]
     PortAddress,
+}
+
+impl fmt::Display for BusFault {
+    /// Its name and its number.
+    fn fmt<W: fmt::Write>(&self, f: &mut fmt::Formatter<W>) -> fmt::Result {
+        write!(f, "{} {}", self.name(), self.number())
+    }
 }
 
 impl BusFault {

@@ -3,32 +3,33 @@
 ghost use Rattle.std.specs.Prelude.{◌≡◌};
 ghost use Rattle.model.specs.FaultNames.{event_fault_name, event_fault_number};
 
+use std::fmt;
 use thiserror::Error;
 
 /// Why an event is refused. A refused event changes nothing (profile).
 #[derive(Clone, Copy, Debug, PartialEq, Eq, Error)]
 pub enum EventFault {
     /// The cycle count is above 18,446,744,073,709,551,599, which is 2^64 - 17.
-    #[error("CyclesFull 1")]
     CyclesFull,
     /// The byte at PC is no documented opcode.
-    #[error("Undocumented 2")]
     Undocumented { opcode: u8, pc: u16 },
     /// The instruction would append to an output of 65,536 bytes.
-    #[error("ConsoleFull 3")]
     ConsoleFull,
     /// A patch would reach past address 65535.
-    #[error("PastEnd 4")]
     PastEnd,
     /// A patch would change a byte at a port address.
-    #[error("PortAddress 5")]
     PortAddress,
     /// A patch has no byte, or more than three.
-    #[error("BadLength 6")]
     BadLength,
     /// 65,536 bytes of input were handed in, those taken among them.
-    #[error("InputFull 7")]
     InputFull,
+}
+
+impl fmt::Display for EventFault {
+    /// Its name and its number.
+    fn fmt<W: fmt::Write>(&self, f: &mut fmt::Formatter<W>) -> fmt::Result {
+        write!(f, "{} {}", self.name(), self.number())
+    }
 }
 
 impl EventFault {

@@ -4,6 +4,7 @@ ghost use Rattle.std.specs.Prelude.{◌≡◌};
 ghost use Rattle.model.specs.FaultNames.{expression_fault_name, expression_fault_number, line_fault_name, line_fault_number};
 
 use std::alloc::{AllocError, AllocFailed};
+use std::fmt;
 use thiserror::Error;
 
 /// What a token is (profile).
@@ -46,11 +47,16 @@ pub enum Operator {
 #[derive(Clone, Copy, Debug, PartialEq, Eq, Error)]
 pub enum LineFault {
     /// The bytes are no list of tokens, or no beginning of the tokens is an expression.
-    #[error("Syntax 1")]
     Syntax,
     /// A request for memory was refused.
-    #[error("OutOfMemory 2")]
     OutOfMemory,
+}
+
+impl fmt::Display for LineFault {
+    /// Its name and its number.
+    fn fmt<W: fmt::Write>(&self, f: &mut fmt::Formatter<W>) -> fmt::Result {
+        write!(f, "{} {}", self.name(), self.number())
+    }
 }
 
 impl LineFault {
@@ -101,14 +107,18 @@ impl<T: Drop> From<AllocFailed<T>> for LineFault {
 #[derive(Clone, Copy, Debug, PartialEq, Eq, Error)]
 pub enum ExprFault {
     /// A name in it has no number. This comes before the others.
-    #[error("UnknownName 1")]
     UnknownName,
     /// A literal or a result is outside -2^31..2^31-1, or an operand of `& | ^` outside 0..65535.
-    #[error("Range 2")]
     Range,
     /// A division by zero.
-    #[error("DivideByZero 3")]
     DivideByZero,
+}
+
+impl fmt::Display for ExprFault {
+    /// Its name and its number.
+    fn fmt<W: fmt::Write>(&self, f: &mut fmt::Formatter<W>) -> fmt::Result {
+        write!(f, "{} {}", self.name(), self.number())
+    }
 }
 
 impl ExprFault {

@@ -1,7 +1,7 @@
 //! What a mnemonic does, by the way in which it uses its operand.
 
 /// What a mnemonic does, by the way in which it uses its operand.
-#[derive(Clone, Copy, Debug, PartialEq, Eq)]
+#[derive(Clone, Copy)]
 pub enum Operation {
     Read(ReadOp),
     Store(StoreOp),
@@ -37,7 +37,7 @@ pub enum Operation {
 }
 
 /// Reads a byte and changes registers.
-#[derive(Clone, Copy, Debug, PartialEq, Eq)]
+#[derive(Clone, Copy)]
 pub enum ReadOp {
     Ora,
     And,
@@ -54,7 +54,7 @@ pub enum ReadOp {
 }
 
 /// Stores a register, or 0.
-#[derive(Clone, Copy, Debug, PartialEq, Eq)]
+#[derive(Clone, Copy)]
 pub enum StoreOp {
     Sta,
     Stx,
@@ -63,7 +63,7 @@ pub enum StoreOp {
 }
 
 /// Reads a byte, and writes another to the same place.
-#[derive(Clone, Copy, Debug, PartialEq, Eq)]
+#[derive(Clone, Copy)]
 pub enum ModifyOp {
     Asl,
     Rol,
@@ -74,7 +74,7 @@ pub enum ModifyOp {
 }
 
 /// Changes registers alone, or nothing.
-#[derive(Clone, Copy, Debug, PartialEq, Eq)]
+#[derive(Clone, Copy)]
 pub enum RegisterOp {
     Clc,
     Sec,
@@ -97,7 +97,7 @@ pub enum RegisterOp {
 }
 
 /// Branches where a flag is clear, or where it is set, or always.
-#[derive(Clone, Copy, Debug, PartialEq, Eq)]
+#[derive(Clone, Copy)]
 pub enum BranchOp {
     Bpl,
     Bmi,

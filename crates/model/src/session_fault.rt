@@ -3,29 +3,31 @@
 ghost use Rattle.std.specs.Prelude.{◌≡◌};
 ghost use Rattle.model.specs.FaultNames.{session_fault_name, session_fault_number};
 
+use std::fmt;
 use thiserror::Error;
 
 /// A fault of the session (profile).
 #[derive(Clone, Copy, Debug, PartialEq, Eq, Error)]
 pub enum SessionFault {
     /// Fewer states are held than are to be gone back over; `held` is their number.
-    #[error("NoHistory 1")]
     NoHistory { held: u32 },
     /// 256 breakpoints or watches are set.
-    #[error("TableFull 2")]
     TableFull,
     /// The breakpoint or watch is set already.
-    #[error("AlreadySet 3")]
     AlreadySet,
     /// The breakpoint or watch is not set.
-    #[error("NotSet 4")]
     NotSet,
     /// The image has a byte at a port address, or a watch would stand there.
-    #[error("PortAddress 5")]
     PortAddress,
     /// A request for memory was refused.
-    #[error("OutOfMemory 6")]
     OutOfMemory,
+}
+
+impl fmt::Display for SessionFault {
+    /// Its name and its number.
+    fn fmt<W: fmt::Write>(&self, f: &mut fmt::Formatter<W>) -> fmt::Result {
+        write!(f, "{} {}", self.name(), self.number())
+    }
 }
 
 impl SessionFault {

@@ -3,6 +3,7 @@
 ghost use Rattle.std.specs.Prelude.{◌≡◌};
 ghost use Rattle.model.specs.FaultNames.{source_fault_name, source_fault_number};
 
+use std::fmt;
 use thiserror::Error;
 
 /// What is wrong with a line of a source (profile). Kinds up to 13 are of its layout: its text, its names, its place and
@@ -10,74 +11,58 @@ use thiserror::Error;
 #[derive(Clone, Copy, Debug, PartialEq, Eq, Error)]
 pub enum AsmFaultKind {
     /// The source has more than 1,048,576 bytes; the line is 0.
-    #[error("TooLarge 1")]
     TooLarge,
     /// The line has more than 255 bytes without its end.
-    #[error("LineTooLong 2")]
     LineTooLong,
     /// The line has a byte that is neither $20..$7E nor a tab.
-    #[error("NotAscii 3")]
     NotAscii,
     /// The line is none of the grammar.
-    #[error("Syntax 4")]
     Syntax,
     /// A mnemonic, A, X or Y, in any letter case, where a name stands.
-    #[error("ReservedName 5")]
     ReservedName,
     /// The name has an earlier definition.
-    #[error("DuplicateName 6")]
     DuplicateName,
     /// A name that no line up to here defines, where it has to be known.
-    #[error("UnknownHere 7")]
     UnknownHere,
     /// The instruction has no form for the operand.
-    #[error("NoSuchForm 8")]
     NoSuchForm,
     /// The 8,193rd definition.
-    #[error("TooManyNames 9")]
     TooManyNames,
     /// An address to go on from is outside 0..65535, or a reserved stretch below 0 or past address 65535.
-    #[error("OriginRange 10")]
     OriginRange,
     /// A literal or a result that places, defines or sizes is out of range.
-    #[error("ExprRange 11")]
     ExprRange,
     /// A division by zero in an expression that places, defines or sizes.
-    #[error("DivideByZero 12")]
     DivideByZero,
     /// The text is more or less than one instruction or data line; of one-line assembly alone.
-    #[error("NotOneLine 13")]
     NotOneLine,
     /// No line defines the name.
-    #[error("UndefinedName 20")]
     UndefinedName,
     /// A value for one byte is out of its range.
-    #[error("ByteRange 21")]
     ByteRange,
     /// A value for two bytes is out of its range.
-    #[error("WordRange 22")]
     WordRange,
     /// A branch's target is farther than -128..127 from the next instruction.
-    #[error("BranchRange 23")]
     BranchRange,
     /// The line has a byte past address 65535.
-    #[error("PastEnd 24")]
     PastEnd,
     /// The line has a byte where an earlier line has one.
-    #[error("Overlap 25")]
     Overlap,
     /// The line has a byte at a port address.
-    #[error("PortAddress 26")]
     PortAddress,
     /// A literal or a result is out of range in an expression that neither places, defines nor sizes.
-    #[error("ExprRange 27")]
     ValueExprRange,
     /// A division by zero in an expression that neither places, defines nor sizes.
-    #[error("DivideByZero 28")]
     ValueDivideByZero,
     /// A request for memory was refused; the line is 0.
-    #[error("OutOfMemory 99")]
     OutOfMemory,
+}
+
+impl fmt::Display for AsmFaultKind {
+    /// Its name and its number.
+    fn fmt<W: fmt::Write>(&self, f: &mut fmt::Formatter<W>) -> fmt::Result {
+        write!(f, "{} {}", self.name(), self.number())
+    }
 }
 
 impl AsmFaultKind {

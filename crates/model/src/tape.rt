@@ -1,41 +1,39 @@
 //! Why a text is no tape.
 
 use std::alloc::AllocError;
+use std::fmt;
 use thiserror::Error;
 
 /// What is wrong with a text that is read as a tape (profile).
 #[derive(Clone, Copy, Debug, PartialEq, Eq, Error)]
 pub enum TapeFaultKind {
     /// The text ends with no record begun.
-    #[error("NoRecord 1")]
     NoRecord,
     /// A byte in a record is no hex digit.
-    #[error("BadHex 2")]
     BadHex,
     /// All digits of a record are there, and its sum differs from its checksum.
-    #[error("BadChecksum 3")]
     BadChecksum,
     /// A data record's bytes would go past address 65535.
-    #[error("PastEnd 4")]
     PastEnd,
     /// The text ends in a record, or after data records without an end record.
-    #[error("Truncated 5")]
     Truncated,
     /// The end record's number differs from the number of data records.
-    #[error("BadCount 6")]
     BadCount,
     /// A byte that is not skipped stands after the end record.
-    #[error("JunkAfterEnd 7")]
     JunkAfterEnd,
     /// A byte that is neither `;` nor skipped stands where a record may begin.
-    #[error("JunkBetween 8")]
     JunkBetween,
     /// A request for memory was refused.
-    #[error("OutOfMemory 9")]
     OutOfMemory,
     /// A tape that is read in pieces goes on after 4,294,967,295 bytes.
-    #[error("TooLong 10")]
     TooLong,
+}
+
+impl fmt::Display for TapeFaultKind {
+    /// Its name and its number.
+    fn fmt<W: fmt::Write>(&self, f: &mut fmt::Formatter<W>) -> fmt::Result {
+        write!(f, "{} {}", self.name(), self.number())
+    }
 }
 
 impl TapeFaultKind {
