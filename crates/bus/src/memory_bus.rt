@@ -8,11 +8,11 @@ ghost use Rattle.model.specs.Image.{empty_image, has_byte};
 ghost use Rattle.model.specs.Undo.{CanRestore, restored, cells_of, put_cells};
 ghost use Rattle.model.specs.Checkpoint.{saved, put_back, CanPutBack};
 ghost use Rattle.bus.specs.Memory.{zeros};
-ghost use Rattle.bus.specs.Pages.{AreSameBelow};
+ghost use Rattle.bus.specs.Pages.{AreSameBelow, Stores};
 
 use crate::image::Image;
 use crate::map_spec::MapSpec;
-use crate::pages::{Stamps, copy_pages};
+use crate::pages::{Stamps, copy_pages, stamp_page};
 use crate::saved::Saved;
 use circular_buffer::HeapCircularBuffer;
 use model::{BusFault, Change, Profile};
@@ -460,21 +460,26 @@ impl Bus {
         self.put(address, value);
     }
 
-    /// A byte that the processor stores where a store changes memory, as the first of its step. The change notes the byte that was
-    /// there.
+    /// A byte that the processor stores where a store changes memory. Its page gets the stamp `now`.
     #[inline(always)]
-    pub fn store_plain(&mut self, change: &mut Change, address: u16, value: u8)
-        requires plain { not (is_port self.old.map address || is_rom self.old.map address) ≡ true }
-        requires count { change.old.count ≡ 0 }
-        requires fits { CanRestore change.old self.old }
+    pub fn store_plain(&mut self, address: u16, value: u8, stamps: &mut Stamps, now: u32)
+        requires { not (is_port self.old.map address || is_rom self.old.map address) ≡ true }
         ensures after { self.new ≡ after_write self.old address value }
-        ensures count { change.new.count ≡ change.old.count + 1 }
-        ensures undo { restored change.new self.new ≡ restored change.old self.old }
-        ensures fits { CanRestore change.new self.new }
+        ensures stores { (watches : List ℕ) → slice_index watches address ≡ 0 → Stores watches now stamps.old stamps.new self.old self.new }
     {
-        let old = self.peek(address);
-        note_first(change, address, old);
+        stamp_page(stamps, now, address);
         self.set(address, value);
+    }
+
+    /// A store into the stack's page, where neither port nor ROM stands. The page gets the stamp `now`.
+    #[inline(always)]
+    pub fn push_plain(&mut self, s: u8, value: u8, stamps: &mut Stamps, now: u32)
+        ensures after { self.new ≡ stored self.old (256 + s) value }
+        ensures stores { (watches : List ℕ) → slice_index watches (256 + s) ≡ 0 → Stores watches now stamps.old stamps.new self.old self.new }
+    {
+        let place = 256 + s as u16;
+        stamp_page(stamps, now, place);
+        self.set_low(place, value);
     }
 
     /// The bytes of a patch, put into memory and ROM alike from an address on, none of them past 65535 and none at the port.
@@ -555,19 +560,6 @@ fn noting(change: Change, address: u16, old: u8) -> Change
         count: change.count + 1,
         ..change
     }
-}
-
-/// One cell, put into a change that has none.
-#[inline(always)]
-fn note_first(change: &mut Change, address: u16, old: u8)
-    requires { change.old.count ≡ 0 }
-    ensures cells { cells_of change.new ≡ (address, old) ∷ cells_of change.old }
-    ensures count { change.new.count ≡ change.old.count + 1 }
-    ensures rest { (change.new.taken ≡ change.old.taken) × (change.new.given_len ≡ change.old.given_len) × (change.new.out_len ≡ change.old.out_len) × (change.new.control ≡ change.old.control) }
-{
-    let cells = [(address, old), (0, 0), (0, 0)];
-    change.cells = cells;
-    change.count = 1;
 }
 
 /// Memory of this size that is all 0.

@@ -1,6 +1,6 @@
 //! Pages of memory, and stamps that tell which of them changed.
 
-ghost use Rattle.std.specs.Prelude.{◌≡◌, ◌<◌, ◌≤◌, ◌/◌, length, slice_index, ℕ, List};
+ghost use Rattle.std.specs.Prelude.{◌≡◌, ◌<◌, ◌≤◌, ◌/◌, length, slice_index, slice_set, ℕ, List};
 ghost use Rattle.model.specs.Undo.{cells_of, put_cells};
 ghost use Rattle.bus.specs.Pages.{AreSameBelow, SparesPage, StaySame};
 
@@ -57,6 +57,14 @@ fn stamp_cells(stamps: &mut Stamps, now: u32, change: &Change)
     for (place, _) in &change.cells[..change.count as usize] {
         stamps[(*place >> 8) as usize] = now;
     }
+}
+
+/// Gives the page of an address the stamp `now`.
+#[inline(always)]
+pub(crate) fn stamp_page(stamps: &mut Stamps, now: u32, address: u16)
+    ensures { stamps.new ≡ slice_set stamps.old (address / 256) now }
+{
+    stamps[(address >> 8) as usize] = now;
 }
 
 /// Gives all pages the stamp `now`: no page has a lower one then, so that there is none in which memories had to be the same.

@@ -2,7 +2,7 @@
 use Rattle.std.proofs.Common.{◌≡◌, ℕ, ◌+◌, ◌-◌, ◌≤◌, zero, suc, min, List, [], ◌∷◌, ◌++◌, length, take, drop, Some, Ok, refl, sym, ap, ◌∙◌, subst, arith, length-append, length-take, length-drop}
 use Rattle.std.specs.Prelude.{slice_get}
 use Rattle.std.proofs.lemmas.List.{drop-append-le, take-take, drop-drop, take_all, drop-take, length-take-le, take-append-drop}
-use Rattle.model.specs.State.{State}
+use Rattle.model.specs.State.{Bus, State}
 use Rattle.model.specs.Event.{event_of}
 use Rattle.model.specs.Undo.{CanRestore, undone, restored, Undoes}
 use Rattle.model.specs.Session.{keep_last}
@@ -97,6 +97,19 @@ grows-refl s = record {
 
 prefix_of_prefix : (xs ys zs : List ℕ) → take (length xs) ys ≡ xs → take (length ys) zs ≡ ys → length xs ≤ length ys → take (length xs) zs ≡ xs
 prefix_of_prefix xs ys zs a b h = sym (take-take (length xs) (length ys) zs h) ∙ ap (take (length xs)) b ∙ a
+
+-- only memory changed
+pub grows_plain : (s t : State) → t.bus ≡ record s.bus { memory = t.bus.memory } → Grows s t
+grows_plain s t rest =
+    let given = ap (λ (b : Bus). b.given) rest in
+    let out = ap (λ (b : Bus). b.out) rest in
+    record {
+      map = ap (λ (b : Bus). b.map) rest;
+      given = ap (take (length s.bus.given)) given ∙ take_all (length s.bus.given) s.bus.given (omega arith);
+      given_len = omega (arith, ap length given);
+      out = ap (take (length s.bus.out)) out ∙ take_all (length s.bus.out) s.bus.out (omega arith);
+      out_len = omega (arith, ap length out);
+    }
 
 pub grows-trans : (s t u : State) → Grows s t → Grows t u → Grows s u
 grows-trans s t u a b = record {

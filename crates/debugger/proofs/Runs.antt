@@ -1,5 +1,7 @@
 -- A run goes on from where its first steps led.
-use Rattle.std.proofs.Common.{◌≡◌, ℕ, ◌+◌, ◌-◌, ◌<◌, zero, suc, Option, Some, None, Ok, Err, refl, sym, ap, ◌∙◌, arith}
+use Rattle.std.proofs.Common.{◌≡◌, ℕ, ◌+◌, ◌-◌, ◌<◌, zero, suc, List, Option, Some, None, Ok, Err, refl, sym, ap, ◌∙◌, arith}
+use Rattle.std.specs.Prelude.{nat_eq, if◌then◌else◌}
+use Rattle.std.specs.List.{list_any}
 use Rattle.std.specs.Option.{option_or}
 use Rattle.model.specs.State.{Bus, State}
 use Rattle.model.specs.Step.{step}
@@ -8,7 +10,7 @@ use Rattle.model.specs.declared.event.Event.TheVariants.{Step}
 use Rattle.model.specs.Session.{Session, appended}
 use Rattle.model.specs.declared.event.EventFault.{EventFault}
 use Rattle.model.specs.declared.run_end.Why.{Why}
-use Rattle.model.specs.declared.run_end.Why.TheVariants.{Limit, Refused}
+use Rattle.model.specs.declared.run_end.Why.TheVariants.{Break, Limit, Refused}
 use Rattle.model.specs.declared.run_end.RunEnd.{RunEnd}
 use Rattle.model.specs.Run.{run_end, after_steps, stop_of, one_later, watch_met, break_met}
 use Rattle.model.specs.Undo.{CanRestore, restored, undone, Undoes}
@@ -67,3 +69,8 @@ undoes_by change before after fits back =
 pub stop_is : (s : Session) (change : Change) (after : State) → restored change after.bus ≡ s.current.bus → stop_after s.watches s.breaks change after ≡ stop_of s s.current after
 unfolding stop_after stop_of watch_met break_met
 stop_is s change after back = ap (λ (b : Bus). option_or (watch_met s.watches (record after { bus = b }) after) (break_met s.breaks after after)) back
+
+-- why a run ends at an address
+pub break_here : (breaks : List ℕ) (before after : State) (pc : ℕ) (why : Option Why) → pc ≡ after.regs.pc → why ≡ (if list_any (nat_eq pc) breaks then Some (Break pc) else None) → why ≡ break_met breaks before after
+unfolding break_met
+break_here breaks before after pc why at is = is ∙ ap (λ p. if list_any (nat_eq p) breaks then Some (Break p) else None) at

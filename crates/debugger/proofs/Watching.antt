@@ -1,7 +1,8 @@
 -- The lowest changed address of a list of watches, from its end to its front.
-use Rattle.std.proofs.Common.{◌≡◌, ◌≢◌, ℕ, ◌-◌, ◌<◌, ◌≤◌, true, false, not, cond, List, [], ◌∷◌, length, drop, take, Some, None, refl, ap, ◌∙◌, arith, min, suc, eqb, zero}
+use Rattle.std.proofs.Common.{◌≡◌, ◌≢◌, ℕ, ◌-◌, ◌<◌, ◌≤◌, Bool, true, false, true≢false, not, ◌||◌, sym, nat_eq, cond, List, [], ◌∷◌, length, drop, take, Some, None, refl, ap, ◌∙◌, arith, min, suc, eqb, zero}
 use Rattle.std.specs.Prelude.{slice_get, slice_index}
 use Rattle.std.specs.Option.{option_map_or}
+use Rattle.std.specs.List.{list_any}
 use Rattle.std.proofs.Math.Seq.{drop-cons}
 use Rattle.std.proofs.lemmas.Option.{get_or_from_slice_get}
 use Rattle.std.proofs.lemmas.Bool.Decides.{nat_tests}
@@ -37,12 +38,31 @@ one_there (w ∷ ws) zero h e = cc
 one_there (w ∷ ws) (suc k) h e = one_there ws k (omega arith) e
 
 -- a step whose record has no cell changes no byte
+first_any : (w : ℕ) (ws : List ℕ) → list_any (nat_eq w) (w ∷ ws) ≡ true
+first_any w ws = let e : nat_eq w w ≡ true = grind (arith, nat_tests) in ap (λ b. b || list_any (nat_eq w) ws) e
+
+rest_any : (k w : ℕ) (ws : List ℕ) → list_any (nat_eq k) (w ∷ ws) ≡ false → list_any (nat_eq k) ws ≡ false
+rest_any k w ws h = by (nat_eq k w) h
+  where
+    by : (b : Bool) → (b || list_any (nat_eq k) ws) ≡ false → list_any (nat_eq k) ws ≡ false
+    by true h = absurd (true≢false h)
+    by false h = h
+
 pub none_changed : (ws : List ℕ) (before after : State) → before.bus.memory ≡ after.bus.memory → changed ws before after ≡ []
 none_changed [] before after same = refl
 none_changed (w ∷ ws) before after same =
     let byte : slice_index before.bus.memory w ≡ slice_index after.bus.memory w = ap (λ m. slice_index m w) same in
     let e : eqb (slice_index before.bus.memory w) (slice_index after.bus.memory w) ≡ true = grind (arith, nat_tests) in
     ap (λ b. cond (not b) (w ∷ changed ws before after) (changed ws before after)) e ∙ none_changed ws before after same
+
+-- the bytes that are marked are the same, and all that are watched are marked
+pub none_kept : (ws bytes : List ℕ) (before after : State) → ((k : ℕ) → slice_index bytes k ≡ 0 → list_any (nat_eq k) ws ≡ false) → ((k : ℕ) → slice_index bytes k ≢ 0 → slice_index after.bus.memory k ≡ slice_index before.bus.memory k) → changed ws before after ≡ []
+none_kept [] bytes before after marks kept = refl
+none_kept (w ∷ ws) bytes before after marks kept =
+    let marked : slice_index bytes w ≢ 0 = λ z. true≢false (sym (first_any w ws) ∙ marks w z) in
+    let byte : slice_index before.bus.memory w ≡ slice_index after.bus.memory w = sym (kept w marked) in
+    let e : eqb (slice_index before.bus.memory w) (slice_index after.bus.memory w) ≡ true = grind (arith, nat_tests) in
+    ap (λ b. cond (not b) (w ∷ changed ws before after) (changed ws before after)) e ∙ none_kept ws bytes before after (λ k z. rest_any k w ws (marks k z)) kept
 
 same_memory : (change : Change) (s : State) → change.count ≡ 0 → (before_of change s).bus.memory ≡ s.bus.memory
 unfolding restored

@@ -11,12 +11,11 @@ ghost use Rattle.debugger.specs.Pages.{TellsPages};
 ghost use Rattle.debugger.specs.Replay.{Follows, IsHistory, held_states};
 ghost use Rattle.debugger.specs.Running.{session_of};
 ghost use Rattle.debugger.specs.Trail.{HasRoom, IsNoted};
-ghost use Rattle.cpu.specs.Running.{AllButLast, AllGoOn, IsMark};
+ghost use Rattle.cpu.specs.Running.{AllButLast, AllGoOn};
 
 use crate::pages::Pages;
 use crate::trail;
 use crate::trail::{PART, Trail};
-use bus::Change;
 use cpu::{Machine, QuickRun};
 use model::{Event, SessionFault};
 use std::alloc::Global;
@@ -80,7 +79,14 @@ impl Course {
 
 /// Goes back over the last `count` events: to the last checkpoint that is not later, and over the events from there on.
 /// Answers how many these were. All pages may have changed then.
-pub fn rewind(course: &mut Course, machine: &mut Machine, pages: &mut Pages, count: u32) -> u32
+pub fn rewind(
+    course: &mut Course,
+    machine: &mut Machine,
+    watches: &[u8],
+    pages: &mut Pages,
+    count: u32,
+) -> u32
+    requires watches { length watches.now ≡ 65536 }
     requires held { count ≤ course.old.held }
     requires history { IsHistory 1024 course.old.kept.items course.old.events.items machine.old }
     ensures room { HasRoom course.new }
@@ -95,7 +101,7 @@ pub fn rewind(course: &mut Course, machine: &mut Machine, pages: &mut Pages, cou
     settle(&mut course.trail, course.steps);
     course.steps = 0;
     course.quiet = 0;
-    trail::rewind(&mut course.trail, machine, pages, count)
+    trail::rewind(&mut course.trail, machine, watches, pages, count)
 }
 
 /// Notes an accepted event, which led to the machine's state.
@@ -154,27 +160,25 @@ pub fn run_quietly(
     course: &mut Course,
     machine: &mut Machine,
     pages: &mut Pages,
-    change: &mut Change,
     limit: u32,
     stops: &[u8],
-    watched: bool,
+    watches: &[u8],
 ) -> QuickRun
     requires stops { length stops.now ≡ 65536 }
-    requires mark { IsMark change.old machine.old.bus }
+    requires watches { length watches.now ≡ 65536 }
     requires history { IsHistory 1024 course.old.kept.items course.old.events.items machine.old }
     requires pages { TellsPages pages.old course.old.kept.items course.old.spare.items machine.old.bus.memory }
     ensures within { result.steps ≤ limit }
-    ensures on { result.stopped ≡ false → AllGoOn stops.now watched result.steps machine.old machine.new }
-    ensures mark { result.stopped ≡ false → IsMark change.new machine.new.bus }
-    ensures last { result.stopped ≡ true → AllButLast stops.now watched result.steps machine.old machine.new change.new }
+    ensures on { result.stopped ≡ false → AllGoOn stops.now watches.now result.steps machine.old machine.new }
+    ensures last { result.stopped ≡ true → AllButLast stops.now watches.now result.steps machine.old machine.new }
     ensures room { HasRoom course.new }
     ensures history { IsHistory 1024 course.new.kept.items course.new.events.items machine.new }
-    ensures steps { (breaks watches : List ℕ) (replayed : ℕ) → session_of course.new machine.new breaks watches replayed ≡ after_steps result.steps (session_of course.old machine.old breaks watches replayed) }
+    ensures steps { (breaks watched : List ℕ) (replayed : ℕ) → session_of course.new machine.new breaks watched replayed ≡ after_steps result.steps (session_of course.old machine.old breaks watched replayed) }
     ensures pages { TellsPages pages.new course.new.kept.items course.new.spare.items machine.new.bus.memory }
 {
     let most = limit.min(course.quiet);
     let now = pages.now;
-    let ran = machine.quick_run(change, most, stops, watched, &mut pages.stamps, now);
+    let ran = machine.quick_run(most, stops, watches, &mut pages.stamps, now);
     course.quiet -= ran.steps;
     course.steps += ran.steps;
     ran

@@ -12,14 +12,13 @@ ghost use Rattle.debugger.specs.Pages.{TellsPages};
 ghost use Rattle.debugger.specs.Replay.{IsHistory, held_states};
 ghost use Rattle.debugger.specs.Running.{RunsTo, StepsTo};
 ghost use Rattle.debugger.specs.Trail.{HasRoom};
-ghost use Rattle.cpu.specs.Running.{IsMark};
 
 use crate::course::{Course, begin, note, note_step, rewind, run_quietly};
 use crate::marks::Marks;
 use crate::pages::Pages;
-use crate::stops::{Stretch, stop_after};
+use crate::stops::{Stretch, break_at, stop_after};
 use crate::trail::happen;
-use bus::{BusFault, Change, Image, MapSpec};
+use bus::{BusFault, Image, MapSpec};
 use cpu::Machine;
 use model::{Event, EventFault, Profile, Regs, RunEnd, SessionFault, Why};
 use std::alloc::Global;
@@ -106,7 +105,13 @@ impl Session {
         ensures err { IfErr result (λ fault. (event_of self.old.current event ≡ Err fault) × (self.new ≡ self.old)) }
     {
         let now = self.pages.now;
-        match happen(&mut self.machine, &mut self.pages.stamps, now, event) {
+        match happen(
+            &mut self.machine,
+            self.watches.map(),
+            &mut self.pages.stamps,
+            now,
+            event,
+        ) {
             Ok(()) => {
                 note(&mut self.trail, &self.machine, &mut self.pages, event);
                 Ok(())
@@ -121,10 +126,9 @@ impl Session {
         ensures end { result ≡ run_end count self.old }
         ensures after { self.new ≡ after_steps result.did self.old }
     {
-        let mut change = self.machine.mark();
         let mut did = 0;
         while did < count {
-            match self.run_on(&mut change, count - did) {
+            match self.run_on(count - did) {
                 Ok(stretch) => match stretch.why {
                     None => did += stretch.steps,
                     Some(why) => {
@@ -148,29 +152,23 @@ impl Session {
         }
     }
 
-    /// The first steps of a run, one at least, and why it ends with the last of them, if it does. The change notes nothing before and
-    /// after them.
-    fn run_on(&mut self, change: &mut Change, limit: u32) -> Result<Stretch, EventFault>
-        requires some { 0 < limit }
-        requires mark { IsMark change.old self.old.current.bus }
+    /// The first steps of a run, one at least, and why it ends with the last of them, if it does.
+    fn run_on(&mut self, limit: u32) -> Result<Stretch, EventFault>
+        requires { 0 < limit }
         ensures within { IfOk result (λ stretch. stretch.steps ≤ limit) }
         ensures steps { RunsTo self.old result self.new }
-        ensures mark { OnOk result (IsMark change.new self.new.current.bus) }
     {
-        let watched = self.watches.len() != 0;
         let stops = self.breaks.map();
         let ran = run_quietly(
             &mut self.trail,
             &mut self.machine,
             &mut self.pages,
-            change,
             limit,
             stops,
-            watched,
+            self.watches.map(),
         );
         if ran.stopped {
-            let why = stop_after(&self.machine, &self.watches, &self.breaks, change);
-            *change = self.machine.mark();
+            let why = break_at(self.machine.pc(), &self.breaks);
             return Ok(Stretch {
                 steps: ran.steps,
                 why,
@@ -182,7 +180,7 @@ impl Session {
                 why: None,
             });
         }
-        match self.slow_step(change) {
+        match self.slow_step() {
             Ok(why) => Ok(Stretch {
                 steps: ran.steps + 1,
                 why,
@@ -195,26 +193,22 @@ impl Session {
         }
     }
 
-    /// A step of a run by itself, and why the run ends with it, if it does. The change notes nothing then.
+    /// A step of a run by itself, and why the run ends with it, if it does.
     #[inline(never)]
-    fn slow_step(&mut self, change: &mut Change) -> Result<Option<Why>, EventFault>
-        ensures steps { StepsTo self.old result self.new }
-        ensures mark { IsMark change.new self.new.current.bus }
+    fn slow_step(&mut self) -> Result<Option<Why>, EventFault>
+        ensures { StepsTo self.old result self.new }
     {
-        let made = self.machine.step_noting(change);
+        let mut change = self.machine.mark();
+        let made = self.machine.step_noting(&mut change);
         self.machine
-            .stamp(change, &mut self.pages.stamps, self.pages.now);
+            .stamp(&change, &mut self.pages.stamps, self.pages.now);
         match made {
             Ok(()) => {
-                let why = stop_after(&self.machine, &self.watches, &self.breaks, change);
+                let why = stop_after(&self.machine, &self.watches, &self.breaks, &change);
                 note_step(&mut self.trail, &self.machine, &mut self.pages);
-                *change = self.machine.mark();
                 Ok(why)
             }
-            Err(fault) => {
-                *change = self.machine.mark();
-                Err(fault)
-            }
+            Err(fault) => Err(fault),
         }
     }
 
@@ -228,7 +222,13 @@ impl Session {
             return Err(SessionFault::NoHistory { held });
         }
         if count > 0 {
-            self.replayed = rewind(&mut self.trail, &mut self.machine, &mut self.pages, count);
+            self.replayed = rewind(
+                &mut self.trail,
+                &mut self.machine,
+                self.watches.map(),
+                &mut self.pages,
+                count,
+            );
         }
         Ok(())
     }

@@ -1,6 +1,8 @@
 //! Why a run ends after a step.
 
-ghost use Rattle.std.specs.Prelude.{◌≡◌, ◌≤◌, ◌∷◌, slice_index, min};
+ghost use Rattle.std.specs.Prelude.{◌≡◌, ◌≤◌, ◌∷◌, slice_index, min, nat_eq, if◌then◌else◌, Some, None};
+ghost use Rattle.std.specs.List.{list_any};
+ghost use Rattle.model.specs.declared.run_end.Why.TheVariants.{Break};
 ghost use Rattle.std.specs.Option.{option_map_or};
 ghost use Rattle.model.specs.Undo.{restored, put_cells, cells_of};
 ghost use Rattle.model.specs.Run.{changed, lowest};
@@ -33,7 +35,14 @@ pub fn stop_after(
     if let Some(address) = lowest_changed(machine, watches, change) {
         return Some(Why::Watch(address));
     }
-    let pc = machine.pc();
+    break_at(machine.pc(), breaks)
+}
+
+/// Why a run ends at an address after a step that changes no watched byte, if it does.
+#[inline(always)]
+pub fn break_at(pc: u16, breaks: &Marks) -> Option<Why>
+    ensures { result ≡ if list_any (nat_eq pc) breaks.now then Some (Break pc) else None }
+{
     if breaks.contains(pc) {
         Some(Why::Break(pc))
     } else {

@@ -36,20 +36,23 @@ pub struct Trail {
     pub history: u32,
 }
 
-/// What an event does to a machine. Pages that it changes get the stamp `now`.
+/// What an event does to a machine. Pages that it changes get the stamp `now`. It is slower where it stores at an address whose byte
+/// of `watches` is not 0.
 #[inline(always)]
 pub fn happen(
     machine: &mut Machine,
+    watches: &[u8],
     stamps: &mut Stamps,
     now: u32,
     event: Event,
 ) -> Result<(), EventFault>
+    requires { length watches.now ≡ 65536 }
     ensures ok { OnOk result (Follows machine.old event machine.new) }
     ensures err { IfErr result (λ fault. (event_of machine.old event ≡ Err fault) × (machine.new ≡ machine.old)) }
     ensures same { StaySame now stamps.old stamps.new machine.old.bus.memory machine.new.bus.memory }
 {
     if let Event::Step = event {
-        return make_step(machine, stamps, now);
+        return make_step(machine, watches, stamps, now);
     }
     stamp_all(stamps, now);
     match happen_apart(machine, event) {
@@ -60,16 +63,21 @@ pub fn happen(
 
 /// A step, quick where it can be, without a record.
 #[inline(always)]
-fn make_step(machine: &mut Machine, stamps: &mut Stamps, now: u32) -> Result<(), EventFault>
+fn make_step(
+    machine: &mut Machine,
+    watches: &[u8],
+    stamps: &mut Stamps,
+    now: u32,
+) -> Result<(), EventFault>
+    requires { length watches.now ≡ 65536 }
     ensures ok { OnOk result (Follows machine.old Step machine.new) }
     ensures err { IfErr result (λ fault. (event_of machine.old Step ≡ Err fault) × (machine.new ≡ machine.old)) }
     ensures same { StaySame now stamps.old stamps.new machine.old.bus.memory machine.new.bus.memory }
 {
-    let mut change = machine.mark();
-    if machine.quick_step(&mut change) {
-        machine.stamp(&change, stamps, now);
+    if machine.quick_step(watches, stamps, now) {
         return Ok(());
     }
+    let mut change = machine.mark();
     let made = machine.step_noting(&mut change);
     machine.stamp(&change, stamps, now);
     made
@@ -102,18 +110,20 @@ fn happen_apart(machine: &mut Machine, event: Event) -> Result<Undo, EventFault>
 /// Events from one place to another, one after another. The stamps tell nothing afterwards.
 fn replay(
     machine: &mut Machine,
+    watches: &[u8],
     stamps: &mut Stamps,
     events: &HeapCircularBuffer<Event>,
     from: usize,
     to: usize,
 )
+    requires watches { length watches.now ≡ 65536 }
     requires order { from ≤ to }
     requires within { to ≤ length events.now.items }
     ensures { (base : State) → AllFollow base events.now.items → machine.old ≡ replayed base (take from events.now.items) → machine.new ≡ replayed base (take to events.now.items) }
 {
     for index in from..to {
         if let Some(event) = events.get(index) {
-            let _ = happen(machine, stamps, 0, *event);
+            let _ = happen(machine, watches, stamps, 0, *event);
         }
     }
 }
@@ -150,7 +160,14 @@ fn put_aside(
 
 /// Goes back over the last `count` events: to the last checkpoint that is not later, and over the events from there on.
 /// Answers how many these were. All pages may have changed then.
-pub fn rewind(trail: &mut Trail, machine: &mut Machine, pages: &mut Pages, count: u32) -> u32
+pub fn rewind(
+    trail: &mut Trail,
+    machine: &mut Machine,
+    watches: &[u8],
+    pages: &mut Pages,
+    count: u32,
+) -> u32
+    requires watches { length watches.now ≡ 65536 }
     requires room { HasRoom trail.old }
     requires held { count ≤ trail.old.held }
     requires history { IsHistory 1024 trail.old.kept.items trail.old.events.items machine.old }
@@ -169,6 +186,7 @@ pub fn rewind(trail: &mut Trail, machine: &mut Machine, pages: &mut Pages, count
     return_to_last(machine, &trail.kept);
     replay(
         machine,
+        watches,
         &mut pages.stamps,
         &trail.events,
         place * PART,

@@ -1,6 +1,5 @@
 use Rattle.std.proofs.Common.{◌≡◌, ◌-◌, ◌≤◌}
 use Rattle.model.specs.Run.{run_end, after_steps}
-use Rattle.cpu.specs.Running.{IsMark}
 use Rattle.debugger.specs.Running.{beyond}
 use Rattle.debugger.proofs.session.Session.run.Given as goal
 
@@ -10,7 +9,6 @@ invariant-loop-did l = record {
   within : l.did ≤ l.count;
   end : run_end l.count l.fn.self ≡ beyond l.did (run_end (l.count - l.did) l.self);
   after : l.self ≡ after_steps l.did l.fn.self;
-  mark : IsMark l.change l.self.current.bus;
 }
 
 abbrev pub decreases-loop-did : goal.decreases-loop-did

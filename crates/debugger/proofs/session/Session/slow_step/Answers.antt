@@ -19,8 +19,8 @@ invariant_of-self c =
     let noted = c.note_step.ensures.noted c.self.inside.machine c.self.invariant.1 follows in
     (c.note_step.ensures.room, noted.history, c.self.invariant.2, c.note_step.ensures.pages)
 
-pub returns-in-Ok-clause-steps : goal.returns-in-Ok-clause-steps
-returns-in-Ok-clause-steps c =
+pub returns-in-Ok : goal.returns-in-Ok
+returns-in-Ok c =
     let before = c.self.inside in
     let after = c.step_noting-made.new.self in
     let follows = follows_of _ before.machine after Step (step_is before.machine ∙ c.in-Ok.ensures.ok) (undoes_by c.step_noting-made.new.change before.machine after c.step_noting-made.ensures.fits c.step_noting-made.ensures.undo) in
