@@ -27,6 +27,7 @@ import time
 
 TOP = os.path.dirname(os.path.dirname(os.path.realpath(__file__)))
 MEMORY_OF_A_JOB = 3_000_000_000
+SIZE_OF_JOB = 20_000  # bytes of a crate's source for each job after the first
 NOT_BUILT = 125
 PR_SET_PDEATHSIG, PR_SET_CHILD_SUBREAPER = 1, 36
 SYSTEM = ctypes.CDLL(None)
@@ -338,10 +339,12 @@ class Build:
     def jobs_for(self, crate, count, idle):
         """The jobs that are idle, shared with the others that are ready; or as many as the crate's
         chain needs to end with the rest of the work, if nearly so many are idle: no crate keeps all
-        of its jobs at work all of the time."""
+        of its jobs at work all of the time. Each job reads all libraries, so a small crate gets
+        one alone."""
         work = sum(self.seconds[it] for it in [*self.left, *(run.crate for run in self.running)])
         needed = int(self.chain[crate] * self.at_once / max(work, 1))
-        return max(1, idle // count, min(needed, idle + self.at_once // 4))
+        jobs = max(1, idle // count, min(needed, idle + self.at_once // 4))
+        return min(jobs, 1 + len(read_all(crate)) // SIZE_OF_JOB)
 
     def begin_ready(self):
         ready = self.ready()
