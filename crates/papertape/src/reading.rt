@@ -66,7 +66,8 @@ impl Reading {
 
     /// Whether a record is begun and not ended.
     pub fn is_in_record(&self) -> bool
-        ensures { result ≡ false → self.now.place ≢ Within }
+        ensures within { result ≡ true → self.now.place ≡ Within }
+        ensures apart { result ≡ false → self.now.place ≢ Within }
     {
         self.place == Place::Within
     }
