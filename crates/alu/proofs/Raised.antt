@@ -31,7 +31,8 @@ binary_carry a m k h = above_raised (pos a -ℤ pos m -ℤ pos k) 256 (256 + a -
 there_and_back : (n k : ℕ) → pos n -ℤ pos k +ℤ pos k ≡ pos n
 there_and_back n k = omega (arith, ints)
 
--- the difference of the lower digits, raised by 16, and with 6 taken off and 16 borrowed where it was below 0
+-- the difference of the lower digits, raised by 16, and with 6 taken off and 16 borrowed where it
+-- was below 0
 abbrev pub low_raised : ℕ → ℕ → ℕ → ℕ
 low_raised a m k = 16 + a % 16 - m % 16 - k
 
@@ -51,7 +52,7 @@ low_is a m c h =
     by z n true t less e = rw (t, less) (there_and_back ((n + 10) % 16) 16)
     by z n false t less e = rw t e
 
--- the whole difference likewise, raised by 256
+-- the whole difference, raised by 256
 abbrev pub high_raised : ℕ → ℕ → ℕ → ℕ
 high_raised a m low = 256 + high_part a - high_part m + low - 16
 

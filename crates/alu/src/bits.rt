@@ -5,8 +5,10 @@ ghost use Rattle.model.specs.Arithmetic.{asl, bit_test, compared, lsr, rol, ror,
 
 use model::Sum;
 
-/// A register compared with a byte, as CMP, CPX and CPY do: the value is their difference modulo 256, with N and Z of it,
-/// and C is set where the register is not below the byte. V is false. (MCS6500 manual, chapter 4 and appendix A.)
+/// Compares a register with a byte, as CMP, CPX and CPY do.
+///
+/// The value is their difference modulo 256, with N and Z of it. C is set if the register is not
+/// below the byte. V is false. Source: MCS6500 manual, chapter 4 and appendix A.
 #[inline(always)]
 #[tactic(auto, unfolding(model::specs::Arithmetic::compared))]
 pub fn compare(reg: u8, m: u8) -> Sum
@@ -15,8 +17,9 @@ pub fn compare(reg: u8, m: u8) -> Sum
     with_carry(reg.wrapping_sub(m), reg >= m)
 }
 
-/// A byte shifted left by one place, 0 coming in and bit 7 going into C, with N and Z of the result. V is false.
-/// (MCS6500 manual, chapter 10 and appendix A.)
+/// Shifts a byte left by one place: 0 comes in, bit 7 goes into C, N and Z are the result's.
+///
+/// V is false. Source: MCS6500 manual, chapter 10 and appendix A.
 #[inline(always)]
 #[tactic(auto, unfolding(model::specs::Arithmetic::asl))]
 pub fn asl(m: u8) -> Sum
@@ -25,8 +28,10 @@ pub fn asl(m: u8) -> Sum
     with_carry((m & 127) << 1, m >= 128)
 }
 
-/// A byte shifted right by one place, 0 coming in and bit 0 going into C, with N and Z of the result; so N is false.
-/// V is false. (MCS6500 manual, chapter 10 and appendix A.)
+/// Shifts a byte right by one place: 0 comes in, bit 0 goes into C, Z is the result's.
+///
+/// N is always false, since 0 comes in at bit 7, and V is false. Source: MCS6500 manual, chapter 10
+/// and appendix A.
 #[inline(always)]
 #[tactic(auto, unfolding(model::specs::Arithmetic::lsr))]
 pub fn lsr(m: u8) -> Sum
@@ -35,8 +40,10 @@ pub fn lsr(m: u8) -> Sum
     with_carry(m >> 1, m & 1 == 1)
 }
 
-/// A byte rotated left by one place through the carry: `c` comes in, bit 7 goes into C, with N and Z of the result.
-/// V is false. (MCS6500 manual, chapter 10 and appendix A.)
+/// Rotates a byte left by one place through the carry `c`, which comes in at bit 0.
+///
+/// Bit 7 goes into C; N and Z are the result's; V is false. Source: MCS6500 manual, chapter 10 and
+/// appendix A.
 #[inline(always)]
 #[tactic(auto, unfolding(model::specs::Arithmetic::rol))]
 pub fn rol(m: u8, c: bool) -> Sum
@@ -45,8 +52,10 @@ pub fn rol(m: u8, c: bool) -> Sum
     with_carry(((m & 127) << 1) + c as u8, m >= 128)
 }
 
-/// A byte rotated right by one place through the carry: `c` comes in at bit 7, bit 0 goes into C, with N and Z of the
-/// result. V is false. (MCS6500 manual, chapter 10 and appendix A.)
+/// Rotates a byte right by one place through the carry `c`, which comes in at bit 7.
+///
+/// Bit 0 goes into C; N and Z are the result's; V is false. Source: MCS6500 manual, chapter 10 and
+/// appendix A.
 #[inline(always)]
 #[tactic(auto, unfolding(model::specs::Arithmetic::ror))]
 pub fn ror(m: u8, c: bool) -> Sum
@@ -55,8 +64,10 @@ pub fn ror(m: u8, c: bool) -> Sum
     with_carry((m >> 1) + 128 * c as u8, m & 1 == 1)
 }
 
-/// The accumulator and a byte, as BIT tests them: the value is their common bits, Z is of it, N and V are bits 7 and 6 of
-/// the byte. C is false. (MCS6500 manual, chapter 4 and appendix A.)
+/// Tests a byte against the accumulator, as BIT does.
+///
+/// The value is their common bits, and Z is of it. N and V are bits 7 and 6 of the byte. C is
+/// false. Source: MCS6500 manual, chapter 4 and appendix A.
 #[inline(always)]
 #[tactic(auto, unfolding(model::specs::Arithmetic::bit_test))]
 pub fn bit_test(a: u8, m: u8) -> Sum
@@ -72,7 +83,7 @@ pub fn bit_test(a: u8, m: u8) -> Sum
     }
 }
 
-/// A value with N and Z of it, and a carry. V is false.
+/// Returns a value with its N and Z, and a carry. V is false.
 #[inline(always)]
 pub fn with_carry(value: u8, carry: bool) -> Sum
     ensures { result ≡ with_carry value carry }

@@ -5,10 +5,13 @@ ghost use Rattle.model.specs.Arithmetic.{adc, adc_binary, adc_decimal, sbc, sbc_
 
 use model::Sum;
 
-/// The sum of two bytes and a carry, as ADC makes it: decimal where `d` is set, else binary. In binary C is set above 255
-/// and V where the signed sum leaves -128..127. In decimal Z is that of the binary sum, and N and V those of the sum before
-/// its last correction. For operands whose digits are all 0..9 the decimal sum is that of the numbers that they write,
-/// modulo 100, and C tells whether it is above 99. (MCS6500 manual, chapter 2; Bruce Clark, "Decimal Mode", 6502.org.)
+/// Adds two bytes and a carry, as ADC does: in decimal if `d` is set, otherwise in binary.
+///
+/// In binary, C is set above 255, and V if the signed sum leaves -128..127. In decimal, Z is that
+/// of the binary sum, and N and V are those of the sum before its last correction. If all digits of
+/// both operands are 0..9, the decimal sum is the sum of the numbers that they write, modulo 100,
+/// and C tells whether it is above 99. Source: MCS6500 manual, chapter 2; Bruce Clark, "Decimal
+/// Mode", 6502.org.
 #[inline(always)]
 #[tactic(auto, unfolding(model::specs::Arithmetic::adc))]
 pub fn adc(a: u8, m: u8, c: bool, d: bool) -> Sum
@@ -39,7 +42,7 @@ fn adc_binary(a: u8, m: u8, c: bool) -> Sum
     }
 }
 
-/// A digit's sum with 6 added where it is above 9, without its carry.
+/// Returns a digit's sum, with 6 added if it is above 9, without its carry.
 fn adjusted_up(digits: u8) -> u8
     requires { digits < 32 }
     ensures value { result ≡ (if nat_lt 9 digits then (digits + 6) % 16 else digits) }
@@ -76,10 +79,12 @@ fn adc_decimal(a: u8, m: u8, c: bool) -> Sum
     }
 }
 
-/// The difference of two bytes less a borrow, which is the carry turned over, as SBC makes it: decimal where `d` is set,
-/// else binary. C is set where there is no borrow, V where the signed difference leaves -128..127; all four flags are those
-/// of the binary difference. For operands whose digits are all 0..9 the decimal difference is that of the numbers that they
-/// write, modulo 100. (MCS6500 manual, chapter 2; Bruce Clark, "Decimal Mode", 6502.org.)
+/// Subtracts a byte and a borrow, as SBC does: in decimal if `d` is set, otherwise in binary.
+///
+/// The borrow is the complement of the carry `c`. C is set if no borrow goes out, and V if the
+/// signed difference leaves -128..127; all four flags are those of the binary difference. If all
+/// digits of both operands are 0..9, the decimal difference is that of the numbers that they write,
+/// modulo 100. Source: MCS6500 manual, chapter 2; Bruce Clark, "Decimal Mode", 6502.org.
 #[inline(always)]
 #[tactic(auto, unfolding(model::specs::Arithmetic::sbc))]
 pub fn sbc(a: u8, m: u8, c: bool, d: bool) -> Sum
@@ -114,7 +119,7 @@ fn sbc_binary(a: u8, m: u8, c: bool) -> Sum
     }
 }
 
-/// A digit's difference, raised by 16, with 6 taken off where it was below 0.
+/// Returns a digit's difference plus 16, with 6 subtracted if it was below 0.
 fn adjusted_down(digits: u8) -> u8
     requires { digits < 32 }
     ensures value { result ≡ (if nat_lt digits 16 then (digits + 10) % 16 else digits - 16) }

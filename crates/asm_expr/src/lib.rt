@@ -1,6 +1,8 @@
-//! Tokens and expressions of source lines: the calls of `lexer`, `parser` and `evaluator` under one name.
+//! Tokens and expressions of source lines: the calls of `lexer`, `parser` and `evaluator` in one
+//! place.
 //!
-//! `tokens_into` cuts a line, `parse_expr` finds the longest expression at the front of some tokens, `eval` gives its value.
+//! `tokens_into` cuts a line, `parse_expr` finds the longest expression at the front of some
+//! tokens, `eval` returns its value.
 #![tactic(auto)]
 
 pub use evaluator::{Names, eval};

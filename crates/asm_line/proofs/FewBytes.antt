@@ -1,5 +1,5 @@
--- A line that was read denotes few bytes, since it has few itself: a string is as long as its token at most, and there are no more
--- expressions than tokens.
+-- A line that was read denotes few bytes, since it has few itself: a string is as long as its token
+-- at most, and there are no more expressions than tokens.
 use Rattle.std.proofs.Common.{◌≡◌, ℕ, zero, suc, ◌+◌, ◌-◌, ◌<◌, ◌≤◌, Bool, true, false, List, [], ◌∷◌, ◌++◌, length, take, drop, Option, Some, None, Result, Ok, Err, refl, ap, subst, arith, length-drop}
 use Rattle.std.specs.Prelude.{codes, nat_lt, not, ⊤, if◌then◌else◌, IfOk, IfSome}
 use Rattle.std.specs.List.{list_all}

@@ -1,4 +1,5 @@
--- What a line says by its tokens is what the definition says of it: a line has tokens only where its bytes may stand.
+-- What a line says by its tokens is what the definition says of it: a line has tokens only where
+-- its bytes may stand.
 use Rattle.std.proofs.Common.{◌≡◌, ℕ, Bool, true, false, List, length, Some, None, Result, Err, refl}
 use Rattle.std.specs.Prelude.{nat_lt, not, if◌then◌else◌}
 use Rattle.std.specs.List.{list_all}

@@ -15,7 +15,7 @@ use model::{LineFault, TokenKind};
 use parser::parse_expr;
 use std::alloc::Global;
 
-/// The longest expression with which some tokens begin, and the tokens after it.
+/// Returns the longest expression at the front of some tokens, and the tokens after it.
 pub fn expression<'a, 't>(
     alloc: Global,
     tokens: &'t [Token<'a>],
@@ -26,7 +26,7 @@ pub fn expression<'a, 't>(
     Ok((value, &tokens[taken..]))
 }
 
-/// The expression that some tokens are all together.
+/// Returns the expression that is made of all these tokens.
 #[tactic(auto, unfolding(model::specs::Line::whole_expression))]
 pub fn whole_expression<'a>(alloc: Global, tokens: &[Token<'a>]) -> Result<Expr<'a>, LineFault>
     ensures { Reads view result (whole_expression (lexemes tokens.now)) }
@@ -38,7 +38,7 @@ pub fn whole_expression<'a>(alloc: Global, tokens: &[Token<'a>]) -> Result<Expr<
     Err(LineFault::Syntax)
 }
 
-/// Whether a comma comes next, and so one more expression; not where no token is left.
+/// Returns whether a comma comes next, and so one more expression; false if no token is left.
 fn goes_on(tokens: &[Token<'_>]) -> Result<bool, LineFault>
     ensures read { Reads (λ more. more) result (goes_on (lexemes tokens.now)) }
     ensures some { IfOk result (λ more. more ≡ true → 0 < length tokens.now) }
@@ -50,7 +50,7 @@ fn goes_on(tokens: &[Token<'_>]) -> Result<bool, LineFault>
     }
 }
 
-/// The expressions, separated by commas, that some tokens are.
+/// Returns the expressions, separated by commas, that these tokens are.
 pub fn expressions<'a>(alloc: Global, tokens: &[Token<'a>]) -> Result<Vec<Expr<'a>>, LineFault>
     ensures { Reads (λ found. map view found.items) result (expressions_of (lexemes tokens.now)) }
 {
@@ -68,7 +68,7 @@ pub fn expressions<'a>(alloc: Global, tokens: &[Token<'a>]) -> Result<Vec<Expr<'
     Err(LineFault::Syntax)
 }
 
-/// The bytes of a text without the first and the last.
+/// Returns the bytes of a text without the first and the last.
 fn inside(text: &[u8]) -> &[u8]
     ensures { result.now ≡ take (length text.now - 2) (drop 1 text.now) }
 {
@@ -78,7 +78,7 @@ fn inside(text: &[u8]) -> &[u8]
     }
 }
 
-/// The item with which some tokens begin, and how many tokens it is.
+/// Returns the item at the front of some tokens, and its number of tokens.
 fn item<'a>(alloc: Global, tokens: &[Token<'a>]) -> Result<(Item<'a>, usize), LineFault>
     ensures found { IfOk result (λ p. item_of (lexemes tokens.now) ≡ Some (seen_item p.0, drop p.1 (lexemes tokens.now))) }
     ensures within { IfOk result (λ p. p.1 ≤ length tokens.now) }
@@ -100,7 +100,7 @@ fn item<'a>(alloc: Global, tokens: &[Token<'a>]) -> Result<(Item<'a>, usize), Li
     }
 }
 
-/// The items, separated by commas, that some tokens are.
+/// Returns the items, separated by commas, that these tokens are.
 pub fn items<'a>(alloc: Global, tokens: &[Token<'a>]) -> Result<Vec<Item<'a>>, LineFault>
     ensures { Reads (λ found. map seen_item found.items) result (items_of (lexemes tokens.now)) }
 {

@@ -4,7 +4,9 @@ ghost use Rattle.model.specs.Grammar.{EachLineIsRead, EachReadLineIsALine};
 
 use parser::{expressions_are_longest, one_expression};
 
-/// Each line of the grammar is read, to what the grammar says of it; so it says one thing only. A law for proofs: it does nothing.
+/// States that each line of the grammar is read, to what the grammar says of it.
+///
+/// So a line says one thing only. A law for proofs: the call does nothing.
 pub fn each_line_is_read()
     ensures { EachLineIsRead }
 {
@@ -12,7 +14,9 @@ pub fn each_line_is_read()
     one_expression();
 }
 
-/// What is read is a line of the grammar, and says what was read. A law for proofs: it does nothing.
+/// States that what is read is a line of the grammar, and says what was read.
+///
+/// A law for proofs: the call does nothing.
 pub fn each_read_line_is_a_line()
     ensures { EachReadLineIsALine }
 {

@@ -1,7 +1,8 @@
-//! A line of a source: its text read to what it says.
+//! A line of a source: from its text to what it says.
 //!
-//! `read_line_with` is the one reader, for the assembler's lines and, as `read_line`, for one line alone. The definition is `Line.antt` of `model`;
-//! `specs` here has only how its parts are seen where they are borrowed from the line.
+//! `read_line_with` is the one reader, for the assembler's lines and, as `read_line`, for one line
+//! alone. The definition is `Line.antt` of `model`; `specs` here only says how the definitions see
+//! parts that are borrowed from the line.
 #![tactic(auto)]
 
 mod expressions;

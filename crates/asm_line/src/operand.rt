@@ -72,7 +72,7 @@ fn pointer<'a>(alloc: Global, tokens: &[Token<'a>]) -> Result<Operand<'a>, LineF
     }
 }
 
-/// The operand that the tokens after a mnemonic are.
+/// Returns the operand that the tokens after a mnemonic are.
 #[tactic(auto, unfolding(model::specs::Line::operand_of))]
 pub fn operand<'a>(alloc: Global, tokens: &[Token<'a>]) -> Result<Operand<'a>, LineFault>
     ensures { Reads seen_operand result (operand_of (lexemes tokens.now)) }

@@ -1,4 +1,4 @@
-//! Reserved words where names stand.
+//! Reserved words in the place of names.
 
 ghost use Rattle.std.specs.Prelude.{◌≡◌};
 ghost use Rattle.std.specs.List.{list_any};
@@ -11,7 +11,7 @@ use line_parts::{Expr, Item, Line, Operand, Statement};
 use model::Profile;
 use optable::mnemonic_in;
 
-/// Whether a word is a mnemonic of a profile, A, X or Y, in either letter case.
+/// Returns whether a word is a mnemonic of a profile, A, X or Y, in either letter case.
 #[tactic(auto, unfolding(model::specs::Line::is_reserved))]
 fn is_reserved(profile: Profile, text: &[u8]) -> bool
     ensures { result ≡ is_reserved profile text.now }
@@ -22,7 +22,7 @@ fn is_reserved(profile: Profile, text: &[u8]) -> bool
         || is_in_capitals(text, b"Y")
 }
 
-/// Whether a reserved word stands in an expression where a name stands.
+/// Returns whether an expression uses a reserved word as a name.
 fn expr_reserves(profile: Profile, expr: &Expr<'_>) -> bool
     ensures { result ≡ term_reserves profile (view expr.now) }
 {
@@ -37,7 +37,7 @@ fn expr_reserves(profile: Profile, expr: &Expr<'_>) -> bool
     }
 }
 
-/// The same of an operand.
+/// Returns whether an operand uses a reserved word as a name.
 fn operand_reserves(profile: Profile, operand: &Operand<'_>) -> bool
     ensures { result ≡ operand_reserves profile (seen_operand operand.now) }
 {
@@ -51,7 +51,7 @@ fn operand_reserves(profile: Profile, operand: &Operand<'_>) -> bool
     }
 }
 
-/// The same of an item.
+/// Returns whether an item uses a reserved word as a name.
 fn item_reserves(profile: Profile, item: &Item<'_>) -> bool
     ensures { result ≡ item_reserves profile (seen_item item.now) }
 {
@@ -61,21 +61,21 @@ fn item_reserves(profile: Profile, item: &Item<'_>) -> bool
     }
 }
 
-/// The same of some expressions.
+/// Returns whether one of some expressions uses a reserved word as a name.
 fn any_reserves(profile: Profile, values: &[Expr<'_>]) -> bool
     ensures { result ≡ list_any (λ value. term_reserves profile (view value)) values.now }
 {
     values.iter().any(|value| expr_reserves(profile, value))
 }
 
-/// The same of some items.
+/// Returns whether one of some items uses a reserved word as a name.
 fn any_item_reserves(profile: Profile, items: &[Item<'_>]) -> bool
     ensures { result ≡ list_any (λ item. item_reserves profile (seen_item item)) items.now }
 {
     items.iter().any(|item| item_reserves(profile, item))
 }
 
-/// The same of an operation.
+/// Returns whether a statement uses a reserved word as a name.
 #[tactic(auto, using(crate::proofs::TokensLeft::list_any_map))]
 fn reserves(profile: Profile, statement: &Statement<'_>) -> bool
     ensures { result ≡ reserves profile (seen statement.now) }
@@ -91,7 +91,7 @@ fn reserves(profile: Profile, statement: &Statement<'_>) -> bool
     }
 }
 
-/// Whether a reserved word stands in a line where a name stands.
+/// Returns whether a line uses a reserved word as a name.
 pub fn line_reserves(profile: Profile, line: &Line<'_>) -> bool
     ensures { result ≡ line_reserves profile (seen_line line.now) }
 {

@@ -18,10 +18,10 @@ use optable::mnemonic_in;
 use parser::expressions_are_longest;
 use std::alloc::Global;
 
-/// The most bytes that a line has without its end (profile).
+/// The most bytes that a line has without its end. Source: mos65.
 const LINE_SIZE: usize = 255;
 
-/// What a directive and the tokens after it say.
+/// Reads a directive and the tokens after it.
 #[tactic(auto, unfolding(model::specs::Line::directive_of))]
 fn directive<'a>(
     alloc: Global,
@@ -48,7 +48,7 @@ fn directive<'a>(
     Err(LineFault::Syntax)
 }
 
-/// What the tokens after a `*` say.
+/// Reads the tokens after a `*`.
 fn origin<'a>(alloc: Global, after: &[Token<'a>]) -> Result<Statement<'a>, LineFault>
     ensures { Reads seen result (origin_after (lexemes after.now)) }
 {
@@ -61,7 +61,7 @@ fn origin<'a>(alloc: Global, after: &[Token<'a>]) -> Result<Statement<'a>, LineF
     Ok(Statement::Origin(whole_expression(alloc, rest)?))
 }
 
-/// What a word and the tokens after it say.
+/// Reads a word and the tokens after it.
 fn instruction<'a>(
     alloc: Global,
     profile: Profile,
@@ -74,7 +74,7 @@ fn instruction<'a>(
     Ok(Statement::Instruction(mnemonic, operand(alloc, after)?))
 }
 
-/// What the tokens of an operation say.
+/// Reads the tokens of a statement.
 #[tactic(auto, unfolding(model::specs::Line::statement_of))]
 fn statement<'a>(
     alloc: Global,
@@ -96,7 +96,7 @@ fn statement<'a>(
     }
 }
 
-/// What the tokens of a line without a label say.
+/// Reads the tokens of a line without a label.
 fn unlabelled<'a>(
     alloc: Global,
     profile: Profile,
@@ -107,7 +107,7 @@ fn unlabelled<'a>(
     Ok(Line::Labelled(None, statement(alloc, profile, tokens)?))
 }
 
-/// What a line's first word and the tokens after it say: a label, a definition, or neither.
+/// Reads a line's first word and the tokens after it: a label, a definition, or neither.
 fn word_line<'a>(
     alloc: Global,
     profile: Profile,
@@ -130,7 +130,7 @@ fn word_line<'a>(
     unlabelled(alloc, profile, tokens)
 }
 
-/// What the tokens of a line say.
+/// Reads the tokens of a line.
 #[tactic(auto, unfolding(model::specs::Line::line_of))]
 fn line_of<'a>(alloc: Global, profile: Profile, tokens: &[Token<'a>]) -> Result<Line<'a>, LineFault>
     ensures { Reads seen_line result (line_of profile (lexemes tokens.now)) }
@@ -148,7 +148,7 @@ fn line_of<'a>(alloc: Global, profile: Profile, tokens: &[Token<'a>]) -> Result<
     }
 }
 
-/// The fault of a line that has no tokens, by its bytes.
+/// Returns the fault of a line that has no tokens, by its bytes.
 fn fault_of_bytes(line: &[u8]) -> AsmFaultKind
     ensures { result ≡ fault_of_bytes line.now }
 {
@@ -159,7 +159,7 @@ fn fault_of_bytes(line: &[u8]) -> AsmFaultKind
     }
 }
 
-/// The tokens of a line put into a list, or the fault of its text so far.
+/// Puts the tokens of a line into a list, or returns the first fault of its text.
 #[tactic(auto, unfolding(crate::specs::Tokens::line_tokens))]
 fn line_tokens<'a>(room: &mut Vec<Token<'a>>, line: &'a [u8]) -> Result<(), LineError>
     ensures { Gives (λ _. lexemes room.new.items) result (line_tokens line.now) }
@@ -174,7 +174,7 @@ fn line_tokens<'a>(room: &mut Vec<Token<'a>>, line: &'a [u8]) -> Result<(), Line
     }
 }
 
-/// What the tokens of a line say, or the fault of a reserved word among them.
+/// Reads the tokens of a line, or returns the fault of a reserved word among them.
 fn said<'a>(alloc: Global, profile: Profile, tokens: &[Token<'a>]) -> Result<Line<'a>, LineError>
     ensures { Gives seen_line result (unreserved profile (line_of profile (lexemes tokens.now))) }
 {
@@ -185,7 +185,7 @@ fn said<'a>(alloc: Global, profile: Profile, tokens: &[Token<'a>]) -> Result<Lin
     Ok(line)
 }
 
-/// What a line says.
+/// Reads a line.
 fn read<'a>(
     alloc: Global,
     profile: Profile,
@@ -200,13 +200,16 @@ fn read<'a>(
     }
 }
 
-/// What a line says in a profile, without its end. Its tokens are put into `room` in place of what that holds, so that the
-/// memory of one list serves line after line. At each fault `room` is empty.
+/// Reads a line of a source in a profile; the line comes without its end.
 ///
-/// `Kind` has the first fault of its text, in this order: `LineTooLong` above 255 bytes; `NotAscii` where a byte is
-/// neither $20..$7E nor a tab; `Syntax` where the line is none of the grammar, with reserved words read as names;
-/// `ReservedName` where a mnemonic of the profile, A, X or Y stands where a name stands. `Memory`: a request for memory was
-/// refused. Source: profile.
+/// Its tokens are put into `room` in place of its contents, so one list's memory serves line after
+/// line. On an error `room` is empty.
+///
+/// Errors: `Kind` with the first fault of the text, in this order: `LineTooLong` above 255 bytes;
+/// `NotAscii` if a byte is neither $20..$7E nor a tab; `Syntax` if the line is not in the grammar,
+/// with reserved words read as names;
+/// `ReservedName` if a mnemonic of the profile, A, X or Y is used as a name. `Memory` if an
+/// allocation fails. Source: mos65.
 pub fn read_line_with<'a>(
     alloc: Global,
     profile: Profile,
@@ -214,9 +217,9 @@ pub fn read_line_with<'a>(
     line: &'a [u8],
 ) -> Result<Line<'a>, LineError>
     ensures exact { Gives seen_line result (read_line profile line.now) }
-    // What it denotes has few bytes, since it has few itself.
+    // The line denotes few bytes, since its text has few.
     ensures small { IfOk result (λ l. IsSmallLine (seen_line l)) }
-    // Nothing is left in the list where the line has a fault.
+    // If the line has a fault, the list is empty.
     ensures err { OnErr result (room.new.items ≡ []) }
 {
     // For the proof: tokens are slices of the line, and expressions are beginnings of its tokens.
@@ -231,7 +234,7 @@ pub fn read_line_with<'a>(
     }
 }
 
-/// What one line says in a profile, as `read_line_with`.
+/// Reads a line of a source in a profile, as `read_line_with` does, with a list of its own.
 pub fn read_line<'a>(alloc: Global, profile: Profile, line: &'a [u8]) -> Result<Line<'a>, LineError>
     ensures exact { Gives seen_line result (read_line profile line.now) }
     ensures small { IfOk result (λ l. IsSmallLine (seen_line l)) }

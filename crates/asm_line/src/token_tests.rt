@@ -1,4 +1,4 @@
-//! What single tokens are.
+//! Tests of single tokens.
 
 ghost use Rattle.std.specs.Prelude.{◌≡◌};
 ghost use Rattle.std.specs.Str.{bytes_eq, str_to_ascii_uppercase};
@@ -10,7 +10,7 @@ use line_parts::Token;
 use model::TokenKind;
 use parser::symbol;
 
-/// Whether a text is some capitals, in either letter case.
+/// Returns whether a text is these capitals, in either letter case.
 pub fn is_in_capitals(text: &[u8], capitals: &[u8]) -> bool
     ensures { result ≡ bytes_eq (str_to_ascii_uppercase text.now) capitals.now }
 {
@@ -25,7 +25,7 @@ pub fn is_in_capitals(text: &[u8], capitals: &[u8]) -> bool
     true
 }
 
-/// Whether a token is a word, in either letter case.
+/// Returns whether a token is this word, in either letter case.
 pub fn is_word(token: &Token<'_>, capitals: &[u8]) -> bool
     ensures { result ≡ is_word capitals.now (lexeme_of token.now) }
 {
@@ -39,7 +39,7 @@ pub fn is_word(token: &Token<'_>, capitals: &[u8]) -> bool
     }
 }
 
-/// Whether a token is a symbol.
+/// Returns whether a token is this symbol.
 pub fn is_symbol(token: &Token<'_>, byte: u8) -> bool
     ensures { result ≡ is_symbol byte (lexeme_of token.now) }
 {

@@ -192,7 +192,7 @@ pub verdict_value : (m : Map) (source : List ℕ) (found : Found) (all : Fixed) 
 verdict_value m source found all f small first second =
     small_verdict m source small ∙ value_on m (laid_lines 1 (nothing_fixed m.profile) (read_lines m.profile source)) found all f (sym (found_all m.profile (read_lines m.profile source)) ∙ first) second
 
--- ---- memory aside
+-- ---- running out of memory
 
 pub layout_answer : (m : Map) (source : List ℕ) (f : AsmFault) → length source ≤ most_bytes
     → (f ≡ out_of_memory) ⊎ (found_lines 1 (nothing_fixed m.profile) nothing_found (read_lines m.profile source) ≡ Err f) → (f ≡ out_of_memory) ⊎ (verdict m source ≡ Err f)

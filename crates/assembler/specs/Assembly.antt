@@ -1,4 +1,4 @@
--- What an assembly shows, and the refusal that is no fault of the source.
+-- What an assembly shows, and the error that is not a fault of the source.
 use Rattle.std.specs.Prelude.{◌≡◌, ℕ, List, map, Option, Result, Ok, Err}
 pub use Rattle.line_parts.specs.Located.{AnswersSource, out_of_memory}
 use Rattle.model.specs.Names.{Definitions}
@@ -9,8 +9,9 @@ use Rattle.source_laws.specs.Judging.{Judged, judged, ◌>>=◌}
 use Rattle.model.specs.State.{Map}
 use Rattle.model.specs.declared.source_fault.AsmFault.{AsmFault}
 
--- What clauses see of an assembly: the byte at each address, where the source denotes one; the source; each line's address and
--- byte count, in the order of the lines; and the names with their numbers, in order of definition.
+-- What clauses see of an assembly: the byte at each address where the source denotes one; the
+-- source; each line's address and byte count, in the order of the lines; and the names with their
+-- numbers, in order of definition.
 pub record Assembled : Type 0 where
   pub image : List (Option ℕ)
   pub source : List ℕ
@@ -32,11 +33,12 @@ verdict bus_map source = judged bus_map source >>= λ j. Ok (verdict_of j)
 abbrev pub seen_verdict : Assembled → Verdict
 seen_verdict a = record { image = a.image; places = a.places; names = a.names }
 
--- The answer is this image, or memory was refused.
+-- The result is this image, or memory ran out.
 abbrev pub IsImageOrMemory : Result Assembled AsmFault → List (Option ℕ) → Type 0
 IsImageOrMemory (Ok a) image = a.image ≡ image
 IsImageOrMemory (Err fault) image = fault ≡ out_of_memory
 
--- The listing of what an assembly shows: of its source's lines, as many as have a place, and of its names.
+-- The listing of what an assembly shows: of its source's lines that have an address, and of its
+-- names.
 abbrev pub listing_of : Assembled → List ℕ
 listing_of a = listing_text (lines_of a.source) (map (shown_in a.image) a.places) a.names

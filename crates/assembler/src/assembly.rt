@@ -23,10 +23,10 @@ use std::alloc::Global;
 use std::marker::Model;
 use symbols::Symbols;
 
-/// The most bytes that a source has (profile).
+/// The most bytes that a source has. Source: mos65.
 const SOURCE_SIZE: usize = 1_048_576;
 
-/// What a source denotes.
+/// The result of assembling a source.
 #[derive(Drop)]
 pub struct Assembly {
     image: Image,
@@ -45,36 +45,39 @@ impl Model for Assembly {
 }
 
 impl Assembly {
-    /// The byte at each of the 65,536 addresses, where the source denotes one.
+    /// Returns the image: the byte at each of the 65,536 addresses where the source denotes one.
     pub fn image(&self) -> &Image
         ensures { result.now ≡ self.now.image }
     {
         &self.image
     }
 
-    /// How many names the source defines.
+    /// Returns how many names the source defines.
     pub fn symbol_count(&self) -> usize
         ensures { result ≡ length self.now.names }
     {
         self.symbols.count()
     }
 
-    /// A name and its number, by its place in the order of definition, counted from 0.
+    /// Returns a name and its number, by its index in the order of definition, counted from 0.
     pub fn symbol(&self, index: usize) -> Option<(&[u8], i32)>
         ensures { shown result ≡ slice_get self.now.names index }
     {
         self.symbols.symbol(index)
     }
 
-    /// The number of a name, if the source defines it.
+    /// Returns the number of a name, if the source defines it.
     pub fn value_of(&self, name: &[u8]) -> Option<i32>
         ensures { result ≡ number_in self.now.names name.now }
     {
         self.symbols.value_of(name)
     }
 
-    /// The listing: each line that was read with its address and its bytes, and then the names in order of definition.
-    /// The only error is `OutOfMemory` with line 0, where a request for memory was refused.
+    /// Returns the listing: each line that was read with its address and bytes, then the names.
+    ///
+    /// The names come in order of definition.
+    ///
+    /// Errors: `OutOfMemory` with line 0 if an allocation fails.
     pub fn listing(&self, alloc: Global) -> Result<Vec<u8>, AsmFault>
         ensures rows { IfOk result (λ text. text.items ≡ listing_of self.now) }
         ensures only { IfErr result (λ fault. fault ≡ out_of_memory) }
@@ -85,42 +88,50 @@ impl Assembly {
     }
 }
 
-/// Assembles a source in its map's profile: lines that end with LF or CR LF, and after the last LF one more if it is not empty.
+/// Assembles a source in its map's profile: returns the image that it denotes, or its fault.
 ///
-/// The answer is the image that the source denotes, or its fault. Lines are counted from 1. A fault of the layout comes before
-/// any fault of a value; within each group the lowest line decides, then the lowest number on it. Nothing after the line of `.END`
-/// is read.
+/// Lines end with LF or CR LF; after the last LF comes one more line if it is not empty. Lines are
+/// counted from 1. Nothing after the line of `.END` is read.
+///
+/// A fault of the layout comes before any fault of a value. Within each group the lowest line
+/// decides, then the lowest number on it.
 ///
 /// - `TooLarge`, with line 0 and before all others: the source has more than 1,048,576 bytes.
-/// - Layout, of a line's text: `LineTooLong` above 255 bytes without its end; `NotAscii` where a byte is neither $20..$7E nor a tab
-///   (as a CR that is not right before an LF); `Syntax` where the line is none of the grammar; `ReservedName` where a mnemonic, A, X
-///   or Y stands for a name.
-/// - Layout, of its name, its place and its size: `DuplicateName` where an earlier line defines its name; `UnknownHere` where `*=`,
-///   `.RES` or the definition of a name uses a name that neither an earlier line nor its own label defines; `NoSuchForm` where the
-///   instruction has no form for the operand; `TooManyNames` where its name is the 8,193rd; `OriginRange` where the value of `*=` is
-///   outside 0..65535, or `.RES` goes below its line's address or past 65536; `ExprRange` (11) and `DivideByZero` (12) in an
-///   expression that places, sizes or defines.
-/// - Values: `UndefinedName` for a name that no line defines; `ByteRange` and `WordRange` for a value that its byte or its two bytes
-///   do not take; `BranchRange` for a target farther than -128..127 from the next instruction; `PastEnd` for a byte past address
-///   65535; `Overlap` for a byte where an earlier line has one; `PortAddress` for a byte at an address of the map's port;
-///   `ExprRange` (27) and `DivideByZero` (28) in any other expression. The line's address and its size alone decide `PastEnd`,
-///   `Overlap` and `PortAddress`.
+/// - Layout, of a line's text: `LineTooLong` above 255 bytes without its end; `NotAscii` if a byte
+///   is neither $20..$7E nor a tab (a CR that is not right before an LF is such a byte);
+///   `Syntax` if the line is not in the grammar; `ReservedName` if a mnemonic, A, X or Y is used as
+///   a name.
+/// - Layout, of its name, its address and its size:
+///   `DuplicateName` if an earlier line defines its name; `UnknownHere` if `*=`, `.RES` or the
+///   definition of a name uses a name that neither an earlier line nor its own label defines;
+///   `NoSuchForm` if the instruction has no form for the operand; `TooManyNames` if its name is the
+///   8,193rd; `OriginRange` if the value of `*=` is outside 0..65535, or
+///   `.RES` goes below its line's address or past 65536; `ExprRange` (11) and `DivideByZero` (12)
+///   in an expression that places, sizes or defines.
+/// - Values: `UndefinedName` for a name that no line defines; `ByteRange` and
+///   `WordRange` for a value that does not fit its byte or its two bytes; `BranchRange` for a
+///   target farther than -128..127 from the next instruction;
+///   `PastEnd` for a byte past address 65535; `Overlap` for a byte where an earlier line has one;
+///   `PortAddress` for a byte at an address of the map's port; `ExprRange` (27) and `DivideByZero`
+///   (28) in any other expression. The line's address and its size alone decide
+///   `PastEnd`, `Overlap` and `PortAddress`.
+/// - `OutOfMemory` with line 0: an allocation failed. It can come before any other fault is found,
+///   and no other fault is returned in its place.
 ///
-/// `OutOfMemory` with line 0 says that a request for memory was refused.
-/// Source: profile.
+/// Source: mos65.
 pub fn assemble(alloc: Global, source: &[u8], map: &MapSpec) -> Result<Assembly, AsmFault>
     // The image is what the source denotes.
     ensures denoted { IfOk result (λ a. Denotes map.now source.now a.image) }
-    // A source that denotes an image is assembled to it, memory aside.
+    // A source that denotes an image is assembled to it, unless memory runs out.
     ensures only { (image : List (Option ℕ)) → Denotes map.now source.now image → IsImageOrMemory result image }
-    // A refusal is the source's fault, or that memory was refused.
+    // An error is the source's fault, or `OutOfMemory`.
     ensures refused { IfErr result (λ f. (f ≡ out_of_memory) ⊎ HasFault map.now source.now f) }
-    // A source with a fault is refused with it, memory aside.
+    // A source with a fault is rejected with it, unless memory runs out.
     ensures faulty { (f : AsmFault) → HasFault map.now source.now f → (result ≡ Err f) ⊎ (result ≡ Err out_of_memory) }
-    // No byte stands at a port address, so a machine can load the image.
+    // No byte is at a port address, so a machine can load the image.
     ensures spared { IfOk result (λ a. has_port_byte map.now a.image ≡ false) }
     ensures cells { IfOk result (λ a. IsImage a.image) }
-    // The source is kept, where its lines stand and how many bytes each has, and its names with their numbers.
+    // The source is kept, with each line's address and number of bytes, and its names.
     ensures kept { IfOk result (λ a. a.source ≡ source.now) }
     ensures places { IfOk result (λ a. (placed : List Placed) (all : Fixed) → LaidOut (nothing_fixed map.now.profile) (read_lines map.now.profile source.now) placed all → a.places ≡ extents_of placed) }
     ensures names { IfOk result (λ a. (placed : List Placed) (all : Fixed) → LaidOut (nothing_fixed map.now.profile) (read_lines map.now.profile source.now) placed all → a.names ≡ all.names) }
@@ -133,7 +144,7 @@ pub fn assemble(alloc: Global, source: &[u8], map: &MapSpec) -> Result<Assembly,
     assemble_lines(alloc, source, map)
 }
 
-/// The source laid out, and then its bytes put.
+/// Lays out the source, and then puts its bytes.
 fn assemble_lines(alloc: Global, source: &[u8], map: &MapSpec) -> Result<Assembly, AsmFault>
     ensures exact { AnswersSource seen_verdict result (verdict map.now source.now) }
     ensures cells { IfOk result (λ a. IsImage a.image) }

@@ -1,4 +1,4 @@
-//! The first pass: where each line stands, and which names have which numbers.
+//! The first pass: the address of each line, and the number of each name.
 
 ghost use Rattle.std.specs.Prelude.{◌≡◌, ◌+◌, ◌-◌, ◌<◌, ◌≤◌, ◌^◌, [], max, length, IfOk};
 ghost use Rattle.assembler.specs.Found.{found_lines, nothing_found, taken};
@@ -16,7 +16,7 @@ use source_lines::next_line;
 use std::alloc::Global;
 use symbols::Symbols;
 
-/// Whether a statement is `.END`.
+/// Returns whether a statement is `.END`.
 fn is_finish(statement: &Statement<'_>) -> bool
     ensures { result ≡ is_finish (seen statement.now) }
 {
@@ -32,7 +32,7 @@ fn is_finish(statement: &Statement<'_>) -> bool
     }
 }
 
-/// Whether nothing after a line is read.
+/// Returns whether nothing after a line is read.
 fn ends(line: &Line<'_>) -> bool
     ensures { result ≡ ends_line (seen_line line.now) }
 {
@@ -42,7 +42,9 @@ fn ends(line: &Line<'_>) -> bool
     }
 }
 
-/// A line after those that are found: read and laid out. The next line's address, and whether no more lines are read.
+/// Reads a line and lays it out after those that were found.
+///
+/// Returns the next line's address, and whether no more lines are read.
 #[tactic(auto, unfolding(model::specs::Layout::layout_of))]
 fn take_line<'a>(
     alloc: Global,
@@ -72,7 +74,7 @@ fn take_line<'a>(
     }
 }
 
-/// Each line that is read in its place, and all names with their numbers; or the first layout fault.
+/// Returns each line in its place and all names with their numbers, or the first layout fault.
 pub fn lay_out<'a>(
     alloc: Global,
     profile: Profile,

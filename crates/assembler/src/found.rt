@@ -14,14 +14,14 @@ use line_parts::{Code, Kept, Line, Statement};
 use source_lines::Span;
 use std::alloc::{AllocError, Global};
 
-/// Where each line stands, and the lines that denote bytes.
+/// The address of each line, and the lines that denote bytes.
 #[derive(Drop)]
 pub struct Lines<'a> {
     spans: Vec<Span>,
     kept: Vec<Kept<'a>>,
 }
 
-/// Whether a statement denotes bytes, an instruction by its opcode.
+/// Returns whether a statement denotes bytes, an instruction by its opcode.
 fn is_kept(code: Option<Code>, statement: &Statement<'_>) -> bool
     ensures { result ≡ is_kept (content_by code (seen statement.now)) }
 {
@@ -35,7 +35,7 @@ fn is_kept(code: Option<Code>, statement: &Statement<'_>) -> bool
 }
 
 impl<'a> Lines<'a> {
-    /// None yet.
+    /// Makes an empty one.
     pub fn new(alloc: Global) -> Lines<'a>
         ensures { found_of result ≡ nothing_found }
     {
@@ -45,21 +45,21 @@ impl<'a> Lines<'a> {
         }
     }
 
-    /// The lines that denote bytes.
+    /// Returns the lines that denote bytes.
     pub fn kept(&self) -> &[Kept<'a>]
         ensures { counted_in result.now ≡ (found_of self.now).kept }
     {
         &self.kept
     }
 
-    /// Where each line stands.
+    /// Returns the address and size of each line.
     pub fn into_spans(self) -> Vec<Span>
         ensures { pairs_of result.items ≡ (found_of self.entry).extents }
     {
         self.spans
     }
 
-    /// A line after those that are there, its place found.
+    /// Appends a line whose place is known.
     pub fn note(
         &mut self,
         number: u32,

@@ -23,7 +23,7 @@ pub struct Line {
     pub count: u8,
 }
 
-/// A line of at most three bytes.
+/// Returns a line of at most three bytes.
 fn line_of(written: &[u8]) -> Line
     requires { length written.now ≤ 3 }
     ensures bytes { take result.count result.bytes ≡ written.now }
@@ -39,7 +39,7 @@ fn line_of(written: &[u8]) -> Line
     }
 }
 
-/// Whether an operation may stand alone.
+/// Returns whether a statement may be alone.
 fn may_stand_alone(statement: &Statement<'_>) -> bool
     ensures { result ≡ may_stand_alone (seen statement.now) }
 {
@@ -54,7 +54,7 @@ fn may_stand_alone(statement: &Statement<'_>) -> bool
     }
 }
 
-/// The bytes of a statement alone at an address, or its value fault.
+/// Returns the bytes of a statement alone at an address, or its value fault.
 fn encode_alone(
     alloc: Global,
     address: u32,
@@ -72,7 +72,7 @@ fn encode_alone(
     Ok(line_of(&bytes))
 }
 
-/// The bytes of a line alone at an address, or its fault.
+/// Returns the bytes of a line alone at an address, or its fault.
 #[tactic(auto, unfolding(model::specs::OneLine::one_line))]
 fn assemble_alone(
     alloc: Global,
@@ -102,20 +102,22 @@ fn assemble_alone(
     }
 }
 
-/// The bytes that a text denotes at an address in a profile, as one line of a source without names: 1 to 3 bytes.
+/// Assembles a text at an address in a profile, as one line of a source without names.
 ///
-/// The text is a line without its end, so that an LF or a CR in it is `NotAscii`, and more than 255 bytes are `LineTooLong`. Its
-/// faults are those of `assemble`, with line 1, but for three: `NotOneLine`, after all faults of the layout and before those of
-/// values, where the text has a label, a definition, no operation, `*=`, `.RES` or `.END`, or more than 3 bytes; `Overlap` and
-/// `PortAddress` are no fault of one line. `OutOfMemory` with line 0 says that a request for memory was refused.
-/// Source: profile.
+/// Returns its 1 to 3 bytes. The text is a line without its end: an LF or a CR in it is
+/// `NotAscii`, and more than 255 bytes are `LineTooLong`.
+///
+/// Errors: those of `assemble`, with line 1, but for three. `NotOneLine` comes after all faults of
+/// the layout and before those of values, if the text has a label, a definition, no statement,
+/// `*=`, `.RES` or `.END`, or more than 3 bytes. `Overlap` and
+/// `PortAddress` never come. `OutOfMemory` with line 0 if an allocation fails. Source: mos65.
 pub fn assemble_line_in(
     alloc: Global,
     profile: Profile,
     address: u16,
     text: &[u8],
 ) -> Result<Line, AsmFault>
-    // The bytes or the fault are what the text denotes there, memory aside.
+    // The bytes or the fault are what the text denotes there, unless memory runs out.
     ensures exact { AnswersSource (λ l. take l.count l.bytes) result (numbered 1 (one_line profile address text.now)) }
     ensures rest { IfOk result (λ l. drop l.count l.bytes ≡ replicate (3 - l.count) 0) }
     ensures few { IfOk result (λ l. l.count ≤ 3) }
@@ -126,9 +128,9 @@ pub fn assemble_line_in(
     }
 }
 
-/// `assemble_line_in` of profile N.
+/// Assembles a text as one line in profile N, as `assemble_line_in` does.
 pub fn assemble_line(alloc: Global, address: u16, text: &[u8]) -> Result<Line, AsmFault>
-    // The bytes or the fault are what the text denotes there, memory aside.
+    // The bytes or the fault are what the text denotes there, unless memory runs out.
     ensures exact { AnswersSource (λ l. take l.count l.bytes) result (numbered 1 (one_line Profile.N address text.now)) }
     ensures rest { IfOk result (λ l. drop l.count l.bytes ≡ replicate (3 - l.count) 0) }
     ensures few { IfOk result (λ l. l.count ≤ 3) }

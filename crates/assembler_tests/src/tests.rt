@@ -1,5 +1,6 @@
-//! Sources that no page of text can hold: ends of lines, bytes that are no text, long lines, and as many lines and names as there may
-//! be; and each public call once. What a source denotes, and why one is refused, stands in `tests/sources.md`.
+//! Sources that no page of text can hold: ends of lines, bytes that are no text, long lines, and as
+//! many lines and names as there may be; and each public call once. What a source denotes, and why
+//! one is refused, stands in `tests/sources.md`.
 
 use assembler::{Assembly, Line, Profile, assemble, assemble_line, assemble_line_in};
 use bus::MapSpec;
@@ -124,7 +125,8 @@ fn takes_as_many_names_as_there_may_be(rt: HostRuntime) -> Result<(), Fail> {
 /// So many times a byte, the bytes after them, and the fault of the source that they are.
 type Long = (usize, u8, &'static [u8], Option<AsmFault>);
 
-/// Lines of 255 bytes and of one more, with each end; bytes that are no text; and sources of 1,048,576 bytes and of one more.
+/// Lines of 255 bytes and of one more, with each end; bytes that are no text; and sources of
+/// 1,048,576 bytes and of one more.
 const LONG: &[Long] = &[
     (255, b' ', b"", None),
     (255, b' ', b"\n", None),

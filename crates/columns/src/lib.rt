@@ -1,6 +1,6 @@
-//! What the rows of memory and of a listing have in common: an address in four columns, and bytes in eight. Without memory.
+//! What rows of memory and of a listing share: an address in four columns, and bytes in eight.
 //!
-//! Rows of memory and of a listing take theirs from here.
+//! Nothing here allocates.
 #![tactic(auto)]
 
 ghost use Rattle.std.specs.Prelude.{◌≡◌, take};
@@ -8,7 +8,7 @@ ghost use Rattle.model.specs.Listing.{address_text, padded, separated};
 
 use hexdigits::{digits_of, digits_of_word};
 
-/// An address in four digits, and `----` above 65535.
+/// Returns an address as four hex digits, or `----` above 65535.
 pub fn address_text(address: u32) -> [u8; 4]
     ensures { result ≡ address_text address }
 {
@@ -19,7 +19,7 @@ pub fn address_text(address: u32) -> [u8; 4]
     }
 }
 
-/// The first three of some bytes in hex, with a space between them, in 8 columns.
+/// Returns the first three of some bytes in hex, with a space between them, in 8 columns.
 #[tactic(auto, unfolding(model::specs::Text::spaced_bytes))]
 pub fn byte_columns(bytes: &[u8]) -> [u8; 8]
     ensures { result ≡ padded (separated (take 3 bytes.now)) }

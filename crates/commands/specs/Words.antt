@@ -2,7 +2,7 @@
 use Rattle.std.specs.Prelude.{◌≡◌, ℕ, Bool, true, false, List, [], ◌∷◌, ◌==◌, if◌then◌else◌}
 use Rattle.model.specs.Commands.{words_of}
 
--- The first word of a line and the bytes after it. Where a line has only spaces, there is none.
+-- The first word of a line and the bytes after it; a line of only spaces has none.
 abbrev pub IsNextWord : List ℕ → List ℕ → List ℕ → Type 0
 IsNextWord line [] rest = (words_of line ≡ []) × (words_of rest ≡ [])
 IsNextWord line (b ∷ w) rest = words_of line ≡ (b ∷ w) ∷ words_of rest

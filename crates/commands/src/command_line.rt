@@ -9,8 +9,9 @@ use crate::numbers::{address_of, byte_of, number_up_to};
 use crate::words::{next_word, unspaced};
 use model::{Command, Setting};
 
-/// What a line asks for, its end taken off (profile). A line of more than 255 bytes is bad as a
-/// whole.
+/// Reads a command line without its end. A line of more than 255 bytes is `Bad`.
+///
+/// Source: mos65.
 #[tactic(auto, using(crate::proofs::Rows::plain_row, crate::proofs::Rows::long_row), unfolding(model::specs::Commands::command_of))]
 pub fn parse(line: &[u8]) -> Command
     ensures { result ≡ command_of line.now }
@@ -46,7 +47,7 @@ fn is_text(word: &[u8], text: &[u8]) -> bool
     word == text
 }
 
-/// A command of one word.
+/// Reads a command of one word.
 #[tactic(auto, unfolding(crate::specs::Groups::plain_command))]
 fn plain_command(word: &[u8]) -> Command
     ensures { result ≡ plain_command word.now }
@@ -70,7 +71,7 @@ fn plain_command(word: &[u8]) -> Command
     }
 }
 
-/// A command of two words, but for `in`: the IRQ line's level, a number or an address.
+/// Reads a command of two words, but for `in`: the IRQ line's level, a number or an address.
 #[tactic(auto, unfolding(crate::specs::Groups::pair_command))]
 fn pair_command(word: &[u8], value: &[u8]) -> Command
     requires { bytes_eq word.now (codes "in") ≡ false }
@@ -95,7 +96,7 @@ fn pair_command(word: &[u8], value: &[u8]) -> Command
     }
 }
 
-/// The IRQ line's level.
+/// Reads the IRQ line's level.
 fn irq_command(level: &[u8]) -> Command
     ensures { result ≡ irq_command level.now }
 {
@@ -108,7 +109,7 @@ fn irq_command(level: &[u8]) -> Command
     }
 }
 
-/// A run of so many steps.
+/// Returns a run of so many steps.
 fn run_command(value: Option<u32>) -> Command
     ensures { result ≡ number_command Command.Run value }
 {
@@ -118,7 +119,7 @@ fn run_command(value: Option<u32>) -> Command
     }
 }
 
-/// So many events gone back over.
+/// Returns the undoing of so many events.
 fn back_command(value: Option<u32>) -> Command
     ensures { result ≡ number_command Command.Back value }
 {
@@ -128,7 +129,7 @@ fn back_command(value: Option<u32>) -> Command
     }
 }
 
-/// A breakpoint set.
+/// Returns the setting of a breakpoint.
 fn break_command(value: Option<u16>) -> Command
     ensures { result ≡ number_command Command.Break value }
 {
@@ -138,7 +139,7 @@ fn break_command(value: Option<u16>) -> Command
     }
 }
 
-/// A breakpoint cleared.
+/// Returns the clearing of a breakpoint.
 fn unbreak_command(value: Option<u16>) -> Command
     ensures { result ≡ number_command Command.Unbreak value }
 {
@@ -148,7 +149,7 @@ fn unbreak_command(value: Option<u16>) -> Command
     }
 }
 
-/// A watch set.
+/// Returns the setting of a watchpoint.
 fn watch_command(value: Option<u16>) -> Command
     ensures { result ≡ number_command Command.Watch value }
 {
@@ -158,7 +159,7 @@ fn watch_command(value: Option<u16>) -> Command
     }
 }
 
-/// A watch cleared.
+/// Returns the clearing of a watchpoint.
 fn unwatch_command(value: Option<u16>) -> Command
     ensures { result ≡ number_command Command.Unwatch value }
 {
@@ -168,7 +169,7 @@ fn unwatch_command(value: Option<u16>) -> Command
     }
 }
 
-/// Bytes of input, which all words of a line write: at most 16.
+/// Reads bytes of input, at most 16: all words of a line.
 fn input_command(line: &[u8]) -> Command
     ensures { result ≡ input_command (bytes_of_words (words_of line.now)) }
 {
@@ -193,7 +194,7 @@ fn input_command(line: &[u8]) -> Command
     }
 }
 
-/// A command of three words, but for `in`.
+/// Reads a command of three words, but for `in`.
 #[tactic(auto, unfolding(crate::specs::Groups::triple_command))]
 fn triple_command(word: &[u8], second: &[u8], third: &[u8]) -> Command
     requires { bytes_eq word.now (codes "in") ≡ false }
@@ -212,7 +213,7 @@ fn triple_command(word: &[u8], second: &[u8], third: &[u8]) -> Command
     }
 }
 
-/// A command of four words or more, but for `in`: a patch of two bytes or three.
+/// Reads a command of four words or more, but for `in`: a patch of two bytes or three.
 #[tactic(auto, unfolding(crate::specs::Groups::long_command))]
 fn long_command(word: &[u8], second: &[u8], third: &[u8], fourth: &[u8], rest: &[u8]) -> Command
     requires { bytes_eq word.now (codes "in") ≡ false }
@@ -232,7 +233,7 @@ fn long_command(word: &[u8], second: &[u8], third: &[u8], fourth: &[u8], rest: &
     }
 }
 
-/// The bytes from one address to another, which is at least as high.
+/// Returns the view of memory between two addresses, of which the second is at least as high.
 fn mem_command(first: Option<u16>, last: Option<u16>) -> Command
     ensures { result ≡ mem_command first last }
 {
@@ -242,7 +243,7 @@ fn mem_command(first: Option<u16>, last: Option<u16>) -> Command
     }
 }
 
-/// At most so many instructions as text, from an address on.
+/// Returns the view of at most so many instructions from an address on.
 fn dis_command(address: Option<u16>, count: Option<u32>) -> Command
     ensures { result ≡ dis_command address count }
 {
@@ -252,7 +253,7 @@ fn dis_command(address: Option<u16>, count: Option<u32>) -> Command
     }
 }
 
-/// A text to be assembled at an address. It must not be empty.
+/// Returns the assembling of a text at an address. The text must not be empty.
 fn asm_command(address: Option<u16>, text: &[u8]) -> Command
     requires { length text.now ≤ 255 }
     ensures { result ≡ asm_command address text.now }
@@ -267,7 +268,7 @@ fn asm_command(address: Option<u16>, text: &[u8]) -> Command
     }
 }
 
-/// A text with zeros after it.
+/// Returns a text with zeros after it.
 fn padded(text: &[u8]) -> [u8; 255]
     requires { length text.now ≤ 255 }
     ensures { result ≡ take 255 (text.now ++ replicate 255 0) }
@@ -277,7 +278,7 @@ fn padded(text: &[u8]) -> [u8; 255]
     bytes
 }
 
-/// Puts a text in the place of the first of some bytes.
+/// Puts a text over the first of some bytes.
 fn put_front(bytes: &mut [u8], text: &[u8])
     requires { length text.now ≤ length bytes.old }
     ensures { bytes.new ≡ text.now ++ drop (length text.now) bytes.old }
@@ -285,7 +286,7 @@ fn put_front(bytes: &mut [u8], text: &[u8])
     bytes[..text.len()].copy_from_slice(text);
 }
 
-/// A register and its new value.
+/// Reads a register and its new value.
 fn set_command(name: &[u8], value: &[u8]) -> Command
     ensures { result ≡ set_command name.now value.now }
 {
@@ -295,7 +296,7 @@ fn set_command(name: &[u8], value: &[u8]) -> Command
     }
 }
 
-/// What a register's name and a value set: two hex digits, and four for PC.
+/// Reads a register's name and its value: two hex digits, and four for PC.
 #[tactic(auto, unfolding(model::specs::Commands::set_command))]
 fn setting_of(name: &[u8], value: &[u8]) -> Option<Setting>
     ensures { MatchOption result (set_command name.now value.now ≡ Command.Bad) (λ setting. set_command name.now value.now ≡ Command.Set setting) }
@@ -317,7 +318,7 @@ fn setting_of(name: &[u8], value: &[u8]) -> Option<Setting>
     }
 }
 
-/// A patch of one byte.
+/// Reads a patch of one byte.
 fn patch_of_one(address: &[u8], first: &[u8]) -> Command
     ensures { result ≡ patch_command (address_of address.now) (bytes_of_words (first.now ∷ [])) }
 {
@@ -331,7 +332,7 @@ fn patch_of_one(address: &[u8], first: &[u8]) -> Command
     }
 }
 
-/// A patch of two bytes.
+/// Reads a patch of two bytes.
 fn patch_of_two(address: &[u8], first: &[u8], second: &[u8]) -> Command
     ensures { result ≡ patch_command (address_of address.now) (bytes_of_words (first.now ∷ second.now ∷ [])) }
 {
@@ -345,7 +346,7 @@ fn patch_of_two(address: &[u8], first: &[u8], second: &[u8]) -> Command
     }
 }
 
-/// A patch of three bytes.
+/// Reads a patch of three bytes.
 fn patch_of_three(address: &[u8], first: &[u8], second: &[u8], third: &[u8]) -> Command
     ensures { result ≡ patch_command (address_of address.now) (bytes_of_words (first.now ∷ second.now ∷ third.now ∷ [])) }
 {

@@ -1,5 +1,6 @@
 //! Command lines and the texts of replies: what a line asks for, and how numbers are printed.
-//! Nothing here takes memory.
+//!
+//! Nothing here allocates.
 #![tactic(auto)]
 
 pub use command_line::parse;

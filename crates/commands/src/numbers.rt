@@ -4,7 +4,7 @@ ghost use Rattle.std.specs.Prelude.{◌≡◌, ◌≤◌, length, IfSome};
 ghost use Rattle.model.specs.Digits.{decimal_number, decimal_value, hex_value};
 ghost use Rattle.model.specs.Commands.{address_of, byte_of, decimal_of, from_1_to};
 
-/// What a hex digit stands for, in either letter case, or `None` for any other byte.
+/// Returns the value of a hex digit in either letter case, or `None` for any other byte.
 fn hex_value(byte: u8) -> Option<u8>
     ensures value { result ≡ hex_value byte }
     ensures within { IfSome result (λ digit. digit ≤ 15) }
@@ -17,7 +17,7 @@ fn hex_value(byte: u8) -> Option<u8>
     }
 }
 
-/// The address that exactly four hex digits write (profile).
+/// Returns the address that exactly four hex digits write; otherwise `None`. Source: mos65.
 pub fn address_of(word: &[u8]) -> Option<u16>
     ensures { result ≡ address_of word.now }
 {
@@ -31,7 +31,7 @@ pub fn address_of(word: &[u8]) -> Option<u16>
     Some(((a * 16 + b) * 16 + c) * 16 + d)
 }
 
-/// The byte that exactly two hex digits write (profile).
+/// Returns the byte that exactly two hex digits write; otherwise `None`. Source: mos65.
 pub fn byte_of(word: &[u8]) -> Option<u8>
     ensures { result ≡ byte_of word.now }
 {
@@ -43,7 +43,7 @@ pub fn byte_of(word: &[u8]) -> Option<u8>
     Some(a * 16 + b)
 }
 
-/// What a decimal digit stands for, or `None` for any other byte.
+/// Returns the value of a decimal digit, or `None` for any other byte.
 fn decimal_value(byte: u8) -> Option<u8>
     ensures value { result ≡ decimal_value byte }
     ensures within { IfSome result (λ digit. digit ≤ 9) }
@@ -54,7 +54,9 @@ fn decimal_value(byte: u8) -> Option<u8>
     }
 }
 
-/// The number that at most seven digits write, or `None` where a byte is no digit (profile).
+/// Returns the number that at most seven decimal digits write.
+///
+/// Returns `None` if a byte is not a digit. Source: mos65.
 pub fn digits(word: &[u8]) -> Option<u32>
     requires { length word.now ≤ 7 }
     ensures { result ≡ decimal_number word.now }
@@ -67,7 +69,7 @@ pub fn digits(word: &[u8]) -> Option<u32>
     Some(value)
 }
 
-/// The number that one to seven decimal digits write.
+/// Returns the number that one to seven decimal digits write.
 #[tactic(auto, unfolding(model::specs::Commands::decimal_of))]
 fn decimal_of(word: &[u8]) -> Option<u32>
     ensures { result ≡ decimal_of word.now }
@@ -78,7 +80,7 @@ fn decimal_of(word: &[u8]) -> Option<u32>
     digits(word)
 }
 
-/// The number that one to seven decimal digits write, if it is at least 1 and no more than `highest`.
+/// Returns the number that one to seven decimal digits write, if it is in 1..`highest`.
 pub fn number_up_to(highest: u32, word: &[u8]) -> Option<u32>
     ensures { result ≡ from_1_to highest (decimal_of word.now) }
 {

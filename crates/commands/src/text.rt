@@ -1,4 +1,4 @@
-//! Short texts, put together without memory.
+//! Short texts, put together without allocating.
 
 ghost use Rattle.std.specs.Prelude.{◌≡◌, ◌+◌, ◌≤◌, ◌++◌, length, decimal, false};
 ghost use Rattle.model.specs.Text.{hex_byte, hex_word};
@@ -8,8 +8,9 @@ use arrayvec::ArrayVec;
 use hexdigits::{digits_of, digits_of_word};
 use model::Flags;
 
-/// A text of at most 65 bytes, as one line of a reply: the register line has at most 58 bytes, a
-/// row of memory at most 54, a row of output at most 65.
+/// A line of a reply: at most 65 bytes.
+///
+/// The register line has at most 58 bytes, a row of memory at most 54, a row of output at most 65.
 pub type Text = ArrayVec<u8, 65>;
 
 /// Appends bytes.
@@ -20,7 +21,7 @@ pub fn push_bytes(text: &mut Text, bytes: &[u8])
     let _ = text.try_extend_from_slice(bytes);
 }
 
-/// Appends a byte as two upper case hex digits.
+/// Appends a byte as two capital hex digits.
 pub fn push_hex_byte(text: &mut Text, byte: u8)
     requires { length text.old.items + 2 ≤ 65 }
     ensures { text.new.items ≡ text.old.items ++ hex_byte byte }
@@ -28,7 +29,7 @@ pub fn push_hex_byte(text: &mut Text, byte: u8)
     push_bytes(text, &digits_of(byte));
 }
 
-/// Appends an address as four upper case hex digits.
+/// Appends an address as four capital hex digits.
 pub fn push_hex_word(text: &mut Text, word: u16)
     requires { length text.old.items + 4 ≤ 65 }
     ensures { text.new.items ≡ text.old.items ++ hex_word word }
@@ -45,8 +46,9 @@ pub fn push_decimal(text: &mut Text, n: u64)
     push_bytes(text, itoa::Buffer::new().format(n).as_bytes());
 }
 
-/// Appends the status register as two upper case hex digits, with B clear:
-/// N V 1 B D I Z C from bit 7 down.
+/// Appends the status register as two capital hex digits, with B clear.
+///
+/// Its bits are N V 1 B D I Z C from bit 7 down.
 pub fn push_status(text: &mut Text, flags: Flags)
     requires { length text.old.items + 2 ≤ 65 }
     ensures { text.new.items ≡ text.old.items ++ hex_byte (status false flags) }

@@ -4,7 +4,7 @@ ghost use Rattle.std.specs.Prelude.{◌≡◌};
 ghost use Rattle.model.specs.Commands.{rest_of, unspaced};
 ghost use Rattle.commands.specs.Words.{IsNextWord};
 
-/// A line without the spaces in front of it.
+/// Returns a line without the spaces in front of it.
 pub fn unspaced(line: &[u8]) -> &[u8]
     ensures { result.now ≡ unspaced line.now }
 {
@@ -15,8 +15,9 @@ pub fn unspaced(line: &[u8]) -> &[u8]
     &line[start..]
 }
 
-/// The first word of a line and what stands after it. The word is empty where the line has none.
-/// Only spaces separate words (profile).
+/// Returns the first word of a line and what comes after it.
+///
+/// The word is empty if the line has none. Only spaces separate words. Source: mos65.
 pub fn next_word(line: &[u8]) -> (&[u8], &[u8])
     ensures word { IsNextWord line.now result.0.now result.1.now }
     ensures behind { result.1.now ≡ rest_of line.now }

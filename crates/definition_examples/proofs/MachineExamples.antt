@@ -1,4 +1,5 @@
--- Worked examples, computed from the definitions. A list that ends early stands for memory: what is past its end reads as 0.
+-- Worked examples, computed from the definitions. A list that ends early stands for memory: what is
+-- past its end reads as 0.
 use Rattle.std.proofs.Common.{◌≡◌, ℕ, Bool, true, false, List, [], ◌∷◌, ◌++◌, length, replicate, refl, codes}
 use Rattle.std.specs.Prelude.{◌==◌, ◌||◌, ◌&&◌, not, decimal, Result, Ok, Err, None, Some}
 use Rattle.model.specs.State.{Map, Bus, State, is_map, is_port, is_rom, overflows, byte_read, after_read, after_write}
@@ -227,7 +228,8 @@ load_indirect = refl
 abbrev with_jump : List ℕ
 with_jump = 0x6C ∷ 0xFF ∷ 0x00 ∷ replicate 0xFC 0 ++ 0x10 ∷ 0x03 ∷ []
 
--- JMP ($00FF) takes the high byte at $0100 in profile C, and at $0000 in profile N, in 5 cycles both
+-- JMP ($00FF) takes the high byte at $0100 in profile C, and at $0000 in profile N, in 5 cycles
+-- both
 jump_over_page : step (in_profile C with_jump no_regs 7) ≡ Ok (in_profile C with_jump (record no_regs { pc = 0x0310 }) 12)
 unfolding step attempted executed advanced stores performed effective_address jump_target word_at operation_of row_at find_row table documented added
 jump_over_page = refl
@@ -274,7 +276,8 @@ increment_a = refl
 abbrev controlled : Bool → Bus
 controlled control = record { map = plain_map N; memory = []; given = []; taken = 0; out = []; control = control }
 
--- an odd byte stored at base+3 makes it 1, an even one 0, and base+3 gives it back; the same byte at base+2 leaves it
+-- an odd byte stored at base+3 makes it 1, an even one 0, and base+3 gives it back; the same byte
+-- at base+2 leaves it
 control_of_odd : after_write (controlled false) 0xF003 0x83 ≡ controlled true
 unfolding after_write is_port
 control_of_odd = refl
@@ -295,7 +298,8 @@ control_is_zero : byte_read (controlled false) 0xF003 ≡ 0
 unfolding byte_read is_port
 control_is_zero = refl
 
--- a machine at a NOP at 0 with one byte of input; the control byte, how many input bytes were taken, I and the pending NMI are given
+-- a machine at a NOP at 0 with one byte of input; the control byte, how many input bytes were
+-- taken, I and the pending NMI are given
 abbrev asking : Bool → ℕ → Bool → Bool → State
 asking control taken i nmi = record {
   bus = record { map = plain_map N; memory = 0xEA ∷ replicate 0x1FF 0; given = 0x41 ∷ []; taken = taken; out = []; control = control };
@@ -305,7 +309,8 @@ asking control taken i nmi = record {
   cycles = 7;
 }
 
--- after an entry: PC and the status are on the stack, I is set, PC comes from the vector, where 0 stands; the input still waits
+-- after an entry: PC and the status are on the stack, I is set, PC comes from the vector, where 0
+-- stands; the input still waits
 abbrev after_entry : State
 after_entry = record {
   bus = record { map = plain_map N; memory = 0xEA ∷ replicate 0x1FC 0 ++ 0x20 ∷ 0 ∷ 0 ∷ []; given = 0x41 ∷ []; taken = 0; out = []; control = true };

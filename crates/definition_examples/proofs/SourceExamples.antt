@@ -100,7 +100,8 @@ reserved_room : layout_of (record { profile = N; address = 65535; names = [] }) 
 unfolding layout_of read_line tokens_of tokens_from token_at line_of statement_of directive_of whole_expression expression_of is_reserved mnemonic_named named_among mnemonics mnemonic_text line_fixed laid eval_of size_of
 reserved_room = refl
 
--- a name that a line below defines takes the absolute form, one that a line above defines the zero page form
+-- a name that a line below defines takes the absolute form, one that a line above defines the zero
+-- page form
 below_here : layout_of (record { profile = N; address = 0; names = [] }) (codes "LDA zpname")
     ≡ Ok (record { address = 0; content = code 0xAD Abs (Some (name (codes "zpname"))) }, record { profile = N; address = 3; names = [] })
 unfolding layout_of read_line tokens_of tokens_from token_at line_of statement_of operand_of expression_of is_reserved mnemonic_named named_among mnemonics mnemonic_text line_fixed laid form_of encoded find_opcode table documented eval_of size_of

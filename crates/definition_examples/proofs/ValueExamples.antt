@@ -11,7 +11,8 @@ use Rattle.model.specs.Value.{eval_of}
 abbrev Valued : Type 0
 Valued = Option (Result ℤ ExprFault × ℕ)
 
--- The value of a text where no name has a number, on a line at address 512, and how many tokens are left after the expression.
+-- The value of a text where no name has a number, on a line at address 512, and how many tokens are
+-- left after the expression.
 value : List ℕ → Valued
 unfolding tokens_of tokens_from token_at expression_of eval_of
 value text = option_and_then (λ ts. option_map (λ p. (eval_of (λ n. None) (pos 512) p.0, length p.1)) (expression_of ts)) (tokens_of text)

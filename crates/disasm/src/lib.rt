@@ -1,7 +1,8 @@
-//! The disassembler: the text of the instructions in some memory. Nothing here takes memory.
+//! The disassembler: the text of the instructions in some memory. Nothing here allocates.
 //!
-//! `line_in` gives one row in a profile, `row_text_in` the whole line of it; both are the definition's, in `Instruction.antt` and
-//! `Disassembly.antt` of `model`. `line_at` is `line_in` in profile N.
+//! `line_in` returns one row in a profile, `row_text_in` the whole line of it. Both are the
+//! definition's, in `Instruction.antt` and `Disassembly.antt` of `model`. `line_at` is `line_in` in
+//! profile N.
 #![tactic(auto)]
 
 pub use line::{TextLine, line_at, line_in};

@@ -11,7 +11,9 @@ use hexdigits::digits_of;
 use model::{Profile, Row};
 use optable::decode_in;
 
-/// A row of memory: its length in bytes of memory, and its text, the first `text_len` bytes of `text`. The bytes after are 0.
+/// A row of memory: how many bytes of memory it shows, and its text.
+///
+/// The text is the first `text_len` bytes of `text`; the bytes after it are 0.
 #[derive(Clone, Copy, Debug, PartialEq, Eq)]
 pub struct TextLine {
     pub len: u8,
@@ -19,7 +21,7 @@ pub struct TextLine {
     pub text_len: u8,
 }
 
-/// A row of so many bytes of memory with a text.
+/// Returns a row of so many bytes of memory with a text.
 fn row(len: u8, written: &[u8]) -> TextLine
     requires { length written.now ≤ 12 }
     ensures text { seen result ≡ record { len = len; text = written.now } }
@@ -36,7 +38,7 @@ fn row(len: u8, written: &[u8]) -> TextLine
     }
 }
 
-/// The text of an instruction.
+/// Returns the text of an instruction.
 fn instruction(profile: Profile, found: Row, address: u16, second: u8, third: u8) -> Text
     ensures exact { result.items ≡ instruction_text profile found address second third }
     ensures short { length result.items ≤ 12 }
@@ -49,7 +51,7 @@ fn instruction(profile: Profile, found: Row, address: u16, second: u8, third: u8
     text
 }
 
-/// The row of a byte that begins no instruction.
+/// Returns the row of a byte that begins no instruction.
 fn byte_line(byte: u8) -> TextLine
     ensures text { seen result ≡ byte_row byte }
     ensures rest { drop result.text_len result.text ≡ replicate (12 - result.text_len) 0 }
@@ -59,7 +61,7 @@ fn byte_line(byte: u8) -> TextLine
     row(1, &[b'.', b'B', b'Y', b'T', b'E', b' ', b'$', high, low])
 }
 
-/// The byte at a place, and 0 after the last.
+/// Returns the byte at an index, or 0 after the last.
 fn byte_or_0(bytes: &[u8], place: usize) -> u8
     ensures { result ≡ slice_index bytes.now place }
 {
@@ -69,7 +71,7 @@ fn byte_or_0(bytes: &[u8], place: usize) -> u8
     }
 }
 
-/// The row with which some bytes begin, at their address, in profile N: what `line_in` gives for it.
+/// Returns the row at the front of some bytes in profile N, as `line_in` does.
 pub fn line_at(bytes: &[u8], address: u16) -> TextLine
     requires { 0 < length bytes.now }
     ensures text { seen result ≡ row_of Profile.N bytes.now address }
@@ -82,9 +84,11 @@ pub fn line_at(bytes: &[u8], address: u16) -> TextLine
     line_in(Profile::N, bytes, address)
 }
 
-/// The row with which some bytes begin, at their address: an instruction of the profile, or `.BYTE` and the first byte where no
-/// instruction stands there, or where it needs a byte past $FFFF or past the last one. (The forms are those of the MCS6500
-/// manual; `!` and `.BYTE` are this profile's, and so is what profile C adds.)
+/// Returns the row at the front of some bytes, which are at an address.
+///
+/// The row is an instruction of the profile. It is `.BYTE` and the first byte if that begins no
+/// instruction, or if the instruction needs a byte past $FFFF or past the last one. Source: MCS6500
+/// manual for the forms; mos65 for `!`, for `.BYTE` and for what profile C adds.
 #[tactic(auto, unfolding(model::specs::Instruction::row_of))]
 pub fn line_in(profile: Profile, bytes: &[u8], address: u16) -> TextLine
     requires { 0 < length bytes.now }

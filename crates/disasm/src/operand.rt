@@ -8,7 +8,7 @@ use hexdigits::{digits_of, digits_of_word};
 use model::{Mnemonic, Mode, Profile};
 use optable::encode_in;
 
-/// Whether an instruction has a mode in a profile.
+/// Returns whether an instruction has a mode in a profile.
 #[tactic(auto, unfolding(model::specs::Instruction::has_row))]
 fn has_row(profile: Profile, mnemonic: Mnemonic, mode: Mode) -> bool
     ensures { result ≡ has_row profile mnemonic mode }
@@ -16,7 +16,7 @@ fn has_row(profile: Profile, mnemonic: Mnemonic, mode: Mode) -> bool
     encode_in(profile, mnemonic, mode).is_some()
 }
 
-/// The target of a branch at an address, by its second byte.
+/// Returns the target of a branch at an address, by its second byte.
 fn target(address: u16, second: u8) -> u16
     ensures { result ≡ target_of address second }
 {
@@ -29,7 +29,7 @@ fn target(address: u16, second: u8) -> u16
     ((next + distance) % 65536) as u16
 }
 
-/// An address in an absolute mode, and what stands after it.
+/// Returns an address in an absolute mode, and what comes after it.
 fn absolute(profile: Profile, mnemonic: Mnemonic, short: Mode, word: u16, suffix: &[u8]) -> Text
     requires { length suffix.now ≤ 2 }
     ensures exact { result.items ≡ 32 ∷ (absolute_text profile mnemonic short word ++ suffix.now) }
@@ -46,7 +46,7 @@ fn absolute(profile: Profile, mnemonic: Mnemonic, short: Mode, word: u16, suffix
     text
 }
 
-/// The operand of an instruction at an address as text, by the bytes after its opcode.
+/// Returns the operand of an instruction at an address as text, by the bytes after its opcode.
 #[tactic(auto, unfolding(model::specs::Instruction::operand_text))]
 pub fn operand(
     profile: Profile,

@@ -28,8 +28,10 @@ fn push_bytes(text: &mut Row, bytes: &[u8])
     let _ = text.try_extend_from_slice(bytes);
 }
 
-/// The row with which one to three bytes begin, at their address, in a profile: the address, two spaces, the row's bytes in 8
-/// columns, two spaces, its text, and LF. (Profile.)
+/// Returns the row at the front of one to three bytes, which are at an address, as it is listed.
+///
+/// It has the address, two spaces, the row's bytes in 8 columns, two spaces, its text, and LF.
+/// Source: mos65.
 #[tactic(auto, unfolding(model::specs::Disassembly::row_line), using(crate::proofs::Columns::all_of))]
 pub fn row_text_in(profile: Profile, bytes: &[u8], address: u16) -> RowText
     requires some { 0 < length bytes.now }

@@ -1,4 +1,4 @@
-//! Short texts, put together without memory.
+//! Short texts, put together without allocating.
 
 ghost use Rattle.std.specs.Prelude.{◌≡◌, ◌+◌, ◌≤◌, ◌++◌, length};
 
@@ -15,7 +15,7 @@ pub fn push_bytes(text: &mut Text, bytes: &[u8])
     let _ = text.try_extend_from_slice(bytes);
 }
 
-/// A text of these bytes.
+/// Returns a text of these bytes.
 pub fn text_of(bytes: &[u8]) -> Text
     requires { length bytes.now ≤ 12 }
     ensures { result.items ≡ bytes.now }

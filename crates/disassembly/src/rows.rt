@@ -10,7 +10,7 @@ use filled::memory_of;
 use model::Profile;
 use std::alloc::{AllocError, Global};
 
-/// At most so many rows of memory from an address on, none of which begins past a last address.
+/// Appends at most so many rows of memory from an address on; none begins past a last address.
 #[tactic(auto, using(crate::proofs::RowByRow::behind, crate::proofs::RowByRow::no_row))]
 fn push_rows(
     out: &mut Vec<u8>,
@@ -35,8 +35,11 @@ fn push_rows(
     Ok(())
 }
 
-/// The rows of an image in a profile from one address on, as long as they begin at or below another one; 0 stands where the
-/// image has no byte. The only error is that a request for memory was refused.
+/// Returns the rows of an image in a profile that begin between two addresses, both included.
+///
+/// An address where the image has no byte reads as 0.
+///
+/// Errors: `AllocError` if an allocation fails.
 pub fn disassembly(
     alloc: Global,
     profile: Profile,

@@ -1,4 +1,5 @@
--- A line's bytes are no more than its size, and lie in memory and off the port where it has no fault.
+-- A line's bytes are no more than its size, and lie in memory and off the port where it has no
+-- fault.
 use Rattle.std.proofs.Common.{◌≡◌, ℕ, suc, ◌+◌, ◌*◌, ◌≤◌, ◌<◌, ℤ, Bool, true, false, List, [], ◌∷◌, ◌++◌, map, length, Option, Some, None, Result, Ok, Err, refl, sym, ◌∙◌, ap, append-nil, length-append, arith}
 use Rattle.std.specs.Prelude.{nat_lt, nat_le, ◌&&◌, ◌||◌, ◌%◌, ◌-ℤ◌, pos, if◌then◌else◌}
 use Rattle.std.specs.List.{flat_map}

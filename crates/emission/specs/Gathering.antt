@@ -61,7 +61,7 @@ abbrev pub line_gathered : Map → Numbers → List (Option ℕ) → Placed → 
 line_gathered m numbers image p =
     noted_all (gathered nothing_gathered (pieces_of numbers p.address p.content)) (place_kinds m image p.address (size_of p.content))
 
--- What was answered, and left in an image, is what a definition gives, memory aside.
+-- The result, and the image after it, are what a definition gives, unless memory runs out.
 abbrev pub Stores : Result Unit LineError → List (Option ℕ) → Result (List (Option ℕ)) AsmFaultKind → Type 0
 Stores (Ok u) image given = given ≡ Ok image
 Stores (Err errors.Memory) image given = ⊤

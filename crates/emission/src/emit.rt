@@ -23,7 +23,7 @@ use std::alloc::{AllocError, Global};
 use std::marker::Model;
 use symbols::Symbols;
 
-/// The bytes that one expression gives.
+/// The bytes of one expression.
 #[derive(Clone, Copy, Debug, PartialEq, Eq)]
 pub enum Encoded {
     Nothing,
@@ -32,7 +32,7 @@ pub enum Encoded {
     Word(u8, u8),
 }
 
-/// The number that an expression on a line at an address gives under the numbers of all names, or its first fault.
+/// Returns the value of an expression on a line at an address, under all names, or its first fault.
 fn number_at(value: &Expr<'_>, names: &Symbols, here: u32) -> Result<i32, ExprFault>
     requires { here < 2 ^ 31 }
     ensures { result ≡ eval_of (number_in names.now) (pos here) (view value.now) }
@@ -40,7 +40,7 @@ fn number_at(value: &Expr<'_>, names: &Symbols, here: u32) -> Result<i32, ExprFa
     eval(value, names, here as i32)
 }
 
-/// A value within bounds.
+/// Returns a value if it is within bounds.
 fn within(
     value: Result<i32, ExprFault>,
     least: i32,
@@ -63,14 +63,14 @@ fn within(
     }
 }
 
-/// A number modulo 256, as one byte.
+/// Encodes a number modulo 256 as one byte.
 fn byte_of(number: i32) -> Encoded
     ensures { seen_encoded result ≡ modulo number 256 ∷ [] }
 {
     Encoded::Byte(number.rem_euclid(256) as u8)
 }
 
-/// A number modulo 65536, the low byte first.
+/// Encodes a number modulo 65536, the low byte first.
 fn word_of(number: i32) -> Encoded
     ensures { seen_encoded result ≡ word_bytes (modulo number 65536) }
 {
@@ -78,7 +78,7 @@ fn word_of(number: i32) -> Encoded
     Encoded::Word((word % 256) as u8, (word / 256) as u8)
 }
 
-/// A number modulo 65536, the high byte first.
+/// Encodes a number modulo 65536, the high byte first.
 fn word_of_high_first(number: i32) -> Encoded
     ensures { seen_encoded result ≡ word_bytes_high_first (modulo number 65536) }
 {
@@ -86,7 +86,7 @@ fn word_of_high_first(number: i32) -> Encoded
     Encoded::Word((word / 256) as u8, (word % 256) as u8)
 }
 
-/// One byte: -128..255.
+/// Encodes one byte: -128..255.
 #[tactic(auto, unfolding(model::specs::Bytes::byte_piece))]
 fn byte(value: Result<i32, ExprFault>) -> Result<Encoded, AsmFaultKind>
     ensures { seen_piece result ≡ byte_piece value }
@@ -95,7 +95,7 @@ fn byte(value: Result<i32, ExprFault>) -> Result<Encoded, AsmFaultKind>
     Ok(byte_of(number))
 }
 
-/// An address in the zero page: 0..255.
+/// Encodes an address in the zero page: 0..255.
 #[tactic(auto, unfolding(model::specs::Bytes::zero_page_piece))]
 fn zero_page(value: Result<i32, ExprFault>) -> Result<Encoded, AsmFaultKind>
     ensures { seen_piece result ≡ zero_page_piece value }
@@ -104,7 +104,7 @@ fn zero_page(value: Result<i32, ExprFault>) -> Result<Encoded, AsmFaultKind>
     Ok(byte_of(number))
 }
 
-/// Two bytes: -32768..65535.
+/// Encodes two bytes: -32768..65535.
 #[tactic(auto, unfolding(model::specs::Bytes::word_piece))]
 fn word(value: Result<i32, ExprFault>) -> Result<Encoded, AsmFaultKind>
     ensures { seen_piece result ≡ word_piece value }
@@ -113,7 +113,7 @@ fn word(value: Result<i32, ExprFault>) -> Result<Encoded, AsmFaultKind>
     Ok(word_of(number))
 }
 
-/// Two bytes, the high one first: -32768..65535.
+/// Encodes two bytes, the high one first: -32768..65535.
 #[tactic(auto, unfolding(model::specs::Bytes::word_piece_high_first))]
 fn word_high_first(value: Result<i32, ExprFault>) -> Result<Encoded, AsmFaultKind>
     ensures { seen_piece result ≡ word_piece_high_first value }
@@ -122,7 +122,7 @@ fn word_high_first(value: Result<i32, ExprFault>) -> Result<Encoded, AsmFaultKin
     Ok(word_of_high_first(number))
 }
 
-/// An address: 0..65535.
+/// Encodes an address: 0..65535.
 #[tactic(auto, unfolding(model::specs::Bytes::address_piece))]
 fn address(value: Result<i32, ExprFault>) -> Result<Encoded, AsmFaultKind>
     ensures { seen_piece result ≡ address_piece value }
@@ -131,7 +131,7 @@ fn address(value: Result<i32, ExprFault>) -> Result<Encoded, AsmFaultKind>
     Ok(word_of(number))
 }
 
-/// A branch's distance modulo 65536, where it is -128..127.
+/// Encodes a branch's distance modulo 65536, if it is -128..127.
 fn distance(distance: u32) -> Result<Encoded, AsmFaultKind>
     ensures { seen_piece result ≡ distance_piece distance }
 {
@@ -142,7 +142,7 @@ fn distance(distance: u32) -> Result<Encoded, AsmFaultKind>
     }
 }
 
-/// The distance of a branch at an address to its target.
+/// Encodes the distance of a branch at an address to its target.
 #[tactic(auto, unfolding(model::specs::Bytes::branch_piece))]
 fn branch(here: u32, value: Result<i32, ExprFault>) -> Result<Encoded, AsmFaultKind>
     requires { here < 2 ^ 31 - 510 }
@@ -153,7 +153,7 @@ fn branch(here: u32, value: Result<i32, ExprFault>) -> Result<Encoded, AsmFaultK
     distance(from_next.rem_euclid(65536) as u32)
 }
 
-/// What stands after an opcode at an address.
+/// Encodes what comes after an opcode at an address.
 #[tactic(auto, unfolding(model::specs::Bytes::operand_piece))]
 fn operand(here: u32, mode: Mode, value: Result<i32, ExprFault>) -> Result<Encoded, AsmFaultKind>
     requires { here < 2 ^ 31 - 510 }
@@ -177,7 +177,7 @@ fn operand(here: u32, mode: Mode, value: Result<i32, ExprFault>) -> Result<Encod
     }
 }
 
-/// Of two kinds, if there are two, the one with the lower number.
+/// Returns the kind with the lower number, if there is one.
 #[tactic(auto, unfolding(model::specs::Bytes::lower))]
 fn lower(first: Option<AsmFaultKind>, second: Option<AsmFaultKind>) -> Option<AsmFaultKind>
     ensures { result ≡ lower first second }
@@ -213,7 +213,7 @@ impl Model for Gathered {
 }
 
 impl Gathered {
-    /// Nothing yet.
+    /// Makes an empty one.
     pub fn new(alloc: Global) -> Gathered
         ensures { result ≡ nothing_gathered }
     {
@@ -223,7 +223,7 @@ impl Gathered {
         }
     }
 
-    /// Nothing again. What room there is stays, so that the next line takes none.
+    /// Makes it empty again. The room stays, so the next line takes none.
     fn clear(&mut self)
         ensures { self.new ≡ nothing_gathered }
     {
@@ -231,35 +231,35 @@ impl Gathered {
         self.kind = None;
     }
 
-    /// The lowest kind of its faults.
+    /// Returns the lowest kind of its faults.
     pub fn kind(&self) -> Option<AsmFaultKind>
         ensures { result ≡ self.now.kind }
     {
         self.kind
     }
 
-    /// Its bytes.
+    /// Returns its bytes.
     pub fn bytes(&self) -> &[u8]
         ensures { result.now ≡ self.now.bytes }
     {
         &self.bytes
     }
 
-    /// Its bytes alone.
+    /// Returns its bytes, owned.
     fn into_bytes(self) -> Vec<u8>
         ensures { result.items ≡ self.bytes }
     {
         self.bytes
     }
 
-    /// A fault.
+    /// Notes a fault.
     fn refuse(&mut self, kind: AsmFaultKind)
         ensures { self.new ≡ refused self.old kind }
     {
         self.kind = lower(self.kind, Some(kind));
     }
 
-    /// A fault, if this holds.
+    /// Notes a fault if a condition holds.
     #[tactic(auto, using(crate::proofs::Gathers::lower_nothing))]
     fn refuse_if(&mut self, holds: bool, kind: AsmFaultKind)
         ensures { self.new ≡ noted self.old (kind_if holds kind) }
@@ -269,7 +269,7 @@ impl Gathered {
         }
     }
 
-    /// Bytes after those so far.
+    /// Appends bytes.
     fn push(&mut self, encoded: Encoded) -> Result<(), AllocError>
         ensures { OnOk result (self.new ≡ added self.old (Ok (seen_encoded encoded))) }
     {
@@ -284,7 +284,7 @@ impl Gathered {
         Ok(())
     }
 
-    /// Bytes or a fault.
+    /// Appends bytes, or notes a fault.
     fn add(&mut self, piece: Result<Encoded, AsmFaultKind>) -> Result<(), AllocError>
         ensures { OnOk result (self.new ≡ added self.old (seen_piece piece)) }
     {
@@ -297,14 +297,14 @@ impl Gathered {
         }
     }
 
-    /// The bytes between the quotes of a string.
+    /// Appends the bytes between the quotes of a string.
     fn push_text(&mut self, text: &[u8]) -> Result<(), AllocError>
         ensures { OnOk result (self.new ≡ added self.old (Ok text.now)) }
     {
         self.bytes.extend_from_slice(text)
     }
 
-    /// An item of `.BYTE`.
+    /// Appends an item of `.BYTE`.
     fn add_item(&mut self, names: &Symbols, here: u32, item: &Item<'_>) -> Result<(), AllocError>
         requires { here < 2 ^ 31 - 510 }
         ensures { OnOk result (self.new ≡ added self.old (item_piece (number_in names.now) here (seen_item item.now))) }
@@ -315,7 +315,7 @@ impl Gathered {
         }
     }
 
-    /// The bytes of `.BYTE`.
+    /// Appends the bytes of `.BYTE`.
     fn add_items(
         &mut self,
         names: &Symbols,
@@ -331,7 +331,7 @@ impl Gathered {
         Ok(())
     }
 
-    /// The bytes of `.WORD`.
+    /// Appends the bytes of `.WORD`.
     fn add_words(
         &mut self,
         names: &Symbols,
@@ -347,7 +347,7 @@ impl Gathered {
         Ok(())
     }
 
-    /// The bytes of `.DBYTE`.
+    /// Appends the bytes of `.DBYTE`.
     fn add_words_high_first(
         &mut self,
         names: &Symbols,
@@ -363,7 +363,7 @@ impl Gathered {
         Ok(())
     }
 
-    /// What stands after an opcode.
+    /// Appends what comes after an opcode.
     #[tactic(auto, unfolding(crate::specs::Gathering::gathered))]
     fn add_operand(
         &mut self,
@@ -381,7 +381,7 @@ impl Gathered {
         }
     }
 
-    /// All pieces of a statement, an instruction by its opcode.
+    /// Appends all parts of a statement, an instruction by its opcode.
     #[tactic(auto, unfolding(model::specs::Bytes::pieces_of, crate::specs::Gathering::gathered))]
     fn add_statement(
         &mut self,
@@ -410,7 +410,7 @@ impl Gathered {
     }
 }
 
-/// Whether an image has a byte at an address.
+/// Returns whether an image has a byte at an address.
 #[tactic(auto, unfolding(model::specs::Image::has_byte))]
 fn has_byte(image: &Image, address: u32) -> bool
     ensures { result ≡ has_byte image.now address }
@@ -424,7 +424,7 @@ fn has_byte(image: &Image, address: u32) -> bool
     }
 }
 
-/// Whether an image has a byte at one of so many addresses from an address on.
+/// Returns whether an image has a byte at one of so many addresses from an address on.
 fn has_bytes(image: &Image, address: u32, count: u32) -> bool
     requires { address + count < 2 ^ 32 }
     ensures { result ≡ has_bytes image.now address count }
@@ -437,7 +437,7 @@ fn has_bytes(image: &Image, address: u32, count: u32) -> bool
     false
 }
 
-/// Whether one of so many addresses from an address on is a port address.
+/// Returns whether one of so many addresses from an address on is a port address.
 #[tactic(auto, using(crate::proofs::Ports::has_port_is))]
 fn has_port(map: &MapSpec, address: u32, count: u32) -> bool
     requires { address + count < 2 ^ 32 }
@@ -447,7 +447,7 @@ fn has_port(map: &MapSpec, address: u32, count: u32) -> bool
     (0 < count) & (address < port + 4) & (port < address + count)
 }
 
-/// What is wrong with where bytes stand, after what is wrong with them.
+/// Notes what is wrong with where bytes go, after what is wrong with the bytes.
 #[tactic(auto, unfolding(model::specs::Bytes::place_kinds))]
 fn judge_place(gathered: &mut Gathered, map: &MapSpec, image: &Image, address: u32, count: u32)
     requires { address + count < 2 ^ 32 }
@@ -469,7 +469,7 @@ fn store(image: &mut Image, address: u32, bytes: &[u8])
     }
 }
 
-/// The bytes of a line, and the lowest kind of all its value faults.
+/// Gathers the bytes of a line, and the lowest kind of all its value faults.
 fn gather(
     gathered: &mut Gathered,
     map: &MapSpec,
@@ -485,8 +485,9 @@ fn gather(
     Ok(())
 }
 
-/// The bytes of a statement that stands alone at an address, and the lowest kind of its value faults: no port and no other line
-/// stands in the way.
+/// Gathers the bytes of a statement that is alone at an address, and the lowest kind of its faults.
+///
+/// Neither a port nor another line can be in its way.
 fn gather_alone(
     alloc: Global,
     address: u32,
@@ -504,8 +505,11 @@ fn gather_alone(
     Ok(gathered)
 }
 
-/// The bytes of a statement that stands alone at an address, with so many bytes by the layout; or its value fault, the lowest kind
-/// of all. `Memory`: a request for memory was refused.
+/// Returns the bytes of a statement that is alone at an address.
+///
+/// `count` is its number of bytes by the layout.
+///
+/// Errors: `Kind` with the lowest kind of its value faults; `Memory` if an allocation fails.
 pub fn bytes_alone(
     alloc: Global,
     address: u32,
@@ -526,7 +530,7 @@ pub fn bytes_alone(
     }
 }
 
-/// Puts the bytes of a line into an image, or answers its value fault.
+/// Puts the bytes of a line into an image, or returns its value fault.
 pub fn put_line(
     gathered: &mut Gathered,
     map: &MapSpec,

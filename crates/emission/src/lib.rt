@@ -1,6 +1,8 @@
-//! The bytes of the lines that a source's layout found, under the numbers of all names; and those of one line alone.
+//! The bytes of lines that a layout found, under the numbers of all names; and those of one line
+//! alone.
 //!
-//! `emit` gathers the bytes of one line, or its value fault; `second_pass` puts line after line into an image.
+//! `emit` gathers the bytes of one line, or its value fault; `second_pass` puts line after line
+//! into an image.
 #![tactic(auto)]
 
 mod emit;

@@ -15,7 +15,7 @@ use model::AsmFault;
 use std::alloc::Global;
 use symbols::Symbols;
 
-/// The image that has no byte yet.
+/// Returns the image that has no byte yet.
 fn no_bytes(alloc: Global) -> Result<Image, AsmFault>
     ensures empty { IfOk result (λ image. image ≡ empty_image) }
     ensures memory { IfErr result (λ fault. fault ≡ out_of_memory) }
@@ -23,7 +23,9 @@ fn no_bytes(alloc: Global) -> Result<Image, AsmFault>
     Image::new(alloc).map_err(|_| OUT_OF_MEMORY)
 }
 
-/// The bytes of the lines that are kept, under the numbers of all names; or the first value fault.
+/// Returns the image of the lines that are kept, under the numbers of all names.
+///
+/// Errors: the first value fault with its line; `OutOfMemory` with line 0 if an allocation fails.
 pub fn make_image(
     alloc: Global,
     map: &MapSpec,

@@ -45,8 +45,9 @@ cuts_then begun bs middle cs more c d = record {
   none = All-append (λ line. command_of line ≢ Quit) c.lines d.lines c.none d.none;
 }
 
--- the bytes told were served up to the line begun, of which `kept` is the beginning: with more bytes, and at either end,
--- the transcript is the text so far and the transcript of what is left; no line was `quit`
+-- the bytes told were served up to the line begun, of which `kept` is the beginning: with more
+-- bytes, and at either end, the transcript is the text so far and the transcript of what is left;
+-- no line was `quit`
 pub record IsServed (start : Session) (told text : List ℕ) (s : Session) (kept : List ℕ) : Type 0 where
   pub begun : List ℕ
   pub front : kept ≡ take 257 begun

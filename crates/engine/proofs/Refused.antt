@@ -54,7 +54,7 @@ pub not_refused : {A E : Type 0} (a : A) (f g : E) → (Ok a ≡ Err f) ⊎ (Ok 
 not_refused a f g (inl e) = absurd cc
 not_refused a f g (inr e) = absurd cc
 
--- Where the text denotes an image, only want of memory keeps it from being read.
+-- Where the text denotes an image, only running out of memory keeps it from being read.
 only_memory : (f : TapeFault) (cells : Image) → (read_err f ≡ read_ok cells) ⊎ (read_err f ≡ read_err tape_faults.out_of_memory) → f ≡ tape_faults.out_of_memory
 only_memory f cells (inl e) = absurd cc
 only_memory f cells (inr e) = ap fault_in e
@@ -74,7 +74,7 @@ tape_answer f = elim (tape_either f.kind f) [
   | inr e ↦ inr (ap Err e)
 ]
 
--- The fault of a tape is answered, or want of memory.
+-- The fault of a tape is returned, or running out of memory.
 pub tape_answered : {X : Type 0} (result : Result X EngineFault) (f g : TapeFault) → IsErrAnd result (λ e. e ≡ of_tape f)
     → (read_err f ≡ read_err g) ⊎ (read_err f ≡ read_err tape_faults.out_of_memory) → (result ≡ Err (Tape g)) ⊎ (result ≡ Err OutOfMemory)
 tape_answered (Ok x) f g h only = absurd h
@@ -101,7 +101,7 @@ pub same_fault : (A E : Type 0) (f g h : E) → (failed A E f ≡ failed A E g) 
 same_fault A E f g h (inl e) = inl (ap (fault_or f) e)
 same_fault A E f g h (inr e) = inr (ap (fault_or f) e)
 
--- The fault of a source is answered, or want of memory.
+-- The fault of a source is returned, or running out of memory.
 pub source_answered : {X : Type 0} (result : Result X EngineFault) (f g : AsmFault) → IsErrAnd result (λ e. e ≡ of_source f)
     → (f ≡ g) ⊎ (f ≡ assemblies.out_of_memory) → (result ≡ Err (Source g)) ⊎ (result ≡ Err OutOfMemory)
 source_answered result f g h (inr memory) = inr (source_memory result f h memory)

@@ -32,7 +32,7 @@ read_ok image = Ok image
 abbrev read_err : TapeReadFault → ReadAnswer
 read_err f = Err f
 
--- the answer is this one, unless a read failed or memory was refused
+-- the answer is this one, unless a read failed or memory ran out
 abbrev Is : ReadAnswer → ReadAnswer → Type 0
 Is answer wanted = (answer ≡ wanted) ⊎ ((answer ≡ read_err tape_read_fault.Read) ⊎ (answer ≡ read_err (tape_read_fault.Tape out_of_memory)))
 
@@ -60,7 +60,7 @@ with_known (Some x) P Q h f = f x h
 
 -- ---- no image was read
 
--- a read failed, memory ran out, or the tape is refused with a fault other than want of memory
+-- a read failed, memory ran out, or the tape is refused with a fault other than running out of memory
 each_end : (f : TapeReadFault) (P : EngineFault → Type 0) → P Read → P OutOfMemory → ((g : TapeFault) → f ≡ tape_read_fault.Tape g → of_tape g ≡ Tape g → P (Tape g)) → P (of_tape_read f)
 each_end tape_read_fault.Read P r m t = r
 each_end (tape_read_fault.Tape g) P r m t = elim (tape_either g.kind g) [
@@ -93,7 +93,7 @@ early_spared (Some text) f P = λ image r p. early_session f (λ _. ⊥)
 pub early_no_source : (f : TapeReadFault) → IfSource (failed (of_tape_read f)) (λ _. ⊥)
 early_no_source f = each_end f (λ e. IfSource (failed e) (λ _. ⊥)) tt tt (λ g e is. tt)
 
--- of a tape with an image, only a failed read or want of memory keeps it from being read
+-- of a tape with an image, only a failed read or running out of memory keeps it from being read
 only_ends : (f : TapeReadFault) (cells : Image) → Is (read_err f) (read_ok cells) → (of_tape_read f ≡ Read) ⊎ (of_tape_read f ≡ OutOfMemory)
 only_ends f cells (inl e) = absurd cc
 only_ends f cells (inr (inl e)) = inl (ap of_tape_read (same_fault f tape_read_fault.Read e))
@@ -137,7 +137,7 @@ early_faulty a f only =
 
 -- ---- what was consumed of the tape
 
--- no text's fault is want of memory
+-- no text's fault is running out of memory
 breaks_not_memory : (kind : TapeFaultKind) (g : TapeFault) (count : ℕ) (rest : List ℕ) (place : ℕ) → Breaks kind count rest place → of_tape_kind kind g ≡ OutOfMemory → ⊥
 breaks_not_memory tape_fault.OutOfMemory g count rest place breaks out = breaks
 breaks_not_memory kind g count rest place breaks out = cc

@@ -1,4 +1,4 @@
--- The names and numbers of the engine's faults. Source: profile.
+-- The names and numbers of the engine's faults. Source: mos65.
 use Rattle.std.specs.Prelude.{ℕ, List, codes}
 use Rattle.engine.specs.declared.fault.EngineFault.{EngineFault}
 use Rattle.engine.specs.declared.fault.EngineFault.TheVariants.{Source, Tape, Session, Read, Write, OutOfMemory}

@@ -5,7 +5,8 @@ use Rattle.model.specs.Session.{Session}
 use Rattle.model.specs.Commands.{command_of}
 use Rattle.model.specs.Transcript.{Answer, answer_to}
 
--- Some bytes of an input served: what was written, the session then, what is kept of the line begun, whether the engine ended.
+-- Some bytes of an input served: what was written, the session then, what is kept of the line
+-- begun, whether the engine ended.
 pub record Fed : Type 0 where
   pub written : List ℕ
   pub session : Session
@@ -21,7 +22,8 @@ fed_after text r = record { written = text ++ r.written; session = r.session; ke
 abbrev pub fed_on : Answer → (Session → Fed) → Fed
 fed_on a rest = if a.quit then fed a.written a.session [] true else fed_after a.written (rest a.session)
 
--- One more byte of a line, of which no more than 257 bytes are kept: 255, one CR, and one that makes the line too long.
+-- One more byte of a line, of which no more than 257 bytes are kept: 255, one CR, and one that
+-- makes the line too long.
 abbrev pub kept_with : List ℕ → ℕ → List ℕ
 kept_with kept b = if nat_lt (length kept) 257 then kept ++ b ∷ [] else kept
 

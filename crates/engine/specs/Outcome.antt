@@ -1,4 +1,4 @@
--- What was read and written where the engine was to serve a session. Source: profile.
+-- What was read and written when a session was to be served. Source: mos65.
 use Rattle.std.specs.Prelude.{◌≢◌, ⊤, ◌⊎◌, ℕ, List, Option, Result, Ok, Err, IfSome}
 use Rattle.std.specs.Io.KnownBytes.{Appends, Consumes, IsAtEnd}
 use Rattle.std.specs.List.{All}
@@ -11,20 +11,21 @@ use Rattle.model.specs.Written.{AppendsFront}
 use Rattle.engine.specs.declared.fault.EngineFault.{EngineFault}
 use Rattle.engine.specs.declared.fault.EngineFault.TheVariants as engine_fault
 
--- None of the lines whose end was told is `quit`.
+-- None of the complete lines is `quit`.
 abbrev pub NoneQuits : List ℕ → Type 0
 NoneQuits told = All (λ line. command_of line ≢ Quit) (ended_lines_of told)
 
--- What was consumed was told, and a beginning was written of the replies to the lines whose end was told; or the end of the input was
--- told, which ends its last line too.
+-- The bytes consumed are those that were read, and what was written is a beginning of the replies
+-- to the complete lines; at the end of the input the last line counts too, complete or not.
 abbrev pub Begins : Session → Option (List ℕ) → Option (List ℕ) → Option (List ℕ) → Option (List ℕ) → Type 0
 Begins s input left held now = (told : List ℕ) × Consumes input left told
     × (AppendsFront held now (transcript_so_far s told).written ⊎ (IsAtEnd left × AppendsFront held now (transcript s told).written))
 
--- What became of the reader's bytes and of what the writer holds, each before and after, where a session was served: at `Ok` the
--- transcript of the input was written. A failed read ends what was told: the replies are those to the lines whose end was told, and
--- none of them is `quit`. A failed write, or want of memory, leaves a beginning of the transcript of what was told so far. Any other
--- fault comes before a session is served.
+-- What was consumed of the reader, and what the writer holds, by how the serving of a session
+-- ended. `Ok`: the transcript of the input was written. `Read`: the replies to the complete lines
+-- read so far were written, and none of these lines is `quit`. `Write` and `OutOfMemory`: a
+-- beginning of the transcript of what was read so far was written. Any other fault comes before a
+-- session is served.
 abbrev pub Serves : {X : Type 0} → Session → Option (List ℕ) → Option (List ℕ) → Option (List ℕ) → Option (List ℕ) → Result X EngineFault → Type 0
 Serves s input left held now (Ok done) = IfSome input (λ bytes. Appends held now (transcript s bytes).written)
 Serves s input left held now (Err engine_fault.Read) = (told : List ℕ) × Consumes input left told × NoneQuits told × Appends held now (transcript_so_far s told).written
@@ -32,8 +33,8 @@ Serves s input left held now (Err engine_fault.Write) = Begins s input left held
 Serves s input left held now (Err engine_fault.OutOfMemory) = Begins s input left held now
 Serves s input left held now (Err fault) = ⊤
 
--- Whether a session stood, by the engine's answer: where it did `Stood` holds, and where it did not `Alone`. Memory can run out
--- before and after.
+-- Whether a session began, by the engine's result: if it did, `Stood` holds; if not, `Alone`.
+-- Memory can run out before and after.
 abbrev pub Reaches : {X : Type 0} → Result X EngineFault → Type 0 → Type 0 → Type 0
 Reaches (Ok done) Stood Alone = Stood
 Reaches (Err engine_fault.Read) Stood Alone = Stood

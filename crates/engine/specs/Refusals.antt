@@ -1,4 +1,4 @@
--- Which fault the engine answers where a part of it is refused.
+-- Which fault the engine returns if a part of it fails.
 use Rattle.std.specs.Prelude.{⊤, Result, Err}
 use Rattle.model.specs.declared.source_fault.AsmFault.{AsmFault}
 use Rattle.model.specs.declared.source_fault.AsmFaultKind.{AsmFaultKind}
@@ -19,7 +19,7 @@ abbrev pub of_source_kind : AsmFaultKind → AsmFault → EngineFault
 of_source_kind source_fault.OutOfMemory fault = OutOfMemory
 of_source_kind _ fault = Source fault
 
--- Want of memory in any part is the engine's own fault.
+-- Running out of memory in any part is the engine's own fault.
 abbrev pub of_source : AsmFault → EngineFault
 of_source fault = of_source_kind fault.kind fault
 
@@ -30,7 +30,7 @@ of_tape_kind _ fault = Tape fault
 abbrev pub of_tape : TapeFault → EngineFault
 of_tape fault = of_tape_kind fault.kind fault
 
--- A tape that was read from a reader: its fault, or a read of it failed.
+-- A tape read from a reader: its fault, or a read of it failed.
 abbrev pub of_tape_read : TapeReadFault → EngineFault
 of_tape_read (tape_read_fault.Tape fault) = of_tape fault
 of_tape_read tape_read_fault.Read = Read
@@ -44,17 +44,17 @@ abbrev pub of_reply : ReplyFault → EngineFault
 of_reply reply_fault.Write = Write
 of_reply reply_fault.OutOfMemory = OutOfMemory
 
--- What holds where the source is refused.
+-- What holds if the source is rejected.
 abbrev pub IfSource : {X : Type 0} → Result X EngineFault → (AsmFault → Type 0) → Type 0
 IfSource (Err (Source fault)) P = P fault
 IfSource _ P = ⊤
 
--- What holds where the tape is refused.
+-- What holds if the tape is rejected.
 abbrev pub IfTape : {X : Type 0} → Result X EngineFault → (TapeFault → Type 0) → Type 0
 IfTape (Err (Tape fault)) P = P fault
 IfTape _ P = ⊤
 
--- What holds where no session can be made.
+-- What holds if no session can be made.
 abbrev pub IfSession : {X : Type 0} → Result X EngineFault → (SessionFault → Type 0) → Type 0
 IfSession (Err (Session fault)) P = P fault
 IfSession _ P = ⊤

@@ -12,8 +12,9 @@ use replies::{ReplyFault, happen, put, source_fault_text};
 use std::alloc::Global;
 use std::io::Write;
 
-/// A text assembled at an address by the session's profile, and its bytes put there: the reply is that of a patch, or the fault for which the text is refused.
-/// Where memory runs out nothing is written.
+/// Assembles a text at an address in the session's profile, and patches memory with its bytes.
+///
+/// Writes the reply of a patch, or the fault of the text. If memory runs out, nothing is written.
 pub fn assembled<W: Write>(
     alloc: Global,
     session: &mut Session,
@@ -41,7 +42,7 @@ pub fn assembled<W: Write>(
     }
 }
 
-/// Why a text is not assembled. Where memory ran out nothing is written.
+/// Writes why a text is not assembled. If memory ran out, nothing is written.
 fn refuse_text<W: Write>(kind: AsmFaultKind, writer: &mut W) -> Result<(), ReplyFault>
     ensures writes { kind ≢ AsmFaultKind.OutOfMemory → Writes (W.contents writer.old) (W.contents writer.new) (source_fault_line kind) result }
     ensures memory { kind ≡ AsmFaultKind.OutOfMemory → ((result ≡ Err ReplyFault.OutOfMemory) × (writer.new ≡ writer.old)) }

@@ -17,12 +17,12 @@ use replies::{
 use std::alloc::Global;
 use std::io::Write;
 
-/// Does what a command asks for and writes the reply. It says whether the engine is to end.
+/// Does what a command asks for and writes the reply. Returns whether the engine is to end.
 ///
 /// # Errors
 ///
 /// - `Write`: the reply could not be written. A beginning of it was.
-/// - `OutOfMemory`: a request for memory was refused. A beginning of the reply was written.
+/// - `OutOfMemory`: an allocation failed. A beginning of the reply was written.
 #[tactic(auto, using(crate::proofs::Said::said_writes, crate::proofs::Said::said_ends, crate::proofs::Said::said_after, crate::proofs::Said::said_unless), unfolding(model::specs::Transcript::answer_to))]
 pub fn execute<W: Write>(
     alloc: Global,
@@ -80,7 +80,7 @@ pub fn execute<W: Write>(
     }
 }
 
-/// The first of some bytes, or all where there are no more than `count`.
+/// Returns the first `count` of some bytes, or all if there are no more.
 #[tactic(auto, using(crate::proofs::Said::first_all))]
 fn first_bytes(bytes: &[u8; 16], count: u8) -> &[u8]
     ensures { result.now ≡ take count bytes.now }
@@ -92,14 +92,14 @@ fn first_bytes(bytes: &[u8; 16], count: u8) -> &[u8]
     }
 }
 
-/// The first of a text's bytes, or all where there are no more than `count`.
+/// Returns the first `count` bytes of a text, or all if there are no more.
 fn first_of_text(text: &[u8; 255], count: u8) -> &[u8]
     ensures { result.now ≡ take count text.now }
 {
     &text[..count as usize]
 }
 
-/// A reply that does not end the engine.
+/// Returns the result of a reply that does not end the engine.
 fn said(written: Result<(), ReplyFault>) -> Result<bool, EngineFault>
     ensures { MatchResult written (λ _. result ≡ Ok false) (λ e. result ≡ Err (of_reply e)) }
 {

@@ -8,31 +8,31 @@ use model::{AsmFault, AsmFaultKind, SessionFault, TapeFault, TapeFaultKind};
 use papertape::TapeReadFault;
 use thiserror::Error;
 
-/// A fault of the engine (profile).
+/// A fault of the engine. Source: mos65.
 #[derive(Clone, Copy, Debug, PartialEq, Eq, Error)]
 pub enum EngineFault {
-    /// The source is refused, with its fault.
+    /// The source is rejected with this fault.
     #[error("Source 1")]
     Source(AsmFault),
-    /// The text is no tape, with the first of its faults.
+    /// The text is not a tape; this is its first fault.
     #[error("Tape 2")]
     Tape(TapeFault),
     /// No session can be made: the image has a byte at a port address.
     #[error("Session 3")]
     Session(SessionFault),
-    /// A read of command lines failed, or one of the tape.
+    /// A read of command lines, or of the tape, failed.
     #[error("Read 4")]
     Read,
     /// A write or a flush of a reply failed, or a write took no byte.
     #[error("Write 5")]
     Write,
-    /// A request for memory was refused, in any part.
+    /// An allocation failed, in any part.
     #[error("OutOfMemory 6")]
     OutOfMemory,
 }
 
 impl EngineFault {
-    /// The fault's number.
+    /// Returns the fault's number.
     pub fn number(&self) -> u8
         ensures { result ≡ engine_fault_number self.now }
     {
@@ -46,7 +46,7 @@ impl EngineFault {
         }
     }
 
-    /// The fault's name.
+    /// Returns the fault's name.
     pub fn name(&self) -> &'static str
         ensures { result.now ≡ engine_fault_name self.now }
     {

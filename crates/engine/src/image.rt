@@ -15,14 +15,14 @@ use debugger::Session;
 use std::alloc::Global;
 use std::io::{Read, Write};
 
-/// Debugs an image: command lines are served on a session that starts with it.
+/// Debugs an image: serves command lines on a session that starts with it.
 ///
 /// # Errors
 ///
 /// - `Session`: the image has a byte at a port address. Nothing was read or written.
 /// - `Read` and `Write` as `serve` says.
-/// - `OutOfMemory`: a request for memory was refused. Nothing was read or written before the session
-///   stood, and then a beginning of the replies was written.
+/// - `OutOfMemory`: an allocation failed. Before the session began, nothing was read or written;
+///   after that, a beginning of the replies was written.
 pub fn debug_image<R: Read, W: Write>(
     alloc: Global,
     map: MapSpec,
@@ -36,10 +36,10 @@ pub fn debug_image<R: Read, W: Write>(
     // The session that starts with the image is served.
     ensures serves { Serves (fresh history (start map image.now)) (R.remaining reader.old) (R.remaining reader.new) (W.contents writer.old) (W.contents writer.new) result }
 
-    // Where no session stood, neither reader nor writer was asked.
+    // If no session began, neither reader nor writer was used.
     ensures reaches { Reaches result ⊤ ((reader.new ≡ reader.old) × (writer.new ≡ writer.old)) }
 
-    // An image with a byte at a port address is refused, and no other is, memory aside.
+    // An image with a byte at a port address is rejected, and no other is, unless memory runs out.
     ensures port { has_port_byte map image.now ≡ true → (result ≡ Err (EngineFault.Session PortAddress)) ⊎ (result ≡ Err EngineFault.OutOfMemory) }
     ensures session { IfSession result (λ fault. (fault ≡ PortAddress) × (has_port_byte map image.now ≡ true)) }
 

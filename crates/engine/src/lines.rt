@@ -16,19 +16,20 @@ use debugger::Session;
 use std::alloc::Global;
 use std::io::{Read, Write};
 
-/// The beginning of a line that has not ended yet: no more than its first 257 bytes, of which 255
-/// are the longest line, one may be its CR, and one more makes it too long.
+/// The beginning of a line that has not ended yet: no more than its first 257 bytes.
+///
+/// The longest line has 255, one more may be its CR, and one more makes it too long.
 type Begun = ArrayVec<u8, 257>;
 
-/// Serves the lines that the reader tells, up to `quit` or its end. Each reply is written and
-/// flushed before the reader is asked again.
+/// Serves the lines that the reader reads, up to `quit` or its end.
+///
+/// Each reply is written and flushed before the reader is asked again.
 ///
 /// # Errors
 ///
-/// - `Read`: a read failed. The lines whose end was told have been served.
+/// - `Read`: a read failed. The complete lines read so far have been answered.
 /// - `Write`: a write or a flush failed. A beginning of the transcript was written.
-/// - `OutOfMemory`: a command's request for memory was refused. A beginning of the transcript was
-///   written.
+/// - `OutOfMemory`: an allocation of a command failed. A beginning of the transcript was written.
 pub fn serve<R: Read, W: Write>(
     alloc: Global,
     session: &mut Session,
@@ -62,7 +63,7 @@ pub fn serve<R: Read, W: Write>(
     Err(EngineFault::Read)
 }
 
-/// Serves some bytes of the input. It says whether the engine is to end.
+/// Serves some bytes of the input. Returns whether the engine is to end.
 fn serve_bytes<W: Write>(
     alloc: Global,
     session: &mut Session,
@@ -129,7 +130,7 @@ fn serve_begun<W: Write>(
     Ok(quit)
 }
 
-/// Serves a line, its end taken off: its reply is written and flushed.
+/// Serves a line without its end: writes and flushes its reply.
 fn serve_line<W: Write>(
     alloc: Global,
     session: &mut Session,

@@ -16,22 +16,23 @@ use papertape::write_tape;
 use std::alloc::Global;
 use std::io::{Read, Write};
 
-/// Assembles a source, writes its image on a tape, and debugs that tape: the reader tells command
-/// lines, up to `quit` or its end, and the writer is told the replies, each of them written and
-/// flushed before the reader is asked again. The machine starts with the source's image under this
-/// map, and up to `history` earlier states are held, at most 65,536 (profile).
+/// Assembles a source, writes its image on a tape, and debugs that tape.
+///
+/// Command lines come from the reader, up to `quit` or its end. Replies go to the writer; each is
+/// written and flushed before the reader is asked again. The machine starts with the source's image
+/// under this map. The session holds up to `history` earlier states, at most 65,536.
 ///
 /// # Errors
 ///
-/// - `Source`: the source is refused, with this fault. Nothing was read or written.
-/// - `Read`: a read failed. The lines whose end was told have been served.
+/// - `Source`: the source is rejected with this fault. Nothing was read or written.
+/// - `Read`: a read failed. The complete lines read so far have been answered.
 /// - `Write`: a write or a flush failed, or a write took no byte. A beginning of the replies was
 ///   written.
-/// - `OutOfMemory`: a request for memory was refused. Before the session stood nothing was read or
-///   written, and then a beginning of the replies was written.
+/// - `OutOfMemory`: an allocation failed. Before the session began, nothing was read or written;
+///   after that, a beginning of the replies was written.
 ///
-/// `Tape` and `Session` are never answered: an image's tape is a tape, and a source's image has no
-/// byte at a port address.
+/// `Tape` and `Session` are never returned: an image's tape is a tape, and a source's image has no
+/// byte at a port address. Source: mos65.
 pub fn debug_source<R: Read, W: Write>(
     alloc: Global,
     map: MapSpec,
@@ -46,14 +47,16 @@ pub fn debug_source<R: Read, W: Write>(
     ensures serves { (image : List (Option ℕ)) → Denotes map source.now image
         → Serves (fresh history (start map image)) (R.remaining reader.old) (R.remaining reader.new) (W.contents writer.old) (W.contents writer.new) result }
 
-    // Where a session stood, the source denotes an image, and where none did, neither reader nor writer was asked.
+    // If a session began, the source denotes an image; otherwise neither reader nor writer was
+    // used.
     ensures reaches { Reaches result ((image : List (Option ℕ)) × Denotes map source.now image) ((reader.new ≡ reader.old) × (writer.new ≡ writer.old)) }
 
-    // A source with a fault is refused with it, and one that denotes an image is not, memory aside.
+    // A source with a fault is rejected with it, and one with an image is not, unless memory runs
+    // out.
     ensures faulty { (fault : AsmFault) → HasFault map source.now fault → (result ≡ Err (EngineFault.Source fault)) ⊎ (result ≡ Err EngineFault.OutOfMemory) }
     ensures right { (image : List (Option ℕ)) → Denotes map source.now image → IfSource result (λ _. ⊥) }
 
-    // A refused source is answered with its fault.
+    // A rejected source is answered with its fault.
     ensures refused { IfSource result (HasFault map source.now) }
 
     // Each image's tape is read, and no source that is served has a byte at a port address.

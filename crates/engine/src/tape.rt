@@ -17,20 +17,23 @@ use papertape::read_tape;
 use std::alloc::Global;
 use std::io::{Read, Write};
 
-/// Reads a tape, and debugs its image: the reader tells command lines, up to `quit` or its end, and
-/// the writer is told the replies, each of them written and flushed before the reader is asked
-/// again. The machine starts with the tape's image under this map, and up to `history` earlier
-/// states are held, at most 65,536 (profile).
+/// Reads a tape, and debugs its image.
+///
+/// Command lines come from the reader, up to `quit` or its end. Replies go to the writer; each is
+/// written and flushed before the reader is asked again. The machine starts with the tape's image
+/// under this map. The session holds up to `history` earlier states, at most 65,536.
 ///
 /// # Errors
 ///
-/// - `Tape`: the text is no tape, with the first of its faults. Nothing was read or written.
+/// - `Tape`: the text is not a tape; this is its first fault. Nothing was read or written.
 /// - `Session`: the tape has a byte at a port address (`PortAddress`). Nothing was read or written.
-/// - `Read`: a read failed. The lines whose end was told have been served.
+/// - `Read`: a read failed. The complete lines read so far have been answered.
 /// - `Write`: a write or a flush failed, or a write took no byte. A beginning of the replies was
 ///   written.
-/// - `OutOfMemory`: a request for memory was refused. Before the session stood nothing was read or
-///   written, and then a beginning of the replies was written.
+/// - `OutOfMemory`: an allocation failed. Before the session began, nothing was read or written;
+///   after that, a beginning of the replies was written.
+///
+/// Source: mos65.
 pub fn debug_tape<R: Read, W: Write>(
     alloc: Global,
     map: MapSpec,
@@ -45,18 +48,20 @@ pub fn debug_tape<R: Read, W: Write>(
     ensures serves { (image : List (Option ℕ)) → TapeDenotes tape.now image
         → Serves (fresh history (start map image)) (R.remaining reader.old) (R.remaining reader.new) (W.contents writer.old) (W.contents writer.new) result }
 
-    // Where a session stood, the tape denotes an image, and where none did, neither reader nor writer was asked.
+    // If a session began, the tape denotes an image; otherwise neither reader nor writer was used.
     ensures reaches { Reaches result ((image : List (Option ℕ)) × TapeDenotes tape.now image) ((reader.new ≡ reader.old) × (writer.new ≡ writer.old)) }
 
-    // A tape with a fault is refused with it, and one that denotes an image is not, memory aside.
+    // A tape with a fault is rejected with it, and one with an image is not, unless memory runs
+    // out.
     ensures faulty { (kind : TapeFaultKind) (offset : ℕ) → FirstFault tape.now kind offset
         → (result ≡ Err (EngineFault.Tape (record { offset = offset; kind = kind }))) ⊎ (result ≡ Err EngineFault.OutOfMemory) }
     ensures right { (image : List (Option ℕ)) → TapeDenotes tape.now image → IfTape result (λ _. ⊥) }
 
-    // A refused tape is answered with its first fault.
+    // A rejected tape is answered with its first fault.
     ensures refused { IfTape result (λ fault. FirstFault tape.now fault.kind fault.offset) }
 
-    // A tape with a byte at a port address is refused, and one without is not, memory aside.
+    // A tape with a byte at a port address is rejected, and one without is not, unless memory runs
+    // out.
     ensures port { (image : List (Option ℕ)) → TapeDenotes tape.now image → has_port_byte map image ≡ true
         → (result ≡ Err (EngineFault.Session PortAddress)) ⊎ (result ≡ Err EngineFault.OutOfMemory) }
     ensures spared { (image : List (Option ℕ)) → TapeDenotes tape.now image → has_port_byte map image ≡ false → IfSession result (λ _. ⊥) }

@@ -1,5 +1,6 @@
-//! One session that uses every command, with each read, each write and each flush failing in turn; `quit` before a failure; and a tape
-//! whose reads fail. The replies come from an independent program.
+//! One session that uses every command, with each read, each write and each flush failing in turn;
+//! `quit` before a failure; and a tape whose reads fail. The replies come from an independent
+//! program.
 
 use crate::streams::{MANY, Taker, Teller, by_lines, in_pieces, wide_taker};
 use bus::MapSpec;
@@ -8,7 +9,8 @@ use std::alloc::Global;
 use std::process::Abort;
 use std::test::Fail;
 
-/// The lines of a session, each with its reply. Each command stands among them, an empty line and a bad one too.
+/// The lines of a session, each with its reply. Each command stands among them, an empty line and a
+/// bad one too.
 const SESSION: &[(&[u8], &[u8])] = &[
     (b"set PC 0200\n", b"OK\n"),
     (b"patch 0200 A9 41 8D\n", b"OK\n"),
@@ -120,7 +122,8 @@ fn each_read_of_a_line_fails(rt: HostRuntime) -> Result<(), Fail> {
     Ok(())
 }
 
-/// Each read fails that is made where the lines come in pieces: those whose end was told are served, and no line begun is.
+/// Each read fails that is made where the lines come in pieces: those whose end was told are
+/// served, and no line begun is.
 #[test]
 fn each_read_of_a_piece_fails(rt: HostRuntime) -> Result<(), Fail> {
     let (lines, _) = first_lines(rt.alloc(), SESSION.len())?;
@@ -196,8 +199,8 @@ fn each_write_of_a_late_byte_fails(rt: HostRuntime) -> Result<(), Fail> {
     Ok(())
 }
 
-/// Each write that the engine makes fails, or takes no byte: of the lines told the last one's reply is begun at most, and the others are
-/// answered.
+/// Each write that the engine makes fails, or takes no byte: of the lines told the last one's reply
+/// is begun at most, and the others are answered.
 #[test]
 fn each_write_fails(rt: HostRuntime) -> Result<(), Fail> {
     let (lines, replies) = first_lines(rt.alloc(), SESSION.len())?;

@@ -1,5 +1,6 @@
-//! Lines that no page of text can hold: of bytes that are no text, of 255 bytes and more, and so many that the input is full. What other
-//! lines do stands in `tests/commands.md` and `tests/sessions.md`.
+//! Lines that no page of text can hold: of bytes that are no text, of 255 bytes and more, and so
+//! many that the input is full. What other lines do stands in
+//! `tests/commands.md` and `tests/sessions.md`.
 
 use crate::failing::{assert_ended, served};
 use crate::streams::{in_pieces, wide_taker};
@@ -24,7 +25,8 @@ const LINES: &[u8] =
 const ANSWERS: &[u8] =
     b"A=00 X=00 Y=00 S=FD P=24 PC=0000 CYC=7\nA=00 X=00 Y=00 S=FD P=24 PC=0000 CYC=7\n? BAD COMMAND\n? BAD COMMAND\n? BAD COMMAND\n? BAD COMMAND\n01FB  00 00 00\n? BAD COMMAND\n? BAD COMMAND\n? BAD COMMAND\n? BAD COMMAND\n? BAD COMMAND\n? BAD COMMAND\n";
 
-/// Lines with their replies; `quit` before a line; a line that does not end; and lines that are no commands for their spaces or a byte.
+/// Lines with their replies; `quit` before a line; a line that does not end; and lines that are no
+/// commands for their spaces or a byte.
 const READ: &[(&[u8], &[u8])] = &[
     (LINES, ANSWERS),
     (b"quit\nregs", b""),
@@ -43,7 +45,8 @@ fn reads_lines(rt: HostRuntime) -> Result<(), Fail> {
     Ok(())
 }
 
-/// So many times a byte, what follows them, and the replies: a line of 256 bytes is too long, and one of 255 and a carriage return is not.
+/// So many times a byte, what follows them, and the replies: a line of 256 bytes is too long, and
+/// one of 255 and a carriage return is not.
 const MEASURED: &[(usize, u8, &[u8], &[u8])] = &[
     (256, b' ', b"\n", b"? BAD COMMAND\n"),
     (252, b' ', b"regs\n", b"? BAD COMMAND\n"),

@@ -1,4 +1,5 @@
-//! The three calls of the engine on a program, and on what they refuse: then no line is read and nothing is written.
+//! The three calls of the engine on a program, and on what they refuse: then no line is read and
+//! nothing is written.
 
 use crate::failing::{TAPE, assert_ended};
 use crate::streams::{MANY, Taker, Teller, by_lines, in_pieces, wide_taker};

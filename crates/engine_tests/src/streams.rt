@@ -1,5 +1,5 @@
-//! The reader and the writer of all tests here, which tell or take little, or fail. There is one of each, so that the engine is built
-//! for them once.
+//! The reader and the writer of all tests here, which tell or take little, or fail. There is one of
+//! each, so that the engine is built for them once.
 
 use std::alloc::Global;
 use std::cell::Cell;
@@ -9,8 +9,9 @@ use std::io::{ErrorKind, Read, Write};
 /// More than the bytes and the calls of any session here.
 pub const MANY: usize = 1_000_000;
 
-/// Tells its bytes: no more than some at a time, and of no two lines at once where it goes by lines. A read fails where none is left,
-/// and where it goes in turn and a flush has not followed each read.
+/// Tells its bytes: no more than some at a time, and of no two lines at once where it goes by
+/// lines. A read fails where none is left, and where it goes in turn and a flush has not followed
+/// each read.
 #[derive(Drop)]
 pub struct Teller<'a> {
     pub rest: &'a [u8],
@@ -44,7 +45,8 @@ impl<'a> Read for Teller<'a> {
     }
 }
 
-/// Takes bytes, no more than some at a time. Where no write is left, one takes no byte or fails, and where no flush is left, one fails.
+/// Takes bytes, no more than some at a time. Where no write is left, one takes no byte or fails,
+/// and where no flush is left, one fails.
 #[derive(Drop)]
 pub struct Taker<'a> {
     pub taken: Vec<u8>,

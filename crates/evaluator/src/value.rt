@@ -7,18 +7,18 @@ ghost use Rattle.line_parts.specs.Trees.{view};
 use line_parts::Expr;
 use model::{ExprFault, Operator};
 
-/// What names stand for.
+/// The numbers of names.
 pub trait Names {
     ghost use Rattle.std.specs.Prelude.{◌≡◌, List, Option, ℕ, ℤ};
 
     ghost number_of: { Self → List ℕ → Option ℤ };
 
-    /// The number of a name, or nothing where it has none.
+    /// Returns the number of a name, or `None` if it has none.
     fn value(&self, name: &[u8]) -> Option<i32>
         ensures { result ≡ number_of self.now name.now };
 }
 
-/// A result, where it lies in -2^31..2^31-1.
+/// Returns a result if it is in -2^31..2^31-1.
 fn checked(number: i64) -> Result<i32, ExprFault>
     ensures { result ≡ checked number }
 {
@@ -28,7 +28,7 @@ fn checked(number: i64) -> Result<i32, ExprFault>
     Ok(number as i32)
 }
 
-/// Both operands of `&`, `|` or `^`, where they lie in 0..65535.
+/// Returns both operands of `&`, `|` or `^` if they are in 0..65535.
 fn words(left: i32, right: i32) -> Result<(u16, u16), ExprFault>
     ensures words { IfOk result (λ p. (left ≡ pos p.0) × (right ≡ pos p.1)) }
     ensures fault { IfErr result (λ f. (combine : ℕ → ℕ → ℕ) → bits combine left right ≡ Err f) }
@@ -39,7 +39,7 @@ fn words(left: i32, right: i32) -> Result<(u16, u16), ExprFault>
     Ok((left as u16, right as u16))
 }
 
-/// What an operator makes of two numbers.
+/// Applies an operator to two numbers.
 fn apply(operator: Operator, left: i32, right: i32) -> Result<i32, ExprFault>
     ensures { result ≡ applied operator left right }
 {
@@ -70,7 +70,7 @@ fn apply(operator: Operator, left: i32, right: i32) -> Result<i32, ExprFault>
     }
 }
 
-/// Whether each name in an expression has a number.
+/// Returns whether each name in an expression has a number.
 fn knows<N: Names>(expr: &Expr<'_>, names: &N) -> bool
     ensures { result ≡ knows (N.number_of names.now) (view expr.now) }
 {
@@ -85,7 +85,7 @@ fn knows<N: Names>(expr: &Expr<'_>, names: &N) -> bool
     }
 }
 
-/// The value, or the first fault from left to right.
+/// Returns the value, or the first fault from left to right.
 fn value<N: Names>(expr: &Expr<'_>, names: &N, here: i32) -> Result<i32, ExprFault>
     ensures { result ≡ value_of (N.number_of names.now) here (view expr.now) }
 {
@@ -114,11 +114,14 @@ fn value<N: Names>(expr: &Expr<'_>, names: &N, here: i32) -> Result<i32, ExprFau
     }
 }
 
-/// The value of an expression on a line at the address `here`, or its first fault from left to right, an operator's own
-/// after those of both its operands.
-/// `UnknownName` comes before all others, where a name in it has no number. `Range`: a literal or a result lies outside
-/// -2^31..2^31-1, or an operand of `&`, `|` or `^` outside 0..65535. `DivideByZero`: a right operand of `/` is 0.
-/// Source: profile.
+/// Returns the value of an expression on a line at the address `here`, or its first fault.
+///
+/// Faults are found from left to right; an operator's own fault comes after those of both its
+/// operands.
+///
+/// Errors: `UnknownName`, before all others, if a name in it has no number; `Range` if a literal or
+/// a result is outside -2^31..2^31-1, or an operand of `&`, `|` or
+/// `^` outside 0..65535; `DivideByZero` if the right operand of `/` is 0. Source: mos65.
 #[tactic(auto, unfolding(model::specs::Value::eval_of))]
 pub fn eval<N: Names>(expr: &Expr<'_>, names: &N, here: i32) -> Result<i32, ExprFault>
     ensures { result ≡ eval_of (N.number_of names.now) here (view expr.now) }

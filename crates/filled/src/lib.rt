@@ -1,6 +1,7 @@
 //! The memory that an image fills.
 //!
-//! `memory_of` is the one call: the bytes of an image and 0 elsewhere, as a list that the disassembler reads.
+//! `memory_of` is the one call: the bytes of an image, and 0 elsewhere, as a list that the
+//! disassembler reads.
 #![tactic(auto)]
 
 ghost use Rattle.std.specs.Prelude.{◌≡◌, IfOk, length};
@@ -9,8 +10,9 @@ ghost use Rattle.model.specs.State.{memory_of};
 use bus::Image;
 use std::alloc::{AllocError, Global};
 
-/// The 65,536 bytes of a memory with the bytes of an image, and 0 where it has none. The only error is that a request for memory
-/// was refused.
+/// Returns the 65,536 bytes of a memory: those of an image, and 0 where it has none.
+///
+/// Errors: `AllocError` if an allocation fails.
 #[tactic(auto, using(crate::proofs::Bytes::memory_size), unfolding(model::specs::State::memory_of))]
 pub fn memory_of(alloc: Global, image: &Image) -> Result<Vec<u8>, AllocError>
     ensures items { IfOk result (λ memory. memory.items ≡ memory_of image.now) }

@@ -1,12 +1,14 @@
-//! Numbers as capital hex digits, without memory: the one place where digits are made. Replies, tapes, listings and the
-//! disassembler take theirs from here. The proof's idea stands in `proofs/Digits.antt`: sixteen places of a table, computed.
+//! Numbers as capital hex digits: the one place where digits are made. Does not allocate.
+//!
+//! Replies, tapes, listings and the disassembler take theirs from here. The proof's idea is in
+//! `proofs/Digits.antt`: sixteen entries of a table, computed.
 #![tactic(auto)]
 
 ghost use Rattle.std.specs.Prelude.{◌≡◌, ◌∷◌, [], length};
 ghost use Rattle.hex.specs.Hex.{encode_upper};
 ghost use Rattle.model.specs.Text.{hex_byte, hex_word};
 
-/// The two capital hex digits of a byte.
+/// Returns the two capital hex digits of a byte.
 pub fn digits_of(byte: u8) -> [u8; 2]
     ensures digits { result ≡ hex_byte byte }
     ensures encoded { result ≡ encode_upper (byte ∷ []) }
@@ -17,7 +19,7 @@ pub fn digits_of(byte: u8) -> [u8; 2]
     digits
 }
 
-/// The four capital hex digits of an address.
+/// Returns the four capital hex digits of an address.
 pub fn digits_of_word(word: u16) -> [u8; 4]
     ensures { result ≡ hex_word word }
 {

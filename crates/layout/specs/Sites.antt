@@ -1,4 +1,4 @@
--- What the first pass finds of a line, seen as the definitions see it.
+-- What the first pass finds of a line, as the definitions see it.
 use Rattle.std.specs.Prelude.{◌≡◌, ℕ, ⊤, Option, Some, None, Result, Ok, Err}
 use Rattle.std.specs.Option.{option_or}
 use Rattle.model.specs.declared.instruction.Profile.{Profile}
@@ -18,7 +18,7 @@ use Rattle.line_parts.specs.Contents.{content_by, line_content}
 use Rattle.model.specs.Names.{Definitions}
 use Rattle.model.specs.Line.{Statement, Line}
 
--- What was answered is what a definition gives.
+-- The result is what a definition gives.
 abbrev pub Shows : {A B : Type 0} → (A → B) → Result A AsmFaultKind → Result B AsmFaultKind → Type 0
 Shows f (Ok a) given = given ≡ Ok (f a)
 Shows f (Err kind) given = given ≡ Err kind
@@ -41,13 +41,13 @@ pointer_form profile m = option_or (only profile m Ind) (only profile m IndZ)
 abbrev pub site_of : ℕ → Statement → Site → PlacedAndNext
 site_of address s site = (record { address = address; content = content_by site.code s }, site.next)
 
--- What was answered, and the names that are left, are what a definition gives, memory aside.
+-- The result, and the names after it, are what a definition gives, unless memory runs out.
 abbrev pub Fixes : Profile → ℕ → Line → Result Site LineError → Definitions → Result Standing AsmFaultKind → Type 0
 Fixes profile address l (Ok site) names given = given ≡ Ok (record { address = address; content = line_content site.code l }, record { profile = profile; address = site.next; names = names })
 Fixes profile address l (Err errors.Memory) names given = ⊤
 Fixes profile address l (Err (errors.Kind kind)) names given = given ≡ Err kind
 
--- What was answered, memory aside.
+-- The result, unless memory ran out.
 abbrev pub unlocated : {A : Type 0} → Result A LineError → Option (Result A AsmFaultKind)
 unlocated (Ok a) = Some (Ok a)
 unlocated (Err errors.Memory) = None

@@ -1,4 +1,4 @@
-//! A line after the lines before it: its name, and where it stands.
+//! A line after the lines before it: its name, its address and its size.
 
 ghost use Rattle.std.specs.Prelude.{◌≡◌, ◌+◌, ◌-◌, ◌<◌, ◌≤◌, ◌^◌, None, Some, Ok, max, IfOk};
 ghost use Rattle.line_parts.specs.Seen.{seen, seen_line};
@@ -16,10 +16,10 @@ use model::{AsmFaultKind, Profile};
 use std::alloc::Global;
 use symbols::Symbols;
 
-/// The most names that a source defines (profile).
+/// The most names that a source defines. Source: mos65.
 const MOST_NAMES: usize = 8192;
 
-/// Of a kind and `TooManyNames` the lower one.
+/// Returns the lower one of a kind and `TooManyNames`.
 fn or_too_many(kind: AsmFaultKind) -> AsmFaultKind
     ensures { result ≡ or_too_many kind }
 {
@@ -30,7 +30,7 @@ fn or_too_many(kind: AsmFaultKind) -> AsmFaultKind
     }
 }
 
-/// An answer about a line whose name may be one too many.
+/// Returns the result for a line whose name may be one too many.
 fn unless_full(full: bool, laid: Result<Site, AsmFaultKind>) -> Result<Site, LineError>
     ensures exact { unlocated result ≡ Some (unless_full full laid) }
     ensures same { IfOk result (λ s. laid ≡ Ok s) }
@@ -53,7 +53,7 @@ fn unless_full(full: bool, laid: Result<Site, AsmFaultKind>) -> Result<Site, Lin
     }
 }
 
-/// A label, which is new, defined at its line's address, and where the line stands.
+/// Defines a new label at its line's address, and places the line.
 #[tactic(auto, unfolding(model::specs::Layout::line_fixed))]
 fn fix_label(
     alloc: Global,
@@ -76,7 +76,7 @@ fn fix_label(
     unless_full(full, lay(profile, address, symbols, statement))
 }
 
-/// A name, which is new, defined.
+/// Defines a new name.
 #[tactic(auto, unfolding(model::specs::Layout::line_fixed, model::specs::Layout::size_of))]
 fn fix_definition(
     alloc: Global,
@@ -111,7 +111,9 @@ fn fix_definition(
     }
 }
 
-/// A line's name defined, and where the line stands.
+/// Defines a line's name, and returns where the line is after those before it.
+///
+/// Errors: `Kind` with the line's layout fault; `Memory` if an allocation fails.
 #[tactic(auto, unfolding(model::specs::Layout::line_fixed))]
 pub fn fix(
     alloc: Global,

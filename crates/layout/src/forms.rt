@@ -10,7 +10,7 @@ use line_parts::{Code, Operand};
 use model::{Index, Mnemonic, Mode, Profile};
 use optable::encode_in;
 
-/// The form of an instruction: encoded in one way, or by its operand's value in one of two.
+/// The form of an instruction: one encoding, or two between which its operand's value decides.
 #[derive(Clone, Copy)]
 pub enum Form {
     One(Code),
@@ -18,7 +18,7 @@ pub enum Form {
     BySize(Code, Code),
 }
 
-/// An instruction in a mode, if the profile has it.
+/// Returns an instruction in a mode, if the profile has it.
 fn in_mode(profile: Profile, mnemonic: Mnemonic, mode: Mode) -> Option<Code>
     ensures { shown seen_code result ≡ in_mode profile mnemonic mode }
 {
@@ -28,7 +28,7 @@ fn in_mode(profile: Profile, mnemonic: Mnemonic, mode: Mode) -> Option<Code>
     }
 }
 
-/// One mode, if the instruction has it.
+/// Returns the form of one mode, if the instruction has it.
 fn only(profile: Profile, mnemonic: Mnemonic, mode: Mode) -> Option<Form>
     ensures { shown seen_form result ≡ only profile mnemonic mode }
 {
@@ -38,7 +38,7 @@ fn only(profile: Profile, mnemonic: Mnemonic, mode: Mode) -> Option<Form>
     }
 }
 
-/// Of two modes those that the instruction has.
+/// Returns the form of two modes, with those that the instruction has.
 fn either(short: Option<Code>, long: Option<Code>) -> Option<Form>
     ensures { shown seen_form result ≡ either (shown seen_code short) (shown seen_code long) }
 {
@@ -50,7 +50,7 @@ fn either(short: Option<Code>, long: Option<Code>) -> Option<Form>
     }
 }
 
-/// The zero page mode with an index.
+/// Returns the zero page mode with an index.
 fn zero_page_mode(index: Index) -> Mode
     ensures { result ≡ zero_page_mode index }
 {
@@ -61,7 +61,7 @@ fn zero_page_mode(index: Index) -> Mode
     }
 }
 
-/// The absolute mode with an index.
+/// Returns the absolute mode with an index.
 fn absolute_mode(index: Index) -> Mode
     ensures { result ≡ absolute_mode index }
 {
@@ -72,7 +72,7 @@ fn absolute_mode(index: Index) -> Mode
     }
 }
 
-/// A branch's form: its target is an unindexed operand.
+/// Returns a branch's form: its target is an unindexed operand.
 fn branch_form(profile: Profile, mnemonic: Mnemonic, index: Index) -> Option<Form>
     ensures { shown seen_form result ≡ branch_form profile mnemonic index }
 {
@@ -82,7 +82,7 @@ fn branch_form(profile: Profile, mnemonic: Mnemonic, index: Index) -> Option<For
     }
 }
 
-/// The form for an unmarked operand that may have an index.
+/// Returns the form for an unmarked operand that may have an index.
 fn direct_form(profile: Profile, mnemonic: Mnemonic, index: Index) -> Option<Form>
     ensures { shown seen_form result ≡ direct_form profile mnemonic index }
 {
@@ -95,7 +95,8 @@ fn direct_form(profile: Profile, mnemonic: Mnemonic, index: Index) -> Option<For
     }
 }
 
-/// The form for a pointer in round brackets: an address, or where the instruction has no such mode one in the zero page.
+/// Returns the form for a pointer in round brackets: an address, or one in the zero page if the
+/// instruction has no mode for an address.
 fn pointer_form(profile: Profile, mnemonic: Mnemonic) -> Option<Form>
     ensures { shown seen_form result ≡ pointer_form profile mnemonic }
 {
@@ -105,7 +106,7 @@ fn pointer_form(profile: Profile, mnemonic: Mnemonic) -> Option<Form>
     }
 }
 
-/// The form for an operand, if the instruction has one.
+/// Returns the form for an operand, if the instruction has one.
 #[tactic(auto, unfolding(model::specs::Layout::form_of))]
 pub fn form_of(profile: Profile, mnemonic: Mnemonic, operand: &Operand<'_>) -> Option<Form>
     ensures { shown seen_form result ≡ form_of profile mnemonic (seen_operand operand.now) }

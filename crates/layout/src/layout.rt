@@ -15,7 +15,7 @@ use evaluator::{Names, eval};
 use line_parts::{Code, Expr, Item, Operand, Statement, term_of};
 use model::{AsmFaultKind, ExprFault, Mnemonic, Mode, Profile};
 
-/// What a line's instruction is encoded by, if it has one, its byte count, and the next line's address.
+/// How a line's instruction is encoded, if it has one, its byte count, and the next line's address.
 #[derive(Clone, Copy)]
 pub struct Site {
     pub code: Option<Code>,
@@ -24,7 +24,7 @@ pub struct Site {
 }
 
 impl Site {
-    /// A line without bytes, and the next line's address.
+    /// Returns a line without bytes, and the next line's address.
     pub fn without_bytes(next: u32) -> Site
         ensures { result ≡ record { code = None; count = 0; next = next } }
     {
@@ -35,7 +35,7 @@ impl Site {
         }
     }
 
-    /// A line at an address with so many bytes.
+    /// Returns a line at an address with so many bytes.
     fn standing(address: u32, code: Option<Code>, count: u32) -> Site
         requires near { address < 2 ^ 31 - 510 }
         requires small { count ≤ 510 }
@@ -49,7 +49,7 @@ impl Site {
     }
 }
 
-/// The value of an expression on a line at an address, or its first fault.
+/// Returns the value of an expression on a line at an address, or its first fault.
 pub fn value_at<N: Names>(expr: &Expr<'_>, names: &N, address: u32) -> Result<i32, ExprFault>
     requires { address < 2 ^ 31 }
     ensures { result ≡ eval_of (N.number_of names.now) (pos address) (view expr.now) }
@@ -57,7 +57,7 @@ pub fn value_at<N: Names>(expr: &Expr<'_>, names: &N, address: u32) -> Result<i3
     eval(expr, names, address as i32)
 }
 
-/// Of two modes the one that a value takes: the zero page mode where it is 0..255, the absolute one where a name is not known.
+/// Chooses between two modes by a value: zero page for 0..255, absolute if a name is not known.
 fn sized(short: Code, long: Code, value: Result<i32, ExprFault>) -> Result<Code, AsmFaultKind>
     ensures { Shows seen_code result (sized (seen_code short) (seen_code long) value) }
 {
@@ -75,7 +75,7 @@ fn sized(short: Code, long: Code, value: Result<i32, ExprFault>) -> Result<Code,
     }
 }
 
-/// How an instruction is encoded, by the value of its operand where that decides.
+/// Returns how an instruction is encoded, by the value of its operand if that decides.
 fn code_of<N: Names>(
     address: u32,
     names: &N,
@@ -95,7 +95,7 @@ fn code_of<N: Names>(
     }
 }
 
-/// The value of an expression that places.
+/// Returns the value of an expression that places.
 pub fn placing(value: Result<i32, ExprFault>) -> Result<i32, AsmFaultKind>
     ensures { result ≡ placing value }
 {
@@ -107,7 +107,7 @@ pub fn placing(value: Result<i32, ExprFault>) -> Result<i32, AsmFaultKind>
     }
 }
 
-/// An address to go on from.
+/// Returns an address to go on from, if it is one.
 fn in_memory(number: i32) -> Result<u32, AsmFaultKind>
     ensures exact { result ≡ in_memory number }
     ensures near { IfOk result (λ n. n ≤ 65535) }
@@ -118,7 +118,7 @@ fn in_memory(number: i32) -> Result<u32, AsmFaultKind>
     Ok(number as u32)
 }
 
-/// How many bytes an instruction has in a mode.
+/// Returns how many bytes an instruction has in a mode.
 fn length_in(mode: Mode) -> u32
     ensures exact { result ≡ length_in mode }
     ensures near { result ≤ 3 }
@@ -131,7 +131,7 @@ fn length_in(mode: Mode) -> u32
     }
 }
 
-/// The address after so many bytes, none of them past 65535.
+/// Returns the address after so many bytes, none of them past 65535.
 fn after_room(address: u32, number: i32) -> Result<u32, AsmFaultKind>
     requires { address < 2 ^ 31 }
     ensures exact { result ≡ after_room address number }
@@ -147,7 +147,7 @@ fn after_room(address: u32, number: i32) -> Result<u32, AsmFaultKind>
     Ok(end)
 }
 
-/// How many bytes an item has.
+/// Returns how many bytes an item has.
 fn item_size(item: &Item<'_>) -> usize
     ensures { result ≡ item_size (seen_item item.now) }
 {
@@ -157,7 +157,7 @@ fn item_size(item: &Item<'_>) -> usize
     }
 }
 
-/// How many bytes items have.
+/// Returns how many bytes items have.
 #[tactic(auto, using(crate::proofs::Sizes::size_next, crate::proofs::Sizes::size_end))]
 fn items_size(items: &[Item<'_>]) -> u32
     requires { items_size (map seen_item items.now) ≤ 510 }
@@ -170,7 +170,7 @@ fn items_size(items: &[Item<'_>]) -> u32
     size
 }
 
-/// An instruction at an address.
+/// Lays out an instruction at an address.
 #[tactic(auto, unfolding(model::specs::Layout::laid, model::specs::Layout::size_of))]
 fn instruct<N: Names>(
     profile: Profile,
@@ -194,7 +194,7 @@ fn instruct<N: Names>(
     Ok(Site::standing(address, Some(code), length_in(code.mode)))
 }
 
-/// A statement at an address, or its layout fault.
+/// Lays out a statement at an address, or returns its layout fault.
 #[tactic(auto, unfolding(model::specs::Layout::laid, model::specs::Layout::size_of))]
 pub fn lay<N: Names>(
     profile: Profile,

@@ -14,10 +14,10 @@ use line_parts::Token;
 use model::{LineFault, TokenKind};
 use std::alloc::Global;
 
-/// The most bytes that a word has (profile).
+/// The most bytes that a word has. Source: mos65.
 const WORD_SIZE: usize = 31;
 
-/// A word, as long as it can be.
+/// Returns the longest word at the front of some bytes.
 #[tactic(auto, using(crate::proofs::Runs::word_short, crate::proofs::Runs::word_long))]
 fn word(bytes: &[u8]) -> Option<(TokenKind, &[u8])>
     ensures { found_of result ≡ word_token bytes.now }
@@ -39,7 +39,7 @@ fn begins_in_word(bytes: &[u8]) -> bool
     }
 }
 
-/// A number of so many digits, after a mark of so many bytes.
+/// Returns a number of so many digits after a prefix of so many bytes.
 fn number(bytes: &[u8], mark: usize, digits: usize) -> Option<(TokenKind, &[u8])>
     requires { mark + digits ≤ length bytes.now }
     ensures { found_of result ≡ number_in mark digits bytes.now }
@@ -96,7 +96,7 @@ fn string(bytes: &[u8]) -> Option<(TokenKind, &[u8])>
     Some((TokenKind::Str, &bytes[..inside + 2]))
 }
 
-/// The token with which some bytes begin, if they begin with one.
+/// Returns the token at the front of some bytes, if there is one.
 #[tactic(auto, unfolding(model::specs::Token::token_at))]
 fn first_token(bytes: &[u8]) -> Option<(TokenKind, &[u8])>
     ensures { found_of result ≡ token_at bytes.now }
@@ -119,14 +119,14 @@ fn first_token(bytes: &[u8]) -> Option<(TokenKind, &[u8])>
     }
 }
 
-/// Whether each byte of a line is $20..$7E or a tab.
+/// Returns whether each byte of a line is $20..$7E or a tab.
 pub fn all_may_stand(line: &[u8]) -> bool
     ensures { result ≡ list_all is_source_byte line.now }
 {
     line.iter().all(|byte| may_stand(*byte))
 }
 
-/// The tokens of a line, in order, put into a list in place of what it holds, as far as they are found.
+/// Puts the tokens of a line into a list in place of its contents, as far as they are found.
 fn find_tokens<'a>(found: &mut Vec<Token<'a>>, line: &'a [u8]) -> Result<(), LineFault>
     ensures found { IfOk result (λ _. tokens_of line.now ≡ Some (lexemes found.new.items)) }
     ensures syntax { IsErrOf result LineFault.Syntax → tokens_of line.now ≡ None }
@@ -153,15 +153,18 @@ fn find_tokens<'a>(found: &mut Vec<Token<'a>>, line: &'a [u8]) -> Result<(), Lin
     Ok(())
 }
 
-/// The tokens of a line, in order, put into a list in place of what it holds; the list's memory is used again.
-/// `Syntax`: a byte is neither $20..$7E nor a tab, or bytes outside a comment are no token (profile).
-/// `OutOfMemory`: a request for memory was refused. At each fault the list is empty.
+/// Puts the tokens of a line, in order, into a list in place of its contents.
+///
+/// The list's memory is used again. On an error the list is empty.
+///
+/// Errors: `Syntax` if a byte is neither $20..$7E nor a tab, or if bytes outside a comment are not
+/// a token; `OutOfMemory` if an allocation fails. Source: mos65.
 pub fn tokens_into<'a>(found: &mut Vec<Token<'a>>, line: &'a [u8]) -> Result<(), LineFault>
     // What is found are the line's tokens.
     ensures found { IfOk result (λ _. tokens_of line.now ≡ Some (lexemes found.new.items)) }
-    // A line that is refused for its bytes has none.
+    // A line that is rejected for its bytes has no tokens.
     ensures syntax { IsErrOf result LineFault.Syntax → tokens_of line.now ≡ None }
-    // Nothing is left in the list then.
+    // The list is then empty.
     ensures err { OnErr result (found.new.items ≡ []) }
 {
     match find_tokens(found, line) {
@@ -173,7 +176,7 @@ pub fn tokens_into<'a>(found: &mut Vec<Token<'a>>, line: &'a [u8]) -> Result<(),
     }
 }
 
-/// The tokens of a line, in order, in a list of their own. Its faults are those of `tokens_into`.
+/// Returns the tokens of a line, in order, in a new list. Its errors are those of `tokens_into`.
 pub fn tokens<'a>(alloc: Global, line: &'a [u8]) -> Result<Vec<Token<'a>>, LineFault>
     ensures found { IfOk result (λ ts. tokens_of line.now ≡ Some (lexemes ts.items)) }
     ensures syntax { IsErrOf result LineFault.Syntax → tokens_of line.now ≡ None }

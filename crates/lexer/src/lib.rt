@@ -1,6 +1,6 @@
 //! Tokens of source lines.
 //!
-//! `tokens_into` cuts a line. Its loop is followed token by token in `proofs/Steps.antt`.
+//! `tokens_into` cuts a line. `proofs/Steps.antt` follows its loop token by token.
 #![tactic(auto)]
 
 mod byte_class;

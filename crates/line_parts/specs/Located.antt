@@ -1,11 +1,11 @@
--- What is answered of a source: the fault of a line with its number, or that memory was refused.
+-- The result for a source: the fault of a line with its number, or that memory ran out.
 use Rattle.std.specs.Prelude.{◌≡◌, ℕ, ◌⊎◌, Result, Ok, Err}
 use Rattle.line_parts.specs.declared.fault.LineError.{LineError}
 use Rattle.line_parts.specs.declared.fault.LineError.TheVariants as errors
 use Rattle.model.specs.declared.source_fault.AsmFault.{AsmFault}
 use Rattle.model.specs.declared.source_fault.AsmFaultKind.TheVariants.{OutOfMemory}
 
--- A request for memory was refused. No line is at fault.
+-- An allocation failed. No line is at fault.
 abbrev pub out_of_memory : AsmFault
 out_of_memory = record { line = 0; kind = OutOfMemory }
 
@@ -13,7 +13,7 @@ abbrev pub located : ℕ → LineError → AsmFault
 located number errors.Memory = out_of_memory
 located number (errors.Kind kind) = record { line = number; kind = kind }
 
--- What was answered is what a definition gives, memory aside.
+-- The result is what a definition gives, unless memory runs out.
 abbrev pub AnswersSource : {A B : Type 0} → (A → B) → Result A AsmFault → Result B AsmFault → Type 0
 AnswersSource shown (Ok a) given = given ≡ Ok (shown a)
 AnswersSource shown (Err fault) given = (fault ≡ out_of_memory) ⊎ (given ≡ Err fault)

@@ -55,7 +55,7 @@ abbrev pub seen_line : Line → line.Line
 seen_line (lines.Labelled name s) = labelled (shown_name name) (seen s)
 seen_line (lines.Definition name e) = definition name.now (view e)
 
--- What was answered is what a definition gives, memory aside.
+-- The result is what a definition gives, unless memory runs out.
 abbrev pub Gives : {A B : Type 0} → (A → B) → Result A LineError → Result B AsmFaultKind → Type 0
 Gives shown (Ok a) given = given ≡ Ok (shown a)
 Gives shown (Err errors.Memory) given = ⊤
@@ -69,13 +69,13 @@ seen_after p = (view p.0, lexemes p.1.now)
 abbrev pub seen_item_after : Item × Bor (List Token) → line.Item × List Lexeme
 seen_item_after p = (seen_item p.0, lexemes p.1.now)
 
--- What was read is what a definition finds, memory aside.
+-- What was read is what a definition finds, unless memory runs out.
 abbrev pub Reads : {A B : Type 0} → (A → B) → Result A LineFault → Option B → Type 0
 Reads shown (Ok a) found = found ≡ Some (shown a)
 Reads shown (Err faults.OutOfMemory) found = ⊤
 Reads shown (Err faults.Syntax) found = found ≡ None
 
--- A line whose tokens or expressions are none of the grammar has the fault Syntax.
+-- A line whose tokens or expressions are not in the grammar has the fault Syntax.
 abbrev pub error_of : LineFault → LineError
 error_of faults.Syntax = errors.Kind kinds.Syntax
 error_of faults.OutOfMemory = errors.Memory

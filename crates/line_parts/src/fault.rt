@@ -1,12 +1,12 @@
-//! Why a line is refused.
+//! Why a line is rejected.
 
 use model::{AsmFaultKind, LineFault};
 use std::alloc::{AllocError, AllocFailed};
 
-/// Why nothing comes of a line.
+/// Why a line has no result.
 #[derive(Clone, Copy, Debug, PartialEq, Eq)]
 pub enum LineError {
-    /// A request for memory was refused.
+    /// An allocation failed.
     Memory,
     /// The line has a fault of this kind.
     Kind(AsmFaultKind),

@@ -1,4 +1,4 @@
-//! What is kept of a line that denotes bytes.
+//! What the second pass needs of a line that denotes bytes.
 
 ghost use Rattle.std.specs.Prelude.{◌≡◌, ◌<◌, ◌≤◌, ◌-◌, ◌^◌};
 ghost use Rattle.line_parts.specs.Seen.{seen};

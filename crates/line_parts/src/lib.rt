@@ -1,5 +1,9 @@
-//! The parts of a source's lines, borrowed from its text: tokens, expressions, operands and statements, and what is kept of a line
-//! that denotes bytes. Nothing runs here but the fault of a line with its number, and the look at an operand's expression.
+//! The parts of a source's lines, borrowed from its text.
+//!
+//! They are tokens, expressions, operands, statements, and what is kept of a line that denotes
+//! bytes. Nothing runs here but
+//! `located`, which makes a fault of an error and a line number, and `term_of`, which looks at an
+//! operand's expression.
 #![tactic(auto)]
 
 mod code;

@@ -1,4 +1,4 @@
-//! What is answered of a line that is refused.
+//! The fault of a rejected line.
 
 ghost use Rattle.std.specs.Prelude.{◌≡◌};
 ghost use Rattle.line_parts.specs.Located.{located};
@@ -6,13 +6,13 @@ ghost use Rattle.line_parts.specs.Located.{located};
 use crate::fault::LineError;
 use model::{AsmFault, AsmFaultKind};
 
-/// What is answered where a request for memory was refused.
+/// The fault that is returned if an allocation fails.
 pub const OUT_OF_MEMORY: AsmFault = AsmFault {
     line: 0,
     kind: AsmFaultKind::OutOfMemory,
 };
 
-/// The fault of a line with a number.
+/// Returns the fault of a line with a number, or `OUT_OF_MEMORY` if an allocation failed.
 pub fn located(number: u32, error: LineError) -> AsmFault
     ensures { result ≡ located number error }
 {

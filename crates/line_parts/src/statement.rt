@@ -18,7 +18,7 @@ pub enum Operand<'a> {
     Accumulator,
     /// `#e`
     Immediate(Expr<'a>),
-    /// `e`, `e,X` or `e,Y`, and whether a `!` stands before it.
+    /// `e`, `e,X` or `e,Y`, and whether a `!` comes before it.
     Direct {
         marked: bool,
         value: Expr<'a>,
@@ -41,7 +41,7 @@ pub enum Item<'a> {
     Text(&'a [u8]),
 }
 
-/// What stands after a line's label.
+/// What comes after a line's label.
 #[derive(Drop)]
 pub enum Statement<'a> {
     /// Nothing.
@@ -65,13 +65,13 @@ pub enum Statement<'a> {
 /// What a line says.
 #[derive(Drop)]
 pub enum Line<'a> {
-    /// A label, if there is one, and what stands after it.
+    /// A label, if there is one, and what comes after it.
     Labelled(Option<&'a [u8]>, Statement<'a>),
     /// `name = e`
     Definition(&'a [u8], Expr<'a>),
 }
 
-/// An operand's expression, if it has one.
+/// Returns an operand's expression, if it has one.
 pub fn term_of<'s, 'a>(operand: &'s Operand<'a>) -> Option<&'s Expr<'a>>
     ensures { shown (λ e. view e.now) result ≡ term_of (seen_operand operand.now) }
 {

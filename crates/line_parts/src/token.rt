@@ -8,6 +8,6 @@ pub struct Token<'a> {
     pub kind: TokenKind,
     /// Where in the line it starts, counted from 0.
     pub start: usize,
-    /// Its bytes, quotes and marks among them.
+    /// Its bytes, with quotes and prefixes.
     pub text: &'a [u8],
 }

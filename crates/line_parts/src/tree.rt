@@ -3,10 +3,11 @@
 use model::Operator;
 
 /// An expression, whose names are slices of its line.
-/// A tree is as deep as the sums in it have operators and brackets.
+///
+/// A tree is as deep as its sums have operators and brackets.
 #[derive(Drop)]
 pub enum Expr<'a> {
-    /// A literal's number, or nothing where it is above 2^31 - 1.
+    /// A literal's number, or `None` if it is above 2^31 - 1.
     Literal(Option<i32>),
     /// A name, in its own letter case.
     Name(&'a [u8]),

@@ -9,7 +9,7 @@ use hexdigits::{digits_of, digits_of_word};
 use itoa::Buffer;
 use std::alloc::AllocError;
 
-/// One to three bytes with a space between them.
+/// Appends one to three bytes in hex, with a space between them.
 #[tactic(auto, unfolding(model::specs::Text::spaced_bytes))]
 fn push_separated(out: &mut Vec<u8>, bytes: &[u8]) -> Result<(), AllocError>
     requires { length bytes.now ≤ 3 }
@@ -33,7 +33,7 @@ fn push_separated(out: &mut Vec<u8>, bytes: &[u8]) -> Result<(), AllocError>
     }
 }
 
-/// A row of one to three further bytes.
+/// Appends a row of one to three further bytes.
 fn push_group(out: &mut Vec<u8>, address: u32, bytes: &[u8]) -> Result<(), AllocError>
     requires { length bytes.now ≤ 3 }
     ensures rows { OnOk result (out.new.items ≡ out.old.items ++ group_row address bytes.now) }
@@ -46,7 +46,7 @@ fn push_group(out: &mut Vec<u8>, address: u32, bytes: &[u8]) -> Result<(), Alloc
     Ok(())
 }
 
-/// The rows of all further bytes.
+/// Appends the rows of all further bytes.
 #[tactic(auto, using(crate::proofs::Groups::next_group, crate::proofs::Groups::no_group))]
 fn push_groups(out: &mut Vec<u8>, address: u32, bytes: &[u8]) -> Result<(), AllocError>
     requires { address + length bytes.now < 2 ^ 32 - 3 }
@@ -64,7 +64,7 @@ fn push_groups(out: &mut Vec<u8>, address: u32, bytes: &[u8]) -> Result<(), Allo
     Ok(())
 }
 
-/// A line's rows, as far as memory is there for them.
+/// Appends a line's rows, as far as allocations succeed.
 fn extend_with_line(
     out: &mut Vec<u8>,
     address: u32,
@@ -84,8 +84,9 @@ fn extend_with_line(
     push_groups(out, address + 3, &bytes[bytes.len().min(3)..])
 }
 
-/// A line's rows: its address, its first three bytes and its text, and then its further bytes. Where memory runs out the
-/// text is as it was.
+/// Appends a line's rows: its address, its first three bytes and its text, then its further bytes.
+///
+/// Errors: `AllocError` if an allocation fails; the text is then unchanged.
 pub fn push_line(
     out: &mut Vec<u8>,
     address: u32,
@@ -106,7 +107,7 @@ pub fn push_line(
     }
 }
 
-/// A number as an address where it is one, and in decimal elsewhere.
+/// Appends a number as an address if it is one, otherwise in decimal.
 fn push_number(out: &mut Vec<u8>, number: i32) -> Result<(), AllocError>
     ensures rows { OnOk result (out.new.items ≡ out.old.items ++ number_text number) }
     ensures kept { take (length out.old.items) out.new.items ≡ out.old.items }
@@ -118,7 +119,7 @@ fn push_number(out: &mut Vec<u8>, number: i32) -> Result<(), AllocError>
     out.extend_from_slice(Buffer::new().format(number).as_bytes())
 }
 
-/// A name's row, as far as memory is there for it.
+/// Appends a name's row, as far as allocations succeed.
 fn extend_with_name(out: &mut Vec<u8>, name: &[u8], number: i32) -> Result<(), AllocError>
     ensures rows { OnOk result (out.new.items ≡ out.old.items ++ name_row (name.now, number)) }
     ensures kept { take (length out.old.items) out.new.items ≡ out.old.items }
@@ -130,7 +131,9 @@ fn extend_with_name(out: &mut Vec<u8>, name: &[u8], number: i32) -> Result<(), A
     Ok(())
 }
 
-/// A name's row. Where memory runs out the text is as it was.
+/// Appends a name's row.
+///
+/// Errors: `AllocError` if an allocation fails; the text is then unchanged.
 pub fn push_name(out: &mut Vec<u8>, name: &[u8], number: i32) -> Result<(), AllocError>
     ensures rows { OnOk result (out.new.items ≡ out.old.items ++ name_row (name.now, number)) }
     ensures err { OnErr result (out.new.items ≡ out.old.items) }

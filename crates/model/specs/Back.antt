@@ -1,4 +1,4 @@
--- Going back. Source: profile.
+-- Going back. Source: mos65.
 use Rattle.std.specs.Prelude.{◌≡◌, ℕ, ◌+◌, ◌-◌, ◌%◌, ◌==◌, ◌<◌, ◌≤◌, nat_le, if◌then◌else◌, List, [], ◌∷◌, ◌++◌, length, take, get_or, Result, Ok, Err}
 use Rattle.model.specs.State.{State}
 use Rattle.model.specs.Event.{event_of}
@@ -11,11 +11,11 @@ use Rattle.model.specs.declared.session_fault.SessionFault.TheVariants.{NoHistor
 abbrev pub states : Session → List State
 states s = s.earlier ++ s.current ∷ []
 
--- The number of the state that stands k events before another.
+-- The number of the state k events before another.
 abbrev pub number_back : ℕ → ℕ → ℕ
 number_back k number = (number + (1024 - k % 1024)) % 1024
 
--- The session without its last k states. Going back over none leaves the number that was last gone back to.
+-- The session without its last k states. Undoing none leaves the number of the last restored state.
 unfoldable pub gone_back : ℕ → Session → Session
 gone_back k s = record s {
   earlier = take (length s.earlier - k) s.earlier;
@@ -24,11 +24,11 @@ gone_back k s = record s {
   replayed = if k == 0 then s.replayed else number_back k s.number;
 }
 
--- Going back over the last k events, or a refusal with the number of those that are held.
+-- The last k events undone; rejected, with the number of events held, if fewer than k are held.
 unfoldable pub back_of : ℕ → Session → Result Session SessionFault
 back_of k s = if nat_le k (length s.earlier) then Ok (gone_back k s) else Err (NoHistory (length s.earlier))
 
--- Events that are all accepted lead from one session to another.
+-- Accepted events lead from one session to another.
 abbrev pub Accepts : Session → List Event → Session → Type 0
 Accepts s [] t = t ≡ s
 Accepts s (e ∷ es) t = (state : State) × (event_of s.current e ≡ Ok state) × Accepts (appended s state) es t
@@ -37,8 +37,9 @@ Accepts s (e ∷ es) t = (state : State) × (event_of s.current e ≡ Ok state) 
 abbrev pub holding : ℕ → Session → Session
 holding n s = record s { earlier = keep_last n s.earlier }
 
--- After k accepted events, going back over k gives the states before them exactly where k is at most the history size: the current
--- one, and of the earlier ones those for which there is room beside the k. Else it is refused, and the history is full.
+-- After k accepted events, undoing k restores the states before them exactly if k is at most the
+-- history size: the current one, and of the earlier ones those for which there is room beside the
+-- k. Otherwise it is rejected, and the history is full.
 abbrev pub BackIsExact : Type 0
 BackIsExact = (s t : Session) (events : List Event) → length s.earlier ≤ s.history → Accepts s events t →
     (length events ≤ s.history → (u : Session) × (back_of (length events) t ≡ Ok u) × (states u ≡ states (holding (s.history - length events) s)))

@@ -1,4 +1,4 @@
--- The bytes of a line in its place, or its value fault. Source: profile.
+-- The bytes of a line in its place, or its value fault. Source: mos65.
 use Rattle.std.specs.Prelude.{◌≡◌, ℕ, zero, suc, ◌+◌, ◌/◌, ◌%◌, nat_lt, nat_le, ℤ, pos, negsuc, ◌-ℤ◌, Bool, false, ◌||◌, ◌&&◌, if◌then◌else◌, List, [], ◌∷◌, ◌++◌, length, map, Option, Some, None, Result, Ok, Err}
 use Rattle.std.specs.List.{flat_map}
 use Rattle.std.specs.Int.Signed.{lt_z}
@@ -26,7 +26,7 @@ within least most kind (Err expression.UnknownName) = Err UndefinedName
 within least most kind (Err expression.Range) = Err ValueExprRange
 within least most kind (Err expression.DivideByZero) = Err ValueDivideByZero
 
--- Bytes that an expression denotes, or why it denotes none.
+-- The bytes of an expression, or why it has none.
 abbrev pub BytesOrFault : Type 0
 BytesOrFault = Result (List ℕ) AsmFaultKind
 
@@ -56,15 +56,16 @@ word_piece_high_first r = within (negsuc 32767) (pos 65535) WordRange r >>> λ v
 unfoldable pub address_piece : Result ℤ ExprFault → BytesOrFault
 address_piece r = within (pos 0) (pos 65535) WordRange r >>> λ v. Ok (word_bytes (modulo v 65536))
 
--- A distance modulo 65536, as a byte where it is -128..127.
+-- A distance modulo 65536 as a byte, if it is -128..127.
 abbrev pub distance_piece : ℕ → BytesOrFault
 distance_piece d = if nat_le d 127 || nat_le 65408 d then Ok (d % 256 ∷ []) else Err BranchRange
 
--- A branch's distance is its target less the next instruction's address, modulo 65536. Source: MCS6500 manual, chapter 4.
+-- A branch's distance is its target minus the next instruction's address, modulo 65536. Source:
+-- MCS6500 manual, chapter 4.
 unfoldable pub branch_piece : ℕ → Result ℤ ExprFault → BytesOrFault
 branch_piece address r = within (pos 0) (pos 65535) WordRange r >>> λ v. distance_piece (modulo (v -ℤ pos (address + 2)) 65536)
 
--- What stands after an opcode, by its mode.
+-- What comes after an opcode, by its mode.
 unfoldable pub operand_piece : ℕ → Mode → Result ℤ ExprFault → BytesOrFault
 operand_piece address Imp r = Ok []
 operand_piece address Acc r = Ok []
@@ -129,7 +130,8 @@ unfoldable pub has_port : Map → ℕ → ℕ → Bool
 has_port bus_map address zero = false
 has_port bus_map address (suc n) = is_port bus_map address || has_port bus_map (address + 1) n
 
--- What is wrong with where a line's bytes stand, after the lines that make an image. Its address and its size alone decide.
+-- What is wrong with where a line's bytes are, after the lines that make an image. Its address and
+-- its size alone decide.
 unfoldable pub place_kinds : Map → List (Option ℕ) → ℕ → ℕ → List (Option AsmFaultKind)
 place_kinds bus_map image address size =
     kind_if (nat_lt 0 size && nat_lt 65536 (address + size)) PastEnd
@@ -137,7 +139,7 @@ place_kinds bus_map image address size =
     ∷ kind_if (has_port bus_map address size) PortAddress
     ∷ []
 
--- Of two kinds, if there are two, the one with the lower number.
+-- The lower one of two kinds, if there are two.
 unfoldable pub lower : Option AsmFaultKind → Option AsmFaultKind → Option AsmFaultKind
 lower None b = b
 lower (Some a) None = Some a
@@ -153,7 +155,8 @@ unfoldable pub value_fault : Map → Numbers → List (Option ℕ) → Placed �
 value_fault bus_map numbers image p =
     lowest (kinds_in (pieces_of numbers p.address p.content) ++ place_kinds bus_map image p.address (size_of p.content))
 
--- These lines, after those that make an image, are all without a value fault, and with their bytes they make another.
+-- These lines, after those that make an image, have no value fault, and with their bytes they make
+-- another image.
 abbrev pub Makes : Map → Numbers → List (Option ℕ) → List Placed → List (Option ℕ) → Type 0
 Makes bus_map numbers image [] final = final ≡ image
 Makes bus_map numbers image (p ∷ ps) final = (value_fault bus_map numbers image p ≡ None) × Makes bus_map numbers (with_bytes image p.address (line_bytes numbers p)) ps final

@@ -1,4 +1,4 @@
--- What a command line asks for. Source: profile.
+-- What a command line asks for. Source: mos65.
 use Rattle.std.specs.Prelude.{ℕ, Bool, true, false, List, [], ◌∷◌, ◌++◌, length, take, nat_lt, nat_le, ◌==◌, ◌&&◌, if◌then◌else◌, codes, replicate, Option, Some, None}
 use Rattle.std.specs.Str.{bytes_eq}
 use Rattle.model.specs.Digits.{hex_number, decimal_number}
@@ -30,12 +30,12 @@ abbrev pub unspaced : List ℕ → List ℕ
 unspaced [] = []
 unspaced (b ∷ bs) = if b == 32 then unspaced bs else b ∷ bs
 
--- What stands after the word with which some bytes begin.
+-- The bytes after the first word of some bytes that begin with one.
 abbrev pub after_word : List ℕ → List ℕ
 after_word [] = []
 after_word (b ∷ bs) = if b == 32 then b ∷ bs else after_word bs
 
--- What stands after the first word of a line.
+-- The bytes after the first word of a line.
 abbrev pub rest_of : List ℕ → List ℕ
 rest_of line = after_word (unspaced line)
 
@@ -59,7 +59,7 @@ abbrev pub bytes_of_words : List (List ℕ) → Option (List ℕ)
 bytes_of_words [] = Some []
 bytes_of_words (w ∷ ws) = byte_before (byte_of w) (bytes_of_words ws)
 
--- The number that 1 to 7 decimal digits write, leading zeros among them.
+-- The number that 1 to 7 decimal digits write; leading zeros count as digits.
 unfoldable pub decimal_of : List ℕ → Option ℕ
 decimal_of word = if nat_le 1 (length word) && nat_le (length word) 7 then decimal_number word else None
 
@@ -80,7 +80,8 @@ abbrev pub set_byte : (ℕ → Setting) → Option ℕ → Command
 set_byte register (Some value) = Set (register value)
 set_byte register None = Bad
 
--- A register and its new value: two hex digits, and four for PC. Register names are capital letters.
+-- A register and its new value: two hex digits, and four for PC. Register names are capital
+-- letters.
 unfoldable pub set_command : List ℕ → List ℕ → Command
 set_command name value =
     if bytes_eq name (codes "A") then set_byte A (byte_of value)
@@ -120,7 +121,7 @@ irq_command level =
     else if bytes_eq level (codes "1") then Irq true
     else Bad
 
--- One to sixteen bytes of input. Zeros fill the place of those that are not there.
+-- One to sixteen bytes of input, padded with zeros.
 abbrev pub input_command : Option (List ℕ) → Command
 input_command (Some bytes) = if nat_le (length bytes) 16 then Input (take 16 (bytes ++ no_input)) (length bytes) else Bad
 input_command None = Bad
@@ -135,7 +136,7 @@ abbrev pub number_command : (ℕ → Command) → Option ℕ → Command
 number_command command (Some number) = command number
 number_command command None = Bad
 
--- How many steps are made at most, or events gone back over.
+-- How many steps to make at most, or how many events to undo.
 abbrev pub most_steps : ℕ
 most_steps = 1000000
 
@@ -184,7 +185,7 @@ commands =
     ∷ (codes "dis", with_two (λ a b. dis_command (address_of a) (from_1_to 256 (decimal_of b))))
     ∷ []
 
--- What the row with a name asks for.
+-- What the row of a name asks for.
 abbrev pub command_named : List (List ℕ × (List (List ℕ) → Command)) → List ℕ → List (List ℕ) → Command
 command_named [] name ws = Bad
 command_named (row ∷ rows) name ws = if bytes_eq name row.0 then row.1 ws else command_named rows name ws
@@ -201,12 +202,12 @@ abbrev pub is_asm : List (List ℕ) → Bool
 is_asm [] = false
 is_asm (w ∷ ws) = bytes_eq w (codes "asm")
 
--- The second of a line's words, which is empty where there is none.
+-- The second of a line's words; empty if there is none.
 abbrev pub second_word : List (List ℕ) → List ℕ
 second_word (w ∷ a ∷ ws) = a
 second_word ws = []
 
--- A text to be assembled at an address. It is not empty. Zeros fill the place of the bytes that are not there.
+-- A text to assemble at an address. It is not empty; zeros pad it.
 abbrev pub asm_command : Option ℕ → List ℕ → Command
 asm_command (Some address) (b ∷ bs) = Asm address (take 255 ((b ∷ bs) ++ replicate 255 0)) (length (b ∷ bs))
 asm_command (Some address) [] = Bad

@@ -1,4 +1,4 @@
--- Memory as text: rows of an address, the bytes of an instruction and its text. Source: profile.
+-- Memory as text: rows of an address, the bytes of an instruction and its text. Source: mos65.
 use Rattle.std.specs.Prelude.{ℕ, zero, suc, ◌+◌, nat_le, if◌then◌else◌, List, [], ◌∷◌, ◌++◌, take, drop}
 use Rattle.model.specs.declared.instruction.Profile.{Profile}
 use Rattle.model.specs.Text.{hex_word}
@@ -18,7 +18,8 @@ bytes_from memory address = take 3 (drop address memory)
 abbrev pub row_in : Profile → List ℕ → ℕ → TextRow
 row_in profile memory address = row_of profile (bytes_from memory address) address
 
--- Rows from an address on, each after the one before it: at most so many, and none that begins past a last address.
+-- Rows from an address on, each after the one before it: at most so many, and none that begins past
+-- a last address.
 unfoldable pub rows_in : Profile → List ℕ → ℕ → ℕ → ℕ → List ℕ
 rows_in profile memory last address zero = []
 rows_in profile memory last address (suc n) =

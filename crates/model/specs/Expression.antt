@@ -1,4 +1,4 @@
--- The grammar of expressions. Source: profile.
+-- The grammar of expressions. Source: mos65.
 -- expr = ["<" | ">"] sum, sum = unary {operator unary}, unary = ["-"] primary,
 -- primary = number | char | name | "*" | "[" sum "]", with brackets nested at most 8 deep.
 use Rattle.std.specs.Prelude.{◌≡◌, ℕ, suc, ◌+◌, ◌*◌, ◌^◌, ◌≤◌, ℤ, pos, ◌==◌, nat_lt, if◌then◌else◌, List, [], ◌∷◌, ◌++◌, length, slice_get, Option, Some, None}
@@ -11,7 +11,7 @@ use Rattle.model.specs.declared.expression.Operator.{Operator}
 use Rattle.model.specs.declared.expression.Operator.TheVariants.{Add, Subtract, Multiply, Divide, And, Or, ExclusiveOr}
 use Rattle.model.specs.Token.{Lexeme}
 
--- An expression. A literal is nothing where its number is above 2^31 - 1.
+-- An expression. A literal has no number if that is above 2^31 - 1.
 pub data Term : Type 0 where
   literal : Option ℤ → Term
   name : List ℕ → Term
@@ -28,7 +28,8 @@ abbrev pub number_after : ℕ → ℕ → List ℕ → ℕ
 number_after base n [] = n
 number_after base n (b ∷ digits) = number_after base (n * base + digit_value b) digits
 
--- The number that a number's text writes: `$` and hex digits, `%` and binary digits, or decimal digits.
+-- The number that a number's text writes: `$` and hex digits, `%` and binary digits, or decimal
+-- digits.
 abbrev pub number_of_text : List ℕ → ℕ
 number_of_text [] = 0
 number_of_text (b ∷ digits) =
@@ -36,7 +37,7 @@ number_of_text (b ∷ digits) =
     else if b == byte "%" then number_after 2 0 digits
     else number_after 10 0 (b ∷ digits)
 
--- A literal's number, where it is at most 2^31 - 1.
+-- A literal's number, if it is at most 2^31 - 1.
 abbrev pub in_range : ℕ → Option ℤ
 in_range n = if nat_lt n (2 ^ 31) then Some (pos n) else None
 
@@ -70,7 +71,8 @@ operator_of t = option_and_then operator_for (symbol_of t)
 abbrev pub star_term : ℕ → Option Term
 star_term b = if b == byte "*" then Some here else None
 
--- A token that is an expression by itself: a number, a character, a name, or `*`, the line's address.
+-- A token that is an expression by itself: a number, a character, a name, or `*`, the line's
+-- address.
 abbrev pub atom_in : TokenKind → List ℕ → Option Term
 atom_in Word text = Some (name text)
 atom_in Number text = Some (literal (in_range (number_of_text text)))
@@ -90,7 +92,8 @@ pub data Level : Type 0 where
   sum : Level
   whole : Level
 
--- These tokens are an expression of a level, with brackets nested at most so deep. Operators apply strictly from left to right.
+-- These tokens are an expression of a level, with brackets nested at most so deep. Operators apply
+-- strictly from left to right.
 pub data Derives : Level → ℕ → Term → List Lexeme → Type 0 where
   atom : {d : ℕ} (t : Lexeme) {e : Term} → atom_of t ≡ Some e → Derives primary d e (t ∷ [])
   group : {d : ℕ} (t u : Lexeme) {e : Term} {ts : List Lexeme} → symbol_of t ≡ Some (byte "[") → symbol_of u ≡ Some (byte "]") → Derives sum d e ts → Derives primary (suc d) e (t ∷ ts ++ u ∷ [])
@@ -106,7 +109,7 @@ pub data Derives : Level → ℕ → Term → List Lexeme → Type 0 where
 abbrev pub IsExpression : Term → List Lexeme → Type 0
 IsExpression e ts = Derives whole 8 e ts
 
--- The longest beginning of some tokens that is an expression, and what is left after it.
+-- The longest beginning of some tokens that is an expression, and the tokens after it.
 pub record Longest (tokens : List Lexeme) (term : Term) (rest : List Lexeme) : Type 0 where
   pub front : List Lexeme
   pub cut : tokens ≡ front ++ rest

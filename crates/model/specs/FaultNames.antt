@@ -1,4 +1,4 @@
--- The names and numbers of the faults, as replies and fault lines print them. Source: profile.
+-- The names and numbers of the faults, as replies and fault lines print them. Source: mos65.
 use Rattle.std.specs.Prelude.{ℕ, List, codes}
 use Rattle.model.specs.declared.bus_fault.BusFault.{BusFault}
 use Rattle.model.specs.declared.bus_fault.BusFault.TheVariants as bus_fault

@@ -1,12 +1,13 @@
--- The grammar of a line: which tokens are a line, and what they say. Source: profile.
--- line      = [name ":"] [operation] | name "=" expr
--- operation = mnemonic [operand] | "*" "=" expr | ".BYTE" item {"," item} | ".WORD" expr {"," expr} | ".DBYTE" expr {"," expr}
---             | ".RES" expr | ".END"
--- item      = expr | string
--- operand   = "A" | "#" expr | ["!"] expr ["," ("X" | "Y")] | "(" expr ")" | "(" expr "," "X" ")" | "(" expr ")" "," "Y"
--- Any word may stand where a name stands: that it is no reserved word is asked of the whole line afterwards.
--- `Line.antt` reads a line by functions; that each line of this grammar is read so, and that what is read is such a line, are laws
--- that are proved.
+-- The grammar of a line: which tokens are a line, and what they say. Source: mos65.
+--     line      = [name ":"] [operation] | name "=" expr
+--     operation = mnemonic [operand] | "*" "=" expr | ".BYTE" item {"," item}
+--               | ".WORD" expr {"," expr} | ".DBYTE" expr {"," expr} | ".RES" expr | ".END"
+--     item      = expr | string
+--     operand   = "A" | "#" expr | ["!"] expr ["," ("X" | "Y")] | "(" expr ")"
+--               | "(" expr "," "X" ")" | "(" expr ")" "," "Y"
+-- Any word may be a name here; that no name is a reserved word is asked of the whole line
+-- afterwards. `Line.antt` reads a line by functions. Laws, which are proved, say that each line of
+-- this grammar is read so, and that what is read is such a line.
 use Rattle.std.specs.Prelude.{◌≡◌, ℕ, Bool, true, false, ◌&&◌, List, [], ◌∷◌, ◌++◌, codes, Some, None}
 use Rattle.std.specs.Str.{byte, bytes_eq, str_to_ascii_uppercase}
 use Rattle.model.specs.declared.expression.TokenKind.TheVariants.{Word, Directive}
@@ -71,7 +72,7 @@ pub data IsIndex : Index → List Lexeme → Type 0 where
   by_x : (comma x : Lexeme) → IsComma comma → IsWord (codes "X") x → IsIndex X (comma ∷ x ∷ [])
   by_y : (comma y : Lexeme) → IsComma comma → IsWord (codes "Y") y → IsIndex Y (comma ∷ y ∷ [])
 
--- The word A alone is the accumulator, and no name.
+-- The word A alone is the accumulator and not a name.
 pub data IsOperand : Operand → List Lexeme → Type 0 where
   none : IsOperand absent []
   letter_a : (t : Lexeme) → IsWord (codes "A") t → IsOperand accumulator (t ∷ [])

@@ -1,4 +1,5 @@
--- The text of an instruction. Source: profile; the forms are those of the MCS6500 manual, chapters 4 to 6.
+-- The text of an instruction. Source: mos65; the forms are those of the MCS6500 manual, chapters 4
+-- to 6.
 use Rattle.std.specs.Prelude.{ℕ, ◌+◌, ◌*◌, ◌%◌, ◌&&◌, nat_lt, nat_le, if◌then◌else◌, List, [], ◌∷◌, ◌++◌, codes, length, Bool, Option, Some, None, is_some, slice_index}
 use Rattle.model.specs.declared.instruction.Profile.{Profile}
 use Rattle.model.specs.declared.instruction.Mnemonic.{Mnemonic}
@@ -21,7 +22,8 @@ word_text w = 36 ∷ hex_word w
 unfoldable pub has_row : Profile → Mnemonic → Mode → Bool
 has_row profile m mode = is_some (encoded profile m mode)
 
--- An address in an absolute mode: after a `!` where it is below $0100 and the mnemonic has the zero page mode with the same index.
+-- An address in an absolute mode: after a `!` if it is below $0100 and the mnemonic has the zero
+-- page mode with the same index.
 abbrev pub absolute_text : Profile → Mnemonic → Mode → ℕ → List ℕ
 absolute_text profile m short w = if nat_lt w 256 && has_row profile m short then 33 ∷ word_text w else word_text w
 
@@ -59,7 +61,7 @@ byte_row b = record { len = 1; text = codes ".BYTE $" ++ hex_byte b }
 abbrev pub instruction_text : Profile → Row → ℕ → ℕ → ℕ → List ℕ
 instruction_text profile row address b c = mnemonic_text row.mnemonic ++ operand_text profile row.mnemonic row.mode address b c
 
--- The row of a first byte, where the instruction's bytes are there and none of them past $FFFF.
+-- The row of a first byte, if the instruction's bytes are there and none of them is past $FFFF.
 abbrev pub row_by : Profile → ℕ → ℕ → List ℕ → Option Row → TextRow
 row_by profile address opcode bytes None = byte_row opcode
 row_by profile address opcode bytes (Some row) =
@@ -67,6 +69,6 @@ row_by profile address opcode bytes (Some row) =
     then record { len = row.len; text = instruction_text profile row address (slice_index bytes 1) (slice_index bytes 2) }
     else byte_row opcode
 
--- The row with which bytes begin, at an address. There is a first byte.
+-- The row at the front of some bytes, at an address. There is a first byte.
 unfoldable pub row_of : Profile → List ℕ → ℕ → TextRow
 row_of profile bytes address = row_by profile address (slice_index bytes 0) bytes (row_at profile (slice_index bytes 0))

@@ -1,4 +1,5 @@
--- Where the lines of a source stand, which form each instruction takes, and which names have which numbers. Source: profile.
+-- The address of each line of a source, the form of each instruction, and the number of each name.
+-- Source: mos65.
 use Rattle.std.specs.Prelude.{◌≡◌, ℕ, ◌+◌, ◌*◌, ◌<◌, nat_le, ℤ, pos, negsuc, Bool, true, false, ◌==◌, if◌then◌else◌, List, [], ◌∷◌, ◌++◌, length, map, Option, Some, None, is_some, Result, Ok, Err}
 use Rattle.std.specs.Option.{option_map, option_or}
 use Rattle.model.specs.declared.expression.ExprFault.{ExprFault}
@@ -19,7 +20,7 @@ use Rattle.model.specs.Value.{Numbers, eval_of}
 use Rattle.model.specs.Names.{Definitions, number_in}
 use Rattle.model.specs.Line.{Operand, absent, accumulator, immediate, direct, pointer, pointer_by_x, pointer_by_y, Item, value, string, Statement, nothing, origin, bytes, words, words_high_first, reserve, finish, instruction, Line, labelled, definition, read_line}
 
--- A right part goes on, a fault ends.
+-- A value goes on; a fault ends.
 infixl 10 ◌>>>◌
 abbrev pub ◌>>>◌ : {A B : Type 0} → Result A AsmFaultKind → (A → Result B AsmFaultKind) → Result B AsmFaultKind
 (Ok x) >>> f = f x
@@ -59,7 +60,7 @@ absolute_mode Unindexed = Abs
 absolute_mode X = AbsX
 absolute_mode Y = AbsY
 
--- How an instruction is encoded: its opcode, and the mode in which its operand stands after it.
+-- How an instruction is encoded: its opcode, and the mode of its operand.
 pub record Coded : Type 0 where
   pub opcode : ℕ
   pub mode : Mode
@@ -68,7 +69,8 @@ pub record Coded : Type 0 where
 abbrev pub in_mode : Profile → Mnemonic → Mode → Option Coded
 in_mode profile m mode = option_map (λ opcode. record { opcode = opcode; mode = mode }) (encoded profile m mode)
 
--- The form of an instruction: encoded in one way, or by the operand's value in one of two, in the zero page mode or in the absolute one.
+-- The form of an instruction: one encoding, or two between which the operand's value decides, in
+-- the zero page mode and in the absolute one.
 pub data Form : Type 0 where
   one : Coded → Form
   by_size : Coded → Coded → Form
@@ -77,7 +79,7 @@ pub data Form : Type 0 where
 abbrev pub only : Profile → Mnemonic → Mode → Option Form
 only profile m mode = option_map one (in_mode profile m mode)
 
--- Of two modes those that the table has.
+-- Of two modes, those that the table has.
 abbrev pub either : Option Coded → Option Coded → Option Form
 either None long = option_map one long
 either (Some short) None = Some (one short)
@@ -113,14 +115,14 @@ abbrev pub is_byte : ℤ → Bool
 is_byte (pos n) = nat_le n 255
 is_byte (negsuc n) = false
 
--- The zero page mode is taken exactly where all names are known and the value is 0..255.
+-- The zero page mode is taken exactly if all names are known and the value is 0..255.
 abbrev pub sized : Coded → Coded → Result ℤ ExprFault → Result Coded AsmFaultKind
 sized short long (Ok v) = if is_byte v then Ok short else Ok long
 sized short long (Err expression.UnknownName) = Ok long
 sized short long (Err expression.Range) = Err ExprRange
 sized short long (Err expression.DivideByZero) = Err DivideByZero
 
--- How an instruction is encoded, by the value of its operand where that decides.
+-- How an instruction is encoded, by the value of its operand if that decides.
 abbrev pub coded_by : Numbers → ℕ → Option Term → Option Form → Result Coded AsmFaultKind
 coded_by numbers address e None = Err NoSuchForm
 coded_by numbers address e (Some (one c)) = Ok c
@@ -129,7 +131,7 @@ coded_by numbers address None (Some (by_size short long)) = Ok long
 
 -- ---- what a line denotes
 
--- What a line will denote, its values still open: bytes, words, or an opcode and what stands after it in a mode.
+-- What a line denotes, its values still open: bytes, words, or an opcode and the operand after it.
 pub data Content : Type 0 where
   no_bytes : Content
   byte_list : List Item → Content
@@ -164,11 +166,11 @@ pub record Placed : Type 0 where
 abbrev pub PlacedAndNext : Type 0
 PlacedAndNext = Placed × ℕ
 
--- What has a size stands at its line's address, and the next line after it.
+-- A statement with a size is at its line's address, and the next line comes after it.
 abbrev pub standing : ℕ → Content → PlacedAndNext
 standing address content = (record { address = address; content = content }, address + size_of content)
 
--- What has no bytes, and the address to go on from.
+-- A statement without bytes, and the address to go on from.
 abbrev pub going_on : ℕ → ℕ → PlacedAndNext
 going_on address next = (record { address = address; content = no_bytes }, next)
 
@@ -189,8 +191,9 @@ abbrev pub after_room : ℕ → ℤ → Result ℕ AsmFaultKind
 after_room address (pos n) = if nat_le (address + n) 65536 then Ok (address + n) else Err OriginRange
 after_room address (negsuc n) = Err OriginRange
 
--- A statement at an address, under the numbers of the names that are known there, and the next line's address; or its layout fault.
--- The next line's address is the line's and its size, after `*= e` the value of e.
+-- A statement at an address, under the numbers of the names known there, and the next line's
+-- address; or its layout fault. The next line's address is the line's plus its size; after `*= e`
+-- it is the value of e.
 unfoldable pub laid : Profile → Numbers → ℕ → Statement → Result PlacedAndNext AsmFaultKind
 laid profile numbers address nothing = Ok (standing address no_bytes)
 laid profile numbers address (origin e) = placing (eval_of numbers (pos address) e) >>> λ v. in_memory v >>> λ n. Ok (going_on address n)
@@ -207,7 +210,8 @@ laid profile numbers address (instruction m operand) = coded_by numbers address 
 abbrev pub most_names : ℕ
 most_names = 8192
 
--- What is fixed before a line: the profile, by the lines before it its address, and the names that they define, with their numbers.
+-- What is fixed before a line: the profile; by the lines before it, its address; and the names that
+-- they define, with their numbers.
 pub record Fixed : Type 0 where
   pub profile : Profile
   pub address : ℕ
@@ -223,14 +227,15 @@ abbrev pub label_at : ℕ → Option (List ℕ) → Definitions
 label_at address None = []
 label_at address (Some name) = (name, pos address) ∷ []
 
--- A line in its place, and what it and the lines before it fix.
+-- A line in its place, and what is fixed by it and the lines before it.
 abbrev pub Standing : Type 0
 Standing = Placed × Fixed
 
 abbrev pub fixing : Profile → Definitions → PlacedAndNext → Standing
 fixing profile names place = (place.0, record { profile = profile; address = place.1; names = names })
 
--- A line after lines that fix so much: its own equation. A name is known where an earlier line defines it or it is the line's label.
+-- A line after lines that fix so much: its own equation. A name is known if an earlier line defines
+-- it or it is the line's label.
 abbrev pub line_at : Fixed → Line → Result Standing AsmFaultKind
 line_at before (labelled label s) =
     let names = before.names ++ label_at before.address label in
@@ -248,23 +253,24 @@ abbrev pub is_full : Definitions → Option (List ℕ) → Bool
 is_full names None = false
 is_full names (Some name) = length names == most_names
 
--- The answer, unless there is a fault.
+-- The result, unless there is a fault.
 abbrev pub unless : {A : Type 0} → Option AsmFaultKind → Result A AsmFaultKind → Result A AsmFaultKind
 unless None r = r
 unless (Some kind) r = Err kind
 
--- Of a kind and TooManyNames the lower one.
+-- The lower one of a kind and TooManyNames.
 abbrev pub or_too_many : AsmFaultKind → AsmFaultKind
 or_too_many kind = if nat_le (source_fault_number kind) (source_fault_number TooManyNames) then kind else TooManyNames
 
--- An answer about a line whose name may be one too many.
+-- The result for a line whose name may be one too many.
 abbrev pub unless_full : {A : Type 0} → Bool → Result A AsmFaultKind → Result A AsmFaultKind
 unless_full false r = r
 unless_full true (Ok a) = Err TooManyNames
 unless_full true (Err kind) = Err (or_too_many kind)
 
--- The same with the rules for names: a name has no earlier definition, which comes before all else that is wrong with the line's
--- operation, and it is none too many; of that and what else is wrong the lower kind is the fault.
+-- The same with the rules for names. First, a name has no earlier definition; that fault comes
+-- before all others of the line's operation. Then the lower kind of a name too many and any other
+-- fault.
 unfoldable pub line_fixed : Fixed → Line → Result Standing AsmFaultKind
 line_fixed before l =
     if is_defined before.names (name_of l) then Err DuplicateName
@@ -274,7 +280,8 @@ line_fixed before l =
 unfoldable pub layout_of : Fixed → List ℕ → Result Standing AsmFaultKind
 layout_of before line = read_line before.profile line >>> λ l. line_fixed before l
 
--- After lines that fix so much these lines stand so, and then so much is fixed: each one meets its own equation.
+-- After lines that fix so much, these lines are in these places, and then so much is fixed: each
+-- one meets its own equation.
 abbrev pub LaidOut : Fixed → List (List ℕ) → List Placed → Fixed → Type 0
 LaidOut before [] placed after = (placed ≡ []) × (after ≡ before)
 LaidOut before (line ∷ lines) [] after = ⊥

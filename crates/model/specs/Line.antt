@@ -1,11 +1,12 @@
--- What a line of a source says. Source: profile.
--- line      = [name ":"] [operation] | name "=" expr
--- operation = mnemonic [operand] | "*" "=" expr | ".BYTE" item {"," item} | ".WORD" expr {"," expr} | ".DBYTE" expr {"," expr}
---             | ".RES" expr | ".END"
--- item      = expr | string
--- operand   = "A" | "#" expr | ["!"] expr ["," ("X" | "Y")] | "(" expr ")" | "(" expr "," "X" ")" | "(" expr ")" "," "Y"
--- Mnemonics, directives, A, X and Y are read in either letter case; names keep theirs. A word before `:` or `=` at a line's start
--- stands where a name stands, a mnemonic too.
+-- What a line of a source says. Source: mos65.
+--     line      = [name ":"] [operation] | name "=" expr
+--     operation = mnemonic [operand] | "*" "=" expr | ".BYTE" item {"," item}
+--               | ".WORD" expr {"," expr} | ".DBYTE" expr {"," expr} | ".RES" expr | ".END"
+--     item      = expr | string
+--     operand   = "A" | "#" expr | ["!"] expr ["," ("X" | "Y")] | "(" expr ")"
+--               | "(" expr "," "X" ")" | "(" expr ")" "," "Y"
+-- Mnemonics, directives, A, X and Y are read in either letter case; names keep theirs. A word
+-- before `:` or `=` at a line's start is a name, even if it is a mnemonic.
 use Rattle.std.specs.Prelude.{ℕ, zero, suc, ◌-◌, Bool, true, false, not, ◌||◌, ◌&&◌, nat_lt, if◌then◌else◌, List, [], ◌∷◌, length, take, drop, codes, Option, Some, None, is_some, Result, Ok, Err}
 use Rattle.std.specs.List.{list_all, list_any}
 use Rattle.std.specs.Option.{option_map, option_and_then}
@@ -68,7 +69,7 @@ is_word_in Symbol text capitals = false
 abbrev pub is_word : List ℕ → Lexeme → Bool
 is_word capitals t = is_word_in t.kind t.text capitals
 
--- What was read, where no token is left after it.
+-- What was read, if no token is left after it.
 abbrev pub alone : Term → List Lexeme → Option Term
 alone e [] = Some e
 alone e (t ∷ ts) = None
@@ -127,7 +128,8 @@ unfoldable pub list_within : {A : Type 0} → (List Lexeme → Option (A × List
 list_within read zero ts = None
 list_within read (suc n) ts = option_and_then (λ p. list_after (λ more. list_within read n more) p.0 p.1) (read ts)
 
--- The expressions, separated by commas, that some tokens are. There are no more of them than tokens.
+-- The expressions, separated by commas, that some tokens are. There are no more of them than
+-- tokens.
 abbrev pub expressions_of : List Lexeme → Option (List Term)
 expressions_of ts = list_within expression_of (length ts) ts
 
@@ -220,7 +222,7 @@ is_reserved profile text =
     is_some (mnemonic_named profile text) || bytes_eq (str_to_ascii_uppercase text) (codes "A")
     || bytes_eq (str_to_ascii_uppercase text) (codes "X") || bytes_eq (str_to_ascii_uppercase text) (codes "Y")
 
--- Whether a reserved word stands in an expression where a name stands.
+-- Whether an expression uses a reserved word as a name.
 abbrev pub term_reserves : Profile → Term → Bool
 term_reserves profile (literal v) = false
 term_reserves profile (name text) = is_reserved profile text
@@ -253,7 +255,7 @@ reserves profile (reserve e) = term_reserves profile e
 reserves profile finish = false
 reserves profile (instruction m operand) = operand_reserves profile operand
 
--- Whether a reserved word stands where a name stands.
+-- Whether a line uses a reserved word as a name.
 abbrev pub line_reserves : Profile → Line → Bool
 line_reserves profile (labelled None s) = reserves profile s
 line_reserves profile (labelled (Some text) s) = is_reserved profile text || reserves profile s
@@ -265,7 +267,8 @@ abbrev pub unreserved : Profile → Option Line → Result Line AsmFaultKind
 unreserved profile None = Err Syntax
 unreserved profile (Some l) = if line_reserves profile l then Err ReservedName else Ok l
 
--- What a line says, or the fault of its text: too many bytes come before a wrong byte, that before a wrong form, that before a reserved word.
+-- What a line says, or the fault of its text. The order of faults: too many bytes, a wrong byte, a
+-- wrong form, a reserved word.
 unfoldable pub read_line : Profile → List ℕ → Result Line AsmFaultKind
 read_line profile line =
     if nat_lt 255 (length line) then Err LineTooLong

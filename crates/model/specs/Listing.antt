@@ -1,4 +1,5 @@
--- The listing of a source: each line with its address and its first bytes, and the names. Source: profile.
+-- The listing of a source: each line with its address and its first bytes, and the names. Source:
+-- mos65.
 use Rattle.std.specs.Prelude.{◌≡◌, ℕ, ◌+◌, ◌-◌, ◌≤◌, nat_lt, ℤ, pos, negsuc, if◌then◌else◌, List, [], ◌∷◌, ◌++◌, map, length, take, drop, replicate, codes, Option, unwrap_or}
 use Rattle.std.specs.List.{flat_map}
 use Rattle.std.specs.Fmt.{signed_decimal}
@@ -12,7 +13,7 @@ use Rattle.model.specs.Source.{nothing_fixed, read_lines, most_bytes}
 
 -- ---- rows
 
--- An address in four digits. Only a line without bytes can stand at 65536.
+-- An address in four digits. Only a line without bytes can be at 65536.
 abbrev pub address_text : ℕ → List ℕ
 address_text address = if nat_lt address 65536 then hex_word address else codes "----"
 
@@ -49,7 +50,7 @@ lines_rows (line ∷ lines) (p ∷ ps) = line_rows p.0 p.1 line ++ lines_rows li
 
 -- ---- names
 
--- A number as an address where it is one, and in decimal elsewhere.
+-- A number as an address if it is one, otherwise in decimal.
 abbrev pub number_text : ℤ → List ℕ
 number_text (pos n) = if nat_lt n 65536 then 36 ∷ hex_word n else signed_decimal (pos n)
 number_text (negsuc n) = signed_decimal (negsuc n)
@@ -75,7 +76,8 @@ bytes_at image address count = map (λ c. unwrap_or c 0) (take count (drop addre
 abbrev pub shown_in : List (Option ℕ) → ℕ × ℕ → ℕ × List ℕ
 shown_in image place = (place.0, bytes_at image place.0 place.1)
 
--- The listing of a source under a map: of the lines that are read, with the addresses, bytes and numbers that its denotation gives.
+-- The listing of a source under a map: of the lines that are read, with the addresses, bytes and
+-- numbers of what it denotes.
 pub record IsListing (bus_map : Map) (source text : List ℕ) : Type 0 where
   pub size : length source ≤ most_bytes
   pub placed : List Placed

@@ -1,4 +1,4 @@
--- Looking changes no state. Source: profile.
+-- Looking changes no state. Source: mos65.
 use Rattle.std.specs.Prelude.{◌≡◌, ℕ, ◌≤◌, ◌==◌, Bool, true, false, if◌then◌else◌, List, [], ◌∷◌, map}
 use Rattle.model.specs.Session.{Session}
 use Rattle.model.specs.Run.{run_end, bare}
@@ -8,7 +8,8 @@ use Rattle.model.specs.Transcript.{answer_to, served}
 use Rattle.model.specs.declared.command.Command.{Command}
 use Rattle.model.specs.declared.command.Command.TheVariants.{Regs, Mem, Out, Run, Break, Unbreak, Watch, Unwatch, Breaks, Dis, Nothing, Bad}
 
--- Whether a command only looks: it is a view, it sets or clears a breakpoint or a watch, or it is an empty or a bad line.
+-- Whether a command only looks: it is a view, it sets or clears a breakpoint or a watchpoint, or it
+-- is an empty or a bad line.
 unfoldable pub is_look : Command → Bool
 is_look Regs = true
 is_look (Mem first last) = true
@@ -27,18 +28,18 @@ is_look command = false
 abbrev pub run_again : ℕ → List Command → List Command
 run_again k rest = if k == 0 then rest else Run k ∷ rest
 
--- What a command leaves of itself before the rest: nothing of a look, and of a run the steps that it made.
+-- What is kept of a command before the rest: nothing of a look; of a run, the steps that it made.
 unfoldable pub kept_of : Command → Session → List Command → List Command
 kept_of (Run n) s rest = run_again (run_end n s).did rest
 kept_of command s rest = if is_look command then rest else command ∷ rest
 
--- What is left of some commands, from a session on.
+-- What is kept of some commands, from a session on.
 unfoldable pub kept : Session → List Command → List Command
 kept s [] = []
 kept s (command ∷ commands) = kept_of command s (kept (answer_to command s).session commands)
 
--- Looking is harmless: lines that ask for what is left of other lines, and are served with no breakpoint and no watch set, lead to
--- the same states.
+-- Looking is harmless: lines for what is kept of other lines, served with no breakpoint and no
+-- watchpoint set, lead to the same states.
 abbrev pub LooksAreHarmless : Type 0
 LooksAreHarmless = (s : Session) (lines others : List (List ℕ)) → map command_of others ≡ kept s (map command_of lines) →
     states (served (bare s) others).session ≡ states (served s lines).session
@@ -47,6 +48,7 @@ LooksAreHarmless = (s : Session) (lines others : List (List ℕ)) → map comman
 abbrev pub EachRunHasALine : Type 0
 EachRunHasALine = (k : ℕ) → 1 ≤ k → k ≤ most_steps → (line : List ℕ) × (command_of line ≡ Run k)
 
--- There are lines that ask for what is left of other lines, whatever these ask for: so what looking is compared with is always there.
+-- There are lines for what is kept of other lines, whatever these ask for. So there is always
+-- something to compare looking with.
 abbrev pub WhatIsKeptHasLines : Type 0
 WhatIsKeptHasLines = (s : Session) (lines : List (List ℕ)) → (others : List (List ℕ)) × (map command_of others ≡ kept s (map command_of lines))

@@ -18,7 +18,7 @@ documented_mnemonics =
     Stx ∷ Sty ∷ Tax ∷ Tay ∷ Tsx ∷ Txa ∷ Txs ∷ Tya ∷
     []
 
--- Those that profile C adds. Source: profile.
+-- Those that profile C adds. Source: mos65.
 abbrev pub added_mnemonics : List Mnemonic
 added_mnemonics = Bra ∷ Phx ∷ Phy ∷ Plx ∷ Ply ∷ Stz ∷ []
 
@@ -27,7 +27,8 @@ unfoldable pub mnemonics : Profile → List Mnemonic
 mnemonics N = documented_mnemonics
 mnemonics C = documented_mnemonics ++ added_mnemonics
 
--- The three letters of each mnemonic, in capitals. Source: MCS6500 manual, appendix B; profile for the last six.
+-- The three letters of each mnemonic, in capitals. Source: MCS6500 manual, appendix B; mos65 for
+-- the last six.
 unfoldable pub mnemonic_text : Mnemonic → List ℕ
 mnemonic_text Adc = codes "ADC"
 mnemonic_text And = codes "AND"
@@ -97,6 +98,6 @@ unfoldable pub named_among : List ℕ → List Mnemonic → Option Mnemonic
 named_among text [] = None
 named_among text (m ∷ ms) = if bytes_eq (mnemonic_text m) (str_to_ascii_uppercase text) then Some m else named_among text ms
 
--- The mnemonic of a profile that a text names, in any letter case, if it names one. Source: profile.
+-- The mnemonic of a profile that a text names, in any letter case, if it names one. Source: mos65.
 unfoldable pub mnemonic_named : Profile → List ℕ → Option Mnemonic
 mnemonic_named profile text = named_among text (mnemonics profile)

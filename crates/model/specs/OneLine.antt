@@ -1,4 +1,4 @@
--- What one line denotes at an address, in a source without names. Source: profile.
+-- What one line denotes at an address, in a source without names. Source: mos65.
 use Rattle.std.specs.Prelude.{ℕ, ◌+◌, nat_le, Bool, true, false, ◌&&◌, not, if◌then◌else◌, List, [], ◌∷◌, ◌++◌, Some, None, Result, Ok, Err}
 use Rattle.model.specs.declared.instruction.Profile.{Profile}
 use Rattle.model.specs.declared.source_fault.AsmFaultKind.{AsmFaultKind}
@@ -9,7 +9,7 @@ use Rattle.model.specs.Value.{Numbers}
 use Rattle.model.specs.Names.{number_in}
 use Rattle.model.specs.Line.{Statement, nothing, origin, bytes, words, words_high_first, reserve, finish, instruction, Line, labelled, definition, read_line}
 
--- An operation that may stand alone.
+-- A statement that may be alone.
 abbrev pub may_stand_alone : Statement → Bool
 may_stand_alone nothing = false
 may_stand_alone (origin e) = false
@@ -20,7 +20,7 @@ may_stand_alone (reserve e) = false
 may_stand_alone finish = false
 may_stand_alone (instruction m operand) = true
 
--- No label, no definition, and an operation that may stand alone.
+-- No label, no definition, and a statement that may be alone.
 abbrev pub is_one_line : Line → Bool
 is_one_line (labelled None s) = may_stand_alone s
 is_one_line (labelled (Some name) s) = false
@@ -33,7 +33,8 @@ no_numbers = number_in []
 abbrev pub begun_at : Profile → ℕ → Fixed
 begun_at profile address = record { profile = profile; address = address; names = [] }
 
--- The bytes of a line in its place, at most 3; or its value fault, no port and no other line standing in the way.
+-- The bytes of a line in its place, at most 3; or its value fault. Neither a port nor another line
+-- can be in its way.
 abbrev pub bytes_alone : Placed → Result (List ℕ) AsmFaultKind
 bytes_alone p =
     unless (lowest (kinds_in (pieces_of no_numbers p.address p.content) ++ kind_if (not (nat_le (p.address + size_of p.content) 65536)) PastEnd ∷ []))
@@ -43,7 +44,8 @@ bytes_alone p =
 abbrev pub is_short : Line → Placed → Bool
 is_short l p = is_one_line l && nat_le (size_of p.content) 3
 
--- The bytes that a text denotes at an address, or its fault: a layout fault before NotOneLine, that before a value fault.
+-- The bytes that a text denotes at an address, or its fault. Layout faults come before NotOneLine,
+-- and that before value faults.
 unfoldable pub one_line : Profile → ℕ → List ℕ → Result (List ℕ) AsmFaultKind
 one_line profile address text =
     read_line profile text >>> λ l. line_fixed (begun_at profile address) l >>> λ q. if is_short l q.0 then bytes_alone q.0 else Err NotOneLine

@@ -1,6 +1,6 @@
--- The machine as it was before its port had a control byte, and could only be polled: base+3 read 0 and took nothing, and an IRQ was
--- asked for by its line alone. It stands here so that it can be said what the control byte changed: nothing, for a session whose steps
--- never store an odd byte at base+3. Source: profile.
+-- The machine before its port had a control byte, when it could only be polled: base+3 read 0 and
+-- took nothing, and only the IRQ line asked for an IRQ. It is here to say what the control byte
+-- changed: nothing, for a session whose steps never store an odd byte at base+3. Source: mos65.
 use Rattle.std.specs.Prelude.{◌≡◌, ℕ, ◌+◌, ◌%◌, ◌<◌, ⊤, Bool, false, not, ◌&&◌, ◌||◌, ◌==◌, nat_lt, if◌then◌else◌, List, [], ◌∷◌, ◌++◌, slice_index, Option, Some, None, Result, Ok, Err}
 use Rattle.std.specs.List.{All}
 use Rattle.std.specs.Option.{option_map_or}
@@ -31,7 +31,8 @@ use Rattle.model.specs.declared.command.Command.TheVariants.{Step, Run}
 
 -- ---- what the processor's accesses did
 
--- A bus read gave the byte of memory; at base+1 the next input byte or 0; at base+2 whether input waits; 0 at base+0 and base+3.
+-- A bus read gave the byte of memory; at base+1 the next input byte or 0; at base+2 whether input
+-- waits; 0 at base+0 and base+3.
 unfoldable pub polled_read : Bus → ℕ → ℕ
 polled_read bus address =
     if is_port bus.map address then
@@ -40,7 +41,8 @@ polled_read bus address =
     0)
     else slice_index bus.memory address
 
--- Of a bus store at base+0 the byte ended the output; the port's other addresses and the ROM took nothing; memory took the byte.
+-- A bus store at base+0 appended the byte to the output; the port's other addresses and the ROM
+-- took nothing; memory took the byte.
 unfoldable pub polled_write : Bus → ℕ → ℕ → Bus
 polled_write bus address value =
     if is_port bus.map address then
@@ -90,7 +92,7 @@ unfoldable pub polled_attempted : Option Row → State → Result State EventFau
 polled_attempted None state = Err (Undocumented (slice_index state.bus.memory state.regs.pc) state.regs.pc)
 polled_attempted (Some row) state = polled_executed row state
 
--- The IRQ entry was taken where the line is 1 and I is 0.
+-- The IRQ entry was taken if the line is 1 and I is 0.
 unfoldable pub polled_step : State → Result State EventFault
 polled_step state =
     if nat_lt most_cycles state.cycles then Err CyclesFull
@@ -115,7 +117,8 @@ polled_transcript s input = polled_served s (lines_of input)
 
 -- ---- steps that store an odd byte at base+3
 
--- The row of the instruction that a step makes: none where the step is refused, or is an interrupt entry.
+-- The row of the instruction that a step makes: none if the step is rejected, or is an interrupt
+-- entry.
 unfoldable pub instruction_at : State → Option Row
 instruction_at state =
     if nat_lt most_cycles state.cycles || state.nmi || (irq_asked state && not state.regs.flags.i) then None
@@ -154,13 +157,13 @@ AllSpareControl s (line ∷ lines) =
 
 -- ---- the law
 
--- A session that holds only states whose control byte is 0, and whose steps never store an odd byte at base+3, is served as it was
--- before, with the same text and the same states.
+-- A session that holds only states whose control byte is 0, and whose steps never store an odd byte
+-- at base+3, is served as it was before, with the same text and the same states.
 abbrev pub PolledSessionsStay : Type 0
 PolledSessionsStay = (s : Session) (lines : List (List ℕ)) → All (λ (state : State). state.bus.control ≡ false) (states s) → AllSpareControl s lines →
     served s lines ≡ polled_served s lines
 
--- So the transcript of such a session, from its start on, is the one that it had.
+-- So the transcript of such a session, from its start on, is unchanged.
 abbrev pub PolledTranscriptsStay : Type 0
 PolledTranscriptsStay = (map : Map) (image : List (Option ℕ)) (history : ℕ) (input : List ℕ) →
     AllSpareControl (fresh history (start map image)) (lines_of input) →

@@ -1,4 +1,5 @@
--- The longest beginning of some tokens that is an expression, computed. That this is what the grammar says of it is a law that is proved.
+-- The longest beginning of some tokens that is an expression, computed. A law, which is proved,
+-- says that this is the grammar's.
 use Rattle.std.specs.Prelude.{◌≡◌, ℕ, zero, suc, ◌==◌, Bool, false, if◌then◌else◌, List, [], ◌∷◌, ◌++◌, length, Option, Some, None, IfSome, IfNone}
 use Rattle.std.specs.Str.{byte}
 use Rattle.std.specs.Option.{option_map, option_and_then, option_map_or}
@@ -13,7 +14,7 @@ Read = Option (Term × List Lexeme)
 abbrev pub is_symbol : ℕ → Lexeme → Bool
 is_symbol b t = option_map_or (λ s. s == b) (symbol_of t) false
 
--- What was read inside a bracket, where the next token closes it.
+-- What was read inside a bracket, if the next token closes it.
 abbrev pub closed_by : Term → List Lexeme → Read
 closed_by e [] = None
 closed_by e (t ∷ ts) = if is_symbol (byte "]") t then Some (e, ts) else None
@@ -56,11 +57,12 @@ whole_with inner (t ∷ ts) =
     else if is_symbol (byte ">") t then option_map (λ p. (high p.0, p.1)) (sum_with inner ts)
     else sum_with inner (t ∷ ts)
 
--- The expression with which some tokens begin, as long as possible, and the tokens left after it.
+-- The longest expression at the front of some tokens, and the tokens after it.
 unfoldable pub expression_of : List Lexeme → Read
 expression_of tokens = whole_with (inner_at 8) tokens
 
--- What is read is the longest beginning that is an expression; where nothing is read, no beginning is one.
+-- What is read is the longest beginning that is an expression; if nothing is read, no beginning is
+-- one.
 abbrev pub ReadsLongest : Type 0
 ReadsLongest = (tokens : List Lexeme)
     → IfSome (expression_of tokens) (λ p. Longest tokens p.0 p.1)

@@ -1,4 +1,5 @@
--- A run of steps: how it ends, and where it leads. Both are defined for any step, and then for the machine's. Source: profile.
+-- A run of steps: how it ends, and where it leads. Both are defined for any step, and then for the
+-- machine's. Source: mos65.
 use Rattle.std.specs.Prelude.{ℕ, ◌≡◌, ◌-◌, zero, suc, not, ◌==◌, nat_eq, nat_le, if◌then◌else◌, min, List, [], ◌∷◌, filter, slice_index, Option, Some, None, unwrap_or, Result, Ok, Err}
 use Rattle.std.specs.List.{list_any}
 use Rattle.std.specs.Option.{option_map, option_map_or, option_or}
@@ -10,7 +11,7 @@ use Rattle.model.specs.declared.run_end.Why.{Why}
 use Rattle.model.specs.declared.run_end.Why.TheVariants.{Watch, Break, Limit, Refused}
 use Rattle.model.specs.declared.run_end.RunEnd.{RunEnd}
 
--- What a step gives: the next state, or why it is refused.
+-- What a step gives: the next state, or why it is rejected.
 abbrev pub OneStep : Type 0
 OneStep = State → Result State EventFault
 
@@ -33,7 +34,8 @@ watch_met watches before after = option_map Watch (lowest (changed watches befor
 unfoldable pub break_met : List ℕ → State → State → Option Why
 break_met breaks before after = if list_any (nat_eq after.regs.pc) breaks then Some (Break after.regs.pc) else None
 
--- Why a run ends after a step that leads from one state to another, if it does: a watch is named before a breakpoint.
+-- Why a run ends after a step from one state to another, if it does: a watchpoint is named before a
+-- breakpoint.
 unfoldable pub stop_of : Session → State → State → Option Why
 stop_of s before after = option_or (watch_met s.watches before after) (break_met s.breaks before after)
 
@@ -43,7 +45,8 @@ stop_of s before after = option_or (watch_met s.watches before after) (break_met
 abbrev pub one_later : RunEnd → RunEnd
 one_later end = record { did = suc end.did; why = end.why }
 
--- The first of n steps that meets something. A refused step meets nothing, and no step comes after it.
+-- The first of n steps that meets something. A rejected step meets nothing, and no step comes after
+-- it.
 abbrev pub met_now_or_later : Option Why → Option RunEnd → Option RunEnd
 met_now_or_later (Some why) rest = Some (record { did = 1; why = why })
 met_now_or_later None rest = option_map one_later rest
@@ -56,7 +59,7 @@ unfoldable pub first_met : OneStep → (State → State → Option Why) → ℕ 
 first_met one met zero s = None
 first_met one met (suc n) s = met_if_made met s (one s) (λ t. first_met one met n t)
 
--- The first refused step of n, which is not counted.
+-- The first rejected step of n, which is not counted.
 abbrev pub refused_now_or_later : Result State EventFault → (State → Option RunEnd) → Option RunEnd
 refused_now_or_later (Ok after) rest = option_map one_later (rest after)
 refused_now_or_later (Err fault) rest = Some (record { did = 0; why = Refused fault })
@@ -67,13 +70,14 @@ first_refused one (suc n) s = refused_now_or_later (one s) (λ t. first_refused 
 
 -- ---- the run
 
--- The end that comes after fewer steps, the first of both where they come after equally many.
+-- The end that comes after fewer steps, the first of both if they come after equally many.
 abbrev pub sooner : Option RunEnd → RunEnd → RunEnd
 sooner None b = b
 sooner (Some a) b = if nat_le a.did b.did then a else b
 
--- How a run of n steps ends: with the first of a step that changes a watched byte, a step that leads to a breakpoint, a refused step,
--- and the limit of n steps. Of several that come after equally many steps, the reason is the first in this order.
+-- How a run of n steps ends: with the first of a step that changes a watched byte, a step that
+-- leads to a breakpoint, a rejected step, and the limit of n steps. Of several that come after
+-- equally many steps, the reason is the first in this order.
 unfoldable pub run_end_by : OneStep → ℕ → Session → RunEnd
 run_end_by one n s =
     sooner (first_met one (watch_met s.watches) n s.current)
@@ -83,7 +87,7 @@ run_end_by one n s =
 abbrev pub run_end : ℕ → Session → RunEnd
 run_end n s = run_end_by step n s
 
--- The session after k steps, or after as many as are made before a refused one.
+-- The session after k steps, or after as many as are made before a rejected one.
 abbrev pub after_step : Session → Result State EventFault → (Session → Session) → Session
 after_step s (Ok state) rest = rest (appended s state)
 after_step s (Err fault) rest = s
@@ -99,17 +103,19 @@ after_steps k s = after_steps_by step k s
 abbrev pub after_run : ℕ → Session → Session
 after_run n s = after_steps (run_end n s).did s
 
--- The session with no breakpoint and no watch set.
+-- The session with no breakpoint and no watchpoint set.
 abbrev pub bare : Session → Session
 bare s = record s { breaks = []; watches = [] }
 
--- A run that was cut short and goes on with no breakpoint and no watch set ends where one run with none set ends, and for its reason.
+-- A run that was cut short and continued, with no breakpoint and no watchpoint set, ends where one
+-- run with none set ends, and for its reason.
 abbrev pub CutRunGoesOn : Type 0
 CutRunGoesOn = (n : ℕ) (s : Session) →
     (after_run (n - (run_end n s).did) (bare (after_run n s)) ≡ after_run n (bare s))
     × ((run_end (n - (run_end n s).did) (bare (after_run n s))).why ≡ (run_end n (bare s)).why)
 
--- As many steps as a run made, asked for with no breakpoint and no watch set, are made, and lead to the same states.
+-- As many steps as a run made, asked for with no breakpoint and no watchpoint set, are made, and
+-- lead to the same states.
 abbrev pub RunCanBeRepeated : Type 0
 RunCanBeRepeated = (n : ℕ) (s : Session) →
     (run_end (run_end n s).did (bare s) ≡ record { did = (run_end n s).did; why = Limit }) × (after_run (run_end n s).did (bare s) ≡ bare (after_run n s))

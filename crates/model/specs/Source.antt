@@ -1,4 +1,4 @@
--- What a source denotes, and the fault of one that denotes nothing. Source: profile.
+-- What a source denotes, and the fault of one that denotes nothing. Source: mos65.
 use Rattle.std.specs.Prelude.{◌≡◌, ℕ, ℤ, pos, ⊤, ◌+◌, ◌<◌, ◌≤◌, ◌⊎◌, Bool, true, false, if◌then◌else◌, List, [], ◌∷◌, ◌++◌, length, Option, Some, None, Result, Ok, Err}
 use Rattle.model.specs.State.{Map}
 use Rattle.model.specs.Lines.{lines_of}
@@ -29,13 +29,13 @@ is_finish (words_high_first es) = false
 is_finish (reserve e) = false
 is_finish (instruction m operand) = false
 
--- Whether what was read is `.END`.
+-- Whether the statement read is `.END`.
 abbrev pub is_end : Result Line AsmFaultKind → Bool
 is_end (Ok (labelled label s)) = is_finish s
 is_end (Ok (definition name e)) = false
 is_end (Err kind) = false
 
--- Of some lines those that are read: up to that of `.END`, and with it.
+-- The lines of some that are read: up to that of `.END`, which is read too.
 abbrev pub up_to_end : Profile → List (List ℕ) → List (List ℕ)
 up_to_end profile [] = []
 up_to_end profile (line ∷ lines) = line ∷ (if is_end (read_line profile line) then [] else up_to_end profile lines)
@@ -50,8 +50,9 @@ read_lines profile source = up_to_end profile (lines_of source)
 abbrev pub nothing_fixed : Profile → Fixed
 nothing_fixed profile = record { profile = profile; address = 0; names = [] }
 
--- A source denotes an image under a map: some assignment of an address to each line and of a number to each name meets each line's
--- own equation, each line has its bytes, at free addresses that are in memory and not the port's, and the image is these bytes.
+-- A source denotes an image under a map: some assignment of an address to each line and of a number
+-- to each name meets each line's own equation; each line has its bytes, at free addresses that are
+-- in memory and not the port's; and the image is these bytes.
 pub record Denotes (bus_map : Map) (source : List ℕ) (image : List (Option ℕ)) : Type 0 where
   pub size : length source ≤ most_bytes
   pub placed : List Placed
@@ -67,7 +68,8 @@ pub record IsTooLarge (source : List ℕ) (fault : AsmFault) : Type 0 where
   pub line : fault.line ≡ 0
   pub kind : fault.kind ≡ TooLarge
 
--- The first line that has a layout fault after what the lines before it fix. Lines are counted from 1.
+-- The first line that has a layout fault after what the lines before it fix. Lines are counted from
+-- 1.
 pub record HasLayoutFault (profile : Profile) (source : List ℕ) (fault : AsmFault) : Type 0 where
   pub size : length source ≤ most_bytes
   pub front : List (List ℕ)
@@ -80,7 +82,8 @@ pub record HasLayoutFault (profile : Profile) (source : List ℕ) (fault : AsmFa
   pub number : fault.line ≡ length front + 1
   pub kind : layout_of before line ≡ Err fault.kind
 
--- All lines are laid out, and this is the first one with a value fault under the numbers of all names.
+-- All lines are laid out, and this is the first one with a value fault under the numbers of all
+-- names.
 pub record HasValueFault (bus_map : Map) (source : List ℕ) (fault : AsmFault) : Type 0 where
   pub size : length source ≤ most_bytes
   pub placed : List Placed
@@ -123,7 +126,8 @@ ImageOrFault = (bus_map : Map) (source : List ℕ) (image : List (Option ℕ)) (
 
 -- ---- that the numbers are the names'
 
--- A label's number is its line's address; a defined name's number is its expression's value under the names known there.
+-- A label's number is its line's address; a defined name's number is its expression's value under
+-- the names known there.
 abbrev pub NameHolds : Numbers → Fixed → Line → Type 0
 NameHolds numbers before (labelled None s) = ⊤
 NameHolds numbers before (labelled (Some name) s) = numbers name ≡ Some (pos before.address)
@@ -136,6 +140,7 @@ NamesHold numbers before (line ∷ lines) [] = ⊤
 NamesHold numbers before (line ∷ lines) (p ∷ ps) =
     (next : Fixed) × (l : Line) × (layout_of before line ≡ Ok (p, next)) × (read_line before.profile line ≡ Ok l) × NameHolds numbers before l × NamesHold numbers next lines ps
 
--- Under the numbers of all names each name that a line defines has the number that the line gives it.
+-- Under the numbers of all names each name that a line defines has the number that the line gives
+-- it.
 abbrev pub NamesHaveTheirNumbers : Type 0
 NamesHaveTheirNumbers = (lines : List (List ℕ)) (placed : List Placed) (before all : Fixed) → LaidOut before lines placed all → NamesHold (number_in all.names) before lines placed

@@ -1,5 +1,6 @@
 -- Tape texts: what they are made of, what they denote, and the first fault of any other text.
--- The form of the records, from `;` to checksum, is the KIM-1 manual's; what may stand between them, what each fault is and where it is told are the profile's.
+-- Source: KIM-1 manual for the form of the records, from `;` to checksum; mos65 for what may come
+-- between them, for each fault and for its place.
 use Rattle.std.specs.Prelude.{◌≡◌, ◌≢◌, ℕ, ◌+◌, ◌*◌, ◌%◌, ◌<◌, ◌≤◌, ◌==◌, ◌||◌, Bool, List, [], ◌∷◌, ◌++◌, length, sum, take, drop, slice_index, slice_set, Option, ◌⊎◌}
 use Rattle.std.specs.List.{flat_map, list_all, AllByRecursion}
 use Rattle.model.specs.Digits.{digit_value, is_hex_byte}
@@ -15,13 +16,15 @@ bytes_of_digits [] = []
 bytes_of_digits (d ∷ []) = []
 bytes_of_digits (high ∷ low ∷ digits) = (digit_value high * 16 + digit_value low) ∷ bytes_of_digits digits
 
--- How many digits a record has that begins so: two for the length, four for the address, two for each byte of data, four for the checksum. Source: KIM-1 manual.
+-- How many digits a record has that begins so: two for the length, four for the address, two for
+-- each byte of data, four for the checksum. Source: KIM-1 manual.
 abbrev pub needed : List ℕ → ℕ
 needed [] = 10
 needed (d ∷ []) = 10
 needed (high ∷ low ∷ digits) = 10 + 2 * (digit_value high * 16 + digit_value low)
 
--- What a record claims. In an end record the length is 0 and the number of data records stands at the address's place. Source: KIM-1 manual.
+-- What a record claims. In an end record the length is 0, and the number of data records is in the
+-- address's place. Source: KIM-1 manual.
 pub record Claim : Type 0 where
   pub length : ℕ
   pub address : ℕ
@@ -30,7 +33,8 @@ pub record Claim : Type 0 where
   pub sum : ℕ
   pub checksum : ℕ
 
--- What the bytes of a record claim: length, address, data, checksum, each number with its high byte first. Source: KIM-1 manual.
+-- What the bytes of a record claim: length, address, data, checksum, each number with its high byte
+-- first. Source: KIM-1 manual.
 abbrev pub claim_in : List ℕ → Claim
 claim_in bytes =
     let n = slice_index bytes 0 in
@@ -56,11 +60,12 @@ AreFewDigits digits = (list_all is_hex_byte digits ≡ Bool.true) × (length dig
 
 -- ---- pieces
 
--- A byte that is skipped outside records: $00, CR, LF, $13. Source: profile.
+-- A byte that is skipped outside records: $00, CR, LF, $13. Source: mos65.
 abbrev pub is_skipped : ℕ → Bool
 is_skipped b = (b == 0) || (b == 13) || (b == 10) || (b == 19)
 
--- What stands before the end record: a skipped byte, or a data record by the digits after its `;`. Source: profile.
+-- What comes before the end record: a skipped byte, or a data record by the digits after its `;`.
+-- Source: mos65.
 pub data Part : Type 0 where
   gap : ℕ → Part
   record_of : List ℕ → Part
@@ -70,36 +75,38 @@ abbrev pub text_of : Part → List ℕ
 text_of (gap b) = b ∷ []
 text_of (record_of digits) = 59 ∷ digits
 
--- A data record: 1 to 255 bytes, the checksum is the sum, and no byte goes past address 65535. Source: KIM-1 manual; the bounds: profile.
+-- A data record: 1 to 255 bytes, the checksum is the sum, and no byte goes past address 65535.
+-- Source: KIM-1 manual; mos65 for the bounds.
 pub record IsData (digits : List ℕ) : Type 0 where
   pub all : AreAllDigits digits
   pub some : 0 < (claim_of digits).length
   pub checked : (claim_of digits).sum ≡ (claim_of digits).checksum
   pub fits : (claim_of digits).address + (claim_of digits).length ≤ 65536
 
--- The end record after so many data records: no data, the checksum is the sum, and the number is theirs. Source: KIM-1 manual.
+-- The end record after so many data records: no data, the checksum is the sum, and the number is
+-- theirs. Source: KIM-1 manual.
 pub record IsEnd (count : ℕ) (digits : List ℕ) : Type 0 where
   pub all : AreAllDigits digits
   pub none : (claim_of digits).length ≡ 0
   pub checked : (claim_of digits).sum ≡ (claim_of digits).checksum
   pub counted : (claim_of digits).address ≡ count
 
--- A skipped byte, or a data record. Source: profile.
+-- A skipped byte, or a data record. Source: mos65.
 abbrev pub IsPiece : Part → Type 0
 IsPiece (gap b) = is_skipped b ≡ Bool.true
 IsPiece (record_of digits) = IsData digits
 
--- The text of pieces, one after the other. Source: profile.
+-- The text of pieces, one after the other. Source: mos65.
 abbrev pub front_of : List Part → List ℕ
 front_of pieces = flat_map text_of pieces
 
--- How many of the pieces are data records. Source: profile.
+-- How many of the pieces are data records. Source: mos65.
 abbrev pub count_of : List Part → ℕ
 count_of [] = 0
 count_of (gap b ∷ pieces) = count_of pieces
 count_of (record_of digits ∷ pieces) = 1 + count_of pieces
 
--- The image with each record's bytes put in turn, so that a later one wins. Source: profile.
+-- The image with each record's bytes put in turn, so that a later one counts. Source: mos65.
 abbrev pub with_records : List (Option ℕ) → List Part → List (Option ℕ)
 with_records cells [] = cells
 with_records cells (gap b ∷ pieces) = with_records cells pieces
@@ -107,7 +114,9 @@ with_records cells (record_of digits ∷ pieces) = with_records (with_bytes cell
 
 -- ---- what a text denotes
 
--- A text denotes an image: it is data records and skipped bytes, the end record that counts them, and skipped bytes; the image has what the records put. Source: KIM-1 manual for the records, profile for the rest.
+-- A text denotes an image: it is data records and skipped bytes, the end record that counts them,
+-- and skipped bytes; the image has what the records put. Source: KIM-1 manual for the records,
+-- mos65 for the rest.
 pub record TapeDenotes (text : List ℕ) (cells : List (Option ℕ)) : Type 0 where
   pub pieces : List Part
   pub digits : List ℕ
@@ -120,16 +129,24 @@ pub record TapeDenotes (text : List ℕ) (cells : List (Option ℕ)) : Type 0 wh
 
 -- ---- the first fault
 
--- After pieces with so many data records the rest of the text goes on in a way that no tape does. The kind says how, and the place, counted in the rest, is where that is told. Source: profile.
--- NoRecord: the rest is empty, and there was no data record.
--- BadHex: a record begins, and after some of its digits stands a byte that is no hex digit; told at that byte.
--- BadChecksum: all digits of a record are there, and the sum is not the checksum; told at the record's `;`.
--- PastEnd: a data record whose checksum is right has bytes past address 65535; told at its `;`.
--- Truncated: the rest is empty after data records, or ends among the digits of a record; told at the end.
--- BadCount: an end record whose checksum is right has another number than there are data records; told at its `;`.
--- JunkAfterEnd: after the end record and skipped bytes stands a byte that is not skipped; told at that byte.
--- JunkBetween: the next byte is neither skipped nor a `;`; told there.
--- OutOfMemory, TooLong: no text has this fault.
+-- After pieces with so many data records the rest of the text goes on in a way that no tape does.
+-- The kind says how, and the offset, counted in the rest, says where that shows. Source: mos65.
+--
+-- - NoRecord: the rest is empty, and there was no data record.
+-- - BadHex: a record begins, and after some of its digits comes a byte that is not a hex digit; the
+--   offset is that byte's.
+-- - BadChecksum: all digits of a record are there, and the sum is not the checksum; the offset is
+--   that of the record's `;`.
+-- - PastEnd: a data record whose checksum is right has bytes past address 65535; the offset is that
+--   of its `;`.
+-- - Truncated: the rest is empty after data records, or ends among the digits of a record; the
+--   offset is the end.
+-- - BadCount: an end record whose checksum is right has another number than there are data records;
+--   the offset is that of its `;`.
+-- - JunkAfterEnd: after the end record and skipped bytes comes a byte that is not skipped; the
+--   offset is that byte's.
+-- - JunkBetween: the next byte is neither skipped nor a `;`; the offset is that byte's.
+-- - OutOfMemory, TooLong: no text has this fault.
 abbrev pub Breaks : TapeFaultKind → ℕ → List ℕ → ℕ → Type 0
 Breaks NoRecord count rest place = (count ≡ 0) × (rest ≡ []) × (place ≡ 0)
 Breaks BadHex count rest place =
@@ -149,7 +166,8 @@ Breaks JunkBetween count rest place =
 Breaks OutOfMemory count rest place = ⊥
 Breaks TooLong count rest place = ⊥
 
--- The first fault of a text, from left to right: pieces, and then a rest that breaks; the offset is counted from the text's begin. Source: profile.
+-- The first fault of a text, from left to right: pieces, and then a rest that breaks; the offset
+-- counts from the text's beginning. Source: mos65.
 pub record FirstFault (text : List ℕ) (kind : TapeFaultKind) (offset : ℕ) : Type 0 where
   pub pieces : List Part
   pub rest : List ℕ
@@ -161,25 +179,27 @@ pub record FirstFault (text : List ℕ) (kind : TapeFaultKind) (offset : ℕ) : 
 
 -- ---- that this is one reading of each text
 
--- Each text denotes an image or has a first fault. Source: profile.
+-- Each text denotes an image or has a first fault. Source: mos65.
 abbrev pub EachTextIsRead : Type 0
 EachTextIsRead = (text : List ℕ) → ((cells : List (Option ℕ)) × TapeDenotes text cells) ⊎ ((kind : TapeFaultKind) × (offset : ℕ) × FirstFault text kind offset)
 
--- No text denotes two images. Source: profile.
+-- No text denotes two images. Source: mos65.
 abbrev pub OneTapeImage : Type 0
 OneTapeImage = (text : List ℕ) (a b : List (Option ℕ)) → TapeDenotes text a → TapeDenotes text b → a ≡ b
 
--- No text has two first faults, nor one at two offsets. Source: profile.
+-- No text has two first faults, nor one at two offsets. Source: mos65.
 abbrev pub OneTapeFault : Type 0
 OneTapeFault = (text : List ℕ) (k l : TapeFaultKind) (m n : ℕ) → FirstFault text k m → FirstFault text l n → (k ≡ l) × (m ≡ n)
 
--- No text does both. Source: profile.
+-- No text does both. Source: mos65.
 abbrev pub TapeImageOrFault : Type 0
 TapeImageOrFault = (text : List ℕ) (cells : List (Option ℕ)) (kind : TapeFaultKind) (offset : ℕ) → TapeDenotes text cells → FirstFault text kind offset → ⊥
 
 -- ---- one digit changed
 
--- In a text that denotes an image, one digit of a record's address, data or checksum is changed to a digit of another value; in an end record the number stands at the address's place. The text is then refused with BadChecksum at that record's `;`. Source: profile.
+-- In a text that denotes an image, one digit of a record's address, data or checksum is changed to
+-- a digit of another value; in an end record the number is in the address's place. The text is then
+-- rejected with BadChecksum at that record's `;`. Source: mos65.
 abbrev pub OneDigitIsRefused : Type 0
 OneDigitIsRefused =
     (text : List ℕ) (cells : List (Option ℕ)) (pieces : List Part) (digits : List ℕ) (more : List ℕ) (k d : ℕ)

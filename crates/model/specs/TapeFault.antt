@@ -4,7 +4,7 @@ use Rattle.model.specs.declared.tape.TapeFault.{TapeFault}
 use Rattle.model.specs.declared.tape.TapeFaultKind.{TapeFaultKind}
 use Rattle.model.specs.declared.tape.TapeFaultKind.TheVariants.{NoRecord, BadHex, BadChecksum, PastEnd, Truncated, BadCount, JunkAfterEnd, JunkBetween, OutOfMemory, TooLong}
 
--- The number of each kind. Source: profile.
+-- The number of each kind. Source: mos65.
 abbrev pub tape_fault_number : TapeFaultKind → ℕ
 tape_fault_number NoRecord = 1
 tape_fault_number BadHex = 2
@@ -17,7 +17,7 @@ tape_fault_number JunkBetween = 8
 tape_fault_number OutOfMemory = 9
 tape_fault_number TooLong = 10
 
--- The name of each kind, in ASCII. Source: profile.
+-- The name of each kind, in ASCII. Source: mos65.
 abbrev pub tape_fault_name : TapeFaultKind → List ℕ
 tape_fault_name NoRecord = codes "NoRecord"
 tape_fault_name BadHex = codes "BadHex"
@@ -30,6 +30,6 @@ tape_fault_name JunkBetween = codes "JunkBetween"
 tape_fault_name OutOfMemory = codes "OutOfMemory"
 tape_fault_name TooLong = codes "TooLong"
 
--- The answer where a request for memory was refused, at offset 0. Source: profile.
+-- The fault that is returned if an allocation fails, at offset 0. Source: mos65.
 abbrev pub out_of_memory : TapeFault
 out_of_memory = record { offset = 0; kind = OutOfMemory }

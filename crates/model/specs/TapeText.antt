@@ -7,27 +7,27 @@ use Rattle.hex.specs.Hex.{encode_upper}
 abbrev pub Stretch : Type 0
 Stretch = ℕ × List ℕ
 
--- A byte at an address, before the runs after it: it begins the first of them where that begins right after it, else it is a run
--- of its own. Source: profile.
+-- A byte at an address, before the runs after it: it begins the first of them if that begins right
+-- after it; otherwise it is a run of its own. Source: mos65.
 abbrev pub before_runs : ℕ → ℕ → List Stretch → List Stretch
 before_runs address b [] = (address, b ∷ []) ∷ []
 before_runs address b (run ∷ rest) = if run.0 == address + 1 then (address, b ∷ run.1) ∷ rest else (address, b ∷ []) ∷ run ∷ rest
 
--- The maximal runs of bytes in rising order, where the cells begin at an address. Source: profile.
+-- The maximal runs of bytes in rising order, where the cells begin at an address. Source: mos65.
 abbrev pub runs : ℕ → List (Option ℕ) → List Stretch
 runs address [] = []
 runs address (None ∷ cells) = runs (address + 1) cells
 runs address (Some b ∷ cells) = before_runs address b (runs (address + 1) cells)
 
--- Piece k of a run, counted from 0: 24 of its bytes, or as many as are left. Source: profile.
+-- Piece k of a run, counted from 0: 24 of its bytes, or as many as are left. Source: mos65.
 abbrev pub piece_of_run : Stretch → ℕ → Stretch
 piece_of_run run k = (run.0 + 24 * k, take 24 (drop (24 * k) run.1))
 
--- A run cut from its start into pieces of 24 bytes and a rest. Source: profile.
+-- A run cut from its start into pieces of 24 bytes and a rest. Source: mos65.
 abbrev pub pieces_of_run : Stretch → List Stretch
 pieces_of_run run = map (λ k. piece_of_run run k) (range_with_len 0 ((length run.1 + 23) / 24))
 
--- The pieces that an image is written in. Source: profile.
+-- The pieces in which an image is written. Source: mos65.
 abbrev pub written_pieces : List (Option ℕ) → List Stretch
 written_pieces cells = flat_map pieces_of_run (runs 0 cells)
 
@@ -39,7 +39,8 @@ word n = n / 256 ∷ n % 256 ∷ []
 abbrev pub with_sum : List ℕ → List ℕ
 with_sum bytes = bytes ++ word (sum bytes % 65536)
 
--- A record in capital hex digits after `;`, then CR LF. Source: KIM-1 manual; capitals and the line's end: profile.
+-- A record in capital hex digits after `;`, then CR LF. Source: KIM-1 manual; mos65 for capitals
+-- and the line's end.
 abbrev pub line : List ℕ → List ℕ
 line bytes = 59 ∷ encode_upper (with_sum bytes) ++ 13 ∷ 10 ∷ []
 
@@ -51,6 +52,6 @@ data_line piece = line (length piece.1 ∷ word piece.0 ++ piece.1)
 abbrev pub end_line : ℕ → List ℕ
 end_line count = line (0 ∷ word count)
 
--- The written text of an image: a data record for each piece, then the end record. Source: profile.
+-- The written text of an image: a data record for each piece, then the end record. Source: mos65.
 abbrev pub tape_text : List (Option ℕ) → List ℕ
 tape_text cells = flat_map data_line (written_pieces cells) ++ end_line (length (written_pieces cells))

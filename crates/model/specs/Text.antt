@@ -1,10 +1,10 @@
--- How replies print numbers, registers and memory. Source: profile.
+-- How replies print numbers, registers and memory. Source: mos65.
 use Rattle.std.specs.Prelude.{ℕ, ◌+◌, ◌-◌, ◌*◌, ◌/◌, ◌%◌, min, false, List, [], ◌∷◌, ◌++◌, nat_lt, if◌then◌else◌, codes, decimal, length, take, drop}
 use Rattle.std.specs.List.{flat_map, range_with_len}
 use Rattle.model.specs.State.{State}
 use Rattle.model.specs.Effect.{status}
 
--- An upper case hex digit.
+-- A capital hex digit.
 abbrev pub hex_digit : ℕ → ℕ
 hex_digit n = if nat_lt n 10 then 48 + n else 55 + n
 
@@ -40,7 +40,7 @@ unfoldable pub memory_rows : List ℕ → ℕ → ℕ → List ℕ
 memory_rows memory first last =
     flat_map (λ k. memory_row memory (first + 16 * k) (min last (first + 16 * k + 15))) (range_with_len 0 ((last - first) / 16 + 1))
 
--- A line of output bytes in hex, with no space between them: at most 32 bytes from a place on.
+-- A line of output bytes in hex, with no space between them: at most 32 bytes from an index on.
 unfoldable pub output_row : List ℕ → ℕ → List ℕ
 output_row out from = flat_map hex_byte (take 32 (drop from out)) ++ 10 ∷ []
 

@@ -1,4 +1,4 @@
--- The tokens of a source line. Source: profile.
+-- The tokens of a source line. Source: mos65.
 use Rattle.std.specs.Prelude.{◌≡◌, ℕ, zero, suc, ◌+◌, ◌-◌, ◌<◌, ◌≤◌, Bool, false, not, ◌||◌, ◌&&◌, ◌==◌, nat_le, if◌then◌else◌, List, [], ◌∷◌, ◌++◌, length, take, drop, Option, Some, None}
 use Rattle.std.specs.Str.{byte}
 use Rattle.std.specs.List.{list_all}
@@ -7,7 +7,7 @@ pub use Rattle.model.specs.Digits.{is_hex_byte}
 use Rattle.model.specs.declared.expression.TokenKind.{TokenKind}
 use Rattle.model.specs.declared.expression.TokenKind.TheVariants.{Word, Directive, Number, Char, Str, Symbol}
 
--- A token: what it is, where in its line it starts, counted from 0, and its bytes.
+-- A token: what it is, its start in its line, counted from 0, and its bytes.
 pub record Lexeme : Type 0 where
   pub kind : TokenKind
   pub start : ℕ
@@ -23,7 +23,7 @@ is_blank b = (b == 32) || (b == 9)
 abbrev pub is_printable : ℕ → Bool
 is_printable b = nat_le 32 b && nat_le b 126
 
--- A byte that may stand in a line: $20..$7E or a tab.
+-- A byte that may be in a line: $20..$7E or a tab.
 abbrev pub is_source_byte : ℕ → Bool
 is_source_byte b = is_printable b || (b == 9)
 
@@ -72,7 +72,7 @@ word_token bytes =
     let text = run_of is_word_byte bytes in
     if nat_le (length text) 31 then Some (Word, text) else None
 
--- Digits after a mark: at least one, and no letter, digit or `_` follows them.
+-- Digits after a prefix: at least one, and no letter, digit or `_` follows them.
 abbrev pub number_token : List ℕ → (ℕ → Bool) → List ℕ → Found
 number_token mark passes bytes =
     let digits = run_of passes bytes in
@@ -80,7 +80,7 @@ number_token mark passes bytes =
     else if begins is_word_byte (drop (length digits) bytes) then None
     else Some (Number, mark ++ digits)
 
--- The letters after a `.`, as many as stand there.
+-- The letters after a `.`, as many as there are.
 abbrev pub directive_token : List ℕ → Found
 directive_token bytes =
     let letters = run_of is_letter bytes in
@@ -100,7 +100,7 @@ string_token bytes =
     else if begins (λ b. b == 34) (drop (length inside) bytes) then Some (Str, 34 ∷ inside ++ 34 ∷ [])
     else None
 
--- The token with which some bytes begin, if they begin with one.
+-- The token at the front of some bytes, if there is one.
 unfoldable pub token_at : List ℕ → Found
 token_at [] = None
 token_at (b ∷ bytes) =
@@ -124,9 +124,10 @@ abbrev pub found_before : ℕ → (ℕ → Tokens) → Found → Tokens
 found_before start behind None = None
 found_before start behind (Some found) = option_map (λ ts. record { kind = found.0; start = start; text = found.1 } ∷ ts) (behind (length found.1 - 1))
 
--- The tokens of some bytes of a line, from a place on; so many of the bytes still belong to the token before. They are counted off
--- one by one, since recursion goes to a part of its argument.
--- Blanks may stand between tokens, and outside a character or a string `;` begins a comment, which has no tokens.
+-- The tokens of some bytes of a line, from an index on; so many of the bytes still belong to the
+-- token before. They are counted off one by one, since recursion goes to a part of its argument.
+-- Blanks may be between tokens. Outside a character or a string, `;` begins a comment, which has no
+-- tokens.
 unfoldable pub tokens_from : ℕ → ℕ → List ℕ → Tokens
 tokens_from place covered [] = Some []
 tokens_from place (suc covered) (b ∷ bytes) = tokens_from (place + 1) covered bytes
@@ -135,14 +136,14 @@ tokens_from place zero (b ∷ bytes) =
     else if b == byte ";" then Some []
     else found_before place (λ rest. tokens_from (place + 1) rest bytes) (token_at (b ∷ bytes))
 
--- The tokens of a line, in order; none where a byte may not stand in a source, in a comment too.
+-- The tokens of a line, in order; none if a byte may not be in a source, in a comment too.
 unfoldable pub tokens_of : List ℕ → Tokens
 tokens_of line = if list_all is_source_byte line then tokens_from 0 0 line else None
 
--- ---- where tokens stand
+-- ---- the places of tokens
 
--- Tokens that stand in a line in order, from a place on: each begins at that place or after it, its bytes are those of the
--- line at its start, at least one, and the others stand after it.
+-- These tokens come in a line in order, from an index on: each begins at that index or after it,
+-- its bytes are those of the line at its start, at least one, and the others come after it.
 abbrev pub AreSlices : List ℕ → ℕ → List Lexeme → Type 0
 AreSlices line place [] = Unit {0}
 AreSlices line place (t ∷ ts) =

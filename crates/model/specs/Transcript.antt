@@ -1,4 +1,4 @@
--- What the engine writes for some input, and where the session then stands. Source: profile.
+-- What the engine writes for some input, and the session after it. Source: mos65.
 use Rattle.std.specs.Prelude.{◌≡◌, ℕ, ◌+◌, Bool, true, false, List, [], ◌∷◌, ◌++◌, length, take, nat_lt, if◌then◌else◌, codes, decimal, Result, Ok, Err}
 use Rattle.model.specs.State.{State, console_size}
 use Rattle.model.specs.Event.{event_of, patch_of}
@@ -24,7 +24,7 @@ use Rattle.model.specs.declared.run_end.Why.{Why}
 use Rattle.model.specs.declared.run_end.Why.TheVariants as why
 use Rattle.model.specs.declared.run_end.RunEnd.{RunEnd}
 
--- What is answered to a command: a text, the session then, and whether the engine ends.
+-- The answer to a command: a text, the session then, and whether the engine ends.
 pub record Answer : Type 0 where
   pub written : List ℕ
   pub session : Session
@@ -33,23 +33,23 @@ pub record Answer : Type 0 where
 abbrev pub answer : List ℕ → Session → Answer
 answer text s = record { written = text; session = s; quit = false }
 
--- Why an event is refused, as replies name it.
+-- Why an event is rejected, as replies name it.
 unfoldable pub refused_text : EventFault → List ℕ
 refused_text (event_fault.Undocumented opcode pc) = codes "FAULT " ++ hex_byte opcode ++ codes " AT " ++ hex_word pc
 refused_text event_fault.ConsoleFull = codes "CONSOLE FULL"
 refused_text event_fault.CyclesFull = codes "CYCLES FULL"
 refused_text fault = event_fault_name fault ++ 32 ∷ decimal (event_fault_number fault)
 
--- The reply to a refused event.
+-- The reply to a rejected event.
 unfoldable pub fault_line : EventFault → List ℕ
 fault_line fault = codes "! " ++ refused_text fault ++ 10 ∷ []
 
--- The reply to a step: the register line after it, or why it was refused.
+-- The reply to a step: the register line after it, or why it was rejected.
 abbrev pub stepped_answer : Session → Result State EventFault → Answer
 stepped_answer s (Ok state) = answer (register_line state) (appended s state)
 stepped_answer s (Err fault) = answer (fault_line fault) s
 
--- The reply to another event: OK, or why it was refused.
+-- The reply to another event: OK, or why it was rejected.
 abbrev pub event_answer : Session → Result State EventFault → Answer
 event_answer s (Ok state) = answer (codes "OK\n") (appended s state)
 event_answer s (Err fault) = answer (fault_line fault) s
@@ -64,7 +64,7 @@ unfoldable pub after_input : Session → List ℕ → Session
 after_input s [] = s
 after_input s (byte ∷ bytes) = after_input (after_event s (event_of s.current (event.Input byte))) bytes
 
--- The reply to bytes of input: all of them are handed in, or none where not all fit.
+-- The reply to bytes of input: all of them are handed in, or none if not all fit.
 unfoldable pub input_answer : Session → List ℕ → Answer
 input_answer s bytes =
     if nat_lt console_size (length s.current.bus.given + length bytes) then answer (fault_line event_fault.InputFull) s
@@ -81,26 +81,27 @@ why_text (why.Refused fault) = refused_text fault
 unfoldable pub run_line : RunEnd → List ℕ
 run_line end = codes "DID " ++ decimal end.did ++ 32 ∷ why_text end.why ++ 10 ∷ []
 
--- The reply to a refused call of the session. Where history is wanting it is how many events are held.
+-- The reply to a rejected call of the session. If too few events are held, it says how many are.
 unfoldable pub refusal_line : SessionFault → List ℕ
 refusal_line (NoHistory held) = codes "! HISTORY " ++ decimal held ++ 10 ∷ []
 refusal_line fault = codes "! " ++ session_fault_name fault ++ 32 ∷ decimal (session_fault_number fault) ++ 10 ∷ []
 
--- The reply to going back: the register line of the state gone back to, or why it was refused.
+-- The reply to going back: the register line of the restored state, or why it was rejected.
 abbrev pub back_answer : Session → Result Session SessionFault → Answer
 back_answer s (Ok t) = answer (register_line t.current) t
 back_answer s (Err fault) = answer (refusal_line fault) s
 
--- The reply to a breakpoint or a watch that is set or cleared: OK, or why it was refused.
+-- The reply to a breakpoint or a watchpoint set or cleared: OK, or why it was rejected.
 abbrev pub table_answer : Session → Result Session SessionFault → Answer
 table_answer s (Ok t) = answer (codes "OK\n") t
 table_answer s (Err fault) = answer (refusal_line fault) s
 
--- The reply to a text that is not one line of a source in its place: the fault's name and number.
+-- The reply to a text that is not one line of a source: the fault's name and number.
 unfoldable pub source_fault_line : AsmFaultKind → List ℕ
 source_fault_line kind = codes "! " ++ source_fault_name kind ++ 32 ∷ decimal (source_fault_number kind) ++ 10 ∷ []
 
--- The reply to a text to be assembled at an address: what a patch with its bytes replies, or why the text is refused.
+-- The reply to a text to assemble at an address: that of a patch with its bytes, or why the text is
+-- rejected.
 abbrev pub asm_answer : Session → ℕ → Result (List ℕ) AsmFaultKind → Answer
 asm_answer s address (Ok bytes) = event_answer s (patch_of address bytes s.current)
 asm_answer s address (Err kind) = answer (source_fault_line kind) s
@@ -150,10 +151,10 @@ served s (line ∷ lines) = served_on (answer_to (command_of line) s) (λ t. ser
 abbrev pub transcript : Session → List ℕ → Served
 transcript s input = served s (lines_of input)
 
--- The transcript of the lines whose end was told, where the reader failed then.
+-- The transcript of the complete lines, if the reader failed after them.
 abbrev pub transcript_so_far : Session → List ℕ → Served
 transcript_so_far s input = served s (ended_lines_of input)
 
--- The replies to what is told so far begin the transcript, whatever is still to be told.
+-- The replies to the input so far begin the transcript, whatever is still to come.
 abbrev pub ToldBegins : Type 0
 ToldBegins = (s : Session) (told left : List ℕ) → (more : List ℕ) × ((transcript s (told ++ left)).written ≡ (transcript_so_far s told).written ++ more)

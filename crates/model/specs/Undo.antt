@@ -1,4 +1,4 @@
--- What a record of old bytes, lengths and registers puts back. Source: profile.
+-- What a record of old bytes, lengths and registers restores. Source: mos65.
 use Rattle.std.specs.Prelude.{◌≡◌, ℕ, ◌≤◌, Bool, true, not, List, [], ◌∷◌, length, take, slice_set}
 use Rattle.std.specs.List.{list_all}
 use Rattle.model.specs.State.{Bus, State, is_port}
@@ -14,7 +14,8 @@ put_cells (cell ∷ cells) memory = put_cells cells (slice_set memory cell.0 cel
 abbrev pub cells_of : Change → List (ℕ × ℕ)
 cells_of change = take change.count change.cells
 
--- A bus with the old bytes put back, both lists of the console cut to their old lengths, the old number taken, and the old control byte.
+-- A bus with the old bytes put back, both lists of the console cut to their old lengths, the old
+-- number of bytes taken, and the old control byte.
 unfoldable pub restored : Change → Bus → Bus
 restored change bus = record bus {
   memory = put_cells (cells_of change) bus.memory;
@@ -24,11 +25,12 @@ restored change bus = record bus {
   control = change.control;
 }
 
--- No cell in use stands at a port address.
+-- No cell in use is at a port address.
 unfoldable pub spares_port : Change → Bus → Bool
 spares_port change bus = list_all (λ cell. not (is_port bus.map cell.0)) (cells_of change)
 
--- A change can be put back: both lists are long enough, no cell stands at the port, at most three are in use.
+-- A change can be put back: both lists are long enough, no cell is at the port, at most three are
+-- in use.
 pub record CanRestore (change : Change) (bus : Bus) : Type 0 where
   pub given : change.given_len ≤ length bus.given
   pub out : change.out_len ≤ length bus.out

@@ -1,4 +1,4 @@
--- The value of an expression, or its first fault. Source: profile.
+-- The value of an expression, or its first fault. Source: mos65.
 use Rattle.std.specs.Prelude.{ℕ, zero, ℤ, pos, negsuc, ◌^◌, ◌&&◌, nat_lt, nat_le, Bool, true, if◌then◌else◌, List, Option, Some, None, is_some, Result, Ok, Err, bit_and, bit_or, bit_xor, ◌+ℤ◌, ◌-ℤ◌, ◌*ℤ◌, int_div}
 use Rattle.std.specs.Int.{int_div_euclid, int_rem_euclid}
 use Rattle.model.specs.declared.expression.ExprFault.{ExprFault}
@@ -7,7 +7,7 @@ use Rattle.model.specs.declared.expression.Operator.{Operator}
 use Rattle.model.specs.declared.expression.Operator.TheVariants.{Add, Subtract, Multiply, Divide, And, Or, ExclusiveOr}
 use Rattle.model.specs.Expression.{Term, literal, name, here, negated, binary, low, high}
 
--- A value goes on, a fault ends.
+-- A value goes on; a fault ends.
 infixl 10 ◌>>=◌
 abbrev pub ◌>>=◌ : {A B : Type 0} → Result A ExprFault → (A → Result B ExprFault) → Result B ExprFault
 (Ok x) >>= f = f x
@@ -17,17 +17,17 @@ abbrev pub ◌>>=◌ : {A B : Type 0} → Result A ExprFault → (A → Result B
 abbrev pub Numbers : Type 0
 Numbers = List ℕ → Option ℤ
 
--- A result lies in -2^31..2^31-1.
+-- A result is in -2^31..2^31-1.
 abbrev pub checked : ℤ → Result ℤ ExprFault
 checked (pos n) = if nat_lt n (2 ^ 31) then Ok (pos n) else Err Range
 checked (negsuc n) = if nat_lt n (2 ^ 31) then Ok (negsuc n) else Err Range
 
--- A quotient is cut toward zero.
+-- A quotient is rounded toward zero.
 abbrev pub quotient : ℤ → ℤ → Result ℤ ExprFault
 quotient a (pos zero) = Err DivideByZero
 quotient a b = checked (int_div a b)
 
--- Both operands lie in 0..65535.
+-- Both operands are in 0..65535.
 abbrev pub bits : (ℕ → ℕ → ℕ) → ℤ → ℤ → Result ℤ ExprFault
 bits f (pos a) (pos b) = if nat_le a 65535 && nat_le b 65535 then Ok (pos (f a b)) else Err Range
 bits f a b = Err Range
@@ -49,8 +49,9 @@ abbrev pub name_value : Option ℤ → Result ℤ ExprFault
 name_value None = Err UnknownName
 name_value (Some n) = Ok n
 
--- The value under the numbers of the names, on a line at an address. The fault is the first one from left to right,
--- an operator's own after those of both its operands. `<` is the value modulo 256, `>` its quotient by 256, rounded down, modulo 256.
+-- The value under the numbers of the names, on a line at an address. The fault is the first one
+-- from left to right; an operator's own comes after those of both its operands.
+-- `<` is the value modulo 256, `>` its quotient by 256, rounded down, modulo 256.
 abbrev pub value_of : Numbers → ℤ → Term → Result ℤ ExprFault
 value_of numbers address (literal v) = literal_value v
 value_of numbers address (name text) = name_value (numbers text)

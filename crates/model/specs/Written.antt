@@ -1,4 +1,4 @@
--- What a call wrote, where a writer's bytes are known.
+-- What a call wrote, if a writer's bytes are known.
 use Rattle.std.specs.Prelude.{◌≡◌, ℕ, List, ◌++◌, Option, Result, MatchResult}
 use Rattle.std.specs.Io.KnownBytes.{Appends}
 

@@ -1,4 +1,4 @@
-//! Why a call of the bus is refused.
+//! Why a call of the bus is rejected.
 
 ghost use Rattle.std.specs.Prelude.{◌≡◌};
 ghost use Rattle.model.specs.FaultNames.{bus_fault_name, bus_fault_number};
@@ -6,30 +6,30 @@ ghost use Rattle.model.specs.FaultNames.{bus_fault_name, bus_fault_number};
 use std::fmt;
 use thiserror::Error;
 
-/// A fault of the bus (profile).
+/// A fault of the bus. Source: mos65.
 #[derive(Clone, Copy, Debug, PartialEq, Eq, Error)]
 pub enum BusFault {
-    /// The port or the ROM stands where it may not.
+    /// The port or the ROM is at an address where it may not be.
     BadMap,
-    /// A request for memory was refused.
+    /// An allocation failed.
     OutOfMemory,
-    /// The output holds 65,536 bytes.
+    /// The output already holds 65,536 bytes.
     ConsoleFull,
-    /// 65,536 bytes of input were handed in, those taken among them.
+    /// 65,536 bytes of input were handed in already, those taken included.
     InputFull,
     /// A load or a patch would put a byte at a port address.
     PortAddress,
 }
 
 impl fmt::Display for BusFault {
-    /// Its name and its number.
+    /// Writes the name and the number, as the program prints them.
     fn fmt<W: fmt::Write>(&self, f: &mut fmt::Formatter<W>) -> fmt::Result {
         write!(f, "{} {}", self.name(), self.number())
     }
 }
 
 impl BusFault {
-    /// The fault's number.
+    /// Returns the fault's number.
     pub fn number(&self) -> u8
         ensures { result ≡ bus_fault_number self.now }
     {
@@ -42,7 +42,7 @@ impl BusFault {
         }
     }
 
-    /// The fault's name.
+    /// Returns the fault's name.
     pub fn name(&self) -> &'static str
         ensures { result.now ≡ bus_fault_name self.now }
     {

@@ -2,68 +2,68 @@
 
 use crate::event::Setting;
 
-/// A command of the debugger.
+/// A command of the debugger, with what it carries. Numbers are within the bounds named here.
 #[derive(Clone, Copy, Debug, PartialEq, Eq)]
 pub enum Command {
-    /// `regs`: the register line.
+    /// `regs`: prints the registers.
     Regs,
-    /// `step`: one step of the machine.
+    /// `step`: makes one step.
     Step,
-    /// `mem LO HI`: the bytes of memory from LO to HI, LO being at most HI.
+    /// `mem LO HI`: prints memory from LO to HI, where LO is at most HI.
     Mem {
         first: u16,
         last: u16,
     },
-    /// `out`: the output's bytes.
+    /// `out`: prints the output's bytes.
     Out,
-    /// `set A HH`, also X, Y, S and P, and `set PC HHHH`: a register set.
+    /// `set A HH`, also X, Y, S and P, and `set PC HHHH`: sets a register.
     Set(Setting),
-    /// `patch A HH ..`: the first `count` of the bytes, 1 to 3, put into memory from an address on.
+    /// `patch A HH ..`: puts the first `count` bytes, 1 to 3, into memory from an address on.
     Patch {
         address: u16,
         bytes: [u8; 3],
         count: u8,
     },
-    /// `reset`: a reset.
+    /// `reset`: resets the machine.
     Reset,
-    /// `irq 0` and `irq 1`: the IRQ line set.
+    /// `irq 0` and `irq 1`: sets the IRQ line.
     Irq(bool),
-    /// `nmi`: an NMI.
+    /// `nmi`: requests an NMI.
     Nmi,
-    /// `in HH ..`: the first `count` of the bytes, 1 to 16, handed in as input, all or none.
+    /// `in HH ..`: hands in the first `count` bytes, 1 to 16, as input; all of them or none.
     Input {
         bytes: [u8; 16],
         count: u8,
     },
-    /// `run N`: at most N steps, 1 to 1,000,000.
+    /// `run N`: makes at most N steps, 1 to 1,000,000.
     Run(u32),
-    /// `back N`: the last N events gone back over, 1 to 1,000,000.
+    /// `back N`: undoes the last N events, 1 to 1,000,000.
     Back(u32),
-    /// `break A`: a breakpoint set.
+    /// `break A`: sets a breakpoint.
     Break(u16),
-    /// `unbreak A`: a breakpoint cleared.
+    /// `unbreak A`: clears a breakpoint.
     Unbreak(u16),
-    /// `watch A`: a watch set.
+    /// `watch A`: sets a watchpoint.
     Watch(u16),
-    /// `unwatch A`: a watch cleared.
+    /// `unwatch A`: clears a watchpoint.
     Unwatch(u16),
-    /// `breaks`: the breakpoints in order of setting.
+    /// `breaks`: prints the breakpoints in the order of setting.
     Breaks,
-    /// `dis A N`: at most `count` instructions, 1 to 256, as text from an address on.
+    /// `dis A N`: prints at most `count` instructions, 1 to 256, as text from an address on.
     Dis {
         address: u16,
         count: u32,
     },
-    /// `asm A text`: the first `count` bytes of the text, at least 1, assembled at an address.
+    /// `asm A text`: assembles the first `count` bytes of the text, at least 1, at an address.
     Asm {
         address: u16,
         text: [u8; 255],
         count: u8,
     },
-    /// `quit`: the end of the session.
+    /// `quit`: ends the session.
     Quit,
     /// A line without a word.
     Nothing,
-    /// Anything else.
+    /// Any other line.
     Bad,
 }

@@ -1,4 +1,4 @@
-//! Events of the machine, and why one is refused.
+//! Events of the machine, and why one is rejected.
 
 ghost use Rattle.std.specs.Prelude.{◌≡◌};
 ghost use Rattle.model.specs.FaultNames.{event_fault_name, event_fault_number};
@@ -6,34 +6,34 @@ ghost use Rattle.model.specs.FaultNames.{event_fault_name, event_fault_number};
 use std::fmt;
 use thiserror::Error;
 
-/// Why an event is refused. A refused event changes nothing (profile).
+/// Why an event is rejected. A rejected event changes nothing. Source: mos65.
 #[derive(Clone, Copy, Debug, PartialEq, Eq, Error)]
 pub enum EventFault {
     /// The cycle count is above 18,446,744,073,709,551,599, which is 2^64 - 17.
     CyclesFull,
-    /// The byte at PC is no documented opcode.
+    /// The byte at PC is not a documented opcode.
     Undocumented { opcode: u8, pc: u16 },
-    /// The instruction would append to an output of 65,536 bytes.
+    /// The instruction would append to an output that holds 65,536 bytes.
     ConsoleFull,
-    /// A patch would reach past address 65535.
+    /// A patch would go past address 65535.
     PastEnd,
     /// A patch would change a byte at a port address.
     PortAddress,
     /// A patch has no byte, or more than three.
     BadLength,
-    /// 65,536 bytes of input were handed in, those taken among them.
+    /// 65,536 bytes of input were handed in already, those taken included.
     InputFull,
 }
 
 impl fmt::Display for EventFault {
-    /// Its name and its number.
+    /// Writes the name and the number, as the program prints them.
     fn fmt<W: fmt::Write>(&self, f: &mut fmt::Formatter<W>) -> fmt::Result {
         write!(f, "{} {}", self.name(), self.number())
     }
 }
 
 impl EventFault {
-    /// The fault's number.
+    /// Returns the fault's number.
     pub fn number(&self) -> u8
         ensures { result ≡ event_fault_number self.now }
     {
@@ -48,7 +48,7 @@ impl EventFault {
         }
     }
 
-    /// The fault's name.
+    /// Returns the fault's name.
     pub fn name(&self) -> &'static str
         ensures { result.now ≡ event_fault_name self.now }
     {
@@ -64,7 +64,7 @@ impl EventFault {
     }
 }
 
-/// A register and its new value. Of P only the six flags are taken: its bits 5 and 4 are ignored.
+/// A register and its new value. Bits 5 and 4 of P are ignored: P sets the six flags alone.
 #[derive(Clone, Copy, Debug, PartialEq, Eq)]
 pub enum Setting {
     A(u8),
@@ -75,25 +75,25 @@ pub enum Setting {
     Pc(u16),
 }
 
-/// What may happen to a machine between two states.
+/// What can happen to a machine between two states.
 #[derive(Clone, Copy, Debug, PartialEq, Eq)]
 pub enum Event {
     /// One step: an interrupt entry or an instruction.
     Step,
     /// A reset.
     Reset,
-    /// The IRQ line set, true for the level that asks for an interrupt. It stays until it is set again.
+    /// Sets the IRQ line; true asks for an interrupt. The level stays until it is set again.
     Irq(bool),
-    /// An NMI, which is pending until its entry. A second one before that adds nothing.
+    /// An NMI. It is pending until its entry; a second one before that adds nothing.
     Nmi,
-    /// A register set.
+    /// Sets a register.
     Set(Setting),
-    /// The first `count` of the bytes, 1 to 3, put into memory from an address on, into ROM too.
+    /// Puts the first `count` bytes, 1 to 3, into memory from an address on, into ROM too.
     Patch {
         address: u16,
         bytes: [u8; 3],
         count: u8,
     },
-    /// A byte of input handed in.
+    /// Hands in a byte of input.
     Input(u8),
 }

@@ -1,4 +1,4 @@
-//! The parts of tokens and expressions, and why there are none.
+//! The parts of tokens and expressions, and the faults of both.
 
 ghost use Rattle.std.specs.Prelude.{◌≡◌};
 ghost use Rattle.model.specs.FaultNames.{expression_fault_name, expression_fault_number, line_fault_name, line_fault_number};
@@ -7,12 +7,12 @@ use std::alloc::{AllocError, AllocFailed};
 use std::fmt;
 use thiserror::Error;
 
-/// What a token is (profile).
+/// What a token is. Source: mos65.
 #[derive(Clone, Copy, Debug, PartialEq, Eq)]
 pub enum TokenKind {
-    /// A letter and letters, digits or `_`: at most 31 bytes.
+    /// A letter, then letters, digits or `_`: at most 31 bytes.
     Word,
-    /// A `.` and letters.
+    /// A `.`, then letters.
     Directive,
     /// Decimal digits, or `$` and hex digits, or `%` and binary digits.
     Number,
@@ -24,7 +24,7 @@ pub enum TokenKind {
     Symbol,
 }
 
-/// The operators between two operands (profile).
+/// The operators between two operands. Source: mos65.
 #[derive(Clone, Copy, Debug, PartialEq, Eq)]
 pub enum Operator {
     /// `+`
@@ -33,7 +33,7 @@ pub enum Operator {
     Subtract,
     /// `*`
     Multiply,
-    /// `/`, cut toward zero
+    /// `/`, rounded toward zero
     Divide,
     /// `&`
     And,
@@ -43,24 +43,24 @@ pub enum Operator {
     ExclusiveOr,
 }
 
-/// Why a line has no tokens, or tokens no expression (profile).
+/// Why a line has no tokens, or tokens have no expression. Source: mos65.
 #[derive(Clone, Copy, Debug, PartialEq, Eq, Error)]
 pub enum LineFault {
-    /// The bytes are no list of tokens, or no beginning of the tokens is an expression.
+    /// The bytes are not a list of tokens, or no beginning of the tokens is an expression.
     Syntax,
-    /// A request for memory was refused.
+    /// An allocation failed.
     OutOfMemory,
 }
 
 impl fmt::Display for LineFault {
-    /// Its name and its number.
+    /// Writes the name and the number, as the program prints them.
     fn fmt<W: fmt::Write>(&self, f: &mut fmt::Formatter<W>) -> fmt::Result {
         write!(f, "{} {}", self.name(), self.number())
     }
 }
 
 impl LineFault {
-    /// The fault's number.
+    /// Returns the fault's number.
     pub fn number(&self) -> u8
         ensures { result ≡ line_fault_number self.now }
     {
@@ -70,7 +70,7 @@ impl LineFault {
         }
     }
 
-    /// The fault's name.
+    /// Returns the fault's name.
     pub fn name(&self) -> &'static str
         ensures { result.now ≡ line_fault_name self.now }
     {
@@ -103,26 +103,27 @@ impl<T: Drop> From<AllocFailed<T>> for LineFault {
     }
 }
 
-/// Why an expression has no value (profile).
+/// Why an expression has no value. Source: mos65.
 #[derive(Clone, Copy, Debug, PartialEq, Eq, Error)]
 pub enum ExprFault {
-    /// A name in it has no number. This comes before the others.
+    /// A name in it has no number. This fault comes before the others.
     UnknownName,
-    /// A literal or a result is outside -2^31..2^31-1, or an operand of `& | ^` outside 0..65535.
+    /// A literal or a result is outside -2^31..2^31-1, or an operand of `& | ^` is outside
+    /// 0..65535.
     Range,
     /// A division by zero.
     DivideByZero,
 }
 
 impl fmt::Display for ExprFault {
-    /// Its name and its number.
+    /// Writes the name and the number, as the program prints them.
     fn fmt<W: fmt::Write>(&self, f: &mut fmt::Formatter<W>) -> fmt::Result {
         write!(f, "{} {}", self.name(), self.number())
     }
 }
 
 impl ExprFault {
-    /// The fault's number.
+    /// Returns the fault's number.
     pub fn number(&self) -> u8
         ensures { result ≡ expression_fault_number self.now }
     {
@@ -133,7 +134,7 @@ impl ExprFault {
         }
     }
 
-    /// The fault's name.
+    /// Returns the fault's name.
     pub fn name(&self) -> &'static str
         ensures { result.now ≡ expression_fault_name self.now }
     {

@@ -1,11 +1,12 @@
 //! What the opcode table says of an instruction.
 
-/// Which processor a machine has, and its assembler, its listings and its session with it.
+/// Which processor a machine has; its assembler, its listings and its session follow it.
 #[derive(Clone, Copy, Debug, PartialEq, Eq)]
 pub enum Profile {
     /// The NMOS 6502: its 151 documented opcodes.
     N,
-    /// These and 19 more, with six more mnemonics and one more mode. It is mos65's own and claims nothing of any chip.
+    /// Those of N and 19 more, with six more mnemonics and one more mode. It is mos65's own and
+    /// describes no chip.
     C,
 }
 
@@ -107,11 +108,11 @@ pub enum Mode {
     IndX,
     /// Indirect indexed: Y is added to the address at the pointer.
     IndY,
-    /// Absolute indirect, of JMP alone.
+    /// Absolute indirect, for JMP alone.
     Ind,
-    /// Relative, of branches alone.
+    /// Relative, for branches alone.
     Rel,
-    /// Zero page indirect, of profile C alone: the address at a pointer in the zero page.
+    /// Zero page indirect, for profile C alone: the address is in a pointer in the zero page.
     IndZ,
 }
 
@@ -120,15 +121,15 @@ pub enum Mode {
 pub struct Row {
     pub mnemonic: Mnemonic,
     pub mode: Mode,
-    /// How many bytes the instruction has, its opcode among them: 1 to 3.
+    /// The length in bytes, 1 to 3, with the opcode.
     pub len: u8,
-    /// How many cycles it takes, without those for a page crossing or a branch taken.
+    /// The cycles, without those for a page crossing or a taken branch.
     pub cycles: u8,
-    /// Whether a page crossing costs one cycle more.
+    /// Whether a page crossing costs one more cycle.
     pub penalty: bool,
 }
 
-/// Where an operand stands, and whether its page was left on the way.
+/// The address of an operand, and whether finding it crossed a page.
 #[derive(Clone, Copy, Debug, PartialEq, Eq)]
 pub struct EffectiveAddress {
     /// The effective address, 0..65535.

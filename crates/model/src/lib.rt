@@ -1,6 +1,7 @@
-//! The plain data that the definitions of `specs/` and the crates above share.
-//! Nothing runs here but the names and numbers of faults, which are themselves part of the definition, the status
-//! register as a byte, and the cells of an undo record by their index.
+//! The plain types that the definitions of `specs/` and the crates above share.
+//!
+//! Nothing runs here but parts of the definition itself: the names and numbers of faults, the
+//! status register as a byte, and the cells of an undo record by their index.
 #![tactic(auto)]
 
 pub use bus_fault::BusFault;

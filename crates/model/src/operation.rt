@@ -96,7 +96,7 @@ pub enum RegisterOp {
     Nop,
 }
 
-/// Branches where a flag is clear, or where it is set, or always.
+/// Branches if a flag is clear, or if it is set, or always.
 #[derive(Clone, Copy)]
 pub enum BranchOp {
     Bpl,

@@ -1,4 +1,4 @@
-//! The registers, and what an arithmetic operation gives.
+//! The registers, and the result of an arithmetic operation.
 
 ghost use Rattle.std.specs.Prelude.{◌≡◌};
 ghost use Rattle.model.specs.Effect.{flags_of_byte, status};
@@ -21,7 +21,9 @@ pub struct Flags {
 }
 
 impl Flags {
-    /// The status register as a byte: N V 1 B D I Z C from bit 7 down, with B as given (MCS6500 manual, chapter 3).
+    /// Returns the status register as a byte: N V 1 B D I Z C from bit 7 down, with B as given.
+    ///
+    /// Source: MCS6500 manual, chapter 3.
     #[tactic(auto, unfolding(crate::specs::Effect::status))]
     pub fn to_byte(self, b: bool) -> u8
         ensures { result ≡ status b self }
@@ -31,7 +33,7 @@ impl Flags {
         high + low
     }
 
-    /// The flags that a byte of the status register holds; its bits 5 and 4 are ignored.
+    /// Returns the flags of a status byte. Bits 5 and 4 are ignored.
     #[tactic(auto, unfolding(crate::specs::Effect::flags_of_byte))]
     pub fn from_byte(byte: u8) -> Flags
         ensures { result ≡ flags_of_byte byte }
@@ -58,7 +60,7 @@ pub struct Regs {
     pub flags: Flags,
 }
 
-/// What an arithmetic operation gives: a byte, and the flags that go with it.
+/// The result of an arithmetic operation: a byte, and the flags that go with it.
 #[derive(Clone, Copy, Debug, PartialEq, Eq)]
 pub struct Sum {
     pub value: u8,

@@ -2,16 +2,16 @@
 
 use crate::event::EventFault;
 
-/// Why a run ends (profile).
+/// Why a run ends. Source: mos65.
 #[derive(Clone, Copy, Debug, PartialEq, Eq)]
 pub enum Why {
-    /// The last step changed a watched byte of memory; this is the lowest such address.
+    /// The last step changed a watched byte of memory. This is the lowest such address.
     Watch(u16),
     /// The last step led to a breakpoint.
     Break(u16),
     /// As many steps were made as were asked for.
     Limit,
-    /// The next step is refused.
+    /// The next step is rejected.
     Refused(EventFault),
 }
 

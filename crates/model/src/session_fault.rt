@@ -1,4 +1,4 @@
-//! Why a call of the session is refused.
+//! Why a call of the session is rejected.
 
 ghost use Rattle.std.specs.Prelude.{◌≡◌};
 ghost use Rattle.model.specs.FaultNames.{session_fault_name, session_fault_number};
@@ -6,32 +6,32 @@ ghost use Rattle.model.specs.FaultNames.{session_fault_name, session_fault_numbe
 use std::fmt;
 use thiserror::Error;
 
-/// A fault of the session (profile).
+/// A fault of the session. Source: mos65.
 #[derive(Clone, Copy, Debug, PartialEq, Eq, Error)]
 pub enum SessionFault {
-    /// Fewer states are held than are to be gone back over; `held` is their number.
+    /// Fewer events are held than are to be undone; `held` is their number.
     NoHistory { held: u32 },
-    /// 256 breakpoints or watches are set.
+    /// 256 breakpoints or watchpoints are set.
     TableFull,
-    /// The breakpoint or watch is set already.
+    /// The breakpoint or watchpoint is set already.
     AlreadySet,
-    /// The breakpoint or watch is not set.
+    /// The breakpoint or watchpoint is not set.
     NotSet,
-    /// The image has a byte at a port address, or a watch would stand there.
+    /// The image has a byte at a port address, or a watchpoint would be at one.
     PortAddress,
-    /// A request for memory was refused.
+    /// An allocation failed.
     OutOfMemory,
 }
 
 impl fmt::Display for SessionFault {
-    /// Its name and its number.
+    /// Writes the name and the number, as the program prints them.
     fn fmt<W: fmt::Write>(&self, f: &mut fmt::Formatter<W>) -> fmt::Result {
         write!(f, "{} {}", self.name(), self.number())
     }
 }
 
 impl SessionFault {
-    /// The fault's number.
+    /// Returns the fault's number.
     pub fn number(&self) -> u8
         ensures { result ≡ session_fault_number self.now }
     {
@@ -45,7 +45,7 @@ impl SessionFault {
         }
     }
 
-    /// The fault's name.
+    /// Returns the fault's name.
     pub fn name(&self) -> &'static str
         ensures { result.now ≡ session_fault_name self.now }
     {

@@ -1,4 +1,4 @@
-//! Why a source is refused.
+//! Why a source is rejected.
 
 ghost use Rattle.std.specs.Prelude.{◌≡◌};
 ghost use Rattle.model.specs.FaultNames.{source_fault_name, source_fault_number};
@@ -6,8 +6,10 @@ ghost use Rattle.model.specs.FaultNames.{source_fault_name, source_fault_number}
 use std::fmt;
 use thiserror::Error;
 
-/// What is wrong with a line of a source (profile). Kinds up to 13 are of its layout: its text, its names, its place and
-/// its size. The others are of its values and its bytes.
+/// What is wrong with a line of a source. Source: mos65.
+///
+/// Kinds 1 to 13 are faults of layout: of a line's text, its names, its address and its size. The
+/// others are faults of values and bytes.
 #[derive(Clone, Copy, Debug, PartialEq, Eq, Error)]
 pub enum AsmFaultKind {
     /// The source has more than 1,048,576 bytes; the line is 0.
@@ -16,25 +18,26 @@ pub enum AsmFaultKind {
     LineTooLong,
     /// The line has a byte that is neither $20..$7E nor a tab.
     NotAscii,
-    /// The line is none of the grammar.
+    /// The line is not in the grammar.
     Syntax,
-    /// A mnemonic, A, X or Y, in any letter case, where a name stands.
+    /// A mnemonic, A, X or Y, in any letter case, is used as a name.
     ReservedName,
     /// The name has an earlier definition.
     DuplicateName,
-    /// A name that no line up to here defines, where it has to be known.
+    /// The value is needed here, and no line up to this one defines the name.
     UnknownHere,
     /// The instruction has no form for the operand.
     NoSuchForm,
     /// The 8,193rd definition.
     TooManyNames,
-    /// An address to go on from is outside 0..65535, or a reserved stretch below 0 or past address 65535.
+    /// The address to go on from is outside 0..65535, or `.RES` goes below 0 or past address 65535.
     OriginRange,
-    /// A literal or a result that places, defines or sizes is out of range.
+    /// A literal or a result is out of range in an expression that places, defines or sizes.
     ExprRange,
     /// A division by zero in an expression that places, defines or sizes.
     DivideByZero,
-    /// The text is more or less than one instruction or data line; of one-line assembly alone.
+    /// The text is more or less than one instruction or data line. Comes from one-line assembly
+    /// alone.
     NotOneLine,
     /// No line defines the name.
     UndefinedName,
@@ -50,23 +53,24 @@ pub enum AsmFaultKind {
     Overlap,
     /// The line has a byte at a port address.
     PortAddress,
-    /// A literal or a result is out of range in an expression that neither places, defines nor sizes.
+    /// A literal or a result is out of range in an expression that neither places, defines nor
+    /// sizes.
     ValueExprRange,
     /// A division by zero in an expression that neither places, defines nor sizes.
     ValueDivideByZero,
-    /// A request for memory was refused; the line is 0.
+    /// An allocation failed; the line is 0.
     OutOfMemory,
 }
 
 impl fmt::Display for AsmFaultKind {
-    /// Its name and its number.
+    /// Writes the name and the number, as the program prints them.
     fn fmt<W: fmt::Write>(&self, f: &mut fmt::Formatter<W>) -> fmt::Result {
         write!(f, "{} {}", self.name(), self.number())
     }
 }
 
 impl AsmFaultKind {
-    /// The fault's number.
+    /// Returns the fault's number.
     pub fn number(&self) -> u8
         ensures { result ≡ source_fault_number self.now }
     {
@@ -97,7 +101,7 @@ impl AsmFaultKind {
         }
     }
 
-    /// The fault's name. Two kinds have the name `ExprRange`, and two `DivideByZero`.
+    /// Returns the fault's name. Two kinds have the name `ExprRange`, and two `DivideByZero`.
     pub fn name(&self) -> &'static str
         ensures { result.now ≡ source_fault_name self.now }
     {
@@ -129,11 +133,11 @@ impl AsmFaultKind {
     }
 }
 
-/// Why a source is refused, and where.
+/// Why a source is rejected, and on which line.
 #[derive(Clone, Copy, Debug, PartialEq, Eq, Error)]
 #[error("line {line} {kind}")]
 pub struct AsmFault {
-    /// The line, counted from 1; 0 where it is the source as a whole.
+    /// The line, counted from 1; 0 for the source as a whole.
     pub line: u32,
     pub kind: AsmFaultKind,
 }

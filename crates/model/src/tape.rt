@@ -1,36 +1,36 @@
-//! Why a text is no tape.
+//! Why a text is not a tape.
 
 use std::alloc::AllocError;
 use std::fmt;
 use thiserror::Error;
 
-/// What is wrong with a text that is read as a tape (profile).
+/// What is wrong with a text that is read as a tape. Source: mos65.
 #[derive(Clone, Copy, Debug, PartialEq, Eq, Error)]
 pub enum TapeFaultKind {
-    /// The text ends with no record begun.
+    /// The text ends before any record begins.
     NoRecord,
-    /// A byte in a record is no hex digit.
+    /// A byte in a record is not a hex digit.
     BadHex,
     /// All digits of a record are there, and its sum differs from its checksum.
     BadChecksum,
-    /// A data record's bytes would go past address 65535.
+    /// A data record would put a byte past address 65535.
     PastEnd,
     /// The text ends in a record, or after data records without an end record.
     Truncated,
-    /// The end record's number differs from the number of data records.
+    /// The number in the end record differs from the number of data records.
     BadCount,
-    /// A byte that is not skipped stands after the end record.
+    /// A byte that is not skipped comes after the end record.
     JunkAfterEnd,
-    /// A byte that is neither `;` nor skipped stands where a record may begin.
+    /// A byte that is neither `;` nor skipped comes where a record may begin.
     JunkBetween,
-    /// A request for memory was refused.
+    /// An allocation failed.
     OutOfMemory,
     /// A tape that is read in pieces goes on after 4,294,967,295 bytes.
     TooLong,
 }
 
 impl fmt::Display for TapeFaultKind {
-    /// Its name and its number.
+    /// Writes the name and the number, as the program prints them.
     fn fmt<W: fmt::Write>(&self, f: &mut fmt::Formatter<W>) -> fmt::Result {
         write!(f, "{} {}", self.name(), self.number())
     }
@@ -40,7 +40,7 @@ impl TapeFaultKind {
     ghost use Rattle.std.specs.Prelude.{◌≡◌};
     ghost use Rattle.model.specs.TapeFault.{tape_fault_name, tape_fault_number};
 
-    /// The number that stands for the kind, 1 to 10 (profile).
+    /// Returns the kind's number, 1 to 10. Source: mos65.
     pub fn number(&self) -> u8
         ensures { result ≡ tape_fault_number self.now }
     {
@@ -58,7 +58,7 @@ impl TapeFaultKind {
         }
     }
 
-    /// The name of the kind, as it is printed (profile).
+    /// Returns the kind's name, as the program prints it. Source: mos65.
     pub fn name(&self) -> &'static str
         ensures { result.now ≡ tape_fault_name self.now }
     {
@@ -77,16 +77,16 @@ impl TapeFaultKind {
     }
 }
 
-/// The first fault of a text, and where it is.
+/// The first fault of a text, and its offset.
 #[derive(Clone, Copy, Debug, PartialEq, Eq, Error)]
 #[error("byte {offset} {kind}")]
 pub struct TapeFault {
-    /// In bytes from the text's begin; 0 where memory was refused.
+    /// In bytes from the text's beginning; 0 if an allocation failed.
     pub offset: u64,
     pub kind: TapeFaultKind,
 }
 
-/// The answer where a request for memory was refused.
+/// The fault that is returned if an allocation fails.
 pub const TAPE_OUT_OF_MEMORY: TapeFault = TapeFault {
     offset: 0,
     kind: TapeFaultKind::OutOfMemory,

@@ -1,12 +1,12 @@
-//! What an event puts on record, so that it can be gone back over.
+//! What an event records so that it can be undone.
 
 ghost use Rattle.std.specs.Prelude.{◌≡◌, slice_get};
 ghost use Rattle.model.specs.Undo.{cells_of};
 
 use crate::registers::Regs;
 
-/// What puts a bus back: up to three memory cells with their old bytes, the newest first, how much
-/// input had been taken, how long both lists of the console were, and the port's control byte.
+/// What restores a bus: up to three memory cells with their old bytes, the newest first; how much
+/// input had been taken; the lengths of both lists of the console; and the port's control byte.
 #[derive(Clone, Copy, Debug, PartialEq, Eq)]
 pub struct Change {
     pub cells: [(u16, u8); 3],
@@ -19,7 +19,7 @@ pub struct Change {
     pub control: bool,
 }
 
-/// What puts a machine back to the state before an event.
+/// What restores a machine to its state before an event.
 #[derive(Clone, Copy, Debug, PartialEq, Eq)]
 pub struct Undo {
     pub regs: Regs,
@@ -30,7 +30,9 @@ pub struct Undo {
 }
 
 impl Undo {
-    /// The record's cell at an index, counted from 0: an address and its old byte, the newest first. None past the last in use.
+    /// Returns the record's cell at an index, counted from 0: an address and its old byte.
+    ///
+    /// The newest cell comes first. Returns `None` past the last cell in use.
     #[tactic(auto, using(crate::proofs::Cells::cell_within, crate::proofs::Cells::cell_past))]
     pub fn cell(&self, index: u8) -> Option<(u16, u8)>
         ensures { result ≡ slice_get (cells_of self.now.change) index }

@@ -1,6 +1,7 @@
-//! Where the operand of an instruction stands.
+//! The addresses of operands.
 //!
-//! It owns effective addresses. `resolve` is one equation with the definition, in `Operand.antt` of `model`, and needs no lemma.
+//! The crate owns effective addresses.
+//! `resolve` is one equation with the definition, in `Operand.antt` of `model`, and needs no lemma.
 #![tactic(auto)]
 
 ghost use Rattle.std.specs.Prelude.{◌≡◌, ◌+◌, ◌%◌};
@@ -9,12 +10,14 @@ ghost use Rattle.model.specs.Operand.{indexed, jump_target, effective_address, s
 use bus::{Bus, Profile};
 pub use model::{EffectiveAddress, Mode, Regs};
 
-/// What `resolve` answers: an effective address, and whether a page was left on the way there.
+/// An effective address, and whether finding it crossed a page.
 pub type Place = EffectiveAddress;
 
-/// Where the operand of the instruction at PC stands, and whether a page was left on the way there: the next byte for
-/// an immediate operand, the target of a branch, 0 where there is none. It reads plain memory alone, never the port
-/// (MCS6500 manual, chapters 4 to 6; profile for what profile C adds).
+/// Returns the effective address of the instruction at PC, and whether finding it crossed a page.
+///
+/// The address is that of the next byte for an immediate operand, the target of a branch, and 0 if
+/// there is no operand. Reads plain memory alone, never the port. Source: MCS6500 manual, chapters
+/// 4 to 6; mos65 for what profile C adds.
 #[inline(always)]
 #[tactic(auto, unfolding(model::specs::Operand::effective_address))]
 pub fn resolve(bus: &Bus, regs: &Regs, mode: Mode) -> Place
@@ -41,7 +44,7 @@ pub fn resolve(bus: &Bus, regs: &Regs, mode: Mode) -> Place
     }
 }
 
-/// Two bytes of plain memory as an address, the low byte first. After $FFFF comes $0000.
+/// Returns two bytes of plain memory as an address, the low byte first. $0000 comes after $FFFF.
 #[inline(always)]
 #[tactic(auto, unfolding(model::specs::Operand::word_at))]
 pub fn word(bus: &Bus, address: u16) -> u16
@@ -52,7 +55,7 @@ pub fn word(bus: &Bus, address: u16) -> u16
     low as u16 + 256 * high as u16
 }
 
-/// The same without leaving the page: after its last byte comes its first.
+/// Returns two bytes of one page as an address: after the page's last byte comes its first.
 #[inline(always)]
 #[tactic(auto, unfolding(model::specs::Operand::word_in_page))]
 fn word_in_page(bus: &Bus, address: u16) -> u16
@@ -63,7 +66,9 @@ fn word_in_page(bus: &Bus, address: u16) -> u16
     low as u16 + 256 * high as u16
 }
 
-/// The address at the pointer of JMP indirect, of which profile N reads both bytes in one page. Profile C leaves the page.
+/// Returns the address in the pointer of JMP indirect.
+///
+/// Profile N reads both bytes in the pointer's page; profile C crosses the page.
 #[inline(always)]
 #[tactic(auto, unfolding(model::specs::Operand::jump_target))]
 fn jump_target(bus: &Bus, pointer: u16) -> u16
@@ -75,7 +80,7 @@ fn jump_target(bus: &Bus, pointer: u16) -> u16
     }
 }
 
-/// An address that leaves no page.
+/// Returns an address for which no page was crossed.
 #[inline(always)]
 fn straight(address: u16) -> EffectiveAddress
     ensures { result ≡ straight address }
@@ -86,7 +91,7 @@ fn straight(address: u16) -> EffectiveAddress
     }
 }
 
-/// An index added to a base.
+/// Returns a base with an index added.
 #[inline(always)]
 fn indexed(base: u16, index: u8) -> EffectiveAddress
     ensures { result ≡ indexed base index }
@@ -98,7 +103,7 @@ fn indexed(base: u16, index: u8) -> EffectiveAddress
     }
 }
 
-/// A branch's target, from the next instruction's address and the distance, a signed byte.
+/// Returns a branch's target: the next instruction's address plus a signed byte.
 #[inline(always)]
 fn target(next: u16, byte: u8) -> EffectiveAddress
     ensures { result ≡ target next byte }

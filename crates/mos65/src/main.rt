@@ -1,11 +1,12 @@
-//! The program `mos65`: it collects the process's words and hands them, with the standard streams, to `program`.
+//! The program `mos65`: collects the process's words and hands them, with the standard streams, to
+//! `program`.
 #![tactic(auto)]
 
 use program::{program, unreadable_words};
 use std::process::ExitCode;
 use std::{env, io};
 
-/// Does what the process's words ask for, and gives the exit status.
+/// Does what the process's words ask for, and returns the exit status.
 fn run(rt: &HostRuntime) -> io::Result<u8> {
     let mut arguments = Vec::new(rt.alloc());
     for argument in env::args(rt)? {

@@ -1,4 +1,5 @@
--- The opcodes by groups are those of the table of each profile: both are computed for every mnemonic in every mode.
+-- The opcodes by groups are those of the table of each profile: both are computed for every
+-- mnemonic in every mode.
 use Rattle.std.proofs.Common.{◌≡◌, ℕ, ◌<◌, map, refl, sym, subst}
 use Rattle.std.specs.Prelude.{Option, None, Some, IfSome, IfNone}
 use Rattle.std.proofs.lemmas.Option.{IfSome_then}

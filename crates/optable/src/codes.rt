@@ -8,7 +8,7 @@ use crate::operations::operation;
 use crate::rows::decode_in;
 use model::{BranchOp, Mnemonic, Mode, ModifyOp, Operation, Profile, ReadOp, RegisterOp, StoreOp};
 
-/// The opcode of a mnemonic in a mode in profile N: what `encode_in` gives for it.
+/// Returns the opcode of a mnemonic in a mode in profile N, as `encode_in` does.
 pub fn encode(mnemonic: Mnemonic, mode: Mode) -> Option<u8>
     ensures code { result ≡ encoded Profile.N mnemonic mode }
     ensures found { IfSome result (λ opcode. IsRowOf mnemonic mode (row_at Profile.N opcode)) }
@@ -18,9 +18,10 @@ pub fn encode(mnemonic: Mnemonic, mode: Mode) -> Option<u8>
     encode_in(Profile::N, mnemonic, mode)
 }
 
-/// The opcode of a mnemonic in a mode in a profile, and `None` where no opcode of the profile has both.
+/// Returns the opcode of a mnemonic in a mode in a profile, or `None` if the profile has none.
+///
 /// It is the inverse of `decode_in`: the one opcode whose row has this mnemonic and this mode.
-/// (MCS6500 manual, appendix B; what profile C adds is its own.)
+/// Source: MCS6500 manual, appendix B; mos65 for what profile C adds.
 pub fn encode_in(profile: Profile, mnemonic: Mnemonic, mode: Mode) -> Option<u8>
     ensures code { result ≡ encoded profile mnemonic mode }
     ensures found { IfSome result (λ opcode. IsRowOf mnemonic mode (row_at profile opcode)) }
@@ -30,7 +31,7 @@ pub fn encode_in(profile: Profile, mnemonic: Mnemonic, mode: Mode) -> Option<u8>
     within(profile, code_of(operation(mnemonic), mode))
 }
 
-/// An opcode, if the profile has it.
+/// Returns an opcode if the profile has it.
 fn within(profile: Profile, code: Option<u8>) -> Option<u8>
     ensures { result ≡ within profile code }
 {
@@ -43,7 +44,7 @@ fn within(profile: Profile, code: Option<u8>) -> Option<u8>
     }
 }
 
-/// The opcode of an operation in a mode, in profile C, which has all of them.
+/// Returns the opcode of an operation in a mode in profile C, which has all of them.
 fn code_of(operation: Operation, mode: Mode) -> Option<u8>
     ensures { result ≡ code_of operation mode }
 {

@@ -1,8 +1,8 @@
-//! The opcode table of each profile: the row of an opcode, the opcode of a mnemonic in a mode, the names of mnemonics,
-//! and the operation of each.
+//! The opcode table of each profile: rows, opcodes, the names of mnemonics and their operations.
 //!
-//! It owns the constant of rows. `decode` and `encode` are each other's inverse; both are computed in `proofs` for every opcode, and for every
-//! mnemonic in every mode, and compared with the table of `model`.
+//! The crate owns the constant of rows. `decode` and `encode` are each other's inverse: `proofs`
+//! computes both for every opcode, and for every mnemonic in every mode, and compares them with the
+//! table of `model`.
 #![tactic(auto)]
 
 pub use codes::{encode, encode_in};

@@ -7,7 +7,7 @@ ghost use Rattle.optable.specs.Names.{looked_up};
 
 use model::{Mnemonic, Profile};
 
-/// The letters of each mnemonic: first those of the documented instructions, then those that profile C adds.
+/// The letters of each mnemonic: first the documented ones, then those that profile C adds.
 const NAMES: [([u8; 3], Mnemonic); 62] = [
     (*b"ADC", Mnemonic::Adc),
     (*b"AND", Mnemonic::And),
@@ -73,18 +73,19 @@ const NAMES: [([u8; 3], Mnemonic); 62] = [
     (*b"STZ", Mnemonic::Stz),
 ];
 
-/// How many mnemonics the documented instructions have.
+/// How many mnemonics are documented.
 const DOCUMENTED: usize = 56;
 
-/// The mnemonic of profile N that a text names: what `mnemonic_in` gives for it.
+/// Returns the mnemonic of profile N that a text names, as `mnemonic_in` does.
 pub fn mnemonic_of(text: &[u8]) -> Option<Mnemonic>
     ensures { result ≡ mnemonic_named Profile.N text.now }
 {
     mnemonic_in(Profile::N, text)
 }
 
-/// The mnemonic of a profile that a text names, in any letter case, and `None` for every other text. (MCS6500 manual, appendix B;
-/// the letter case, and what profile C adds, are this profile's.)
+/// Returns the mnemonic of a profile that a text names, in any letter case; otherwise `None`.
+///
+/// Source: MCS6500 manual, appendix B; mos65 for the letter case and for what profile C adds.
 pub fn mnemonic_in(profile: Profile, text: &[u8]) -> Option<Mnemonic>
     ensures { result ≡ mnemonic_named profile text.now }
 {
@@ -98,7 +99,7 @@ pub fn mnemonic_in(profile: Profile, text: &[u8]) -> Option<Mnemonic>
     look_up(names, capitals(text))
 }
 
-/// Three bytes, each small letter a capital.
+/// Returns three bytes with each small letter made a capital.
 #[tactic(auto, using(crate::proofs::Naming::capitals_is))]
 fn capitals(text: &[u8]) -> [u8; 3]
     requires { length text.now ≡ 3 }
@@ -111,7 +112,7 @@ fn capitals(text: &[u8]) -> [u8; 3]
     ]
 }
 
-/// The first of some mnemonics that has these letters.
+/// Returns the first mnemonic that has these letters.
 fn look_up(names: &[([u8; 3], Mnemonic)], letters: [u8; 3]) -> Option<Mnemonic>
     ensures { result ≡ looked_up letters names.now }
 {

@@ -5,7 +5,9 @@ ghost use Rattle.model.specs.Effect.{operation_of};
 
 use model::{BranchOp, Mnemonic, ModifyOp, Operation, ReadOp, RegisterOp, StoreOp};
 
-/// The operation of a mnemonic, by the way in which it uses its operand. (MCS6500 manual, appendix A.)
+/// Returns the operation of a mnemonic, by the way in which it uses its operand.
+///
+/// Source: MCS6500 manual, appendix A.
 #[inline(always)]
 #[tactic(auto, unfolding(model::specs::Effect::operation_of))]
 pub fn operation(mnemonic: Mnemonic) -> Operation

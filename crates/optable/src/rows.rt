@@ -18,7 +18,7 @@ macro_rules! row {
     };
 }
 
-/// A row that a page crossing costs one cycle more.
+/// A row that a page crossing costs one more cycle.
 macro_rules! plus {
     ($mnemonic:ident, $mode:ident, $len:literal, $cycles:literal) => {
         Some(Row {
@@ -31,7 +31,9 @@ macro_rules! plus {
     };
 }
 
-/// The row of an opcode in profile N: what `decode_in` gives for it. `None` for the 105 opcodes that are not documented.
+/// Returns the row of an opcode in profile N, as `decode_in` does.
+///
+/// Returns `None` for the 105 opcodes that are not documented.
 pub fn decode(opcode: u8) -> Option<Row>
     ensures row { result ≡ row_at Profile.N opcode }
     ensures small { IfSome result (λ row. row.cycles < 8) }
@@ -40,9 +42,11 @@ pub fn decode(opcode: u8) -> Option<Row>
     decode_in(Profile::N, opcode)
 }
 
-/// The row of an opcode in a profile: mnemonic, mode, length in bytes, cycles and whether a page crossing costs one more.
-/// `None` for the opcodes that it has not: 105 in profile N, 86 in profile C. (MCS6500 manual, appendix B; what profile C adds is
-/// its own.)
+/// Returns the row of an opcode in a profile.
+///
+/// The row has the mnemonic, the mode, the length in bytes, the cycles, and whether a page crossing
+/// costs one more cycle. Returns `None` for opcodes that the profile does not have: 105 in profile
+/// N, 86 in profile C. Source: MCS6500 manual, appendix B; mos65 for what profile C adds.
 pub fn decode_in(profile: Profile, opcode: u8) -> Option<Row>
     ensures row { result ≡ row_at profile opcode }
     ensures small { IfSome result (λ row. row.cycles < 8) }
@@ -51,15 +55,15 @@ pub fn decode_in(profile: Profile, opcode: u8) -> Option<Row>
     OpTable::new(profile).row(opcode)
 }
 
-/// The rows of all 256 bytes in a profile, each found in one step.
+/// The rows of all 256 opcodes in a profile, each found in one step.
 #[derive(Clone, Copy)]
 pub struct OpTable {
-    /// Whose rows they are.
+    /// The profile that the rows are of.
     pub profile: Profile,
 }
 
 impl OpTable {
-    /// The table of a profile. Its rows are a constant of the program, so it takes no memory.
+    /// Returns the table of a profile. Does not allocate: the rows are a constant of the program.
     #[inline(always)]
     pub fn new(profile: Profile) -> OpTable
         ensures { result.profile ≡ profile }
@@ -67,7 +71,7 @@ impl OpTable {
         OpTable { profile }
     }
 
-    /// The row of an opcode, which is that of `decode_in`.
+    /// Returns the row of an opcode, as `decode_in` does.
     #[inline(always)]
     pub fn row(self, opcode: u8) -> Option<Row>
         ensures row { result ≡ row_at self.profile opcode }
@@ -77,7 +81,9 @@ impl OpTable {
         row_in(self.profile, opcode)
     }
 
-    /// The row of an opcode that is documented, which is the same in each profile: of a known opcode it is a constant.
+    /// Returns the row of a documented opcode, which is the same in each profile.
+    ///
+    /// For an opcode that is known when the program is compiled, the row is a constant.
     #[inline(always)]
     pub fn documented(self, opcode: u8) -> Option<Row>
         ensures exact { result ≡ row_at Profile.N opcode }
@@ -88,7 +94,7 @@ impl OpTable {
     }
 }
 
-/// The row of an opcode: that of profile N, and else what profile C adds.
+/// Returns the row of an opcode: that of profile N, otherwise the one that profile C adds.
 #[inline(always)]
 #[tactic(auto, using(table_laws::proofs::Encoding::row_kept, table_laws::proofs::Encoding::row_added))]
 fn row_in(profile: Profile, opcode: u8) -> Option<Row>
@@ -103,7 +109,7 @@ fn row_in(profile: Profile, opcode: u8) -> Option<Row>
     }
 }
 
-/// The row of an opcode in profile N.
+/// Returns the row of an opcode in profile N.
 #[inline(always)]
 #[tactic(auto, using(crate::proofs::Table::decoded))]
 fn documented_row(opcode: u8) -> Option<Row>
@@ -113,7 +119,7 @@ fn documented_row(opcode: u8) -> Option<Row>
     rows[opcode as usize]
 }
 
-/// The row of an opcode that profile C adds.
+/// Returns the row of an opcode that profile C adds.
 #[tactic(auto, unfolding(model::specs::Table::find_row, model::specs::Table::added))]
 fn added_row(opcode: u8) -> Option<Row>
     ensures { result ≡ find_row opcode added }
@@ -142,7 +148,7 @@ fn added_row(opcode: u8) -> Option<Row>
     }
 }
 
-/// The row of each byte in profile N, from $00 on.
+/// The row of each opcode in profile N, from $00 on.
 pub const ROWS: [Option<Row>; 256] = [
     // $00
     row!(Brk, Imp, 1, 7),

@@ -1,4 +1,5 @@
--- The maximal runs and their pieces, as one pass over the cells meets them: what has been taken already is counted.
+-- The maximal runs and their pieces, as one pass over the cells meets them: what has been taken
+-- already is counted.
 use Rattle.std.proofs.Common.{◌≡◌, ℕ, zero, suc, ◌+◌, ◌*◌, ◌/◌, ◌≤◌, Bool, true, false, List, [], ◌∷◌, ◌++◌, length, map, take, drop, Option, Some, None, refl, sym, ap, ◌∙◌, arith}
 use Rattle.std.specs.Prelude.{◌-◌, ◌==◌}
 use Rattle.std.specs.List.{flat_map, range_with_len}

@@ -86,7 +86,8 @@ start = record { cells = empty_image; count = 0; place = Between; start = 0; dig
 unfoldable pub read_of : List ℕ → Result (List (Option ℕ)) TapeFault
 read_of text = run 0 start text >>= finished (length text)
 
--- what a step of the code answered, and what it left, is what the step gives; after a fault nothing is said of what it left
+-- what a step of the code returned, and what it left, is what the step gives; after a fault nothing
+-- is said of what it left
 abbrev pub Gives : Result Unit TapeFault → Progress → Result Progress TapeFault → Type 0
 Gives (Ok u) new gives = gives ≡ Ok new
 Gives (Err f) new gives = gives ≡ Err f
@@ -96,7 +97,7 @@ pub record IsHeld (held : ℕ) (digits : List ℕ) : Type 0 where
   pub room : held < 520
   pub few : AreFewDigits (take held digits)
 
--- an answer is what reading gives, unless memory was refused
+-- an answer is what reading gives, unless memory ran out
 abbrev pub AnswersReading : Result (List (Option ℕ)) TapeFault → Result (List (Option ℕ)) TapeFault → Type 0
 AnswersReading (Ok cells) gives = gives ≡ Ok cells
 AnswersReading (Err f) gives = (f ≡ out_of_memory) ⊎ (gives ≡ Err f)

@@ -10,7 +10,8 @@ front_bytes (suc n) [] = []
 front_bytes (suc n) (None ∷ cells) = []
 front_bytes (suc n) (Some b ∷ cells) = b ∷ front_bytes n cells
 
--- the pieces of at most 24 bytes that cover the cells from an address on, where the first cells are covered
+-- the pieces of at most 24 bytes that cover the cells from an address on, where the first cells are
+-- covered
 abbrev pub cuts : ℕ → ℕ → List (Option ℕ) → List Stretch
 cuts address covered [] = []
 cuts address (suc n) (c ∷ cells) = cuts (address + 1) n cells

@@ -8,12 +8,12 @@ ghost use Rattle.model.specs.Tape.{AreAllDigits, needed, bytes_of_digits, claim_
 use crate::record::total;
 use std::marker::Model;
 
-/// What a record claims (KIM-1 manual).
+/// What a record claims. Source: KIM-1 manual.
 #[derive(Drop)]
 pub struct Claim {
     /// How many bytes of data; 0 in the end record.
     pub length: u8,
-    /// The address of the first of them; in the end record the number of data records.
+    /// The address of the first of them; the number of data records in the end record.
     pub address: u16,
     /// The data, and zeroes after them.
     pub data: [u8; 255],
@@ -37,7 +37,7 @@ pub fn is_hex_digit(byte: u8) -> bool
     byte.is_ascii_hexdigit()
 }
 
-/// The bytes that the digits write.
+/// Decodes digits into bytes.
 fn decode(digits: &[u8], bytes: &mut [u8])
     requires hex { list_all is_hex_byte digits.now ≡ true }
     requires room { length digits.now ≡ 2 * length bytes.old }
@@ -46,7 +46,7 @@ fn decode(digits: &[u8], bytes: &mut [u8])
     let _ = hex::decode_to_slice(digits, bytes);
 }
 
-/// How many digits the record has that begins so.
+/// Returns how many digits a record has that begins with these.
 pub fn needed(digits: &[u8]) -> usize
     requires { list_all is_hex_byte digits.now ≡ true }
     ensures { result ≡ needed digits.now }
@@ -60,7 +60,7 @@ pub fn needed(digits: &[u8]) -> usize
 }
 
 impl Claim {
-    /// What the digits of a record claim.
+    /// Returns what the digits of a record claim.
     pub fn read(digits: &[u8]) -> Claim
         requires { AreAllDigits digits.now }
         ensures { result ≡ claim_of digits.now }

@@ -1,8 +1,11 @@
 //! Paper tapes: the text of an image, and the image of a text.
 //!
-//! It owns the form of the records. A caller may write an image, read a whole text, or feed a `TapeReader` piece by piece; all three go through one
-//! step, a byte at a time. The proof goes by a reading machine (`specs/Reading.antt`) that is shown to have seen what the grammar says
-//! (`proofs/Grammar.antt`), from both sides; it is longer than the code, since first faults, the writer's cuts and pieces each have an induction.
+//! The crate owns the form of the records. A caller may write an image, read a whole text, or feed
+//! a `TapeReader` piece by piece; both ways of reading take the same step, a byte at a time. The
+//! proof goes by a reading machine
+//! (`specs/Reading.antt`), which is shown to have seen what the grammar says
+//! (`proofs/Grammar.antt`), from both sides. It is longer than the code, since first faults, the writer's cuts and pieces
+//! each need an induction.
 #![tactic(auto)]
 
 mod claim;

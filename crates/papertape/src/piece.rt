@@ -1,4 +1,4 @@
-//! The pieces that an image is written in.
+//! The pieces in which an image is written.
 
 ghost use Rattle.std.specs.Prelude.{◌≡◌, ◌+◌, ◌≤◌, ◌++◌, length, take, drop, IfOk};
 ghost use Rattle.model.specs.TapeText.{data_line};
@@ -8,7 +8,7 @@ use crate::record::write_record;
 use std::alloc::AllocError;
 use std::marker::Model;
 
-/// The most bytes that a written record holds (profile).
+/// The most bytes that a written record holds. Source: mos65.
 const PIECE: usize = 24;
 
 /// At most 24 bytes from an address on, which one record holds.
@@ -30,7 +30,7 @@ impl Model for Piece {
     ghost invariant = { λ p. p.count ≤ 24 };
 }
 
-/// The byte at an address, where an address past the memory has none.
+/// Returns the byte at an address; an address past the memory has none.
 fn byte_at(cells: &[Option<u8>], address: u32) -> Option<u8>
     requires { length cells.now ≡ 65536 }
     ensures { result ≡ first_cell (drop address cells.now) }
@@ -41,7 +41,7 @@ fn byte_at(cells: &[Option<u8>], address: u32) -> Option<u8>
     cells[address as usize]
 }
 
-/// Copies the bytes from an address on, up to the first address with none, and says how many they are.
+/// Copies the bytes from an address on, up to the first address with none, and counts them.
 fn fill(cells: &[Option<u8>], address: u16, bytes: &mut [u8]) -> usize
     requires size { length cells.now ≡ 65536 }
     requires room { length bytes.old ≡ 24 }
@@ -58,7 +58,7 @@ fn fill(cells: &[Option<u8>], address: u16, bytes: &mut [u8]) -> usize
 }
 
 impl Piece {
-    /// The piece that begins at an address.
+    /// Returns the piece that begins at an address.
     fn at(cells: &[Option<u8>], address: u16) -> Piece
         requires { length cells.now ≡ 65536 }
         ensures { result ≡ (address, front_bytes 24 (drop address cells.now)) }
@@ -72,7 +72,7 @@ impl Piece {
         }
     }
 
-    /// The first piece from an address on, if there is one.
+    /// Returns the first piece from an address on, if there is one.
     pub fn next(cells: &[Option<u8>], from: u32) -> Option<Piece>
         requires size { length cells.now ≡ 65536 }
         requires inside { from ≤ 65536 }
@@ -86,7 +86,7 @@ impl Piece {
         None
     }
 
-    /// The address after the piece.
+    /// Returns the address after the piece.
     pub fn end(&self) -> u32
         ensures { result ≡ self.now.0 + length self.now.1 }
     {

@@ -12,17 +12,32 @@ use model::{TAPE_OUT_OF_MEMORY, TapeFault, TapeFaultKind};
 use std::alloc::Global;
 use std::marker::Model;
 
-/// The image that a text denotes: its data records' bytes, a later record winning (form of the records: KIM-1 manual; what may stand between them and what is refused: profile).
+/// Reads a tape: returns the image that a text denotes.
 ///
-/// The errors, of which the first from left to right is answered: `JunkBetween` at a byte where a record may begin that is neither `;` nor skipped ($00, CR, LF, $13); `BadHex` at a byte in a record that is no hex digit; `BadChecksum`, and where that is right `PastEnd` or `BadCount`, at the record's `;` when all its digits are read; `JunkAfterEnd` at a byte after the end record that is not skipped; and at the text's length `NoRecord` where no record began, `Truncated` where one did not end or the end record is missing. `OutOfMemory` at 0 where a request for memory was refused.
+/// If two data records have a byte for the same address, the later one counts.
+///
+/// Errors, of which the first from left to right is returned:
+///
+/// - `JunkBetween`, at a byte where a record may begin that is neither `;` nor skipped ($00, CR,
+///   LF, $13).
+/// - `BadHex`, at a byte in a record that is not a hex digit.
+/// - `BadChecksum`, otherwise `PastEnd` or `BadCount`, at the record's `;` when all its digits are
+///   read.
+/// - `JunkAfterEnd`, at a byte after the end record that is not skipped.
+/// - `NoRecord`, at the text's length, if no record began; `Truncated`, there too, if a record did
+///   not end or the end record is missing.
+/// - `OutOfMemory`, at 0, if an allocation fails.
+///
+/// Source: KIM-1 manual for the form of the records; mos65 for what may come between them and for
+/// the faults.
 pub fn read_tape(alloc: Global, text: &[u8]) -> Result<Image, TapeFault>
     // What is read is what the text denotes.
     ensures found { IfOk result (λ image. TapeDenotes text.now image) }
-    // What denotes an image is read, unless memory is refused.
+    // What denotes an image is read, unless memory runs out.
     ensures only { (cells : List (Option ℕ)) → TapeDenotes text.now cells → (result ≡ Ok cells) ⊎ (result ≡ Err out_of_memory) }
-    // Each refusal is the first fault, or that memory was refused.
+    // Each error is the text's first fault, or `OutOfMemory`.
     ensures fault { IfErr result (λ f. (f ≡ out_of_memory) ⊎ FirstFault text.now f.kind f.offset) }
-    // A text with a first fault is refused with it, unless memory is refused.
+    // A text with a first fault is rejected with it, unless memory runs out.
     ensures refused { (kind : TapeFaultKind) (offset : ℕ) → FirstFault text.now kind offset
         → (result ≡ Err (record { offset = offset; kind = kind })) ⊎ (result ≡ Err out_of_memory) }
 {
@@ -37,12 +52,13 @@ fn read_whole(alloc: Global, text: &[u8]) -> Result<Image, TapeFault>
     reader.finish()
 }
 
-/// How many bytes a tape that is read in pieces has at most (profile).
+/// The most bytes of a tape that is read in pieces. Source: mos65.
 const LONGEST: u64 = 4_294_967_295;
 
-/// Reads a tape that comes in pieces: `feed` takes each of them, and `finish` gives the image.
+/// Reads a tape that comes in pieces: `feed` takes each of them, and `finish` returns the image.
 ///
-/// Offsets count from the first byte that was fed. A reader that has refused a byte has failed: each later call answers the same fault. `feed` and `finish` take no memory.
+/// Offsets count from the first byte that was fed. A reader that has rejected a byte has failed:
+/// each later call returns the same fault. `feed` and `finish` do not allocate.
 #[derive(Drop)]
 pub struct TapeReader {
     reading: Reading,
@@ -61,9 +77,9 @@ impl Model for TapeReader {
 impl TapeReader {
     ghost use Rattle.papertape.specs.Feeding.{fed, fed_up_to, ended, said, unfed};
 
-    /// A reader that was fed nothing.
+    /// Makes a reader that was fed nothing.
     ///
-    /// The only error is `OutOfMemory`, at offset 0, where a request for memory was refused.
+    /// Errors: `OutOfMemory` at offset 0 if an allocation fails.
     pub fn new(alloc: Global) -> Result<TapeReader, TapeFault>
         ensures new { IfOk result (λ r. r ≡ unfed) }
         ensures refused { IfErr result (λ f. f ≡ out_of_memory) }
@@ -76,7 +92,7 @@ impl TapeReader {
         })
     }
 
-    /// Takes one byte, unless so many were taken already.
+    /// Takes one byte, unless `limit` bytes were taken already.
     fn take(&mut self, limit: u64, byte: u8)
         ensures { self.new ≡ fed_up_to limit self.old (byte ∷ []) }
     {
@@ -96,7 +112,7 @@ impl TapeReader {
         }
     }
 
-    /// Takes bytes one after another, so many in all.
+    /// Takes bytes one after another, up to `limit` in all.
     fn take_each(&mut self, limit: u64, bytes: &[u8])
         ensures { self.new ≡ fed_up_to limit self.old bytes.now }
     {
@@ -105,7 +121,9 @@ impl TapeReader {
         }
     }
 
-    /// Takes bytes at once where each of them may stand between records, no record is begun and no limit met; else none.
+    /// Skips bytes at once if all may be between records, no record is begun and no limit is met.
+    ///
+    /// Otherwise it takes none and returns false.
     fn skip(&mut self, limit: u64, bytes: &[u8]) -> bool
         ensures all { result ≡ true → self.new ≡ fed_up_to limit self.old bytes.now }
         ensures none { result ≡ false → self.new ≡ self.old }
@@ -123,7 +141,7 @@ impl TapeReader {
         true
     }
 
-    /// Takes bytes, so many in all.
+    /// Takes bytes, up to `limit` in all.
     fn take_up_to(&mut self, limit: u64, bytes: &[u8])
         ensures { self.new ≡ fed_up_to limit self.old bytes.now }
     {
@@ -134,11 +152,13 @@ impl TapeReader {
 
     /// Takes the next piece of the tape, which may be empty.
     ///
-    /// The errors are those of `read_tape` that the bytes fed so far tell, whatever may follow: each but `NoRecord` and `Truncated`. `TooLong` at offset 4,294,967,295 where that many bytes were fed without a fault, and one more. After an error the reader has failed.
+    /// Errors: those of `read_tape` that the bytes fed so far show, whatever may follow (all but
+    /// `NoRecord` and `Truncated`); `TooLong` at offset 4,294,967,295 if that many bytes were fed
+    /// without a fault, and one more. After an error the reader has failed.
     pub fn feed(&mut self, piece: &[u8]) -> Result<(), TapeFault>
-        // The piece is after what was fed.
+        // The piece comes after what was fed.
         ensures after { self.new ≡ fed self.old piece.now }
-        // The answer is the reader's fault, where it has one.
+        // The result is the reader's fault, if it has one.
         ensures answer { result ≡ said self.new }
     {
         self.take_up_to(LONGEST, piece);
@@ -148,9 +168,10 @@ impl TapeReader {
         }
     }
 
-    /// The image of the tape that was fed.
+    /// Returns the image of the tape that was fed.
     ///
-    /// The errors are those of `feed`, where it has failed, and `NoRecord` and `Truncated`, at the number of bytes fed.
+    /// Errors: those of `feed`, if the reader has failed; `NoRecord` and `Truncated`, at the number
+    /// of bytes fed.
     pub fn finish(self) -> Result<Image, TapeFault>
         ensures { ended self ≡ result }
     {

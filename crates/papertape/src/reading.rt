@@ -10,7 +10,7 @@ use bus::Image;
 use model::{TapeFault, TapeFaultKind};
 use std::marker::Model;
 
-/// Where a reader stands.
+/// Where in the tape a reader is.
 #[derive(Clone, Copy, Debug, PartialEq, Eq)]
 pub enum Place {
     /// Before or between records.
@@ -27,7 +27,7 @@ pub fn is_skipped(byte: u8) -> bool
     byte == 0 || byte == 13 || byte == 10 || byte == 19
 }
 
-/// Whether all of some bytes are skipped. Each is looked at, so that no branch depends on one.
+/// Returns whether all of some bytes are skipped. Looks at each, so that no branch depends on one.
 pub fn all_are_skipped(bytes: &[u8]) -> bool
     ensures { result ≡ list_all is_skipped bytes.now }
 {
@@ -64,7 +64,7 @@ impl Reading {
     ghost use Rattle.papertape.specs.Reading.{Gives, start, step, settled, with_digit, finished};
     ghost use Rattle.papertape.specs.declared.reading.Place.TheVariants.{Within};
 
-    /// Whether a record is begun and not ended.
+    /// Returns whether a record is begun and not ended.
     pub fn is_in_record(&self) -> bool
         ensures within { result ≡ true → self.now.place ≡ Within }
         ensures apart { result ≡ false → self.now.place ≢ Within }
@@ -128,7 +128,7 @@ impl Reading {
         self.settle(&claim)
     }
 
-    /// One byte of the tape, at an offset.
+    /// Takes one byte of the tape, at an offset.
     #[tactic(auto, unfolding(crate::specs::Reading::step))]
     pub fn take(&mut self, offset: u64, byte: u8) -> Result<(), TapeFault>
         ensures { Gives result self.new (step offset self.old byte) }

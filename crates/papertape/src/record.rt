@@ -29,7 +29,7 @@ fn push_word(out: &mut Vec<u8>, number: u16) -> Result<(), AllocError>
     push_byte(out, (number % 256) as u8)
 }
 
-/// The sum of bytes.
+/// Returns the sum of bytes.
 pub fn total(bytes: &[u8]) -> u32
     requires { length bytes.now ≤ 260 }
     ensures { result ≡ sum bytes.now }
@@ -37,7 +37,9 @@ pub fn total(bytes: &[u8]) -> u32
     bytes.iter().map(|byte| *byte as u32).sum()
 }
 
-/// Writes a record with its checksum, and CR LF (form: KIM-1 manual; capitals and the line's end: profile).
+/// Writes a record with its checksum, and CR LF.
+///
+/// Source: KIM-1 manual for the form; mos65 for capitals and the line's end.
 pub fn write_record(
     out: &mut Vec<u8>,
     count: u8,

@@ -17,7 +17,7 @@ use thiserror::Error;
 /// Why no image was read from a reader.
 #[derive(Clone, Copy, Debug, PartialEq, Eq, Error)]
 pub enum TapeReadFault {
-    /// The tape is refused with this fault, or memory ran out (`OutOfMemory` at 0).
+    /// The tape is rejected with this fault, or memory ran out (`OutOfMemory` at 0).
     #[error("{0}")]
     Tape(TapeFault),
     /// A read failed.
@@ -33,26 +33,28 @@ impl From<TapeFault> for TapeReadFault {
     }
 }
 
-/// The image of the tape that a reader tells, read in pieces of at most 4,096 bytes. How long the tape is makes no difference to
-/// the memory that is taken.
+/// Reads a tape from a reader, in pieces of at most 4,096 bytes.
+///
+/// The memory that it takes does not depend on the tape's length.
 ///
 /// # Errors
 ///
-/// - `Tape`: the tape is refused, with the fault that `TapeReader` answers for it (`TooLong` at offset 4,294,967,295 where it goes
-///   on after that many bytes without a fault): nothing is read after the piece that tells it. `OutOfMemory` at offset 0 where a
-///   request for memory was refused: nothing was read.
-/// - `Read`: a read failed, and what was read before tells no fault.
+/// - `Tape`: the tape is rejected with the fault that `TapeReader` returns for it (`TooLong` at
+///   offset 4,294,967,295 if it goes on after that many bytes without a fault). Nothing is read
+///   after the piece that shows the fault. `OutOfMemory` at offset 0 if an allocation fails:
+///   nothing was read.
+/// - `Read`: a read failed, and the bytes read before it show no fault.
 pub fn read_tape_from<T: Read>(alloc: Global, tape: &mut T) -> Result<Image, TapeReadFault>
-    // What was consumed: all for an image, and else as much as tells the fault.
+    // What was consumed: all for an image, otherwise as much as shows the fault.
     ensures reads { Reads (T.remaining tape.old) (T.remaining tape.new) result }
     // What is read is what the reader's bytes denote.
     ensures found { IfOk result (IsImageOf (T.remaining tape.old)) }
-    // What denotes an image is read, unless a read fails or memory is refused.
+    // What denotes an image is read, unless a read fails or memory runs out.
     ensures only { IfSome (T.remaining tape.old) (λ text. (cells : List (Option ℕ)) → IsReadInPieces text cells
         → (result ≡ Ok cells) ⊎ ((result ≡ Err ReadFailed) ⊎ (result ≡ Err (Tape out_of_memory)))) }
-    // Each refusal is the tape's fault, or that memory was refused.
+    // Each error is the tape's fault, or `OutOfMemory`.
     ensures fault { IfErr result (EndsReading (T.remaining tape.old)) }
-    // A tape with a fault is refused with it, unless a read fails or memory is refused.
+    // A tape with a fault is rejected with it, unless a read fails or memory runs out.
     ensures refused { IfSome (T.remaining tape.old) (λ text. (fault : TapeFault) → IsRefusedInPieces text fault
         → (result ≡ Err (Tape fault)) ⊎ ((result ≡ Err ReadFailed) ⊎ (result ≡ Err (Tape out_of_memory)))) }
 {

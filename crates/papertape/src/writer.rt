@@ -11,14 +11,19 @@ use bus::Image;
 use model::TapeFault;
 use std::alloc::Global;
 
-/// The text of an image: a data record for each piece of at most 24 bytes of its maximal runs, in rising order, then the end record, each with CR LF after it (form of the records: KIM-1 manual; the rest: profile).
-/// The only error is `OutOfMemory`, at offset 0, where a request for memory was refused.
+/// Writes the tape of an image.
+///
+/// It has a data record for each piece of at most 24 bytes of the image's maximal runs, in rising
+/// order, then the end record; CR LF comes after each.
+///
+/// Errors: `OutOfMemory` at offset 0 if an allocation fails. Source: KIM-1 manual for the form of
+/// the records; mos65 for the rest.
 pub fn write_tape(alloc: Global, image: &Image) -> Result<Vec<u8>, TapeFault>
     // What is written is the image's text.
     ensures text { IfOk result (λ t. t.items ≡ tape_text image.now) }
     // That text denotes the image.
     ensures denotes { IfOk result (λ t. TapeDenotes t.items image.now) }
-    // Nothing else is refused.
+    // There is no other error.
     ensures refused { IfErr result (λ f. f ≡ out_of_memory) }
 {
     let cells = image.cells();

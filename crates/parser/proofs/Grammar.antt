@@ -133,7 +133,8 @@ whole_of_sum inner (t ∷ ts) p h = go (is_symbol 60 t) (is_symbol 62 t) refl re
   go false true x y = absurd (no_such_sum inner 62 t ts p refl refl refl y h)
   go false false x y = rw (x, y) h
 
--- what the parser gives of a whole expression in front of rest: the sum in it, and more that follows
+-- what the parser gives of a whole expression in front of rest: the sum in it, and more that
+-- follows
 pub record FindsWhole (e : Term) (ts : List Lexeme) (rest : List Lexeme) : Type 0 where
   pub count : ℕ
   pub inside : Term

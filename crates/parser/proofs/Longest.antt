@@ -24,7 +24,8 @@ abbrev rest_or : List Lexeme → Read → List Lexeme
 rest_or other None = other
 rest_or other (Some p) = p.1
 
--- where a beginning is an expression, something is read, and no more is left than after that beginning
+-- where a beginning is an expression, something is read, and no more is left than after that
+-- beginning
 record Reaches (tokens more : List Lexeme) : Type 0 where
   pub term : Term
   pub rest : List Lexeme

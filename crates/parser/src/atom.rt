@@ -1,4 +1,4 @@
-//! What single tokens are in an expression.
+//! Single tokens as parts of an expression.
 
 ghost use Rattle.std.specs.Prelude.{◌≡◌, ℕ, ◌≤◌};
 ghost use Rattle.std.specs.Option.{option_map};
@@ -10,7 +10,7 @@ ghost use Rattle.line_parts.specs.Trees.{view};
 use line_parts::{Expr, Token};
 use model::{Operator, TokenKind};
 
-/// The byte of a token that is a symbol.
+/// Returns the byte of a token that is a symbol.
 pub fn symbol(token: &Token<'_>) -> Option<u8>
     ensures { result ≡ symbol_of (lexeme_of token.now) }
 {
@@ -24,7 +24,7 @@ pub fn symbol(token: &Token<'_>) -> Option<u8>
     }
 }
 
-/// The operator that a token is, if it is one.
+/// Returns the operator that a token is, if it is one.
 pub(crate) fn operator(token: &Token<'_>) -> Option<Operator>
     ensures { result ≡ operator_of (lexeme_of token.now) }
 {
@@ -40,7 +40,7 @@ pub(crate) fn operator(token: &Token<'_>) -> Option<Operator>
     }
 }
 
-/// What a digit stands for, in either letter case, and 0 for any other byte.
+/// Returns the value of a digit, in either letter case; 0 for any other byte.
 fn digit(byte: u8) -> u8
     ensures { result ≡ digit_value byte }
 {
@@ -52,7 +52,7 @@ fn digit(byte: u8) -> u8
     }
 }
 
-/// The number that digits write, where it is at most 2^31 - 1.
+/// Returns the number that digits write, if it is at most 2^31 - 1.
 #[tactic(auto, using(crate::proofs::Literals::capped_end))]
 fn number_in(base: u8, digits: &[u8]) -> Option<i32>
     requires { 1 ≤ base }
@@ -69,7 +69,7 @@ fn number_in(base: u8, digits: &[u8]) -> Option<i32>
     Some(number as i32)
 }
 
-/// The number that a number's text writes, where it is at most 2^31 - 1.
+/// Returns the number that a number's text writes, if it is at most 2^31 - 1.
 fn number(text: &[u8]) -> Option<i32>
     ensures { result ≡ in_range (number_of_text text.now) }
 {
@@ -81,7 +81,7 @@ fn number(text: &[u8]) -> Option<i32>
     }
 }
 
-/// What a token is as an expression by itself, if it is one.
+/// Returns the expression that a token is by itself, if it is one.
 pub(crate) fn atom<'a>(token: &Token<'a>) -> Option<Expr<'a>>
     ensures { option_map view result ≡ atom_of (lexeme_of token.now) }
 {

@@ -3,13 +3,16 @@
 ghost use Rattle.model.specs.Expression.{OneExpression};
 ghost use Rattle.model.specs.Reading.{ReadsLongest};
 
-/// What is read is the longest beginning that is an expression by the grammar, and where nothing is read, no beginning is one.
-/// A law for proofs: it does nothing.
+/// States that `parse_expr` reads the longest beginning that is an expression by the grammar.
+///
+/// If it reads nothing, no beginning is one. A law for proofs: the call does nothing.
 pub fn expressions_are_longest()
     ensures { ReadsLongest }
 {}
 
-/// No tokens are two expressions by the grammar. A law for proofs: it does nothing.
+/// States that no tokens are two expressions by the grammar.
+///
+/// A law for proofs: the call does nothing.
 pub fn one_expression()
     ensures { OneExpression }
 {}

@@ -1,7 +1,8 @@
 //! Expressions from the tokens of source lines.
 //!
-//! `parse_expr` finds the longest expression at the front of some tokens. That what is found is the grammar's is shown in both
-//! directions in `proofs/Derived.antt` and `proofs/Grammar.antt`, that it is the longest in `proofs/Longest.antt`.
+//! `parse_expr` finds the longest expression at the front of some tokens. `proofs/Derived.antt` and
+//! `proofs/Grammar.antt` show in both directions that what is found is the grammar's;
+//! `proofs/Longest.antt` shows that it is the longest.
 #![tactic(auto)]
 
 mod atom;

@@ -175,9 +175,10 @@ fn whole<'a, 't>(
     }
 }
 
-/// The longest beginning of some tokens that is an expression, and its number of tokens.
-/// `Syntax`: no beginning is an expression. `OutOfMemory`: a request for memory was refused.
-/// Source: profile.
+/// Returns the longest beginning of some tokens that is an expression, and its number of tokens.
+///
+/// Errors: `Syntax` if no beginning is an expression; `OutOfMemory` if an allocation fails. Source:
+/// mos65.
 #[tactic(auto, using(crate::proofs::Whole::rest_within, crate::proofs::Whole::rest_dropped))]
 pub fn parse_expr<'a>(alloc: Global, tokens: &[Token<'a>]) -> Result<(Expr<'a>, usize), LineFault>
     // What is read, and the tokens left after it.

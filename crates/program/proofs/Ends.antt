@@ -93,7 +93,7 @@ abbrev image_in : Image → ReadAnswer → Image
 image_in d (Ok image) = image
 image_in d (Err f) = d
 
--- the answer is this one, unless a read failed or memory was refused
+-- the answer is this one, unless a read failed or memory ran out
 abbrev Is : {X : Type 0} → Result X TapeReadFault → Result X TapeReadFault → Type 0
 Is answer wanted = (answer ≡ wanted) ⊎ ((answer ≡ Err tape_read_fault.Read) ⊎ (answer ≡ Err (tape_read_fault.Tape tape_out_of_memory)))
 
@@ -223,7 +223,8 @@ served_of m h i l e n A D (Err (engine_fault.Source f)) o serves reaches same = 
 served_of m h i l e n A D (Err (engine_fault.Tape f)) o serves reaches same = subst (λ r. IsServed m h i l e n r A) (sym same) reaches
 served_of m h i l e n A D (Err (engine_fault.Session f)) o serves reaches same = subst (λ r. IsServed m h i l e n r A) (sym same) reaches
 
--- The same for a tape that the engine reads itself, where a read that failed may be one of the tape.
+-- The same for a tape that the engine reads itself, where a read that failed may be one of the
+-- tape.
 pub served_from : (map : Map) (history : ℕ) (input left held now : Option (List ℕ)) (Alone : Type 0) (Denoted : List (Option ℕ) → Type 0)
     (answer : Result (Unit {0}) EngineFault) (outcome : Result (Unit {0}) Refusal)
     → ReachesFrom answer ((image : List (Option ℕ)) × Denoted image × Serves (fresh history (start map image)) input left held now answer) Alone

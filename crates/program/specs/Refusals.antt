@@ -1,4 +1,4 @@
--- Which refusal the program answers where a part of it is refused.
+-- Which refusal the program returns if a part of it fails.
 use Rattle.std.specs.Prelude.{◌≡◌, ⊤, ℕ, Bool, true, false, List, Option}
 use Rattle.bus.specs.declared.map_spec.MapSpec.{MapSpec}
 use Rattle.model.specs.State.{has_port_byte, is_map}
@@ -11,7 +11,8 @@ use Rattle.engine.specs.declared.fault.EngineFault.TheVariants as engine_fault
 use Rattle.program.specs.declared.refusal.Refusal.{Refusal}
 use Rattle.program.specs.declared.refusal.Refusal.TheVariants.{Words, Map, Source, Tape, Session, OutOfMemory, Read, Write}
 
--- What the engine's fault is answered as. A part's own fault is first the engine's, so that want of memory in any part is one.
+-- The refusal of an engine's fault. A part's own fault is first the engine's, so that running out
+-- of memory in any part is one fault.
 abbrev pub of_engine : EngineFault → Refusal
 of_engine (engine_fault.Source fault) = Source fault
 of_engine (engine_fault.Tape fault) = Tape fault
@@ -20,8 +21,8 @@ of_engine engine_fault.Read = Read
 of_engine engine_fault.Write = Write
 of_engine engine_fault.OutOfMemory = OutOfMemory
 
--- Why `asm` may end without a tape: the port makes no map, or a source has this fault on it. No clause can say whether memory is
--- there or what a file does.
+-- Why `asm` may end without a tape: the port does not make a map, or a source has this fault on it.
+-- No clause can say whether memory is there or what a file does.
 abbrev pub EndsAsm : MapSpec → Refusal → Type 0
 EndsAsm map Words = ⊥
 EndsAsm map (Map fault) = (fault ≡ BadMap) × (is_map map.rom map.port ≡ false)
@@ -32,7 +33,8 @@ EndsAsm map OutOfMemory = ⊤
 EndsAsm map Read = ⊤
 EndsAsm map Write = ⊤
 
--- Why `debug` may end early: the ROM and the port make no map; a source has this fault on it; a tape has this fault, or a byte at the port.
+-- Why `debug` may end early: the ROM and the port do not make a map; a source has this fault on it;
+-- a tape has this fault, or a byte at the port.
 abbrev pub EndsDebug : Bool → MapSpec → Refusal → Type 0
 EndsDebug is_tape map Words = ⊥
 EndsDebug is_tape map (Map fault) = (fault ≡ BadMap) × (is_map map.rom map.port ≡ false)

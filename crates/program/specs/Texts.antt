@@ -3,7 +3,7 @@ use Rattle.std.specs.Prelude.{⊤, ℕ, Bool, true, false, List, Option, Some, N
 use Rattle.model.specs.Listing.{IsListing}
 use Rattle.model.specs.State.{Map}
 
--- A listing is there where one is asked for, and is then that of the source; where none is asked for there is none.
+-- There is a listing if one is asked for, and it is that of the source; otherwise there is none.
 abbrev pub IsAsked : Map → List ℕ → Bool → Option (List ℕ) → Type 0
 IsAsked map source true (Some text) = IsListing map source text
 IsAsked map source true None = ⊥

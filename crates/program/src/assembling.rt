@@ -24,11 +24,11 @@ use std::rt::Files;
 use std::{fs, io};
 use words::AsmWords;
 
-/// One byte more than the longest source, so that a longer file is refused for its size without
+/// One byte more than the longest source, so that a longer file is rejected for its size without
 /// being read to its end.
 const MOST_READ: u64 = 1_048_577;
 
-/// The bytes of a source's file, or the first of them where it is too long for a source.
+/// Returns the bytes of a source's file, or the first of them if it is too long for a source.
 pub fn read_source<H: Files + AllocGlobal>(rt: &H, path: &str) -> io::Result<Vec<u8>> {
     let mut source = Vec::new(rt.alloc());
     File::open(rt, path)?
@@ -42,11 +42,13 @@ pub fn read_source<H: Files + AllocGlobal>(rt: &H, path: &str) -> io::Result<Vec
 pub struct AsmTexts {
     /// The text of the tape.
     pub tape: Vec<u8>,
-    /// The listing, where one is asked for.
+    /// The listing, if one is asked for.
     pub listing: Option<Vec<u8>>,
 }
 
-/// The texts of an assembly, with its listing where that is asked for. The only error is `OutOfMemory` with line 0.
+/// Returns the texts of an assembly, with its listing if that is asked for.
+///
+/// Errors: `OutOfMemory` with line 0 if an allocation fails.
 fn texts_of(alloc: Global, assembly: &Assembly, is_listed: bool) -> Result<AsmTexts, AsmFault>
     ensures tape { IfOk result (λ t. t.tape.items ≡ tape_text assembly.now.image) }
     ensures listing { IfOk result (λ t. option_map (λ l. l.items) t.listing ≡ (if is_listed then Some (listing_of assembly.now) else None)) }
@@ -66,12 +68,13 @@ fn texts_of(alloc: Global, assembly: &Assembly, is_listed: bool) -> Result<AsmTe
     }
 }
 
-/// What `mos65 asm` writes of a source on a map: the text of the tape of the image that it denotes, and its listing where that is
-/// asked for.
+/// Assembles a source on a map, and returns the texts that `mos65 asm` writes.
+///
+/// They are the text of the image's tape, and the listing if it is asked for.
 ///
 /// # Errors
 ///
-/// The source's own fault with its line, or `OutOfMemory` at line 0.
+/// The source's own fault with its line, or `OutOfMemory` with line 0 if an allocation fails.
 pub fn asm_texts(
     alloc: Global,
     source: &[u8],
@@ -80,17 +83,18 @@ pub fn asm_texts(
 ) -> Result<AsmTexts, AsmFault>
     // The tape is that of an image that the source denotes.
     ensures denoted { IfOk result (λ t. (image : List (Option ℕ)) × Denotes map.now source.now image × (t.tape.items ≡ tape_text image)) }
-    // A source that denotes an image has its tape, memory aside.
+    // A source that denotes an image has its tape, unless memory runs out.
     ensures only { (image : List (Option ℕ)) → Denotes map.now source.now image → MatchResult result (λ t. t.tape.items ≡ tape_text image) (λ f. f ≡ out_of_memory) }
-    // The listing is that of the source where one is asked for, and else there is none.
+    // The listing is that of the source if one is asked for; otherwise there is none.
     ensures listed { IfOk result (λ t. IsAsked map.now source.now is_listed (option_map (λ l. l.items) t.listing)) }
     // No other text is a listing of the source.
     ensures only_listing { IfOk result (λ t. IfSome t.listing (λ l. (other : List ℕ) → IsListing map.now source.now other → l.items ≡ other)) }
-    // A source with a fault is refused with it, memory aside, and no other is.
+    // A source with a fault is rejected with it, unless memory runs out, and no other is.
     ensures faulty { (f : AsmFault) → HasFault map.now source.now f → (result ≡ Err f) ⊎ (result ≡ Err out_of_memory) }
     ensures refused { IfErr result (λ f. (f ≡ out_of_memory) ⊎ HasFault map.now source.now f) }
 {
-    // For the proof: a source has one image, and one address for each line and number for each name.
+    // For the proof: a source has one image, and one address for each line and number for each
+    // name.
     each_source_has_one_meaning();
     one_assignment();
     let assembly = assemble(alloc, source, map)?;
@@ -103,14 +107,14 @@ pub fn asm_texts(
     }
 }
 
-/// Writes a text to a file of that name. One that stands there is replaced.
+/// Writes a text to a file of that name. A file that is there is replaced.
 fn write_file<H: Files>(rt: &H, file: &str, text: &[u8]) -> Result<(), Refusal>
     ensures only { IfErr result (λ e. (e ≡ Refusal.OutOfMemory) ⊎ (e ≡ Refusal.Write)) }
 {
     fs::write(rt, file, text).map_err(|error| Refusal::unwritable(&error))
 }
 
-/// Writes the tape's file, and then the listing's where there is a listing.
+/// Writes the tape's file, and then the listing's if there is a listing.
 fn write_texts<H: Files>(rt: &H, words: &AsmWords<'_>, texts: &AsmTexts) -> Result<(), Refusal>
     ensures only { IfErr result (λ e. (e ≡ Refusal.OutOfMemory) ⊎ (e ≡ Refusal.Write)) }
 {
@@ -121,7 +125,9 @@ fn write_texts<H: Files>(rt: &H, words: &AsmWords<'_>, texts: &AsmTexts) -> Resu
     }
 }
 
-/// Assembles a file and writes its tape and, where it is asked for, its listing. Both texts are whole before a file is made.
+/// Assembles a file and writes its tape and, if it is asked for, its listing.
+///
+/// Both texts are whole before a file is made.
 pub fn asm<H: Files + AllocGlobal>(rt: &H, words: &AsmWords<'_>) -> Result<(), Refusal>
     ensures bad_map { is_map None words.now.port ≡ false → result ≡ Err (Refusal.Map BadMap) }
     ensures refused { IfErr result (EndsAsm (record { profile = words.now.profile; rom = None; port = words.now.port })) }

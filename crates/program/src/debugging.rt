@@ -15,8 +15,9 @@ use std::io::{Read, Write};
 use std::rt::Files;
 use words::DebugWords;
 
-/// Debugs a source or a tape: the replies to the lines of `input` go to `output`. A tape is read in pieces, so that a long one
-/// takes no more memory than a short one.
+/// Debugs a source or a tape: the replies to the lines of `input` go to `output`.
+///
+/// A tape is read in pieces, so that a long one takes no more memory than a short one.
 pub fn debug<H: Files + AllocGlobal, R: Read, O: Write>(
     rt: &H,
     words: &DebugWords<'_>,
@@ -25,7 +26,7 @@ pub fn debug<H: Files + AllocGlobal, R: Read, O: Write>(
 ) -> Result<(), Refusal>
     ensures bad_map { is_map words.now.rom words.now.port ≡ false → result ≡ Err (Refusal.Map BadMap) }
     ensures refused { IfErr result (EndsDebug words.now.is_tape (record { profile = words.now.profile; rom = words.now.rom; port = words.now.port })) }
-    // A session on some image and the map of the words was served, or none stood.
+    // A session on some image and the map of the words was served, or none began.
     ensures served { IsServed (record { profile = words.now.profile; rom = words.now.rom; port = words.now.port }) words.now.history
         (R.remaining input.old) (R.remaining input.new) (O.contents output.old) (O.contents output.new) result ((input.new ≡ input.old) × (output.new ≡ output.old)) }
 {
@@ -41,8 +42,10 @@ pub fn debug<H: Files + AllocGlobal, R: Read, O: Write>(
     }
 }
 
-/// A file opened to be read while the standard input is. Where that is closed, a file takes its number and would be read in its
-/// place: an empty one takes it first, and is closed again.
+/// Opens a file to be read while the standard input is.
+///
+/// If the standard input is closed, a file would take its number and be read in its place. So an
+/// empty file takes the number first, and is closed again.
 fn opened<H: Files>(rt: &H, path: &str) -> io::Result<H::File> {
     let empty = File::open(rt, "/dev/null");
     let file = File::open(rt, path);
@@ -50,7 +53,7 @@ fn opened<H: Files>(rt: &H, path: &str) -> io::Result<H::File> {
     file
 }
 
-/// What the engine answered, as the program's own answer.
+/// Returns the engine's result as the program's own.
 fn answered(answer: Result<(), EngineFault>) -> Result<(), Refusal>
     ensures { MatchResult answer (λ _. result ≡ Ok tt) (λ fault. result ≡ Err (of_engine fault)) }
 {

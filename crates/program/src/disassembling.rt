@@ -22,13 +22,16 @@ use std::io::{Read, Write};
 use std::rt::Files;
 use words::DisWords;
 
-/// The rows in a profile of the image of the tape that a reader tells, as long as they begin at or below a last address: what `mos65 dis`
-/// writes. Bytes that are not on the tape are 0. The tape is read in pieces, so that a long one takes no more memory than a short
-/// one.
+/// Reads a tape from a reader, and returns the text that `mos65 dis` writes.
+///
+/// It has the rows of the tape's image in a profile that begin between two addresses, both
+/// included. Bytes that are not on the tape are 0. The tape is read in pieces, so that a long one
+/// takes no more memory than a short one.
 ///
 /// # Errors
 ///
-/// Those of `read_tape_from`: `Tape` with the tape's own fault, or with `OutOfMemory` at offset 0, and `Read` where a read failed.
+/// Those of `read_tape_from`: `Tape` with the tape's own fault, or with
+/// `OutOfMemory` at offset 0; `Read` if a read failed.
 pub fn dis_text<T: Read>(
     alloc: Global,
     profile: Profile,
@@ -38,10 +41,11 @@ pub fn dis_text<T: Read>(
 ) -> Result<Vec<u8>, TapeReadFault>
     // The text is that of an image that the tape denotes.
     ensures denoted { IfOk result (λ text. (image : List (Option ℕ)) × IsImageOf (T.remaining tape.old) image × (text.items ≡ rows_in profile (memory_of image) last first 65536)) }
-    // A tape that denotes an image has its text, unless a read of it fails or memory is refused.
+    // A tape that denotes an image has its text, unless a read of it fails or memory runs out.
     ensures only { IfSome (T.remaining tape.old) (λ told. (image : List (Option ℕ)) → IsReadInPieces told image
         → MatchResult result (λ text. text.items ≡ rows_in profile (memory_of image) last first 65536) (λ f. (f ≡ ReadFailed) ⊎ (f ≡ Tape out_of_memory))) }
-    // A tape with a fault is refused with it, unless a read of it fails or memory is refused, and no other is.
+    // A tape with a fault is rejected with it, unless a read of it fails or memory runs out; no
+    // other is.
     ensures faulty { IfSome (T.remaining tape.old) (λ told. (fault : TapeFault) → IsRefusedInPieces told fault
         → (result ≡ Err (Tape fault)) ⊎ ((result ≡ Err ReadFailed) ⊎ (result ≡ Err (Tape out_of_memory)))) }
     ensures refused { IfErr result (EndsReading (T.remaining tape.old)) }
@@ -67,7 +71,9 @@ fn written<O: Write>(output: &mut O, text: &[u8]) -> Result<(), Refusal>
     }
 }
 
-/// Lists what a tape has between two addresses. The text is whole, and the tape's file closed, before any of it is written.
+/// Lists what a tape has between two addresses.
+///
+/// The text is whole, and the tape's file closed, before any of it is written.
 pub fn dis<H: Files + AllocGlobal, O: Write>(
     rt: &H,
     words: &DisWords<'_>,

@@ -6,11 +6,11 @@ ghost use Rattle.model.specs.declared.bus_fault.BusFault.TheVariants.{BadMap};
 use bus::MapSpec;
 use model::{BusFault, Profile};
 
-/// The map of a profile with this port and, if wanted, this ROM.
+/// Returns the map of a profile with this port and, if there is one, this ROM.
 ///
 /// # Errors
 ///
-/// `BadMap`: the port and the ROM make no map.
+/// `BadMap`: the port and the ROM do not make a map.
 pub fn map_of(profile: Profile, rom: Option<(u16, u16)>, port: u16) -> Result<MapSpec, BusFault>
     ensures map { IfOk result (λ map. map ≡ record { profile = profile; rom = rom; port = port }) }
     ensures bad { IsErr result ↔ (is_map rom port ≡ false) }

@@ -1,4 +1,4 @@
-//! Refusals, and what each part's fault is answered as.
+//! Refusals, and how each part's fault becomes one.
 ghost use Rattle.std.specs.Prelude.{◌≡◌};
 ghost use Rattle.std.specs.IoError.{error_kind};
 ghost use Rattle.engine.specs.Refusals.{of_source, of_tape_read};
@@ -12,14 +12,15 @@ use std::io;
 use std::io::ErrorKind;
 use thiserror::Error;
 
-/// Why the program ends without having done what it was asked for. Each but `OutOfMemory`, `Read` and
-/// `Write` is found before anything is written.
+/// Why the program ends without having done what it was asked for.
+///
+/// Each but `OutOfMemory`, `Read` and `Write` is found before anything is written.
 #[derive(Clone, Copy, Debug, PartialEq, Eq, Error)]
 pub enum Refusal {
-    /// A word is none that the program takes.
+    /// The program does not take one of the words.
     #[error("WORDS")]
     Words,
-    /// The port and the ROM make no map.
+    /// The port and the ROM do not make a map.
     #[error("MAP {0}")]
     Map(BusFault),
     /// The source has a fault.
@@ -28,7 +29,7 @@ pub enum Refusal {
     /// The tape has a fault.
     #[error("TAPE {0}")]
     Tape(TapeFault),
-    /// The image has bytes at the port's addresses, as only a tape can bring it.
+    /// The image has bytes at the port's addresses. Only a tape can have them.
     #[error("TAPE {0}")]
     Session(SessionFault),
     /// Memory ran out.
@@ -45,8 +46,10 @@ pub enum Refusal {
 impl Refusal {
     ghost use Rattle.program.specs.Statuses.{status_of};
 
-    /// The exit status: 1 for a source or tape, 2 for the words or the map, 3 for memory, 4 for
-    /// reading and writing.
+    /// Returns the exit status.
+    ///
+    /// It is 1 for a source or tape, 2 for the words or the map, 3 for memory, 4 for reading and
+    /// writing.
     pub fn status(&self) -> u8
         ensures { result ≡ status_of self.now }
     {
@@ -58,7 +61,7 @@ impl Refusal {
         }
     }
 
-    /// Why a file could not be read.
+    /// Returns why a file could not be read.
     pub fn unreadable(error: &io::Error) -> Refusal
         ensures memory { error_kind error.now ≡ ErrorKind.OutOfMemory → result ≡ Refusal.OutOfMemory }
         ensures other { ¬ (error_kind error.now ≡ ErrorKind.OutOfMemory) → result ≡ Refusal.Read }
@@ -69,7 +72,7 @@ impl Refusal {
         }
     }
 
-    /// Why a file could not be written.
+    /// Returns why a file could not be written.
     pub fn unwritable(error: &io::Error) -> Refusal
         ensures memory { error_kind error.now ≡ ErrorKind.OutOfMemory → result ≡ Refusal.OutOfMemory }
         ensures other { ¬ (error_kind error.now ≡ ErrorKind.OutOfMemory) → result ≡ Refusal.Write }

@@ -24,7 +24,7 @@ use std::io::{ErrorKind, Read, Write};
 use std::rt::Files;
 use words::{Words, WordsFault, read_words};
 
-/// Writes the fault line, and gives the exit status, also where it cannot be written.
+/// Writes the fault line, and returns the exit status, even if the line cannot be written.
 fn refused<E: Write>(refusal: Refusal, errors: &mut E) -> u8
     ensures { result ≡ status_of refusal }
 {
@@ -32,7 +32,7 @@ fn refused<E: Write>(refusal: Refusal, errors: &mut E) -> u8
     refusal.status()
 }
 
-/// The exit status of what was tried, 0 where it is done; a refusal is said by a fault line.
+/// Returns the exit status of what was tried: 0 if it is done; otherwise a fault line is written.
 fn ended<E: Write>(outcome: Result<(), Refusal>, errors: &mut E) -> u8
     ensures status { MatchResult outcome (λ _. result ≡ 0) (λ refusal. result ≡ status_of refusal) }
     ensures quiet { result ≡ 0 → errors.new ≡ errors.old }
@@ -43,7 +43,7 @@ fn ended<E: Write>(outcome: Result<(), Refusal>, errors: &mut E) -> u8
     }
 }
 
-/// Says why words are refused, or gives the help that they ask for, and gives the exit status.
+/// Writes why words are rejected, or the help that they ask for, and returns the exit status.
 fn refused_words<O: Write, E: Write>(fault: WordsFault, output: &mut O, errors: &mut E) -> u8
     ensures status { IsStatusOf fault result }
     ensures untouched { 1 ≤ result → result ≤ 3 → output.new ≡ output.old }
@@ -63,8 +63,9 @@ fn refused_words<O: Write, E: Write>(fault: WordsFault, output: &mut O, errors: 
     }
 }
 
-/// Says why the process's words could not be collected, and gives the exit status: 3 where memory
-/// ran out, and else 2.
+/// Writes why the process's words could not be collected, and returns the exit status.
+///
+/// It is 3 if memory ran out, otherwise 2.
 pub fn unreadable_words<E: Write>(error: &io::Error, errors: &mut E) -> u8
     ensures memory { error_kind error.now ≡ ErrorKind.OutOfMemory → result ≡ 3 }
     ensures other { ¬ (error_kind error.now ≡ ErrorKind.OutOfMemory) → result ≡ 2 }
@@ -75,12 +76,18 @@ pub fn unreadable_words<E: Write>(error: &io::Error, errors: &mut E) -> u8
     }
 }
 
-/// Does what the words ask for, the program's own name left out, and gives the exit status: 0 where
-/// it is done, 1 where the source or the tape is refused, 2 where the words or the map are wrong, 3
-/// where memory ran out, 4 where reading or writing failed. For each but 0 a line on `errors` says
-/// why; that it cannot be written changes no status. Faults are found in this order: words, map, a
-/// file to read, its content, a file to write. `asm` makes the whole texts of the tape and
-/// of the listing before it makes the tape's file, and then the listing's.
+/// Does what the words ask for, without the program's own name, and returns the exit status.
+///
+/// - 0: it is done.
+/// - 1: the source or the tape is rejected.
+/// - 2: the words or the map are wrong.
+/// - 3: memory ran out.
+/// - 4: reading or writing failed.
+///
+/// For each but 0 a line on `errors` says why; the status is the same if that line cannot be
+/// written. Faults are found in this order: words, map, a file to read, its content, a file to
+/// write. `asm` makes the whole texts of the tape and of the listing before it makes the tape's
+/// file, and then the listing's.
 pub fn program<H: Files + AllocGlobal, R: Read, O: Write, E: Write>(
     rt: &H,
     words: &[&str],
@@ -89,33 +96,37 @@ pub fn program<H: Files + AllocGlobal, R: Read, O: Write, E: Write>(
     errors: &mut E,
 ) -> u8
     ensures status { result ≤ 4 }
-    // Where it is done nothing is said on the error stream.
+    // If it is done, nothing is written on the error stream.
     ensures quiet { result ≡ 0 → errors.new ≡ errors.old }
-    // A source, a tape, words or a map that are refused leave the input and the output as they were.
+    // A source, a tape, words or a map that are rejected leave the input and the output unchanged.
     ensures untouched { 1 ≤ result → result ≤ 2 → (input.new ≡ input.old) × (output.new ≡ output.old) }
-    // So do words that fit nothing, or one of whose values is wrong, where memory runs out too.
+    // So do words that fit nothing, or one of whose values is wrong, also if memory runs out.
     ensures untaken { ¬ IsTaken (map (λ s. s.now) words.entry.now) → 1 ≤ result → result ≤ 3 → (input.new ≡ input.old) × (output.new ≡ output.old) }
     ensures unasked { asked (map (λ s. s.now) words.entry.now) ≡ None → 1 ≤ result → result ≤ 3 → (input.new ≡ input.old) × (output.new ≡ output.old) }
-    // Words that fit nothing have the status 2, memory aside, where help is not asked for; help that is asked for has 0 where it was written.
+    // Words that fit nothing have the status 2, unless they ask for help or memory runs out; help
+    // that is asked for has 0 if it was written.
     ensures usage { ¬ IsTaken (map (λ s. s.now) words.entry.now) → ¬ IsAmong DisplayHelp (fault_of mos65 (map (λ s. s.now) words.entry.now)) → (result ≡ 2) ⊎ (result ≡ 3) }
     ensures help { fault_of mos65 (map (λ s. s.now) words.entry.now) ≡ DisplayHelp ∷ [] → (result ≡ 0) ⊎ (result ≡ 3) ⊎ (result ≡ 4) }
-    // A wrong value has the status 2, memory aside.
+    // A wrong value has the status 2, unless memory runs out.
     ensures value { IsTaken (map (λ s. s.now) words.entry.now) → asked (map (λ s. s.now) words.entry.now) ≡ None → (result ≡ 2) ⊎ (result ≡ 3) }
     // So has a wrong map, whatever the file and the profile.
     ensures asm_map { (a : AsmAsked) → asked (map (λ s. s.now) words.entry.now) ≡ Some (asm a) → IsTaken (map (λ s. s.now) words.entry.now) → is_map None a.port ≡ false → (result ≡ 2) ⊎ (result ≡ 3) }
     ensures debug_map { (d : DebugAsked) → asked (map (λ s. s.now) words.entry.now) ≡ Some (debug d) → IsTaken (map (λ s. s.now) words.entry.now) → is_map d.rom d.port ≡ false → (result ≡ 2) ⊎ (result ≡ 3) }
-    // Where the words and the map are right, the status is another one.
+    // If the words and the map are right, the status is another one.
     ensures asm_right { (a : AsmAsked) → asked (map (λ s. s.now) words.entry.now) ≡ Some (asm a) → IsTaken (map (λ s. s.now) words.entry.now) → is_map None a.port ≡ true → ¬ (result ≡ 2) }
     ensures debug_right { (d : DebugAsked) → asked (map (λ s. s.now) words.entry.now) ≡ Some (debug d) → IsTaken (map (λ s. s.now) words.entry.now) → is_map d.rom d.port ≡ true → ¬ (result ≡ 2) }
-    // `asm` leaves the input and the output as they were, whatever comes of it.
+    // `asm` leaves the input and the output unchanged, however it ends.
     ensures asm_alone { (a : AsmAsked) → asked (map (λ s. s.now) words.entry.now) ≡ Some (asm a) → IsTaken (map (λ s. s.now) words.entry.now) → (input.new ≡ input.old) × (output.new ≡ output.old) }
-    // `dis` leaves the input as it was, and wrote the rows of some image, or a beginning of them, or nothing, as the status says.
+    // `dis` leaves the input unchanged, and wrote the rows of some image, a beginning of them, or
+    // nothing, as the status says.
     ensures listed { (d : DisAsked) → asked (map (λ s. s.now) words.entry.now) ≡ Some (dis d) → IsTaken (map (λ s. s.now) words.entry.now) → (outcome : Result ⊤ Refusal) × IsStatus outcome result
         × (input.new ≡ input.old) × IsListed d.profile d.first d.last (O.contents output.old) (O.contents output.new) outcome (output.new ≡ output.old) }
-    // `debug` served a session, to its end or to a failure that the status says, or left both as they were.
+    // `debug` served a session, to its end or to a failure that the status says, or left both
+    // unchanged.
     ensures debugged { (d : DebugAsked) → asked (map (λ s. s.now) words.entry.now) ≡ Some (debug d) → IsTaken (map (λ s. s.now) words.entry.now) → (outcome : Result ⊤ Refusal) × IsStatus outcome result
         × IsServed (record { profile = d.profile; rom = d.rom; port = d.port }) d.history (R.remaining input.old) (R.remaining input.new) (O.contents output.old) (O.contents output.new) outcome ((input.new ≡ input.old) × (output.new ≡ output.old)) }
-    // Where a session has ended, the output has the transcript of the input, from some image on the map of the words.
+    // If a session has ended, the output has the transcript of the input, from some image on the
+    // map of the words.
     ensures served { result ≡ 0 → (d : DebugAsked) → asked (map (λ s. s.now) words.entry.now) ≡ Some (debug d) → IsTaken (map (λ s. s.now) words.entry.now) → (image : List (Option ℕ)) × IfSome (R.remaining input.old) (λ given.
         Appends (O.contents output.old) (O.contents output.new) (transcript (fresh d.history (start (record { profile = d.profile; rom = d.rom; port = d.port }) image)) given).written) }
 {

@@ -1,4 +1,5 @@
-//! The program between streams that fail, and what it leaves to `clap`. Its files, fault lines and statuses stand in `tests/program.md`.
+//! The program between streams that fail, and what it leaves to
+//! `clap`. Its files, fault lines and statuses stand in `tests/program.md`.
 
 use program::program;
 use std::alloc::Global;
@@ -7,7 +8,8 @@ use std::io::{Read, Write};
 use std::process::Abort;
 use std::test::Fail;
 
-/// Tells a command line and takes bytes; or each call fails. There is one kind of stream, so that the program is built for it once.
+/// Tells a command line and takes bytes; or each call fails. There is one kind of stream, so that
+/// the program is built for it once.
 #[derive(Drop)]
 struct Stream {
     given: &'static [u8],
@@ -64,8 +66,8 @@ struct Ran {
     errors: Vec<u8>,
 }
 
-/// Runs the program with these words; `broken` says which of input, output and errors are. No contract: what a test does not compare it
-/// need not prove over.
+/// Runs the program with these words; `broken` says which of input, output and errors are. No
+/// contract: what a test does not compare it need not prove over.
 fn run(rt: &HostRuntime, words: &[&str], broken: [bool; 3]) -> Ran {
     let [input, output, errors] = broken;
     let mut input = Stream::new(rt.alloc(), input);
@@ -88,7 +90,8 @@ fn assert_ran(rt: &impl Abort, ran: &Ran, status: u8, output: &[u8], errors: &[u
 
 const REGISTERS: &[u8] = b"A=00 X=00 Y=00 S=FD P=24 PC=0000 CYC=7\n";
 
-/// The words, which of input, output and errors are broken, the status, and what is written to both outputs.
+/// The words, which of input, output and errors are broken, the status, and what is written to both
+/// outputs.
 type Row = (
     &'static [&'static str],
     [bool; 3],

@@ -1,4 +1,4 @@
-//! Calls of the session that are no events, and the replies to them.
+//! Calls of the session that are not events, and the replies to them.
 
 ghost use Rattle.std.specs.Prelude.{◌≡◌, ◌≢◌, IsErrOf, IsOk, OnErr, Ok, Err};
 ghost use Rattle.model.specs.Written.{Writes};
@@ -14,7 +14,7 @@ use debugger::Session;
 use model::SessionFault;
 use std::io::Write;
 
-/// A run of at most so many steps: the reply is how many were made, and why it ended.
+/// Runs at most so many steps, and writes how many were made and why the run ended.
 pub fn run<W: Write>(session: &mut Session, count: u32, writer: &mut W) -> Result<(), ReplyFault>
     ensures writes { Writes (W.contents writer.old) (W.contents writer.new) (run_line (run_end count session.old)) result }
     ensures after { session.new ≡ after_steps (run_end count session.old).did session.old }
@@ -24,7 +24,7 @@ pub fn run<W: Write>(session: &mut Session, count: u32, writer: &mut W) -> Resul
     put(writer, run_text(end).as_slice())
 }
 
-/// So many events gone back over: the reply is the register line then, or how many are held.
+/// Undoes so many events, and writes the register line, or how many are held.
 pub fn go_back<W: Write>(
     session: &mut Session,
     count: u32,
@@ -40,7 +40,7 @@ pub fn go_back<W: Write>(
     }
 }
 
-/// A breakpoint set: the reply is `OK`, or why it was refused. Where memory runs out nothing is written.
+/// Sets a breakpoint, and writes `OK` or the fault. If memory runs out, nothing is written.
 pub fn set_break<W: Write>(
     session: &mut Session,
     address: u16,
@@ -56,7 +56,7 @@ pub fn set_break<W: Write>(
     }
 }
 
-/// A watch set: the reply is `OK`, or why it was refused. Where memory runs out nothing is written.
+/// Sets a watchpoint, and writes `OK` or the fault. If memory runs out, nothing is written.
 pub fn set_watch<W: Write>(
     session: &mut Session,
     address: u16,
@@ -72,7 +72,7 @@ pub fn set_watch<W: Write>(
     }
 }
 
-/// A breakpoint cleared: the reply is `OK`, or why it was refused.
+/// Clears a breakpoint, and writes `OK` or the fault.
 pub fn clear_break<W: Write>(
     session: &mut Session,
     address: u16,
@@ -88,7 +88,7 @@ pub fn clear_break<W: Write>(
     }
 }
 
-/// A watch cleared: the reply is `OK`, or why it was refused.
+/// Clears a watchpoint, and writes `OK` or the fault.
 pub fn clear_watch<W: Write>(
     session: &mut Session,
     address: u16,
@@ -104,7 +104,7 @@ pub fn clear_watch<W: Write>(
     }
 }
 
-/// Why a breakpoint or a watch is not set. Where memory ran out nothing is written.
+/// Writes why a breakpoint or a watchpoint is not set. If memory ran out, nothing is written.
 fn refuse<W: Write>(fault: SessionFault, writer: &mut W) -> Result<(), ReplyFault>
     ensures writes { fault ≢ SessionFault.OutOfMemory → Writes (W.contents writer.old) (W.contents writer.new) (refusal_line fault) result }
     ensures memory { fault ≡ SessionFault.OutOfMemory → ((result ≡ Err ReplyFault.OutOfMemory) × (writer.new ≡ writer.old)) }

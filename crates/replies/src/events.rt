@@ -13,7 +13,7 @@ use debugger::Session;
 use model::{Event, EventFault};
 use std::io::Write;
 
-/// A step: the reply is the register line after it, or why it was refused.
+/// Makes a step, and writes the register line after it, or the fault.
 pub fn step<W: Write>(session: &mut Session, writer: &mut W) -> Result<(), ReplyFault>
     ensures writes { Writes (W.contents writer.old) (W.contents writer.new) (stepped_answer session.old (event_of session.old.current Event.Step)).written result }
     ensures after { session.new ≡ (stepped_answer session.old (event_of session.old.current Event.Step)).session }
@@ -25,7 +25,7 @@ pub fn step<W: Write>(session: &mut Session, writer: &mut W) -> Result<(), Reply
     }
 }
 
-/// An event other than a step: the reply is `OK`, or why it was refused.
+/// Makes an event other than a step, and writes `OK` or the fault.
 pub fn happen<W: Write>(
     session: &mut Session,
     event: Event,
@@ -41,7 +41,7 @@ pub fn happen<W: Write>(
     }
 }
 
-/// Bytes of input: all of them are handed in, or none where not all fit.
+/// Hands in bytes of input, all of them or none, and writes `OK` or the fault.
 #[tactic(auto, unfolding(model::specs::Transcript::input_answer))]
 pub fn take_input<W: Write>(
     session: &mut Session,
@@ -59,14 +59,14 @@ pub fn take_input<W: Write>(
     put(writer, b"OK\n")
 }
 
-/// Whether not all of the bytes may be handed in.
+/// Returns whether there is no room for all of the bytes.
 fn exceeds_room(session: &Session, bytes: &[u8]) -> bool
     ensures { result ≡ nat_lt console_size (length session.now.current.bus.given + length bytes.now) }
 {
     bytes.len() > session.input_room() as usize
 }
 
-/// Hands in bytes for which there is room, each an event of its own. None is refused.
+/// Hands in bytes for which there is room, each an event of its own. None is rejected.
 fn hand_in(session: &mut Session, bytes: &[u8])
     requires { length session.old.current.bus.given + length bytes.now ≤ 65536 }
     ensures after { session.new ≡ after_input session.old bytes.now }
@@ -77,7 +77,7 @@ fn hand_in(session: &mut Session, bytes: &[u8])
     }
 }
 
-/// Hands in a byte for which there is room. The event is not refused.
+/// Hands in a byte for which there is room. The event is not rejected.
 fn hand_in_byte(session: &mut Session, byte: u8)
     requires { length session.old.current.bus.given + 1 ≤ 65536 }
     ensures accepted { event_of session.old.current (Event.Input byte) ≡ Ok session.new.current }

@@ -2,13 +2,13 @@
 
 use thiserror::Error;
 
-/// Why a reply is not written to its end (profile).
+/// Why a reply is not written to its end. Source: mos65.
 #[derive(Clone, Copy, Debug, PartialEq, Eq, Error)]
 pub enum ReplyFault {
     /// A write failed, or took no byte.
     #[error("Write")]
     Write,
-    /// A request for memory was refused.
+    /// An allocation failed.
     #[error("OutOfMemory")]
     OutOfMemory,
 }

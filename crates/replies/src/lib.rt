@@ -1,7 +1,10 @@
-//! What is replied to a command: its text, put together without memory, and the write of it. The session is changed as the command asks.
+//! The replies to commands: each call changes the session as the command asks, and writes the
+//! reply.
 //!
-//! It owns the form of each reply and which call of the session a command makes. The engine calls one function for each command; each one's
-//! clause is the definition's answer, in `Transcript.antt` of `model`. `proofs/Writing.antt` says what was written where a write fails.
+//! The crate owns the form of each reply and which call of the session a command makes. Texts are
+//! put together without allocating. The engine calls one function for each command; each one's
+//! clause is the definition's answer, in `Transcript.antt` of `model`. `proofs/Writing.antt` says
+//! what was written if a write fails.
 #![tactic(auto)]
 
 pub use calls::{clear_break, clear_watch, go_back, run, set_break, set_watch};

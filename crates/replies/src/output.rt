@@ -10,8 +10,8 @@ use std::io::Write;
 ///
 /// # Errors
 ///
-/// `Write` where a write fails, of whatever kind its error is, or takes no byte: then a beginning of
-/// the bytes was written.
+/// `Write` if a write fails, whatever its error, or takes no byte: a beginning of the bytes was
+/// then written.
 pub fn put<W: Write>(writer: &mut W, bytes: &[u8]) -> Result<(), ReplyFault>
     ensures writes { Writes (W.contents writer.old) (W.contents writer.new) bytes.now result }
     ensures fault { OnErr result (result ≡ Err ReplyFault.Write) }

@@ -8,7 +8,7 @@ use commands::{Text, push_bytes, push_decimal, push_hex_byte, push_hex_word, pus
 use debugger::Session;
 use model::{AsmFaultKind, EventFault, RunEnd, SessionFault, Why};
 
-/// The register line.
+/// Returns the register line.
 #[tactic(auto, unfolding(model::specs::Text::register_line))]
 pub fn register_text(session: &Session) -> Text
     ensures { result.items ≡ register_line session.now.current }
@@ -33,7 +33,7 @@ pub fn register_text(session: &Session) -> Text
     text
 }
 
-/// Why an event was refused, after `! `.
+/// Returns why an event was rejected, after `! `.
 #[tactic(auto, unfolding(model::specs::Transcript::fault_line))]
 pub fn fault_text(fault: EventFault) -> Text
     ensures { result.items ≡ fault_line fault }
@@ -45,7 +45,7 @@ pub fn fault_text(fault: EventFault) -> Text
     text
 }
 
-/// Appends why an event was refused.
+/// Appends why an event was rejected.
 #[tactic(auto, unfolding(model::specs::Transcript::refused_text))]
 fn push_refusal(text: &mut Text, fault: EventFault)
     requires { length text.old.items ≤ 30 }
@@ -90,7 +90,7 @@ fn push_reason(text: &mut Text, why: Why)
     }
 }
 
-/// How many steps a run made, and why it ended.
+/// Returns how many steps a run made, and why it ended.
 #[tactic(auto, unfolding(model::specs::Transcript::run_line))]
 pub fn run_text(end: RunEnd) -> Text
     ensures { result.items ≡ run_line end }
@@ -104,7 +104,7 @@ pub fn run_text(end: RunEnd) -> Text
     text
 }
 
-/// Why a call of the session was refused.
+/// Returns why a call of the session was rejected.
 #[tactic(auto, unfolding(model::specs::Transcript::refusal_line))]
 pub fn refusal_text(fault: SessionFault) -> Text
     ensures { result.items ≡ refusal_line fault }
@@ -127,7 +127,7 @@ pub fn refusal_text(fault: SessionFault) -> Text
     text
 }
 
-/// Why a text is not assembled.
+/// Returns why a text is not assembled.
 #[tactic(auto, unfolding(model::specs::Transcript::source_fault_line))]
 pub fn source_fault_text(kind: AsmFaultKind) -> Text
     ensures { result.items ≡ source_fault_line kind }
@@ -141,7 +141,7 @@ pub fn source_fault_text(kind: AsmFaultKind) -> Text
     text
 }
 
-/// An address after a space.
+/// Returns an address after a space.
 #[tactic(auto, unfolding(model::specs::Text::address_part))]
 pub fn address_text(address: u16) -> Text
     ensures { result.items ≡ address_part address }
@@ -152,7 +152,7 @@ pub fn address_text(address: u16) -> Text
     text
 }
 
-/// A row of memory: the bytes from one address to another, at most 16.
+/// Returns a row of memory: the bytes from one address to another, at most 16.
 pub fn row_text(session: &Session, first: u16, last: u16) -> Text
     requires { last ≤ first + 15 }
     ensures { result.items ≡ memory_row session.now.current.bus.memory first last }
@@ -168,7 +168,7 @@ pub fn row_text(session: &Session, first: u16, last: u16) -> Text
     text
 }
 
-/// The last address of the row that starts at an address.
+/// Returns the last address of the row that starts at an address.
 pub fn row_end(start: u16, last: u16) -> u16
     ensures { result ≡ min last (start + 15) }
 {
@@ -179,7 +179,7 @@ pub fn row_end(start: u16, last: u16) -> u16
     }
 }
 
-/// How many bytes the output has.
+/// Returns how many bytes the output has.
 pub fn output_head(session: &Session) -> Text
     ensures { result.items ≡ codes "OUT " ++ decimal (length session.now.current.bus.out) ++ 10 ∷ [] }
 {
@@ -190,7 +190,7 @@ pub fn output_head(session: &Session) -> Text
     text
 }
 
-/// A row of output: the bytes from an index on, at most 32.
+/// Returns a row of output: the bytes from an index on, at most 32.
 pub fn output_row_text(session: &Session, from: u32) -> Text
     ensures { result.items ≡ output_row session.now.current.bus.out from }
 {

@@ -15,7 +15,7 @@ use commands::Text;
 use debugger::Session;
 use std::io::Write;
 
-/// The register line.
+/// Writes the register line.
 pub fn put_registers<W: Write>(session: &Session, writer: &mut W) -> Result<(), ReplyFault>
     ensures writes { Writes (W.contents writer.old) (W.contents writer.new) (register_line session.now.current) result }
     ensures fault { OnErr result (result ≡ Err ReplyFault.Write) }
@@ -23,7 +23,7 @@ pub fn put_registers<W: Write>(session: &Session, writer: &mut W) -> Result<(), 
     put(writer, register_text(session).as_slice())
 }
 
-/// The bytes of memory from one address to another, a row at a time.
+/// Writes the bytes of memory from one address to another, a row at a time.
 pub fn put_rows<W: Write>(
     session: &Session,
     first: u16,
@@ -44,7 +44,7 @@ pub fn put_rows<W: Write>(
     Ok(())
 }
 
-/// How many bytes of output there are, and the bytes, a row at a time.
+/// Writes how many bytes of output there are, and the bytes, a row at a time.
 pub fn put_output<W: Write>(session: &Session, writer: &mut W) -> Result<(), ReplyFault>
     ensures writes { Writes (W.contents writer.old) (W.contents writer.new) (output_text session.now.current.bus.out) result }
     ensures fault { OnErr result (result ≡ Err ReplyFault.Write) }
@@ -55,7 +55,7 @@ pub fn put_output<W: Write>(session: &Session, writer: &mut W) -> Result<(), Rep
     }
 }
 
-/// The output's bytes, 32 a row.
+/// Writes the output's bytes, 32 a row.
 fn put_output_rows<W: Write>(session: &Session, writer: &mut W) -> Result<(), ReplyFault>
     ensures writes { Writes (W.contents writer.old) (W.contents writer.new) (output_rows session.now.current.bus.out) result }
     ensures fault { OnErr result (result ≡ Err ReplyFault.Write) }
@@ -70,7 +70,7 @@ fn put_output_rows<W: Write>(session: &Session, writer: &mut W) -> Result<(), Re
     Ok(())
 }
 
-/// The breakpoints in order of setting.
+/// Writes the breakpoints in order of setting.
 pub fn put_breaks<W: Write>(session: &Session, writer: &mut W) -> Result<(), ReplyFault>
     ensures writes { Writes (W.contents writer.old) (W.contents writer.new) (breaks_line session.now.breaks) result }
     ensures fault { OnErr result (result ≡ Err ReplyFault.Write) }
@@ -81,7 +81,7 @@ pub fn put_breaks<W: Write>(session: &Session, writer: &mut W) -> Result<(), Rep
     }
 }
 
-/// The rest of the line: the addresses, and the line's end.
+/// Writes the rest of the line: the addresses, and the line's end.
 fn put_break_list<W: Write>(session: &Session, writer: &mut W) -> Result<(), ReplyFault>
     ensures writes { Writes (W.contents writer.old) (W.contents writer.new) (flat_map address_part session.now.breaks ++ 10 ∷ []) result }
     ensures fault { OnErr result (result ≡ Err ReplyFault.Write) }
@@ -92,7 +92,7 @@ fn put_break_list<W: Write>(session: &Session, writer: &mut W) -> Result<(), Rep
     }
 }
 
-/// The addresses of the breakpoints, each after a space.
+/// Writes the addresses of the breakpoints, each after a space.
 fn put_addresses<W: Write>(session: &Session, writer: &mut W) -> Result<(), ReplyFault>
     ensures writes { Writes (W.contents writer.old) (W.contents writer.new) (flat_map address_part session.now.breaks) result }
     ensures fault { OnErr result (result ≡ Err ReplyFault.Write) }
@@ -107,7 +107,7 @@ fn put_addresses<W: Write>(session: &Session, writer: &mut W) -> Result<(), Repl
     Ok(())
 }
 
-/// A breakpoint's address after a space.
+/// Returns a breakpoint's address after a space.
 fn break_text(session: &Session, index: u32) -> Text
     requires { index < length session.now.breaks }
     ensures { result.items ≡ address_part (slice_index session.now.breaks index) }
@@ -118,7 +118,9 @@ fn break_text(session: &Session, index: u32) -> Text
     }
 }
 
-/// At most so many instructions of the session's profile as text, from an address on: their rows end after $FFFF.
+/// Writes at most so many instructions of the session's profile as text, from an address on.
+///
+/// The rows end after $FFFF.
 pub fn put_instructions<W: Write>(
     session: &Session,
     address: u16,
@@ -145,7 +147,8 @@ pub fn put_instructions<W: Write>(
     Ok(())
 }
 
-/// The bytes of memory that an instruction at an address can have: three, or those up to $FFFF.
+/// Returns the bytes of memory that an instruction at an address can have: three, or those to
+/// $FFFF.
 fn bytes_at(session: &Session, address: u16) -> ArrayVec<u8, 3>
     ensures bytes { result.items ≡ bytes_from session.now.current.bus.memory address }
     ensures some { 1 ≤ length result.items }

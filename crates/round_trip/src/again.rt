@@ -9,9 +9,11 @@ use disasm::line_in;
 use std::alloc::Global;
 use text_laws::text_is_read_again;
 
-/// Lists the row with which some bytes begin in a profile, at their address, and assembles its text at that address: the bytes are those
-/// that were listed, of an instruction all of them, of a `.BYTE` row its one. The only fault is `OutOfMemory`, where a request for
-/// memory was refused.
+/// Lists the first row of some bytes in a profile, and assembles its text at the same address.
+///
+/// Returns the bytes that were listed: all bytes of an instruction, the one byte of a `.BYTE` row.
+///
+/// Errors: `OutOfMemory` if an allocation fails.
 pub fn assembled_again(
     alloc: Global,
     profile: Profile,

@@ -1,11 +1,13 @@
-//! Lists and assembles again, in each profile: each first byte with 64 pairs of further bytes, at 8 addresses each.
+//! Lists and assembles again, in each profile: each first byte with 64 pairs of further bytes, at 8
+//! addresses each.
 #![tactic(auto)]
 
 use anyhow::Result;
 use round_trip::{Profile, assembled_again};
 use std::alloc::Global;
 
-/// The first bytes of both pages' ends, where a branch wraps, and where an instruction no longer fits.
+/// The first bytes of both pages' ends, where a branch wraps, and where an instruction no longer
+/// fits.
 const ADDRESSES: [u16; 8] = [
     0x0000, 0x0001, 0x00fe, 0x02fd, 0x8000, 0xfffd, 0xfffe, 0xffff,
 ];

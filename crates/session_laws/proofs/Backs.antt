@@ -66,7 +66,7 @@ states-gone_back k s h =
 pub is_gone_back : (k : ℕ) (s u : Session) → k ≤ length s.earlier → SameRest (gone_back k s) u → states u ≡ take (length s.earlier - k + 1) (states s) → u ≡ gone_back k s
 is_gone_back k s u h rest e = same_session (gone_back k s) u rest (e ∙ sym (states-gone_back k s h))
 
--- the rest of a session gone back over some events
+-- the rest of a session with some events undone
 pub rest-gone_back : (k : ℕ) (s u : Session) → 0 < k → u.history ≡ s.history → u.breaks ≡ s.breaks → u.watches ≡ s.watches → u.number ≡ number_back k s.number → u.replayed ≡ number_back k s.number → SameRest (gone_back k s) u
 unfolding gone_back
 rest-gone_back k s u h history breaks watches number replayed =
@@ -91,7 +91,7 @@ gone_back-zero s small =
 abbrev but_last : List State → List State
 but_last xs = take (length xs - 1) xs
 
--- one more event gone back over
+-- one more event undone
 states-suc : (k : ℕ) (s : Session) → suc k ≤ length s.earlier → but_last (states (gone_back k s)) ≡ states (gone_back (suc k) s)
 states-suc k s h =
     let n = length s.earlier - k + 1 in

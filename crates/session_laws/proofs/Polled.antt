@@ -1,4 +1,5 @@
--- Sessions whose steps never store an odd byte at base+3 are served as by the machine whose port could only be polled.
+-- Sessions whose steps never store an odd byte at base+3 are served as by the machine whose port
+-- could only be polled.
 use Rattle.std.proofs.Common.{◌≡◌, ℕ, ◌||◌, eqb, ◌+◌, ◌-◌, ◌<◌, ◌≤◌, zero, suc, Bool, true, false, cond, List, [], ◌∷◌, length, take, get_or, Option, Some, None, Result, Ok, Err, refl, sym, ap, ◌∙◌, subst, arith, length-append}
 use Rattle.std.proofs.lemmas.Bool.Decides.{nat_tests}
 use Rattle.std.specs.Prelude.{codes, nat_le, nat_lt}

@@ -1,5 +1,5 @@
--- Single steps of states whose control byte is 0: where no odd byte is stored at base+3, they are those of the machine whose port could
--- only be polled, and leave the control byte 0.
+-- Single steps of states whose control byte is 0: where no odd byte is stored at base+3, they are
+-- those of the machine whose port could only be polled, and leave the control byte 0.
 use Rattle.std.proofs.Common.{◌≡◌, ℕ, ◌+◌, ◌%◌, Bool, true, false, not, ◌&&◌, ◌||◌, cond, Option, Some, None, [], ◌∷◌, ◌++◌, Result, Ok, Err, refl, sym, ap, ◌∙◌, subst, arith, eqb}
 use Rattle.std.proofs.lemmas.Bool.Decides.{nat_tests}
 use Rattle.std.specs.Prelude.{nat_lt, slice_index}

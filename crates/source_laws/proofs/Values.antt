@@ -43,7 +43,8 @@ module _ (few more : Numbers) (keeps : Keeps few more) where
   same_value at (low e) h = rw (same_value at e h) refl
   same_value at (high e) h = rw (same_value at e h) refl
 
-  -- so each number and each address that the names known at a line fix is the same under the numbers of all names
+  -- so each number and each address that the names known at a line fix is the same under the
+  -- numbers of all names
   pub still : (at : ℤ) (e : Term) (v : ℤ) → eval_of few at e ≡ Ok v → eval_of more at e ≡ Ok v
   unfolding eval_of
   still at e v h = elim (cases_Bool (knows few e)) [

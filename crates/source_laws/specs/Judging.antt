@@ -1,5 +1,5 @@
--- What a source denotes and its fault, computed: one pass lays the lines out, a second one puts their bytes.
--- That it is what the definitions mean is a law of this crate.
+-- What a source denotes and its fault, computed: one pass lays the lines out, a second one puts
+-- their bytes. That it is what the definitions mean is a law of this crate.
 use Rattle.std.specs.Prelude.{◌≡◌, ℕ, ◌+◌, nat_lt, if◌then◌else◌, List, [], ◌∷◌, length, Option, Result, Ok, Err}
 use Rattle.model.specs.State.{Map}
 use Rattle.model.specs.Image.{empty_image, with_bytes}
@@ -21,7 +21,8 @@ abbrev pub ◌>>=◌ : {A B : Type 0} → Result A AsmFault → (A → Result B 
 (Ok a) >>= f = f a
 (Err fault) >>= f = Err fault
 
--- The lines from a line's number on laid out after lines that fix so much: their places, and what is fixed in the end.
+-- The lines from a number on, laid out after lines that fix so much: their places, and what is
+-- fixed in the end.
 abbrev pub laid_lines : ℕ → Fixed → List (List ℕ) → Result (List Placed × Fixed) AsmFault
 laid_lines number before [] = Ok ([], before)
 laid_lines number before (line ∷ lines) =
@@ -53,7 +54,8 @@ judged bus_map source = if nat_lt most_bytes (length source) then Err too_large 
 
 -- ---- that this is what a source denotes, or its fault
 
--- What an answer says of a source: it denotes the image, and its lines stand so and its names have these numbers; or it has the fault.
+-- What a result says of a source: it denotes the image, its lines are in these places and its names
+-- have these numbers; or it has the fault.
 abbrev pub Says : Map → List ℕ → Result Judged AsmFault → Type 0
 Says bus_map source (Ok j) = (Denotes bus_map source j.image) × LaidOut (nothing_fixed bus_map.profile) (read_lines bus_map.profile source) j.placed j.all
 Says bus_map source (Err fault) = HasFault bus_map source fault

@@ -11,7 +11,7 @@ use source_lines::{Span, next_line};
 use std::alloc::{AllocError, Global};
 use symbols::Symbols;
 
-/// So many cells from an address on, or those that there are.
+/// Returns so many cells from an address on, or as many as there are.
 #[tactic(auto, using(crate::proofs::RowsLeft::cells_cut))]
 fn cells_at(cells: &[Option<u8>], address: usize, count: usize) -> &[Option<u8>]
     ensures { result.now ≡ take count (drop address cells.now) }
@@ -20,7 +20,7 @@ fn cells_at(cells: &[Option<u8>], address: usize, count: usize) -> &[Option<u8>]
     &behind[..count.min(behind.len())]
 }
 
-/// So many of an image's bytes from an address on, in place of those that stood in the room.
+/// Replaces the contents of `room` by so many of an image's bytes from an address on.
 fn take_bytes(room: &mut Vec<u8>, cells: &[Option<u8>], span: &Span) -> Result<(), AllocError>
     ensures { OnOk result (room.new.items ≡ bytes_at cells.now span.now.address span.now.count) }
 {
@@ -32,7 +32,7 @@ fn take_bytes(room: &mut Vec<u8>, cells: &[Option<u8>], span: &Span) -> Result<(
     Ok(())
 }
 
-/// The rows of lines, as many as have a place.
+/// Appends the rows of the lines that have an address.
 fn push_lines(
     out: &mut Vec<u8>,
     alloc: Global,
@@ -57,7 +57,7 @@ fn push_lines(
     Ok(())
 }
 
-/// A name's row.
+/// Appends a name's row.
 fn push_symbol(out: &mut Vec<u8>, symbol: (&[u8], i32)) -> Result<(), AllocError>
     ensures { OnOk result (out.new.items ≡ out.old.items ++ name_row (symbol.entry.0.now, symbol.entry.1)) }
 {
@@ -65,7 +65,7 @@ fn push_symbol(out: &mut Vec<u8>, symbol: (&[u8], i32)) -> Result<(), AllocError
     push_name(out, name, number)
 }
 
-/// An empty line and the rows of the names, if there are names.
+/// Appends an empty line and the rows of the names, if there are names.
 fn push_names(out: &mut Vec<u8>, names: &Symbols) -> Result<(), AllocError>
     ensures { OnOk result (out.new.items ≡ out.old.items ++ names_rows names.now) }
 {
@@ -82,7 +82,9 @@ fn push_names(out: &mut Vec<u8>, names: &Symbols) -> Result<(), AllocError>
     Ok(())
 }
 
-/// The rows of lines, as many as have a place, and those of the names.
+/// Returns the listing: the rows of the lines that have an address, and those of the names.
+///
+/// Errors: `AllocError` if an allocation fails.
 pub fn listing_of(
     alloc: Global,
     source: &[u8],

@@ -1,5 +1,6 @@
-//! Runs the program of tools/bench.s, as ca65 makes it in bench.bin, in a session, for a clock beside it. The words are numbers: 0 for a run and 1
-//! for single events, how many states are held, how many breakpoints and how many watches are set, 1 for profile C, and the most steps.
+//! Runs the program of tools/bench.s, as ca65 makes it in bench.bin, in a session, for a clock
+//! beside it. The words are numbers: 0 for a run and 1 for single events, how many states are held,
+//! how many breakpoints and how many watches are set, 1 for profile C, and the most steps.
 #![tactic(auto)]
 
 use anyhow::Result;
@@ -17,8 +18,8 @@ const END: u16 = 0xfff9;
 /// Where a reset finds the address that it leads to.
 const RESET: u16 = 0xfffc;
 
-/// A session that stands at the program's start, with a breakpoint at its end if one is wanted, and the others and the watches where
-/// none is met.
+/// A session that stands at the program's start, with a breakpoint at its end if one is wanted, and
+/// the others and the watches where none is met.
 fn at_the_start(
     alloc: Global,
     program: &[u8],
@@ -45,8 +46,8 @@ fn at_the_start(
     Ok(session)
 }
 
-/// A step as a single event, unless the program has ended: whether one was made. What an event does stands where it is called, so it is
-/// called here alone.
+/// A step as a single event, unless the program has ended: whether one was made. What an event does
+/// stands where it is called, so it is called here alone.
 fn stepped(session: &mut Session) -> bool {
     session.regs().pc != END && session.event(Event::Step).is_ok()
 }
@@ -78,7 +79,8 @@ fn number(numbers: &[u32], place: usize) -> u32 {
     numbers.get(place).copied().unwrap_or(0)
 }
 
-/// Steps by a run, or by single events: how many were made. No contract: nothing is proved over what a run does.
+/// Steps by a run, or by single events: how many were made. No contract: nothing is proved over
+/// what a run does.
 fn made(session: &mut Session, single: u32, steps: u32) -> u32 {
     if single == 0 {
         session.run(steps).did

@@ -1,4 +1,5 @@
--- What each operation makes of a state: a bus with the same map, registers in range, and at most two cycles more.
+-- What each operation makes of a state: a bus with the same map, registers in range, and at most
+-- two cycles more.
 use Rattle.std.proofs.Common.{◌≡◌, ℕ, ◌+◌, ◌*◌, ◌/◌, ◌%◌, ◌<◌, ◌≤◌, Bool, true, false, cond, refl, ◌∙◌, arith}
 use Rattle.std.specs.Prelude.{slice_index, not, ◌&&◌}
 use Rattle.model.specs.State.{Bus, State, byte_read, after_read, overflows, after_write, stored, IsBus, AreRegs}

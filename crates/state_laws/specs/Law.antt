@@ -22,7 +22,8 @@ IsSetting (S value) = value < 256
 IsSetting (P value) = value < 256
 IsSetting (Pc value) = value < 65536
 
--- An event's bytes are bytes, and its register's value is in range. The types of the code say no less.
+-- An event's bytes are bytes, and its register's value is in range. The types of the code say no
+-- less.
 abbrev pub IsEvent : Event → Type 0
 IsEvent Step = ⊤
 IsEvent Reset = ⊤
@@ -50,8 +51,8 @@ abbrev pub IsCall : Call → Type 0
 IsCall (happen event) = IsEvent event
 IsCall call = ⊤
 
--- A session that begins in a state holds nothing but states with its map, after all events, after going back over any number of them, and after
--- any calls.
+-- A session that begins in a valid state holds nothing but valid states with its map: after all
+-- events, after any number of them was undone, and after any calls.
 abbrev pub SessionsHoldStates : Type 0
 SessionsHoldStates =
     ((history : ℕ) (state : State) → IsState state → HoldsStates state.bus.map (fresh history state))

@@ -35,7 +35,7 @@ impl Names for Symbols {
 }
 
 impl Symbols {
-    /// No names.
+    /// Makes an empty table.
     pub fn new(alloc: Global) -> Symbols
         ensures { result ≡ [] }
     {
@@ -44,14 +44,14 @@ impl Symbols {
         }
     }
 
-    /// How many names there are.
+    /// Returns how many names there are.
     pub fn count(&self) -> usize
         ensures { result ≡ length self.now }
     {
         self.map.len()
     }
 
-    /// A name and its number, by its place in the order of definition, counted from 0.
+    /// Returns a name and its number, by its index in the order of definition, counted from 0.
     pub fn symbol(&self, index: usize) -> Option<(&[u8], i32)>
         ensures { shown result ≡ slice_get self.now index }
     {
@@ -59,15 +59,16 @@ impl Symbols {
         Some((name.as_slice(), *number))
     }
 
-    /// The number of a name.
+    /// Returns the number of a name.
     pub fn value_of(&self, name: &[u8]) -> Option<i32>
         ensures { result ≡ number_in self.now name.now }
     {
         self.map.get(name).copied()
     }
 
-    /// A name with its number, after those that are there. The only error is that a request for memory was refused; then the names
-    /// are as they were.
+    /// Appends a name with its number.
+    ///
+    /// Errors: `AllocError` if an allocation fails; the table is then unchanged.
     pub fn define(&mut self, alloc: Global, name: &[u8], number: i32) -> Result<(), AllocError>
         requires { number_in self.old name.now ≡ None }
         ensures ok { OnOk result (self.new ≡ self.old ++ (name.now, number) ∷ []) }

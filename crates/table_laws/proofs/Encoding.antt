@@ -1,4 +1,5 @@
--- The opcode table of each profile read both ways, computed for every opcode and for every mnemonic in every mode.
+-- The opcode table of each profile read both ways, computed for every opcode and for every mnemonic
+-- in every mode.
 use Rattle.std.proofs.Common.{◌≡◌, ℕ, zero, suc, ◌<◌, List, [], ◌∷◌, ◌++◌, map, length, refl, ap, subst, sym, ◌∙◌, rules, inl, inr, arith, get_or}
 use Rattle.std.specs.Prelude.{Option, None, Some, Bool, true, false, ◌↔◌, ◌&&◌, ◌==◌, nat_lt, IfSome}
 use Rattle.std.specs.List.{All, range_with_len}
@@ -225,7 +226,7 @@ row_in_c : (opcode : ℕ) → row_at C opcode ≡ or_else (row_at N opcode) (fin
 unfolding row_at table
 row_in_c opcode = found_after opcode documented added
 
--- the row of an opcode in profile C is that of profile N, and else an added one
+-- the row of an opcode in profile C is that of profile N, otherwise an added one
 pub row_kept : (opcode : ℕ) (row : Row) → row_at N opcode ≡ Some row → row_at C opcode ≡ Some row
 row_kept opcode row e = row_in_c opcode ∙ ap (λ (r : Option Row). or_else r (find_row opcode added)) e
 

@@ -17,7 +17,8 @@ fn size(image: &Image) -> usize {
         .count()
 }
 
-/// What stands in `NAME.ours.ptp`, or else in `NAME.ptp`, and in which words to say that it was written back.
+/// What stands in `NAME.ours.ptp`, or else in `NAME.ptp`, and in which words to say that it was
+/// written back.
 fn wanted<R: Files + AllocGlobal>(rt: &R, name: &str) -> Result<(Vec<u8>, &'static str)> {
     let ours = format!(in rt.alloc(); "{name}.ours.ptp")?;
     if fs::exists(rt, ours.as_str())? {

@@ -1,5 +1,5 @@
-//! The calls on tapes, each once and in pieces. Tapes whose texts and faults are known from outside stand in `data`, which the program
-//! reads.
+//! The calls on tapes, each once and in pieces. Tapes whose texts and faults are known from outside
+//! stand in `data`, which the program reads.
 
 use bus::Image;
 use papertape::{
@@ -70,7 +70,8 @@ fn the_manual_example(rt: HostRuntime) -> Result<(), Fail> {
     assert_written(&rt, rt.alloc(), &image, MANUAL_TAPE)
 }
 
-/// The first fault is answered by the call that meets it and by each later one, also where nothing is fed.
+/// The first fault is answered by the call that meets it and by each later one, also where nothing
+/// is fed.
 #[test]
 fn a_failed_reader(rt: HostRuntime) -> Result<(), Fail> {
     let mut reader = TapeReader::new(rt.alloc())?;

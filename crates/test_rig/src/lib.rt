@@ -1,4 +1,5 @@
-//! A test rig: a multiplication is assembled, loaded, run to its end, compared and taken back. docs/MANUAL.md shows it.
+//! A test rig: a multiplication is assembled, loaded, run to its end, compared and taken back.
+//! docs/MANUAL.md shows it.
 #![tactic(auto)]
 
 #[cfg(test)]

@@ -21,7 +21,8 @@ use Rattle.table_laws.proofs.Encoding.{all_mnemonics, all_modes, same_at_each}
 abbrev pub of_number : ℕ → Term
 of_number v = literal (Some (pos v))
 
--- no branch has a zero page mode or an absolute one, and no mnemonic has both modes of a pointer without an index
+-- no branch has a zero page mode or an absolute one, and no mnemonic has both modes of a pointer
+-- without an index
 abbrev both : Profile → Mnemonic → Mode → Bool
 both profile m d = (has_row profile m Zp || has_row profile m Abs) && has_row profile m Rel
 

@@ -2,7 +2,9 @@
 
 ghost use Rattle.text_laws.specs.Law.{TextIsReadAgain};
 
-/// The text of a row, read at its address in the same profile, is the row's bytes again. A law for proofs: it does nothing.
+/// States that a row's text, read at its address in the same profile, is the row's bytes again.
+///
+/// A law for proofs: the call does nothing.
 pub fn text_is_read_again()
     ensures { TextIsReadAgain }
 {}

@@ -81,7 +81,8 @@ fn set_registers(machine: &mut Machine, regs: &Regs) -> Result<()> {
     Ok(())
 }
 
-/// Whether one step leads from the registers and memory of a line to those that it names, in so many cycles.
+/// Whether one step leads from the registers and memory of a line to those that it names, in so
+/// many cycles.
 fn step_agrees(alloc: Global, line: &str) -> Result<bool> {
     let mut words = line.split(' ');
     let mut field = [None; 5];

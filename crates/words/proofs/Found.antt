@@ -48,7 +48,7 @@ memory_answered e (Help text) m a = absurd cc
 memory_answered e (Usage text) m a = absurd (a.1 m)
 memory_answered e Value m a = absurd a
 
--- words that clap takes are refused for want of memory alone
+-- words that clap takes are refused only if memory runs out
 only_memory : (words : List Text) (e : Error) (f : WordsFault) → HasKind (fault_of mos65 words) e → AnswersWords e f → IsTaken words → f ≡ OutOfMemory
 only_memory words e f (inl m) a taken = memory_answered e f m a
 only_memory words e f (inr among) a taken = absurd (subst (IsAmong (kind_of e)) taken among)

@@ -1,7 +1,7 @@
--- The program's command line, `asm SOURCE TAPE [--listing FILE] [--port HHHH] [--profile N|C]`,
--- `dis TAPE LO HI [--profile N|C]` or `debug FILE [--tape] [--history N] [--port HHHH] [--rom LO-HI]
--- [--profile N|C]`, as clap's definitions describe one. How words are matched with it is clap's to
--- say.
+-- The program's command line, `asm SOURCE TAPE [--listing FILE] [--port HHHH] [--profile
+-- N|C]`, `dis TAPE LO HI [--profile N|C]` or `debug FILE [--tape] [--history N] [--port HHHH]
+-- [--rom LO-HI] [--profile N|C]`, as clap's definitions describe one. How words are matched with it
+-- is clap's to say.
 use Rattle.std.specs.Prelude.{true, Some, codes}
 use Rattle.clap.specs.Words.{App, Rule, Text, new_app, new_rule, with_rule, with_subcommand}
 use Rattle.clap.specs.declared.builder.action.ArgAction.TheVariants.{Set, SetTrue}

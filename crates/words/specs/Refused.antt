@@ -1,4 +1,4 @@
--- Why words are refused.
+-- Why words are rejected.
 use Rattle.std.specs.Prelude.{◌≡◌, ◌≢◌, List, [], None}
 use Rattle.clap.specs.Words.{IsAmong, Text, fault_of, kind_of}
 use Rattle.clap.specs.declared.error.Error.{Error}
@@ -8,7 +8,7 @@ use Rattle.words.specs.CommandLine.{mos65}
 use Rattle.words.specs.declared.fault.WordsFault.{WordsFault}
 use Rattle.words.specs.declared.fault.WordsFault.TheVariants.{Help, OutOfMemory, Usage, Value}
 
--- what an error of clap is answered as
+-- what an error of clap is returned as
 abbrev pub AnswersWords : Error → WordsFault → Type 0
 AnswersWords e OutOfMemory = kind_of e ≡ kind.OutOfMemory
 AnswersWords e (Help text) = (text ≡ e) × (kind_of e ≡ kind.DisplayHelp)

@@ -6,22 +6,24 @@ use model::Profile;
 /// What the words of the program ask for.
 #[derive(Clone, Copy, Debug, PartialEq, Eq)]
 pub enum Words<'a> {
-    /// `asm SOURCE TAPE`: a source is to be assembled, and its tape written.
+    /// `asm SOURCE TAPE`: assembles a source and writes its tape.
     Asm(AsmWords<'a>),
-    /// `dis TAPE LO HI`: what a tape has between two addresses is to be listed as text.
+    /// `dis TAPE LO HI`: lists what a tape has between two addresses.
     Dis(DisWords<'a>),
-    /// `debug FILE`: a source or a tape is to be debugged.
+    /// `debug FILE`: debugs a source or a tape.
     Debug(DebugWords<'a>),
 }
 
-/// What the words of `asm SOURCE TAPE [--listing FILE] [--port HHHH] [--profile N|C]` ask for. No two of the files have the same name.
+/// What `asm SOURCE TAPE [--listing FILE] [--port HHHH] [--profile N|C]` asks for.
+///
+/// No two of the files have the same name.
 #[derive(Clone, Copy, Debug, PartialEq, Eq)]
 pub struct AsmWords<'a> {
     /// The file to read.
     pub source: &'a str,
     /// The file to write the tape to.
     pub tape: &'a str,
-    /// The file to write the listing to, where one is asked for.
+    /// The file to write the listing to, if one is asked for.
     pub listing: Option<&'a str>,
     /// The first of the port's four addresses.
     pub port: u16,
@@ -29,7 +31,7 @@ pub struct AsmWords<'a> {
     pub profile: Profile,
 }
 
-/// What the words of `dis TAPE LO HI [--profile N|C]` ask for.
+/// What `dis TAPE LO HI [--profile N|C]` asks for.
 #[derive(Clone, Copy, Debug, PartialEq, Eq)]
 pub struct DisWords<'a> {
     /// The file to read.
@@ -42,18 +44,20 @@ pub struct DisWords<'a> {
     pub profile: Profile,
 }
 
-/// What the words of `debug FILE [--tape] [--history N] [--port HHHH] [--rom LO-HI] [--profile N|C]` ask for.
+/// What `debug FILE` asks for, with its options.
+///
+/// They are `[--tape] [--history N] [--port HHHH] [--rom LO-HI] [--profile N|C]`.
 #[derive(Clone, Copy, Debug, PartialEq, Eq)]
 pub struct DebugWords<'a> {
     /// The file to read.
     pub file: &'a str,
-    /// Whether the file is a tape, and no source.
+    /// Whether the file is a tape and not a source.
     pub is_tape: bool,
     /// How many events the session holds.
     pub history: u32,
     /// The first of the port's four addresses.
     pub port: u16,
-    /// The first and the last address of the ROM, where there is one.
+    /// The first and the last address of the ROM, if there is one.
     pub rom: Option<(u16, u16)>,
     /// The processor of the machine.
     pub profile: Profile,

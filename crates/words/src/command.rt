@@ -1,4 +1,4 @@
-//! The command line as `clap` is told of it.
+//! The command line as it is described to `clap`.
 ghost use Rattle.std.specs.Prelude.{◌≡◌, IfErr, IfOk, codes, false};
 ghost use Rattle.clap.specs.Words.{app_of, kind_of, rule_of};
 ghost use Rattle.clap.specs.declared.builder.command.Command.TheViews.{out-Command};
@@ -8,7 +8,7 @@ use clap::error::ErrorKind;
 use clap::{Arg, ArgAction, Command, Error};
 use std::alloc::Global;
 
-/// A word that has to be there.
+/// Returns a word that has to be there.
 fn file<'a>(alloc: Global, name: &'a str, help: &'a str) -> Arg<'a>
     ensures rule { rule_of result ≡ file_rule name.entry.now }
     ensures local { result.global ≡ false }
@@ -19,7 +19,7 @@ fn file<'a>(alloc: Global, name: &'a str, help: &'a str) -> Arg<'a>
         .help(help)
 }
 
-/// An option that takes no value.
+/// Returns an option that takes no value.
 fn flag<'a>(alloc: Global, name: &'a str, help: &'a str) -> Arg<'a>
     ensures rule { rule_of result ≡ flag_rule name.entry.now }
     ensures local { result.global ≡ false }
@@ -30,7 +30,7 @@ fn flag<'a>(alloc: Global, name: &'a str, help: &'a str) -> Arg<'a>
         .help(help)
 }
 
-/// An option with one value.
+/// Returns an option with one value.
 fn option<'a>(alloc: Global, name: &'a str, value: &'a str, help: &'a str) -> Arg<'a>
     ensures rule { rule_of result ≡ option_rule name.entry.now }
     ensures local { result.global ≡ false }
@@ -90,7 +90,7 @@ fn dis_command<'a>(alloc: Global) -> Result<Command<'a>, Error>
     Ok(command)
 }
 
-/// What is shown below the options of `debug`.
+/// What the help of `debug` shows below its options.
 const COMMANDS: &str = "Commands:
   regs  mem LO HI  dis A N  out  breaks      look
   step  run N  back N                        go on, and back over N events
@@ -121,15 +121,15 @@ fn debug_command<'a>(alloc: Global) -> Result<Command<'a>, Error>
     Ok(command)
 }
 
-/// What is shown below the words of the program.
+/// What the program's help shows below its words.
 const STATUSES: &str =
     "Exit status: 0 done, 1 source or tape refused, 2 words or map wrong, 3 memory, 4 reading or writing";
 
-/// The program's command line.
+/// Returns the program's command line.
 ///
 /// # Errors
 ///
-/// Only for want of memory.
+/// Only if an allocation fails.
 pub fn command<'a>(alloc: Global) -> Result<Command<'a>, Error>
     ensures shape { IfOk result (λ c. app_of c ≡ mos65) }
     ensures memory { IfErr result (λ e. kind_of e ≡ ErrorKind.OutOfMemory) }

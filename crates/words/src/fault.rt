@@ -1,4 +1,4 @@
-//! Why words are refused.
+//! Why words are rejected.
 
 use clap::Error;
 use clap::error::ErrorKind;
@@ -6,11 +6,11 @@ use clap::error::ErrorKind;
 /// Why the words ask for nothing that can be done.
 #[derive(Debug, Drop)]
 pub enum WordsFault {
-    /// The words ask for help: its text.
+    /// The words ask for help: the text of it.
     Help(Error),
-    /// The words are none that the program takes: the text that says so.
+    /// The program does not take these words: the text that says so.
     Usage(Error),
-    /// The value of an option is none that it can have.
+    /// An option has a value that it cannot have.
     Value,
     /// Memory ran out.
     OutOfMemory,

@@ -1,4 +1,4 @@
-//! Words read as what they ask for.
+//! From words to what they ask for.
 ghost use Rattle.std.specs.Prelude.{◌≡◌, ◌⊎◌, Err, None, Some, IsOkUnless, IfErr, IfOk, codes, map, option_map};
 ghost use Rattle.clap.specs.Words.{first_value, found_of, subcommand_rows_of};
 ghost use Rattle.words.specs.Asked.{Asked, asked, asked_of, asm_asked, debug_asked, dis_asked, is_flag, overwrites};
@@ -12,7 +12,7 @@ use crate::value::{address_asked, history_asked, port_asked, profile_asked, rom_
 use clap::ArgMatches;
 use std::alloc::Global;
 
-/// Whether a flag is among the words.
+/// Returns whether a flag is among the words.
 fn is_given(matches: &ArgMatches<'_>, name: &str) -> bool
     ensures { result ≡ is_flag (first_value (found_of matches.now) name.now) }
 {
@@ -22,7 +22,9 @@ fn is_given(matches: &ArgMatches<'_>, name: &str) -> bool
     }
 }
 
-/// Whether a file to write has the name of the source, or of the other file to write. The names are compared as they stand.
+/// Returns whether a file to write has the name of the source, or of the other file to write.
+///
+/// Names are compared as they are written.
 fn overwrites(source: &str, tape: &str, listing: Option<&str>) -> bool
     ensures { result ≡ overwrites source.now tape.now (option_map (λ s. s.now) listing.entry) }
 {
@@ -32,7 +34,7 @@ fn overwrites(source: &str, tape: &str, listing: Option<&str>) -> bool
     }
 }
 
-/// What the values that were found ask for, or `None` where one is no value of its option.
+/// Returns what the values that were found ask for, or `None` if an option cannot have its value.
 fn asm_words<'a>(matches: &ArgMatches<'a>) -> Option<AsmWords<'a>>
     ensures { option_map asm_view result ≡ asm_asked (first_value (found_of matches.now)) }
 {
@@ -53,7 +55,9 @@ fn asm_words<'a>(matches: &ArgMatches<'a>) -> Option<AsmWords<'a>>
     })
 }
 
-/// What the values that were found ask for, or `None` where one is no value of its name, or the first address is above the last.
+/// Returns what the values that were found ask for.
+///
+/// Returns `None` if a word cannot have its value, or the first address is above the last.
 fn dis_words<'a>(matches: &ArgMatches<'a>) -> Option<DisWords<'a>>
     ensures { option_map dis_view result ≡ dis_asked (first_value (found_of matches.now)) }
 {
@@ -72,7 +76,7 @@ fn dis_words<'a>(matches: &ArgMatches<'a>) -> Option<DisWords<'a>>
     })
 }
 
-/// What the values that were found ask for, or `None` where one is no value of its option.
+/// Returns what the values that were found ask for, or `None` if an option cannot have its value.
 fn debug_words<'a>(matches: &ArgMatches<'a>) -> Option<DebugWords<'a>>
     ensures { option_map debug_view result ≡ debug_asked (first_value (found_of matches.now)) }
 {
@@ -91,7 +95,7 @@ fn debug_words<'a>(matches: &ArgMatches<'a>) -> Option<DebugWords<'a>>
     })
 }
 
-/// What the subcommand that was found asks for, or `None` where a value is wrong.
+/// Returns what the subcommand that was found asks for, or `None` if a value is wrong.
 fn asked<'a>(matches: &ArgMatches<'a>) -> Option<Words<'a>>
     ensures { option_map view result ≡ asked_of (subcommand_rows_of matches.now) }
 {
@@ -103,20 +107,20 @@ fn asked<'a>(matches: &ArgMatches<'a>) -> Option<Words<'a>>
     }
 }
 
-/// Reads the program's words, its own name left out: what they ask for, with the value of each
-/// option, `F000` for a port, 1,024 for a history and `N` for a profile that no word says.
+/// Reads the program's words, without its own name: returns what they ask for.
+///
+/// An option that no word names has its default: port `F000`, history 1,024, profile `N`, no ROM.
 ///
 /// # Errors
 ///
 /// - `Help`: the words ask for help. The text is `clap`'s.
-/// - `Usage`: the words are none that the program takes: a word that is missing, unknown, or too
-///   many. The text is `clap`'s.
-/// - `Value`: `clap` takes the words, and a value is none that its option can have: `--port` with
-///   anything but four hex digits, `--history` with anything but one to five decimal digits of a
-///   number up to 65,536, `--rom` with anything but two such addresses with `-` between, or `--profile`
-///   with anything but `N` or `C`; LO or HI of `dis` with anything but such an address, or LO above
-///   HI; two files of `asm` with one name.
-/// - `OutOfMemory`: a request for memory was refused.
+/// - `Usage`: a word is missing or unknown, or there are too many. The text is `clap`'s.
+/// - `Value`: `clap` takes the words, and a value is wrong:
+///   `--port` has anything but four hex digits, `--history` anything but one to five decimal digits
+///   of a number up to 65,536, `--rom` anything but two such addresses with `-` between them,
+///   `--profile` anything but `N` or `C`; LO or HI of `dis` is anything but such an address, or LO
+///   is above HI; two files of `asm` have one name.
+/// - `OutOfMemory`: an allocation failed.
 pub fn read_words<'a>(alloc: Global, words: &'a [&'a str]) -> Result<Words<'a>, WordsFault>
     ensures asked { IfOk result (λ w. asked (map (λ s. s.now) words.entry.now) ≡ Some (view w)) }
     ensures taken { IfOk result (λ w. IsTaken (map (λ s. s.now) words.entry.now)) }

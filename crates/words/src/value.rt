@@ -1,4 +1,4 @@
-//! Values as words.
+//! The values of options.
 ghost use Rattle.std.specs.Prelude.{◌≡◌, option_and_then, option_map};
 ghost use Rattle.model.specs.Commands.{address_of};
 ghost use Rattle.words.specs.Values.{history_asked, history_of, port_asked, profile_asked, profile_of, range_of, rom_asked};
@@ -6,8 +6,9 @@ ghost use Rattle.words.specs.Values.{history_asked, history_of, port_asked, prof
 use commands::{address_of, digits};
 use model::Profile;
 
-/// The number of events to hold, of one to five decimal digits and at most 65,536, or `None` for
-/// any other word.
+/// Returns the number of events to hold, of one to five decimal digits and at most 65,536.
+///
+/// Returns `None` for any other word.
 fn history(word: &[u8]) -> Option<u32>
     ensures { result ≡ history_of word.now }
 {
@@ -20,7 +21,7 @@ fn history(word: &[u8]) -> Option<u32>
     }
 }
 
-/// The two addresses of `LO-HI`, each of exactly four hex digits, or `None` for any other word.
+/// Returns the two addresses of `LO-HI`, each of exactly four hex digits; otherwise `None`.
 fn range(word: &[u8]) -> Option<(u16, u16)>
     ensures { result ≡ range_of word.now }
 {
@@ -33,7 +34,7 @@ fn range(word: &[u8]) -> Option<(u16, u16)>
     }
 }
 
-/// The profile that a letter names, or `None` for any other word.
+/// Returns the profile that a letter names, or `None` for any other word.
 fn profile(word: &[u8]) -> Option<Profile>
     ensures { result ≡ profile_of word.now }
 {
@@ -47,7 +48,7 @@ fn profile(word: &[u8]) -> Option<Profile>
     }
 }
 
-/// The history that the word after `--history` asks for, or `None` where it is no such value.
+/// Returns the history that the word after `--history` asks for, or `None` if it is wrong.
 pub fn history_asked(word: Option<&str>) -> Option<u32>
     ensures { result ≡ history_asked (option_map (λ w. w.now) word.entry) }
 {
@@ -57,7 +58,7 @@ pub fn history_asked(word: Option<&str>) -> Option<u32>
     }
 }
 
-/// The port that the word after `--port` asks for, or `None` where it is no such value.
+/// Returns the port that the word after `--port` asks for, or `None` if it is wrong.
 pub fn port_asked(word: Option<&str>) -> Option<u16>
     ensures { result ≡ port_asked (option_map (λ w. w.now) word.entry) }
 {
@@ -67,7 +68,7 @@ pub fn port_asked(word: Option<&str>) -> Option<u16>
     }
 }
 
-/// The profile that the word after `--profile` asks for, or `None` where it is no such value.
+/// Returns the profile that the word after `--profile` asks for, or `None` if it is wrong.
 pub fn profile_asked(word: Option<&str>) -> Option<Profile>
     ensures { result ≡ profile_asked (option_map (λ w. w.now) word.entry) }
 {
@@ -77,7 +78,7 @@ pub fn profile_asked(word: Option<&str>) -> Option<Profile>
     }
 }
 
-/// The ROM that the word after `--rom` asks for, if any, or `None` where it is no such value.
+/// Returns the ROM that the word after `--rom` asks for, if any, or `None` if the word is wrong.
 pub fn rom_asked(word: Option<&str>) -> Option<Option<(u16, u16)>>
     ensures { result ≡ rom_asked (option_map (λ w. w.now) word.entry) }
 {
@@ -90,7 +91,7 @@ pub fn rom_asked(word: Option<&str>) -> Option<Option<(u16, u16)>>
     }
 }
 
-/// The address that a word writes, or `None` where there is none, or it writes none.
+/// Returns the address that a word writes, or `None` if there is no word, or it writes none.
 pub fn address_asked(word: Option<&str>) -> Option<u16>
     ensures { result ≡ option_and_then address_of (option_map (λ w. w.now) word.entry) }
 {
