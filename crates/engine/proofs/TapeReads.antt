@@ -60,7 +60,8 @@ with_known (Some x) P Q h f = f x h
 
 -- ---- no image was read
 
--- a read failed, memory ran out, or the tape is refused with a fault other than running out of memory
+-- a read failed, memory ran out, or the tape is rejected with a fault that is not running out of
+-- memory
 each_end : (f : TapeReadFault) (P : EngineFault → Type 0) → P Read → P OutOfMemory → ((g : TapeFault) → f ≡ tape_read_fault.Tape g → of_tape g ≡ Tape g → P (Tape g)) → P (of_tape_read f)
 each_end tape_read_fault.Read P r m t = r
 each_end (tape_read_fault.Tape g) P r m t = elim (tape_either g.kind g) [

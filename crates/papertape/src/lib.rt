@@ -2,10 +2,9 @@
 //!
 //! The crate owns the form of the records. A caller may write an image, read a whole text, or feed
 //! a `TapeReader` piece by piece; both ways of reading take the same step, a byte at a time. The
-//! proof goes by a reading machine
-//! (`specs/Reading.antt`), which is shown to have seen what the grammar says
-//! (`proofs/Grammar.antt`), from both sides. It is longer than the code, since first faults, the writer's cuts and pieces
-//! each need an induction.
+//! proof goes by a reading machine, in `specs/Reading.antt`, which is shown to have seen what the
+//! grammar says, in `proofs/Grammar.antt`, from both sides. It is longer than the code, since first
+//! faults, the writer's cuts and pieces each need an induction.
 #![tactic(auto)]
 
 mod claim;
