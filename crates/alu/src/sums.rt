@@ -1,7 +1,10 @@
 //! Sums and differences, in binary and decimal.
 
-ghost use Rattle.std.specs.Prelude.{◌≡◌, true, not, nat_le, ◌+◌, ◌-◌, ◌%◌, ◌<◌, nat_lt, if◌then◌else◌};
-ghost use Rattle.model.specs.Arithmetic.{adc, adc_binary, adc_decimal, sbc, sbc_binary, sbc_decimal, bit, IsDecimal, packed_decimal_value, digits_of};
+ghost use Rattle.std.specs.Prelude.{◌≡◌, true, not, nat_le, ◌+◌, ◌-◌, ◌%◌, ◌<◌, nat_lt};
+ghost use Rattle.std.specs.Prelude.{if◌then◌else◌};
+ghost use Rattle.model.specs.Arithmetic.{adc, adc_binary, adc_decimal, sbc, sbc_binary};
+ghost use Rattle.model.specs.Arithmetic.{sbc_decimal, bit, IsDecimal, packed_decimal_value};
+ghost use Rattle.model.specs.Arithmetic.{digits_of};
 
 use model::Sum;
 
@@ -16,8 +19,10 @@ use model::Sum;
 #[tactic(auto, unfolding(model::specs::Arithmetic::adc))]
 pub fn adc(a: u8, m: u8, c: bool, d: bool) -> Sum
     ensures sum { result ≡ adc a m c d }
-    ensures decimal { d ≡ true → IsDecimal a → IsDecimal m → result.value ≡ digits_of ((packed_decimal_value a + packed_decimal_value m + bit c) % 100) }
-    ensures decimal_carry { d ≡ true → IsDecimal a → IsDecimal m → result.c ≡ nat_lt 99 (packed_decimal_value a + packed_decimal_value m + bit c) }
+    ensures decimal { d ≡ true → IsDecimal a → IsDecimal m → result.value
+        ≡ digits_of ((packed_decimal_value a + packed_decimal_value m + bit c) % 100) }
+    ensures decimal_carry { d ≡ true → IsDecimal a → IsDecimal m
+        → result.c ≡ nat_lt 99 (packed_decimal_value a + packed_decimal_value m + bit c) }
 {
     if d {
         adc_decimal(a, m, c)
@@ -89,8 +94,10 @@ fn adc_decimal(a: u8, m: u8, c: bool) -> Sum
 #[tactic(auto, unfolding(model::specs::Arithmetic::sbc))]
 pub fn sbc(a: u8, m: u8, c: bool, d: bool) -> Sum
     ensures difference { result ≡ sbc a m c d }
-    ensures decimal { d ≡ true → IsDecimal a → IsDecimal m → result.value ≡ digits_of ((100 + packed_decimal_value a - packed_decimal_value m - bit (not c)) % 100) }
-    ensures decimal_carry { d ≡ true → IsDecimal a → IsDecimal m → result.c ≡ nat_le (packed_decimal_value m + bit (not c)) (packed_decimal_value a) }
+    ensures decimal { d ≡ true → IsDecimal a → IsDecimal m → result.value
+        ≡ digits_of ((100 + packed_decimal_value a - packed_decimal_value m - bit (not c)) % 100) }
+    ensures decimal_carry { d ≡ true → IsDecimal a → IsDecimal m
+        → result.c ≡ nat_le (packed_decimal_value m + bit (not c)) (packed_decimal_value a) }
 {
     let binary = sbc_binary(a, m, c);
     if d {

@@ -16,7 +16,8 @@ tokens_or kind None = Err kind
 tokens_or kind (Some ts) = Ok ts
 
 unfoldable pub line_tokens : List ℕ → Result (List Lexeme) AsmFaultKind
-line_tokens line = if nat_lt 255 (length line) then Err LineTooLong else tokens_or (fault_of_bytes line) (tokens_of line)
+line_tokens line = if nat_lt 255 (length line) then Err LineTooLong
+    else tokens_or (fault_of_bytes line) (tokens_of line)
 
 -- what they say in a profile, or the fault that there is already
 abbrev pub said_by : Profile → Result (List Lexeme) AsmFaultKind → Result Line AsmFaultKind

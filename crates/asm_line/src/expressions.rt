@@ -1,6 +1,7 @@
 //! Expressions and items among the tokens of a line.
 
-ghost use Rattle.std.specs.Prelude.{◌≡◌, ◌<◌, ◌≤◌, ◌-◌, IfOk, IfErr, None, Some, drop, length, map, take, true};
+ghost use Rattle.std.specs.Prelude.{◌≡◌, ◌<◌, ◌≤◌, ◌-◌, IfOk, IfErr, None, Some, drop, length, map};
+ghost use Rattle.std.specs.Prelude.{take, true};
 ghost use Rattle.model.specs.Line.{expressions_of, item_of, items_of, whole_expression};
 ghost use Rattle.model.specs.Reading.{expression_of};
 ghost use Rattle.line_parts.specs.Lexemes.{lexemes};
@@ -80,7 +81,8 @@ fn inside(text: &[u8]) -> &[u8]
 
 /// Returns the item at the front of some tokens, and its number of tokens.
 fn item<'a>(alloc: Global, tokens: &[Token<'a>]) -> Result<(Item<'a>, usize), LineFault>
-    ensures found { IfOk result (λ p. item_of (lexemes tokens.now) ≡ Some (seen_item p.0, drop p.1 (lexemes tokens.now))) }
+    ensures found { IfOk result
+        (λ p. item_of (lexemes tokens.now) ≡ Some (seen_item p.0, drop p.1 (lexemes tokens.now))) }
     ensures within { IfOk result (λ p. p.1 ≤ length tokens.now) }
     ensures syntax { IfErr result (λ f. f ≡ Syntax → item_of (lexemes tokens.now) ≡ None) }
 {

@@ -18,7 +18,8 @@ use std::alloc::Global;
 
 /// An operand of one expression, by the tokens after it: none, `,X` or `,Y`.
 fn direct_after<'a>(marked: bool, value: Expr<'a>, behind: &[Token<'a>]) -> Option<Operand<'a>>
-    ensures { option_map seen_operand result ≡ direct_after marked (view value.entry) (lexemes behind.now) }
+    ensures { option_map seen_operand result
+        ≡ direct_after marked (view value.entry) (lexemes behind.now) }
 {
     let index = match behind {
         [] => Index::Unindexed,
@@ -35,7 +36,8 @@ fn direct_after<'a>(marked: bool, value: Expr<'a>, behind: &[Token<'a>]) -> Opti
 
 /// How the tokens after the expression of a round bracket close it: `)`, `,X)` or `),Y`.
 fn closing(behind: &[Token<'_>]) -> Option<Index>
-    ensures { (value : Term) → option_map (pointer_by value) result ≡ pointer_after value (lexemes behind.now) }
+    ensures { (value : Term)
+        → option_map (pointer_by value) result ≡ pointer_after value (lexemes behind.now) }
 {
     match behind {
         [close] if is_symbol(close, b')') => Some(Index::Unindexed),
@@ -61,7 +63,8 @@ fn direct<'a>(alloc: Global, marked: bool, tokens: &[Token<'a>]) -> Result<Opera
 
 /// The operand after a `(`.
 fn pointer<'a>(alloc: Global, tokens: &[Token<'a>]) -> Result<Operand<'a>, LineFault>
-    ensures { Reads seen_operand result (option_and_then (λ p. pointer_after p.0 p.1) (expression_of (lexemes tokens.now))) }
+    ensures { Reads seen_operand result
+        (option_and_then (λ p. pointer_after p.0 p.1) (expression_of (lexemes tokens.now))) }
 {
     let (value, behind) = expression(alloc, tokens)?;
     match closing(behind) {

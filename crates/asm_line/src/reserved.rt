@@ -2,7 +2,8 @@
 
 ghost use Rattle.std.specs.Prelude.{◌≡◌};
 ghost use Rattle.std.specs.List.{list_any};
-ghost use Rattle.model.specs.Line.{is_reserved, item_reserves, line_reserves, operand_reserves, reserves, term_reserves};
+ghost use Rattle.model.specs.Line.{is_reserved, item_reserves, line_reserves, operand_reserves};
+ghost use Rattle.model.specs.Line.{reserves, term_reserves};
 ghost use Rattle.line_parts.specs.Trees.{view};
 ghost use Rattle.line_parts.specs.Seen.{seen, seen_item, seen_line, seen_operand};
 

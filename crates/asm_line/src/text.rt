@@ -1,7 +1,8 @@
 //! What the text of a line says.
 
 ghost use Rattle.std.specs.Prelude.{◌≡◌, ◌∷◌, [], IfOk, OnErr};
-ghost use Rattle.model.specs.Line.{directive_of, line_of, operation_by, origin_after, read_line, statement_of, unlabelled, unreserved, word_line};
+ghost use Rattle.model.specs.Line.{directive_of, line_of, operation_by, origin_after, read_line};
+ghost use Rattle.model.specs.Line.{statement_of, unlabelled, unreserved, word_line};
 ghost use Rattle.line_parts.specs.Lexemes.{lexeme_of, lexemes};
 ghost use Rattle.line_parts.specs.Seen.{Gives, Reads, seen, seen_line};
 ghost use Rattle.line_parts.specs.FewBytes.{IsSmallLine};
@@ -68,7 +69,8 @@ fn instruction<'a>(
     word: &Token<'a>,
     after: &[Token<'a>],
 ) -> Result<Statement<'a>, LineFault>
-    ensures { Reads seen result (operation_by profile TokenKind.Word (lexeme_of word.now) (lexemes after.now)) }
+    ensures { Reads seen result
+        (operation_by profile TokenKind.Word (lexeme_of word.now) (lexemes after.now)) }
 {
     let mnemonic = mnemonic_in(profile, word.text).ok_or(LineFault::Syntax)?;
     Ok(Statement::Instruction(mnemonic, operand(alloc, after)?))

@@ -36,4 +36,5 @@ taken number found given = given >>> λ s. Ok (noting number found s.0, s.1)
 abbrev pub found_lines : ℕ → Fixed → Found → List (List ℕ) → Result (Found × Fixed) AsmFault
 found_lines number before found [] = Ok (found, before)
 found_lines number before found (line ∷ lines) =
-    numbered number (taken number found (layout_of before line)) >>= λ p. found_lines (number + 1) p.1 p.0 lines
+    numbered number (taken number found (layout_of before line))
+    >>= λ p. found_lines (number + 1) p.1 p.0 lines

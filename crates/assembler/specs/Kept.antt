@@ -24,12 +24,17 @@ ends_line (definition name e) = false
 
 -- One more line is found, which leaves these names; the next line's address, and whether no more
 -- lines are read. Unless memory runs out.
-abbrev pub Takes : Profile → List ℕ → Found → Result (ℕ × Bool) LineError → Definitions → Result (Found × Fixed) AsmFaultKind → Type 0
-Takes profile text found (Ok r) names given = (given ≡ Ok (found, record { profile = profile; address = r.0; names = names })) × (r.1 ≡ is_end (read_line profile text))
+abbrev pub Takes : Profile → List ℕ → Found → Result (ℕ × Bool) LineError → Definitions
+    → Result (Found × Fixed) AsmFaultKind → Type 0
+Takes profile text found (Ok r) names given
+    = (given ≡ Ok (found, record { profile = profile; address = r.0; names = names }))
+    × (r.1 ≡ is_end (read_line profile text))
 Takes profile text found (Err errors.Memory) names given = ⊤
 Takes profile text found (Err (errors.Kind kind)) names given = given ≡ Err kind
 
 -- What is found of all lines, and the names after them, unless memory runs out.
-abbrev pub Lays : Profile → Result Lines AsmFault → Definitions → Result (Found × Fixed) AsmFault → Type 0
-Lays profile (Ok lines) names given = (end : ℕ) × (given ≡ Ok (found_of lines, record { profile = profile; address = end; names = names }))
+abbrev pub Lays : Profile → Result Lines AsmFault → Definitions → Result (Found × Fixed) AsmFault
+    → Type 0
+Lays profile (Ok lines) names given = (end : ℕ)
+    × (given ≡ Ok (found_of lines, record { profile = profile; address = end; names = names }))
 Lays profile (Err fault) names given = (fault ≡ out_of_memory) ⊎ (given ≡ Err fault)

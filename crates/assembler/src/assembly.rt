@@ -1,7 +1,9 @@
 //! A source assembled.
 
-ghost use Rattle.std.specs.Prelude.{◌≡◌, ◌⊎◌, ℕ, List, Option, Err, IfOk, IfErr, false, length, slice_get};
-ghost use Rattle.assembler.specs.Assembly.{AnswersSource, IsImageOrMemory, listing_of, out_of_memory, seen_verdict, verdict};
+ghost use Rattle.std.specs.Prelude.{◌≡◌, ◌⊎◌, ℕ, List, Option, Err, IfOk, IfErr, false, length};
+ghost use Rattle.std.specs.Prelude.{slice_get};
+ghost use Rattle.assembler.specs.Assembly.{AnswersSource, IsImageOrMemory, listing_of};
+ghost use Rattle.assembler.specs.Assembly.{out_of_memory, seen_verdict, verdict};
 ghost use Rattle.model.specs.Layout.{Fixed, LaidOut, Placed, extents_of};
 ghost use Rattle.model.specs.Listing.{IsListing};
 ghost use Rattle.model.specs.Names.{number_in};
@@ -41,7 +43,12 @@ impl Model for Assembly {
 
     ghost Value = { Assembled };
 
-    ghost view = { λ a. record { image = a.image; source = a.source.items; places = pairs_of a.spans.items; names = a.symbols } };
+    ghost view = { λ a. record {
+      image = a.image;
+      source = a.source.items;
+      places = pairs_of a.spans.items;
+      names = a.symbols;
+    } };
 }
 
 impl Assembly {
@@ -123,18 +130,24 @@ pub fn assemble(alloc: Global, source: &[u8], map: &MapSpec) -> Result<Assembly,
     // The image is what the source denotes.
     ensures denoted { IfOk result (λ a. Denotes map.now source.now a.image) }
     // A source that denotes an image is assembled to it, unless memory runs out.
-    ensures only { (image : List (Option ℕ)) → Denotes map.now source.now image → IsImageOrMemory result image }
+    ensures only { (image : List (Option ℕ)) → Denotes map.now source.now image
+        → IsImageOrMemory result image }
     // An error is the source's fault, or `OutOfMemory`.
     ensures refused { IfErr result (λ f. (f ≡ out_of_memory) ⊎ HasFault map.now source.now f) }
     // A source with a fault is rejected with it, unless memory runs out.
-    ensures faulty { (f : AsmFault) → HasFault map.now source.now f → (result ≡ Err f) ⊎ (result ≡ Err out_of_memory) }
+    ensures faulty { (f : AsmFault) → HasFault map.now source.now f
+        → (result ≡ Err f) ⊎ (result ≡ Err out_of_memory) }
     // No byte is at a port address, so a machine can load the image.
     ensures spared { IfOk result (λ a. has_port_byte map.now a.image ≡ false) }
     ensures cells { IfOk result (λ a. IsImage a.image) }
     // The source is kept, with each line's address and number of bytes, and its names.
     ensures kept { IfOk result (λ a. a.source ≡ source.now) }
-    ensures places { IfOk result (λ a. (placed : List Placed) (all : Fixed) → LaidOut (nothing_fixed map.now.profile) (read_lines map.now.profile source.now) placed all → a.places ≡ extents_of placed) }
-    ensures names { IfOk result (λ a. (placed : List Placed) (all : Fixed) → LaidOut (nothing_fixed map.now.profile) (read_lines map.now.profile source.now) placed all → a.names ≡ all.names) }
+    ensures places { IfOk result
+        (λ a. (placed : List Placed) (all : Fixed) → LaidOut (nothing_fixed map.now.profile)
+        (read_lines map.now.profile source.now) placed all → a.places ≡ extents_of placed) }
+    ensures names { IfOk result
+        (λ a. (placed : List Placed) (all : Fixed) → LaidOut (nothing_fixed map.now.profile)
+        (read_lines map.now.profile source.now) placed all → a.names ≡ all.names) }
     // The listing of these is that of the source.
     ensures listed { IfOk result (λ a. IsListing map.now source.now (listing_of a)) }
 {

@@ -57,7 +57,12 @@ fn take_line<'a>(
     text: &'a [u8],
 ) -> Result<(u32, bool), LineError>
     requires { address < 2 ^ 31 - 510 }
-    ensures exact { Takes profile text.now (found_of lines.new) result symbols.new (taken number (found_of lines.old) (layout_of (record { profile = profile; address = address; names = symbols.old }) text.now)) }
+    ensures exact { Takes profile text.now (found_of lines.new) result symbols.new
+        (taken number (found_of lines.old) (layout_of (record {
+          profile = profile;
+          address = address;
+          names = symbols.old;
+        }) text.now)) }
     ensures near { IfOk result (λ r. r.0 ≤ max (address + 510) 65536) }
 {
     let line = read_line_with(alloc, profile, room, text)?;
@@ -83,7 +88,8 @@ pub fn lay_out<'a>(
 ) -> Result<Lines<'a>, AsmFault>
     requires size { length source.now ≤ 1048576 }
     requires empty { symbols.old ≡ [] }
-    ensures { Lays profile result symbols.new (found_lines 1 (nothing_fixed profile) nothing_found (read_lines profile source.now)) }
+    ensures { Lays profile result symbols.new
+        (found_lines 1 (nothing_fixed profile) nothing_found (read_lines profile source.now)) }
 {
     let mut lines = Lines::new(alloc);
     let mut room = Vec::new(alloc);

@@ -1,6 +1,7 @@
 //! One line alone.
 
-ghost use Rattle.std.specs.Prelude.{◌≡◌, ◌+◌, ◌-◌, ◌<◌, ◌≤◌, ◌^◌, IfOk, OnOk, length, take, drop, replicate, map};
+ghost use Rattle.std.specs.Prelude.{◌≡◌, ◌+◌, ◌-◌, ◌<◌, ◌≤◌, ◌^◌, IfOk, OnOk, length, take, drop};
+ghost use Rattle.std.specs.Prelude.{replicate, map};
 ghost use Rattle.line_parts.specs.Seen.{Gives, seen};
 ghost use Rattle.line_parts.specs.Located.{AnswersSource};
 ghost use Rattle.line_parts.specs.Contents.{content_by};
@@ -64,7 +65,8 @@ fn encode_alone(
     requires near { address < 2 ^ 31 - 510 }
     requires short { site.count ≤ 3 }
     requires sized { site.count ≡ size_of (content_by site.code (seen statement.now)) }
-    ensures bytes { Gives (λ l. take l.count l.bytes) result (bytes_alone (record { address = address; content = content_by site.code (seen statement.now) })) }
+    ensures bytes { Gives (λ l. take l.count l.bytes) result (bytes_alone
+        (record { address = address; content = content_by site.code (seen statement.now) })) }
     ensures rest { IfOk result (λ l. drop l.count l.bytes ≡ replicate (3 - l.count) 0) }
     ensures few { IfOk result (λ l. l.count ≤ 3) }
 {
@@ -118,7 +120,8 @@ pub fn assemble_line_in(
     text: &[u8],
 ) -> Result<Line, AsmFault>
     // The bytes or the fault are what the text denotes there, unless memory runs out.
-    ensures exact { AnswersSource (λ l. take l.count l.bytes) result (numbered 1 (one_line profile address text.now)) }
+    ensures exact { AnswersSource (λ l. take l.count l.bytes) result
+        (numbered 1 (one_line profile address text.now)) }
     ensures rest { IfOk result (λ l. drop l.count l.bytes ≡ replicate (3 - l.count) 0) }
     ensures few { IfOk result (λ l. l.count ≤ 3) }
 {
@@ -131,7 +134,8 @@ pub fn assemble_line_in(
 /// Assembles a text as one line in profile N, as `assemble_line_in` does.
 pub fn assemble_line(alloc: Global, address: u16, text: &[u8]) -> Result<Line, AsmFault>
     // The bytes or the fault are what the text denotes there, unless memory runs out.
-    ensures exact { AnswersSource (λ l. take l.count l.bytes) result (numbered 1 (one_line Profile.N address text.now)) }
+    ensures exact { AnswersSource (λ l. take l.count l.bytes) result
+        (numbered 1 (one_line Profile.N address text.now)) }
     ensures rest { IfOk result (λ l. drop l.count l.bytes ≡ replicate (3 - l.count) 0) }
     ensures few { IfOk result (λ l. l.count ≤ 3) }
 {

@@ -1,8 +1,12 @@
 //! What a command line asks for.
 
-ghost use Rattle.std.specs.Prelude.{◌≡◌, ◌≤◌, ◌∷◌, ◌++◌, [], MatchOption, codes, drop, false, length, replicate, take};
+ghost use Rattle.std.specs.Prelude.{◌≡◌, ◌≤◌, ◌∷◌, ◌++◌, [], MatchOption, codes, drop, false};
+ghost use Rattle.std.specs.Prelude.{length, replicate, take};
 ghost use Rattle.std.specs.Str.{bytes_eq};
-ghost use Rattle.model.specs.Commands.{address_of, asm_command, bytes_of_words, command_of, decimal_of, dis_command, from_1_to, input_command, irq_command, mem_command, most_steps, number_command, patch_command, set_command, unspaced, words_of};
+ghost use Rattle.model.specs.Commands.{address_of, asm_command, bytes_of_words, command_of};
+ghost use Rattle.model.specs.Commands.{decimal_of, dis_command, from_1_to, input_command};
+ghost use Rattle.model.specs.Commands.{irq_command, mem_command, most_steps, number_command};
+ghost use Rattle.model.specs.Commands.{patch_command, set_command, unspaced, words_of};
 ghost use Rattle.commands.specs.Groups.{long_command, pair_command, plain_command, triple_command};
 
 use crate::numbers::{address_of, byte_of, number_up_to};
@@ -217,7 +221,8 @@ fn triple_command(word: &[u8], second: &[u8], third: &[u8]) -> Command
 #[tactic(auto, unfolding(crate::specs::Groups::long_command))]
 fn long_command(word: &[u8], second: &[u8], third: &[u8], fourth: &[u8], rest: &[u8]) -> Command
     requires { bytes_eq word.now (codes "in") ≡ false }
-    ensures { result ≡ long_command word.now second.now (third.now ∷ fourth.now ∷ words_of rest.now) }
+    ensures { result
+        ≡ long_command word.now second.now (third.now ∷ fourth.now ∷ words_of rest.now) }
 {
     if !is_text(word, b"patch") {
         return Command::Bad;
@@ -299,7 +304,8 @@ fn set_command(name: &[u8], value: &[u8]) -> Command
 /// Reads a register's name and its value: two hex digits, and four for PC.
 #[tactic(auto, unfolding(model::specs::Commands::set_command))]
 fn setting_of(name: &[u8], value: &[u8]) -> Option<Setting>
-    ensures { MatchOption result (set_command name.now value.now ≡ Command.Bad) (λ setting. set_command name.now value.now ≡ Command.Set setting) }
+    ensures { MatchOption result (set_command name.now value.now ≡ Command.Bad)
+        (λ setting. set_command name.now value.now ≡ Command.Set setting) }
 {
     if is_text(name, b"A") {
         Some(Setting::A(byte_of(value)?))
@@ -334,7 +340,8 @@ fn patch_of_one(address: &[u8], first: &[u8]) -> Command
 
 /// Reads a patch of two bytes.
 fn patch_of_two(address: &[u8], first: &[u8], second: &[u8]) -> Command
-    ensures { result ≡ patch_command (address_of address.now) (bytes_of_words (first.now ∷ second.now ∷ [])) }
+    ensures { result
+        ≡ patch_command (address_of address.now) (bytes_of_words (first.now ∷ second.now ∷ [])) }
 {
     match (address_of(address), byte_of(first), byte_of(second)) {
         (Some(address), Some(first), Some(second)) => Command::Patch {
@@ -348,7 +355,8 @@ fn patch_of_two(address: &[u8], first: &[u8], second: &[u8]) -> Command
 
 /// Reads a patch of three bytes.
 fn patch_of_three(address: &[u8], first: &[u8], second: &[u8], third: &[u8]) -> Command
-    ensures { result ≡ patch_command (address_of address.now) (bytes_of_words (first.now ∷ second.now ∷ third.now ∷ [])) }
+    ensures { result ≡ patch_command (address_of address.now)
+        (bytes_of_words (first.now ∷ second.now ∷ third.now ∷ [])) }
 {
     let bytes = (byte_of(first), byte_of(second), byte_of(third));
     match (address_of(address), bytes) {

@@ -36,7 +36,8 @@ fn push_bytes(text: &mut Row, bytes: &[u8])
 pub fn row_text_in(profile: Profile, bytes: &[u8], address: u16) -> RowText
     requires some { 0 < length bytes.now }
     requires few { length bytes.now ≤ 3 }
-    ensures text { result.text.items ≡ row_line address bytes.now (row_of profile bytes.now address) }
+    ensures text { result.text.items
+        ≡ row_line address bytes.now (row_of profile bytes.now address) }
     ensures len { result.len ≡ (row_of profile bytes.now address).len }
     ensures within { result.len ≤ length bytes.now }
     ensures some { 0 < result.len }

@@ -21,7 +21,8 @@ fn push_rows(
     count: u32,
 ) -> Result<(), AllocError>
     requires { length memory.now ≡ 65536 }
-    ensures { OnOk result (out.new.items ≡ out.old.items ++ rows_in profile memory.now last first count) }
+    ensures { OnOk result
+        (out.new.items ≡ out.old.items ++ rows_in profile memory.now last first count) }
 {
     let mut address = first as usize;
     let mut left = count;
@@ -47,7 +48,8 @@ pub fn disassembly(
     first: u16,
     last: u16,
 ) -> Result<Vec<u8>, AllocError>
-    ensures { IfOk result (λ text. text.items ≡ rows_in profile (memory_of image.now) last first 65536) }
+    ensures { IfOk result
+        (λ text. text.items ≡ rows_in profile (memory_of image.now) last first 65536) }
 {
     let memory = memory_of(alloc, image)?;
     let mut out = Vec::new(alloc);

@@ -17,7 +17,8 @@ abbrev pub item_pieces : Numbers → ℕ → List Item → List BytesOrFault
 item_pieces numbers address items = map (λ i. item_piece numbers address i) items
 
 -- The pieces of some values, each made in this way.
-abbrev pub value_pieces : (Result ℤ ExprFault → BytesOrFault) → Numbers → ℕ → List Term → List BytesOrFault
+abbrev pub value_pieces : (Result ℤ ExprFault → BytesOrFault) → Numbers → ℕ → List Term
+    → List BytesOrFault
 value_pieces piece numbers address es = map (λ e. piece (eval_of numbers (pos address) e)) es
 
 abbrev pub seen_encoded : Encoded → List ℕ
@@ -59,10 +60,12 @@ gathered g (p ∷ ps) = gathered (added g p) ps
 -- All that is gathered of a line in its place.
 abbrev pub line_gathered : Map → Numbers → List (Option ℕ) → Placed → Gathering
 line_gathered m numbers image p =
-    noted_all (gathered nothing_gathered (pieces_of numbers p.address p.content)) (place_kinds m image p.address (size_of p.content))
+    noted_all (gathered nothing_gathered (pieces_of numbers p.address p.content))
+    (place_kinds m image p.address (size_of p.content))
 
 -- The result, and the image after it, are what a definition gives, unless memory runs out.
-abbrev pub Stores : Result Unit LineError → List (Option ℕ) → Result (List (Option ℕ)) AsmFaultKind → Type 0
+abbrev pub Stores : Result Unit LineError → List (Option ℕ) → Result (List (Option ℕ)) AsmFaultKind
+    → Type 0
 Stores (Ok u) image given = given ≡ Ok image
 Stores (Err errors.Memory) image given = ⊤
 Stores (Err (errors.Kind kind)) image given = given ≡ Err kind

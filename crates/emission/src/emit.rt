@@ -1,12 +1,19 @@
 //! The bytes of a line in its place, or its value fault.
 
-ghost use Rattle.std.specs.Prelude.{◌≡◌, ◌+◌, ◌<◌, ◌≤◌, ◌^◌, ◌-◌, ◌∷◌, [], nat_lt, pos, length, map, IfErr, IfOk, OnOk, Ok, Some, Err};
+ghost use Rattle.std.specs.Prelude.{◌≡◌, ◌+◌, ◌<◌, ◌≤◌, ◌^◌, ◌-◌, ◌∷◌, [], nat_lt, pos, length};
+ghost use Rattle.std.specs.Prelude.{map, IfErr, IfOk, OnOk, Ok, Some, Err};
 ghost use Rattle.line_parts.specs.Trees.{view};
-ghost use Rattle.emission.specs.Gathering.{Stores, added, gathered, item_pieces, line_gathered, noted, noted_all, nothing_gathered, refused, seen_encoded, seen_piece, value_pieces};
+ghost use Rattle.emission.specs.Gathering.{Stores, added, gathered, item_pieces, line_gathered};
+ghost use Rattle.emission.specs.Gathering.{noted, noted_all, nothing_gathered, refused};
+ghost use Rattle.emission.specs.Gathering.{seen_encoded, seen_piece, value_pieces};
 ghost use Rattle.line_parts.specs.Kept.{placed_of};
 ghost use Rattle.line_parts.specs.Seen.{Gives, seen, seen_item};
 ghost use Rattle.line_parts.specs.Contents.{content_by, shown};
-ghost use Rattle.model.specs.Bytes.{item_piece, pieces_of, word_bytes_high_first, word_piece_high_first, address_piece, after_opcode, branch_piece, byte_piece, distance_piece, has_bytes, has_port, kind_if, lower, lowest, modulo, operand_piece, place_kinds, within, word_bytes, word_piece, zero_page_piece};
+ghost use Rattle.model.specs.Bytes.{item_piece, pieces_of, word_bytes_high_first};
+ghost use Rattle.model.specs.Bytes.{word_piece_high_first, address_piece, after_opcode};
+ghost use Rattle.model.specs.Bytes.{branch_piece, byte_piece, distance_piece, has_bytes, has_port};
+ghost use Rattle.model.specs.Bytes.{kind_if, lower, lowest, modulo, operand_piece, place_kinds};
+ghost use Rattle.model.specs.Bytes.{within, word_bytes, word_piece, zero_page_piece};
 ghost use Rattle.source_laws.specs.Judging.{put};
 ghost use Rattle.model.specs.Names.{number_in};
 ghost use Rattle.model.specs.Layout.{size_of};
@@ -307,7 +314,8 @@ impl Gathered {
     /// Appends an item of `.BYTE`.
     fn add_item(&mut self, names: &Symbols, here: u32, item: &Item<'_>) -> Result<(), AllocError>
         requires { here < 2 ^ 31 - 510 }
-        ensures { OnOk result (self.new ≡ added self.old (item_piece (number_in names.now) here (seen_item item.now))) }
+        ensures { OnOk result (self.new
+            ≡ added self.old (item_piece (number_in names.now) here (seen_item item.now))) }
     {
         match item {
             Item::Value(value) => self.add(byte(number_at(value, names, here))),
@@ -323,7 +331,8 @@ impl Gathered {
         items: &[Item<'_>],
     ) -> Result<(), AllocError>
         requires { here < 2 ^ 31 - 510 }
-        ensures { OnOk result (self.new ≡ gathered self.old (item_pieces (number_in names.now) here (map seen_item items.now))) }
+        ensures { OnOk result (self.new ≡ gathered self.old
+            (item_pieces (number_in names.now) here (map seen_item items.now))) }
     {
         for item in items {
             self.add_item(names, here, item)?;
@@ -339,7 +348,8 @@ impl Gathered {
         values: &[Expr<'_>],
     ) -> Result<(), AllocError>
         requires { here < 2 ^ 31 - 510 }
-        ensures { OnOk result (self.new ≡ gathered self.old (value_pieces word_piece (number_in names.now) here (map view values.now))) }
+        ensures { OnOk result (self.new ≡ gathered self.old
+            (value_pieces word_piece (number_in names.now) here (map view values.now))) }
     {
         for value in values {
             self.add(word(number_at(value, names, here)))?;
@@ -355,7 +365,8 @@ impl Gathered {
         values: &[Expr<'_>],
     ) -> Result<(), AllocError>
         requires { here < 2 ^ 31 - 510 }
-        ensures { OnOk result (self.new ≡ gathered self.old (value_pieces word_piece_high_first (number_in names.now) here (map view values.now))) }
+        ensures { OnOk result (self.new ≡ gathered self.old
+            (value_pieces word_piece_high_first (number_in names.now) here (map view values.now))) }
     {
         for value in values {
             self.add(word_high_first(number_at(value, names, here)))?;
@@ -373,7 +384,8 @@ impl Gathered {
         value: Option<&Expr<'_>>,
     ) -> Result<(), AllocError>
         requires { here < 2 ^ 31 - 510 }
-        ensures { OnOk result (self.new ≡ gathered self.old (after_opcode (number_in names.now) here mode (shown (λ e. view e.now) value.entry))) }
+        ensures { OnOk result (self.new ≡ gathered self.old
+            (after_opcode (number_in names.now) here mode (shown (λ e. view e.now) value.entry))) }
     {
         match value {
             None => Ok(()),
@@ -391,7 +403,8 @@ impl Gathered {
         statement: &Statement<'_>,
     ) -> Result<(), AllocError>
         requires { here < 2 ^ 31 - 510 }
-        ensures { OnOk result (self.new ≡ gathered self.old (pieces_of (number_in names.now) here (content_by code (seen statement.now)))) }
+        ensures { OnOk result (self.new ≡ gathered self.old
+            (pieces_of (number_in names.now) here (content_by code (seen statement.now)))) }
     {
         match statement {
             Statement::Bytes(items) => self.add_items(names, here, items),
@@ -477,7 +490,8 @@ fn gather(
     names: &Symbols,
     line: &Kept<'_>,
 ) -> Result<(), AllocError>
-    ensures { OnOk result (gathered.new ≡ line_gathered map.now (number_in names.now) image.now (placed_of line.now)) }
+    ensures { OnOk result (gathered.new
+        ≡ line_gathered map.now (number_in names.now) image.now (placed_of line.now)) }
 {
     gathered.clear();
     gathered.add_statement(names, line.address, line.code, &line.statement)?;
@@ -497,7 +511,9 @@ fn gather_alone(
 ) -> Result<Gathered, AllocError>
     requires near { address < 2 ^ 31 - 510 }
     requires small { count ≤ 510 }
-    ensures { IfOk result (λ g. g ≡ noted (gathered nothing_gathered (pieces_of no_numbers address (content_by code (seen statement.now)))) (kind_if (nat_lt 65536 (address + count)) PastEnd)) }
+    ensures { IfOk result (λ g. g ≡ noted (gathered nothing_gathered
+        (pieces_of no_numbers address (content_by code (seen statement.now))))
+        (kind_if (nat_lt 65536 (address + count)) PastEnd)) }
 {
     let mut gathered = Gathered::new(alloc);
     gathered.add_statement(&Symbols::new(alloc), address, code, statement)?;
@@ -520,7 +536,8 @@ pub fn bytes_alone(
     requires near { address < 2 ^ 31 - 510 }
     requires small { count ≤ 510 }
     requires sized { count ≡ size_of (content_by code (seen statement.now)) }
-    ensures exact { Gives (λ bytes. bytes.items) result (bytes_alone (record { address = address; content = content_by code (seen statement.now) })) }
+    ensures exact { Gives (λ bytes. bytes.items) result (bytes_alone
+        (record { address = address; content = content_by code (seen statement.now) })) }
     ensures few { IfOk result (λ bytes. length bytes.items ≤ count) }
 {
     let gathered = gather_alone(alloc, address, code, count, statement)?;
@@ -538,7 +555,8 @@ pub fn put_line(
     names: &Symbols,
     line: &Kept<'_>,
 ) -> Result<(), LineError>
-    ensures { Stores result image.new (put map.now (number_in names.now) image.old (placed_of line.now)) }
+    ensures { Stores result image.new
+        (put map.now (number_in names.now) image.old (placed_of line.now)) }
 {
     gather(gathered, map, image, names, line)?;
     match gathered.kind() {

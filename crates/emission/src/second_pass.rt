@@ -32,7 +32,8 @@ pub fn make_image(
     names: &Symbols,
     kept: &[Kept<'_>],
 ) -> Result<Image, AsmFault>
-    ensures exact { AnswersSource (λ image. image) result (made_kept map.now (number_in names.now) empty_image (counted_in kept.now)) }
+    ensures exact { AnswersSource (λ image. image) result
+        (made_kept map.now (number_in names.now) empty_image (counted_in kept.now)) }
     // No line without a fault puts a byte at a port address.
     ensures spared { IfOk result (λ image. has_port_byte map.now image ≡ false) }
 {

@@ -17,18 +17,23 @@ NoneQuits told = All (λ line. command_of line ≢ Quit) (ended_lines_of told)
 
 -- The bytes consumed are those that were read, and what was written is a beginning of the replies
 -- to the complete lines; at the end of the input the last line counts too, complete or not.
-abbrev pub Begins : Session → Option (List ℕ) → Option (List ℕ) → Option (List ℕ) → Option (List ℕ) → Type 0
+abbrev pub Begins : Session → Option (List ℕ) → Option (List ℕ) → Option (List ℕ) → Option (List ℕ)
+    → Type 0
 Begins s input left held now = (told : List ℕ) × Consumes input left told
-    × (AppendsFront held now (transcript_so_far s told).written ⊎ (IsAtEnd left × AppendsFront held now (transcript s told).written))
+    × (AppendsFront held now (transcript_so_far s told).written
+    ⊎ (IsAtEnd left × AppendsFront held now (transcript s told).written))
 
 -- What was consumed of the reader, and what the writer holds, by how the serving of a session
 -- ended. `Ok`: the transcript of the input was written. `Read`: the replies to the complete lines
 -- read so far were written, and none of these lines is `quit`. `Write` and `OutOfMemory`: a
 -- beginning of the transcript of what was read so far was written. Any other fault comes before a
 -- session is served.
-abbrev pub Serves : {X : Type 0} → Session → Option (List ℕ) → Option (List ℕ) → Option (List ℕ) → Option (List ℕ) → Result X EngineFault → Type 0
-Serves s input left held now (Ok done) = IfSome input (λ bytes. Appends held now (transcript s bytes).written)
-Serves s input left held now (Err engine_fault.Read) = (told : List ℕ) × Consumes input left told × NoneQuits told × Appends held now (transcript_so_far s told).written
+abbrev pub Serves : {X : Type 0} → Session → Option (List ℕ) → Option (List ℕ) → Option (List ℕ)
+    → Option (List ℕ) → Result X EngineFault → Type 0
+Serves s input left held now (Ok done)
+    = IfSome input (λ bytes. Appends held now (transcript s bytes).written)
+Serves s input left held now (Err engine_fault.Read) = (told : List ℕ) × Consumes input left told
+    × NoneQuits told × Appends held now (transcript_so_far s told).written
 Serves s input left held now (Err engine_fault.Write) = Begins s input left held now
 Serves s input left held now (Err engine_fault.OutOfMemory) = Begins s input left held now
 Serves s input left held now (Err fault) = ⊤

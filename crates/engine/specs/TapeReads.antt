@@ -25,12 +25,15 @@ IsReadWhole told AtEnd = AtEnd × ((image : List (Option ℕ)) × IsReadInPieces
 -- before any of it was. Every other result comes after the tape was read.
 abbrev pub ShowsTape : {X : Type 0} → List ℕ → Type 0 → Result X EngineFault → Type 0
 ShowsTape told AtEnd (Err (engine_fault.Source fault)) = ⊥
-ShowsTape told AtEnd (Err (engine_fault.Tape fault)) = EndsWithPiece told fault ⊎ (AtEnd × IsRefusedInPieces told fault)
+ShowsTape told AtEnd (Err (engine_fault.Tape fault)) = EndsWithPiece told fault
+    ⊎ (AtEnd × IsRefusedInPieces told fault)
 ShowsTape told AtEnd (Err engine_fault.Read) = IsReadWhole told AtEnd ⊎ GoesOn told
 ShowsTape told AtEnd (Err engine_fault.OutOfMemory) = IsReadWhole told AtEnd ⊎ (told ≡ [])
 ShowsTape told AtEnd answer = IsReadWhole told AtEnd
 
 -- What was consumed of the tape, by what is known of it before and after, and by the engine's
 -- result.
-abbrev pub ReadsTape : {X : Type 0} → Option (List ℕ) → Option (List ℕ) → Result X EngineFault → Type 0
-ReadsTape before now answer = (told : List ℕ) × Consumes before now told × ShowsTape told (IsAtEnd now) answer
+abbrev pub ReadsTape : {X : Type 0} → Option (List ℕ) → Option (List ℕ) → Result X EngineFault
+    → Type 0
+ReadsTape before now answer = (told : List ℕ) × Consumes before now told
+    × ShowsTape told (IsAtEnd now) answer

@@ -22,10 +22,12 @@ pub fn assembled<W: Write>(
     text: &[u8],
     writer: &mut W,
 ) -> Result<(), ReplyFault>
-    ensures writes { Writes (W.contents writer.old) (W.contents writer.new) (asm_answer session.old address (one_line session.old.current.bus.map.profile address text.now)).written result }
-    ensures after { result ≢ Err ReplyFault.OutOfMemory
-        → session.new ≡ (asm_answer session.old address (one_line session.old.current.bus.map.profile address text.now)).session }
-    ensures memory { IsErrOf result ReplyFault.OutOfMemory → (session.new ≡ session.old) × (writer.new ≡ writer.old) }
+    ensures writes { Writes (W.contents writer.old) (W.contents writer.new) (asm_answer session.old
+        address (one_line session.old.current.bus.map.profile address text.now)).written result }
+    ensures after { result ≢ Err ReplyFault.OutOfMemory → session.new ≡ (asm_answer session.old
+        address (one_line session.old.current.bus.map.profile address text.now)).session }
+    ensures memory { IsErrOf result ReplyFault.OutOfMemory
+        → (session.new ≡ session.old) × (writer.new ≡ writer.old) }
 {
     match assemble_line_in(alloc, session.profile(), address, text) {
         Ok(line) => {
@@ -44,8 +46,10 @@ pub fn assembled<W: Write>(
 
 /// Writes why a text is not assembled. If memory ran out, nothing is written.
 fn refuse_text<W: Write>(kind: AsmFaultKind, writer: &mut W) -> Result<(), ReplyFault>
-    ensures writes { kind ≢ AsmFaultKind.OutOfMemory → Writes (W.contents writer.old) (W.contents writer.new) (source_fault_line kind) result }
-    ensures memory { kind ≡ AsmFaultKind.OutOfMemory → ((result ≡ Err ReplyFault.OutOfMemory) × (writer.new ≡ writer.old)) }
+    ensures writes { kind ≢ AsmFaultKind.OutOfMemory
+        → Writes (W.contents writer.old) (W.contents writer.new) (source_fault_line kind) result }
+    ensures memory { kind ≡ AsmFaultKind.OutOfMemory
+        → ((result ≡ Err ReplyFault.OutOfMemory) × (writer.new ≡ writer.old)) }
     ensures only { IsErrOf result ReplyFault.OutOfMemory → kind ≡ AsmFaultKind.OutOfMemory }
 {
     match kind {

@@ -30,8 +30,10 @@ pub fn execute<W: Write>(
     command: Command,
     writer: &mut W,
 ) -> Result<bool, EngineFault>
-    ensures writes { Writes (W.contents writer.old) (W.contents writer.new) (answer_to command session.old).written result }
-    ensures ok { IfOk result (λ quit. (quit ≡ (answer_to command session.old).quit) × (session.new ≡ (answer_to command session.old).session)) }
+    ensures writes { Writes (W.contents writer.old) (W.contents writer.new)
+        (answer_to command session.old).written result }
+    ensures ok { IfOk result (λ quit. (quit ≡ (answer_to command session.old).quit)
+        × (session.new ≡ (answer_to command session.old).session)) }
     ensures fault { IfErr result EndsReply }
 {
     match command {

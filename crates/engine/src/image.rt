@@ -34,14 +34,18 @@ pub fn debug_image<R: Read, W: Write>(
     requires { history ≤ 65536 }
 
     // The session that starts with the image is served.
-    ensures serves { Serves (fresh history (start map image.now)) (R.remaining reader.old) (R.remaining reader.new) (W.contents writer.old) (W.contents writer.new) result }
+    ensures serves { Serves (fresh history (start map image.now)) (R.remaining reader.old)
+        (R.remaining reader.new) (W.contents writer.old) (W.contents writer.new) result }
 
     // If no session began, neither reader nor writer was used.
     ensures reaches { Reaches result ⊤ ((reader.new ≡ reader.old) × (writer.new ≡ writer.old)) }
 
     // An image with a byte at a port address is rejected, and no other is, unless memory runs out.
-    ensures port { has_port_byte map image.now ≡ true → (result ≡ Err (EngineFault.Session PortAddress)) ⊎ (result ≡ Err EngineFault.OutOfMemory) }
-    ensures session { IfSession result (λ fault. (fault ≡ PortAddress) × (has_port_byte map image.now ≡ true)) }
+    ensures port { has_port_byte map image.now ≡ true
+        → (result ≡ Err (EngineFault.Session PortAddress))
+        ⊎ (result ≡ Err EngineFault.OutOfMemory) }
+    ensures session { IfSession result
+        (λ fault. (fault ≡ PortAddress) × (has_port_byte map image.now ≡ true)) }
 
     ensures source { IfSource result (λ _. ⊥) }
     ensures tape { IfTape result (λ _. ⊥) }

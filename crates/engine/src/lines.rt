@@ -36,7 +36,8 @@ pub fn serve<R: Read, W: Write>(
     reader: &mut R,
     writer: &mut W,
 ) -> Result<(), EngineFault>
-    ensures serves { Serves session.old (R.remaining reader.old) (R.remaining reader.new) (W.contents writer.old) (W.contents writer.new) result }
+    ensures serves { Serves session.old (R.remaining reader.old) (R.remaining reader.new)
+        (W.contents writer.old) (W.contents writer.new) result }
     ensures only { IfErr result EndsServing }
 {
     let mut begun = Begun::new();
@@ -71,9 +72,10 @@ fn serve_bytes<W: Write>(
     bytes: &[u8],
     writer: &mut W,
 ) -> Result<bool, EngineFault>
-    ensures writes { Writes (W.contents writer.old) (W.contents writer.new) (feed session.old begun.old.items bytes.now).written result }
-    ensures ok { IfOk result (λ quit. feed session.old begun.old.items bytes.now
-        ≡ fed (feed session.old begun.old.items bytes.now).written session.new begun.new.items quit) }
+    ensures writes { Writes (W.contents writer.old) (W.contents writer.new)
+        (feed session.old begun.old.items bytes.now).written result }
+    ensures ok { IfOk result (λ quit. feed session.old begun.old.items bytes.now ≡ fed
+        (feed session.old begun.old.items bytes.now).written session.new begun.new.items quit) }
     ensures fault { IfErr result EndsReply }
 {
     for byte in bytes {
@@ -95,9 +97,10 @@ fn serve_byte<W: Write>(
     byte: u8,
     writer: &mut W,
 ) -> Result<bool, EngineFault>
-    ensures writes { Writes (W.contents writer.old) (W.contents writer.new) (feed session.old begun.old.items (byte ∷ [])).written result }
-    ensures ok { IfOk result (λ quit. feed session.old begun.old.items (byte ∷ [])
-        ≡ fed (feed session.old begun.old.items (byte ∷ [])).written session.new begun.new.items quit) }
+    ensures writes { Writes (W.contents writer.old) (W.contents writer.new)
+        (feed session.old begun.old.items (byte ∷ [])).written result }
+    ensures ok { IfOk result (λ quit. feed session.old begun.old.items (byte ∷ []) ≡ fed
+        (feed session.old begun.old.items (byte ∷ [])).written session.new begun.new.items quit) }
     ensures fault { IfErr result EndsReply }
 {
     if byte == b'\n' {
@@ -116,9 +119,13 @@ fn serve_begun<W: Write>(
     begun: &mut Begun,
     writer: &mut W,
 ) -> Result<bool, EngineFault>
-    ensures writes { Writes (W.contents writer.old) (W.contents writer.new) (answer_to (command_of (strip_last 13 begun.old.items)) session.old).written result }
-    ensures ok { IfOk result (λ quit. (quit ≡ (answer_to (command_of (strip_last 13 begun.old.items)) session.old).quit)
-        × (session.new ≡ (answer_to (command_of (strip_last 13 begun.old.items)) session.old).session) × (begun.new.items ≡ [])) }
+    ensures writes { Writes (W.contents writer.old) (W.contents writer.new)
+        (answer_to (command_of (strip_last 13 begun.old.items)) session.old).written result }
+    ensures ok { IfOk result
+        (λ quit. (quit ≡ (answer_to (command_of (strip_last 13 begun.old.items)) session.old).quit)
+        × (session.new
+        ≡ (answer_to (command_of (strip_last 13 begun.old.items)) session.old).session)
+        × (begun.new.items ≡ [])) }
     ensures fault { IfErr result EndsReply }
 {
     let line = match begun.as_slice() {
@@ -137,7 +144,8 @@ fn serve_line<W: Write>(
     line: &[u8],
     writer: &mut W,
 ) -> Result<bool, EngineFault>
-    ensures writes { Writes (W.contents writer.old) (W.contents writer.new) (answer_to (command_of line.now) session.old).written result }
+    ensures writes { Writes (W.contents writer.old) (W.contents writer.new)
+        (answer_to (command_of line.now) session.old).written result }
     ensures ok { IfOk result (λ quit. (quit ≡ (answer_to (command_of line.now) session.old).quit)
         × (session.new ≡ (answer_to (command_of line.now) session.old).session)) }
     ensures fault { IfErr result EndsReply }

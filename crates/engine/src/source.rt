@@ -45,16 +45,20 @@ pub fn debug_source<R: Read, W: Write>(
 
     // The session that starts with the image that the source denotes is served.
     ensures serves { (image : List (Option ℕ)) → Denotes map source.now image
-        → Serves (fresh history (start map image)) (R.remaining reader.old) (R.remaining reader.new) (W.contents writer.old) (W.contents writer.new) result }
+        → Serves (fresh history (start map image)) (R.remaining reader.old) (R.remaining reader.new)
+        (W.contents writer.old) (W.contents writer.new) result }
 
     // If a session began, the source denotes an image; otherwise neither reader nor writer was
     // used.
-    ensures reaches { Reaches result ((image : List (Option ℕ)) × Denotes map source.now image) ((reader.new ≡ reader.old) × (writer.new ≡ writer.old)) }
+    ensures reaches { Reaches result ((image : List (Option ℕ)) × Denotes map source.now image)
+        ((reader.new ≡ reader.old) × (writer.new ≡ writer.old)) }
 
     // A source with a fault is rejected with it, and one with an image is not, unless memory runs
     // out.
-    ensures faulty { (fault : AsmFault) → HasFault map source.now fault → (result ≡ Err (EngineFault.Source fault)) ⊎ (result ≡ Err EngineFault.OutOfMemory) }
-    ensures right { (image : List (Option ℕ)) → Denotes map source.now image → IfSource result (λ _. ⊥) }
+    ensures faulty { (fault : AsmFault) → HasFault map source.now fault
+        → (result ≡ Err (EngineFault.Source fault)) ⊎ (result ≡ Err EngineFault.OutOfMemory) }
+    ensures right { (image : List (Option ℕ)) → Denotes map source.now image
+        → IfSource result (λ _. ⊥) }
 
     // A rejected source is answered with its fault.
     ensures refused { IfSource result (HasFault map source.now) }

@@ -46,27 +46,33 @@ pub fn debug_tape<R: Read, W: Write>(
 
     // The session that starts with the image that the tape denotes is served.
     ensures serves { (image : List (Option ℕ)) → TapeDenotes tape.now image
-        → Serves (fresh history (start map image)) (R.remaining reader.old) (R.remaining reader.new) (W.contents writer.old) (W.contents writer.new) result }
+        → Serves (fresh history (start map image)) (R.remaining reader.old) (R.remaining reader.new)
+        (W.contents writer.old) (W.contents writer.new) result }
 
     // If a session began, the tape denotes an image; otherwise neither reader nor writer was used.
-    ensures reaches { Reaches result ((image : List (Option ℕ)) × TapeDenotes tape.now image) ((reader.new ≡ reader.old) × (writer.new ≡ writer.old)) }
+    ensures reaches { Reaches result ((image : List (Option ℕ)) × TapeDenotes tape.now image)
+        ((reader.new ≡ reader.old) × (writer.new ≡ writer.old)) }
 
     // A tape with a fault is rejected with it, and one with an image is not, unless memory runs
     // out.
     ensures faulty { (kind : TapeFaultKind) (offset : ℕ) → FirstFault tape.now kind offset
-        → (result ≡ Err (EngineFault.Tape (record { offset = offset; kind = kind }))) ⊎ (result ≡ Err EngineFault.OutOfMemory) }
-    ensures right { (image : List (Option ℕ)) → TapeDenotes tape.now image → IfTape result (λ _. ⊥) }
+        → (result ≡ Err (EngineFault.Tape (record { offset = offset; kind = kind })))
+        ⊎ (result ≡ Err EngineFault.OutOfMemory) }
+    ensures right { (image : List (Option ℕ)) → TapeDenotes tape.now image
+        → IfTape result (λ _. ⊥) }
 
     // A rejected tape is answered with its first fault.
     ensures refused { IfTape result (λ fault. FirstFault tape.now fault.kind fault.offset) }
 
     // A tape with a byte at a port address is rejected, and one without is not, unless memory runs
     // out.
-    ensures port { (image : List (Option ℕ)) → TapeDenotes tape.now image → has_port_byte map image ≡ true
-        → (result ≡ Err (EngineFault.Session PortAddress)) ⊎ (result ≡ Err EngineFault.OutOfMemory) }
-    ensures spared { (image : List (Option ℕ)) → TapeDenotes tape.now image → has_port_byte map image ≡ false → IfSession result (λ _. ⊥) }
-    ensures session { IfSession result (λ fault. (fault ≡ PortAddress)
-        × ((image : List (Option ℕ)) × TapeDenotes tape.now image × (has_port_byte map image ≡ true))) }
+    ensures port { (image : List (Option ℕ)) → TapeDenotes tape.now image
+        → has_port_byte map image ≡ true → (result ≡ Err (EngineFault.Session PortAddress))
+        ⊎ (result ≡ Err EngineFault.OutOfMemory) }
+    ensures spared { (image : List (Option ℕ)) → TapeDenotes tape.now image
+        → has_port_byte map image ≡ false → IfSession result (λ _. ⊥) }
+    ensures session { IfSession result (λ fault. (fault ≡ PortAddress) × ((image : List (Option ℕ))
+        × TapeDenotes tape.now image × (has_port_byte map image ≡ true))) }
 
     ensures source { IfSource result (λ _. ⊥) }
 {

@@ -51,7 +51,8 @@ pub fn debug_tape_from<T: Read, R: Read, W: Write>(
     // reader nor writer was used.
     ensures serves { ReachesFrom result
         ((image : List (Option ℕ)) × IsImageOf (T.remaining tape.old) image
-        × Serves (fresh history (start map image)) (R.remaining reader.old) (R.remaining reader.new) (W.contents writer.old) (W.contents writer.new) result)
+        × Serves (fresh history (start map image)) (R.remaining reader.old) (R.remaining reader.new)
+        (W.contents writer.old) (W.contents writer.new) result)
         ((reader.new ≡ reader.old) × (writer.new ≡ writer.old)) }
 
     // What was consumed of the tape: all if a session began; otherwise no more than the piece that
@@ -60,20 +61,25 @@ pub fn debug_tape_from<T: Read, R: Read, W: Write>(
 
     // A tape with a fault is rejected with it, and one with an image is not, unless a read of it
     // fails or memory runs out.
-    ensures faulty { IfSome (T.remaining tape.old) (λ text. (fault : TapeFault) → IsRefusedInPieces text fault
-        → (result ≡ Err (EngineFault.Tape fault)) ⊎ ((result ≡ Err EngineFault.Read) ⊎ (result ≡ Err EngineFault.OutOfMemory))) }
-    ensures right { IfSome (T.remaining tape.old) (λ text. (image : List (Option ℕ)) → IsReadInPieces text image → IfTape result (λ _. ⊥)) }
+    ensures faulty { IfSome (T.remaining tape.old) (λ text. (fault : TapeFault)
+        → IsRefusedInPieces text fault → (result ≡ Err (EngineFault.Tape fault))
+        ⊎ ((result ≡ Err EngineFault.Read) ⊎ (result ≡ Err EngineFault.OutOfMemory))) }
+    ensures right { IfSome (T.remaining tape.old)
+        (λ text. (image : List (Option ℕ)) → IsReadInPieces text image → IfTape result (λ _. ⊥)) }
 
     // A rejected tape is answered with its fault.
     ensures refused { IfTape result (IsRefusalOf (T.remaining tape.old)) }
 
     // A tape with a byte at a port address is rejected, and one without is not, unless a read of it
     // fails or memory runs out.
-    ensures port { IfSome (T.remaining tape.old) (λ text. (image : List (Option ℕ)) → IsReadInPieces text image → has_port_byte map image ≡ true
-        → (result ≡ Err (EngineFault.Session PortAddress)) ⊎ ((result ≡ Err EngineFault.Read) ⊎ (result ≡ Err EngineFault.OutOfMemory))) }
-    ensures spared { IfSome (T.remaining tape.old) (λ text. (image : List (Option ℕ)) → IsReadInPieces text image → has_port_byte map image ≡ false → IfSession result (λ _. ⊥)) }
-    ensures session { IfSession result (λ fault. (fault ≡ PortAddress)
-        × ((image : List (Option ℕ)) × IsImageOf (T.remaining tape.old) image × (has_port_byte map image ≡ true))) }
+    ensures port { IfSome (T.remaining tape.old)
+        (λ text. (image : List (Option ℕ)) → IsReadInPieces text image
+        → has_port_byte map image ≡ true → (result ≡ Err (EngineFault.Session PortAddress))
+        ⊎ ((result ≡ Err EngineFault.Read) ⊎ (result ≡ Err EngineFault.OutOfMemory))) }
+    ensures spared { IfSome (T.remaining tape.old) (λ text. (image : List (Option ℕ))
+        → IsReadInPieces text image → has_port_byte map image ≡ false → IfSession result (λ _. ⊥)) }
+    ensures session { IfSession result (λ fault. (fault ≡ PortAddress) × ((image : List (Option ℕ))
+        × IsImageOf (T.remaining tape.old) image × (has_port_byte map image ≡ true))) }
 
     ensures source { IfSource result (λ _. ⊥) }
 {

@@ -32,7 +32,8 @@ seen_form (BySize short long) = by_size (seen_code short) (seen_code long)
 
 -- The form for an unmarked operand that may have an index.
 abbrev pub direct_form : Profile → Mnemonic → Index → Option model_layout.Form
-direct_form profile m by = option_or (branch_form profile m by) (either (in_mode profile m (zero_page_mode by)) (in_mode profile m (absolute_mode by)))
+direct_form profile m by = option_or (branch_form profile m by)
+    (either (in_mode profile m (zero_page_mode by)) (in_mode profile m (absolute_mode by)))
 
 -- The form for a pointer in round brackets.
 abbrev pub pointer_form : Profile → Mnemonic → Option model_layout.Form
@@ -42,8 +43,13 @@ abbrev pub site_of : ℕ → Statement → Site → PlacedAndNext
 site_of address s site = (record { address = address; content = content_by site.code s }, site.next)
 
 -- The result, and the names after it, are what a definition gives, unless memory runs out.
-abbrev pub Fixes : Profile → ℕ → Line → Result Site LineError → Definitions → Result Standing AsmFaultKind → Type 0
-Fixes profile address l (Ok site) names given = given ≡ Ok (record { address = address; content = line_content site.code l }, record { profile = profile; address = site.next; names = names })
+abbrev pub Fixes : Profile → ℕ → Line → Result Site LineError → Definitions
+    → Result Standing AsmFaultKind → Type 0
+Fixes profile address l (Ok site) names given
+    = given ≡ Ok (
+      record { address = address; content = line_content site.code l },
+      record { profile = profile; address = site.next; names = names },
+    )
 Fixes profile address l (Err errors.Memory) names given = ⊤
 Fixes profile address l (Err (errors.Kind kind)) names given = given ≡ Err kind
 

@@ -66,10 +66,16 @@ fn fix_label(
     requires room { address < 2 ^ 31 - 510 }
     requires small { IsSmall (seen statement.now) }
     requires fresh { number_in symbols.old name.now ≡ None }
-    ensures exact { Fixes profile address (labelled (Some name.now) (seen statement.now)) result symbols.new (line_fixed (record { profile = profile; address = address; names = symbols.old }) (labelled (Some name.now) (seen statement.now))) }
+    ensures exact { Fixes profile address (labelled (Some name.now) (seen statement.now)) result
+        symbols.new (line_fixed (record {
+          profile = profile;
+          address = address;
+          names = symbols.old;
+        }) (labelled (Some name.now) (seen statement.now))) }
     ensures near { IfOk result (λ s. s.next ≤ max (address + 510) 65536) }
     ensures small { IfOk result (λ s. s.count ≤ 510) }
-    ensures sized { IfOk result (λ s. s.count ≡ size_of (line_content s.code (labelled (Some name.now) (seen statement.now)))) }
+    ensures sized { IfOk result (λ s. s.count
+        ≡ size_of (line_content s.code (labelled (Some name.now) (seen statement.now)))) }
 {
     let full = symbols.count() == MOST_NAMES;
     symbols.define(alloc, name, address as i32)?;
@@ -88,10 +94,13 @@ fn fix_definition(
 ) -> Result<Site, LineError>
     requires room { address < 2 ^ 31 - 510 }
     requires fresh { number_in symbols.old name.now ≡ None }
-    ensures exact { Fixes profile address (definition name.now (view value.now)) result symbols.new (line_fixed (record { profile = profile; address = address; names = symbols.old }) (definition name.now (view value.now))) }
+    ensures exact { Fixes profile address (definition name.now (view value.now)) result symbols.new
+        (line_fixed (record { profile = profile; address = address; names = symbols.old })
+        (definition name.now (view value.now))) }
     ensures near { IfOk result (λ s. s.next ≤ max (address + 510) 65536) }
     ensures small { IfOk result (λ s. s.count ≤ 510) }
-    ensures sized { IfOk result (λ s. s.count ≡ size_of (line_content s.code (definition name.now (view value.now)))) }
+    ensures sized { IfOk result
+        (λ s. s.count ≡ size_of (line_content s.code (definition name.now (view value.now)))) }
 {
     let full = symbols.count() == MOST_NAMES;
     match placing(value_at(value, symbols, address)) {
@@ -124,10 +133,13 @@ pub fn fix(
 ) -> Result<Site, LineError>
     requires room { address < 2 ^ 31 - 510 }
     requires small { IsSmallLine (seen_line line.now) }
-    ensures exact { Fixes profile address (seen_line line.now) result symbols.new (line_fixed (record { profile = profile; address = address; names = symbols.old }) (seen_line line.now)) }
+    ensures exact { Fixes profile address (seen_line line.now) result symbols.new
+        (line_fixed (record { profile = profile; address = address; names = symbols.old })
+        (seen_line line.now)) }
     ensures near { IfOk result (λ s. s.next ≤ max (address + 510) 65536) }
     ensures small { IfOk result (λ s. s.count ≤ 510) }
-    ensures sized { IfOk result (λ s. s.count ≡ size_of (line_content s.code (seen_line line.now))) }
+    ensures sized { IfOk result
+        (λ s. s.count ≡ size_of (line_content s.code (seen_line line.now))) }
 {
     match line {
         Line::Labelled(None, statement) => unless_full(

@@ -4,7 +4,8 @@ ghost use Rattle.std.specs.Prelude.{◌≡◌};
 ghost use Rattle.line_parts.specs.Contents.{shown};
 ghost use Rattle.line_parts.specs.Seen.{seen_operand};
 ghost use Rattle.layout.specs.Sites.{direct_form, pointer_form, seen_code, seen_form};
-ghost use Rattle.model.specs.Layout.{absolute_mode, branch_form, either, form_of, in_mode, only, zero_page_mode};
+ghost use Rattle.model.specs.Layout.{absolute_mode, branch_form, either, form_of, in_mode, only};
+ghost use Rattle.model.specs.Layout.{zero_page_mode};
 
 use line_parts::{Code, Operand};
 use model::{Index, Mnemonic, Mode, Profile};

@@ -1,12 +1,14 @@
 //! Where a line stands.
 
-ghost use Rattle.std.specs.Prelude.{None, ◌≡◌, ◌+◌, ◌-◌, ◌<◌, ◌≤◌, ◌^◌, ◌*◌, map, max, pos, length, IfOk};
+ghost use Rattle.std.specs.Prelude.{None, ◌≡◌, ◌+◌, ◌-◌, ◌<◌, ◌≤◌, ◌^◌, ◌*◌, map, max, pos, length};
+ghost use Rattle.std.specs.Prelude.{IfOk};
 ghost use Rattle.line_parts.specs.Trees.{view};
 ghost use Rattle.line_parts.specs.Seen.{seen, seen_item, seen_operand};
 ghost use Rattle.line_parts.specs.FewBytes.{IsSmall};
 ghost use Rattle.layout.specs.Sites.{Shows, seen_code, seen_form, site_of};
 ghost use Rattle.line_parts.specs.Contents.{content_by, shown};
-ghost use Rattle.model.specs.Layout.{in_memory, coded_by, length_in, placing, sized, after_room, item_size, items_size, laid, size_of};
+ghost use Rattle.model.specs.Layout.{in_memory, coded_by, length_in, placing, sized, after_room};
+ghost use Rattle.model.specs.Layout.{item_size, items_size, laid, size_of};
 ghost use Rattle.model.specs.Value.{eval_of};
 ghost use Rattle.model.specs.Line.{instruction};
 
@@ -83,7 +85,8 @@ fn code_of<N: Names>(
     form: Option<Form>,
 ) -> Result<Code, AsmFaultKind>
     requires { address < 2 ^ 31 }
-    ensures { Shows seen_code result (coded_by (N.number_of names.now) address (shown (λ e. view e.now) value.entry) (shown seen_form form)) }
+    ensures { Shows seen_code result (coded_by (N.number_of names.now) address
+        (shown (λ e. view e.now) value.entry) (shown seen_form form)) }
 {
     match form {
         None => Err(AsmFaultKind::NoSuchForm),
@@ -180,10 +183,13 @@ fn instruct<N: Names>(
     operand: &Operand<'_>,
 ) -> Result<Site, AsmFaultKind>
     requires { address < 2 ^ 31 - 510 }
-    ensures exact { Shows (site_of address (instruction mnemonic (seen_operand operand.now))) result (laid profile (N.number_of names.now) address (instruction mnemonic (seen_operand operand.now))) }
+    ensures exact { Shows (site_of address (instruction mnemonic (seen_operand operand.now))) result
+        (laid profile (N.number_of names.now) address
+        (instruction mnemonic (seen_operand operand.now))) }
     ensures near { IfOk result (λ s. s.next ≤ address + 510) }
     ensures small { IfOk result (λ s. s.count ≤ 510) }
-    ensures sized { IfOk result (λ s. s.count ≡ size_of (content_by s.code (instruction mnemonic (seen_operand operand.now)))) }
+    ensures sized { IfOk result (λ s. s.count
+        ≡ size_of (content_by s.code (instruction mnemonic (seen_operand operand.now)))) }
 {
     let code = code_of(
         address,
@@ -204,7 +210,8 @@ pub fn lay<N: Names>(
 ) -> Result<Site, AsmFaultKind>
     requires room { address < 2 ^ 31 - 510 }
     requires small { IsSmall (seen statement.now) }
-    ensures exact { Shows (site_of address (seen statement.now)) result (laid profile (N.number_of names.now) address (seen statement.now)) }
+    ensures exact { Shows (site_of address (seen statement.now)) result
+        (laid profile (N.number_of names.now) address (seen statement.now)) }
     ensures near { IfOk result (λ s. s.next ≤ max (address + 510) 65536) }
     ensures small { IfOk result (λ s. s.count ≤ 510) }
     ensures sized { IfOk result (λ s. s.count ≡ size_of (content_by s.code (seen statement.now))) }

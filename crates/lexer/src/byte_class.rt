@@ -3,7 +3,8 @@
 ghost use Rattle.std.specs.Prelude.{◌≡◌, ◌≤◌, length};
 ghost use Rattle.std.specs.List.{prefix_len};
 ghost use Rattle.model.specs.Digits.{is_hex_byte};
-ghost use Rattle.model.specs.Token.{is_blank, is_source_byte, is_printable, is_letter, is_digit, is_word_byte, is_binary_byte, is_string_byte, is_symbol_byte};
+ghost use Rattle.model.specs.Token.{is_blank, is_source_byte, is_printable, is_letter, is_digit};
+ghost use Rattle.model.specs.Token.{is_word_byte, is_binary_byte, is_string_byte, is_symbol_byte};
 
 /// Returns whether a byte is a space or a tab.
 pub fn is_blank_byte(byte: u8) -> bool

@@ -1,8 +1,10 @@
 //! Tokens cut from a line.
 
-ghost use Rattle.std.specs.Prelude.{◌≡◌, ◌==◌, ◌+◌, ◌<◌, ◌≤◌, ◌∷◌, true, length, drop, [], None, Some, IfOk, IsErrOf, OnErr};
+ghost use Rattle.std.specs.Prelude.{◌≡◌, ◌==◌, ◌+◌, ◌<◌, ◌≤◌, ◌∷◌, true, length, drop, [], None};
+ghost use Rattle.std.specs.Prelude.{Some, IfOk, IsErrOf, OnErr};
 ghost use Rattle.std.specs.List.{list_all};
-ghost use Rattle.model.specs.Token.{begins, is_source_byte, is_word_byte, word_token, directive_token, char_token, string_token, token_at, tokens_of};
+ghost use Rattle.model.specs.Token.{begins, is_source_byte, is_word_byte, word_token};
+ghost use Rattle.model.specs.Token.{directive_token, char_token, string_token, token_at, tokens_of};
 ghost use Rattle.line_parts.specs.Lexemes.{lexemes, found_of};
 ghost use Rattle.lexer.specs.Lexing.{number_in};
 

@@ -25,5 +25,6 @@ abbrev pub seen : Option (Expr × Bor (List Token)) → Read
 seen r = option_map (λ p. (view p.0, lexemes p.1.now)) r
 
 -- An operator, its right side, and the tokens after it.
-abbrev pub seen_next : Option (Operator × Expr × Bor (List Token)) → Option (Operator × Term × List Lexeme)
+abbrev pub seen_next : Option (Operator × Expr × Bor (List Token))
+    → Option (Operator × Term × List Lexeme)
 seen_next r = option_map (λ q. (q.0, view q.1, lexemes q.2.now)) r

@@ -1,7 +1,9 @@
 //! The rows of a line, and of a name.
 
-ghost use Rattle.std.specs.Prelude.{◌≡◌, ◌+◌, ◌-◌, ◌≤◌, ◌<◌, ◌^◌, ◌++◌, ◌∷◌, OnErr, OnOk, length, take};
-ghost use Rattle.model.specs.Listing.{group_row, group_rows, line_rows, name_row, number_text, separated};
+ghost use Rattle.std.specs.Prelude.{◌≡◌, ◌+◌, ◌-◌, ◌≤◌, ◌<◌, ◌^◌, ◌++◌, ◌∷◌, OnErr, OnOk, length};
+ghost use Rattle.std.specs.Prelude.{take};
+ghost use Rattle.model.specs.Listing.{group_row, group_rows, line_rows, name_row, number_text};
+ghost use Rattle.model.specs.Listing.{separated};
 ghost use Rattle.model.specs.Text.{spaced_bytes};
 
 use columns::{address_text, byte_columns};
@@ -72,7 +74,8 @@ fn extend_with_line(
     line: &[u8],
 ) -> Result<(), AllocError>
     requires { address + length bytes.now < 2 ^ 32 - 6 }
-    ensures rows { OnOk result (out.new.items ≡ out.old.items ++ line_rows address bytes.now line.now) }
+    ensures rows { OnOk result
+        (out.new.items ≡ out.old.items ++ line_rows address bytes.now line.now) }
     ensures kept { take (length out.old.items) out.new.items ≡ out.old.items }
 {
     out.extend_from_slice(&address_text(address))?;
@@ -94,7 +97,8 @@ pub fn push_line(
     line: &[u8],
 ) -> Result<(), AllocError>
     requires { address + length bytes.now < 2 ^ 32 - 6 }
-    ensures rows { OnOk result (out.new.items ≡ out.old.items ++ line_rows address bytes.now line.now) }
+    ensures rows { OnOk result
+        (out.new.items ≡ out.old.items ++ line_rows address bytes.now line.now) }
     ensures err { OnErr result (out.new.items ≡ out.old.items) }
 {
     let before = out.len();

@@ -26,12 +26,14 @@ gone_back k s = record s {
 
 -- The last k events undone; rejected, with the number of events held, if fewer than k are held.
 unfoldable pub back_of : ℕ → Session → Result Session SessionFault
-back_of k s = if nat_le k (length s.earlier) then Ok (gone_back k s) else Err (NoHistory (length s.earlier))
+back_of k s = if nat_le k (length s.earlier) then Ok (gone_back k s)
+    else Err (NoHistory (length s.earlier))
 
 -- Accepted events lead from one session to another.
 abbrev pub Accepts : Session → List Event → Session → Type 0
 Accepts s [] t = t ≡ s
-Accepts s (e ∷ es) t = (state : State) × (event_of s.current e ≡ Ok state) × Accepts (appended s state) es t
+Accepts s (e ∷ es) t = (state : State) × (event_of s.current e ≡ Ok state)
+    × Accepts (appended s state) es t
 
 -- A session that holds no more than its last n earlier states.
 abbrev pub holding : ℕ → Session → Session
@@ -41,6 +43,8 @@ holding n s = record s { earlier = keep_last n s.earlier }
 -- history size: the current one, and of the earlier ones those for which there is room beside the
 -- k. Otherwise it is rejected, and the history is full.
 abbrev pub BackIsExact : Type 0
-BackIsExact = (s t : Session) (events : List Event) → length s.earlier ≤ s.history → Accepts s events t →
-    (length events ≤ s.history → (u : Session) × (back_of (length events) t ≡ Ok u) × (states u ≡ states (holding (s.history - length events) s)))
+BackIsExact = (s t : Session) (events : List Event) → length s.earlier ≤ s.history
+    → Accepts s events t →
+    (length events ≤ s.history → (u : Session) × (back_of (length events) t ≡ Ok u)
+    × (states u ≡ states (holding (s.history - length events) s)))
     × (s.history < length events → back_of (length events) t ≡ Err (NoHistory s.history))

@@ -43,14 +43,16 @@ zero_page_piece r = within (pos 0) (pos 255) ByteRange r >>> λ v. Ok (modulo v 
 
 -- Two bytes, the low one first: -32768..65535 modulo 65536.
 unfoldable pub word_piece : Result ℤ ExprFault → BytesOrFault
-word_piece r = within (negsuc 32767) (pos 65535) WordRange r >>> λ v. Ok (word_bytes (modulo v 65536))
+word_piece r
+    = within (negsuc 32767) (pos 65535) WordRange r >>> λ v. Ok (word_bytes (modulo v 65536))
 
 -- The same two bytes, the high one first.
 abbrev pub word_bytes_high_first : ℕ → List ℕ
 word_bytes_high_first n = n / 256 ∷ n % 256 ∷ []
 
 unfoldable pub word_piece_high_first : Result ℤ ExprFault → BytesOrFault
-word_piece_high_first r = within (negsuc 32767) (pos 65535) WordRange r >>> λ v. Ok (word_bytes_high_first (modulo v 65536))
+word_piece_high_first r = within (negsuc 32767) (pos 65535) WordRange r >>> λ v.
+    Ok (word_bytes_high_first (modulo v 65536))
 
 -- An address, the low byte first: 0..65535.
 unfoldable pub address_piece : Result ℤ ExprFault → BytesOrFault
@@ -63,7 +65,8 @@ distance_piece d = if nat_le d 127 || nat_le 65408 d then Ok (d % 256 ∷ []) el
 -- A branch's distance is its target minus the next instruction's address, modulo 65536. Source:
 -- MCS6500 manual, chapter 4.
 unfoldable pub branch_piece : ℕ → Result ℤ ExprFault → BytesOrFault
-branch_piece address r = within (pos 0) (pos 65535) WordRange r >>> λ v. distance_piece (modulo (v -ℤ pos (address + 2)) 65536)
+branch_piece address r = within (pos 0) (pos 65535) WordRange r >>> λ v.
+    distance_piece (modulo (v -ℤ pos (address + 2)) 65536)
 
 -- What comes after an opcode, by its mode.
 unfoldable pub operand_piece : ℕ → Mode → Result ℤ ExprFault → BytesOrFault
@@ -84,7 +87,8 @@ operand_piece address IndZ r = zero_page_piece r
 
 abbrev pub after_opcode : Numbers → ℕ → Mode → Option Term → List BytesOrFault
 after_opcode numbers address mode None = []
-after_opcode numbers address mode (Some e) = operand_piece address mode (eval_of numbers (pos address) e) ∷ []
+after_opcode numbers address mode (Some e)
+    = operand_piece address mode (eval_of numbers (pos address) e) ∷ []
 
 -- An item of `.BYTE`: one byte, or the bytes of a string.
 abbrev pub item_piece : Numbers → ℕ → Item → BytesOrFault
@@ -95,9 +99,12 @@ item_piece numbers address (string text) = Ok text
 unfoldable pub pieces_of : Numbers → ℕ → Content → List BytesOrFault
 pieces_of numbers address no_bytes = []
 pieces_of numbers address (byte_list items) = map (λ i. item_piece numbers address i) items
-pieces_of numbers address (word_list es) = map (λ e. word_piece (eval_of numbers (pos address) e)) es
-pieces_of numbers address (word_list_high_first es) = map (λ e. word_piece_high_first (eval_of numbers (pos address) e)) es
-pieces_of numbers address (code opcode mode e) = Ok (opcode ∷ []) ∷ after_opcode numbers address mode e
+pieces_of numbers address (word_list es)
+    = map (λ e. word_piece (eval_of numbers (pos address) e)) es
+pieces_of numbers address (word_list_high_first es)
+    = map (λ e. word_piece_high_first (eval_of numbers (pos address) e)) es
+pieces_of numbers address (code opcode mode e)
+    = Ok (opcode ∷ []) ∷ after_opcode numbers address mode e
 
 abbrev pub bytes_in : BytesOrFault → List ℕ
 bytes_in (Ok bytes) = bytes
@@ -143,7 +150,8 @@ place_kinds bus_map image address size =
 unfoldable pub lower : Option AsmFaultKind → Option AsmFaultKind → Option AsmFaultKind
 lower None b = b
 lower (Some a) None = Some a
-lower (Some a) (Some b) = if nat_le (source_fault_number a) (source_fault_number b) then Some a else Some b
+lower (Some a) (Some b) = if nat_le (source_fault_number a) (source_fault_number b) then Some a
+    else Some b
 
 -- The kind with the lowest number, if there is one.
 unfoldable pub lowest : List (Option AsmFaultKind) → Option AsmFaultKind
@@ -153,15 +161,19 @@ lowest (k ∷ ks) = lower k (lowest ks)
 -- The value fault of a line after the lines that make an image, if it has one.
 unfoldable pub value_fault : Map → Numbers → List (Option ℕ) → Placed → Option AsmFaultKind
 value_fault bus_map numbers image p =
-    lowest (kinds_in (pieces_of numbers p.address p.content) ++ place_kinds bus_map image p.address (size_of p.content))
+    lowest (kinds_in (pieces_of numbers p.address p.content)
+    ++ place_kinds bus_map image p.address (size_of p.content))
 
 -- These lines, after those that make an image, have no value fault, and with their bytes they make
 -- another image.
 abbrev pub Makes : Map → Numbers → List (Option ℕ) → List Placed → List (Option ℕ) → Type 0
 Makes bus_map numbers image [] final = final ≡ image
-Makes bus_map numbers image (p ∷ ps) final = (value_fault bus_map numbers image p ≡ None) × Makes bus_map numbers (with_bytes image p.address (line_bytes numbers p)) ps final
+Makes bus_map numbers image (p ∷ ps) final = (value_fault bus_map numbers image p ≡ None)
+    × Makes bus_map numbers (with_bytes image p.address (line_bytes numbers p)) ps final
 
 -- A line that is laid out and has no value fault has as many bytes as its size says.
 abbrev pub BytesFillTheirSize : Type 0
-BytesFillTheirSize = (bus_map : Map) (numbers : Numbers) (image : List (Option ℕ)) (before next : Fixed) (line : List ℕ) (p : Placed)
-    → layout_of before line ≡ Ok (p, next) → value_fault bus_map numbers image p ≡ None → length (line_bytes numbers p) ≡ size_of p.content
+BytesFillTheirSize = (bus_map : Map) (numbers : Numbers) (image : List (Option ℕ))
+    (before next : Fixed) (line : List ℕ) (p : Placed)
+    → layout_of before line ≡ Ok (p, next) → value_fault bus_map numbers image p ≡ None
+    → length (line_bytes numbers p) ≡ size_of p.content

@@ -61,7 +61,8 @@ past_of s = record { states = s.earlier; held = length s.earlier }
 
 -- An accepted event adds one state, and the history holds one more, up to its size.
 abbrev pub left_behind : Session → Past → Past
-left_behind s past = record { states = past.states ++ s.current ∷ []; held = min s.history (past.held + 1) }
+left_behind s past
+    = record { states = past.states ++ s.current ∷ []; held = min s.history (past.held + 1) }
 
 abbrev pub past_after_event : Session → Result State EventFault → Past → Past
 past_after_event s (Ok state) past = left_behind s past
@@ -74,11 +75,14 @@ past_if_made (Err fault) past rest = past
 
 unfoldable pub past_after_steps : ℕ → Session → Past → Past
 past_after_steps zero s past = past
-past_after_steps (suc k) s past = past_if_made (step s.current) past (λ state. past_after_steps k (appended s state) (left_behind s past))
+past_after_steps (suc k) s past = past_if_made (step s.current) past
+    (λ state. past_after_steps k (appended s state) (left_behind s past))
 
 -- Undoing k events removes the last k states, if the history holds them.
 unfoldable pub past_after_back : ℕ → Past → Past
-past_after_back k past = if nat_le k past.held then record { states = take (length past.states - k) past.states; held = past.held - k } else past
+past_after_back k past = if nat_le k past.held
+    then record { states = take (length past.states - k) past.states; held = past.held - k }
+    else past
 
 -- Other calls change nothing here.
 unfoldable pub past_after_call : Session → Call → Past → Past
@@ -89,7 +93,8 @@ past_after_call s call past = past
 
 abbrev pub past_after_calls : Session → List Call → Past → Past
 past_after_calls s [] past = past
-past_after_calls s (call ∷ calls) past = past_after_calls (after_call s call) calls (past_after_call s call past)
+past_after_calls s (call ∷ calls) past
+    = past_after_calls (after_call s call) calls (past_after_call s call past)
 
 -- ---- the law
 
@@ -97,7 +102,8 @@ past_after_calls s (call ∷ calls) past = past_after_calls (after_call s call) 
 -- not undone. It holds those states before that one which the history held; breakpoints,
 -- watchpoints and the history's size are unchanged.
 pub record IsBefore (k : ℕ) (s : Session) (past : Past) (t : Session) : Type 0 where
-  pub current : t.current ≡ get_or (past.states ++ s.current ∷ []) (length past.states - k) s.current
+  pub current : t.current
+      ≡ get_or (past.states ++ s.current ∷ []) (length past.states - k) s.current
   pub earlier : t.earlier ≡ keep_last (past.held - k) (take (length past.states - k) past.states)
   pub history : t.history ≡ s.history
   pub breaks : t.breaks ≡ s.breaks
@@ -113,9 +119,11 @@ GoesBack k s past =
 -- Going back is exact, whatever calls came before: events accepted or rejected, runs, breakpoints,
 -- watchpoints, views, and going back itself.
 abbrev pub BackIsExactAmongCalls : Type 0
-BackIsExactAmongCalls = (s : Session) (calls : List Call) (k : ℕ) → length s.earlier ≤ s.history → GoesBack k (after_calls s calls) (past_after_calls s calls (past_of s))
+BackIsExactAmongCalls = (s : Session) (calls : List Call) (k : ℕ) → length s.earlier ≤ s.history
+    → GoesBack k (after_calls s calls) (past_after_calls s calls (past_of s))
 
 -- Command lines are such calls: what some lines do to a session, some calls do to it. So the law
 -- holds after any lines too.
 abbrev pub LinesAreCalls : Type 0
-LinesAreCalls = (s : Session) (lines : List (List ℕ)) → (calls : List Call) × ((served s lines).session ≡ after_calls s calls)
+LinesAreCalls = (s : Session) (lines : List (List ℕ))
+    → (calls : List Call) × ((served s lines).session ≡ after_calls s calls)

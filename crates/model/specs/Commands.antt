@@ -61,11 +61,13 @@ bytes_of_words (w ∷ ws) = byte_before (byte_of w) (bytes_of_words ws)
 
 -- The number that 1 to 7 decimal digits write; leading zeros count as digits.
 unfoldable pub decimal_of : List ℕ → Option ℕ
-decimal_of word = if nat_le 1 (length word) && nat_le (length word) 7 then decimal_number word else None
+decimal_of word = if nat_le 1 (length word) && nat_le (length word) 7 then decimal_number word
+    else None
 
 -- A number that is at least 1 and no more than a highest one.
 abbrev pub from_1_to : ℕ → Option ℕ → Option ℕ
-from_1_to highest (Some number) = if nat_le 1 number && nat_le number highest then Some number else None
+from_1_to highest (Some number) = if nat_le 1 number && nat_le number highest then Some number
+    else None
 from_1_to highest None = None
 
 -- ---- commands
@@ -123,7 +125,8 @@ irq_command level =
 
 -- One to sixteen bytes of input, padded with zeros.
 abbrev pub input_command : Option (List ℕ) → Command
-input_command (Some bytes) = if nat_le (length bytes) 16 then Input (take 16 (bytes ++ no_input)) (length bytes) else Bad
+input_command (Some bytes) = if nat_le (length bytes) 16
+    then Input (take 16 (bytes ++ no_input)) (length bytes) else Bad
 input_command None = Bad
 
 -- The words after `in`: one for each byte, and at least one.
@@ -186,9 +189,11 @@ commands =
     ∷ []
 
 -- What the row of a name asks for.
-abbrev pub command_named : List (List ℕ × (List (List ℕ) → Command)) → List ℕ → List (List ℕ) → Command
+abbrev pub command_named : List (List ℕ × (List (List ℕ) → Command)) → List ℕ → List (List ℕ)
+    → Command
 command_named [] name ws = Bad
-command_named (row ∷ rows) name ws = if bytes_eq name row.0 then row.1 ws else command_named rows name ws
+command_named (row ∷ rows) name ws = if bytes_eq name row.0 then row.1 ws
+    else command_named rows name ws
 
 -- What words ask for: the first is a command's name.
 unfoldable pub command_of_words : List (List ℕ) → Command
@@ -209,7 +214,8 @@ second_word ws = []
 
 -- A text to assemble at an address. It is not empty; zeros pad it.
 abbrev pub asm_command : Option ℕ → List ℕ → Command
-asm_command (Some address) (b ∷ bs) = Asm address (take 255 ((b ∷ bs) ++ replicate 255 0)) (length (b ∷ bs))
+asm_command (Some address) (b ∷ bs)
+    = Asm address (take 255 ((b ∷ bs) ++ replicate 255 0)) (length (b ∷ bs))
 asm_command (Some address) [] = Bad
 asm_command None text = Bad
 
@@ -223,5 +229,6 @@ text_of line = unspaced (rest_of (rest_of line))
 unfoldable pub command_of : List ℕ → Command
 command_of line =
     if nat_lt 255 (length line) then Bad
-    else if is_asm (words_of line) then asm_command (address_of (second_word (words_of line))) (text_of line)
+    else if is_asm (words_of line)
+    then asm_command (address_of (second_word (words_of line))) (text_of line)
     else command_of_words (words_of line)

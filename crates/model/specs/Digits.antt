@@ -26,7 +26,8 @@ decimal_value b = if nat_le (byte "0") b && nat_le b (byte "9") then Some (b - 4
 -- The number that digits to a base write after those of another number, if each byte is a digit.
 abbrev pub number_from : (ℕ → Option ℕ) → ℕ → ℕ → List ℕ → Option ℕ
 number_from value base number [] = Some number
-number_from value base number (b ∷ bytes) = option_and_then (λ digit. number_from value base (number * base + digit) bytes) (value b)
+number_from value base number (b ∷ bytes)
+    = option_and_then (λ digit. number_from value base (number * base + digit) bytes) (value b)
 
 -- The number that hex digits write.
 abbrev pub hex_number : List ℕ → Option ℕ

@@ -8,7 +8,8 @@ use Rattle.model.specs.Listing.{padded, separated}
 -- The address of a row, its bytes in 8 columns and its text, with two spaces between them.
 unfoldable pub row_line : ℕ → List ℕ → TextRow → List ℕ
 row_line address bytes row =
-    hex_word address ++ 32 ∷ 32 ∷ (padded (separated (take row.len bytes)) ++ 32 ∷ 32 ∷ (row.text ++ 10 ∷ []))
+    hex_word address
+    ++ 32 ∷ 32 ∷ (padded (separated (take row.len bytes)) ++ 32 ∷ 32 ∷ (row.text ++ 10 ∷ []))
 
 -- The bytes from an address on that an instruction can have: three, or those up to $FFFF.
 abbrev pub bytes_from : List ℕ → ℕ → List ℕ
@@ -24,5 +25,6 @@ unfoldable pub rows_in : Profile → List ℕ → ℕ → ℕ → ℕ → List �
 rows_in profile memory last address zero = []
 rows_in profile memory last address (suc n) =
     if nat_le address last
-    then row_line address (bytes_from memory address) (row_in profile memory address) ++ rows_in profile memory last (address + (row_in profile memory address).len) n
+    then row_line address (bytes_from memory address) (row_in profile memory address)
+    ++ rows_in profile memory last (address + (row_in profile memory address).len) n
     else []

@@ -55,7 +55,11 @@ no_regs = record { a = 0; x = 0; y = 0; s = 0; pc = 0; flags = no_flags }
 unfoldable pub reset_state : State → State
 reset_state state = record state {
   bus = record state.bus { control = false };
-  regs = record state.regs { s = 0xFD; pc = word_at state.bus 0xFFFC; flags = record state.regs.flags { i = true; d = false } };
+  regs = record state.regs {
+    s = 0xFD;
+    pc = word_at state.bus 0xFFFC;
+    flags = record state.regs.flags { i = true; d = false };
+  };
   nmi = false;
   cycles = state.cycles + 7;
 }
@@ -80,9 +84,11 @@ event_of state Reset = reset_of state
 event_of state (Irq level) = Ok (record state { irq = level })
 event_of state Nmi = Ok (record state { nmi = true })
 event_of state (Set setting) = Ok (record state { regs = set_to setting state.regs })
-event_of state (Patch address bytes count) = if nat_lt 3 count then Err BadLength else patch_of address (take count bytes) state
+event_of state (Patch address bytes count) = if nat_lt 3 count then Err BadLength
+    else patch_of address (take count bytes) state
 event_of state (Input byte) = input_of byte state
 
 -- The start: an image in memory, everything else 0, and then one reset. Source: mos65.
 unfoldable pub start : Map → List (Option ℕ) → State
-start map image = reset_state (record { bus = loaded_bus map image; regs = no_regs; irq = false; nmi = false; cycles = 0 })
+start map image = reset_state
+    (record { bus = loaded_bus map image; regs = no_regs; irq = false; nmi = false; cycles = 0 })

@@ -96,14 +96,21 @@ pub data Level : Type 0 where
 -- strictly from left to right.
 pub data Derives : Level → ℕ → Term → List Lexeme → Type 0 where
   atom : {d : ℕ} (t : Lexeme) {e : Term} → atom_of t ≡ Some e → Derives primary d e (t ∷ [])
-  group : {d : ℕ} (t u : Lexeme) {e : Term} {ts : List Lexeme} → symbol_of t ≡ Some (byte "[") → symbol_of u ≡ Some (byte "]") → Derives sum d e ts → Derives primary (suc d) e (t ∷ ts ++ u ∷ [])
+  group : {d : ℕ} (t u : Lexeme) {e : Term} {ts : List Lexeme} → symbol_of t ≡ Some (byte "[")
+      → symbol_of u ≡ Some (byte "]") → Derives sum d e ts
+      → Derives primary (suc d) e (t ∷ ts ++ u ∷ [])
   plain : {d : ℕ} {e : Term} {ts : List Lexeme} → Derives primary d e ts → Derives unary d e ts
-  minus : {d : ℕ} (t : Lexeme) {e : Term} {ts : List Lexeme} → symbol_of t ≡ Some (byte "-") → Derives primary d e ts → Derives unary d (negated e) (t ∷ ts)
+  minus : {d : ℕ} (t : Lexeme) {e : Term} {ts : List Lexeme} → symbol_of t ≡ Some (byte "-")
+      → Derives primary d e ts → Derives unary d (negated e) (t ∷ ts)
   single : {d : ℕ} {e : Term} {ts : List Lexeme} → Derives unary d e ts → Derives sum d e ts
-  chain : {d : ℕ} (t : Lexeme) {op : Operator} {a b : Term} {ls rs : List Lexeme} → operator_of t ≡ Some op → Derives sum d a ls → Derives unary d b rs → Derives sum d (binary op a b) (ls ++ t ∷ rs)
+  chain : {d : ℕ} (t : Lexeme) {op : Operator} {a b : Term} {ls rs : List Lexeme}
+      → operator_of t ≡ Some op → Derives sum d a ls → Derives unary d b rs
+      → Derives sum d (binary op a b) (ls ++ t ∷ rs)
   bare : {d : ℕ} {e : Term} {ts : List Lexeme} → Derives sum d e ts → Derives whole d e ts
-  low_byte : {d : ℕ} (t : Lexeme) {e : Term} {ts : List Lexeme} → symbol_of t ≡ Some (byte "<") → Derives sum d e ts → Derives whole d (low e) (t ∷ ts)
-  high_byte : {d : ℕ} (t : Lexeme) {e : Term} {ts : List Lexeme} → symbol_of t ≡ Some (byte ">") → Derives sum d e ts → Derives whole d (high e) (t ∷ ts)
+  low_byte : {d : ℕ} (t : Lexeme) {e : Term} {ts : List Lexeme} → symbol_of t ≡ Some (byte "<")
+      → Derives sum d e ts → Derives whole d (low e) (t ∷ ts)
+  high_byte : {d : ℕ} (t : Lexeme) {e : Term} {ts : List Lexeme} → symbol_of t ≡ Some (byte ">")
+      → Derives sum d e ts → Derives whole d (high e) (t ∷ ts)
 
 -- These tokens are an expression.
 abbrev pub IsExpression : Term → List Lexeme → Type 0
@@ -114,7 +121,8 @@ pub record Longest (tokens : List Lexeme) (term : Term) (rest : List Lexeme) : T
   pub front : List Lexeme
   pub cut : tokens ≡ front ++ rest
   pub derived : IsExpression term front
-  pub longest : (e : Term) (ts more : List Lexeme) → tokens ≡ ts ++ more → IsExpression e ts → length ts ≤ length front
+  pub longest : (e : Term) (ts more : List Lexeme) → tokens ≡ ts ++ more → IsExpression e ts
+      → length ts ≤ length front
 
 -- No tokens are two expressions.
 abbrev pub OneExpression : Type 0

@@ -76,37 +76,55 @@ pub data IsIndex : Index → List Lexeme → Type 0 where
 pub data IsOperand : Operand → List Lexeme → Type 0 where
   none : IsOperand absent []
   letter_a : (t : Lexeme) → IsWord (codes "A") t → IsOperand accumulator (t ∷ [])
-  after_hash : (hash : Lexeme) {e : Term} {ts : List Lexeme} → IsHash hash → IsExpression e ts → IsOperand (immediate e) (hash ∷ ts)
-  plain : {e : Term} {by : Index} {ts us : List Lexeme} → is_a (ts ++ us) ≡ false → IsExpression e ts → IsIndex by us → IsOperand (direct false e by) (ts ++ us)
-  after_mark : (mark : Lexeme) {e : Term} {by : Index} {ts us : List Lexeme} → IsMark mark → IsExpression e ts → IsIndex by us → IsOperand (direct true e by) (mark ∷ ts ++ us)
-  in_brackets : (opening closing : Lexeme) {e : Term} {ts : List Lexeme} → Opens opening → IsExpression e ts → Closes closing
+  after_hash : (hash : Lexeme) {e : Term} {ts : List Lexeme} → IsHash hash → IsExpression e ts
+      → IsOperand (immediate e) (hash ∷ ts)
+  plain : {e : Term} {by : Index} {ts us : List Lexeme} → is_a (ts ++ us) ≡ false
+      → IsExpression e ts → IsIndex by us → IsOperand (direct false e by) (ts ++ us)
+  after_mark : (mark : Lexeme) {e : Term} {by : Index} {ts us : List Lexeme} → IsMark mark
+      → IsExpression e ts → IsIndex by us → IsOperand (direct true e by) (mark ∷ ts ++ us)
+  in_brackets : (opening closing : Lexeme) {e : Term} {ts : List Lexeme} → Opens opening
+      → IsExpression e ts → Closes closing
       → IsOperand (pointer e) (opening ∷ ts ++ closing ∷ [])
-  in_brackets_by_x : (opening comma x closing : Lexeme) {e : Term} {ts : List Lexeme} → Opens opening → IsExpression e ts → IsComma comma → IsWord (codes "X") x → Closes closing
+  in_brackets_by_x : (opening comma x closing : Lexeme) {e : Term} {ts : List Lexeme}
+      → Opens opening → IsExpression e ts → IsComma comma → IsWord (codes "X") x → Closes closing
       → IsOperand (pointer_by_x e) (opening ∷ ts ++ comma ∷ x ∷ closing ∷ [])
-  in_brackets_by_y : (opening closing comma y : Lexeme) {e : Term} {ts : List Lexeme} → Opens opening → IsExpression e ts → Closes closing → IsComma comma → IsWord (codes "Y") y
+  in_brackets_by_y : (opening closing comma y : Lexeme) {e : Term} {ts : List Lexeme}
+      → Opens opening → IsExpression e ts → Closes closing → IsComma comma → IsWord (codes "Y") y
       → IsOperand (pointer_by_y e) (opening ∷ ts ++ closing ∷ comma ∷ y ∷ [])
 
 -- ---- lists
 
 -- One or more parts with a comma between them.
-pub data AreListed {A : Type 0} (Is : A → List Lexeme → Type 0) : List A → List Lexeme → Type 0 where
+pub data AreListed {A : Type 0} (Is : A → List Lexeme → Type 0) : List A → List Lexeme
+    → Type 0 where
   last : {a : A} {ts : List Lexeme} → Is a ts → AreListed Is (a ∷ []) ts
-  more : {a : A} {as' : List A} {ts us : List Lexeme} (comma : Lexeme) → Is a ts → IsComma comma → AreListed Is as' us → AreListed Is (a ∷ as') (ts ++ comma ∷ us)
+  more : {a : A} {as' : List A} {ts us : List Lexeme} (comma : Lexeme) → Is a ts → IsComma comma
+      → AreListed Is as' us → AreListed Is (a ∷ as') (ts ++ comma ∷ us)
 
 -- A string denotes the bytes between its quotes.
 pub data IsItem : Item → List Lexeme → Type 0 where
   expression : {e : Term} {ts : List Lexeme} → IsExpression e ts → IsItem (value e) ts
-  quoted : (t : Lexeme) {text : List ℕ} → string_in t.kind t.text ≡ Some text → IsItem (string text) (t ∷ [])
+  quoted : (t : Lexeme) {text : List ℕ} → string_in t.kind t.text ≡ Some text
+      → IsItem (string text) (t ∷ [])
 
 -- ---- operations
 
 pub data IsOperation (profile : Profile) : Statement → List Lexeme → Type 0 where
-  by_mnemonic : (t : Lexeme) {m : Mnemonic} {operand : Operand} {ts : List Lexeme} → t.kind ≡ Word → mnemonic_named profile t.text ≡ Some m → IsOperand operand ts → IsOperation profile (instruction m operand) (t ∷ ts)
-  sets_address : (star equals : Lexeme) {e : Term} {ts : List Lexeme} → IsStar star → IsEquals equals → IsExpression e ts → IsOperation profile (origin e) (star ∷ equals ∷ ts)
-  byte_directive : (t : Lexeme) {items : List Item} {ts : List Lexeme} → IsDirective (codes ".BYTE") t → AreListed IsItem items ts → IsOperation profile (bytes items) (t ∷ ts)
-  word_directive : (t : Lexeme) {es : List Term} {ts : List Lexeme} → IsDirective (codes ".WORD") t → AreListed IsExpression es ts → IsOperation profile (words es) (t ∷ ts)
-  dbyte_directive : (t : Lexeme) {es : List Term} {ts : List Lexeme} → IsDirective (codes ".DBYTE") t → AreListed IsExpression es ts → IsOperation profile (words_high_first es) (t ∷ ts)
-  res_directive : (t : Lexeme) {e : Term} {ts : List Lexeme} → IsDirective (codes ".RES") t → IsExpression e ts → IsOperation profile (reserve e) (t ∷ ts)
+  by_mnemonic : (t : Lexeme) {m : Mnemonic} {operand : Operand} {ts : List Lexeme} → t.kind ≡ Word
+      → mnemonic_named profile t.text ≡ Some m → IsOperand operand ts
+      → IsOperation profile (instruction m operand) (t ∷ ts)
+  sets_address : (star equals : Lexeme) {e : Term} {ts : List Lexeme} → IsStar star
+      → IsEquals equals → IsExpression e ts → IsOperation profile (origin e) (star ∷ equals ∷ ts)
+  byte_directive : (t : Lexeme) {items : List Item} {ts : List Lexeme}
+      → IsDirective (codes ".BYTE") t → AreListed IsItem items ts
+      → IsOperation profile (bytes items) (t ∷ ts)
+  word_directive : (t : Lexeme) {es : List Term} {ts : List Lexeme} → IsDirective (codes ".WORD") t
+      → AreListed IsExpression es ts → IsOperation profile (words es) (t ∷ ts)
+  dbyte_directive : (t : Lexeme) {es : List Term} {ts : List Lexeme}
+      → IsDirective (codes ".DBYTE") t → AreListed IsExpression es ts
+      → IsOperation profile (words_high_first es) (t ∷ ts)
+  res_directive : (t : Lexeme) {e : Term} {ts : List Lexeme} → IsDirective (codes ".RES") t
+      → IsExpression e ts → IsOperation profile (reserve e) (t ∷ ts)
   end_directive : (t : Lexeme) → IsDirective (codes ".END") t → IsOperation profile finish (t ∷ [])
 
 -- An operation, or none.
@@ -118,16 +136,21 @@ pub data IsRest (profile : Profile) : Statement → List Lexeme → Type 0 where
 
 -- These tokens are a line, and say this.
 pub data IsLine (profile : Profile) : Line → List Lexeme → Type 0 where
-  no_label : {s : Statement} {ts : List Lexeme} → IsRest profile s ts → IsLine profile (labelled None s) ts
-  label : (w colon : Lexeme) {s : Statement} {ts : List Lexeme} → w.kind ≡ Word → IsColon colon → IsRest profile s ts → IsLine profile (labelled (Some w.text) s) (w ∷ colon ∷ ts)
-  defines : (w equals : Lexeme) {e : Term} {ts : List Lexeme} → w.kind ≡ Word → IsEquals equals → IsExpression e ts → IsLine profile (definition w.text e) (w ∷ equals ∷ ts)
+  no_label : {s : Statement} {ts : List Lexeme} → IsRest profile s ts
+      → IsLine profile (labelled None s) ts
+  label : (w colon : Lexeme) {s : Statement} {ts : List Lexeme} → w.kind ≡ Word → IsColon colon
+      → IsRest profile s ts → IsLine profile (labelled (Some w.text) s) (w ∷ colon ∷ ts)
+  defines : (w equals : Lexeme) {e : Term} {ts : List Lexeme} → w.kind ≡ Word → IsEquals equals
+      → IsExpression e ts → IsLine profile (definition w.text e) (w ∷ equals ∷ ts)
 
 -- ---- that lines are read so
 
 -- Each line of the grammar is read so, and so it says one thing only.
 abbrev pub EachLineIsRead : Type 0
-EachLineIsRead = (profile : Profile) (l : Line) (ts : List Lexeme) → IsLine profile l ts → line_of profile ts ≡ Some l
+EachLineIsRead = (profile : Profile) (l : Line) (ts : List Lexeme) → IsLine profile l ts
+    → line_of profile ts ≡ Some l
 
 -- And what is read is a line of the grammar.
 abbrev pub EachReadLineIsALine : Type 0
-EachReadLineIsALine = (profile : Profile) (l : Line) (ts : List Lexeme) → line_of profile ts ≡ Some l → IsLine profile l ts
+EachReadLineIsALine = (profile : Profile) (l : Line) (ts : List Lexeme)
+    → line_of profile ts ≡ Some l → IsLine profile l ts

@@ -18,7 +18,8 @@ has_byte cells address = is_some (cell_at cells address)
 -- The image with these bytes put from an address on. Source: mos65.
 abbrev pub with_bytes : List (Option ℕ) → ℕ → List ℕ → List (Option ℕ)
 with_bytes cells address [] = cells
-with_bytes cells address (b ∷ bytes) = with_bytes (slice_set cells address (Some b)) (address + 1) bytes
+with_bytes cells address (b ∷ bytes)
+    = with_bytes (slice_set cells address (Some b)) (address + 1) bytes
 
 -- Nothing, or a byte.
 abbrev pub IsCell : Option ℕ → Type 0

@@ -25,7 +25,8 @@ has_row profile m mode = is_some (encoded profile m mode)
 -- An address in an absolute mode: after a `!` if it is below $0100 and the mnemonic has the zero
 -- page mode with the same index.
 abbrev pub absolute_text : Profile → Mnemonic → Mode → ℕ → List ℕ
-absolute_text profile m short w = if nat_lt w 256 && has_row profile m short then 33 ∷ word_text w else word_text w
+absolute_text profile m short w = if nat_lt w 256 && has_row profile m short then 33 ∷ word_text w
+    else word_text w
 
 -- The target of a branch at an address, by its second byte.
 abbrev pub target_of : ℕ → ℕ → ℕ
@@ -40,8 +41,10 @@ operand_text profile m Zp address b c = codes " " ++ byte_text b
 operand_text profile m ZpX address b c = codes " " ++ byte_text b ++ codes ",X"
 operand_text profile m ZpY address b c = codes " " ++ byte_text b ++ codes ",Y"
 operand_text profile m Abs address b c = codes " " ++ absolute_text profile m Zp (b + 256 * c)
-operand_text profile m AbsX address b c = codes " " ++ absolute_text profile m ZpX (b + 256 * c) ++ codes ",X"
-operand_text profile m AbsY address b c = codes " " ++ absolute_text profile m ZpY (b + 256 * c) ++ codes ",Y"
+operand_text profile m AbsX address b c
+    = codes " " ++ absolute_text profile m ZpX (b + 256 * c) ++ codes ",X"
+operand_text profile m AbsY address b c
+    = codes " " ++ absolute_text profile m ZpY (b + 256 * c) ++ codes ",Y"
 operand_text profile m IndX address b c = codes " (" ++ byte_text b ++ codes ",X)"
 operand_text profile m IndY address b c = codes " (" ++ byte_text b ++ codes "),Y"
 operand_text profile m Ind address b c = codes " (" ++ word_text (b + 256 * c) ++ codes ")"
@@ -59,16 +62,21 @@ byte_row b = record { len = 1; text = codes ".BYTE $" ++ hex_byte b }
 
 -- The text of an instruction at an address, by its row, its second byte and its third.
 abbrev pub instruction_text : Profile → Row → ℕ → ℕ → ℕ → List ℕ
-instruction_text profile row address b c = mnemonic_text row.mnemonic ++ operand_text profile row.mnemonic row.mode address b c
+instruction_text profile row address b c
+    = mnemonic_text row.mnemonic ++ operand_text profile row.mnemonic row.mode address b c
 
 -- The row of a first byte, if the instruction's bytes are there and none of them is past $FFFF.
 abbrev pub row_by : Profile → ℕ → ℕ → List ℕ → Option Row → TextRow
 row_by profile address opcode bytes None = byte_row opcode
 row_by profile address opcode bytes (Some row) =
     if nat_le row.len (length bytes) && nat_le (address + row.len) 65536
-    then record { len = row.len; text = instruction_text profile row address (slice_index bytes 1) (slice_index bytes 2) }
+    then record {
+      len = row.len;
+      text = instruction_text profile row address (slice_index bytes 1) (slice_index bytes 2);
+    }
     else byte_row opcode
 
 -- The row at the front of some bytes, at an address. There is a first byte.
 unfoldable pub row_of : Profile → List ℕ → ℕ → TextRow
-row_of profile bytes address = row_by profile address (slice_index bytes 0) bytes (row_at profile (slice_index bytes 0))
+row_of profile bytes address
+    = row_by profile address (slice_index bytes 0) bytes (row_at profile (slice_index bytes 0))

@@ -22,7 +22,8 @@ use Rattle.model.specs.Line.{Operand, absent, accumulator, immediate, direct, po
 
 -- A value goes on; a fault ends.
 infixl 10 ◌>>>◌
-abbrev pub ◌>>>◌ : {A B : Type 0} → Result A AsmFaultKind → (A → Result B AsmFaultKind) → Result B AsmFaultKind
+abbrev pub ◌>>>◌ : {A B : Type 0} → Result A AsmFaultKind → (A → Result B AsmFaultKind)
+    → Result B AsmFaultKind
 (Ok x) >>> f = f x
 (Err e) >>> f = Err e
 
@@ -47,7 +48,8 @@ length_in IndZ = 2
 
 -- These are the lengths that the opcode table gives its rows.
 abbrev pub LengthsAreTheTables : Type 0
-LengthsAreTheTables = (profile : Profile) (opcode : ℕ) (row : Row) → opcode < 256 → row_at profile opcode ≡ Some row → row.len ≡ length_in row.mode
+LengthsAreTheTables = (profile : Profile) (opcode : ℕ) (row : Row) → opcode < 256
+    → row_at profile opcode ≡ Some row → row.len ≡ length_in row.mode
 
 -- The zero page mode and the absolute mode with an index.
 abbrev pub zero_page_mode : Index → Mode
@@ -67,7 +69,8 @@ pub record Coded : Type 0 where
 
 -- A mnemonic in a mode, if the table has it.
 abbrev pub in_mode : Profile → Mnemonic → Mode → Option Coded
-in_mode profile m mode = option_map (λ opcode. record { opcode = opcode; mode = mode }) (encoded profile m mode)
+in_mode profile m mode
+    = option_map (λ opcode. record { opcode = opcode; mode = mode }) (encoded profile m mode)
 
 -- The form of an instruction: one encoding, or two between which the operand's value decides, in
 -- the zero page mode and in the absolute one.
@@ -97,7 +100,8 @@ form_of profile m absent = only profile m Imp
 form_of profile m accumulator = only profile m Acc
 form_of profile m (immediate e) = only profile m Imm
 form_of profile m (direct true e by) = only profile m (absolute_mode by)
-form_of profile m (direct false e by) = option_or (branch_form profile m by) (either (in_mode profile m (zero_page_mode by)) (in_mode profile m (absolute_mode by)))
+form_of profile m (direct false e by) = option_or (branch_form profile m by)
+    (either (in_mode profile m (zero_page_mode by)) (in_mode profile m (absolute_mode by)))
 form_of profile m (pointer e) = option_or (only profile m Ind) (only profile m IndZ)
 form_of profile m (pointer_by_x e) = only profile m IndX
 form_of profile m (pointer_by_y e) = only profile m IndY
@@ -126,7 +130,8 @@ sized short long (Err expression.DivideByZero) = Err DivideByZero
 abbrev pub coded_by : Numbers → ℕ → Option Term → Option Form → Result Coded AsmFaultKind
 coded_by numbers address e None = Err NoSuchForm
 coded_by numbers address e (Some (one c)) = Ok c
-coded_by numbers address (Some e) (Some (by_size short long)) = sized short long (eval_of numbers (pos address) e)
+coded_by numbers address (Some e) (Some (by_size short long))
+    = sized short long (eval_of numbers (pos address) e)
 coded_by numbers address None (Some (by_size short long)) = Ok long
 
 -- ---- what a line denotes
@@ -168,7 +173,8 @@ PlacedAndNext = Placed × ℕ
 
 -- A statement with a size is at its line's address, and the next line comes after it.
 abbrev pub standing : ℕ → Content → PlacedAndNext
-standing address content = (record { address = address; content = content }, address + size_of content)
+standing address content
+    = (record { address = address; content = content }, address + size_of content)
 
 -- A statement without bytes, and the address to go on from.
 abbrev pub going_on : ℕ → ℕ → PlacedAndNext
@@ -188,7 +194,8 @@ in_memory (negsuc n) = Err OriginRange
 
 -- The address after so many bytes, none of them past 65535.
 abbrev pub after_room : ℕ → ℤ → Result ℕ AsmFaultKind
-after_room address (pos n) = if nat_le (address + n) 65536 then Ok (address + n) else Err OriginRange
+after_room address (pos n) = if nat_le (address + n) 65536 then Ok (address + n)
+    else Err OriginRange
 after_room address (negsuc n) = Err OriginRange
 
 -- A statement at an address, under the numbers of the names known there, and the next line's
@@ -196,13 +203,17 @@ after_room address (negsuc n) = Err OriginRange
 -- it is the value of e.
 unfoldable pub laid : Profile → Numbers → ℕ → Statement → Result PlacedAndNext AsmFaultKind
 laid profile numbers address nothing = Ok (standing address no_bytes)
-laid profile numbers address (origin e) = placing (eval_of numbers (pos address) e) >>> λ v. in_memory v >>> λ n. Ok (going_on address n)
+laid profile numbers address (origin e) = placing (eval_of numbers (pos address) e) >>> λ v.
+    in_memory v >>> λ n. Ok (going_on address n)
 laid profile numbers address (bytes items) = Ok (standing address (byte_list items))
 laid profile numbers address (words es) = Ok (standing address (word_list es))
 laid profile numbers address (words_high_first es) = Ok (standing address (word_list_high_first es))
-laid profile numbers address (reserve e) = placing (eval_of numbers (pos address) e) >>> λ v. after_room address v >>> λ n. Ok (going_on address n)
+laid profile numbers address (reserve e) = placing (eval_of numbers (pos address) e) >>> λ v.
+    after_room address v >>> λ n. Ok (going_on address n)
 laid profile numbers address finish = Ok (standing address no_bytes)
-laid profile numbers address (instruction m operand) = coded_by numbers address (term_of operand) (form_of profile m operand) >>> λ c. Ok (standing address (code c.opcode c.mode (term_of operand)))
+laid profile numbers address (instruction m operand)
+    = coded_by numbers address (term_of operand) (form_of profile m operand) >>> λ c.
+    Ok (standing address (code c.opcode c.mode (term_of operand)))
 
 -- ---- the line
 
@@ -232,16 +243,19 @@ abbrev pub Standing : Type 0
 Standing = Placed × Fixed
 
 abbrev pub fixing : Profile → Definitions → PlacedAndNext → Standing
-fixing profile names place = (place.0, record { profile = profile; address = place.1; names = names })
+fixing profile names place
+    = (place.0, record { profile = profile; address = place.1; names = names })
 
 -- A line after lines that fix so much: its own equation. A name is known if an earlier line defines
 -- it or it is the line's label.
 abbrev pub line_at : Fixed → Line → Result Standing AsmFaultKind
 line_at before (labelled label s) =
     let names = before.names ++ label_at before.address label in
-    laid before.profile (number_in names) before.address s >>> λ place. Ok (fixing before.profile names place)
+    laid before.profile (number_in names) before.address s >>> λ place.
+    Ok (fixing before.profile names place)
 line_at before (definition name e) =
-    placing (eval_of (number_in before.names) (pos before.address) e) >>> λ v. Ok (fixing before.profile (before.names ++ (name, v) ∷ []) (going_on before.address before.address))
+    placing (eval_of (number_in before.names) (pos before.address) e) >>> λ v. Ok (fixing
+    before.profile (before.names ++ (name, v) ∷ []) (going_on before.address before.address))
 
 -- Whether a name is defined.
 abbrev pub is_defined : Definitions → Option (List ℕ) → Bool
@@ -254,13 +268,15 @@ is_full names None = false
 is_full names (Some name) = length names == most_names
 
 -- The result, unless there is a fault.
-abbrev pub unless : {A : Type 0} → Option AsmFaultKind → Result A AsmFaultKind → Result A AsmFaultKind
+abbrev pub unless : {A : Type 0} → Option AsmFaultKind → Result A AsmFaultKind
+    → Result A AsmFaultKind
 unless None r = r
 unless (Some kind) r = Err kind
 
 -- The lower one of a kind and TooManyNames.
 abbrev pub or_too_many : AsmFaultKind → AsmFaultKind
-or_too_many kind = if nat_le (source_fault_number kind) (source_fault_number TooManyNames) then kind else TooManyNames
+or_too_many kind = if nat_le (source_fault_number kind) (source_fault_number TooManyNames) then kind
+    else TooManyNames
 
 -- The result for a line whose name may be one too many.
 abbrev pub unless_full : {A : Type 0} → Bool → Result A AsmFaultKind → Result A AsmFaultKind
@@ -285,7 +301,8 @@ layout_of before line = read_line before.profile line >>> λ l. line_fixed befor
 abbrev pub LaidOut : Fixed → List (List ℕ) → List Placed → Fixed → Type 0
 LaidOut before [] placed after = (placed ≡ []) × (after ≡ before)
 LaidOut before (line ∷ lines) [] after = ⊥
-LaidOut before (line ∷ lines) (p ∷ ps) after = (next : Fixed) × (layout_of before line ≡ Ok (p, next)) × LaidOut next lines ps after
+LaidOut before (line ∷ lines) (p ∷ ps) after = (next : Fixed)
+    × (layout_of before line ≡ Ok (p, next)) × LaidOut next lines ps after
 
 -- A line's address and how many bytes it has.
 abbrev pub extent_of : Placed → ℕ × ℕ

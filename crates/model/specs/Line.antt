@@ -92,8 +92,10 @@ direct_after marked e (c ∷ w ∷ t ∷ ts) = None
 abbrev pub pointer_after : Term → List Lexeme → Option Operand
 pointer_after e (c ∷ []) = if is_symbol (byte ")") c then Some (pointer e) else None
 pointer_after e (a ∷ b ∷ c ∷ []) =
-    if is_symbol (byte ",") a && is_word (codes "X") b && is_symbol (byte ")") c then Some (pointer_by_x e)
-    else if is_symbol (byte ")") a && is_symbol (byte ",") b && is_word (codes "Y") c then Some (pointer_by_y e)
+    if is_symbol (byte ",") a && is_word (codes "X") b && is_symbol (byte ")") c
+    then Some (pointer_by_x e)
+    else if is_symbol (byte ")") a && is_symbol (byte ",") b && is_word (codes "Y") c
+    then Some (pointer_by_y e)
     else None
 pointer_after e [] = None
 pointer_after e (a ∷ b ∷ []) = None
@@ -112,21 +114,26 @@ operand_of [] = Some absent
 operand_of (t ∷ ts) =
     if is_alone ts && is_word (codes "A") t then Some accumulator
     else if is_symbol (byte "#") t then option_map immediate (whole_expression ts)
-    else if is_symbol (byte "(") t then option_and_then (λ p. pointer_after p.0 p.1) (expression_of ts)
+    else if is_symbol (byte "(") t
+    then option_and_then (λ p. pointer_after p.0 p.1) (expression_of ts)
     else if is_symbol (byte "!") t then direct_operand true ts
     else direct_operand false (t ∷ ts)
 
 -- ---- statements
 
 -- What was read, and after a comma what goes on.
-abbrev pub list_after : {A : Type 0} → (List Lexeme → Option (List A)) → A → List Lexeme → Option (List A)
+abbrev pub list_after : {A : Type 0} → (List Lexeme → Option (List A)) → A → List Lexeme
+    → Option (List A)
 list_after more a [] = Some (a ∷ [])
-list_after more a (c ∷ ts) = if is_symbol (byte ",") c then option_map (λ rest. a ∷ rest) (more ts) else None
+list_after more a (c ∷ ts) = if is_symbol (byte ",") c then option_map (λ rest. a ∷ rest) (more ts)
+    else None
 
 -- At most so many of what is read, separated by commas.
-unfoldable pub list_within : {A : Type 0} → (List Lexeme → Option (A × List Lexeme)) → ℕ → List Lexeme → Option (List A)
+unfoldable pub list_within : {A : Type 0} → (List Lexeme → Option (A × List Lexeme)) → ℕ
+    → List Lexeme → Option (List A)
 list_within read zero ts = None
-list_within read (suc n) ts = option_and_then (λ p. list_after (λ more. list_within read n more) p.0 p.1) (read ts)
+list_within read (suc n) ts
+    = option_and_then (λ p. list_after (λ more. list_within read n more) p.0 p.1) (read ts)
 
 -- The expressions, separated by commas, that some tokens are. There are no more of them than
 -- tokens.
@@ -142,7 +149,8 @@ string_in Number text = None
 string_in Char text = None
 string_in Symbol text = None
 
-abbrev pub item_or : Option (List ℕ) → List Lexeme → Option (Term × List Lexeme) → Option (Item × List Lexeme)
+abbrev pub item_or : Option (List ℕ) → List Lexeme → Option (Term × List Lexeme)
+    → Option (Item × List Lexeme)
 item_or (Some text) ts read = Some (string text, ts)
 item_or None ts read = option_map (λ p. (value p.0, p.1)) read
 
@@ -172,11 +180,13 @@ directive_of text ts =
 
 abbrev pub origin_after : List Lexeme → Option Statement
 origin_after [] = None
-origin_after (t ∷ ts) = if is_symbol (byte "=") t then option_map origin (whole_expression ts) else None
+origin_after (t ∷ ts) = if is_symbol (byte "=") t then option_map origin (whole_expression ts)
+    else None
 
 -- The operation that begins with a token.
 abbrev pub operation_by : Profile → TokenKind → Lexeme → List Lexeme → Option Statement
-operation_by profile Word t ts = option_and_then (λ m. option_map (instruction m) (operand_of ts)) (mnemonic_named profile t.text)
+operation_by profile Word t ts = option_and_then (λ m. option_map (instruction m) (operand_of ts))
+    (mnemonic_named profile t.text)
 operation_by profile Directive t ts = directive_of t.text ts
 operation_by profile Symbol t ts = if is_symbol (byte "*") t then origin_after ts else None
 operation_by profile Number t ts = None
@@ -220,7 +230,8 @@ line_of profile (t ∷ ts) = line_by profile t.kind t ts
 unfoldable pub is_reserved : Profile → List ℕ → Bool
 is_reserved profile text =
     is_some (mnemonic_named profile text) || bytes_eq (str_to_ascii_uppercase text) (codes "A")
-    || bytes_eq (str_to_ascii_uppercase text) (codes "X") || bytes_eq (str_to_ascii_uppercase text) (codes "Y")
+    || bytes_eq (str_to_ascii_uppercase text) (codes "X")
+    || bytes_eq (str_to_ascii_uppercase text) (codes "Y")
 
 -- Whether an expression uses a reserved word as a name.
 abbrev pub term_reserves : Profile → Term → Bool

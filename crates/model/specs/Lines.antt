@@ -15,7 +15,8 @@ no_line begun = []
 -- right before the LF is not part of the line.
 unfoldable pub lines_from : (List ℕ → List (List ℕ)) → List ℕ → List ℕ → List (List ℕ)
 lines_from ending begun [] = ending begun
-lines_from ending begun (b ∷ bs) = if b == 10 then strip_last 13 begun ∷ lines_from ending [] bs else lines_from ending (begun ++ b ∷ []) bs
+lines_from ending begun (b ∷ bs) = if b == 10 then strip_last 13 begun ∷ lines_from ending [] bs
+    else lines_from ending (begun ++ b ∷ []) bs
 
 -- The lines of a whole text.
 abbrev pub lines_of : List ℕ → List (List ℕ)

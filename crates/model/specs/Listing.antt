@@ -35,12 +35,15 @@ abbrev pub group_rows : ℕ → List ℕ → List ℕ
 group_rows address [] = []
 group_rows address (a ∷ []) = group_row address (a ∷ [])
 group_rows address (a ∷ b ∷ []) = group_row address (a ∷ b ∷ [])
-group_rows address (a ∷ b ∷ c ∷ bytes) = group_row address (a ∷ b ∷ c ∷ []) ++ group_rows (address + 3) bytes
+group_rows address (a ∷ b ∷ c ∷ bytes)
+    = group_row address (a ∷ b ∷ c ∷ []) ++ group_rows (address + 3) bytes
 
 -- A line's address, its first three bytes and its text; and the rows of its further bytes.
 abbrev pub line_rows : ℕ → List ℕ → List ℕ → List ℕ
 line_rows address bytes line =
-    (address_text address ++ 32 ∷ 32 ∷ (padded (separated (take 3 bytes)) ++ 32 ∷ 32 ∷ (line ++ 10 ∷ []))) ++ group_rows (address + 3) (drop 3 bytes)
+    (address_text address
+    ++ 32 ∷ 32 ∷ (padded (separated (take 3 bytes)) ++ 32 ∷ 32 ∷ (line ++ 10 ∷ [])))
+    ++ group_rows (address + 3) (drop 3 bytes)
 
 -- The rows of lines, each with its address and its bytes.
 abbrev pub lines_rows : List (List ℕ) → List (ℕ × List ℕ) → List ℕ
@@ -85,4 +88,5 @@ pub record IsListing (bus_map : Map) (source text : List ℕ) : Type 0 where
   pub laid : LaidOut (nothing_fixed bus_map.profile) (read_lines bus_map.profile source) placed all
   pub image : List (Option ℕ)
   pub made : Makes bus_map (number_in all.names) empty_image placed image
-  pub rows : text ≡ listing_text (read_lines bus_map.profile source) (map (shown_in image) (extents_of placed)) all.names
+  pub rows : text ≡ listing_text (read_lines bus_map.profile source)
+      (map (shown_in image) (extents_of placed)) all.names

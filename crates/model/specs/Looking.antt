@@ -41,7 +41,8 @@ kept s (command ∷ commands) = kept_of command s (kept (answer_to command s).se
 -- Looking is harmless: lines for what is kept of other lines, served with no breakpoint and no
 -- watchpoint set, lead to the same states.
 abbrev pub LooksAreHarmless : Type 0
-LooksAreHarmless = (s : Session) (lines others : List (List ℕ)) → map command_of others ≡ kept s (map command_of lines) →
+LooksAreHarmless = (s : Session) (lines others : List (List ℕ))
+    → map command_of others ≡ kept s (map command_of lines) →
     states (served (bare s) others).session ≡ states (served s lines).session
 
 -- Each run that a line may ask for has a line that asks for it.
@@ -51,4 +52,5 @@ EachRunHasALine = (k : ℕ) → 1 ≤ k → k ≤ most_steps → (line : List �
 -- There are lines for what is kept of other lines, whatever these ask for. So there is always
 -- something to compare looking with.
 abbrev pub WhatIsKeptHasLines : Type 0
-WhatIsKeptHasLines = (s : Session) (lines : List (List ℕ)) → (others : List (List ℕ)) × (map command_of others ≡ kept s (map command_of lines))
+WhatIsKeptHasLines = (s : Session) (lines : List (List ℕ))
+    → (others : List (List ℕ)) × (map command_of others ≡ kept s (map command_of lines))

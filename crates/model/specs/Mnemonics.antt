@@ -96,7 +96,8 @@ mnemonic_text Stz = codes "STZ"
 -- The first of some mnemonics whose letters a text has, in any letter case.
 unfoldable pub named_among : List ℕ → List Mnemonic → Option Mnemonic
 named_among text [] = None
-named_among text (m ∷ ms) = if bytes_eq (mnemonic_text m) (str_to_ascii_uppercase text) then Some m else named_among text ms
+named_among text (m ∷ ms) = if bytes_eq (mnemonic_text m) (str_to_ascii_uppercase text) then Some m
+    else named_among text ms
 
 -- The mnemonic of a profile that a text names, in any letter case, if it names one. Source: mos65.
 unfoldable pub mnemonic_named : Profile → List ℕ → Option Mnemonic

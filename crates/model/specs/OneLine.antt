@@ -37,7 +37,8 @@ begun_at profile address = record { profile = profile; address = address; names 
 -- can be in its way.
 abbrev pub bytes_alone : Placed → Result (List ℕ) AsmFaultKind
 bytes_alone p =
-    unless (lowest (kinds_in (pieces_of no_numbers p.address p.content) ++ kind_if (not (nat_le (p.address + size_of p.content) 65536)) PastEnd ∷ []))
+    unless (lowest (kinds_in (pieces_of no_numbers p.address p.content)
+    ++ kind_if (not (nat_le (p.address + size_of p.content) 65536)) PastEnd ∷ []))
     (Ok (line_bytes no_numbers p))
 
 -- Whether it has 1 to 3 bytes.
@@ -48,4 +49,5 @@ is_short l p = is_one_line l && nat_le (size_of p.content) 3
 -- and that before value faults.
 unfoldable pub one_line : Profile → ℕ → List ℕ → Result (List ℕ) AsmFaultKind
 one_line profile address text =
-    read_line profile text >>> λ l. line_fixed (begun_at profile address) l >>> λ q. if is_short l q.0 then bytes_alone q.0 else Err NotOneLine
+    read_line profile text >>> λ l. line_fixed (begun_at profile address) l >>> λ q.
+    if is_short l q.0 then bytes_alone q.0 else Err NotOneLine

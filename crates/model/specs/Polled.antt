@@ -36,7 +36,8 @@ use Rattle.model.specs.declared.command.Command.TheVariants.{Step, Run}
 unfoldable pub polled_read : Bus → ℕ → ℕ
 polled_read bus address =
     if is_port bus.map address then
-    (if address == bus.map.port + 1 then (if input_waits bus then slice_index bus.given bus.taken else 0) else
+    (if address == bus.map.port + 1
+    then (if input_waits bus then slice_index bus.given bus.taken else 0) else
     if address == bus.map.port + 2 then (if input_waits bus then 1 else 0) else
     0)
     else slice_index bus.memory address
@@ -53,7 +54,8 @@ polled_write bus address value =
 -- ---- what the instructions did that read and store by the bus
 
 unfoldable pub polled_operand : Mode → Bus → ℕ → ℕ
-polled_operand mode bus address = if is_immediate mode then slice_index bus.memory address else polled_read bus address
+polled_operand mode bus address = if is_immediate mode then slice_index bus.memory address
+    else polled_read bus address
 
 unfoldable pub polled_load : ReadOp → Mode → EffectiveAddress → State → State
 polled_load op mode place state = record state {
@@ -62,7 +64,8 @@ polled_load op mode place state = record state {
 }
 
 unfoldable pub polled_store : StoreOp → EffectiveAddress → State → State
-polled_store op place state = record state { bus = polled_write state.bus place.address (store_value op state.regs) }
+polled_store op place state
+    = record state { bus = polled_write state.bus place.address (store_value op state.regs) }
 
 unfoldable pub polled_modify : ModifyOp → EffectiveAddress → State → State
 polled_modify op place state =
@@ -76,7 +79,8 @@ polled_modify op place state =
 unfoldable pub polled_performed : Operation → Mode → EffectiveAddress → State → State
 polled_performed (Read op) mode place state = polled_load op mode place state
 polled_performed (Store op) mode place state = polled_store op place state
-polled_performed (Modify op) mode place state = if is_accumulator mode then modify_a op state else polled_modify op place state
+polled_performed (Modify op) mode place state = if is_accumulator mode then modify_a op state
+    else polled_modify op place state
 polled_performed operation mode place state = performed operation mode place state
 
 -- ---- the step
@@ -89,7 +93,8 @@ polled_executed row state =
     else Ok (polled_performed operation row.mode place (advanced row place state))
 
 unfoldable pub polled_attempted : Option Row → State → Result State EventFault
-polled_attempted None state = Err (Undocumented (slice_index state.bus.memory state.regs.pc) state.regs.pc)
+polled_attempted None state
+    = Err (Undocumented (slice_index state.bus.memory state.regs.pc) state.regs.pc)
 polled_attempted (Some row) state = polled_executed row state
 
 -- The IRQ entry was taken if the line is 1 and I is 0.
@@ -98,19 +103,22 @@ polled_step state =
     if nat_lt most_cycles state.cycles then Err CyclesFull
     else if state.nmi then Ok (entered (record state { nmi = false }) 0xFFFA)
     else if state.irq && not state.regs.flags.i then Ok (entered state 0xFFFE)
-    else polled_attempted (row_at state.bus.map.profile (slice_index state.bus.memory state.regs.pc)) state
+    else polled_attempted
+    (row_at state.bus.map.profile (slice_index state.bus.memory state.regs.pc)) state
 
 -- ---- the transcript
 
 -- The reply to a command. Only a step and a run make steps.
 unfoldable pub polled_answer : Command → Session → Answer
 polled_answer Step s = stepped_answer s (polled_step s.current)
-polled_answer (Run n) s = answer (run_line (run_end_by polled_step n s)) (after_steps_by polled_step (run_end_by polled_step n s).did s)
+polled_answer (Run n) s = answer (run_line (run_end_by polled_step n s))
+    (after_steps_by polled_step (run_end_by polled_step n s).did s)
 polled_answer command s = answer_to command s
 
 unfoldable pub polled_served : Session → List (List ℕ) → Served
 polled_served s [] = record { written = []; session = s }
-polled_served s (line ∷ lines) = served_on (polled_answer (command_of line) s) (λ t. polled_served t lines)
+polled_served s (line ∷ lines)
+    = served_on (polled_answer (command_of line) s) (λ t. polled_served t lines)
 
 abbrev pub polled_transcript : Session → List ℕ → Served
 polled_transcript s input = polled_served s (lines_of input)
@@ -121,14 +129,16 @@ polled_transcript s input = polled_served s (lines_of input)
 -- entry.
 unfoldable pub instruction_at : State → Option Row
 instruction_at state =
-    if nat_lt most_cycles state.cycles || state.nmi || (irq_asked state && not state.regs.flags.i) then None
+    if nat_lt most_cycles state.cycles || state.nmi || (irq_asked state && not state.regs.flags.i)
+    then None
     else row_at state.bus.map.profile (slice_index state.bus.memory state.regs.pc)
 
 -- The byte that an operation stores at its operand, if it stores one.
 unfoldable pub byte_stored : Operation → Mode → EffectiveAddress → State → Option ℕ
 byte_stored (Store op) mode place state = Some (store_value op state.regs)
 byte_stored (Modify op) mode place state =
-    if is_accumulator mode then None else Some (modified op (byte_read state.bus place.address) state.regs.flags.c).value
+    if is_accumulator mode then None
+    else Some (modified op (byte_read state.bus place.address) state.regs.flags.c).value
 byte_stored operation mode place state = None
 
 -- Whether an instruction stores an odd byte at base+3.
@@ -136,7 +146,8 @@ unfoldable pub stores_odd : Row → State → Bool
 stores_odd row state =
     let place = effective_address state.bus state.regs row.mode in
     (place.address == state.bus.map.port + 3)
-    && option_map_or (λ byte. byte % 2 == 1) (byte_stored (operation_of row.mnemonic) row.mode place state) false
+    && option_map_or (λ byte. byte % 2 == 1)
+    (byte_stored (operation_of row.mnemonic) row.mode place state) false
 
 -- Whether a step does.
 unfoldable pub sets_control : State → Bool
@@ -145,7 +156,8 @@ sets_control state = option_map_or (λ row. stores_odd row state) (instruction_a
 -- No step that a command makes stores an odd byte at base+3.
 abbrev pub SparesControl : Command → Session → Type 0
 SparesControl Step s = sets_control s.current ≡ false
-SparesControl (Run n) s = (k : ℕ) → k < (run_end n s).did → sets_control (after_steps k s).current ≡ false
+SparesControl (Run n) s = (k : ℕ) → k < (run_end n s).did
+    → sets_control (after_steps k s).current ≡ false
 SparesControl command s = ⊤
 
 -- None that lines make does, up to a line that ends the engine.
@@ -160,11 +172,13 @@ AllSpareControl s (line ∷ lines) =
 -- A session that holds only states whose control byte is 0, and whose steps never store an odd byte
 -- at base+3, is served as it was before, with the same text and the same states.
 abbrev pub PolledSessionsStay : Type 0
-PolledSessionsStay = (s : Session) (lines : List (List ℕ)) → All (λ (state : State). state.bus.control ≡ false) (states s) → AllSpareControl s lines →
+PolledSessionsStay = (s : Session) (lines : List (List ℕ))
+    → All (λ (state : State). state.bus.control ≡ false) (states s) → AllSpareControl s lines →
     served s lines ≡ polled_served s lines
 
 -- So the transcript of such a session, from its start on, is unchanged.
 abbrev pub PolledTranscriptsStay : Type 0
 PolledTranscriptsStay = (map : Map) (image : List (Option ℕ)) (history : ℕ) (input : List ℕ) →
     AllSpareControl (fresh history (start map image)) (lines_of input) →
-    transcript (fresh history (start map image)) input ≡ polled_transcript (fresh history (start map image)) input
+    transcript (fresh history (start map image)) input
+    ≡ polled_transcript (fresh history (start map image)) input

@@ -21,18 +21,24 @@ closed_by e (t ∷ ts) = if is_symbol (byte "]") t then Some (e, ts) else None
 
 abbrev pub primary_with : (List Lexeme → Read) → List Lexeme → Read
 primary_with inner [] = None
-primary_with inner (t ∷ ts) = if is_symbol (byte "[") t then option_and_then (λ p. closed_by p.0 p.1) (inner ts) else option_map (λ e. (e, ts)) (atom_of t)
+primary_with inner (t ∷ ts) = if is_symbol (byte "[") t
+    then option_and_then (λ p. closed_by p.0 p.1) (inner ts)
+    else option_map (λ e. (e, ts)) (atom_of t)
 
 abbrev pub unary_with : (List Lexeme → Read) → List Lexeme → Read
 unary_with inner [] = None
-unary_with inner (t ∷ ts) = if is_symbol (byte "-") t then option_map (λ p. (negated p.0, p.1)) (primary_with inner ts) else primary_with inner (t ∷ ts)
+unary_with inner (t ∷ ts) = if is_symbol (byte "-") t
+    then option_map (λ p. (negated p.0, p.1)) (primary_with inner ts)
+    else primary_with inner (t ∷ ts)
 
 -- An operator and its right side, and the tokens after them.
 abbrev pub next_with : (List Lexeme → Read) → List Lexeme → Option (Operator × Term × List Lexeme)
 next_with inner [] = None
-next_with inner (t ∷ ts) = option_and_then (λ op. option_map (λ p. (op, p.0, p.1)) (unary_with inner ts)) (operator_of t)
+next_with inner (t ∷ ts)
+    = option_and_then (λ op. option_map (λ p. (op, p.0, p.1)) (unary_with inner ts)) (operator_of t)
 
-abbrev pub went_on : (Term → List Lexeme → Term × List Lexeme) → Term → List Lexeme → Option (Operator × Term × List Lexeme) → Term × List Lexeme
+abbrev pub went_on : (Term → List Lexeme → Term × List Lexeme) → Term → List Lexeme
+    → Option (Operator × Term × List Lexeme) → Term × List Lexeme
 went_on go e ts None = (e, ts)
 went_on go e ts (Some q) = go (binary q.0 e q.1) q.2
 
@@ -66,4 +72,5 @@ expression_of tokens = whole_with (inner_at 8) tokens
 abbrev pub ReadsLongest : Type 0
 ReadsLongest = (tokens : List Lexeme)
     → IfSome (expression_of tokens) (λ p. Longest tokens p.0 p.1)
-    × IfNone (expression_of tokens) ((e : Term) (ts more : List Lexeme) → tokens ≡ ts ++ more → IsExpression e ts → ⊥)
+    × IfNone (expression_of tokens) ((e : Term) (ts more : List Lexeme) → tokens ≡ ts ++ more
+    → IsExpression e ts → ⊥)

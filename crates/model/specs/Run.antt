@@ -24,7 +24,8 @@ lowest (a ∷ rest) = Some (option_map_or (min a) (lowest rest) a)
 
 -- The watched addresses whose byte of memory differs between two states.
 abbrev pub changed : List ℕ → State → State → List ℕ
-changed watches before after = filter (λ a. not (slice_index before.bus.memory a == slice_index after.bus.memory a)) watches
+changed watches before after
+    = filter (λ a. not (slice_index before.bus.memory a == slice_index after.bus.memory a)) watches
 
 -- A step that changes a watched byte: the lowest such address is named.
 unfoldable pub watch_met : List ℕ → State → State → Option Why
@@ -32,12 +33,14 @@ watch_met watches before after = option_map Watch (lowest (changed watches befor
 
 -- A step that leads to a breakpoint.
 unfoldable pub break_met : List ℕ → State → State → Option Why
-break_met breaks before after = if list_any (nat_eq after.regs.pc) breaks then Some (Break after.regs.pc) else None
+break_met breaks before after = if list_any (nat_eq after.regs.pc) breaks
+    then Some (Break after.regs.pc) else None
 
 -- Why a run ends after a step from one state to another, if it does: a watchpoint is named before a
 -- breakpoint.
 unfoldable pub stop_of : Session → State → State → Option Why
-stop_of s before after = option_or (watch_met s.watches before after) (break_met s.breaks before after)
+stop_of s before after
+    = option_or (watch_met s.watches before after) (break_met s.breaks before after)
 
 -- ---- the four ends
 
@@ -51,7 +54,8 @@ abbrev pub met_now_or_later : Option Why → Option RunEnd → Option RunEnd
 met_now_or_later (Some why) rest = Some (record { did = 1; why = why })
 met_now_or_later None rest = option_map one_later rest
 
-abbrev pub met_if_made : (State → State → Option Why) → State → Result State EventFault → (State → Option RunEnd) → Option RunEnd
+abbrev pub met_if_made : (State → State → Option Why) → State → Result State EventFault
+    → (State → Option RunEnd) → Option RunEnd
 met_if_made met before (Ok after) rest = met_now_or_later (met before after) (rest after)
 met_if_made met before (Err fault) rest = None
 
@@ -118,4 +122,5 @@ CutRunGoesOn = (n : ℕ) (s : Session) →
 -- lead to the same states.
 abbrev pub RunCanBeRepeated : Type 0
 RunCanBeRepeated = (n : ℕ) (s : Session) →
-    (run_end (run_end n s).did (bare s) ≡ record { did = (run_end n s).did; why = Limit }) × (after_run (run_end n s).did (bare s) ≡ bare (after_run n s))
+    (run_end (run_end n s).did (bare s) ≡ record { did = (run_end n s).did; why = Limit })
+    × (after_run (run_end n s).did (bare s) ≡ bare (after_run n s))

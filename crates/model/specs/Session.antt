@@ -21,9 +21,21 @@ keep_last n states = drop (length states - n) states
 
 -- A session that is in a state and holds no other.
 abbrev pub fresh : ℕ → State → Session
-fresh history state = record { earlier = []; current = state; history = history; breaks = []; watches = []; number = 0; replayed = 0 }
+fresh history state = record {
+  earlier = [];
+  current = state;
+  history = history;
+  breaks = [];
+  watches = [];
+  number = 0;
+  replayed = 0;
+}
 
 -- An accepted event makes its state the current one. The state before it is held; if that makes
 -- more than `history`, the oldest is dropped.
 abbrev pub appended : Session → State → Session
-appended s state = record s { earlier = keep_last s.history (s.earlier ++ s.current ∷ []); current = state; number = (s.number + 1) % 1024 }
+appended s state = record s {
+  earlier = keep_last s.history (s.earlier ++ s.current ∷ []);
+  current = state;
+  number = (s.number + 1) % 1024;
+}

@@ -38,7 +38,8 @@ is_end (Err kind) = false
 -- The lines of some that are read: up to that of `.END`, which is read too.
 abbrev pub up_to_end : Profile → List (List ℕ) → List (List ℕ)
 up_to_end profile [] = []
-up_to_end profile (line ∷ lines) = line ∷ (if is_end (read_line profile line) then [] else up_to_end profile lines)
+up_to_end profile (line ∷ lines)
+    = line ∷ (if is_end (read_line profile line) then [] else up_to_end profile lines)
 
 -- The lines of a source that are read.
 unfoldable pub read_lines : Profile → List ℕ → List (List ℕ)
@@ -100,29 +101,36 @@ pub record HasValueFault (bus_map : Map) (source : List ℕ) (fault : AsmFault) 
 
 -- The fault of a source: its size comes first, then the layout of all lines, then their values.
 abbrev pub HasFault : Map → List ℕ → AsmFault → Type 0
-HasFault bus_map source fault = IsTooLarge source fault ⊎ (HasLayoutFault bus_map.profile source fault ⊎ HasValueFault bus_map source fault)
+HasFault bus_map source fault = IsTooLarge source fault
+    ⊎ (HasLayoutFault bus_map.profile source fault ⊎ HasValueFault bus_map source fault)
 
 -- ---- that this is one meaning of each source
 
 -- Each source denotes an image or has a fault.
 abbrev pub EachSourceIsJudged : Type 0
-EachSourceIsJudged = (bus_map : Map) (source : List ℕ) → ((image : List (Option ℕ)) × Denotes bus_map source image) ⊎ ((fault : AsmFault) × HasFault bus_map source fault)
+EachSourceIsJudged = (bus_map : Map) (source : List ℕ)
+    → ((image : List (Option ℕ)) × Denotes bus_map source image)
+    ⊎ ((fault : AsmFault) × HasFault bus_map source fault)
 
 -- No source denotes two images.
 abbrev pub OneImage : Type 0
-OneImage = (bus_map : Map) (source : List ℕ) (a b : List (Option ℕ)) → Denotes bus_map source a → Denotes bus_map source b → a ≡ b
+OneImage = (bus_map : Map) (source : List ℕ) (a b : List (Option ℕ)) → Denotes bus_map source a
+    → Denotes bus_map source b → a ≡ b
 
 -- No source places its lines or numbers its names in two ways.
 abbrev pub OneAssignment : Type 0
-OneAssignment = (lines : List (List ℕ)) (before : Fixed) (p q : List Placed) (a b : Fixed) → LaidOut before lines p a → LaidOut before lines q b → (p ≡ q) × (a ≡ b)
+OneAssignment = (lines : List (List ℕ)) (before : Fixed) (p q : List Placed) (a b : Fixed)
+    → LaidOut before lines p a → LaidOut before lines q b → (p ≡ q) × (a ≡ b)
 
 -- No source has two faults.
 abbrev pub OneFault : Type 0
-OneFault = (bus_map : Map) (source : List ℕ) (a b : AsmFault) → HasFault bus_map source a → HasFault bus_map source b → a ≡ b
+OneFault = (bus_map : Map) (source : List ℕ) (a b : AsmFault) → HasFault bus_map source a
+    → HasFault bus_map source b → a ≡ b
 
 -- No source does both.
 abbrev pub ImageOrFault : Type 0
-ImageOrFault = (bus_map : Map) (source : List ℕ) (image : List (Option ℕ)) (fault : AsmFault) → Denotes bus_map source image → HasFault bus_map source fault → ⊥
+ImageOrFault = (bus_map : Map) (source : List ℕ) (image : List (Option ℕ)) (fault : AsmFault)
+    → Denotes bus_map source image → HasFault bus_map source fault → ⊥
 
 -- ---- that the numbers are the names'
 
@@ -131,16 +139,20 @@ ImageOrFault = (bus_map : Map) (source : List ℕ) (image : List (Option ℕ)) (
 abbrev pub NameHolds : Numbers → Fixed → Line → Type 0
 NameHolds numbers before (labelled None s) = ⊤
 NameHolds numbers before (labelled (Some name) s) = numbers name ≡ Some (pos before.address)
-NameHolds numbers before (definition name e) = (v : ℤ) × (eval_of (number_in before.names) (pos before.address) e ≡ Ok v) × (numbers name ≡ Some v)
+NameHolds numbers before (definition name e) = (v : ℤ)
+    × (eval_of (number_in before.names) (pos before.address) e ≡ Ok v) × (numbers name ≡ Some v)
 
 -- So it is on each line.
 abbrev pub NamesHold : Numbers → Fixed → List (List ℕ) → List Placed → Type 0
 NamesHold numbers before [] placed = ⊤
 NamesHold numbers before (line ∷ lines) [] = ⊤
 NamesHold numbers before (line ∷ lines) (p ∷ ps) =
-    (next : Fixed) × (l : Line) × (layout_of before line ≡ Ok (p, next)) × (read_line before.profile line ≡ Ok l) × NameHolds numbers before l × NamesHold numbers next lines ps
+    (next : Fixed) × (l : Line) × (layout_of before line ≡ Ok (p, next))
+    × (read_line before.profile line ≡ Ok l) × NameHolds numbers before l
+    × NamesHold numbers next lines ps
 
 -- Under the numbers of all names each name that a line defines has the number that the line gives
 -- it.
 abbrev pub NamesHaveTheirNumbers : Type 0
-NamesHaveTheirNumbers = (lines : List (List ℕ)) (placed : List Placed) (before all : Fixed) → LaidOut before lines placed all → NamesHold (number_in all.names) before lines placed
+NamesHaveTheirNumbers = (lines : List (List ℕ)) (placed : List Placed) (before all : Fixed)
+    → LaidOut before lines placed all → NamesHold (number_in all.names) before lines placed

@@ -14,7 +14,8 @@ use Rattle.model.specs.Image.{empty_image, with_bytes}
 abbrev pub bytes_of_digits : List ℕ → List ℕ
 bytes_of_digits [] = []
 bytes_of_digits (d ∷ []) = []
-bytes_of_digits (high ∷ low ∷ digits) = (digit_value high * 16 + digit_value low) ∷ bytes_of_digits digits
+bytes_of_digits (high ∷ low ∷ digits)
+    = (digit_value high * 16 + digit_value low) ∷ bytes_of_digits digits
 
 -- How many digits a record has that begins so: two for the length, four for the address, two for
 -- each byte of data, four for the checksum. Source: KIM-1 manual.
@@ -110,7 +111,8 @@ count_of (record_of digits ∷ pieces) = 1 + count_of pieces
 abbrev pub with_records : List (Option ℕ) → List Part → List (Option ℕ)
 with_records cells [] = cells
 with_records cells (gap b ∷ pieces) = with_records cells pieces
-with_records cells (record_of digits ∷ pieces) = with_records (with_bytes cells (claim_of digits).address (claim_of digits).bytes) pieces
+with_records cells (record_of digits ∷ pieces)
+    = with_records (with_bytes cells (claim_of digits).address (claim_of digits).bytes) pieces
 
 -- ---- what a text denotes
 
@@ -150,19 +152,30 @@ pub record TapeDenotes (text : List ℕ) (cells : List (Option ℕ)) : Type 0 wh
 abbrev pub Breaks : TapeFaultKind → ℕ → List ℕ → ℕ → Type 0
 Breaks NoRecord count rest place = (count ≡ 0) × (rest ≡ []) × (place ≡ 0)
 Breaks BadHex count rest place =
-    (digits : List ℕ) × (b : ℕ) × (more : List ℕ) × (rest ≡ 59 ∷ digits ++ b ∷ more) × AreFewDigits digits × (is_hex_byte b ≡ Bool.false) × (place ≡ 1 + length digits)
+    (digits : List ℕ) × (b : ℕ) × (more : List ℕ) × (rest ≡ 59 ∷ digits ++ b ∷ more)
+    × AreFewDigits digits × (is_hex_byte b ≡ Bool.false) × (place ≡ 1 + length digits)
 Breaks BadChecksum count rest place =
-    (digits : List ℕ) × (more : List ℕ) × (rest ≡ 59 ∷ digits ++ more) × AreAllDigits digits × ((claim_of digits).sum ≢ (claim_of digits).checksum) × (place ≡ 0)
+    (digits : List ℕ) × (more : List ℕ) × (rest ≡ 59 ∷ digits ++ more) × AreAllDigits digits
+    × ((claim_of digits).sum ≢ (claim_of digits).checksum) × (place ≡ 0)
 Breaks PastEnd count rest place =
-    (digits : List ℕ) × (more : List ℕ) × (rest ≡ 59 ∷ digits ++ more) × AreAllDigits digits × (0 < (claim_of digits).length) × ((claim_of digits).sum ≡ (claim_of digits).checksum) × (65536 < (claim_of digits).address + (claim_of digits).length) × (place ≡ 0)
+    (digits : List ℕ) × (more : List ℕ) × (rest ≡ 59 ∷ digits ++ more) × AreAllDigits digits
+    × (0 < (claim_of digits).length) × ((claim_of digits).sum ≡ (claim_of digits).checksum)
+    × (65536 < (claim_of digits).address + (claim_of digits).length) × (place ≡ 0)
 Breaks Truncated count rest place =
-    ((count ≢ 0) × (rest ≡ []) × (place ≡ 0)) ⊎ ((digits : List ℕ) × (rest ≡ 59 ∷ digits) × AreFewDigits digits × (place ≡ 1 + length digits))
+    ((count ≢ 0) × (rest ≡ []) × (place ≡ 0)) ⊎ ((digits : List ℕ) × (rest ≡ 59 ∷ digits)
+    × AreFewDigits digits × (place ≡ 1 + length digits))
 Breaks BadCount count rest place =
-    (digits : List ℕ) × (more : List ℕ) × (rest ≡ 59 ∷ digits ++ more) × AreAllDigits digits × ((claim_of digits).length ≡ 0) × ((claim_of digits).sum ≡ (claim_of digits).checksum) × ((claim_of digits).address ≢ count) × (place ≡ 0)
+    (digits : List ℕ) × (more : List ℕ) × (rest ≡ 59 ∷ digits ++ more) × AreAllDigits digits
+    × ((claim_of digits).length ≡ 0) × ((claim_of digits).sum ≡ (claim_of digits).checksum)
+    × ((claim_of digits).address ≢ count) × (place ≡ 0)
 Breaks JunkAfterEnd count rest place =
-    (digits : List ℕ) × (tail : List ℕ) × (b : ℕ) × (more : List ℕ) × (rest ≡ 59 ∷ digits ++ (tail ++ b ∷ more)) × IsEnd count digits × (list_all is_skipped tail ≡ Bool.true) × (is_skipped b ≡ Bool.false) × (place ≡ 1 + length digits + length tail)
+    (digits : List ℕ) × (tail : List ℕ) × (b : ℕ) × (more : List ℕ)
+    × (rest ≡ 59 ∷ digits ++ (tail ++ b ∷ more)) × IsEnd count digits
+    × (list_all is_skipped tail ≡ Bool.true) × (is_skipped b ≡ Bool.false)
+    × (place ≡ 1 + length digits + length tail)
 Breaks JunkBetween count rest place =
-    (b : ℕ) × (more : List ℕ) × (rest ≡ b ∷ more) × (is_skipped b ≡ Bool.false) × (b ≢ 59) × (place ≡ 0)
+    (b : ℕ) × (more : List ℕ) × (rest ≡ b ∷ more) × (is_skipped b ≡ Bool.false) × (b ≢ 59)
+    × (place ≡ 0)
 Breaks OutOfMemory count rest place = ⊥
 Breaks TooLong count rest place = ⊥
 
@@ -181,19 +194,23 @@ pub record FirstFault (text : List ℕ) (kind : TapeFaultKind) (offset : ℕ) : 
 
 -- Each text denotes an image or has a first fault. Source: mos65.
 abbrev pub EachTextIsRead : Type 0
-EachTextIsRead = (text : List ℕ) → ((cells : List (Option ℕ)) × TapeDenotes text cells) ⊎ ((kind : TapeFaultKind) × (offset : ℕ) × FirstFault text kind offset)
+EachTextIsRead = (text : List ℕ) → ((cells : List (Option ℕ)) × TapeDenotes text cells)
+    ⊎ ((kind : TapeFaultKind) × (offset : ℕ) × FirstFault text kind offset)
 
 -- No text denotes two images. Source: mos65.
 abbrev pub OneTapeImage : Type 0
-OneTapeImage = (text : List ℕ) (a b : List (Option ℕ)) → TapeDenotes text a → TapeDenotes text b → a ≡ b
+OneTapeImage = (text : List ℕ) (a b : List (Option ℕ)) → TapeDenotes text a → TapeDenotes text b
+    → a ≡ b
 
 -- No text has two first faults, nor one at two offsets. Source: mos65.
 abbrev pub OneTapeFault : Type 0
-OneTapeFault = (text : List ℕ) (k l : TapeFaultKind) (m n : ℕ) → FirstFault text k m → FirstFault text l n → (k ≡ l) × (m ≡ n)
+OneTapeFault = (text : List ℕ) (k l : TapeFaultKind) (m n : ℕ) → FirstFault text k m
+    → FirstFault text l n → (k ≡ l) × (m ≡ n)
 
 -- No text does both. Source: mos65.
 abbrev pub TapeImageOrFault : Type 0
-TapeImageOrFault = (text : List ℕ) (cells : List (Option ℕ)) (kind : TapeFaultKind) (offset : ℕ) → TapeDenotes text cells → FirstFault text kind offset → ⊥
+TapeImageOrFault = (text : List ℕ) (cells : List (Option ℕ)) (kind : TapeFaultKind) (offset : ℕ)
+    → TapeDenotes text cells → FirstFault text kind offset → ⊥
 
 -- ---- one digit changed
 
@@ -202,7 +219,8 @@ TapeImageOrFault = (text : List ℕ) (cells : List (Option ℕ)) (kind : TapeFau
 -- rejected with BadChecksum at that record's `;`. Source: mos65.
 abbrev pub OneDigitIsRefused : Type 0
 OneDigitIsRefused =
-    (text : List ℕ) (cells : List (Option ℕ)) (pieces : List Part) (digits : List ℕ) (more : List ℕ) (k d : ℕ)
+    (text : List ℕ) (cells : List (Option ℕ)) (pieces : List Part) (digits : List ℕ) (more : List ℕ)
+    (k d : ℕ)
     → TapeDenotes text cells
     → text ≡ front_of pieces ++ (59 ∷ digits ++ more)
     → AllByRecursion IsPiece pieces
@@ -210,4 +228,5 @@ OneDigitIsRefused =
     → 2 ≤ k → k < length digits
     → is_hex_byte d ≡ Bool.true
     → digit_value d ≢ digit_value (slice_index digits k)
-    → FirstFault (front_of pieces ++ (59 ∷ slice_set digits k d ++ more)) BadChecksum (length (front_of pieces))
+    → FirstFault (front_of pieces ++ (59 ∷ slice_set digits k d ++ more)) BadChecksum
+    (length (front_of pieces))

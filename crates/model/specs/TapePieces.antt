@@ -31,9 +31,11 @@ pub record IsTooLong (text : List ℕ) (fault : TapeFault) : Type 0 where
   pub full : length front ≡ longest
   pub some : 0 < length more
   -- the fault that the front shows; that the text is too long if it shows none
-  pub told : Tells front fault ⊎ (((other : TapeFault) → Tells front other → ⊥) × (fault ≡ too_long))
+  pub told : Tells front fault
+      ⊎ (((other : TapeFault) → Tells front other → ⊥) × (fault ≡ too_long))
 
 -- A text read in pieces is rejected with a fault: its first one, or that of a text that is too
 -- long. Source: mos65.
 abbrev pub IsRefusedInPieces : List ℕ → TapeFault → Type 0
-IsRefusedInPieces text fault = ((length text ≤ longest) × FirstFault text fault.kind fault.offset) ⊎ IsTooLong text fault
+IsRefusedInPieces text fault = ((length text ≤ longest) × FirstFault text fault.kind fault.offset)
+    ⊎ IsTooLong text fault

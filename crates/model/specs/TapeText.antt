@@ -11,7 +11,8 @@ Stretch = ℕ × List ℕ
 -- after it; otherwise it is a run of its own. Source: mos65.
 abbrev pub before_runs : ℕ → ℕ → List Stretch → List Stretch
 before_runs address b [] = (address, b ∷ []) ∷ []
-before_runs address b (run ∷ rest) = if run.0 == address + 1 then (address, b ∷ run.1) ∷ rest else (address, b ∷ []) ∷ run ∷ rest
+before_runs address b (run ∷ rest) = if run.0 == address + 1 then (address, b ∷ run.1) ∷ rest
+    else (address, b ∷ []) ∷ run ∷ rest
 
 -- The maximal runs of bytes in rising order, where the cells begin at an address. Source: mos65.
 abbrev pub runs : ℕ → List (Option ℕ) → List Stretch
@@ -54,4 +55,5 @@ end_line count = line (0 ∷ word count)
 
 -- The written text of an image: a data record for each piece, then the end record. Source: mos65.
 abbrev pub tape_text : List (Option ℕ) → List ℕ
-tape_text cells = flat_map data_line (written_pieces cells) ++ end_line (length (written_pieces cells))
+tape_text cells
+    = flat_map data_line (written_pieces cells) ++ end_line (length (written_pieces cells))

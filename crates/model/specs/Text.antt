@@ -19,7 +19,8 @@ hex_word w = hex_byte (w / 256) ++ hex_byte (w % 256)
 -- The register line. The status register is printed with B clear.
 unfoldable pub register_line : State → List ℕ
 register_line s =
-    codes "A=" ++ hex_byte s.regs.a ++ codes " X=" ++ hex_byte s.regs.x ++ codes " Y=" ++ hex_byte s.regs.y
+    codes "A=" ++ hex_byte s.regs.a ++ codes " X=" ++ hex_byte s.regs.x ++ codes " Y="
+    ++ hex_byte s.regs.y
     ++ codes " S=" ++ hex_byte s.regs.s ++ codes " P=" ++ hex_byte (status false s.regs.flags)
     ++ codes " PC=" ++ hex_word s.regs.pc ++ codes " CYC=" ++ decimal s.cycles ++ 10 ∷ []
 
@@ -33,12 +34,14 @@ bytes_between memory first last = take (last + 1 - first) (drop first memory)
 
 -- A row of memory: the first address and, two spaces after it, the bytes.
 unfoldable pub memory_row : List ℕ → ℕ → ℕ → List ℕ
-memory_row memory first last = hex_word first ++ 32 ∷ spaced_bytes (bytes_between memory first last) ++ 10 ∷ []
+memory_row memory first last
+    = hex_word first ++ 32 ∷ spaced_bytes (bytes_between memory first last) ++ 10 ∷ []
 
 -- Rows of 16 bytes from one address to another, the last row maybe shorter.
 unfoldable pub memory_rows : List ℕ → ℕ → ℕ → List ℕ
 memory_rows memory first last =
-    flat_map (λ k. memory_row memory (first + 16 * k) (min last (first + 16 * k + 15))) (range_with_len 0 ((last - first) / 16 + 1))
+    flat_map (λ k. memory_row memory (first + 16 * k) (min last (first + 16 * k + 15)))
+    (range_with_len 0 ((last - first) / 16 + 1))
 
 -- A line of output bytes in hex, with no space between them: at most 32 bytes from an index on.
 unfoldable pub output_row : List ℕ → ℕ → List ℕ
@@ -47,7 +50,8 @@ output_row out from = flat_map hex_byte (take 32 (drop from out)) ++ 10 ∷ []
 -- How many bytes of output there are, and the bytes in lines of 32.
 unfoldable pub output_text : List ℕ → List ℕ
 output_text out =
-    codes "OUT " ++ decimal (length out) ++ 10 ∷ flat_map (λ k. output_row out (32 * k)) (range_with_len 0 ((length out + 31) / 32))
+    codes "OUT " ++ decimal (length out)
+    ++ 10 ∷ flat_map (λ k. output_row out (32 * k)) (range_with_len 0 ((length out + 31) / 32))
 
 -- An address after a space.
 unfoldable pub address_part : ℕ → List ℕ

@@ -31,7 +31,8 @@ abbrev pub is_digit : ℕ → Bool
 is_digit b = nat_le (byte "0") b && nat_le b (byte "9")
 
 abbrev pub is_letter : ℕ → Bool
-is_letter b = (nat_le (byte "A") b && nat_le b (byte "Z")) || (nat_le (byte "a") b && nat_le b (byte "z"))
+is_letter b
+    = (nat_le (byte "A") b && nat_le b (byte "Z")) || (nat_le (byte "a") b && nat_le b (byte "z"))
 
 -- A letter, a digit or `_`.
 abbrev pub is_word_byte : ℕ → Bool
@@ -47,8 +48,11 @@ is_string_byte b = is_printable b && not (b == 34)
 -- : * = , # ! ( ) [ ] < > + - / & | ^
 abbrev pub is_symbol_byte : ℕ → Bool
 is_symbol_byte b =
-    (b == byte ":") || (b == byte "*") || (b == byte "=") || (b == byte ",") || (b == byte "#") || (b == byte "!") || (b == byte "(") || (b == byte ")") || (b == byte "[") || (b == byte "]")
-    || (b == byte "<") || (b == byte ">") || (b == byte "+") || (b == byte "-") || (b == byte "/") || (b == byte "&") || (b == byte "|") || (b == byte "^")
+    (b == byte ":") || (b == byte "*") || (b == byte "=") || (b == byte ",") || (b == byte "#")
+    || (b == byte "!") || (b == byte "(") || (b == byte ")") || (b == byte "[")
+    || (b == byte "]")
+    || (b == byte "<") || (b == byte ">") || (b == byte "+") || (b == byte "-") || (b == byte "/")
+    || (b == byte "&") || (b == byte "|") || (b == byte "^")
 
 -- ---- one token
 
@@ -90,14 +94,16 @@ directive_token bytes =
 abbrev pub char_token : List ℕ → Found
 char_token [] = None
 char_token (b ∷ []) = None
-char_token (b ∷ c ∷ bytes) = if is_printable b && (c == byte "'") then Some (Char, byte "'" ∷ b ∷ byte "'" ∷ []) else None
+char_token (b ∷ c ∷ bytes) = if is_printable b && (c == byte "'")
+    then Some (Char, byte "'" ∷ b ∷ byte "'" ∷ []) else None
 
 -- One or more bytes $20..$7E other than `"`, and a `"`, after a `"`.
 abbrev pub string_token : List ℕ → Found
 string_token bytes =
     let inside = run_of is_string_byte bytes in
     if length inside == 0 then None
-    else if begins (λ b. b == 34) (drop (length inside) bytes) then Some (Str, 34 ∷ inside ++ 34 ∷ [])
+    else if begins (λ b. b == 34) (drop (length inside) bytes)
+    then Some (Str, 34 ∷ inside ++ 34 ∷ [])
     else None
 
 -- The token at the front of some bytes, if there is one.
@@ -122,7 +128,8 @@ Tokens = Option (List Lexeme)
 -- A token that was found, before the tokens after it; none of them where there is none.
 abbrev pub found_before : ℕ → (ℕ → Tokens) → Found → Tokens
 found_before start behind None = None
-found_before start behind (Some found) = option_map (λ ts. record { kind = found.0; start = start; text = found.1 } ∷ ts) (behind (length found.1 - 1))
+found_before start behind (Some found) = option_map (λ ts.
+    record { kind = found.0; start = start; text = found.1 } ∷ ts) (behind (length found.1 - 1))
 
 -- The tokens of some bytes of a line, from an index on; so many of the bytes still belong to the
 -- token before. They are counted off one by one, since recursion goes to a part of its argument.
@@ -147,8 +154,10 @@ tokens_of line = if list_all is_source_byte line then tokens_from 0 0 line else 
 abbrev pub AreSlices : List ℕ → ℕ → List Lexeme → Type 0
 AreSlices line place [] = Unit {0}
 AreSlices line place (t ∷ ts) =
-    (place ≤ t.start) × (0 < length t.text) × (take (length t.text) (drop t.start line) ≡ t.text) × AreSlices line (t.start + length t.text) ts
+    (place ≤ t.start) × (0 < length t.text) × (take (length t.text) (drop t.start line) ≡ t.text)
+    × AreSlices line (t.start + length t.text) ts
 
 -- The tokens of a line are slices of it, in order, and no two of them overlap.
 abbrev pub TokensAreSlices : Type 0
-TokensAreSlices = (line : List ℕ) (ts : List Lexeme) → tokens_of line ≡ Some ts → AreSlices line 0 ts
+TokensAreSlices = (line : List ℕ) (ts : List Lexeme) → tokens_of line ≡ Some ts
+    → AreSlices line 0 ts

@@ -35,7 +35,8 @@ answer text s = record { written = text; session = s; quit = false }
 
 -- Why an event is rejected, as replies name it.
 unfoldable pub refused_text : EventFault → List ℕ
-refused_text (event_fault.Undocumented opcode pc) = codes "FAULT " ++ hex_byte opcode ++ codes " AT " ++ hex_word pc
+refused_text (event_fault.Undocumented opcode pc)
+    = codes "FAULT " ++ hex_byte opcode ++ codes " AT " ++ hex_word pc
 refused_text event_fault.ConsoleFull = codes "CONSOLE FULL"
 refused_text event_fault.CyclesFull = codes "CYCLES FULL"
 refused_text fault = event_fault_name fault ++ 32 ∷ decimal (event_fault_number fault)
@@ -62,12 +63,14 @@ after_event s (Err fault) = s
 -- The session after some bytes of input, each an event of its own.
 unfoldable pub after_input : Session → List ℕ → Session
 after_input s [] = s
-after_input s (byte ∷ bytes) = after_input (after_event s (event_of s.current (event.Input byte))) bytes
+after_input s (byte ∷ bytes)
+    = after_input (after_event s (event_of s.current (event.Input byte))) bytes
 
 -- The reply to bytes of input: all of them are handed in, or none if not all fit.
 unfoldable pub input_answer : Session → List ℕ → Answer
 input_answer s bytes =
-    if nat_lt console_size (length s.current.bus.given + length bytes) then answer (fault_line event_fault.InputFull) s
+    if nat_lt console_size (length s.current.bus.given + length bytes)
+    then answer (fault_line event_fault.InputFull) s
     else answer (codes "OK\n") (after_input s bytes)
 
 -- Why a run ended, as its reply names it.
@@ -84,7 +87,8 @@ run_line end = codes "DID " ++ decimal end.did ++ 32 ∷ why_text end.why ++ 10 
 -- The reply to a rejected call of the session. If too few events are held, it says how many are.
 unfoldable pub refusal_line : SessionFault → List ℕ
 refusal_line (NoHistory held) = codes "! HISTORY " ++ decimal held ++ 10 ∷ []
-refusal_line fault = codes "! " ++ session_fault_name fault ++ 32 ∷ decimal (session_fault_number fault) ++ 10 ∷ []
+refusal_line fault
+    = codes "! " ++ session_fault_name fault ++ 32 ∷ decimal (session_fault_number fault) ++ 10 ∷ []
 
 -- The reply to going back: the register line of the restored state, or why it was rejected.
 abbrev pub back_answer : Session → Result Session SessionFault → Answer
@@ -98,7 +102,8 @@ table_answer s (Err fault) = answer (refusal_line fault) s
 
 -- The reply to a text that is not one line of a source: the fault's name and number.
 unfoldable pub source_fault_line : AsmFaultKind → List ℕ
-source_fault_line kind = codes "! " ++ source_fault_name kind ++ 32 ∷ decimal (source_fault_number kind) ++ 10 ∷ []
+source_fault_line kind
+    = codes "! " ++ source_fault_name kind ++ 32 ∷ decimal (source_fault_number kind) ++ 10 ∷ []
 
 -- The reply to a text to assemble at an address: that of a patch with its bytes, or why the text is
 -- rejected.
@@ -113,7 +118,8 @@ answer_to Step s = stepped_answer s (event_of s.current event.Step)
 answer_to (Mem first last) s = answer (memory_rows s.current.bus.memory first last) s
 answer_to Out s = answer (output_text s.current.bus.out) s
 answer_to (Set setting) s = event_answer s (event_of s.current (event.Set setting))
-answer_to (Patch address bytes count) s = event_answer s (event_of s.current (event.Patch address bytes count))
+answer_to (Patch address bytes count) s
+    = event_answer s (event_of s.current (event.Patch address bytes count))
 answer_to Reset s = event_answer s (event_of s.current event.Reset)
 answer_to (Irq level) s = event_answer s (event_of s.current (event.Irq level))
 answer_to Nmi s = event_answer s (event_of s.current event.Nmi)
@@ -125,8 +131,10 @@ answer_to (Unbreak address) s = table_answer s (break_cleared address s)
 answer_to (Watch address) s = table_answer s (watch_set address s)
 answer_to (Unwatch address) s = table_answer s (watch_cleared address s)
 answer_to Breaks s = answer (breaks_line s.breaks) s
-answer_to (Dis address count) s = answer (rows_in s.current.bus.map.profile s.current.bus.memory 65535 address count) s
-answer_to (Asm address text count) s = asm_answer s address (one_line s.current.bus.map.profile address (take count text))
+answer_to (Dis address count) s
+    = answer (rows_in s.current.bus.map.profile s.current.bus.memory 65535 address count) s
+answer_to (Asm address text count) s
+    = asm_answer s address (one_line s.current.bus.map.profile address (take count text))
 answer_to Quit s = record { written = []; session = s; quit = true }
 answer_to Nothing s = answer [] s
 answer_to Bad s = answer (codes "? BAD COMMAND\n") s
@@ -140,7 +148,8 @@ abbrev pub after_text : List ℕ → Served → Served
 after_text text r = record { written = text ++ r.written; session = r.session }
 
 abbrev pub served_on : Answer → (Session → Served) → Served
-served_on a rest = if a.quit then record { written = a.written; session = a.session } else after_text a.written (rest a.session)
+served_on a rest = if a.quit then record { written = a.written; session = a.session }
+    else after_text a.written (rest a.session)
 
 -- The lines one after another, up to one that ends the engine.
 unfoldable pub served : Session → List (List ℕ) → Served
@@ -157,4 +166,5 @@ transcript_so_far s input = served s (ended_lines_of input)
 
 -- The replies to the input so far begin the transcript, whatever is still to come.
 abbrev pub ToldBegins : Type 0
-ToldBegins = (s : Session) (told left : List ℕ) → (more : List ℕ) × ((transcript s (told ++ left)).written ≡ (transcript_so_far s told).written ++ more)
+ToldBegins = (s : Session) (told left : List ℕ) → (more : List ℕ)
+    × ((transcript s (told ++ left)).written ≡ (transcript_so_far s told).written ++ more)

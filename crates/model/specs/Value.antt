@@ -9,7 +9,8 @@ use Rattle.model.specs.Expression.{Term, literal, name, here, negated, binary, l
 
 -- A value goes on; a fault ends.
 infixl 10 ◌>>=◌
-abbrev pub ◌>>=◌ : {A B : Type 0} → Result A ExprFault → (A → Result B ExprFault) → Result B ExprFault
+abbrev pub ◌>>=◌ : {A B : Type 0} → Result A ExprFault → (A → Result B ExprFault)
+    → Result B ExprFault
 (Ok x) >>= f = f x
 (Err e) >>= f = Err e
 
@@ -57,9 +58,12 @@ value_of numbers address (literal v) = literal_value v
 value_of numbers address (name text) = name_value (numbers text)
 value_of numbers address here = Ok address
 value_of numbers address (negated e) = value_of numbers address e >>= λ v. checked (pos 0 -ℤ v)
-value_of numbers address (binary op a b) = value_of numbers address a >>= λ x. value_of numbers address b >>= λ y. applied op x y
-value_of numbers address (low e) = value_of numbers address e >>= λ v. Ok (int_rem_euclid v (pos 256))
-value_of numbers address (high e) = value_of numbers address e >>= λ v. Ok (int_rem_euclid (int_div_euclid v (pos 256)) (pos 256))
+value_of numbers address (binary op a b) = value_of numbers address a
+    >>= λ x. value_of numbers address b >>= λ y. applied op x y
+value_of numbers address (low e) = value_of numbers address e
+    >>= λ v. Ok (int_rem_euclid v (pos 256))
+value_of numbers address (high e) = value_of numbers address e
+    >>= λ v. Ok (int_rem_euclid (int_div_euclid v (pos 256)) (pos 256))
 
 -- Whether each name in an expression has a number.
 abbrev pub knows : Numbers → Term → Bool

@@ -1,7 +1,8 @@
 //! The parts of tokens and expressions, and the faults of both.
 
 ghost use Rattle.std.specs.Prelude.{◌≡◌};
-ghost use Rattle.model.specs.FaultNames.{expression_fault_name, expression_fault_number, line_fault_name, line_fault_number};
+ghost use Rattle.model.specs.FaultNames.{expression_fault_name, expression_fault_number};
+ghost use Rattle.model.specs.FaultNames.{line_fault_name, line_fault_number};
 
 use std::alloc::{AllocError, AllocFailed};
 use std::fmt;

@@ -5,7 +5,8 @@
 #![tactic(auto)]
 
 ghost use Rattle.std.specs.Prelude.{◌≡◌, ◌+◌, ◌%◌};
-ghost use Rattle.model.specs.Operand.{indexed, jump_target, effective_address, straight, target, word_at, word_in_page};
+ghost use Rattle.model.specs.Operand.{indexed, jump_target, effective_address, straight, target};
+ghost use Rattle.model.specs.Operand.{word_at, word_in_page};
 
 use bus::{Bus, Profile};
 pub use model::{EffectiveAddress, Mode, Regs};

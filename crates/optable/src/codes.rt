@@ -2,7 +2,10 @@
 
 ghost use Rattle.std.specs.Prelude.{◌≡◌, ◌<◌, ◌+◌, ℕ, IfSome, IfNone, Some};
 ghost use Rattle.model.specs.Table.{encoded, row_at, IsRowOf};
-ghost use Rattle.optable.specs.Codes.{within, code_of, load_code, store_code, modify_code, move_code, branch_code, arithmetic_code, shift_code, memory_code, direct_code, immediate_code, implied_code, relative_code, jump_code, call_code};
+ghost use Rattle.optable.specs.Codes.{within, code_of, load_code, store_code, modify_code};
+ghost use Rattle.optable.specs.Codes.{move_code, branch_code, arithmetic_code, shift_code};
+ghost use Rattle.optable.specs.Codes.{memory_code, direct_code, immediate_code, implied_code};
+ghost use Rattle.optable.specs.Codes.{relative_code, jump_code, call_code};
 
 use crate::operations::operation;
 use crate::rows::decode_in;
@@ -12,8 +15,10 @@ use model::{BranchOp, Mnemonic, Mode, ModifyOp, Operation, Profile, ReadOp, Regi
 pub fn encode(mnemonic: Mnemonic, mode: Mode) -> Option<u8>
     ensures code { result ≡ encoded Profile.N mnemonic mode }
     ensures found { IfSome result (λ opcode. IsRowOf mnemonic mode (row_at Profile.N opcode)) }
-    ensures none { IfNone result ((opcode : ℕ) → opcode < 256 → ¬ IsRowOf mnemonic mode (row_at Profile.N opcode)) }
-    ensures only { (opcode : ℕ) → opcode < 256 → IsRowOf mnemonic mode (row_at Profile.N opcode) → result ≡ Some opcode }
+    ensures none { IfNone result
+        ((opcode : ℕ) → opcode < 256 → ¬ IsRowOf mnemonic mode (row_at Profile.N opcode)) }
+    ensures only { (opcode : ℕ) → opcode < 256 → IsRowOf mnemonic mode (row_at Profile.N opcode)
+        → result ≡ Some opcode }
 {
     encode_in(Profile::N, mnemonic, mode)
 }
@@ -25,8 +30,10 @@ pub fn encode(mnemonic: Mnemonic, mode: Mode) -> Option<u8>
 pub fn encode_in(profile: Profile, mnemonic: Mnemonic, mode: Mode) -> Option<u8>
     ensures code { result ≡ encoded profile mnemonic mode }
     ensures found { IfSome result (λ opcode. IsRowOf mnemonic mode (row_at profile opcode)) }
-    ensures none { IfNone result ((opcode : ℕ) → opcode < 256 → ¬ IsRowOf mnemonic mode (row_at profile opcode)) }
-    ensures only { (opcode : ℕ) → opcode < 256 → IsRowOf mnemonic mode (row_at profile opcode) → result ≡ Some opcode }
+    ensures none { IfNone result
+        ((opcode : ℕ) → opcode < 256 → ¬ IsRowOf mnemonic mode (row_at profile opcode)) }
+    ensures only { (opcode : ℕ) → opcode < 256 → IsRowOf mnemonic mode (row_at profile opcode)
+        → result ≡ Some opcode }
 {
     within(profile, code_of(operation(mnemonic), mode))
 }

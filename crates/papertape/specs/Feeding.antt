@@ -15,7 +15,8 @@ unfed = Ok (0, start)
 
 -- one byte more, where no more than so many are taken
 abbrev pub fed_byte : ℕ → ℕ × Progress → ℕ → Fed
-fed_byte limit s b = if nat_le limit s.0 then Err (record { offset = s.0; kind = TooLong }) else (step s.0 s.1 b >>= λ t. Ok (s.0 + 1, t))
+fed_byte limit s b = if nat_le limit s.0 then Err (record { offset = s.0; kind = TooLong })
+    else (step s.0 s.1 b >>= λ t. Ok (s.0 + 1, t))
 
 abbrev pub fed_up_to : ℕ → Fed → List ℕ → Fed
 fed_up_to limit s [] = s

@@ -30,28 +30,39 @@ next_count n = if nat_lt n 65536 then n + 1 else n
 
 -- an end record
 abbrev pub ended : Progress → Claim → Result Progress TapeFault
-ended s claim = if claim.address == s.count then Ok (record s { place = After; digits = [] }) else fault_at BadCount s.start
+ended s claim = if claim.address == s.count then Ok (record s { place = After; digits = [] })
+    else fault_at BadCount s.start
 
 -- a data record
 abbrev pub stored : Progress → Claim → Result Progress TapeFault
 stored s claim =
     if nat_le (claim.address + claim.length) 65536
-    then Ok (record s { place = Between; digits = []; count = next_count s.count; cells = with_bytes s.cells claim.address claim.bytes })
+    then Ok (record s {
+      place = Between;
+      digits = [];
+      count = next_count s.count;
+      cells = with_bytes s.cells claim.address claim.bytes;
+    })
     else fault_at PastEnd s.start
 
 -- all digits of a record are there, and this is what they claim
 unfoldable pub settled : Progress → Claim → Result Progress TapeFault
-settled s claim = if claim.sum == claim.checksum then (if claim.length == 0 then ended s claim else stored s claim) else fault_at BadChecksum s.start
+settled s claim = if claim.sum == claim.checksum
+    then (if claim.length == 0 then ended s claim else stored s claim)
+    else fault_at BadChecksum s.start
 
 -- one digit more
 unfoldable pub with_digit : Progress → ℕ → Result Progress TapeFault
 with_digit s b =
     let digits : List ℕ = s.digits ++ b ∷ [] in
-    if nat_lt (length digits) (needed digits) then Ok (record s { digits = digits }) else settled s (claim_of digits)
+    if nat_lt (length digits) (needed digits) then Ok (record s { digits = digits })
+    else settled s (claim_of digits)
 
 -- one byte more, by where the reader stands
 abbrev pub step_in : ℕ → Progress → ℕ → Place → Result Progress TapeFault
-step_in offset s b Between = if b == 59 then Ok (record s { place = Within; start = offset; digits = [] }) else (if is_skipped b then Ok s else fault_at JunkBetween offset)
+step_in offset s b Between = if b == 59
+    then Ok (record s { place = Within; start = offset; digits = [] })
+    else (if is_skipped b then Ok s else fault_at JunkBetween offset)
 step_in offset s b Within = if is_hex_byte b then with_digit s b else fault_at BadHex offset
 step_in offset s b After = if is_skipped b then Ok s else fault_at JunkAfterEnd offset
 
@@ -60,7 +71,8 @@ unfoldable pub step : ℕ → Progress → ℕ → Result Progress TapeFault
 step offset s b = step_in offset s b s.place
 
 infixl 10 ◌>>=◌
-abbrev pub ◌>>=◌ : {A B : Type 0} → Result A TapeFault → (A → Result B TapeFault) → Result B TapeFault
+abbrev pub ◌>>=◌ : {A B : Type 0} → Result A TapeFault → (A → Result B TapeFault)
+    → Result B TapeFault
 (Ok x) >>= f = f x
 (Err e) >>= f = Err e
 
@@ -71,7 +83,9 @@ run offset s (b ∷ bytes) = step offset s b >>= λ t. run (offset + 1) t bytes
 
 -- the end of the text
 abbrev pub finished_in : ℕ → Progress → Place → Result (List (Option ℕ)) TapeFault
-finished_in offset s Between = if s.count == 0 then Err (record { offset = offset; kind = NoRecord }) else Err (record { offset = offset; kind = Truncated })
+finished_in offset s Between = if s.count == 0
+    then Err (record { offset = offset; kind = NoRecord })
+    else Err (record { offset = offset; kind = Truncated })
 finished_in offset s Within = Err (record { offset = offset; kind = Truncated })
 finished_in offset s After = Ok s.cells
 
@@ -98,6 +112,7 @@ pub record IsHeld (held : ℕ) (digits : List ℕ) : Type 0 where
   pub few : AreFewDigits (take held digits)
 
 -- an answer is what reading gives, unless memory ran out
-abbrev pub AnswersReading : Result (List (Option ℕ)) TapeFault → Result (List (Option ℕ)) TapeFault → Type 0
+abbrev pub AnswersReading : Result (List (Option ℕ)) TapeFault → Result (List (Option ℕ)) TapeFault
+    → Type 0
 AnswersReading (Ok cells) gives = gives ≡ Ok cells
 AnswersReading (Err f) gives = (f ≡ out_of_memory) ⊎ (gives ≡ Err f)

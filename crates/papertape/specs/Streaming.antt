@@ -53,9 +53,12 @@ pub record EndsWithPiece (told : List ℕ) (fault : TapeFault) : Type 0 where
 -- bytes consumed show no fault. If memory ran out, none was consumed.
 abbrev pub Shows : List ℕ → Type 0 → Result (List (Option ℕ)) TapeReadFault → Type 0
 Shows told AtEnd (Ok image) = AtEnd × IsReadInPieces told image
-Shows told AtEnd (Err (Tape fault)) = ((fault ≡ out_of_memory) × (told ≡ [])) ⊎ (EndsWithPiece told fault ⊎ (AtEnd × IsRefusedInPieces told fault))
+Shows told AtEnd (Err (Tape fault)) = ((fault ≡ out_of_memory) × (told ≡ []))
+    ⊎ (EndsWithPiece told fault ⊎ (AtEnd × IsRefusedInPieces told fault))
 Shows told AtEnd (Err Read) = GoesOn told
 
 -- What was consumed of a reader, by what is known of it before and after, and by the result.
-abbrev pub Reads : Option (List ℕ) → Option (List ℕ) → Result (List (Option ℕ)) TapeReadFault → Type 0
-Reads before now answer = (told : List ℕ) × Consumes before now told × Shows told (IsAtEnd now) answer
+abbrev pub Reads : Option (List ℕ) → Option (List ℕ) → Result (List (Option ℕ)) TapeReadFault
+    → Type 0
+Reads before now answer = (told : List ℕ) × Consumes before now told
+    × Shows told (IsAtEnd now) answer

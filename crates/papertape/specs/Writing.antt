@@ -16,7 +16,8 @@ abbrev pub cuts : ℕ → ℕ → List (Option ℕ) → List Stretch
 cuts address covered [] = []
 cuts address (suc n) (c ∷ cells) = cuts (address + 1) n cells
 cuts address zero (None ∷ cells) = cuts (address + 1) 0 cells
-cuts address zero (Some b ∷ cells) = (address, b ∷ front_bytes 23 cells) ∷ cuts (address + 1) (length (front_bytes 23 cells)) cells
+cuts address zero (Some b ∷ cells)
+    = (address, b ∷ front_bytes 23 cells) ∷ cuts (address + 1) (length (front_bytes 23 cells)) cells
 
 -- what the cuts write
 abbrev pub cut_writes : List (Option ℕ) → List Stretch → List (Option ℕ)
@@ -30,7 +31,8 @@ first_cell (c ∷ cells) = c
 
 -- after an address a piece comes next, and the cuts go on after it
 pub record ComesNext (cells : List (Option ℕ)) (from : ℕ) (piece : Stretch) : Type 0 where
-  pub cut : cuts from 0 (drop from cells) ≡ piece ∷ cuts (piece.0 + length piece.1) 0 (drop (piece.0 + length piece.1) cells)
+  pub cut : cuts from 0 (drop from cells)
+      ≡ piece ∷ cuts (piece.0 + length piece.1) 0 (drop (piece.0 + length piece.1) cells)
   pub some : 0 < length piece.1
   pub ahead : from ≤ piece.0
   pub inside : piece.0 + length piece.1 ≤ 65536

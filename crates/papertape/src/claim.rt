@@ -28,7 +28,13 @@ impl Model for Claim {
 
     ghost Value = { Claim };
 
-    ghost view = { λ c. record { length = c.length; address = c.address; bytes = take c.length c.«data»; sum = c.sum; checksum = c.checksum } };
+    ghost view = { λ c. record {
+      length = c.length;
+      address = c.address;
+      bytes = take c.length c.«data»;
+      sum = c.sum;
+      checksum = c.checksum;
+    } };
 }
 
 pub fn is_hex_digit(byte: u8) -> bool

@@ -1,6 +1,7 @@
 //! Reading a tape.
 
-ghost use Rattle.std.specs.Prelude.{◌≡◌, Ok, Err, IfOk, IfErr, ◌⊎◌, ℕ, List, Option, [], ◌∷◌, true, false};
+ghost use Rattle.std.specs.Prelude.{◌≡◌, Ok, Err, IfOk, IfErr, ◌⊎◌, ℕ, List, Option, [], ◌∷◌, true};
+ghost use Rattle.std.specs.Prelude.{false};
 ghost use Rattle.papertape.specs.Reading.{AnswersReading, read_of};
 ghost use Rattle.model.specs.Tape.{TapeDenotes, FirstFault};
 ghost use Rattle.model.specs.declared.tape.TapeFaultKind.{TapeFaultKind};
@@ -34,7 +35,8 @@ pub fn read_tape(alloc: Global, text: &[u8]) -> Result<Image, TapeFault>
     // What is read is what the text denotes.
     ensures found { IfOk result (λ image. TapeDenotes text.now image) }
     // What denotes an image is read, unless memory runs out.
-    ensures only { (cells : List (Option ℕ)) → TapeDenotes text.now cells → (result ≡ Ok cells) ⊎ (result ≡ Err out_of_memory) }
+    ensures only { (cells : List (Option ℕ)) → TapeDenotes text.now cells
+        → (result ≡ Ok cells) ⊎ (result ≡ Err out_of_memory) }
     // Each error is the text's first fault, or `OutOfMemory`.
     ensures fault { IfErr result (λ f. (f ≡ out_of_memory) ⊎ FirstFault text.now f.kind f.offset) }
     // A text with a first fault is rejected with it, unless memory runs out.

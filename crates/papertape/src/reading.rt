@@ -55,7 +55,13 @@ impl Model for Reading {
 
     ghost Value = { Progress };
 
-    ghost view = { λ r. record { cells = r.image; count = r.count; place = r.place; start = r.start; digits = take r.held r.digits } };
+    ghost view = { λ r. record {
+      cells = r.image;
+      count = r.count;
+      place = r.place;
+      start = r.start;
+      digits = take r.held r.digits;
+    } };
 
     ghost invariant = { λ r. IsHeld r.held r.digits };
 }

@@ -47,7 +47,8 @@ pub fn write_record(
     bytes: &[u8],
 ) -> Result<(), AllocError>
     requires { length bytes.now ≤ 24 }
-    ensures { IfOk result (λ _. out.new.items ≡ out.old.items ++ line (count ∷ word number ++ bytes.now)) }
+    ensures { IfOk result
+        (λ _. out.new.items ≡ out.old.items ++ line (count ∷ word number ++ bytes.now)) }
 {
     let head = count as u64 + (number / 256) as u64 + (number % 256) as u64;
     let sum = head + total(bytes) as u64;

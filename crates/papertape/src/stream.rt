@@ -5,7 +5,8 @@ ghost use Rattle.model.specs.TapeFault.{out_of_memory};
 ghost use Rattle.model.specs.TapePieces.{IsReadInPieces, IsRefusedInPieces};
 ghost use Rattle.model.specs.declared.tape.TapeFault.{TapeFault};
 ghost use Rattle.papertape.specs.Streaming.{EndsReading, IsImageOf, Reads};
-ghost use Rattle.papertape.specs.declared.stream.TapeReadFault.TheVariants.{Read as ReadFailed, Tape};
+ghost use Rattle.papertape.specs.declared.stream.TapeReadFault.TheVariants.{Read as ReadFailed};
+ghost use Rattle.papertape.specs.declared.stream.TapeReadFault.TheVariants.{Tape};
 
 use crate::reader::TapeReader;
 use bus::Image;
@@ -50,13 +51,15 @@ pub fn read_tape_from<T: Read>(alloc: Global, tape: &mut T) -> Result<Image, Tap
     // What is read is what the reader's bytes denote.
     ensures found { IfOk result (IsImageOf (T.remaining tape.old)) }
     // What denotes an image is read, unless a read fails or memory runs out.
-    ensures only { IfSome (T.remaining tape.old) (λ text. (cells : List (Option ℕ)) → IsReadInPieces text cells
+    ensures only { IfSome (T.remaining tape.old)
+        (λ text. (cells : List (Option ℕ)) → IsReadInPieces text cells
         → (result ≡ Ok cells) ⊎ ((result ≡ Err ReadFailed) ⊎ (result ≡ Err (Tape out_of_memory)))) }
     // Each error is the tape's fault, or `OutOfMemory`.
     ensures fault { IfErr result (EndsReading (T.remaining tape.old)) }
     // A tape with a fault is rejected with it, unless a read fails or memory runs out.
-    ensures refused { IfSome (T.remaining tape.old) (λ text. (fault : TapeFault) → IsRefusedInPieces text fault
-        → (result ≡ Err (Tape fault)) ⊎ ((result ≡ Err ReadFailed) ⊎ (result ≡ Err (Tape out_of_memory)))) }
+    ensures refused { IfSome (T.remaining tape.old)
+        (λ text. (fault : TapeFault) → IsRefusedInPieces text fault → (result ≡ Err (Tape fault))
+        ⊎ ((result ≡ Err ReadFailed) ⊎ (result ≡ Err (Tape out_of_memory)))) }
 {
     read_each_piece(alloc, tape)
 }

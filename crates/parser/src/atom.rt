@@ -3,7 +3,8 @@
 ghost use Rattle.std.specs.Prelude.{◌≡◌, ℕ, ◌≤◌};
 ghost use Rattle.std.specs.Option.{option_map};
 ghost use Rattle.model.specs.Digits.{digit_value};
-ghost use Rattle.model.specs.Expression.{atom_of, in_range, number_after, number_of_text, operator_of, symbol_of};
+ghost use Rattle.model.specs.Expression.{atom_of, in_range, number_after, number_of_text};
+ghost use Rattle.model.specs.Expression.{operator_of, symbol_of};
 ghost use Rattle.line_parts.specs.Lexemes.{lexeme_of};
 ghost use Rattle.line_parts.specs.Trees.{view};
 

@@ -3,7 +3,8 @@
 ghost use Rattle.std.specs.Prelude.{◌≡◌, ◌≤◌, IfErr, IfOk, None, Some, drop, length};
 ghost use Rattle.std.specs.Option.{option_map};
 ghost use Rattle.model.specs.Expression.{binary, high, low};
-ghost use Rattle.model.specs.Reading.{closed_by, expression_of, inner_at, more_with, next_with, primary_with, sum_with, unary_with, whole_with};
+ghost use Rattle.model.specs.Reading.{closed_by, expression_of, inner_at, more_with, next_with};
+ghost use Rattle.model.specs.Reading.{primary_with, sum_with, unary_with, whole_with};
 ghost use Rattle.model.specs.declared.expression.LineFault.TheVariants.{Syntax};
 ghost use Rattle.line_parts.specs.Lexemes.{lexemes};
 ghost use Rattle.line_parts.specs.Trees.{seen, seen_next, view};
@@ -136,7 +137,8 @@ fn low<'a, 't>(
     alloc: Global,
     tokens: &'t [Token<'a>],
 ) -> Result<Option<(Expr<'a>, &'t [Token<'a>])>, AllocError>
-    ensures { IfOk result (λ r. seen r ≡ option_map (λ p. (low p.0, p.1)) (sum_with (inner_at 8) (lexemes tokens.now))) }
+    ensures { IfOk result (λ r. seen r
+        ≡ option_map (λ p. (low p.0, p.1)) (sum_with (inner_at 8) (lexemes tokens.now))) }
 {
     let Some((inner, rest)) = sum(alloc, tokens, 8)? else {
         return Ok(None);
@@ -149,7 +151,8 @@ fn high<'a, 't>(
     alloc: Global,
     tokens: &'t [Token<'a>],
 ) -> Result<Option<(Expr<'a>, &'t [Token<'a>])>, AllocError>
-    ensures { IfOk result (λ r. seen r ≡ option_map (λ p. (high p.0, p.1)) (sum_with (inner_at 8) (lexemes tokens.now))) }
+    ensures { IfOk result (λ r. seen r
+        ≡ option_map (λ p. (high p.0, p.1)) (sum_with (inner_at 8) (lexemes tokens.now))) }
 {
     let Some((inner, rest)) = sum(alloc, tokens, 8)? else {
         return Ok(None);
@@ -182,7 +185,8 @@ fn whole<'a, 't>(
 #[tactic(auto, using(crate::proofs::Whole::rest_within, crate::proofs::Whole::rest_dropped))]
 pub fn parse_expr<'a>(alloc: Global, tokens: &[Token<'a>]) -> Result<(Expr<'a>, usize), LineFault>
     // What is read, and the tokens left after it.
-    ensures found { IfOk result (λ p. expression_of (lexemes tokens.now) ≡ Some (view p.0, drop p.1 (lexemes tokens.now))) }
+    ensures found { IfOk result
+        (λ p. expression_of (lexemes tokens.now) ≡ Some (view p.0, drop p.1 (lexemes tokens.now))) }
     ensures within { IfOk result (λ p. p.1 ≤ length tokens.now) }
     // No beginning is an expression.
     ensures syntax { IfErr result (λ f. f ≡ Syntax → expression_of (lexemes tokens.now) ≡ None) }

@@ -38,10 +38,13 @@ EndsAsm map Write = ⊤
 abbrev pub EndsDebug : Bool → MapSpec → Refusal → Type 0
 EndsDebug is_tape map Words = ⊥
 EndsDebug is_tape map (Map fault) = (fault ≡ BadMap) × (is_map map.rom map.port ≡ false)
-EndsDebug is_tape map (Source fault) = (is_tape ≡ false) × ((source : List ℕ) × HasFault map source fault)
-EndsDebug is_tape map (Tape fault) = (is_tape ≡ true) × ((text : List ℕ) × IsRefusedInPieces text fault)
+EndsDebug is_tape map (Source fault) = (is_tape ≡ false)
+    × ((source : List ℕ) × HasFault map source fault)
+EndsDebug is_tape map (Tape fault) = (is_tape ≡ true)
+    × ((text : List ℕ) × IsRefusedInPieces text fault)
 EndsDebug is_tape map (Session fault) = (is_tape ≡ true) × (fault ≡ PortAddress)
-    × ((text : List ℕ) × (image : List (Option ℕ)) × IsReadInPieces text image × (has_port_byte map image ≡ true))
+    × ((text : List ℕ) × (image : List (Option ℕ)) × IsReadInPieces text image
+    × (has_port_byte map image ≡ true))
 EndsDebug is_tape map OutOfMemory = ⊤
 EndsDebug is_tape map Read = ⊤
 EndsDebug is_tape map Write = ⊤

@@ -1,5 +1,6 @@
 //! `asm`: a source to the text of its tape, and to its listing.
-ghost use Rattle.std.specs.Prelude.{◌≡◌, ◌⊎◌, ℕ, List, None, Option, Some, Err, IfErr, IfOk, IfSome, MatchResult, false, if◌then◌else◌, option_map};
+ghost use Rattle.std.specs.Prelude.{◌≡◌, ◌⊎◌, ℕ, List, None, Option, Some, Err, IfErr, IfOk};
+ghost use Rattle.std.specs.Prelude.{IfSome, MatchResult, false, if◌then◌else◌, option_map};
 ghost use Rattle.assembler.specs.Assembly.{listing_of, out_of_memory};
 ghost use Rattle.model.specs.Listing.{IsListing};
 ghost use Rattle.model.specs.Source.{Denotes, HasFault};
@@ -51,7 +52,8 @@ pub struct AsmTexts {
 /// Errors: `OutOfMemory` with line 0 if an allocation fails.
 fn texts_of(alloc: Global, assembly: &Assembly, is_listed: bool) -> Result<AsmTexts, AsmFault>
     ensures tape { IfOk result (λ t. t.tape.items ≡ tape_text assembly.now.image) }
-    ensures listing { IfOk result (λ t. option_map (λ l. l.items) t.listing ≡ (if is_listed then Some (listing_of assembly.now) else None)) }
+    ensures listing { IfOk result (λ t. option_map (λ l. l.items) t.listing
+        ≡ (if is_listed then Some (listing_of assembly.now) else None)) }
     ensures only { IfErr result (λ f. f ≡ out_of_memory) }
 {
     let listing = if is_listed {
@@ -82,15 +84,20 @@ pub fn asm_texts(
     is_listed: bool,
 ) -> Result<AsmTexts, AsmFault>
     // The tape is that of an image that the source denotes.
-    ensures denoted { IfOk result (λ t. (image : List (Option ℕ)) × Denotes map.now source.now image × (t.tape.items ≡ tape_text image)) }
+    ensures denoted { IfOk result (λ t. (image : List (Option ℕ)) × Denotes map.now source.now image
+        × (t.tape.items ≡ tape_text image)) }
     // A source that denotes an image has its tape, unless memory runs out.
-    ensures only { (image : List (Option ℕ)) → Denotes map.now source.now image → MatchResult result (λ t. t.tape.items ≡ tape_text image) (λ f. f ≡ out_of_memory) }
+    ensures only { (image : List (Option ℕ)) → Denotes map.now source.now image
+        → MatchResult result (λ t. t.tape.items ≡ tape_text image) (λ f. f ≡ out_of_memory) }
     // The listing is that of the source if one is asked for; otherwise there is none.
-    ensures listed { IfOk result (λ t. IsAsked map.now source.now is_listed (option_map (λ l. l.items) t.listing)) }
+    ensures listed { IfOk result
+        (λ t. IsAsked map.now source.now is_listed (option_map (λ l. l.items) t.listing)) }
     // No other text is a listing of the source.
-    ensures only_listing { IfOk result (λ t. IfSome t.listing (λ l. (other : List ℕ) → IsListing map.now source.now other → l.items ≡ other)) }
+    ensures only_listing { IfOk result (λ t. IfSome t.listing
+        (λ l. (other : List ℕ) → IsListing map.now source.now other → l.items ≡ other)) }
     // A source with a fault is rejected with it, unless memory runs out, and no other is.
-    ensures faulty { (f : AsmFault) → HasFault map.now source.now f → (result ≡ Err f) ⊎ (result ≡ Err out_of_memory) }
+    ensures faulty { (f : AsmFault) → HasFault map.now source.now f
+        → (result ≡ Err f) ⊎ (result ≡ Err out_of_memory) }
     ensures refused { IfErr result (λ f. (f ≡ out_of_memory) ⊎ HasFault map.now source.now f) }
 {
     // For the proof: a source has one image, and one address for each line and number for each
@@ -130,7 +137,8 @@ fn write_texts<H: Files>(rt: &H, words: &AsmWords<'_>, texts: &AsmTexts) -> Resu
 /// Both texts are whole before a file is made.
 pub fn asm<H: Files + AllocGlobal>(rt: &H, words: &AsmWords<'_>) -> Result<(), Refusal>
     ensures bad_map { is_map None words.now.port ≡ false → result ≡ Err (Refusal.Map BadMap) }
-    ensures refused { IfErr result (EndsAsm (record { profile = words.now.profile; rom = None; port = words.now.port })) }
+    ensures refused { IfErr result
+        (EndsAsm (record { profile = words.now.profile; rom = None; port = words.now.port })) }
 {
     let map = map_of(words.profile, None, words.port)?;
     let source = read_source(rt, words.source).map_err(|error| Refusal::unreadable(&error))?;

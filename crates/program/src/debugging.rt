@@ -24,11 +24,15 @@ pub fn debug<H: Files + AllocGlobal, R: Read, O: Write>(
     input: &mut R,
     output: &mut O,
 ) -> Result<(), Refusal>
-    ensures bad_map { is_map words.now.rom words.now.port ≡ false → result ≡ Err (Refusal.Map BadMap) }
-    ensures refused { IfErr result (EndsDebug words.now.is_tape (record { profile = words.now.profile; rom = words.now.rom; port = words.now.port })) }
+    ensures bad_map { is_map words.now.rom words.now.port ≡ false
+        → result ≡ Err (Refusal.Map BadMap) }
+    ensures refused { IfErr result (EndsDebug words.now.is_tape
+        (record { profile = words.now.profile; rom = words.now.rom; port = words.now.port })) }
     // A session on some image and the map of the words was served, or none began.
-    ensures served { IsServed (record { profile = words.now.profile; rom = words.now.rom; port = words.now.port }) words.now.history
-        (R.remaining input.old) (R.remaining input.new) (O.contents output.old) (O.contents output.new) result ((input.new ≡ input.old) × (output.new ≡ output.old)) }
+    ensures served { IsServed
+        (record { profile = words.now.profile; rom = words.now.rom; port = words.now.port })
+        words.now.history (R.remaining input.old) (R.remaining input.new) (O.contents output.old)
+        (O.contents output.new) result ((input.new ≡ input.old) × (output.new ≡ output.old)) }
 {
     let map = map_of(words.profile, words.rom, words.port)?;
     let alloc = rt.alloc();

@@ -1,5 +1,6 @@
 //! `dis`: a tape's bytes as text.
-ghost use Rattle.std.specs.Prelude.{◌≡◌, ◌⊎◌, ℕ, List, Option, Err, IfErr, IfOk, IfSome, MatchResult, OnErr};
+ghost use Rattle.std.specs.Prelude.{◌≡◌, ◌⊎◌, ℕ, List, Option, Err, IfErr, IfOk, IfSome};
+ghost use Rattle.std.specs.Prelude.{MatchResult, OnErr};
 ghost use Rattle.model.specs.Disassembly.{rows_in};
 ghost use Rattle.model.specs.State.{memory_of};
 ghost use Rattle.model.specs.TapeFault.{out_of_memory};
@@ -7,7 +8,8 @@ ghost use Rattle.model.specs.TapePieces.{IsReadInPieces, IsRefusedInPieces};
 ghost use Rattle.model.specs.Written.{Writes};
 ghost use Rattle.model.specs.declared.tape.TapeFault.{TapeFault};
 ghost use Rattle.papertape.specs.Streaming.{EndsReading, IsImageOf};
-ghost use Rattle.papertape.specs.declared.stream.TapeReadFault.TheVariants.{Read as ReadFailed, Tape};
+ghost use Rattle.papertape.specs.declared.stream.TapeReadFault.TheVariants.{Read as ReadFailed};
+ghost use Rattle.papertape.specs.declared.stream.TapeReadFault.TheVariants.{Tape};
 ghost use Rattle.program.specs.Refusals.{EndsDis};
 ghost use Rattle.program.specs.Streams.{IsListed};
 
@@ -40,14 +42,19 @@ pub fn dis_text<T: Read>(
     last: u16,
 ) -> Result<Vec<u8>, TapeReadFault>
     // The text is that of an image that the tape denotes.
-    ensures denoted { IfOk result (λ text. (image : List (Option ℕ)) × IsImageOf (T.remaining tape.old) image × (text.items ≡ rows_in profile (memory_of image) last first 65536)) }
+    ensures denoted { IfOk result
+        (λ text. (image : List (Option ℕ)) × IsImageOf (T.remaining tape.old) image
+        × (text.items ≡ rows_in profile (memory_of image) last first 65536)) }
     // A tape that denotes an image has its text, unless a read of it fails or memory runs out.
-    ensures only { IfSome (T.remaining tape.old) (λ told. (image : List (Option ℕ)) → IsReadInPieces told image
-        → MatchResult result (λ text. text.items ≡ rows_in profile (memory_of image) last first 65536) (λ f. (f ≡ ReadFailed) ⊎ (f ≡ Tape out_of_memory))) }
+    ensures only { IfSome (T.remaining tape.old)
+        (λ told. (image : List (Option ℕ)) → IsReadInPieces told image → MatchResult result
+        (λ text. text.items ≡ rows_in profile (memory_of image) last first 65536)
+        (λ f. (f ≡ ReadFailed) ⊎ (f ≡ Tape out_of_memory))) }
     // A tape with a fault is rejected with it, unless a read of it fails or memory runs out; no
     // other is.
-    ensures faulty { IfSome (T.remaining tape.old) (λ told. (fault : TapeFault) → IsRefusedInPieces told fault
-        → (result ≡ Err (Tape fault)) ⊎ ((result ≡ Err ReadFailed) ⊎ (result ≡ Err (Tape out_of_memory)))) }
+    ensures faulty { IfSome (T.remaining tape.old)
+        (λ told. (fault : TapeFault) → IsRefusedInPieces told fault → (result ≡ Err (Tape fault))
+        ⊎ ((result ≡ Err ReadFailed) ⊎ (result ≡ Err (Tape out_of_memory)))) }
     ensures refused { IfErr result (EndsReading (T.remaining tape.old)) }
 {
     let image = read_tape_from(alloc, tape)?;
@@ -81,7 +88,8 @@ pub fn dis<H: Files + AllocGlobal, O: Write>(
 ) -> Result<(), Refusal>
     ensures refused { IfErr result EndsDis }
     // The rows of some image were written, or none.
-    ensures listed { IsListed words.now.profile words.now.first words.now.last (O.contents output.old) (O.contents output.new) result (output.new ≡ output.old) }
+    ensures listed { IsListed words.now.profile words.now.first words.now.last
+        (O.contents output.old) (O.contents output.new) result (output.new ≡ output.old) }
 {
     let text = {
         let mut tape = File::open(rt, words.tape).map_err(|error| Refusal::unreadable(&error))?;

@@ -63,7 +63,8 @@ impl Refusal {
 
     /// Returns why a file could not be read.
     pub fn unreadable(error: &io::Error) -> Refusal
-        ensures memory { error_kind error.now ≡ ErrorKind.OutOfMemory → result ≡ Refusal.OutOfMemory }
+        ensures memory { error_kind error.now ≡ ErrorKind.OutOfMemory
+            → result ≡ Refusal.OutOfMemory }
         ensures other { ¬ (error_kind error.now ≡ ErrorKind.OutOfMemory) → result ≡ Refusal.Read }
     {
         match error.kind() {
@@ -74,7 +75,8 @@ impl Refusal {
 
     /// Returns why a file could not be written.
     pub fn unwritable(error: &io::Error) -> Refusal
-        ensures memory { error_kind error.now ≡ ErrorKind.OutOfMemory → result ≡ Refusal.OutOfMemory }
+        ensures memory { error_kind error.now ≡ ErrorKind.OutOfMemory
+            → result ≡ Refusal.OutOfMemory }
         ensures other { ¬ (error_kind error.now ≡ ErrorKind.OutOfMemory) → result ≡ Refusal.Write }
     {
         match error.kind() {

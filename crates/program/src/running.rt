@@ -1,5 +1,6 @@
 //! What the program does with its words.
-ghost use Rattle.std.specs.Prelude.{◌≡◌, ◌≤◌, ◌⊎◌, ℕ, List, [], ◌∷◌, Option, Result, Some, None, IfSome, MatchResult, ⊤, true, false, map};
+ghost use Rattle.std.specs.Prelude.{◌≡◌, ◌≤◌, ◌⊎◌, ℕ, List, [], ◌∷◌, Option, Result, Some, None};
+ghost use Rattle.std.specs.Prelude.{IfSome, MatchResult, ⊤, true, false, map};
 ghost use Rattle.std.specs.IoError.{error_kind};
 ghost use Rattle.std.specs.Io.KnownBytes.{Appends};
 ghost use Rattle.clap.specs.Words.{IsAmong, fault_of};
@@ -99,36 +100,62 @@ pub fn program<H: Files + AllocGlobal, R: Read, O: Write, E: Write>(
     // If it is done, nothing is written on the error stream.
     ensures quiet { result ≡ 0 → errors.new ≡ errors.old }
     // A source, a tape, words or a map that are rejected leave the input and the output unchanged.
-    ensures untouched { 1 ≤ result → result ≤ 2 → (input.new ≡ input.old) × (output.new ≡ output.old) }
+    ensures untouched { 1 ≤ result → result ≤ 2
+        → (input.new ≡ input.old) × (output.new ≡ output.old) }
     // So do words that fit nothing, or one of whose values is wrong, also if memory runs out.
-    ensures untaken { ¬ IsTaken (map (λ s. s.now) words.entry.now) → 1 ≤ result → result ≤ 3 → (input.new ≡ input.old) × (output.new ≡ output.old) }
-    ensures unasked { asked (map (λ s. s.now) words.entry.now) ≡ None → 1 ≤ result → result ≤ 3 → (input.new ≡ input.old) × (output.new ≡ output.old) }
+    ensures untaken { ¬ IsTaken (map (λ s. s.now) words.entry.now) → 1 ≤ result → result ≤ 3
+        → (input.new ≡ input.old) × (output.new ≡ output.old) }
+    ensures unasked { asked (map (λ s. s.now) words.entry.now) ≡ None → 1 ≤ result → result ≤ 3
+        → (input.new ≡ input.old) × (output.new ≡ output.old) }
     // Words that fit nothing have the status 2, unless they ask for help or memory runs out; help
     // that is asked for has 0 if it was written.
-    ensures usage { ¬ IsTaken (map (λ s. s.now) words.entry.now) → ¬ IsAmong DisplayHelp (fault_of mos65 (map (λ s. s.now) words.entry.now)) → (result ≡ 2) ⊎ (result ≡ 3) }
-    ensures help { fault_of mos65 (map (λ s. s.now) words.entry.now) ≡ DisplayHelp ∷ [] → (result ≡ 0) ⊎ (result ≡ 3) ⊎ (result ≡ 4) }
+    ensures usage { ¬ IsTaken (map (λ s. s.now) words.entry.now) → ¬ IsAmong DisplayHelp
+        (fault_of mos65 (map (λ s. s.now) words.entry.now)) → (result ≡ 2) ⊎ (result ≡ 3) }
+    ensures help { fault_of mos65 (map (λ s. s.now) words.entry.now) ≡ DisplayHelp ∷ []
+        → (result ≡ 0) ⊎ (result ≡ 3) ⊎ (result ≡ 4) }
     // A wrong value has the status 2, unless memory runs out.
-    ensures value { IsTaken (map (λ s. s.now) words.entry.now) → asked (map (λ s. s.now) words.entry.now) ≡ None → (result ≡ 2) ⊎ (result ≡ 3) }
+    ensures value { IsTaken (map (λ s. s.now) words.entry.now)
+        → asked (map (λ s. s.now) words.entry.now) ≡ None → (result ≡ 2) ⊎ (result ≡ 3) }
     // So has a wrong map, whatever the file and the profile.
-    ensures asm_map { (a : AsmAsked) → asked (map (λ s. s.now) words.entry.now) ≡ Some (asm a) → IsTaken (map (λ s. s.now) words.entry.now) → is_map None a.port ≡ false → (result ≡ 2) ⊎ (result ≡ 3) }
-    ensures debug_map { (d : DebugAsked) → asked (map (λ s. s.now) words.entry.now) ≡ Some (debug d) → IsTaken (map (λ s. s.now) words.entry.now) → is_map d.rom d.port ≡ false → (result ≡ 2) ⊎ (result ≡ 3) }
+    ensures asm_map { (a : AsmAsked) → asked (map (λ s. s.now) words.entry.now) ≡ Some (asm a)
+        → IsTaken (map (λ s. s.now) words.entry.now) → is_map None a.port ≡ false
+        → (result ≡ 2) ⊎ (result ≡ 3) }
+    ensures debug_map { (d : DebugAsked) → asked (map (λ s. s.now) words.entry.now) ≡ Some (debug d)
+        → IsTaken (map (λ s. s.now) words.entry.now) → is_map d.rom d.port ≡ false
+        → (result ≡ 2) ⊎ (result ≡ 3) }
     // If the words and the map are right, the status is another one.
-    ensures asm_right { (a : AsmAsked) → asked (map (λ s. s.now) words.entry.now) ≡ Some (asm a) → IsTaken (map (λ s. s.now) words.entry.now) → is_map None a.port ≡ true → ¬ (result ≡ 2) }
-    ensures debug_right { (d : DebugAsked) → asked (map (λ s. s.now) words.entry.now) ≡ Some (debug d) → IsTaken (map (λ s. s.now) words.entry.now) → is_map d.rom d.port ≡ true → ¬ (result ≡ 2) }
+    ensures asm_right { (a : AsmAsked) → asked (map (λ s. s.now) words.entry.now) ≡ Some (asm a)
+        → IsTaken (map (λ s. s.now) words.entry.now) → is_map None a.port ≡ true → ¬ (result ≡ 2) }
+    ensures debug_right { (d : DebugAsked)
+        → asked (map (λ s. s.now) words.entry.now) ≡ Some (debug d)
+        → IsTaken (map (λ s. s.now) words.entry.now) → is_map d.rom d.port ≡ true → ¬ (result ≡ 2) }
     // `asm` leaves the input and the output unchanged, however it ends.
-    ensures asm_alone { (a : AsmAsked) → asked (map (λ s. s.now) words.entry.now) ≡ Some (asm a) → IsTaken (map (λ s. s.now) words.entry.now) → (input.new ≡ input.old) × (output.new ≡ output.old) }
+    ensures asm_alone { (a : AsmAsked) → asked (map (λ s. s.now) words.entry.now) ≡ Some (asm a)
+        → IsTaken (map (λ s. s.now) words.entry.now)
+        → (input.new ≡ input.old) × (output.new ≡ output.old) }
     // `dis` leaves the input unchanged, and wrote the rows of some image, a beginning of them, or
     // nothing, as the status says.
-    ensures listed { (d : DisAsked) → asked (map (λ s. s.now) words.entry.now) ≡ Some (dis d) → IsTaken (map (λ s. s.now) words.entry.now) → (outcome : Result ⊤ Refusal) × IsStatus outcome result
-        × (input.new ≡ input.old) × IsListed d.profile d.first d.last (O.contents output.old) (O.contents output.new) outcome (output.new ≡ output.old) }
+    ensures listed { (d : DisAsked) → asked (map (λ s. s.now) words.entry.now) ≡ Some (dis d)
+        → IsTaken (map (λ s. s.now) words.entry.now) → (outcome : Result ⊤ Refusal)
+        × IsStatus outcome result × (input.new ≡ input.old) × IsListed d.profile d.first d.last
+        (O.contents output.old) (O.contents output.new) outcome (output.new ≡ output.old) }
     // `debug` served a session, to its end or to a failure that the status says, or left both
     // unchanged.
-    ensures debugged { (d : DebugAsked) → asked (map (λ s. s.now) words.entry.now) ≡ Some (debug d) → IsTaken (map (λ s. s.now) words.entry.now) → (outcome : Result ⊤ Refusal) × IsStatus outcome result
-        × IsServed (record { profile = d.profile; rom = d.rom; port = d.port }) d.history (R.remaining input.old) (R.remaining input.new) (O.contents output.old) (O.contents output.new) outcome ((input.new ≡ input.old) × (output.new ≡ output.old)) }
+    ensures debugged { (d : DebugAsked) → asked (map (λ s. s.now) words.entry.now) ≡ Some (debug d)
+        → IsTaken (map (λ s. s.now) words.entry.now) → (outcome : Result ⊤ Refusal) × IsStatus
+        outcome result × IsServed (record { profile = d.profile; rom = d.rom; port = d.port })
+        d.history (R.remaining input.old) (R.remaining input.new) (O.contents output.old)
+        (O.contents output.new) outcome ((input.new ≡ input.old) × (output.new ≡ output.old)) }
     // If a session has ended, the output has the transcript of the input, from some image on the
     // map of the words.
-    ensures served { result ≡ 0 → (d : DebugAsked) → asked (map (λ s. s.now) words.entry.now) ≡ Some (debug d) → IsTaken (map (λ s. s.now) words.entry.now) → (image : List (Option ℕ)) × IfSome (R.remaining input.old) (λ given.
-        Appends (O.contents output.old) (O.contents output.new) (transcript (fresh d.history (start (record { profile = d.profile; rom = d.rom; port = d.port }) image)) given).written) }
+    ensures served { result ≡ 0 → (d : DebugAsked) → asked (map (λ s. s.now) words.entry.now)
+        ≡ Some (debug d) → IsTaken (map (λ s. s.now) words.entry.now) → (image : List (Option ℕ))
+        × IfSome (R.remaining input.old) (λ given. Appends (O.contents output.old)
+        (O.contents output.new) (transcript (fresh d.history (start (record {
+          profile = d.profile;
+          rom = d.rom;
+          port = d.port;
+        }) image)) given).written) }
 {
     match read_words(rt.alloc(), words) {
         Ok(Words::Asm(words)) => ended(asm(rt, &words), errors),

@@ -4,4 +4,5 @@ use Rattle.std.specs.List.{flat_map, range_with_len}
 use Rattle.model.specs.Text.{output_row}
 
 unfoldable pub output_rows : List ℕ → List ℕ
-output_rows out = flat_map (λ k. output_row out (32 * k)) (range_with_len 0 ((length out + 31) / 32))
+output_rows out
+    = flat_map (λ k. output_row out (32 * k)) (range_with_len 0 ((length out + 31) / 32))

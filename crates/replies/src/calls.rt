@@ -16,7 +16,8 @@ use std::io::Write;
 
 /// Runs at most so many steps, and writes how many were made and why the run ended.
 pub fn run<W: Write>(session: &mut Session, count: u32, writer: &mut W) -> Result<(), ReplyFault>
-    ensures writes { Writes (W.contents writer.old) (W.contents writer.new) (run_line (run_end count session.old)) result }
+    ensures writes { Writes (W.contents writer.old) (W.contents writer.new)
+        (run_line (run_end count session.old)) result }
     ensures after { session.new ≡ after_steps (run_end count session.old).did session.old }
     ensures fault { OnErr result (result ≡ Err ReplyFault.Write) }
 {
@@ -30,7 +31,8 @@ pub fn go_back<W: Write>(
     count: u32,
     writer: &mut W,
 ) -> Result<(), ReplyFault>
-    ensures writes { Writes (W.contents writer.old) (W.contents writer.new) (back_answer session.old (back_of count session.old)).written result }
+    ensures writes { Writes (W.contents writer.old) (W.contents writer.new)
+        (back_answer session.old (back_of count session.old)).written result }
     ensures after { session.new ≡ (back_answer session.old (back_of count session.old)).session }
     ensures fault { OnErr result (result ≡ Err ReplyFault.Write) }
 {
@@ -46,9 +48,12 @@ pub fn set_break<W: Write>(
     address: u16,
     writer: &mut W,
 ) -> Result<(), ReplyFault>
-    ensures writes { Writes (W.contents writer.old) (W.contents writer.new) (table_answer session.old (break_set address session.old)).written result }
-    ensures after { result ≢ Err ReplyFault.OutOfMemory → session.new ≡ (table_answer session.old (break_set address session.old)).session }
-    ensures memory { IsErrOf result ReplyFault.OutOfMemory → (session.new ≡ session.old) × (writer.new ≡ writer.old) × IsOk (break_set address session.old) }
+    ensures writes { Writes (W.contents writer.old) (W.contents writer.new)
+        (table_answer session.old (break_set address session.old)).written result }
+    ensures after { result ≢ Err ReplyFault.OutOfMemory
+        → session.new ≡ (table_answer session.old (break_set address session.old)).session }
+    ensures memory { IsErrOf result ReplyFault.OutOfMemory → (session.new ≡ session.old)
+        × (writer.new ≡ writer.old) × IsOk (break_set address session.old) }
 {
     match session.set_break(address) {
         Ok(()) => put(writer, b"OK\n"),
@@ -62,9 +67,12 @@ pub fn set_watch<W: Write>(
     address: u16,
     writer: &mut W,
 ) -> Result<(), ReplyFault>
-    ensures writes { Writes (W.contents writer.old) (W.contents writer.new) (table_answer session.old (watch_set address session.old)).written result }
-    ensures after { result ≢ Err ReplyFault.OutOfMemory → session.new ≡ (table_answer session.old (watch_set address session.old)).session }
-    ensures memory { IsErrOf result ReplyFault.OutOfMemory → (session.new ≡ session.old) × (writer.new ≡ writer.old) × IsOk (watch_set address session.old) }
+    ensures writes { Writes (W.contents writer.old) (W.contents writer.new)
+        (table_answer session.old (watch_set address session.old)).written result }
+    ensures after { result ≢ Err ReplyFault.OutOfMemory
+        → session.new ≡ (table_answer session.old (watch_set address session.old)).session }
+    ensures memory { IsErrOf result ReplyFault.OutOfMemory → (session.new ≡ session.old)
+        × (writer.new ≡ writer.old) × IsOk (watch_set address session.old) }
 {
     match session.set_watch(address) {
         Ok(()) => put(writer, b"OK\n"),
@@ -78,8 +86,10 @@ pub fn clear_break<W: Write>(
     address: u16,
     writer: &mut W,
 ) -> Result<(), ReplyFault>
-    ensures writes { Writes (W.contents writer.old) (W.contents writer.new) (table_answer session.old (break_cleared address session.old)).written result }
-    ensures after { session.new ≡ (table_answer session.old (break_cleared address session.old)).session }
+    ensures writes { Writes (W.contents writer.old) (W.contents writer.new)
+        (table_answer session.old (break_cleared address session.old)).written result }
+    ensures after { session.new
+        ≡ (table_answer session.old (break_cleared address session.old)).session }
     ensures fault { OnErr result (result ≡ Err ReplyFault.Write) }
 {
     match session.clear_break(address) {
@@ -94,8 +104,10 @@ pub fn clear_watch<W: Write>(
     address: u16,
     writer: &mut W,
 ) -> Result<(), ReplyFault>
-    ensures writes { Writes (W.contents writer.old) (W.contents writer.new) (table_answer session.old (watch_cleared address session.old)).written result }
-    ensures after { session.new ≡ (table_answer session.old (watch_cleared address session.old)).session }
+    ensures writes { Writes (W.contents writer.old) (W.contents writer.new)
+        (table_answer session.old (watch_cleared address session.old)).written result }
+    ensures after { session.new
+        ≡ (table_answer session.old (watch_cleared address session.old)).session }
     ensures fault { OnErr result (result ≡ Err ReplyFault.Write) }
 {
     match session.clear_watch(address) {
@@ -106,8 +118,10 @@ pub fn clear_watch<W: Write>(
 
 /// Writes why a breakpoint or a watchpoint is not set. If memory ran out, nothing is written.
 fn refuse<W: Write>(fault: SessionFault, writer: &mut W) -> Result<(), ReplyFault>
-    ensures writes { fault ≢ SessionFault.OutOfMemory → Writes (W.contents writer.old) (W.contents writer.new) (refusal_line fault) result }
-    ensures memory { fault ≡ SessionFault.OutOfMemory → ((result ≡ Err ReplyFault.OutOfMemory) × (writer.new ≡ writer.old)) }
+    ensures writes { fault ≢ SessionFault.OutOfMemory
+        → Writes (W.contents writer.old) (W.contents writer.new) (refusal_line fault) result }
+    ensures memory { fault ≡ SessionFault.OutOfMemory
+        → ((result ≡ Err ReplyFault.OutOfMemory) × (writer.new ≡ writer.old)) }
     ensures only { IsErrOf result ReplyFault.OutOfMemory → fault ≡ SessionFault.OutOfMemory }
 {
     match fault {

@@ -15,8 +15,10 @@ use std::io::Write;
 
 /// Makes a step, and writes the register line after it, or the fault.
 pub fn step<W: Write>(session: &mut Session, writer: &mut W) -> Result<(), ReplyFault>
-    ensures writes { Writes (W.contents writer.old) (W.contents writer.new) (stepped_answer session.old (event_of session.old.current Event.Step)).written result }
-    ensures after { session.new ≡ (stepped_answer session.old (event_of session.old.current Event.Step)).session }
+    ensures writes { Writes (W.contents writer.old) (W.contents writer.new)
+        (stepped_answer session.old (event_of session.old.current Event.Step)).written result }
+    ensures after { session.new
+        ≡ (stepped_answer session.old (event_of session.old.current Event.Step)).session }
     ensures fault { OnErr result (result ≡ Err ReplyFault.Write) }
 {
     match session.event(Event::Step) {
@@ -31,8 +33,10 @@ pub fn happen<W: Write>(
     event: Event,
     writer: &mut W,
 ) -> Result<(), ReplyFault>
-    ensures writes { Writes (W.contents writer.old) (W.contents writer.new) (event_answer session.old (event_of session.old.current event)).written result }
-    ensures after { session.new ≡ (event_answer session.old (event_of session.old.current event)).session }
+    ensures writes { Writes (W.contents writer.old) (W.contents writer.new)
+        (event_answer session.old (event_of session.old.current event)).written result }
+    ensures after { session.new
+        ≡ (event_answer session.old (event_of session.old.current event)).session }
     ensures fault { OnErr result (result ≡ Err ReplyFault.Write) }
 {
     match session.event(event) {
@@ -48,7 +52,8 @@ pub fn take_input<W: Write>(
     bytes: &[u8],
     writer: &mut W,
 ) -> Result<(), ReplyFault>
-    ensures writes { Writes (W.contents writer.old) (W.contents writer.new) (input_answer session.old bytes.now).written result }
+    ensures writes { Writes (W.contents writer.old) (W.contents writer.new)
+        (input_answer session.old bytes.now).written result }
     ensures after { session.new ≡ (input_answer session.old bytes.now).session }
     ensures fault { OnErr result (result ≡ Err ReplyFault.Write) }
 {
@@ -61,7 +66,8 @@ pub fn take_input<W: Write>(
 
 /// Returns whether there is no room for all of the bytes.
 fn exceeds_room(session: &Session, bytes: &[u8]) -> bool
-    ensures { result ≡ nat_lt console_size (length session.now.current.bus.given + length bytes.now) }
+    ensures { result
+        ≡ nat_lt console_size (length session.now.current.bus.given + length bytes.now) }
 {
     bytes.len() > session.input_room() as usize
 }

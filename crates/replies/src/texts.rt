@@ -2,7 +2,8 @@
 
 ghost use Rattle.std.specs.Prelude.{◌≡◌, ◌+◌, ◌≤◌, ◌∷◌, ◌++◌, [], codes, decimal, length, min};
 ghost use Rattle.model.specs.Text.{address_part, memory_row, output_row, register_line};
-ghost use Rattle.model.specs.Transcript.{fault_line, refusal_line, refused_text, run_line, source_fault_line, why_text};
+ghost use Rattle.model.specs.Transcript.{fault_line, refusal_line, refused_text, run_line};
+ghost use Rattle.model.specs.Transcript.{source_fault_line, why_text};
 
 use commands::{Text, push_bytes, push_decimal, push_hex_byte, push_hex_word, push_status};
 use debugger::Session;
@@ -181,7 +182,8 @@ pub fn row_end(start: u16, last: u16) -> u16
 
 /// Returns how many bytes the output has.
 pub fn output_head(session: &Session) -> Text
-    ensures { result.items ≡ codes "OUT " ++ decimal (length session.now.current.bus.out) ++ 10 ∷ [] }
+    ensures { result.items
+        ≡ codes "OUT " ++ decimal (length session.now.current.bus.out) ++ 10 ∷ [] }
 {
     let mut text = Text::new();
     push_bytes(&mut text, b"OUT ");

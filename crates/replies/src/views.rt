@@ -3,7 +3,8 @@
 ghost use Rattle.std.specs.Prelude.{◌≡◌, ◌<◌, ◌≤◌, ◌∷◌, ◌++◌, [], OnErr, Err, length, slice_index};
 ghost use Rattle.std.specs.List.{flat_map};
 ghost use Rattle.model.specs.Written.{Writes};
-ghost use Rattle.model.specs.Text.{address_part, breaks_line, memory_rows, output_text, register_line};
+ghost use Rattle.model.specs.Text.{address_part, breaks_line, memory_rows, output_text};
+ghost use Rattle.model.specs.Text.{register_line};
 ghost use Rattle.model.specs.Disassembly.{bytes_from, rows_in};
 ghost use Rattle.replies.specs.Output.{output_rows};
 
@@ -17,7 +18,8 @@ use std::io::Write;
 
 /// Writes the register line.
 pub fn put_registers<W: Write>(session: &Session, writer: &mut W) -> Result<(), ReplyFault>
-    ensures writes { Writes (W.contents writer.old) (W.contents writer.new) (register_line session.now.current) result }
+    ensures writes { Writes (W.contents writer.old) (W.contents writer.new)
+        (register_line session.now.current) result }
     ensures fault { OnErr result (result ≡ Err ReplyFault.Write) }
 {
     put(writer, register_text(session).as_slice())
@@ -30,7 +32,8 @@ pub fn put_rows<W: Write>(
     last: u16,
     writer: &mut W,
 ) -> Result<(), ReplyFault>
-    ensures writes { Writes (W.contents writer.old) (W.contents writer.new) (memory_rows session.now.current.bus.memory first last) result }
+    ensures writes { Writes (W.contents writer.old) (W.contents writer.new)
+        (memory_rows session.now.current.bus.memory first last) result }
     ensures fault { OnErr result (result ≡ Err ReplyFault.Write) }
 {
     for row in 0..last.saturating_sub(first) / 16 + 1 {
@@ -46,7 +49,8 @@ pub fn put_rows<W: Write>(
 
 /// Writes how many bytes of output there are, and the bytes, a row at a time.
 pub fn put_output<W: Write>(session: &Session, writer: &mut W) -> Result<(), ReplyFault>
-    ensures writes { Writes (W.contents writer.old) (W.contents writer.new) (output_text session.now.current.bus.out) result }
+    ensures writes { Writes (W.contents writer.old) (W.contents writer.new)
+        (output_text session.now.current.bus.out) result }
     ensures fault { OnErr result (result ≡ Err ReplyFault.Write) }
 {
     match put(writer, output_head(session).as_slice()) {
@@ -57,7 +61,8 @@ pub fn put_output<W: Write>(session: &Session, writer: &mut W) -> Result<(), Rep
 
 /// Writes the output's bytes, 32 a row.
 fn put_output_rows<W: Write>(session: &Session, writer: &mut W) -> Result<(), ReplyFault>
-    ensures writes { Writes (W.contents writer.old) (W.contents writer.new) (output_rows session.now.current.bus.out) result }
+    ensures writes { Writes (W.contents writer.old) (W.contents writer.new)
+        (output_rows session.now.current.bus.out) result }
     ensures fault { OnErr result (result ≡ Err ReplyFault.Write) }
 {
     for row in 0..session.output_len().div_ceil(32) {
@@ -72,7 +77,8 @@ fn put_output_rows<W: Write>(session: &Session, writer: &mut W) -> Result<(), Re
 
 /// Writes the breakpoints in order of setting.
 pub fn put_breaks<W: Write>(session: &Session, writer: &mut W) -> Result<(), ReplyFault>
-    ensures writes { Writes (W.contents writer.old) (W.contents writer.new) (breaks_line session.now.breaks) result }
+    ensures writes { Writes (W.contents writer.old) (W.contents writer.new)
+        (breaks_line session.now.breaks) result }
     ensures fault { OnErr result (result ≡ Err ReplyFault.Write) }
 {
     match put(writer, b"BREAKS") {
@@ -83,7 +89,8 @@ pub fn put_breaks<W: Write>(session: &Session, writer: &mut W) -> Result<(), Rep
 
 /// Writes the rest of the line: the addresses, and the line's end.
 fn put_break_list<W: Write>(session: &Session, writer: &mut W) -> Result<(), ReplyFault>
-    ensures writes { Writes (W.contents writer.old) (W.contents writer.new) (flat_map address_part session.now.breaks ++ 10 ∷ []) result }
+    ensures writes { Writes (W.contents writer.old) (W.contents writer.new)
+        (flat_map address_part session.now.breaks ++ 10 ∷ []) result }
     ensures fault { OnErr result (result ≡ Err ReplyFault.Write) }
 {
     match put_addresses(session, writer) {
@@ -94,7 +101,8 @@ fn put_break_list<W: Write>(session: &Session, writer: &mut W) -> Result<(), Rep
 
 /// Writes the addresses of the breakpoints, each after a space.
 fn put_addresses<W: Write>(session: &Session, writer: &mut W) -> Result<(), ReplyFault>
-    ensures writes { Writes (W.contents writer.old) (W.contents writer.new) (flat_map address_part session.now.breaks) result }
+    ensures writes { Writes (W.contents writer.old) (W.contents writer.new)
+        (flat_map address_part session.now.breaks) result }
     ensures fault { OnErr result (result ≡ Err ReplyFault.Write) }
 {
     for index in 0..session.break_count() {
@@ -127,7 +135,9 @@ pub fn put_instructions<W: Write>(
     count: u32,
     writer: &mut W,
 ) -> Result<(), ReplyFault>
-    ensures writes { Writes (W.contents writer.old) (W.contents writer.new) (rows_in session.now.current.bus.map.profile session.now.current.bus.memory 65535 address count) result }
+    ensures writes { Writes (W.contents writer.old) (W.contents writer.new) (rows_in
+        session.now.current.bus.map.profile session.now.current.bus.memory 65535 address count)
+        result }
     ensures fault { OnErr result (result ≡ Err ReplyFault.Write) }
 {
     let mut next = address as u32;

@@ -21,7 +21,8 @@ pub fn assembled_again(
     address: u16,
 ) -> Result<Line, AsmFault>
     requires { 0 < length bytes.now }
-    ensures same { IfOk result (λ l. take l.count l.bytes ≡ take (row_of profile bytes.now address).len bytes.now) }
+    ensures same { IfOk result
+        (λ l. take l.count l.bytes ≡ take (row_of profile bytes.now address).len bytes.now) }
     ensures only { IfErr result (λ f. f ≡ out_of_memory) }
 {
     // For the proof: what a row's text denotes.

@@ -26,16 +26,21 @@ abbrev pub ◌>>=◌ : {A B : Type 0} → Result A AsmFault → (A → Result B 
 abbrev pub laid_lines : ℕ → Fixed → List (List ℕ) → Result (List Placed × Fixed) AsmFault
 laid_lines number before [] = Ok ([], before)
 laid_lines number before (line ∷ lines) =
-    numbered number (layout_of before line) >>= λ p. laid_lines (number + 1) p.1 lines >>= λ rest. Ok (p.0 ∷ rest.0, rest.1)
+    numbered number (layout_of before line) >>= λ p. laid_lines (number + 1) p.1 lines
+    >>= λ rest. Ok (p.0 ∷ rest.0, rest.1)
 
-unfoldable pub put : Map → Numbers → List (Option ℕ) → Placed → Result (List (Option ℕ)) AsmFaultKind
-put bus_map numbers image p = unless (value_fault bus_map numbers image p) (Ok (with_bytes image p.address (line_bytes numbers p)))
+unfoldable pub put : Map → Numbers → List (Option ℕ) → Placed
+    → Result (List (Option ℕ)) AsmFaultKind
+put bus_map numbers image p = unless (value_fault bus_map numbers image p)
+    (Ok (with_bytes image p.address (line_bytes numbers p)))
 
 -- The image after lines in their places.
-abbrev pub made_lines : Map → Numbers → ℕ → List (Option ℕ) → List Placed → Result (List (Option ℕ)) AsmFault
+abbrev pub made_lines : Map → Numbers → ℕ → List (Option ℕ) → List Placed
+    → Result (List (Option ℕ)) AsmFault
 made_lines bus_map numbers number image [] = Ok image
 made_lines bus_map numbers number image (p ∷ ps) =
-    numbered number (put bus_map numbers image p) >>= λ i. made_lines bus_map numbers (number + 1) i ps
+    numbered number (put bus_map numbers image p)
+    >>= λ i. made_lines bus_map numbers (number + 1) i ps
 
 pub record Judged : Type 0 where
   pub placed : List Placed
@@ -47,17 +52,21 @@ too_large = record { line = 0; kind = TooLarge }
 
 unfoldable pub judged_lines : Map → List (List ℕ) → Result Judged AsmFault
 judged_lines bus_map lines =
-    laid_lines 1 (nothing_fixed bus_map.profile) lines >>= λ l. made_lines bus_map (number_in l.1.names) 1 empty_image l.0 >>= λ image. Ok (record { placed = l.0; all = l.1; image = image })
+    laid_lines 1 (nothing_fixed bus_map.profile) lines
+    >>= λ l. made_lines bus_map (number_in l.1.names) 1 empty_image l.0
+    >>= λ image. Ok (record { placed = l.0; all = l.1; image = image })
 
 unfoldable pub judged : Map → List ℕ → Result Judged AsmFault
-judged bus_map source = if nat_lt most_bytes (length source) then Err too_large else judged_lines bus_map (read_lines bus_map.profile source)
+judged bus_map source = if nat_lt most_bytes (length source) then Err too_large
+    else judged_lines bus_map (read_lines bus_map.profile source)
 
 -- ---- that this is what a source denotes, or its fault
 
 -- What a result says of a source: it denotes the image, its lines are in these places and its names
 -- have these numbers; or it has the fault.
 abbrev pub Says : Map → List ℕ → Result Judged AsmFault → Type 0
-Says bus_map source (Ok j) = (Denotes bus_map source j.image) × LaidOut (nothing_fixed bus_map.profile) (read_lines bus_map.profile source) j.placed j.all
+Says bus_map source (Ok j) = (Denotes bus_map source j.image)
+    × LaidOut (nothing_fixed bus_map.profile) (read_lines bus_map.profile source) j.placed j.all
 Says bus_map source (Err fault) = HasFault bus_map source fault
 
 abbrev pub JudgedIsMeant : Type 0
@@ -67,7 +76,10 @@ abbrev pub judged_as : List Placed → Fixed → List (Option ℕ) → Judged
 judged_as placed all image = record { placed = placed; all = all; image = image }
 
 abbrev pub DenotedIsJudged : Type 0
-DenotedIsJudged = (bus_map : Map) (source : List ℕ) (image : List (Option ℕ)) (d : Denotes bus_map source image) → judged bus_map source ≡ Ok (judged_as d.placed d.all image)
+DenotedIsJudged
+    = (bus_map : Map) (source : List ℕ) (image : List (Option ℕ)) (d : Denotes bus_map source image)
+    → judged bus_map source ≡ Ok (judged_as d.placed d.all image)
 
 abbrev pub FaultIsJudged : Type 0
-FaultIsJudged = (bus_map : Map) (source : List ℕ) (fault : AsmFault) → HasFault bus_map source fault → judged bus_map source ≡ Err fault
+FaultIsJudged = (bus_map : Map) (source : List ℕ) (fault : AsmFault) → HasFault bus_map source fault
+    → judged bus_map source ≡ Err fault

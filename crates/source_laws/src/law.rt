@@ -2,7 +2,8 @@
 
 ghost use Rattle.model.specs.Bytes.{BytesFillTheirSize};
 ghost use Rattle.model.specs.Layout.{LengthsAreTheTables};
-ghost use Rattle.model.specs.Source.{EachSourceIsJudged, ImageOrFault, NamesHaveTheirNumbers, OneAssignment, OneFault, OneImage};
+ghost use Rattle.model.specs.Source.{EachSourceIsJudged, ImageOrFault, NamesHaveTheirNumbers};
+ghost use Rattle.model.specs.Source.{OneAssignment, OneFault, OneImage};
 ghost use Rattle.source_laws.specs.Judging.{DenotedIsJudged, FaultIsJudged, JudgedIsMeant};
 
 /// States that each source denotes exactly one image or has exactly one fault.

@@ -1,9 +1,11 @@
 //! The rows of an assembly's lines and names.
 
-ghost use Rattle.std.specs.Prelude.{◌≡◌, ◌+◌, ◌-◌, ◌<◌, ◌≤◌, ◌^◌, ◌++◌, IfOk, OnOk, drop, length, map, take};
+ghost use Rattle.std.specs.Prelude.{◌≡◌, ◌+◌, ◌-◌, ◌<◌, ◌≤◌, ◌^◌, ◌++◌, IfOk, OnOk, drop, length};
+ghost use Rattle.std.specs.Prelude.{map, take};
 ghost use Rattle.source_lines.specs.Spans.{pairs_of};
 ghost use Rattle.model.specs.Lines.{lines_of};
-ghost use Rattle.model.specs.Listing.{bytes_at, lines_rows, listing_text, name_row, names_rows, shown_in};
+ghost use Rattle.model.specs.Listing.{bytes_at, lines_rows, listing_text, name_row, names_rows};
+ghost use Rattle.model.specs.Listing.{shown_in};
 
 use bus::Image;
 use listing::{push_line, push_name};
@@ -41,7 +43,8 @@ fn push_lines(
     cells: &[Option<u8>],
 ) -> Result<(), AllocError>
     requires { length cells.now ≡ 65536 }
-    ensures { OnOk result (out.new.items ≡ out.old.items ++ lines_rows (lines_of source.now) (map (shown_in cells.now) (pairs_of spans.now))) }
+    ensures { OnOk result (out.new.items ≡ out.old.items
+        ++ lines_rows (lines_of source.now) (map (shown_in cells.now) (pairs_of spans.now))) }
 {
     let mut room = Vec::new(alloc);
     let mut rest = source;
@@ -59,7 +62,8 @@ fn push_lines(
 
 /// Appends a name's row.
 fn push_symbol(out: &mut Vec<u8>, symbol: (&[u8], i32)) -> Result<(), AllocError>
-    ensures { OnOk result (out.new.items ≡ out.old.items ++ name_row (symbol.entry.0.now, symbol.entry.1)) }
+    ensures { OnOk result
+        (out.new.items ≡ out.old.items ++ name_row (symbol.entry.0.now, symbol.entry.1)) }
 {
     let (name, number) = symbol;
     push_name(out, name, number)
@@ -92,7 +96,8 @@ pub fn listing_of(
     image: &Image,
     names: &Symbols,
 ) -> Result<Vec<u8>, AllocError>
-    ensures { IfOk result (λ out. out.items ≡ listing_text (lines_of source.now) (map (shown_in image.now) (pairs_of spans.now)) names.now) }
+    ensures { IfOk result (λ out. out.items ≡ listing_text (lines_of source.now)
+        (map (shown_in image.now) (pairs_of spans.now)) names.now) }
 {
     let mut out = Vec::new(alloc);
     push_lines(&mut out, alloc, source, spans, image.cells())?;

@@ -35,11 +35,13 @@ IsEvent (Input byte) = byte < 256
 
 -- A start is a state.
 abbrev pub StartsAreStates : Type 0
-StartsAreStates = (map : Map) (image : List (Option ℕ)) → is_map map.rom map.port ≡ true → IsImage image → has_port_byte map image ≡ false → IsState (start map image)
+StartsAreStates = (map : Map) (image : List (Option ℕ)) → is_map map.rom map.port ≡ true
+    → IsImage image → has_port_byte map image ≡ false → IsState (start map image)
 
 -- An event that is accepted leads from a state to a state with the same map.
 abbrev pub EventsKeepStates : Type 0
-EventsKeepStates = (before after : State) (event : Event) → IsState before → IsEvent event → event_of before event ≡ Ok after
+EventsKeepStates = (before after : State) (event : Event) → IsState before → IsEvent event
+    → event_of before event ≡ Ok after
     → IsState after × (after.bus.map ≡ before.bus.map)
 
 -- All states of a session are states with one map.
@@ -55,7 +57,11 @@ IsCall call = ⊤
 -- events, after any number of them was undone, and after any calls.
 abbrev pub SessionsHoldStates : Type 0
 SessionsHoldStates =
-    ((history : ℕ) (state : State) → IsState state → HoldsStates state.bus.map (fresh history state))
-    × ((map : Map) (s t : Session) (events : List Event) → HoldsStates map s → All IsEvent events → Accepts s events t → HoldsStates map t)
-    × ((map : Map) (k : ℕ) (s t : Session) → HoldsStates map s → back_of k s ≡ Ok t → HoldsStates map t)
-    × ((map : Map) (s : Session) (calls : List Call) → HoldsStates map s → All IsCall calls → HoldsStates map (after_calls s calls))
+    ((history : ℕ) (state : State) → IsState state
+    → HoldsStates state.bus.map (fresh history state))
+    × ((map : Map) (s t : Session) (events : List Event) → HoldsStates map s → All IsEvent events
+    → Accepts s events t → HoldsStates map t)
+    × ((map : Map) (k : ℕ) (s t : Session) → HoldsStates map s → back_of k s ≡ Ok t
+    → HoldsStates map t)
+    × ((map : Map) (s : Session) (calls : List Call) → HoldsStates map s → All IsCall calls
+    → HoldsStates map (after_calls s calls))

@@ -10,15 +10,18 @@ use Rattle.model.specs.declared.instruction.Mode.{Mode}
 use Rattle.model.specs.declared.instruction.Row.{Row}
 
 abbrev pub TableIsReadBothWays : Type 0
-TableIsReadBothWays = (profile : Profile) (m : Mnemonic) (d : Mode) (opcode : ℕ) → opcode < 256 → (encoded profile m d ≡ Some opcode) ↔ IsRowOf m d (row_at profile opcode)
+TableIsReadBothWays = (profile : Profile) (m : Mnemonic) (d : Mode) (opcode : ℕ) → opcode < 256
+    → (encoded profile m d ≡ Some opcode) ↔ IsRowOf m d (row_at profile opcode)
 
 -- each mnemonic of a profile
 abbrev pub TextsNameMnemonics : Type 0
-TextsNameMnemonics = (profile : Profile) → All (λ m. mnemonic_named profile (mnemonic_text m) ≡ Some m) (mnemonics profile)
+TextsNameMnemonics = (profile : Profile)
+    → All (λ m. mnemonic_named profile (mnemonic_text m) ≡ Some m) (mnemonics profile)
 
 -- and so each one that has an opcode there
 abbrev pub TextsNameWhatHasOpcodes : Type 0
-TextsNameWhatHasOpcodes = (profile : Profile) (m : Mnemonic) (d : Mode) (opcode : ℕ) → encoded profile m d ≡ Some opcode → mnemonic_named profile (mnemonic_text m) ≡ Some m
+TextsNameWhatHasOpcodes = (profile : Profile) (m : Mnemonic) (d : Mode) (opcode : ℕ)
+    → encoded profile m d ≡ Some opcode → mnemonic_named profile (mnemonic_text m) ≡ Some m
 
 abbrev pub RowsAreKept : Type 0
 RowsAreKept = (opcode : ℕ) (row : Row) → row_at N opcode ≡ Some row → row_at C opcode ≡ Some row

@@ -4,7 +4,8 @@
 //! opcode and for every mnemonic in every mode. They stand on `model` alone.
 #![tactic(auto)]
 
-ghost use Rattle.table_laws.specs.Law.{RowsAreKept, TableIsReadBothWays, TextsNameMnemonics, TextsNameWhatHasOpcodes};
+ghost use Rattle.table_laws.specs.Law.{RowsAreKept, TableIsReadBothWays, TextsNameMnemonics};
+ghost use Rattle.table_laws.specs.Law.{TextsNameWhatHasOpcodes};
 
 /// States that the table is read both ways.
 ///

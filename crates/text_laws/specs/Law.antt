@@ -5,5 +5,7 @@ use Rattle.model.specs.Instruction.{row_of}
 use Rattle.model.specs.OneLine.{one_line}
 
 abbrev pub TextIsReadAgain : Type 0
-TextIsReadAgain = (profile : Profile) (bytes : List ℕ) (address : ℕ) → 0 < length bytes → ((i : ℕ) → slice_index bytes i < 256) → address < 65536
-    → one_line profile address (row_of profile bytes address).text ≡ Ok (take (row_of profile bytes address).len bytes)
+TextIsReadAgain = (profile : Profile) (bytes : List ℕ) (address : ℕ) → 0 < length bytes
+    → ((i : ℕ) → slice_index bytes i < 256) → address < 65536
+    → one_line profile address (row_of profile bytes address).text
+    ≡ Ok (take (row_of profile bytes address).len bytes)

@@ -40,18 +40,22 @@ is_named (Some file) name = bytes_eq file name
 
 -- a file to write has the name of the source, or of the other file to write
 abbrev pub overwrites : Text → Text → Option Text → Bool
-overwrites source tape listing = bytes_eq tape source || is_named listing source || is_named listing tape
+overwrites source tape listing
+    = bytes_eq tape source || is_named listing source || is_named listing tape
 
-abbrev pub asm_of : Option Text → Option Text → Option Text → Option ℕ → Option Profile → Option AsmAsked
+abbrev pub asm_of : Option Text → Option Text → Option Text → Option ℕ → Option Profile
+    → Option AsmAsked
 asm_of (Some source) (Some tape) listing (Some port) (Some profile) =
     if overwrites source tape listing then None
-    else Some (record { source = source; tape = tape; listing = listing; port = port; profile = profile })
+    else Some
+    (record { source = source; tape = tape; listing = listing; port = port; profile = profile })
 asm_of source tape listing port profile = None
 
 -- the first address is at most the last
 abbrev pub dis_of : Option Text → Option ℕ → Option ℕ → Option Profile → Option DisAsked
 dis_of (Some tape) (Some first) (Some last) (Some profile) =
-    if nat_le first last then Some (record { tape = tape; first = first; last = last; profile = profile }) else None
+    if nat_le first last
+    then Some (record { tape = tape; first = first; last = last; profile = profile }) else None
 dis_of tape first last profile = None
 
 -- clap gives a flag that is there the value `true`
@@ -59,9 +63,17 @@ abbrev pub is_flag : Option Text → Bool
 is_flag None = false
 is_flag (Some text) = bytes_eq text (codes "true")
 
-abbrev pub debug_of : Option Text → Bool → Option ℕ → Option ℕ → Option (Option (ℕ × ℕ)) → Option Profile → Option DebugAsked
+abbrev pub debug_of : Option Text → Bool → Option ℕ → Option ℕ → Option (Option (ℕ × ℕ))
+    → Option Profile → Option DebugAsked
 debug_of (Some file) is_tape (Some history) (Some port) (Some rom) (Some profile) =
-    Some (record { file = file; is_tape = is_tape; history = history; port = port; rom = rom; profile = profile })
+    Some (record {
+      file = file;
+      is_tape = is_tape;
+      history = history;
+      port = port;
+      rom = rom;
+      profile = profile;
+    })
 debug_of file is_tape history port rom profile = None
 
 -- what the values of the names of `asm` ask for, where each is one that its name can have
@@ -77,7 +89,8 @@ dis_asked value = dis_of (value (codes "TAPE")) (option_and_then address_of (val
 -- what the values of the names of `debug` ask for, where each is one that its name can have
 abbrev pub debug_asked : (Text → Option Text) → Option DebugAsked
 debug_asked value = debug_of (value (codes "FILE")) (is_flag (value (codes "tape")))
-    (history_asked (value (codes "history"))) (port_asked (value (codes "port"))) (rom_asked (value (codes "rom")))
+    (history_asked (value (codes "history"))) (port_asked (value (codes "port")))
+    (rom_asked (value (codes "rom")))
     (profile_asked (value (codes "profile")))
 
 -- what a subcommand and the values of its names ask for

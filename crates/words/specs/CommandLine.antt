@@ -25,7 +25,8 @@ asm = with_rule (with_rule (with_rule (with_rule (with_rule (new_app (codes "asm
 
 abbrev pub dis : App
 dis = with_rule (with_rule (with_rule (with_rule (new_app (codes "dis"))
-    (file_rule (codes "TAPE"))) (file_rule (codes "LO"))) (file_rule (codes "HI"))) (option_rule (codes "profile"))
+    (file_rule (codes "TAPE"))) (file_rule (codes "LO"))) (file_rule (codes
+    "HI"))) (option_rule (codes "profile"))
 
 abbrev pub debug : App
 debug = with_rule (with_rule (with_rule (with_rule (with_rule (with_rule (new_app (codes "debug"))
@@ -34,7 +35,8 @@ debug = with_rule (with_rule (with_rule (with_rule (with_rule (with_rule (new_ap
 
 -- the top, whose words begin without the program's name
 abbrev pub above : App
-above = let new = new_app (codes "mos65") in record new { top = record new.top { no_binary_name = true; subcommand_required = true } }
+above = let new = new_app (codes "mos65") in record
+    new { top = record new.top { no_binary_name = true; subcommand_required = true } }
 
 abbrev pub mos65 : App
 mos65 = with_subcommand (with_subcommand (with_subcommand above asm.top) dis.top) debug.top

@@ -25,7 +25,8 @@ both low high = None
 -- LO-HI, each an address
 abbrev pub range_of : List ℕ → Option (ℕ × ℕ)
 range_of word =
-    if length word == 9 && get_or word 4 0 == 45 then both (address_of (take 4 word)) (address_of (drop 5 word))
+    if length word == 9 && get_or word 4 0 == 45
+    then both (address_of (take 4 word)) (address_of (drop 5 word))
     else None
 
 -- the history that is asked for: 1,024 where no word says it

@@ -8,13 +8,26 @@ use Rattle.words.specs.declared.asked.Words.{Words}
 use Rattle.words.specs.declared.asked.Words.TheVariants.{Asm, Debug, Dis}
 
 abbrev pub asm_view : AsmWords → AsmAsked
-asm_view w = record { source = w.source.now; tape = w.tape.now; listing = option_map (λ s. s.now) w.listing; port = w.port; profile = w.profile }
+asm_view w = record {
+  source = w.source.now;
+  tape = w.tape.now;
+  listing = option_map (λ s. s.now) w.listing;
+  port = w.port;
+  profile = w.profile;
+}
 
 abbrev pub dis_view : DisWords → DisAsked
 dis_view w = record { tape = w.tape.now; first = w.first; last = w.last; profile = w.profile }
 
 abbrev pub debug_view : DebugWords → DebugAsked
-debug_view w = record { file = w.file.now; is_tape = w.is_tape; history = w.history; port = w.port; rom = w.rom; profile = w.profile }
+debug_view w = record {
+  file = w.file.now;
+  is_tape = w.is_tape;
+  history = w.history;
+  port = w.port;
+  rom = w.rom;
+  profile = w.profile;
+}
 
 abbrev pub view : Words → Asked
 view (Asm w) = asm (asm_view w)

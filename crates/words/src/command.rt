@@ -2,7 +2,8 @@
 ghost use Rattle.std.specs.Prelude.{◌≡◌, IfErr, IfOk, codes, false};
 ghost use Rattle.clap.specs.Words.{app_of, kind_of, rule_of};
 ghost use Rattle.clap.specs.declared.builder.command.Command.TheViews.{out-Command};
-ghost use Rattle.words.specs.CommandLine.{asm, debug, dis, file_rule, flag_rule, mos65, option_rule};
+ghost use Rattle.words.specs.CommandLine.{asm, debug, dis, file_rule, flag_rule, mos65};
+ghost use Rattle.words.specs.CommandLine.{option_rule};
 
 use clap::error::ErrorKind;
 use clap::{Arg, ArgAction, Command, Error};

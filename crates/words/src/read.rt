@@ -1,7 +1,9 @@
 //! From words to what they ask for.
-ghost use Rattle.std.specs.Prelude.{◌≡◌, ◌⊎◌, Err, None, Some, IsOkUnless, IfErr, IfOk, codes, map, option_map};
+ghost use Rattle.std.specs.Prelude.{◌≡◌, ◌⊎◌, Err, None, Some, IsOkUnless, IfErr, IfOk, codes, map};
+ghost use Rattle.std.specs.Prelude.{option_map};
 ghost use Rattle.clap.specs.Words.{first_value, found_of, subcommand_rows_of};
-ghost use Rattle.words.specs.Asked.{Asked, asked, asked_of, asm_asked, debug_asked, dis_asked, is_flag, overwrites};
+ghost use Rattle.words.specs.Asked.{Asked, asked, asked_of, asm_asked, debug_asked, dis_asked};
+ghost use Rattle.words.specs.Asked.{is_flag, overwrites};
 ghost use Rattle.words.specs.Refused.{IsRightRefusal, IsTaken};
 ghost use Rattle.words.specs.Views.{asm_view, debug_view, dis_view, view};
 
@@ -124,9 +126,10 @@ fn asked<'a>(matches: &ArgMatches<'a>) -> Option<Words<'a>>
 pub fn read_words<'a>(alloc: Global, words: &'a [&'a str]) -> Result<Words<'a>, WordsFault>
     ensures asked { IfOk result (λ w. asked (map (λ s. s.now) words.entry.now) ≡ Some (view w)) }
     ensures taken { IfOk result (λ w. IsTaken (map (λ s. s.now) words.entry.now)) }
-    ensures served { (a : Asked) → IsTaken (map (λ s. s.now) words.entry.now)
-        → asked (map (λ s. s.now) words.entry.now) ≡ Some a → IsOkUnless result WordsFault.OutOfMemory }
-    ensures wrong { IsTaken (map (λ s. s.now) words.entry.now) → asked (map (λ s. s.now) words.entry.now) ≡ None
+    ensures served { (a : Asked) → IsTaken (map (λ s. s.now) words.entry.now) → asked
+        (map (λ s. s.now) words.entry.now) ≡ Some a → IsOkUnless result WordsFault.OutOfMemory }
+    ensures wrong { IsTaken (map (λ s. s.now) words.entry.now)
+        → asked (map (λ s. s.now) words.entry.now) ≡ None
         → (result ≡ Err WordsFault.Value) ⊎ (result ≡ Err WordsFault.OutOfMemory) }
     ensures refused { IfErr result (IsRightRefusal (map (λ s. s.now) words.entry.now)) }
 {

@@ -1,7 +1,8 @@
 //! The values of options.
 ghost use Rattle.std.specs.Prelude.{◌≡◌, option_and_then, option_map};
 ghost use Rattle.model.specs.Commands.{address_of};
-ghost use Rattle.words.specs.Values.{history_asked, history_of, port_asked, profile_asked, profile_of, range_of, rom_asked};
+ghost use Rattle.words.specs.Values.{history_asked, history_of, port_asked, profile_asked};
+ghost use Rattle.words.specs.Values.{profile_of, range_of, rom_asked};
 
 use commands::{address_of, digits};
 use model::Profile;
