@@ -209,9 +209,8 @@ fn read<'a>(
 ///
 /// Errors: `Kind` with the first fault of the text, in this order: `LineTooLong` above 255 bytes;
 /// `NotAscii` if a byte is neither $20..$7E nor a tab; `Syntax` if the line is not in the grammar,
-/// with reserved words read as names;
-/// `ReservedName` if a mnemonic of the profile, A, X or Y is used as a name. `Memory` if an
-/// allocation fails. Source: mos65.
+/// with reserved words read as names; `ReservedName` if a mnemonic of the profile, A, X or Y is
+/// used as a name. `Memory` if an allocation fails. Source: mos65.
 pub fn read_line_with<'a>(
     alloc: Global,
     profile: Profile,

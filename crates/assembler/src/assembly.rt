@@ -105,23 +105,20 @@ impl Assembly {
 ///
 /// - `TooLarge`, with line 0 and before all others: the source has more than 1,048,576 bytes.
 /// - Layout, of a line's text: `LineTooLong` above 255 bytes without its end; `NotAscii` if a byte
-///   is neither $20..$7E nor a tab (a CR that is not right before an LF is such a byte);
-///   `Syntax` if the line is not in the grammar; `ReservedName` if a mnemonic, A, X or Y is used as
-///   a name.
-/// - Layout, of its name, its address and its size:
-///   `DuplicateName` if an earlier line defines its name; `UnknownHere` if `*=`, `.RES` or the
-///   definition of a name uses a name that neither an earlier line nor its own label defines;
-///   `NoSuchForm` if the instruction has no form for the operand; `TooManyNames` if its name is the
-///   8,193rd; `OriginRange` if the value of `*=` is outside 0..65535, or
-///   `.RES` goes below its line's address or past 65536; `ExprRange` (11) and `DivideByZero` (12)
-///   in an expression that places, sizes or defines.
-/// - Values: `UndefinedName` for a name that no line defines; `ByteRange` and
-///   `WordRange` for a value that does not fit its byte or its two bytes; `BranchRange` for a
-///   target farther than -128..127 from the next instruction;
-///   `PastEnd` for a byte past address 65535; `Overlap` for a byte where an earlier line has one;
-///   `PortAddress` for a byte at an address of the map's port; `ExprRange` (27) and `DivideByZero`
-///   (28) in any other expression. The line's address and its size alone decide
-///   `PastEnd`, `Overlap` and `PortAddress`.
+///   is neither $20..$7E nor a tab (a CR that is not right before an LF is such a byte); `Syntax`
+///   if the line is not in the grammar; `ReservedName` if a mnemonic, A, X or Y is used as a name.
+/// - Layout, of its name, its address and its size: `DuplicateName` if an earlier line defines its
+///   name; `UnknownHere` if `*=`, `.RES` or the definition of a name uses a name that neither an
+///   earlier line nor its own label defines; `NoSuchForm` if the instruction has no form for the
+///   operand; `TooManyNames` if its name is the 8,193rd; `OriginRange` if the value of `*=` is
+///   outside 0..65535, or `.RES` goes below its line's address or past 65536; `ExprRange` (11) and
+///   `DivideByZero` (12) in an expression that places, sizes or defines.
+/// - Values: `UndefinedName` for a name that no line defines; `ByteRange` and `WordRange` for a
+///   value that does not fit its byte or its two bytes; `BranchRange` for a target farther than
+///   -128..127 from the next instruction; `PastEnd` for a byte past address 65535; `Overlap` for a
+///   byte where an earlier line has one; `PortAddress` for a byte at an address of the map's port;
+///   `ExprRange` (27) and `DivideByZero` (28) in any other expression. The line's address and its
+///   size alone decide `PastEnd`, `Overlap` and `PortAddress`.
 /// - `OutOfMemory` with line 0: an allocation failed. It can come before any other fault is found,
 ///   and no other fault is returned in its place.
 ///

@@ -106,13 +106,13 @@ fn assemble_alone(
 
 /// Assembles a text at an address in a profile, as one line of a source without names.
 ///
-/// Returns its 1 to 3 bytes. The text is a line without its end: an LF or a CR in it is
-/// `NotAscii`, and more than 255 bytes are `LineTooLong`.
+/// Returns its 1 to 3 bytes. The text is a line without its end: an LF or a CR in it is `NotAscii`,
+/// and more than 255 bytes are `LineTooLong`.
 ///
 /// Errors: those of `assemble`, with line 1, but for three. `NotOneLine` comes after all faults of
 /// the layout and before those of values, if the text has a label, a definition, no statement,
-/// `*=`, `.RES` or `.END`, or more than 3 bytes. `Overlap` and
-/// `PortAddress` never come. `OutOfMemory` with line 0 if an allocation fails. Source: mos65.
+/// `*=`, `.RES` or `.END`, or more than 3 bytes. `Overlap` and `PortAddress` never come.
+/// `OutOfMemory` with line 0 if an allocation fails. Source: mos65.
 pub fn assemble_line_in(
     alloc: Global,
     profile: Profile,

@@ -1,4 +1,4 @@
-//! Worked examples of the assembler. Each is a test; no code stands here.
+//! Worked examples of the assembler. Each is a test; there is no other code.
 #![tactic(auto)]
 
 #[cfg(test)]

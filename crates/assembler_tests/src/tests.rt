@@ -43,7 +43,7 @@ const CRLF: &[u8] = b"*=$FFFE\r\nNOP\t \r\nlast: NOP\r\nend:\r\n\tn = end-65537 
 const LISTING: &[u8] =
     b"0000            *=$FFFE\nFFFE  EA        NOP\t \nFFFF  EA        last: NOP\n----            end:\n----            \tn = end-65537 ; x\n\nlast = $FFFF\nend = 65536\nn = -1\n";
 
-/// What stands at an address, by the call.
+/// The byte at an address, by the call.
 fn byte_at(assembly: &Assembly, address: u16) -> Option<u8> {
     assembly.image().get(address)
 }
@@ -264,7 +264,7 @@ fn answers_long_lines_and_sources(rt: HostRuntime) -> Result<(), Fail> {
     Ok(())
 }
 
-/// The first bytes of a line that has so many.
+/// A line of `count` bytes.
 fn line(bytes: [u8; 3], count: u8) -> Result<Line, AsmFault> {
     Ok(Line { bytes, count })
 }

@@ -122,8 +122,8 @@ fn each_read_of_a_line_fails(rt: HostRuntime) -> Result<(), Fail> {
     Ok(())
 }
 
-/// Each read fails that is made where the lines come in pieces: those whose end was told are
-/// served, and no line begun is.
+/// Each read fails in turn, with lines that come in pieces: complete lines are served, and a line
+/// that is begun is not.
 #[test]
 fn each_read_of_a_piece_fails(rt: HostRuntime) -> Result<(), Fail> {
     let (lines, _) = first_lines(rt.alloc(), SESSION.len())?;
@@ -235,7 +235,7 @@ fn each_write_fails(rt: HostRuntime) -> Result<(), Fail> {
     Ok(())
 }
 
-/// Each flush fails that the engine makes: all lines told are answered.
+/// Each flush of the engine fails in turn: all lines read so far are answered.
 #[test]
 fn each_flush_fails(rt: HostRuntime) -> Result<(), Fail> {
     let (lines, _) = first_lines(rt.alloc(), SESSION.len())?;
@@ -267,7 +267,7 @@ fn each_flush_fails(rt: HostRuntime) -> Result<(), Fail> {
     Ok(())
 }
 
-/// `quit` ends the engine before the read that would fail, wherever it stands.
+/// `quit` ends the engine before the read that would fail, wherever it is.
 #[test]
 fn quit_comes_before_a_failure(rt: HostRuntime) -> Result<(), Fail> {
     for count in 0..SESSION.len() {
@@ -288,7 +288,7 @@ fn quit_comes_before_a_failure(rt: HostRuntime) -> Result<(), Fail> {
     Ok(())
 }
 
-/// One read tells lines after `quit` too.
+/// One read gives lines after `quit` too.
 #[test]
 fn quit_comes_before_lines_told_with_it(rt: HostRuntime) -> Result<(), Fail> {
     let mut reader = Teller {

@@ -1,5 +1,5 @@
-//! Worked examples of the engine, with readers and writers that fail. Each is a test; no code
-//! stands here.
+//! Worked examples of the engine, with readers and writers that fail. Each is a test; there is no
+//! other code.
 #![tactic(auto)]
 
 #[cfg(test)]

@@ -1,6 +1,6 @@
 //! Lines that no page of text can hold: of bytes that are no text, of 255 bytes and more, and so
-//! many that the input is full. What other lines do stands in
-//! `tests/commands.md` and `tests/sessions.md`.
+//! many that the input is full. What other lines do stands in `tests/commands.md` and
+//! `tests/sessions.md`.
 
 use crate::failing::{assert_ended, served};
 use crate::streams::{in_pieces, wide_taker};

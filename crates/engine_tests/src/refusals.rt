@@ -68,7 +68,7 @@ fn debugs_sources_and_tapes(rt: HostRuntime) -> Result<(), Fail> {
     Ok(())
 }
 
-/// A call that is refused, its fault, and how many bytes of a tape in pieces are not read.
+/// A call that fails, its fault, and how many bytes of a tape in pieces are not read.
 const REFUSED: &[(On, EngineFault, usize)] = &[
     (
         On::Source(b"\n ?\n"),

@@ -120,8 +120,8 @@ fn value<N: Names>(expr: &Expr<'_>, names: &N, here: i32) -> Result<i32, ExprFau
 /// operands.
 ///
 /// Errors: `UnknownName`, before all others, if a name in it has no number; `Range` if a literal or
-/// a result is outside -2^31..2^31-1, or an operand of `&`, `|` or
-/// `^` outside 0..65535; `DivideByZero` if the right operand of `/` is 0. Source: mos65.
+/// a result is outside -2^31..2^31-1, or an operand of `&`, `|` or `^` outside 0..65535;
+/// `DivideByZero` if the right operand of `/` is 0. Source: mos65.
 #[tactic(auto, unfolding(model::specs::Value::eval_of))]
 pub fn eval<N: Names>(expr: &Expr<'_>, names: &N, here: i32) -> Result<i32, ExprFault>
     ensures { result ≡ eval_of (N.number_of names.now) here (view expr.now) }

@@ -1,4 +1,4 @@
-//! Where a line stands.
+//! The address and the size of a line.
 
 ghost use Rattle.std.specs.Prelude.{None, ◌≡◌, ◌+◌, ◌-◌, ◌<◌, ◌≤◌, ◌^◌, ◌*◌, map, max, pos, length};
 ghost use Rattle.std.specs.Prelude.{IfOk};

@@ -2,7 +2,7 @@
 
 use model::Mode;
 
-/// An instruction's opcode, and the mode in which its operand stands after it.
+/// An instruction's opcode, and the mode of its operand.
 #[derive(Clone, Copy)]
 pub struct Code {
     pub opcode: u8,

@@ -1,9 +1,8 @@
 //! The parts of a source's lines, borrowed from its text.
 //!
 //! They are tokens, expressions, operands, statements, and what is kept of a line that denotes
-//! bytes. Nothing runs here but
-//! `located`, which makes a fault of an error and a line number, and `term_of`, which looks at an
-//! operand's expression.
+//! bytes. Nothing runs here but `located`, which makes a fault of an error and a line number, and
+//! `term_of`, which looks at an operand's expression.
 #![tactic(auto)]
 
 mod code;

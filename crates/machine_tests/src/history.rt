@@ -15,14 +15,14 @@ fn limit(did: u32) -> RunEnd {
     }
 }
 
-/// Goes back, and tells S, the cycles and the events that were replayed.
+/// Goes back, and returns S, the cycles and the number of events replayed.
 fn went_back(session: &mut Session, count: u32) -> Result<(u8, u64, u32), SessionFault> {
     session.back(count)?;
     Ok((session.regs().s, session.cycles(), session.replayed()))
 }
 
-/// A history, a count of steps run, a count of events undone, and how many were replayed.
-/// Which states these are stands in `tests/sessions.md`.
+/// A history, a count of steps run, a count of events undone, and how many were replayed. Which
+/// states these are stands in `tests/sessions.md`.
 const REPLAYED: &[(u32, u32, u32, u32)] = &[
     (0, 5000, 0, 0),
     (1, 2049, 1, 0),
@@ -51,7 +51,7 @@ fn replays_from_a_checkpoint(rt: HostRuntime) -> Result<(), Fail> {
     Ok(())
 }
 
-/// Going back replays the events since the last checkpoint, and none where it stands there.
+/// Going back replays the events since the last checkpoint, and none if it ends at one.
 #[test]
 fn back_replays(rt: HostRuntime) -> Result<(), Fail> {
     let mut session = empty_session(rt.alloc(), 4096)?;
@@ -76,7 +76,7 @@ fn back_replays(rt: HostRuntime) -> Result<(), Fail> {
     Ok(())
 }
 
-/// Sets a breakpoint and a watch, and tells the table of breakpoints.
+/// Sets a breakpoint and a watchpoint, and returns the table of breakpoints.
 fn marked(
     session: &mut Session,
     address: u16,

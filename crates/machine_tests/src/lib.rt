@@ -1,5 +1,5 @@
-//! Worked examples of the machine and its session, as calls. Each is a test; no code stands here.
-//! What command lines show stands in `tests/sessions.md`.
+//! Worked examples of the machine and its session, as calls. Each is a test; there is no other code.
+//! `tests/sessions.md` has what command lines show.
 #![tactic(auto)]
 
 #[cfg(test)]

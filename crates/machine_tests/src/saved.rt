@@ -6,7 +6,7 @@ use cpu::{Checkpoint, Machine, Setting};
 use debugger::{Session, SessionFault};
 use std::test::Fail;
 
-/// Sets breakpoints and watches from an address on, so many of each.
+/// Sets `count` breakpoints and as many watchpoints from an address on.
 fn fill(session: &mut Session, from: u16, count: u16) -> Result<(), SessionFault> {
     for number in 0..count {
         session.set_break(from.wrapping_add(number))?;
@@ -15,7 +15,7 @@ fn fill(session: &mut Session, from: u16, count: u16) -> Result<(), SessionFault
     Ok(())
 }
 
-/// A table has room for 256 addresses; one that is set already is refused as such, full or not.
+/// A table has room for 256 addresses; one that is set already is AlreadySet, full or not.
 #[test]
 fn full_tables(rt: HostRuntime) -> Result<(), Fail> {
     let mut session = empty_session(rt.alloc(), 4)?;

@@ -7,7 +7,7 @@ use debugger::{Event, EventFault, Session, Setting};
 use model::{AsmFaultKind, BusFault, SessionFault, Sum};
 use std::test::Fail;
 
-/// Patches bytes of which so many count, and tells memory at the second and the third.
+/// Patches bytes of which so many count, and returns memory at the second and the third.
 fn patched(session: &mut Session, count: u8) -> (Result<(), EventFault>, [u8; 2]) {
     let patch = Event::Patch {
         address: 0x0200,
@@ -18,7 +18,7 @@ fn patched(session: &mut Session, count: u8) -> (Result<(), EventFault>, [u8; 2]
     (answer, [session.peek(0x0201), session.peek(0x0202)])
 }
 
-/// A patch: bytes that are not counted stay out, and none or more than three are refused.
+/// A patch: bytes that are not counted are not stored; none or more than three are rejected.
 #[test]
 fn patches_count_their_bytes(rt: HostRuntime) -> Result<(), Fail> {
     let mut session = empty_session(rt.alloc(), 8)?;
@@ -88,13 +88,13 @@ fn decimal_sums(rt: HostRuntime) {
     );
 }
 
-/// Stores a byte as the processor does, and tells memory there.
+/// Stores a byte as the processor does, and returns memory there.
 fn stored(bus: &mut Bus, address: u16, byte: u8) -> Result<u8, BusFault> {
     bus.write(address, byte)?;
     Ok(bus.peek(address))
 }
 
-/// Pokes a byte, and tells memory there.
+/// Pokes a byte, and returns memory there.
 fn poked(bus: &mut Bus, address: u16, byte: u8) -> Result<u8, BusFault> {
     bus.poke(address, byte)?;
     Ok(bus.peek(address))
@@ -134,7 +134,7 @@ fn input_at_the_port(rt: HostRuntime) -> Result<(), Fail> {
     Ok(())
 }
 
-/// What a map tells of addresses at the ends of its ROM and its port.
+/// What a map says of addresses at the ends of its ROM and its port.
 #[test]
 fn map_tells_its_parts(rt: HostRuntime) -> Result<(), Fail> {
     let map = MapSpec::new(Some((0x8000, 0x8fff)), 0xf000)?;
@@ -143,7 +143,7 @@ fn map_tells_its_parts(rt: HostRuntime) -> Result<(), Fail> {
     Ok(())
 }
 
-/// Maps that are refused.
+/// Maps that are rejected.
 #[test]
 fn refused_maps(rt: HostRuntime) {
     for (rom, port) in [
@@ -158,7 +158,7 @@ fn refused_maps(rt: HostRuntime) {
     }
 }
 
-/// An image tells a byte that was put, also at a port address, and none elsewhere.
+/// An image returns a byte that was put, also at a port address, and none elsewhere.
 #[test]
 fn image_tells_its_bytes(rt: HostRuntime) -> Result<(), Fail> {
     let mut image = Image::new(rt.alloc())?;

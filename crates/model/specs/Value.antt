@@ -51,8 +51,8 @@ name_value None = Err UnknownName
 name_value (Some n) = Ok n
 
 -- The value under the numbers of the names, on a line at an address. The fault is the first one
--- from left to right; an operator's own comes after those of both its operands.
--- `<` is the value modulo 256, `>` its quotient by 256, rounded down, modulo 256.
+-- from left to right; an operator's own comes after those of both its operands. `<` is the value
+-- modulo 256, `>` its quotient by 256, rounded down, modulo 256.
 abbrev pub value_of : Numbers → ℤ → Term → Result ℤ ExprFault
 value_of numbers address (literal v) = literal_value v
 value_of numbers address (name text) = name_value (numbers text)

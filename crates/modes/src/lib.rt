@@ -1,7 +1,7 @@
 //! The addresses of operands.
 //!
-//! The crate owns effective addresses.
-//! `resolve` is one equation with the definition, in `Operand.antt` of `model`, and needs no lemma.
+//! The crate owns effective addresses. `resolve` is one equation with the definition, in
+//! `Operand.antt` of `model`, and needs no lemma.
 #![tactic(auto)]
 
 ghost use Rattle.std.specs.Prelude.{◌≡◌, ◌+◌, ◌%◌};

@@ -14,7 +14,7 @@ use line_parts::{Expr, Token};
 use model::{LineFault, Operator};
 use std::alloc::{AllocError, Global};
 
-/// What stands inside a bracket, if the next token closes it.
+/// Returns what is inside a bracket, if the next token closes it.
 fn closed<'a, 't>(inner: Expr<'a>, tokens: &'t [Token<'a>]) -> Option<(Expr<'a>, &'t [Token<'a>])>
     ensures { seen result ≡ closed_by (view inner.entry) (lexemes tokens.now) }
 {

@@ -32,8 +32,8 @@ use words::DisWords;
 ///
 /// # Errors
 ///
-/// Those of `read_tape_from`: `Tape` with the tape's own fault, or with
-/// `OutOfMemory` at offset 0; `Read` if a read failed.
+/// Those of `read_tape_from`: `Tape` with the tape's own fault, or with `OutOfMemory` at offset 0;
+/// `Read` if a read failed.
 pub fn dis_text<T: Read>(
     alloc: Global,
     profile: Profile,

@@ -1,8 +1,8 @@
 //! The program `mos65` as a library: its files and streams, its fault lines and its exit status.
 //!
-//! `mos65` is its main. A caller may use `program`, which does everything, and
-//! `asm_texts` and `dis_text`, which make the texts that `asm` and `dis` write. No clause can say
-//! what is in a file, so the contracts speak of the words, the streams and the status.
+//! `mos65` is its main. A caller may use `program`, which does everything, and `asm_texts` and
+//! `dis_text`, which make the texts that `asm` and `dis` write. No clause can say what is in a
+//! file, so the contracts speak of the words, the streams and the status.
 #![tactic(auto)]
 
 pub use assembling::{AsmTexts, asm_texts};

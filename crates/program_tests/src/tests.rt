@@ -1,5 +1,5 @@
-//! The program between streams that fail, and what it leaves to
-//! `clap`. Its files, fault lines and statuses stand in `tests/program.md`.
+//! The program between streams that fail, and what it leaves to `clap`. Its files, fault lines and
+//! statuses stand in `tests/program.md`.
 
 use program::program;
 use std::alloc::Global;

@@ -1,8 +1,8 @@
 //! Laws over the definitions of sources.
 //!
-//! No function here does anything: each one's contract is a law, and its proof is in
-//! `proofs`. They stand on `model` alone, so that they are checked beside the assembler and not
-//! before it. Who needs a law calls its function.
+//! No function here does anything: each one's contract is a law, and its proof is in `proofs`. They
+//! stand on `model` alone, so that they are checked beside the assembler and not before it. Who
+//! needs a law calls its function.
 #![tactic(auto)]
 
 mod law;

@@ -1,4 +1,4 @@
-//! The lines of a source: cut from its text one after another, and where each stands.
+//! The lines of a source: cut from its text one after another, and the place of each.
 #![tactic(auto)]
 
 mod line;

@@ -1,4 +1,4 @@
-//! Where lines stand.
+//! The places of lines.
 
 ghost use Rattle.std.specs.Prelude.{◌<◌, ◌-◌, ◌^◌};
 

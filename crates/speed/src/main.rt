@@ -9,7 +9,7 @@ use debugger::{Event, Session};
 use std::alloc::Global;
 use std::{env, fs, io};
 
-/// Where the program stands.
+/// The program's address.
 const ORIGIN: u16 = 0x0200;
 
 /// Where it jumps at its end.
@@ -62,7 +62,7 @@ fn step_by_step(session: &mut Session, steps: u32) -> u32 {
     steps
 }
 
-/// The words as numbers. A word that is none is refused.
+/// The words as numbers. A word that is not a number is rejected.
 fn numbers(rt: &HostRuntime) -> Result<Vec<u32>> {
     let mut numbers = Vec::new(rt.alloc());
     for word in env::args(rt)?.skip(1) {

@@ -99,7 +99,7 @@ fn told_by_a_reader(rt: HostRuntime) -> Result<(), Fail> {
     Ok(())
 }
 
-/// Or to the piece that tells its fault.
+/// Or to the piece that shows its fault.
 #[test]
 fn a_fault_told_by_a_reader(rt: HostRuntime) {
     let mut tape = b";01G".as_slice();
@@ -113,7 +113,7 @@ fn a_fault_told_by_a_reader(rt: HostRuntime) {
 
 const CUT: &[&[u8]] = &[b";0100", b"10ff01", b"", b"10"];
 
-/// A tape that ends in a record is refused at its end alone.
+/// A tape that ends in a record is rejected at its end alone.
 #[test]
 fn pieces_of_a_record(rt: HostRuntime) -> Result<(), Fail> {
     let mut reader = TapeReader::new(rt.alloc())?;
@@ -133,7 +133,7 @@ fn pieces_of_a_tape(rt: HostRuntime) -> Result<(), Fail> {
     Ok(())
 }
 
-/// More records than a record count can tell, and an end record that counts none.
+/// More records than an end record can count, and an end record that counts none.
 fn too_many_records(alloc: Global) -> Result<Vec<u8>, AllocError> {
     let mut text = Vec::new(alloc);
     for _ in 0..65536u32 {

@@ -1,5 +1,5 @@
 //! Makes each library call that its words name, and prints whether it was served. So a script can
-//! refuse each request for memory of one call in turn.
+//! make each allocation of one call fail in turn.
 #![tactic(auto)]
 
 ghost use Rattle.std.specs.Prelude.{◌≡◌};
@@ -189,8 +189,8 @@ fn make(alloc: Global, word: &str) -> Result<(), Fault> {
     }
 }
 
-/// Makes the calls in order until one is refused, and gives the exit status: 3 where memory ran
-/// out, and 1 for another fault.
+/// Makes the calls in order until one fails, and returns the exit status: 3 if memory ran out, and
+/// 1 for another fault.
 fn run(rt: &HostRuntime) -> io::Result<u8> {
     for word in env::args(rt)?.skip(1) {
         match make(rt.alloc(), word.as_str()) {

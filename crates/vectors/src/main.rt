@@ -18,7 +18,7 @@ fn word(high: u8, low: u8) -> u16 {
     high as u16 * 256 + low as u16
 }
 
-/// The registers that seven bytes tell: PC, S, A, X, Y and P.
+/// The registers in seven bytes: PC, S, A, X, Y and P.
 fn registers(bytes: &[u8]) -> Option<Regs> {
     let [high, low, s, a, x, y, p] = *bytes else {
         return None;

@@ -94,7 +94,7 @@ fn dis_command<'a>(alloc: Global) -> Result<Command<'a>, Error>
 /// What the help of `debug` shows below its options.
 const COMMANDS: &str = "Commands:
   regs  mem LO HI  dis A N  out  breaks      look
-  step  run N  back N                        go on, and back over N events
+  step  run N  back N                        go on, and undo N events
   break A  unbreak A  watch A  unwatch A     stop runs
   set R V  patch A HH ..  asm A TEXT         change registers (A X Y S P PC) and memory
   in HH ..  reset  irq 0  irq 1  nmi         input and signals
@@ -108,13 +108,13 @@ fn debug_command<'a>(alloc: Global) -> Result<Command<'a>, Error>
     ensures local { IfOk result (λ c. (out-Command c).has_globals ≡ false) }
     ensures memory { IfErr result (λ e. kind_of e ≡ ErrorKind.OutOfMemory) }
 {
-    let history = "How many events can be gone back over, at most 65536 [default: 1024]";
+    let history = "How many events can be undone, at most 65536 [default: 1024]";
     let rom = "The addresses that the program cannot write [default: none]";
     let command = Command::new(alloc, "debug")
         .about("Debugs a source: commands on standard input, replies on standard output")
         .after_help(COMMANDS)
         .arg(file(alloc, "FILE", "The source to assemble and load"))?
-        .arg(flag(alloc, "tape", "FILE is a tape, and no source"))?
+        .arg(flag(alloc, "tape", "FILE is a tape, not a source"))?
         .arg(option(alloc, "history", "N", history))?
         .arg(port(alloc))?
         .arg(option(alloc, "rom", "LO-HI", rom))?
@@ -124,7 +124,7 @@ fn debug_command<'a>(alloc: Global) -> Result<Command<'a>, Error>
 
 /// What the program's help shows below its words.
 const STATUSES: &str =
-    "Exit status: 0 done, 1 source or tape refused, 2 words or map wrong, 3 memory, 4 reading or writing";
+    "Exit status: 0 done, 1 bad source or tape, 2 bad words or map, 3 out of memory, 4 read or write";
 
 /// Returns the program's command line.
 ///
