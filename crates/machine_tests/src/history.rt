@@ -21,8 +21,8 @@ fn went_back(session: &mut Session, count: u32) -> Result<(u8, u64, u32), Sessio
     Ok((session.regs().s, session.cycles(), session.replayed()))
 }
 
-/// A history, a count of steps run, a count of events undone, and how many were replayed. Which
-/// states these are stands in `tests/sessions.md`.
+/// A history, a count of steps run, a count of events undone, and how many were replayed.
+/// `tests/sessions.md` shows which states these are.
 const REPLAYED: &[(u32, u32, u32, u32)] = &[
     (0, 5000, 0, 0),
     (1, 2049, 1, 0),

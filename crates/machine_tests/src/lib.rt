@@ -1,5 +1,5 @@
-//! Worked examples of the machine and its session, as calls. Each is a test; there is no other code.
-//! `tests/sessions.md` has what command lines show.
+//! Worked examples of the machine and its session, as calls. Each is a test; there is no other
+//! code. `tests/sessions.md` has what command lines show.
 #![tactic(auto)]
 
 #[cfg(test)]

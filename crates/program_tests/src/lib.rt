@@ -1,5 +1,5 @@
-//! Worked examples of the program, with files and with streams that fail. Each is a test; there is no
-//! other code.
+//! Worked examples of the program, with files and with streams that fail. Each is a test; there is
+//! no other code.
 #![tactic(auto)]
 
 #[cfg(test)]

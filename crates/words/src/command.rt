@@ -124,7 +124,7 @@ fn debug_command<'a>(alloc: Global) -> Result<Command<'a>, Error>
 
 /// What the program's help shows below its words.
 const STATUSES: &str =
-    "Exit status: 0 done, 1 bad source or tape, 2 bad words or map, 3 out of memory, 4 read or write";
+    "Exit status: 0 done, 1 bad source or tape, 2 bad words or map, 3 out of memory, 4 I/O failed";
 
 /// Returns the program's command line.
 ///
