@@ -1,6 +1,6 @@
-; What tools/measure-speed runs: a kernel of nested loops over most addressing modes, and a sieve of odd numbers.
-; It starts at $0200, ends with a jump to $FFF9, where sim65 has its exit and a session a breakpoint, and leaves in A
-; the low byte of the number of primes from 3 to 16384, which is 1899.
+; What tools/measure-speed runs: a kernel of nested loops over most addressing modes, and a sieve of
+; odd numbers. It starts at $0200 and ends with a jump to $FFF9, where sim65 has its exit and a session
+; a breakpoint. It leaves in A the low byte of the number of primes from 3 to 16384, which is 1899.
         .setcpu "6502"
         .org $0200
 KERNELS = 300

@@ -34,7 +34,7 @@ SYSTEM = ctypes.CDLL(None)
 
 
 class Failure(Exception):
-    """The run cannot go on: what the user is told."""
+    """The run cannot continue; its text is what the user reads."""
 
 
 class Stop:

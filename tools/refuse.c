@@ -1,8 +1,7 @@
-/* A shared object, preloaded into a program: it refuses one request for memory, the Nth that the
-   program makes, and grants all others. REFUSE_AT is N; with 0 or without it nothing is refused.
-   With REFUSE_ON set to 1 it refuses the Nth and each later one.
-   REFUSE_TELL is a file descriptor to which one byte is written for each request. Nothing here asks
-   for memory itself. */
+/* A shared object, preloaded into a program: it makes one allocation of the program fail, the Nth, and
+   lets all others through. REFUSE_AT is N; with 0 or without it none fails. With REFUSE_ON set to 1
+   the Nth and each later one fail. REFUSE_TELL is a file descriptor to which one byte is written for
+   each request. Nothing here allocates. */
 
 #include <errno.h>
 #include <stddef.h>
@@ -20,7 +19,7 @@ static unsigned long refuse_at;
 static int refuse_on;
 static unsigned long requests;
 
-/* What the C library asks for while it loads the program comes before this and is not counted. */
+/* What the C library allocates while it loads the program comes before this and is not counted. */
 __attribute__((constructor)) static void start(void)
 {
     const char *at = getenv("REFUSE_AT");
