@@ -58,11 +58,8 @@ fn take_line<'a>(
 ) -> Result<(u32, bool), LineError>
     requires { address < 2 ^ 31 - 510 }
     ensures exact { Takes profile text.now (found_of lines.new) result symbols.new
-        (taken number (found_of lines.old) (layout_of (record {
-          profile = profile;
-          address = address;
-          names = symbols.old;
-        }) text.now)) }
+        (taken number (found_of lines.old) (layout_of
+        (record { profile = profile; address = address; names = symbols.old }) text.now)) }
     ensures near { IfOk result (λ r. r.0 ≤ max (address + 510) 65536) }
 {
     let line = read_line_with(alloc, profile, room, text)?;

@@ -70,11 +70,8 @@ impl<'a> Lines<'a> {
         requires near { address < 2 ^ 31 - 510 }
         requires small { site.count ≤ 510 }
         requires sized { site.count ≡ size_of (line_content site.code (seen_line line)) }
-        ensures { OnOk result
-            (found_of self.new ≡ noting number (found_of self.old) (record {
-              address = address;
-              content = line_content site.code (seen_line line.entry);
-            })) }
+        ensures { OnOk result (found_of self.new ≡ noting number (found_of self.old)
+            (record { address = address; content = line_content site.code (seen_line line.entry) })) }
     {
         self.spans.push(Span {
             address,

@@ -67,11 +67,9 @@ fn fix_label(
     requires small { IsSmall (seen statement.now) }
     requires fresh { number_in symbols.old name.now ≡ None }
     ensures exact { Fixes profile address (labelled (Some name.now) (seen statement.now)) result
-        symbols.new (line_fixed (record {
-          profile = profile;
-          address = address;
-          names = symbols.old;
-        }) (labelled (Some name.now) (seen statement.now))) }
+        symbols.new
+        (line_fixed (record { profile = profile; address = address; names = symbols.old })
+        (labelled (Some name.now) (seen statement.now))) }
     ensures near { IfOk result (λ s. s.next ≤ max (address + 510) 65536) }
     ensures small { IfOk result (λ s. s.count ≤ 510) }
     ensures sized { IfOk result (λ s. s.count

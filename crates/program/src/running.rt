@@ -148,14 +148,13 @@ pub fn program<H: Files + AllocGlobal, R: Read, O: Write, E: Write>(
         (O.contents output.new) outcome ((input.new ≡ input.old) × (output.new ≡ output.old)) }
     // If a session has ended, the output has the transcript of the input, from some image on the
     // map of the words.
-    ensures served { result ≡ 0 → (d : DebugAsked) → asked (map (λ s. s.now) words.entry.now)
-        ≡ Some (debug d) → IsTaken (map (λ s. s.now) words.entry.now) → (image : List (Option ℕ))
-        × IfSome (R.remaining input.old) (λ given. Appends (O.contents output.old)
-        (O.contents output.new) (transcript (fresh d.history (start (record {
-          profile = d.profile;
-          rom = d.rom;
-          port = d.port;
-        }) image)) given).written) }
+    ensures served { result ≡ 0 → (d : DebugAsked)
+        → asked (map (λ s. s.now) words.entry.now) ≡ Some (debug d)
+        → IsTaken (map (λ s. s.now) words.entry.now)
+        → (image : List (Option ℕ)) × IfSome (R.remaining input.old)
+        (λ given. Appends (O.contents output.old) (O.contents output.new) (transcript
+        (fresh d.history (start (record { profile = d.profile; rom = d.rom; port = d.port }) image))
+        given).written) }
 {
     match read_words(rt.alloc(), words) {
         Ok(Words::Asm(words)) => ended(asm(rt, &words), errors),
