@@ -1,8 +1,9 @@
 //! Expressions and items among the tokens of a line.
 
-ghost use Rattle.std.specs.Prelude.{◌≡◌, ◌<◌, ◌≤◌, ◌-◌, IfOk, IfErr, None, Some, drop, length, map};
-ghost use Rattle.std.specs.Prelude.{take, true};
-ghost use Rattle.model.specs.Line.{expressions_of, item_of, items_of, whole_expression};
+ghost use Rattle.std.specs.Prelude.{◌≡◌, ◌<◌, ◌≤◌, ◌-◌, IfOk, IfErr, List, None, Option, Some, drop, length, map, take, true};
+ghost use Rattle.model.specs.Expression.{Term};
+ghost use Rattle.model.specs.Line.{Item as SeenItem, item_of, list_within, whole_expression};
+ghost use Rattle.model.specs.Token.{Lexeme};
 ghost use Rattle.model.specs.Reading.{expression_of};
 ghost use Rattle.line_parts.specs.Lexemes.{lexemes};
 ghost use Rattle.line_parts.specs.Trees.{view};
@@ -51,25 +52,7 @@ fn goes_on(tokens: &[Token<'_>]) -> Result<bool, LineFault>
     }
 }
 
-/// Returns the expressions, separated by commas, that these tokens are.
-pub fn expressions<'a>(alloc: Global, tokens: &[Token<'a>]) -> Result<Vec<Expr<'a>>, LineFault>
-    ensures { Reads (λ found. map view found.items) result (expressions_of (lexemes tokens.now)) }
-{
-    let mut found = Vec::new(alloc);
-    let mut at = 0;
-    for _ in 0..tokens.len() {
-        let (value, taken) = parse_expr(alloc, &tokens[at..])?;
-        found.push(value)?;
-        at += taken;
-        if !goes_on(&tokens[at..])? {
-            return Ok(found);
-        }
-        at += 1;
-    }
-    Err(LineFault::Syntax)
-}
-
-/// Returns the bytes of a text without the first and the last.
+/// The bytes of a text without the first and the last.
 fn inside(text: &[u8]) -> &[u8]
     ensures { result.now ≡ take (length text.now - 2) (drop 1 text.now) }
 {
@@ -79,37 +62,67 @@ fn inside(text: &[u8]) -> &[u8]
     }
 }
 
-/// Returns the item at the front of some tokens, and its number of tokens.
-fn item<'a>(alloc: Global, tokens: &[Token<'a>]) -> Result<(Item<'a>, usize), LineFault>
-    ensures found { IfOk result
-        (λ p. item_of (lexemes tokens.now) ≡ Some (seen_item p.0, drop p.1 (lexemes tokens.now))) }
-    ensures within { IfOk result (λ p. p.1 ≤ length tokens.now) }
-    ensures syntax { IfErr result (λ f. f ≡ Syntax → item_of (lexemes tokens.now) ≡ None) }
-{
-    let Some(first) = tokens.first() else {
-        return Err(LineFault::Syntax);
-    };
-    match first.kind {
-        TokenKind::Str => Ok((Item::Text(inside(first.text)), 1)),
-        TokenKind::Word
-        | TokenKind::Directive
-        | TokenKind::Number
-        | TokenKind::Char
-        | TokenKind::Symbol => {
-            let (value, taken) = parse_expr(alloc, tokens)?;
-            Ok((Item::Value(value), taken))
+/// What stands between the commas of a list.
+pub trait Element<'a>: Sized + Drop {
+    /// What clauses see of an element.
+    ghost Seen: { Type 0 };
+
+    ghost seen_as: { Self → Seen };
+    /// The element with which tokens begin, and the tokens after it.
+    ghost element_of: { List Lexeme → Option (Seen × List Lexeme) };
+
+    /// The element with which some tokens begin, and how many tokens it is.
+    fn read(alloc: Global, tokens: &[Token<'a>]) -> Result<(Self, usize), LineFault>
+        ensures found { IfOk result (λ p. element_of (lexemes tokens.now) ≡ Some (seen_as p.0, drop p.1 (lexemes tokens.now))) }
+        ensures within { IfOk result (λ p. p.1 ≤ length tokens.now) }
+        ensures syntax { IfErr result (λ f. f ≡ Syntax → element_of (lexemes tokens.now) ≡ None) };
+}
+
+impl<'a> Element<'a> for Expr<'a> {
+    ghost Seen = { Term };
+
+    ghost seen_as = { view };
+
+    ghost element_of = { expression_of };
+
+    fn read(alloc: Global, tokens: &[Token<'a>]) -> Result<(Expr<'a>, usize), LineFault> {
+        parse_expr(alloc, tokens)
+    }
+}
+
+impl<'a> Element<'a> for Item<'a> {
+    ghost Seen = { SeenItem };
+
+    ghost seen_as = { seen_item };
+
+    ghost element_of = { item_of };
+
+    fn read(alloc: Global, tokens: &[Token<'a>]) -> Result<(Item<'a>, usize), LineFault> {
+        let Some(first) = tokens.first() else {
+            return Err(LineFault::Syntax);
+        };
+        match first.kind {
+            TokenKind::Str => Ok((Item::Text(inside(first.text)), 1)),
+            TokenKind::Word
+            | TokenKind::Directive
+            | TokenKind::Number
+            | TokenKind::Char
+            | TokenKind::Symbol => {
+                let (value, taken) = parse_expr(alloc, tokens)?;
+                Ok((Item::Value(value), taken))
+            }
         }
     }
 }
 
-/// Returns the items, separated by commas, that these tokens are.
-pub fn items<'a>(alloc: Global, tokens: &[Token<'a>]) -> Result<Vec<Item<'a>>, LineFault>
-    ensures { Reads (λ found. map seen_item found.items) result (items_of (lexemes tokens.now)) }
+/// The elements, separated by commas, that some tokens are.
+pub fn list<'a, T: Element<'a>>(alloc: Global, tokens: &[Token<'a>]) -> Result<Vec<T>, LineFault>
+    ensures { Reads (λ found. map T.seen_as found.items) result (list_within T.element_of (length tokens.now) (lexemes tokens.now)) }
 {
     let mut found = Vec::new(alloc);
     let mut at = 0;
     for _ in 0..tokens.len() {
-        let (value, taken) = item(alloc, &tokens[at..])?;
+        let (value, taken) = T::read(alloc, &tokens[at..])?;
         found.push(value)?;
         at += taken;
         if !goes_on(&tokens[at..])? {

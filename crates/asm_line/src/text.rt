@@ -8,7 +8,7 @@ ghost use Rattle.line_parts.specs.Seen.{Gives, Reads, seen, seen_line};
 ghost use Rattle.line_parts.specs.FewBytes.{IsSmallLine};
 ghost use Rattle.asm_line.specs.Tokens.{fault_of_bytes, line_tokens, said_by};
 
-use crate::expressions::{expressions, items, whole_expression};
+use crate::expressions::{list, whole_expression};
 use crate::operand::operand;
 use crate::reserved::line_reserves;
 use crate::token_tests::{is_in_capitals, is_symbol};
@@ -32,13 +32,13 @@ fn directive<'a>(
     ensures { Reads seen result (directive_of name.now (lexemes after.now)) }
 {
     if is_in_capitals(name, b".BYTE") {
-        return Ok(Statement::Bytes(items(alloc, after)?));
+        return Ok(Statement::Bytes(list(alloc, after)?));
     }
     if is_in_capitals(name, b".WORD") {
-        return Ok(Statement::Words(expressions(alloc, after)?));
+        return Ok(Statement::Words(list(alloc, after)?));
     }
     if is_in_capitals(name, b".DBYTE") {
-        return Ok(Statement::WordsHighFirst(expressions(alloc, after)?));
+        return Ok(Statement::WordsHighFirst(list(alloc, after)?));
     }
     if is_in_capitals(name, b".RES") {
         return Ok(Statement::Reserve(whole_expression(alloc, after)?));

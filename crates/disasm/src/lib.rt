@@ -8,7 +8,6 @@
 pub use line::{TextLine, line_at, line_in};
 pub use row::{RowText, row_text_in};
 
-mod letters;
 mod line;
 mod operand;
 mod row;

@@ -4,12 +4,11 @@ ghost use Rattle.std.specs.Prelude.{◌≡◌, ◌<◌, ◌≤◌, ◌-◌, leng
 ghost use Rattle.model.specs.Instruction.{byte_row, instruction_text, row_of};
 ghost use Rattle.disasm.specs.Rows.{seen};
 
-use crate::letters::letters;
 use crate::operand::operand;
 use crate::text::{Text, push_bytes, text_of};
 use hexdigits::digits_of;
 use model::{Profile, Row};
-use optable::decode_in;
+use optable::{decode_in, letters_of};
 
 /// A row of memory: how many bytes of memory it shows, and its text.
 ///
@@ -43,7 +42,7 @@ fn instruction(profile: Profile, found: Row, address: u16, second: u8, third: u8
     ensures exact { result.items ≡ instruction_text profile found address second third }
     ensures short { length result.items ≤ 12 }
 {
-    let mut text = text_of(&letters(found.mnemonic));
+    let mut text = text_of(&letters_of(found.mnemonic));
     push_bytes(
         &mut text,
         &operand(profile, found.mnemonic, found.mode, address, second, third),

@@ -1,13 +1,16 @@
 -- The bytes of one line, gathered from left to right.
-use Rattle.std.specs.Prelude.{◌≡◌, ℕ, ℤ, pos, ⊤, List, [], ◌∷◌, ◌++◌, map, Option, Some, None, Result, Ok, Err}
+use Rattle.std.specs.Prelude.{◌≡◌, ℕ, ℤ, pos, negsuc, ⊤, List, [], ◌∷◌, ◌++◌, map, Option, Some, None, Result, Ok, Err}
 use Rattle.model.specs.State.{Map}
-use Rattle.model.specs.Bytes.{BytesOrFault, lower, place_kinds, item_piece, pieces_of}
+use Rattle.model.specs.Bytes.{BytesOrFault, lower, modulo, place_kinds, item_piece, pieces_of, within, word_bytes, word_bytes_high_first}
 use Rattle.model.specs.Expression.{Term}
 use Rattle.model.specs.Value.{Numbers, eval_of}
 use Rattle.model.specs.declared.expression.ExprFault.{ExprFault}
 use Rattle.model.specs.Line.{Item}
-use Rattle.model.specs.Layout.{Placed, size_of}
+use Rattle.model.specs.Layout.{◌>>>◌, Placed, size_of}
 use Rattle.model.specs.declared.source_fault.AsmFaultKind.{AsmFaultKind}
+use Rattle.model.specs.declared.source_fault.AsmFaultKind.TheVariants.{WordRange}
+use Rattle.emission.specs.declared.emit.ByteOrder.{ByteOrder}
+use Rattle.emission.specs.declared.emit.ByteOrder.TheVariants.{LowFirst, HighFirst}
 use Rattle.emission.specs.declared.emit.Encoded.{Encoded}
 use Rattle.emission.specs.declared.emit.Encoded.TheVariants.{Nothing, Byte, Word}
 use Rattle.line_parts.specs.declared.fault.LineError.{LineError}
@@ -20,6 +23,15 @@ item_pieces numbers address items = map (λ i. item_piece numbers address i) ite
 abbrev pub value_pieces : (Result ℤ ExprFault → BytesOrFault) → Numbers → ℕ → List Term
     → List BytesOrFault
 value_pieces piece numbers address es = map (λ e. piece (eval_of numbers (pos address) e)) es
+
+-- A word's bytes in an order, and the bytes of a value of two bytes.
+abbrev pub word_bytes_in : ByteOrder → ℕ → List ℕ
+word_bytes_in LowFirst n = word_bytes n
+word_bytes_in HighFirst n = word_bytes_high_first n
+
+abbrev pub word_piece_in : ByteOrder → Result ℤ ExprFault → BytesOrFault
+word_piece_in order r =
+    within (negsuc 32767) (pos 65535) WordRange r >>> λ v. Ok (word_bytes_in order (modulo v 65536))
 
 abbrev pub seen_encoded : Encoded → List ℕ
 seen_encoded Nothing = []

@@ -3,17 +3,11 @@
 ghost use Rattle.std.specs.Prelude.{◌≡◌, ◌+◌, ◌<◌, ◌≤◌, ◌^◌, ◌-◌, ◌∷◌, [], nat_lt, pos, length};
 ghost use Rattle.std.specs.Prelude.{map, IfErr, IfOk, OnOk, Ok, Some, Err};
 ghost use Rattle.line_parts.specs.Trees.{view};
-ghost use Rattle.emission.specs.Gathering.{Stores, added, gathered, item_pieces, line_gathered};
-ghost use Rattle.emission.specs.Gathering.{noted, noted_all, nothing_gathered, refused};
-ghost use Rattle.emission.specs.Gathering.{seen_encoded, seen_piece, value_pieces};
+ghost use Rattle.emission.specs.Gathering.{Stores, added, gathered, item_pieces, line_gathered, noted, noted_all, nothing_gathered, refused, seen_encoded, seen_piece, value_pieces, word_bytes_in, word_piece_in};
 ghost use Rattle.line_parts.specs.Kept.{placed_of};
 ghost use Rattle.line_parts.specs.Seen.{Gives, seen, seen_item};
 ghost use Rattle.line_parts.specs.Contents.{content_by, shown};
-ghost use Rattle.model.specs.Bytes.{item_piece, pieces_of, word_bytes_high_first};
-ghost use Rattle.model.specs.Bytes.{word_piece_high_first, address_piece, after_opcode};
-ghost use Rattle.model.specs.Bytes.{branch_piece, byte_piece, distance_piece, has_bytes, has_port};
-ghost use Rattle.model.specs.Bytes.{kind_if, lower, lowest, modulo, operand_piece, place_kinds};
-ghost use Rattle.model.specs.Bytes.{within, word_bytes, word_piece, zero_page_piece};
+ghost use Rattle.model.specs.Bytes.{item_piece, pieces_of, address_piece, after_opcode, branch_piece, byte_piece, distance_piece, has_bytes, has_port, kind_if, lower, lowest, modulo, operand_piece, place_kinds, within, zero_page_piece};
 ghost use Rattle.source_laws.specs.Judging.{put};
 ghost use Rattle.model.specs.Names.{number_in};
 ghost use Rattle.model.specs.Layout.{size_of};
@@ -39,7 +33,16 @@ pub enum Encoded {
     Word(u8, u8),
 }
 
-/// Returns the value of an expression on a line at an address, under all names, or its first fault.
+/// Which byte of a word comes first.
+#[derive(Clone, Copy)]
+pub enum ByteOrder {
+    /// As in `.WORD` and in addresses.
+    LowFirst,
+    /// As in `.DBYTE`.
+    HighFirst,
+}
+
+/// The number that an expression on a line at an address gives under the numbers of all names, or its first fault.
 fn number_at(value: &Expr<'_>, names: &Symbols, here: u32) -> Result<i32, ExprFault>
     requires { here < 2 ^ 31 }
     ensures { result ≡ eval_of (number_in names.now) (pos here) (view value.now) }
@@ -77,20 +80,16 @@ fn byte_of(number: i32) -> Encoded
     Encoded::Byte(number.rem_euclid(256) as u8)
 }
 
-/// Encodes a number modulo 65536, the low byte first.
-fn word_of(number: i32) -> Encoded
-    ensures { seen_encoded result ≡ word_bytes (modulo number 65536) }
+/// A number modulo 65536, its bytes in this order.
+fn word_of(number: i32, order: ByteOrder) -> Encoded
+    ensures { seen_encoded result ≡ word_bytes_in order (modulo number 65536) }
 {
     let word = number.rem_euclid(65536) as u16;
-    Encoded::Word((word % 256) as u8, (word / 256) as u8)
-}
-
-/// Encodes a number modulo 65536, the high byte first.
-fn word_of_high_first(number: i32) -> Encoded
-    ensures { seen_encoded result ≡ word_bytes_high_first (modulo number 65536) }
-{
-    let word = number.rem_euclid(65536) as u16;
-    Encoded::Word((word / 256) as u8, (word % 256) as u8)
+    let (low, high) = ((word % 256) as u8, (word / 256) as u8);
+    match order {
+        ByteOrder::LowFirst => Encoded::Word(low, high),
+        ByteOrder::HighFirst => Encoded::Word(high, low),
+    }
 }
 
 /// Encodes one byte: -128..255.
@@ -111,22 +110,12 @@ fn zero_page(value: Result<i32, ExprFault>) -> Result<Encoded, AsmFaultKind>
     Ok(byte_of(number))
 }
 
-/// Encodes two bytes: -32768..65535.
-#[tactic(auto, unfolding(model::specs::Bytes::word_piece))]
-fn word(value: Result<i32, ExprFault>) -> Result<Encoded, AsmFaultKind>
-    ensures { seen_piece result ≡ word_piece value }
+/// Two bytes in this order: -32768..65535.
+fn word(value: Result<i32, ExprFault>, order: ByteOrder) -> Result<Encoded, AsmFaultKind>
+    ensures { seen_piece result ≡ word_piece_in order value }
 {
     let number = within(value, -32768, 65535, AsmFaultKind::WordRange)?;
-    Ok(word_of(number))
-}
-
-/// Encodes two bytes, the high one first: -32768..65535.
-#[tactic(auto, unfolding(model::specs::Bytes::word_piece_high_first))]
-fn word_high_first(value: Result<i32, ExprFault>) -> Result<Encoded, AsmFaultKind>
-    ensures { seen_piece result ≡ word_piece_high_first value }
-{
-    let number = within(value, -32768, 65535, AsmFaultKind::WordRange)?;
-    Ok(word_of_high_first(number))
+    Ok(word_of(number, order))
 }
 
 /// Encodes an address: 0..65535.
@@ -135,7 +124,7 @@ fn address(value: Result<i32, ExprFault>) -> Result<Encoded, AsmFaultKind>
     ensures { seen_piece result ≡ address_piece value }
 {
     let number = within(value, 0, 65535, AsmFaultKind::WordRange)?;
-    Ok(word_of(number))
+    Ok(word_of(number, ByteOrder::LowFirst))
 }
 
 /// Encodes a branch's distance modulo 65536, if it is -128..127.
@@ -340,36 +329,19 @@ impl Gathered {
         Ok(())
     }
 
-    /// Appends the bytes of `.WORD`.
+    /// The bytes of `.WORD` or `.DBYTE`, by the order of the bytes in a word.
     fn add_words(
         &mut self,
         names: &Symbols,
         here: u32,
         values: &[Expr<'_>],
+        order: ByteOrder,
     ) -> Result<(), AllocError>
         requires { here < 2 ^ 31 - 510 }
-        ensures { OnOk result (self.new ≡ gathered self.old
-            (value_pieces word_piece (number_in names.now) here (map view values.now))) }
+        ensures { OnOk result (self.new ≡ gathered self.old (value_pieces (word_piece_in order) (number_in names.now) here (map view values.now))) }
     {
         for value in values {
-            self.add(word(number_at(value, names, here)))?;
-        }
-        Ok(())
-    }
-
-    /// Appends the bytes of `.DBYTE`.
-    fn add_words_high_first(
-        &mut self,
-        names: &Symbols,
-        here: u32,
-        values: &[Expr<'_>],
-    ) -> Result<(), AllocError>
-        requires { here < 2 ^ 31 - 510 }
-        ensures { OnOk result (self.new ≡ gathered self.old
-            (value_pieces word_piece_high_first (number_in names.now) here (map view values.now))) }
-    {
-        for value in values {
-            self.add(word_high_first(number_at(value, names, here)))?;
+            self.add(word(number_at(value, names, here), order))?;
         }
         Ok(())
     }
@@ -393,8 +365,8 @@ impl Gathered {
         }
     }
 
-    /// Appends all parts of a statement, an instruction by its opcode.
-    #[tactic(auto, unfolding(model::specs::Bytes::pieces_of, crate::specs::Gathering::gathered))]
+    /// All pieces of a statement, an instruction by its opcode.
+    #[tactic(auto, unfolding(model::specs::Bytes::pieces_of, model::specs::Bytes::word_piece, model::specs::Bytes::word_piece_high_first, crate::specs::Gathering::gathered))]
     fn add_statement(
         &mut self,
         names: &Symbols,
@@ -408,8 +380,10 @@ impl Gathered {
     {
         match statement {
             Statement::Bytes(items) => self.add_items(names, here, items),
-            Statement::Words(values) => self.add_words(names, here, values),
-            Statement::WordsHighFirst(values) => self.add_words_high_first(names, here, values),
+            Statement::Words(values) => self.add_words(names, here, values, ByteOrder::LowFirst),
+            Statement::WordsHighFirst(values) => {
+                self.add_words(names, here, values, ByteOrder::HighFirst)
+            }
             Statement::Instruction(_, operand) => match code {
                 Some(code) => {
                     self.push(Encoded::Byte(code.opcode))?;

@@ -1,6 +1,8 @@
--- The opcodes by groups are those of the table of each profile: both are computed for every
--- mnemonic in every mode.
-use Rattle.std.proofs.Common.{◌≡◌, ℕ, ◌<◌, map, refl, sym, subst}
+-- The opcodes of the constant are those of the table of each profile: both are computed for every mnemonic in every mode.
+use Rattle.std.proofs.Common.{◌≡◌, ℕ, ◌<◌, [], map, refl, sym, subst, get_or}
+use denote.Enum.Declared.{tag_of}
+use Rattle.model.specs.contracts.instruction.Mnemonic.{the_type as mnemonic_type}
+use Rattle.model.specs.contracts.instruction.Mode.{the_type as mode_type}
 use Rattle.std.specs.Prelude.{Option, None, Some, IfSome, IfNone}
 use Rattle.std.proofs.lemmas.Option.{IfSome_then}
 use Rattle.model.specs.declared.instruction.Profile.{Profile}
@@ -8,17 +10,23 @@ use Rattle.model.specs.declared.instruction.Profile.TheVariants.{N, C}
 use Rattle.model.specs.declared.instruction.Mnemonic.{Mnemonic}
 use Rattle.model.specs.declared.instruction.Mode.{Mode}
 use Rattle.model.specs.Table.{encoded, find_opcode, table, documented, added, row_at, find_row, IsRowOf}
-use Rattle.model.specs.Effect.{operation_of}
 use Rattle.table_laws.proofs.Encoding.{all_mnemonics, all_modes, same_at_each, row_of_encoded, encoded_of_row}
-use Rattle.optable.specs.Codes.{code_of, within}
+use Rattle.optable.specs.Codes.{within}
+use Rattle.optable.specs.declared.codes.TheConstants.{CODES}
 
-all_codes : (profile : Profile) → map (λ m. map (λ d. within profile (code_of (operation_of m) d)) all_modes) all_mnemonics ≡ map (λ m. map (encoded profile m) all_modes) all_mnemonics
-unfolding operation_of encoded find_opcode row_at find_row table documented added
+-- the opcode that the constant has for a mnemonic in a mode
+abbrev pub code_of : Mnemonic → Mode → Option ℕ
+code_of m d = get_or (get_or CODES (tag_of mnemonic_type m) []) (tag_of mode_type d) None
+
+all_codes : (profile : Profile)
+    → map (λ m. map (λ d. within profile (code_of m d)) all_modes) all_mnemonics
+    ≡ map (λ m. map (encoded profile m) all_modes) all_mnemonics
+unfolding encoded find_opcode row_at find_row table documented added
 all_codes N = refl
 all_codes C = refl
 
-pub code_is : (profile : Profile) (m : Mnemonic) (d : Mode) → within profile (code_of (operation_of m) d) ≡ encoded profile m d
-code_is profile = same_at_each (λ m d. within profile (code_of (operation_of m) d)) (encoded profile) (all_codes profile)
+pub code_is : (profile : Profile) (m : Mnemonic) (d : Mode) → within profile (code_of m d) ≡ encoded profile m d
+code_is profile = same_at_each (λ m d. within profile (code_of m d)) (encoded profile) (all_codes profile)
 
 -- what holds of the opcode of a mnemonic in a mode
 pub found : (profile : Profile) (m : Mnemonic) (d : Mode) (code : Option ℕ) → code ≡ encoded profile m d → IfSome code (λ opcode. IsRowOf m d (row_at profile opcode))

@@ -1,5 +1,5 @@
 -- Names of mnemonics looked up in the table.
-use Rattle.std.proofs.Common.{◌≡◌, ◌≢◌, ℕ, ◌+◌, ◌<◌, List, [], ◌∷◌, length, take, drop, get_or, Bool, true, false, refl, ap, sym, ◌∙◌, add-one, arith}
+use Rattle.std.proofs.Common.{◌≡◌, ◌≢◌, ℕ, ◌+◌, ◌<◌, List, [], ◌∷◌, length, map, take, drop, get_or, Bool, true, false, refl, ap, sym, ◌∙◌, add-one, arith}
 use Rattle.std.specs.Prelude.{Some, None}
 use Rattle.std.specs.Str.{bytes_eq, str_to_ascii_uppercase}
 use Rattle.std.specs.Char.{to_ascii_uppercase}
@@ -9,8 +9,12 @@ use Rattle.std.proofs.lemmas.Slice.Eq.{bytes_eq-Decides}
 use Rattle.model.specs.declared.instruction.Profile.{Profile}
 use Rattle.model.specs.declared.instruction.Profile.TheVariants.{N, C}
 use Rattle.model.specs.declared.instruction.Mnemonic.{Mnemonic}
+use Rattle.model.specs.declared.instruction.Mnemonic.TheVariants.{Adc}
+use Rattle.model.specs.contracts.instruction.Mnemonic.{the_type as mnemonic_type}
+use denote.Enum.Declared.{tag_of}
+use Rattle.model.specs.declared.instruction.Mode.TheVariants.{Imp}
 use Rattle.model.specs.Mnemonics.{mnemonic_named, named_among, mnemonic_text, mnemonics}
-use Rattle.table_laws.proofs.Encoding.{length-mnemonic_text}
+use Rattle.table_laws.proofs.Encoding.{all_mnemonics, all_modes, length-mnemonic_text, same_at_each}
 use Rattle.optable.specs.declared.names.TheConstants.{NAMES}
 use Rattle.optable.specs.Names.{looked_up}
 
@@ -22,6 +26,17 @@ looked_up_n text = refl
 pub looked_up_c : (text : List ℕ) → looked_up (str_to_ascii_uppercase text) NAMES ≡ mnemonic_named C text
 unfolding mnemonic_named named_among mnemonic_text mnemonics
 looked_up_c text = refl
+
+-- each mnemonic's letters stand at its place
+abbrev letters_in_table : Mnemonic → List ℕ
+letters_in_table m = (get_or NAMES (tag_of mnemonic_type m) ([], Adc)).0
+
+all_letters : map (λ m. map (λ d. letters_in_table m) all_modes) all_mnemonics ≡ map (λ m. map (λ d. mnemonic_text m) all_modes) all_mnemonics
+unfolding mnemonic_text
+all_letters = refl
+
+pub letters_at : (m : Mnemonic) → letters_in_table m ≡ mnemonic_text m
+letters_at m = same_at_each (λ n d. letters_in_table n) (λ n d. mnemonic_text n) all_letters m Imp
 
 -- ---- one name of the table
 

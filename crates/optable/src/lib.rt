@@ -7,7 +7,7 @@
 
 pub use codes::{encode, encode_in};
 pub use model::{Mnemonic, Mode, Operation, Profile, Row};
-pub use names::{mnemonic_in, mnemonic_of};
+pub use names::{letters_of, mnemonic_in, mnemonic_of};
 pub use operations::operation;
 pub use rows::{OpTable, decode, decode_in};
 

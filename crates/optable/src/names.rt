@@ -2,12 +2,12 @@
 
 ghost use Rattle.std.specs.Prelude.{◌≡◌, length};
 ghost use Rattle.std.specs.Str.{str_to_ascii_uppercase};
-ghost use Rattle.model.specs.Mnemonics.{mnemonic_named};
+ghost use Rattle.model.specs.Mnemonics.{mnemonic_named, mnemonic_text};
 ghost use Rattle.optable.specs.Names.{looked_up};
 
 use model::{Mnemonic, Profile};
 
-/// The letters of each mnemonic: first the documented ones, then those that profile C adds.
+/// The letters of each mnemonic, in the order of `Mnemonic`: first those of the documented instructions, then those that profile C adds.
 const NAMES: [([u8; 3], Mnemonic); 62] = [
     (*b"ADC", Mnemonic::Adc),
     (*b"AND", Mnemonic::And),
@@ -99,7 +99,16 @@ pub fn mnemonic_in(profile: Profile, text: &[u8]) -> Option<Mnemonic>
     look_up(names, capitals(text))
 }
 
-/// Returns three bytes with each small letter made a capital.
+/// Gives the three letters of a mnemonic, in capitals. (MCS6500 manual, appendix B; the last six are profile C's.)
+#[tactic(auto, using(crate::proofs::Naming::letters_at))]
+pub fn letters_of(mnemonic: Mnemonic) -> [u8; 3]
+    ensures { result ≡ mnemonic_text mnemonic }
+{
+    let names = &NAMES;
+    names[mnemonic as usize].0
+}
+
+/// Three bytes, each small letter a capital.
 #[tactic(auto, using(crate::proofs::Naming::capitals_is))]
 fn capitals(text: &[u8]) -> [u8; 3]
     requires { length text.now ≡ 3 }

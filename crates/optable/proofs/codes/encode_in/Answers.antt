@@ -1,6 +1,5 @@
-use Rattle.std.proofs.Common.{◌∙◌, ap}
+use Rattle.std.proofs.Common.{◌∙◌}
 use Rattle.table_laws.proofs.Encoding.{encoded_of_row}
-use Rattle.optable.specs.Codes.{code_of, within}
 use Rattle.optable.proofs.Encoding.{code_is, found, none}
 use Rattle.optable.proofs.codes.encode_in.Goals as goal
 
@@ -9,8 +8,7 @@ returns c =
     let p = c.args.profile in
     let m = c.args.mnemonic in
     let d = c.args.mode in
-    let code = c.code_of.ensures ∙ ap (λ operation. code_of operation d) c.operation.ensures in
-    let is = c.within.ensures ∙ ap (within p) code ∙ code_is p m d in
+    let is = c.within.ensures ∙ code_is p m d in
     record {
       code = is;
       found = found p m d c.within.result is;
