@@ -1,6 +1,7 @@
 //! Expressions and items among the tokens of a line.
 
-ghost use Rattle.std.specs.Prelude.{◌≡◌, ◌<◌, ◌≤◌, ◌-◌, IfOk, IfErr, List, None, Option, Some, drop, length, map, take, true};
+ghost use Rattle.std.specs.Prelude.{◌≡◌, ◌<◌, ◌≤◌, ◌-◌, IfOk, IfErr, List, None, Option, Some, drop};
+ghost use Rattle.std.specs.Prelude.{length, map, take, true};
 ghost use Rattle.model.specs.Expression.{Term};
 ghost use Rattle.model.specs.Line.{Item as SeenItem, item_of, list_within, whole_expression};
 ghost use Rattle.model.specs.Token.{Lexeme};
@@ -52,7 +53,7 @@ fn goes_on(tokens: &[Token<'_>]) -> Result<bool, LineFault>
     }
 }
 
-/// The bytes of a text without the first and the last.
+/// Returns the bytes of a text without the first and the last.
 fn inside(text: &[u8]) -> &[u8]
     ensures { result.now ≡ take (length text.now - 2) (drop 1 text.now) }
 {
@@ -71,9 +72,10 @@ pub trait Element<'a>: Sized + Drop {
     /// The element with which tokens begin, and the tokens after it.
     ghost element_of: { List Lexeme → Option (Seen × List Lexeme) };
 
-    /// The element with which some tokens begin, and how many tokens it is.
+    /// Returns the element with which some tokens begin, and its number of tokens.
     fn read(alloc: Global, tokens: &[Token<'a>]) -> Result<(Self, usize), LineFault>
-        ensures found { IfOk result (λ p. element_of (lexemes tokens.now) ≡ Some (seen_as p.0, drop p.1 (lexemes tokens.now))) }
+        ensures found { IfOk result (λ p. element_of (lexemes tokens.now)
+            ≡ Some (seen_as p.0, drop p.1 (lexemes tokens.now))) }
         ensures within { IfOk result (λ p. p.1 ≤ length tokens.now) }
         ensures syntax { IfErr result (λ f. f ≡ Syntax → element_of (lexemes tokens.now) ≡ None) };
 }
@@ -115,9 +117,10 @@ impl<'a> Element<'a> for Item<'a> {
     }
 }
 
-/// The elements, separated by commas, that some tokens are.
+/// Returns the elements, separated by commas, that some tokens are.
 pub fn list<'a, T: Element<'a>>(alloc: Global, tokens: &[Token<'a>]) -> Result<Vec<T>, LineFault>
-    ensures { Reads (λ found. map T.seen_as found.items) result (list_within T.element_of (length tokens.now) (lexemes tokens.now)) }
+    ensures { Reads (λ found. map T.seen_as found.items) result
+        (list_within T.element_of (length tokens.now) (lexemes tokens.now)) }
 {
     let mut found = Vec::new(alloc);
     let mut at = 0;

@@ -3,11 +3,17 @@
 ghost use Rattle.std.specs.Prelude.{◌≡◌, ◌+◌, ◌<◌, ◌≤◌, ◌^◌, ◌-◌, ◌∷◌, [], nat_lt, pos, length};
 ghost use Rattle.std.specs.Prelude.{map, IfErr, IfOk, OnOk, Ok, Some, Err};
 ghost use Rattle.line_parts.specs.Trees.{view};
-ghost use Rattle.emission.specs.Gathering.{Stores, added, gathered, item_pieces, line_gathered, noted, noted_all, nothing_gathered, refused, seen_encoded, seen_piece, value_pieces, word_bytes_in, word_piece_in};
+ghost use Rattle.emission.specs.Gathering.{Stores, added, gathered, item_pieces, line_gathered};
+ghost use Rattle.emission.specs.Gathering.{noted, noted_all, nothing_gathered, refused};
+ghost use Rattle.emission.specs.Gathering.{seen_encoded, seen_piece, value_pieces, word_bytes_in};
+ghost use Rattle.emission.specs.Gathering.{word_piece_in};
 ghost use Rattle.line_parts.specs.Kept.{placed_of};
 ghost use Rattle.line_parts.specs.Seen.{Gives, seen, seen_item};
 ghost use Rattle.line_parts.specs.Contents.{content_by, shown};
-ghost use Rattle.model.specs.Bytes.{item_piece, pieces_of, address_piece, after_opcode, branch_piece, byte_piece, distance_piece, has_bytes, has_port, kind_if, lower, lowest, modulo, operand_piece, place_kinds, within, zero_page_piece};
+ghost use Rattle.model.specs.Bytes.{item_piece, pieces_of, address_piece, after_opcode};
+ghost use Rattle.model.specs.Bytes.{branch_piece, byte_piece, distance_piece, has_bytes, has_port};
+ghost use Rattle.model.specs.Bytes.{kind_if, lower, lowest, modulo, operand_piece, place_kinds};
+ghost use Rattle.model.specs.Bytes.{within, zero_page_piece};
 ghost use Rattle.source_laws.specs.Judging.{put};
 ghost use Rattle.model.specs.Names.{number_in};
 ghost use Rattle.model.specs.Layout.{size_of};
@@ -42,7 +48,7 @@ pub enum ByteOrder {
     HighFirst,
 }
 
-/// The number that an expression on a line at an address gives under the numbers of all names, or its first fault.
+/// Returns the value of an expression on a line at an address, under all names, or its first fault.
 fn number_at(value: &Expr<'_>, names: &Symbols, here: u32) -> Result<i32, ExprFault>
     requires { here < 2 ^ 31 }
     ensures { result ≡ eval_of (number_in names.now) (pos here) (view value.now) }
@@ -80,7 +86,7 @@ fn byte_of(number: i32) -> Encoded
     Encoded::Byte(number.rem_euclid(256) as u8)
 }
 
-/// A number modulo 65536, its bytes in this order.
+/// Encodes a number modulo 65536, its bytes in this order.
 fn word_of(number: i32, order: ByteOrder) -> Encoded
     ensures { seen_encoded result ≡ word_bytes_in order (modulo number 65536) }
 {
@@ -110,7 +116,7 @@ fn zero_page(value: Result<i32, ExprFault>) -> Result<Encoded, AsmFaultKind>
     Ok(byte_of(number))
 }
 
-/// Two bytes in this order: -32768..65535.
+/// Encodes two bytes in this order: -32768..65535.
 fn word(value: Result<i32, ExprFault>, order: ByteOrder) -> Result<Encoded, AsmFaultKind>
     ensures { seen_piece result ≡ word_piece_in order value }
 {
@@ -329,7 +335,7 @@ impl Gathered {
         Ok(())
     }
 
-    /// The bytes of `.WORD` or `.DBYTE`, by the order of the bytes in a word.
+    /// Appends the bytes of `.WORD` or `.DBYTE`, by the order of the bytes in a word.
     fn add_words(
         &mut self,
         names: &Symbols,
@@ -338,7 +344,8 @@ impl Gathered {
         order: ByteOrder,
     ) -> Result<(), AllocError>
         requires { here < 2 ^ 31 - 510 }
-        ensures { OnOk result (self.new ≡ gathered self.old (value_pieces (word_piece_in order) (number_in names.now) here (map view values.now))) }
+        ensures { OnOk result (self.new ≡ gathered self.old
+            (value_pieces (word_piece_in order) (number_in names.now) here (map view values.now))) }
     {
         for value in values {
             self.add(word(number_at(value, names, here), order))?;
@@ -365,7 +372,7 @@ impl Gathered {
         }
     }
 
-    /// All pieces of a statement, an instruction by its opcode.
+    /// Appends all parts of a statement, an instruction by its opcode.
     #[tactic(auto, unfolding(model::specs::Bytes::pieces_of, model::specs::Bytes::word_piece, model::specs::Bytes::word_piece_high_first, crate::specs::Gathering::gathered))]
     fn add_statement(
         &mut self,

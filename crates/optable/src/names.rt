@@ -7,7 +7,8 @@ ghost use Rattle.optable.specs.Names.{looked_up};
 
 use model::{Mnemonic, Profile};
 
-/// The letters of each mnemonic, in the order of `Mnemonic`: first those of the documented instructions, then those that profile C adds.
+/// The letters of each mnemonic, in the order of `Mnemonic`: first those of the documented
+/// instructions, then those that profile C adds.
 const NAMES: [([u8; 3], Mnemonic); 62] = [
     (*b"ADC", Mnemonic::Adc),
     (*b"AND", Mnemonic::And),
@@ -99,7 +100,8 @@ pub fn mnemonic_in(profile: Profile, text: &[u8]) -> Option<Mnemonic>
     look_up(names, capitals(text))
 }
 
-/// Gives the three letters of a mnemonic, in capitals. (MCS6500 manual, appendix B; the last six are profile C's.)
+/// Returns the three letters of a mnemonic, in capitals. (MCS6500 manual, appendix B; the last six are
+/// profile C's.)
 #[tactic(auto, using(crate::proofs::Naming::letters_at))]
 pub fn letters_of(mnemonic: Mnemonic) -> [u8; 3]
     ensures { result ≡ mnemonic_text mnemonic }
