@@ -1,6 +1,6 @@
 //! A source assembled.
 
-ghost use Rattle.std.specs.Prelude.{◌≡◌, ◌⊎◌, ℕ, List, Option, Err, IfOk, IfErr, false, length, slice_get};
+ghost use Rattle.std.specs.Prelude.{◌≡◌, ◌<◌, ◌⊎◌, ℕ, List, Option, Err, IfOk, IfErr, false, length, slice_get};
 ghost use Rattle.assembler.specs.Assembly.{AnswersSource, IsImageOrMemory, listing_of, out_of_memory, seen_verdict, verdict};
 ghost use Rattle.model.specs.Layout.{Fixed, LaidOut, Placed, extents_of};
 ghost use Rattle.model.specs.Listing.{IsListing};
@@ -9,6 +9,7 @@ ghost use Rattle.model.specs.Source.{Denotes, HasFault, nothing_fixed, read_line
 ghost use Rattle.model.specs.Image.{IsImage};
 ghost use Rattle.model.specs.State.{has_port_byte};
 ghost use Rattle.model.specs.declared.source_fault.AsmFault.{AsmFault};
+ghost use Rattle.model.specs.declared.source_fault.AsmFaultKind.TheVariants.{TooLarge};
 ghost use Rattle.symbols.specs.Entries.{shown};
 
 use crate::first_pass::lay_out;
@@ -117,6 +118,8 @@ pub fn assemble(alloc: Global, source: &[u8], map: &MapSpec) -> Result<Assembly,
     ensures refused { IfErr result (λ f. (f ≡ out_of_memory) ⊎ HasFault map.now source.now f) }
     // A source with a fault is refused with it, memory aside.
     ensures faulty { (f : AsmFault) → HasFault map.now source.now f → (result ≡ Err f) ⊎ (result ≡ Err out_of_memory) }
+    // A source that is too large is refused for that, even where memory runs out.
+    ensures large { 1048576 < length source.now → result ≡ Err (record { line = 0; kind = TooLarge }) }
     // No byte stands at a port address, so a machine can load the image.
     ensures spared { IfOk result (λ a. has_port_byte map.now a.image ≡ false) }
     ensures cells { IfOk result (λ a. IsImage a.image) }
@@ -136,6 +139,7 @@ pub fn assemble(alloc: Global, source: &[u8], map: &MapSpec) -> Result<Assembly,
 /// The source laid out, and then its bytes put.
 fn assemble_lines(alloc: Global, source: &[u8], map: &MapSpec) -> Result<Assembly, AsmFault>
     ensures exact { AnswersSource seen_verdict result (verdict map.now source.now) }
+    ensures large { 1048576 < length source.now → result ≡ Err (record { line = 0; kind = TooLarge }) }
     ensures cells { IfOk result (λ a. IsImage a.image) }
     ensures kept { IfOk result (λ a. a.source ≡ source.now) }
     ensures spared { IfOk result (λ a. has_port_byte map.now a.image ≡ false) }
