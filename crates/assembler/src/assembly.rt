@@ -1,6 +1,6 @@
 //! A source assembled.
 
-ghost use Rattle.std.specs.Prelude.{◌≡◌, ◌⊎◌, ℕ, List, Option, Err, IfOk, IfErr, false, length};
+ghost use Rattle.std.specs.Prelude.{◌≡◌, ◌<◌, ◌⊎◌, ℕ, List, Option, Err, IfOk, IfErr, false, length};
 ghost use Rattle.std.specs.Prelude.{slice_get};
 ghost use Rattle.assembler.specs.Assembly.{AnswersSource, IsImageOrMemory, listing_of};
 ghost use Rattle.assembler.specs.Assembly.{out_of_memory, seen_verdict, verdict};
@@ -11,6 +11,7 @@ ghost use Rattle.model.specs.Source.{Denotes, HasFault, nothing_fixed, read_line
 ghost use Rattle.model.specs.Image.{IsImage};
 ghost use Rattle.model.specs.State.{has_port_byte};
 ghost use Rattle.model.specs.declared.source_fault.AsmFault.{AsmFault};
+ghost use Rattle.model.specs.declared.source_fault.AsmFaultKind.TheVariants.{TooLarge};
 ghost use Rattle.symbols.specs.Entries.{shown};
 
 use crate::first_pass::lay_out;
@@ -134,6 +135,9 @@ pub fn assemble(alloc: Global, source: &[u8], map: &MapSpec) -> Result<Assembly,
     // A source with a fault is rejected with it, unless memory runs out.
     ensures faulty { (f : AsmFault) → HasFault map.now source.now f
         → (result ≡ Err f) ⊎ (result ≡ Err out_of_memory) }
+    // A source that is too large is rejected for that, even if memory runs out.
+    ensures large { 1048576 < length source.now
+        → result ≡ Err (record { line = 0; kind = TooLarge }) }
     // No byte is at a port address, so a machine can load the image.
     ensures spared { IfOk result (λ a. has_port_byte map.now a.image ≡ false) }
     ensures cells { IfOk result (λ a. IsImage a.image) }
@@ -157,6 +161,7 @@ pub fn assemble(alloc: Global, source: &[u8], map: &MapSpec) -> Result<Assembly,
 /// Lays out the source, and then puts its bytes.
 fn assemble_lines(alloc: Global, source: &[u8], map: &MapSpec) -> Result<Assembly, AsmFault>
     ensures exact { AnswersSource seen_verdict result (verdict map.now source.now) }
+    ensures large { 1048576 < length source.now → result ≡ Err (record { line = 0; kind = TooLarge }) }
     ensures cells { IfOk result (λ a. IsImage a.image) }
     ensures kept { IfOk result (λ a. a.source ≡ source.now) }
     ensures spared { IfOk result (λ a. has_port_byte map.now a.image ≡ false) }

@@ -1,6 +1,6 @@
 //! The trail of a session, with the last steps of a run only counted: they are noted together, before anything else happens.
 
-ghost use Rattle.std.specs.Prelude.{◌≡◌, ◌+◌, ◌-◌, ◌*◌, ◌<◌, ◌≤◌, ◌++◌, ◌∷◌, ◌%◌, [], min, length, take, IfOk, ℕ, List, true, false};
+ghost use Rattle.std.specs.Prelude.{◌≡◌, ◌+◌, ◌-◌, ◌*◌, ◌<◌, ◌≤◌, ◌++◌, ◌∷◌, ◌%◌, [], min, length, take, IfOk, IfErr, ℕ, List, true, false};
 ghost use Rattle.model.specs.State.{State};
 ghost use Rattle.model.specs.Run.{after_steps};
 ghost use Rattle.model.specs.declared.event.Event.TheVariants.{Step};
@@ -56,6 +56,7 @@ pub fn begin(alloc: Global, machine: &Machine, history: u32) -> Result<Course, S
     ensures none { IfOk result (λ course. length course.events.items ≡ 0) }
     ensures states { IfOk result (λ course. held_states course.held course.kept.items course.events.items machine.now ≡ []) }
     ensures first { IfOk result (λ course. course.kept.items ≡ checkpoint_of machine.now ∷ []) }
+    ensures only { IfErr result (λ fault. fault ≡ SessionFault.OutOfMemory) }
 {
     match trail::begin(alloc, machine, history) {
         Ok(trail) => Ok(Course {

@@ -278,6 +278,7 @@ pub fn begin(alloc: Global, machine: &Machine, history: u32) -> Result<Trail, Se
     ensures none { IfOk result (λ trail. length trail.events.items ≡ 0) }
     ensures states { IfOk result (λ trail. held_states trail.held trail.kept.items trail.events.items machine.now ≡ []) }
     ensures first { IfOk result (λ trail. trail.kept.items ≡ checkpoint_of machine.now ∷ []) }
+    ensures only { IfErr result (λ fault. fault ≡ SessionFault.OutOfMemory) }
 {
     let size = history as usize / PART + 2;
     let Ok(events) = HeapCircularBuffer::with_capacity(alloc, history as usize + PART) else {
