@@ -1,12 +1,12 @@
 //! The bytes of a line in its place, or its value fault.
 
-ghost use Rattle.std.specs.Prelude.{◌≡◌, ◌+◌, ◌<◌, ◌≤◌, ◌^◌, ◌-◌, ◌∷◌, [], nat_lt, pos, length, map, IfErr, IfOk, OnOk, Ok, Some, Err};
+ghost use Rattle.std.specs.Prelude.{◌≡◌, ◌+◌, ◌<◌, ◌≤◌, ◌^◌, ◌-◌, ◌∷◌, [], nat_lt, pos, length, map, IfErr, IfOk, OnErr, OnOk, Ok, Some, Err};
 ghost use Rattle.line_parts.specs.Trees.{view};
 ghost use Rattle.emission.specs.Gathering.{Stores, added, gathered, item_pieces, line_gathered, noted, noted_all, nothing_gathered, refused, seen_encoded, seen_piece, value_pieces};
 ghost use Rattle.line_parts.specs.Kept.{placed_of};
 ghost use Rattle.line_parts.specs.Seen.{Gives, seen, seen_item};
 ghost use Rattle.line_parts.specs.Contents.{content_by, shown};
-ghost use Rattle.model.specs.Bytes.{item_piece, pieces_of, word_bytes_high_first, word_piece_high_first, address_piece, after_opcode, branch_piece, byte_piece, distance_piece, has_bytes, has_port, kind_if, lower, lowest, modulo, operand_piece, place_kinds, within, word_bytes, word_piece, zero_page_piece};
+ghost use Rattle.model.specs.Bytes.{item_piece, pieces_of, word_bytes_high_first, word_piece_high_first, address_piece, after_opcode, branch_piece, byte_piece, distance_piece, has_bytes, has_port, kind_if, lower, lowest, modulo, operand_piece, place_kinds, value_fault, within, word_bytes, word_piece, zero_page_piece};
 ghost use Rattle.source_laws.specs.Judging.{put};
 ghost use Rattle.model.specs.Names.{number_in};
 ghost use Rattle.model.specs.Layout.{size_of};
@@ -526,7 +526,22 @@ pub fn bytes_alone(
     }
 }
 
-/// Puts the bytes of a line into an image, or answers its value fault.
+/// The value fault of a line after the lines that make an image, the lowest kind of all, if it has one. Its bytes are gathered, and
+/// not put. The only error is that a request for memory was refused.
+pub fn value_fault(
+    gathered: &mut Gathered,
+    map: &MapSpec,
+    image: &Image,
+    names: &Symbols,
+    line: &Kept<'_>,
+) -> Result<Option<AsmFaultKind>, AllocError>
+    ensures { IfOk result (λ kind. kind ≡ value_fault map.now (number_in names.now) image.now (placed_of line.now)) }
+{
+    gather(gathered, map, image, names, line)?;
+    Ok(gathered.kind())
+}
+
+/// Puts the bytes of a line into an image, or answers its value fault and leaves the image as it was.
 pub fn put_line(
     gathered: &mut Gathered,
     map: &MapSpec,
@@ -534,7 +549,8 @@ pub fn put_line(
     names: &Symbols,
     line: &Kept<'_>,
 ) -> Result<(), LineError>
-    ensures { Stores result image.new (put map.now (number_in names.now) image.old (placed_of line.now)) }
+    ensures exact { Stores result image.new (put map.now (number_in names.now) image.old (placed_of line.now)) }
+    ensures same { OnErr result (image.new ≡ image.old) }
 {
     gather(gathered, map, image, names, line)?;
     match gathered.kind() {
