@@ -1,7 +1,7 @@
 //! The bytes of a line in its place, or its value fault.
 
 ghost use Rattle.std.specs.Prelude.{◌≡◌, ◌+◌, ◌<◌, ◌≤◌, ◌^◌, ◌-◌, ◌∷◌, [], nat_lt, pos, length};
-ghost use Rattle.std.specs.Prelude.{map, IfErr, IfOk, OnOk, Ok, Some, Err};
+ghost use Rattle.std.specs.Prelude.{map, IfErr, IfOk, OnErr, OnOk, Ok, Some, Err};
 ghost use Rattle.line_parts.specs.Trees.{view};
 ghost use Rattle.emission.specs.Gathering.{Stores, added, gathered, item_pieces, line_gathered};
 ghost use Rattle.emission.specs.Gathering.{noted, noted_all, nothing_gathered, refused};
@@ -13,7 +13,7 @@ ghost use Rattle.line_parts.specs.Contents.{content_by, shown};
 ghost use Rattle.model.specs.Bytes.{item_piece, pieces_of, address_piece, after_opcode};
 ghost use Rattle.model.specs.Bytes.{branch_piece, byte_piece, distance_piece, has_bytes, has_port};
 ghost use Rattle.model.specs.Bytes.{kind_if, lower, lowest, modulo, operand_piece, place_kinds};
-ghost use Rattle.model.specs.Bytes.{within, zero_page_piece};
+ghost use Rattle.model.specs.Bytes.{value_fault, within, zero_page_piece};
 ghost use Rattle.source_laws.specs.Judging.{put};
 ghost use Rattle.model.specs.Names.{number_in};
 ghost use Rattle.model.specs.Layout.{size_of};
@@ -528,7 +528,26 @@ pub fn bytes_alone(
     }
 }
 
-/// Puts the bytes of a line into an image, or returns its value fault.
+/// Returns the value fault of a line after the lines that make an image, if it has one: the lowest
+/// kind of all. The image stays as it is.
+///
+/// Errors: `AllocError` if an allocation fails.
+pub fn value_fault(
+    gathered: &mut Gathered,
+    map: &MapSpec,
+    image: &Image,
+    names: &Symbols,
+    line: &Kept<'_>,
+) -> Result<Option<AsmFaultKind>, AllocError>
+    ensures { IfOk result
+        (λ kind. kind ≡ value_fault map.now (number_in names.now) image.now (placed_of line.now)) }
+{
+    gather(gathered, map, image, names, line)?;
+    Ok(gathered.kind())
+}
+
+/// Puts the bytes of a line into an image. If the line has a value fault, returns that fault and leaves
+/// the image as it was.
 pub fn put_line(
     gathered: &mut Gathered,
     map: &MapSpec,
@@ -536,8 +555,9 @@ pub fn put_line(
     names: &Symbols,
     line: &Kept<'_>,
 ) -> Result<(), LineError>
-    ensures { Stores result image.new
+    ensures exact { Stores result image.new
         (put map.now (number_in names.now) image.old (placed_of line.now)) }
+    ensures same { OnErr result (image.new ≡ image.old) }
 {
     gather(gathered, map, image, names, line)?;
     match gathered.kind() {

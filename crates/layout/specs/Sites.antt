@@ -53,6 +53,12 @@ Fixes profile address l (Ok site) names given
 Fixes profile address l (Err errors.Memory) names given = ⊤
 Fixes profile address l (Err (errors.Kind kind)) names given = given ≡ Err kind
 
+-- The names that are left after a line with a fault.
+abbrev pub Leaves : Result Site LineError → Definitions → Definitions → Type 0
+Leaves (Ok site) names given = ⊤
+Leaves (Err errors.Memory) names given = ⊤
+Leaves (Err (errors.Kind kind)) names given = names ≡ given
+
 -- The result, unless memory ran out.
 abbrev pub unlocated : {A : Type 0} → Result A LineError → Option (Result A AsmFaultKind)
 unlocated (Ok a) = Some (Ok a)

@@ -4,8 +4,9 @@ ghost use Rattle.std.specs.Prelude.{◌≡◌, ◌+◌, ◌-◌, ◌<◌, ◌≤
 ghost use Rattle.line_parts.specs.Seen.{seen, seen_line};
 ghost use Rattle.line_parts.specs.FewBytes.{IsSmall, IsSmallLine};
 ghost use Rattle.line_parts.specs.Contents.{line_content};
-ghost use Rattle.layout.specs.Sites.{Fixes, unlocated};
+ghost use Rattle.layout.specs.Sites.{Fixes, Leaves, unlocated};
 ghost use Rattle.line_parts.specs.Trees.{view};
+ghost use Rattle.model.specs.AllFaults.{names_left};
 ghost use Rattle.model.specs.Names.{number_in};
 ghost use Rattle.model.specs.Line.{definition, labelled};
 ghost use Rattle.model.specs.Layout.{line_fixed, or_too_many, size_of, unless_full};
@@ -54,7 +55,7 @@ fn unless_full(full: bool, laid: Result<Site, AsmFaultKind>) -> Result<Site, Lin
 }
 
 /// Defines a new label at its line's address, and places the line.
-#[tactic(auto, unfolding(model::specs::Layout::line_fixed))]
+#[tactic(auto, unfolding(model::specs::Layout::line_fixed, model::specs::AllFaults::names_left))]
 fn fix_label(
     alloc: Global,
     profile: Profile,
@@ -70,6 +71,9 @@ fn fix_label(
         symbols.new
         (line_fixed (record { profile = profile; address = address; names = symbols.old })
         (labelled (Some name.now) (seen statement.now))) }
+    ensures left { Leaves result symbols.new
+        (names_left (record { profile = profile; address = address; names = symbols.old })
+        (labelled (Some name.now) (seen statement.now))) }
     ensures near { IfOk result (λ s. s.next ≤ max (address + 510) 65536) }
     ensures small { IfOk result (λ s. s.count ≤ 510) }
     ensures sized { IfOk result (λ s. s.count
@@ -81,7 +85,7 @@ fn fix_label(
 }
 
 /// Defines a new name.
-#[tactic(auto, unfolding(model::specs::Layout::line_fixed, model::specs::Layout::size_of))]
+#[tactic(auto, unfolding(model::specs::Layout::line_fixed, model::specs::Layout::size_of, model::specs::AllFaults::names_left))]
 fn fix_definition(
     alloc: Global,
     profile: Profile,
@@ -94,6 +98,9 @@ fn fix_definition(
     requires fresh { number_in symbols.old name.now ≡ None }
     ensures exact { Fixes profile address (definition name.now (view value.now)) result symbols.new
         (line_fixed (record { profile = profile; address = address; names = symbols.old })
+        (definition name.now (view value.now))) }
+    ensures left { Leaves result symbols.new
+        (names_left (record { profile = profile; address = address; names = symbols.old })
         (definition name.now (view value.now))) }
     ensures near { IfOk result (λ s. s.next ≤ max (address + 510) 65536) }
     ensures small { IfOk result (λ s. s.count ≤ 510) }
@@ -121,7 +128,7 @@ fn fix_definition(
 /// Defines a line's name, and returns where the line is after those before it.
 ///
 /// Errors: `Kind` with the line's layout fault; `Memory` if an allocation fails.
-#[tactic(auto, unfolding(model::specs::Layout::line_fixed))]
+#[tactic(auto, unfolding(model::specs::Layout::line_fixed, model::specs::AllFaults::names_left))]
 pub fn fix(
     alloc: Global,
     profile: Profile,
@@ -133,6 +140,10 @@ pub fn fix(
     requires small { IsSmallLine (seen_line line.now) }
     ensures exact { Fixes profile address (seen_line line.now) result symbols.new
         (line_fixed (record { profile = profile; address = address; names = symbols.old })
+        (seen_line line.now)) }
+    // After a fault its label is defined, unless an earlier line defines it, and nothing else.
+    ensures left { Leaves result symbols.new
+        (names_left (record { profile = profile; address = address; names = symbols.old })
         (seen_line line.now)) }
     ensures near { IfOk result (λ s. s.next ≤ max (address + 510) 65536) }
     ensures small { IfOk result (λ s. s.count ≤ 510) }

@@ -27,6 +27,7 @@ pub mod Layout
 pub mod Bytes
 pub mod Source
 pub mod OneLine
+pub mod AllFaults
 pub mod Commands
 pub mod Text
 pub mod Instruction

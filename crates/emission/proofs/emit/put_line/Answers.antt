@@ -5,8 +5,8 @@ use Rattle.emission.proofs.Gathers.{put_right, put_faulty}
 use Rattle.emission.proofs.BytesFitSize.{line_room}
 use Rattle.emission.proofs.emit.put_line.Goals as goal
 
-pub returns-in-Some : goal.returns-in-Some
-returns-in-Some c =
+pub returns-in-Some-clause-exact : goal.returns-in-Some-clause-exact
+returns-in-Some-clause-exact c =
     put_faulty c.args.map.now (number_in c.args.names.now) c.args.image.now (placed_of c.args.line.now) c.gather.new.gathered c.in-Some.kind c.in_ok-gather.ensures
     (sym c.kind.ensures ∙ c.in-Some.is)
 
@@ -15,7 +15,7 @@ store-requires c =
     rw c.bytes.ensures (line_room c.args.map.now (number_in c.args.names.now) c.args.image.now (placed_of c.args.line.now) c.gather.new.gathered c.in_ok-gather.ensures
     (sym c.kind.ensures ∙ c.in-None.is))
 
-pub returns-in-None : goal.returns-in-None
-returns-in-None c =
+pub returns-in-None-clause-exact : goal.returns-in-None-clause-exact
+returns-in-None-clause-exact c =
     rw (c.store.ensures, c.bytes.ensures) (put_right c.args.map.now (number_in c.args.names.now) c.args.image.now (placed_of c.args.line.now) c.gather.new.gathered c.in_ok-gather.ensures
     (sym c.kind.ensures ∙ c.in-None.is))

@@ -1,0 +1,4 @@
+pub mod FirstFault
+pub mod LayoutOfLines
+pub mod ValuesOfLines
+pub mod Telling

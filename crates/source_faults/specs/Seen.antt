@@ -1,0 +1,69 @@
+-- The crate's values, seen as the definitions see them.
+use Rattle.std.specs.Prelude.{◌≡◌, ℕ, ⊤, Bool, true, false, List, map, Some, None, Option, Result, Ok, Err}
+use Rattle.std.specs.declared.alloc.AllocError.{AllocError}
+use Rattle.model.specs.declared.instruction.Profile.{Profile}
+use Rattle.model.specs.declared.source_fault.AsmFaultKind.{AsmFaultKind}
+use Rattle.model.specs.AllFaults as all
+use Rattle.model.specs.AllFaults.{fixed_after, found_line}
+use Rattle.model.specs.Layout.{Fixed, layout_of, no_bytes}
+use Rattle.model.specs.Line.{Line, labelled, definition, read_line}
+use Rattle.model.specs.Names.{Definitions}
+use Rattle.model.specs.Source.{is_end, is_finish}
+use Rattle.line_parts.specs.Kept.{placed_of}
+use Rattle.source_faults.specs.declared.found.Found.{Found}
+use Rattle.source_faults.specs.declared.found.Found.TheVariants.{Refused, Plain, Bytes}
+use Rattle.source_faults.specs.declared.judging.Judged.{Judged}
+use Rattle.source_faults.specs.declared.judging.Made.{Made}
+use Rattle.source_faults.specs.declared.laying.Laid.{Laid}
+use Rattle.source_faults.specs.declared.mending.Mending.{Mending}
+use Rattle.source_faults.specs.declared.mending.Mending.TheVariants as mendings
+use Rattle.source_faults.specs.declared.told.Part.{Part}
+use Rattle.source_faults.specs.declared.told.Part.TheVariants as parts
+
+abbrev pub mending_of : Mending → all.Mending
+mending_of mendings.Smallest = all.smallest
+mending_of mendings.Largest = all.largest
+
+abbrev pub refused_at : ℕ → AsmFaultKind → all.Found
+refused_at address kind = record { kind = Some kind; place = record { address = address; content = no_bytes }; begins = false }
+
+abbrev pub seen_found : Found → all.Found
+seen_found (Refused address kind) = refused_at address kind
+seen_found (Plain address begins) = record { kind = None; place = record { address = address; content = no_bytes }; begins = begins }
+seen_found (Bytes k) = record { kind = None; place = placed_of k; begins = false }
+
+abbrev pub ends_line : Line → Bool
+ends_line (labelled label s) = is_finish s
+ends_line (definition name e) = false
+
+abbrev pub before_line : Profile → ℕ → Definitions → Fixed
+before_line profile address names = record { profile = profile; address = address; names = names }
+
+-- A line is laid out or mended, which leaves these names.
+pub record LaysLine (m : all.Mending) (profile : Profile) (address : ℕ) (names : Definitions) (text : List ℕ) (laid : Laid) (left : Definitions) : Type 0 where
+  pub found : seen_found laid.found ≡ found_line (before_line profile address names) text (layout_of (before_line profile address names) text)
+  pub fixed : fixed_after m (before_line profile address names) text (layout_of (before_line profile address names) text) ≡ before_line profile laid.next left
+  pub end : laid.ended ≡ is_end (read_line profile text)
+
+abbrev pub Lays : all.Mending → Profile → ℕ → Definitions → List ℕ → Result Laid AllocError → Definitions → Type 0
+Lays m profile address names text (Ok laid) left = LaysLine m profile address names text laid left
+Lays m profile address names text (Err e) left = ⊤
+
+abbrev pub found_all : List Found → List all.Found
+found_all found = map seen_found found
+
+abbrev pub made_of : List (Option ℕ) → Bool → all.Made
+made_of image moved = record { image = image; moved = moved }
+
+abbrev pub seen_made : Made → all.Made
+seen_made made = record { image = made.image; moved = made.moved }
+
+abbrev pub seen_judged : Judged → all.Judged
+seen_judged j = record { address = j.address; layout = j.layout; value = j.value }
+
+abbrev pub seen_all : List Judged → List all.Judged
+seen_all js = map seen_judged js
+
+abbrev pub rule_of : Part → all.Judged → all.Judged → Option AsmFaultKind
+rule_of parts.Layout = all.layout_told
+rule_of parts.Values = all.value_told

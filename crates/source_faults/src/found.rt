@@ -1,0 +1,71 @@
+//! What is found of a line by the layout.
+
+ghost use Rattle.std.specs.Prelude.{◌≡◌, ◌<◌, ◌≤◌, ◌-◌, ◌^◌, None, IfNone, IfSome, false};
+ghost use Rattle.line_parts.specs.Contents.{content_by, line_content};
+ghost use Rattle.line_parts.specs.Seen.{seen, seen_line};
+ghost use Rattle.model.specs.AllFaults.{begins_line, is_origin};
+ghost use Rattle.model.specs.Layout.{no_bytes, size_of};
+ghost use Rattle.source_faults.specs.Seen.{seen_found};
+
+use layout::Site;
+use line_parts::{Code, Kept, Line, Statement};
+use model::AsmFaultKind;
+
+/// What is found of a line.
+#[derive(Drop)]
+pub enum Found<'a> {
+    /// It has a layout fault.
+    Refused { address: u32, kind: AsmFaultKind },
+    /// It has no bytes; whether it is a `*=`.
+    Plain { address: u32, begins: bool },
+    /// It denotes bytes.
+    Bytes(Kept<'a>),
+}
+
+/// Whether a statement is a `*=`, if it denotes no bytes; nothing if it does, an instruction by its opcode.
+fn without_bytes(code: Option<Code>, statement: &Statement<'_>) -> Option<bool>
+    ensures plain { IfSome result (λ begins. content_by code (seen statement.now) ≡ no_bytes) }
+    ensures begins { IfSome result (λ begins. is_origin (seen statement.now) ≡ begins) }
+    ensures bytes { IfNone result (is_origin (seen statement.now) ≡ false) }
+{
+    match statement {
+        Statement::Origin(_) => Some(true),
+        Statement::Nothing | Statement::Reserve(_) | Statement::Finish => Some(false),
+        Statement::Bytes(_) | Statement::Words(_) | Statement::WordsHighFirst(_) => None,
+        Statement::Instruction(_, _) => match code {
+            Some(_) => None,
+            None => Some(false),
+        },
+    }
+}
+
+/// What is found of a line that has no layout fault.
+pub fn found_at<'a>(number: u32, address: u32, line: Line<'a>, site: Site) -> Found<'a>
+    requires near { address < 2 ^ 31 - 510 }
+    requires small { site.count ≤ 510 }
+    requires sized { site.count ≡ size_of (line_content site.code (seen_line line)) }
+    ensures { seen_found result ≡ record { kind = None; place = record { address = address; content = line_content site.code (seen_line line.entry) }; begins = begins_line (seen_line line.entry) } }
+{
+    match line {
+        Line::Labelled(_, statement) => match without_bytes(site.code, &statement) {
+            Some(begins) => {
+                drop(statement);
+                Found::Plain { address, begins }
+            }
+            None => Found::Bytes(Kept {
+                number,
+                address,
+                count: site.count,
+                code: site.code,
+                statement,
+            }),
+        },
+        Line::Definition(_, value) => {
+            drop(value);
+            Found::Plain {
+                address,
+                begins: false,
+            }
+        }
+    }
+}
