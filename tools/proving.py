@@ -65,21 +65,25 @@ class Crate:
         self.below = [*dict.fromkeys(it for use in uses for it in [*use.below, use])]
         self.folder = f"{TOP}/crates/{name}"
         self.is_program = os.path.isfile(f"{self.folder}/src/main.rt")
+        self.is_archive = "staticlib" in row.partition(":")[0].split()
 
     def has_tests(self):
         files = (file for file in files_of(f"{self.folder}/src") if file.endswith(".rt"))
         return any(re.search(rb"#\s*\[[^]]*\btest\b", read(it)) for it in files)
 
     def program(self):
-        return f"{self.folder}/out/{self.name}"
+        """The file that is built: the program, or the archive that C links."""
+        return f"{self.folder}/out/" + (f"lib{self.name}.a" if self.is_archive else self.name)
 
     def mark(self):
         """The file that keeps what out/ was proved from. rt removes it with an out/rlib that is old."""
-        return f"{self.program()}.proved" if self.is_program else f"{self.folder}/out/rlib/proved"
+        is_file = self.is_program or self.is_archive
+        return f"{self.program()}.proved" if is_file else f"{self.folder}/out/rlib/proved"
 
     def proof(self):
         """What the mark holds once the crate is proved, and built."""
-        is_built = self.is_program and os.path.isfile(self.program())
+        is_file = self.is_program or self.is_archive
+        is_built = is_file and os.path.isfile(self.program())
         return self.sum + (hashlib.sha256(read(self.program())).hexdigest() if is_built else "")
 
     def is_proved(self):

@@ -1,7 +1,7 @@
 //! A session.
 
 ghost use Rattle.std.specs.Prelude.{◌≡◌, ◌≢◌, ◌+◌, ◌-◌, ◌<◌, ◌≤◌, ◌⊎◌, ◌++◌, ◌∷◌, [], true, false, length, take, slice_get, slice_index, OnOk, IfOk, IfErr, IsErrOf, IsOk, Ok, Err};
-ghost use Rattle.model.specs.State.{has_port_byte, IsState, State};
+ghost use Rattle.model.specs.State.{has_port_byte, is_port, IsState, State};
 ghost use Rattle.model.specs.Event.{event_of, start};
 ghost use Rattle.model.specs.Undo.{CanRestore, restored, Undoes};
 ghost use Rattle.model.specs.Session.{appended, fresh};
@@ -311,6 +311,13 @@ impl Session {
         ensures { result ≡ self.now.current.bus.map.profile }
     {
         self.machine.profile()
+    }
+
+    /// Whether an address is one of the port's four.
+    pub fn is_port(&self, address: u16) -> bool
+        ensures { result ≡ is_port self.now.current.bus.map address }
+    {
+        self.machine.is_port(address)
     }
 
     /// The registers of the current state.

@@ -1,0 +1,2 @@
+mod Refused
+mod Shown

@@ -1,0 +1,9 @@
+use Rattle.mos65_c.proofs.Refused.{not_refused, tape_told}
+use Rattle.mos65_c.proofs.opening.mos65_open_tape.Goals as goal
+
+pub returns-in-Ok-clause-faulty : goal.returns-in-Ok-clause-faulty
+returns-in-Ok-clause-faulty c kind offset closed h = absurd (not_refused c.in-Ok.image _ _ (c.in-Ok.ensures.refused kind offset h))
+
+pub returns-in-Err-clause-faulty : goal.returns-in-Err-clause-faulty
+returns-in-Err-clause-faulty c kind offset closed h =
+    tape_told c.in-Err.refusal kind offset c.number.result c.number.ensures (c.in-Err.ensures.refused kind offset h)

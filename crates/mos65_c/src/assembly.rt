@@ -1,0 +1,105 @@
+//! Sources assembled.
+
+ghost use Rattle.std.specs.Prelude.{◌≡◌, ◌≢◌, ◌+◌, ◌⊎◌, length, None, Some, false, min, take, true};
+ghost use Rattle.assembler.specs.Assembly.{Assembled, listing_of};
+ghost use Rattle.model.specs.FaultNames.{source_fault_number};
+ghost use Rattle.model.specs.Source.{HasFault};
+ghost use Rattle.model.specs.declared.source_fault.AsmFault.{AsmFault};
+ghost use Rattle.mos65_c.specs.Answers.{IsAssembly};
+ghost use Rattle.mos65_c.specs.Status.{config_map, config_status};
+
+use crate::config::{Config, map_of};
+use crate::machine::{CLOSED, MISUSE, Mos65Assembly, OUT_OF_MEMORY};
+use crate::names::Fault;
+use assembler::assemble;
+use slot::AssemblySlot;
+use std::alloc::Global;
+
+/// Assembles a source for a configuration's map; where the source is refused, its fault and its line are told.
+#[unsafe(no_mangle)]
+pub extern "C" fn mos65_assemble(
+    alloc: Global,
+    assembly: &mut Mos65Assembly,
+    config: &Config,
+    source: &[u8],
+    fault: &mut Fault,
+) -> u32
+    ensures assembled { result ≡ 0 → (x : Assembled) × (assembly.new.slot.assembly ≡ Some x) × IsAssembly (config_map config.now) source.now x }
+    ensures same { result ≢ 0 → assembly.new.slot.assembly ≡ assembly.old.slot.assembly }
+    ensures busy { assembly.old.live ≡ true → result ≡ 2 }
+    ensures config { assembly.old.live ≡ false → config_status config.now ≢ 0 → result ≡ config_status config.now }
+    ensures faulty { (f : AsmFault) → assembly.old.live ≡ false → config_status config.now ≡ 0 → HasFault (config_map config.now) source.now f → ((result ≡ 300 + source_fault_number f.kind) × (fault.new.line ≡ f.line)) ⊎ (result ≡ 399) }
+{
+    *fault = Fault::none();
+    if assembly.live {
+        return MISUSE;
+    }
+    let map = match map_of(config) {
+        Ok(map) => map,
+        Err(status) => return status,
+    };
+    match assemble(alloc, source, &map) {
+        Ok(made) => match Box::new(alloc, made) {
+            Ok(boxed) => {
+                *assembly = Mos65Assembly {
+                    slot: AssemblySlot::of(boxed),
+                    live: true,
+                };
+                0
+            }
+            Err(_) => OUT_OF_MEMORY,
+        },
+        Err(refusal) => {
+            let status = 300 + refusal.kind.number() as u32;
+            *fault = Fault {
+                status,
+                line: refusal.line,
+                offset: 0,
+            };
+            status
+        }
+    }
+}
+
+/// Writes the beginning of the listing for which `out` has room, and tells how long the whole listing is.
+#[unsafe(no_mangle)]
+pub extern "C" fn mos65_listing(
+    alloc: Global,
+    assembly: &mut Mos65Assembly,
+    out: &mut [u8],
+    count: &mut usize,
+) -> u32
+    ensures written { (x : Assembled) → assembly.old.slot.assembly ≡ Some x → result ≡ 0 → (count.new ≡ length (listing_of x)) × (take (min (length out.old) (length (listing_of x))) out.new ≡ take (length out.old) (listing_of x)) }
+    ensures gone { assembly.old.slot.assembly ≡ None → result ≡ 1 }
+    ensures same { assembly.new.slot.assembly ≡ assembly.old.slot.assembly }
+{
+    if !assembly.live {
+        return CLOSED;
+    }
+    let Ok(text) = assembly.slot.inside().listing(alloc) else {
+        return OUT_OF_MEMORY;
+    };
+    *count = text.len();
+    let shown = text.len().min(out.len());
+    out[..shown].copy_from_slice(&text[..shown]);
+    0
+}
+
+/// Closes an assembly and frees what it held.
+#[unsafe(no_mangle)]
+pub extern "C" fn mos65_assembly_close(alloc: Global, assembly: &mut Mos65Assembly) -> u32
+    ensures closed { assembly.new.slot.assembly ≡ None }
+    ensures live { assembly.old.live ≡ true → result ≡ 0 }
+    ensures gone { assembly.old.live ≡ false → result ≡ 1 }
+{
+    let empty = Mos65Assembly {
+        slot: AssemblySlot::empty(alloc),
+        live: false,
+    };
+    let Mos65Assembly { slot, live } = std::mem::replace(assembly, empty);
+    if !live {
+        return CLOSED;
+    }
+    drop(slot.into_box());
+    0
+}

@@ -1,0 +1,3 @@
+pub mod AssemblyBox
+pub mod Present
+pub mod SessionBox

@@ -1,0 +1,22 @@
+-- The slot and its parts own what a box at the same types owns.
+use mir.Syntax.{impl, tnil, dnil}
+use mathlib.Core.List.{[]}
+use denote.RattleType.{RattleType}
+use denote.Signature.{Slot, plain}
+use Rattle.std_alloc.proofs.BoxSteps.Form.{Bx}
+use Rattle.std_heap.specs.contracts.Global as Heap
+use Rattle.std_heap.specs.contracts.GlobalAllocator.TheImpl.{ghosts, dict}
+use Rattle.std_heap.proofs.Global.TheLaws as heap
+use Rattle.debugger.specs.contracts.session.Session as Session
+use Rattle.debugger.proofs.session.Session.TheLaws as session
+use Rattle.slot.specs.contracts.parts.Parts as Parts
+use Rattle.slot.specs.contracts.session.SessionSlot as SessionSlot
+
+abbrev pub E : Bx
+E = record { row = Session.the_row; laws = session.the_row_laws; al = record { row = Heap.the_row; laws = heap.the_row_laws; g = ghosts; d = dict; drops = impl [] tnil dnil } }
+
+abbrev pub FromParts : Slot 0
+FromParts = plain (λ _. Parts.the_row Session.the_row Heap.the_row ghosts)
+
+abbrev pub FromSlot : Slot 0
+FromSlot = plain (λ _. SessionSlot.the_row)

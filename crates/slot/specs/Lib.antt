@@ -1,0 +1,4 @@
+pub mod AssemblyFollows
+pub mod AssemblyOwned
+pub mod SessionFollows
+pub mod SessionOwned

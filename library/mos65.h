@@ -1,0 +1,238 @@
+/* mos65.h: an NMOS 6502 with a history of its whole states, for programs and test rigs in C and C++.
+ *
+ * A call answers a status: MOS65_OK, which is 0, or why it was refused. A refused call changes nothing.
+ * A machine and an assembly are variables of the caller, MOS65_INIT before they are opened and again after
+ * they are closed:
+ *
+ *     mos65_config_t config = MOS65_CONFIG;
+ *     mos65_assembly_t routine = MOS65_INIT;
+ *     mos65_t m = MOS65_INIT;
+ *     mos65_fault_t fault;
+ *     mos65_ending_t end;
+ *     if (mos65_assemble(&routine, &config, source, length, &fault) != MOS65_OK) ...
+ *     if (mos65_open(&m, &config, &routine) != MOS65_OK) ...
+ *     mos65_call(&m, 0x0200, 1000, &end);
+ *     mos65_close(&m);
+ *     mos65_assembly_close(&routine);
+ *
+ * The library has no globals, starts no thread, opens no file, prints nothing and never ends the process.
+ * It is proved; what it is called with is not, so a caller upholds these:
+ *
+ * - A mos65_t or a mos65_assembly_t is not copied, and nothing but these calls changes its fields.
+ * - It stays on the thread that opened it, and has one call at a time.
+ * - No pointer is NULL, also where its length is 0, and two pointers of one call do not overlap.
+ * - malloc, realloc and free are of one allocator. No call is made from a signal handler, or from the forked
+ *   child of a process with threads.
+ */
+#ifndef MOS65_H
+#define MOS65_H
+#include <stdbool.h>
+#include <stddef.h>
+#include <stdint.h>
+#ifdef __cplusplus
+extern "C" {
+#endif
+
+#define MOS65_VERSION "0.1.0"
+#define MOS65_VERSION_NUMBER 100 /* 10,000 for each major version, 100 for each minor one */
+
+/* Statuses. From 100 on, status % 100 is the fault's number as the program prints it. */
+enum {
+    MOS65_OK = 0,
+    MOS65_CLOSED = 1,       /* no machine or no assembly is open here */
+    MOS65_MISUSE = 2,       /* one is open already, or an argument is out of its range */
+    MOS65_OUT_OF_MEMORY = 3,
+    MOS65_NO_SUCH_NAME = 4,
+    /* 100: an event is refused */
+    MOS65_CYCLES_FULL = 101, MOS65_UNDOCUMENTED = 102, MOS65_CONSOLE_FULL = 103, MOS65_PAST_END = 104,
+    MOS65_PORT_ADDRESS = 105, MOS65_BAD_LENGTH = 106, MOS65_INPUT_FULL = 107,
+    /* 200: a call of the session is refused */
+    MOS65_NO_HISTORY = 201, MOS65_TABLE_FULL = 202, MOS65_ALREADY_SET = 203, MOS65_NOT_SET = 204,
+    MOS65_SESSION_PORT_ADDRESS = 205, MOS65_SESSION_OUT_OF_MEMORY = 206,
+    /* 300: a source is refused, at the fault's line */
+    MOS65_SOURCE_TOO_LARGE = 301, MOS65_SOURCE_LINE_TOO_LONG = 302, MOS65_SOURCE_NOT_ASCII = 303,
+    MOS65_SOURCE_SYNTAX = 304, MOS65_SOURCE_RESERVED_NAME = 305, MOS65_SOURCE_DUPLICATE_NAME = 306,
+    MOS65_SOURCE_UNKNOWN_HERE = 307, MOS65_SOURCE_NO_SUCH_FORM = 308, MOS65_SOURCE_TOO_MANY_NAMES = 309,
+    MOS65_SOURCE_ORIGIN_RANGE = 310, MOS65_SOURCE_EXPR_RANGE = 311, MOS65_SOURCE_DIVIDE_BY_ZERO = 312,
+    MOS65_SOURCE_UNDEFINED_NAME = 320, MOS65_SOURCE_BYTE_RANGE = 321, MOS65_SOURCE_WORD_RANGE = 322,
+    MOS65_SOURCE_BRANCH_RANGE = 323, MOS65_SOURCE_PAST_END = 324, MOS65_SOURCE_OVERLAP = 325,
+    MOS65_SOURCE_PORT_ADDRESS = 326, MOS65_SOURCE_VALUE_EXPR_RANGE = 327,
+    MOS65_SOURCE_VALUE_DIVIDE_BY_ZERO = 328, MOS65_SOURCE_OUT_OF_MEMORY = 399,
+    /* 400: a tape is refused, at the fault's offset */
+    MOS65_TAPE_NO_RECORD = 401, MOS65_TAPE_BAD_HEX = 402, MOS65_TAPE_BAD_CHECKSUM = 403,
+    MOS65_TAPE_PAST_END = 404, MOS65_TAPE_TRUNCATED = 405, MOS65_TAPE_BAD_COUNT = 406,
+    MOS65_TAPE_JUNK_AFTER_END = 407, MOS65_TAPE_JUNK_BETWEEN = 408, MOS65_TAPE_OUT_OF_MEMORY = 409,
+    /* 500: the configuration is refused */
+    MOS65_BAD_MAP = 501
+};
+
+/* Registers, for mos65_set. */
+enum { MOS65_A = 0, MOS65_X = 1, MOS65_Y = 2, MOS65_S = 3, MOS65_P = 4, MOS65_PC = 5 };
+
+/* Why a run ended. */
+enum { MOS65_LIMIT = 0, MOS65_BREAK = 1, MOS65_WATCH = 2, MOS65_REFUSED = 3 };
+
+#define MOS65_RETURN 0xFFFF  /* where a call ends at its RTS: MOS65_BREAK at this address */
+#define MOS65_CALL_EVENTS 4  /* how many events a call makes before its first step */
+
+typedef struct mos65 { void *opaque; bool live; } mos65_t;                   /* a machine, or none */
+typedef struct mos65_assembly { void *opaque; bool live; } mos65_assembly_t; /* an assembly, or none */
+#define MOS65_INIT {0, false}
+
+typedef struct mos65_config {
+    uint32_t history;             /* how many events are held: 0 to 65,536 */
+    uint16_t port;                /* the port's base: a multiple of 4 in $0200..$FFF4 */
+    uint16_t rom_first, rom_last; /* the ROM's first and last address, where has_rom is true */
+    bool has_rom;
+    uint8_t profile;              /* 'N' or 'C' */
+} mos65_config_t;
+#define MOS65_CONFIG {1024, 0xF000, 0, 0, false, 'N'}
+
+typedef struct mos65_fault {
+    uint32_t status; /* the status that was answered, where it is above 300 and below 500; else 0 */
+    uint32_t line;   /* of a source, counted from 1; else 0 */
+    uint64_t offset; /* of a tape, in bytes counted from 0; else 0 */
+} mos65_fault_t;
+
+typedef struct mos65_registers {
+    uint64_t cycles;          /* since the start, whose reset took 7 */
+    uint16_t pc;
+    uint8_t a, x, y, s, p;    /* P with bit 5 set and B clear */
+} mos65_registers_t;
+
+typedef struct mos65_ending {
+    uint32_t did;     /* how many steps were made */
+    uint32_t why;     /* MOS65_LIMIT, MOS65_BREAK, MOS65_WATCH or MOS65_REFUSED */
+    uint32_t status;  /* where a step is refused: its status; else 0 */
+    uint16_t address; /* the breakpoint, the watch, or where the undocumented opcode stands; else 0 */
+    uint8_t opcode;   /* the undocumented opcode; else 0 */
+} mos65_ending_t;
+
+/* The library's version as a number, to be compared with MOS65_VERSION_NUMBER. */
+uint32_t mos65_version_number(void);
+
+/* ---- sources ---- */
+
+/* Assembles n bytes of source. MISUSE where the assembly is open; then MISUSE or BAD_MAP for the
+   configuration; then 300 + the fault's number, with its line in *fault. */
+int mos65_assemble(mos65_assembly_t *, const mos65_config_t *, const uint8_t *source, size_t n,
+                   mos65_fault_t *fault);
+/* Puts the number of a name into *value. NO_SUCH_NAME where the source defines none such. */
+int mos65_symbol(mos65_assembly_t *, const uint8_t *name, size_t n, int32_t *value);
+/* Puts the number of names into *count. */
+int mos65_symbol_count(mos65_assembly_t *, size_t *count);
+/* Puts the name at an index, in order of definition, into name[0..*length), and its number into *value.
+   NO_SUCH_NAME from the count on; MISUSE where n is below the name's length, at most 31. */
+int mos65_symbol_at(mos65_assembly_t *, size_t index, uint8_t *name, size_t n, size_t *length,
+                    int32_t *value);
+/* Puts the listing's first n bytes, or all of it, into out, and its whole length into *length. */
+int mos65_listing(mos65_assembly_t *, uint8_t *out, size_t n, size_t *length);
+/* Frees an assembly. CLOSED where none is open. A machine that was opened with it goes on. */
+int mos65_assembly_close(mos65_assembly_t *);
+
+/* ---- machines opened and closed ---- */
+
+/* Opens a machine that starts with the assembly's image. MISUSE where the machine is open; CLOSED where the
+   assembly is not; MISUSE or BAD_MAP for the configuration; SESSION_PORT_ADDRESS where the image has a byte
+   at the port. */
+int mos65_open(mos65_t *, const mos65_config_t *, mos65_assembly_t *);
+/* The same with the image of a tape of n bytes; 400 + the fault's number, with its offset in *fault. */
+int mos65_open_tape(mos65_t *, const mos65_config_t *, const uint8_t *tape, size_t n, mos65_fault_t *fault);
+/* The same with n bytes from an address on; MISUSE where they go past $FFFF. */
+int mos65_open_bytes(mos65_t *, const mos65_config_t *, uint16_t address, const uint8_t *bytes, size_t n);
+/* Frees a machine. CLOSED where none is open. */
+int mos65_close(mos65_t *);
+
+/* ---- events: each that is accepted can be gone back over ---- */
+
+/* One instruction or interrupt entry. UNDOCUMENTED, CONSOLE_FULL or CYCLES_FULL. */
+int mos65_step(mos65_t *);
+/* A reset. CYCLES_FULL. */
+int mos65_reset(mos65_t *);
+/* The IRQ line, true for the level that asks for an interrupt. */
+int mos65_irq(mos65_t *, bool level);
+/* An NMI, pending until it is taken. */
+int mos65_nmi(mos65_t *);
+/* A register's value. MISUSE for another register, or above 255 where it is not PC. */
+int mos65_set(mos65_t *, uint32_t reg, uint16_t value);
+/* One to three bytes of memory, in ROM too. BAD_LENGTH, PAST_END, PORT_ADDRESS. */
+int mos65_patch(mos65_t *, uint16_t address, const uint8_t *bytes, size_t n);
+/* A byte of input. INPUT_FULL. */
+int mos65_input(mos65_t *, uint8_t byte);
+
+/* ---- runs, calls, and going back ---- */
+
+/* Steps up to a limit: to the first that changes a watched byte, leads to a breakpoint, or is refused. */
+int mos65_run(mos65_t *, uint32_t limit, mos65_ending_t *);
+/* The same, and stops at an address too. TABLE_FULL where 256 other breakpoints are set. */
+int mos65_run_to(mos65_t *, uint16_t address, uint32_t limit, mos65_ending_t *);
+/* Calls a subroutine as a JSR at $FFFC would, and runs to its RTS: MOS65_BREAK at MOS65_RETURN, and the
+   stack pointer is what it was. The JSR's own 6 cycles are not counted. did + MOS65_CALL_EVENTS events. */
+int mos65_call(mos65_t *, uint16_t address, uint32_t limit, mos65_ending_t *);
+/* Goes back over the last count events. NO_HISTORY where fewer are held. */
+int mos65_back(mos65_t *, uint32_t count);
+/* Puts into *count how many events can be gone back over. */
+int mos65_held(mos65_t *, uint32_t *count);
+/* Breakpoints and watches, at most 256 of each. ALREADY_SET, TABLE_FULL, SESSION_PORT_ADDRESS for a watch;
+   NOT_SET. */
+int mos65_break(mos65_t *, uint16_t address);
+int mos65_unbreak(mos65_t *, uint16_t address);
+int mos65_watch(mos65_t *, uint16_t address);
+int mos65_unwatch(mos65_t *, uint16_t address);
+
+/* ---- looking: nothing is changed ---- */
+
+int mos65_registers(mos65_t *, mos65_registers_t *);
+/* n bytes of memory from an address on; 0 at the port. PAST_END where they go past $FFFF. */
+int mos65_read(mos65_t *, uint16_t address, uint8_t *out, size_t n);
+/* How many bytes the console's output has, and n of them from an index on. MISUSE where it has fewer. */
+int mos65_output_length(mos65_t *, uint32_t *count);
+int mos65_output(mos65_t *, uint32_t from, uint8_t *out, size_t n);
+/* The instruction at an address as text with zero bytes after it, and its bytes of memory in *count.
+   MISUSE where n is below 13. */
+int mos65_disassemble(mos65_t *, uint16_t address, uint8_t *out, size_t n, uint32_t *count);
+
+/* Any number of bytes of memory, as one patch for each three. PAST_END, and nothing is made; PORT_ADDRESS at
+   the first patch that meets the port, and those before it were made. */
+static inline int mos65_write(mos65_t *m, uint16_t address, const uint8_t *bytes, size_t n) {
+    if (n > 65536u - address) return m->live ? MOS65_PAST_END : MOS65_CLOSED;
+    for (size_t done = 0; done < n; done += 3) {
+        size_t left = n - done;
+        int status = mos65_patch(m, (uint16_t)(address + done), bytes + done, left < 3 ? left : 3);
+        if (status != MOS65_OK) return status;
+    }
+    return m->live ? MOS65_OK : MOS65_CLOSED;
+}
+
+/* A status's name, as the program prints it. */
+static inline const char *mos65_status_name(int status) {
+    static const char *const own[] = {"Ok", "Closed", "Misuse", "OutOfMemory", "NoSuchName"};
+    static const char *const event[] = {"", "CyclesFull", "Undocumented", "ConsoleFull", "PastEnd",
+        "PortAddress", "BadLength", "InputFull"};
+    static const char *const session[] = {"", "NoHistory", "TableFull", "AlreadySet", "NotSet",
+        "PortAddress", "OutOfMemory"};
+    static const char *const source[] = {"", "TooLarge", "LineTooLong", "NotAscii", "Syntax",
+        "ReservedName", "DuplicateName", "UnknownHere", "NoSuchForm", "TooManyNames", "OriginRange",
+        "ExprRange", "DivideByZero", "NotOneLine", "", "", "", "", "", "", "UndefinedName", "ByteRange",
+        "WordRange", "BranchRange", "PastEnd", "Overlap", "PortAddress", "ExprRange", "DivideByZero"};
+    static const char *const tape[] = {"", "NoRecord", "BadHex", "BadChecksum", "PastEnd", "Truncated",
+        "BadCount", "JunkAfterEnd", "JunkBetween", "OutOfMemory"};
+    unsigned number = (unsigned)status % 100;
+#define MOS65_NAME_IN(table) (number < sizeof table / sizeof *table ? table[number] : "")
+    if (status == MOS65_SOURCE_OUT_OF_MEMORY) return "OutOfMemory";
+    if (status == MOS65_BAD_MAP) return "BadMap";
+    switch (status / 100) {
+    case 0: return MOS65_NAME_IN(own);
+    case 1: return MOS65_NAME_IN(event);
+    case 2: return MOS65_NAME_IN(session);
+    case 3: return MOS65_NAME_IN(source);
+    case 4: return MOS65_NAME_IN(tape);
+    default: return "";
+    }
+#undef MOS65_NAME_IN
+}
+
+#ifdef __cplusplus
+}
+#endif
+#endif

@@ -1,0 +1,186 @@
+/* Calls each function of mos65.h once at least, and checks what it answers. Expected values: 200 times 123 is 24600 ($6018); cycles are
+ * counted by hand from the table of the MCS6500 manual. */
+#include "mos65.h"
+#include <stdio.h>
+#include <string.h>
+
+_Static_assert(sizeof(mos65_t) == 16 && sizeof(mos65_assembly_t) == 16, "variables");
+_Static_assert(sizeof(mos65_config_t) == 12 && sizeof(mos65_fault_t) == 16, "configuration and fault");
+_Static_assert(sizeof(mos65_registers_t) == 16 && sizeof(mos65_ending_t) == 16, "registers and ending");
+_Static_assert(offsetof(mos65_config_t, has_rom) == 10 && offsetof(mos65_config_t, profile) == 11, "fields");
+_Static_assert(offsetof(mos65_ending_t, address) == 12 && offsetof(mos65_ending_t, opcode) == 14, "fields");
+
+static int passed, failed;
+#define CHECK(x) ((x) ? (void)passed++ : (void)(failed++, printf("FAILED: line %d: %s\n", __LINE__, #x)))
+
+static const char source[] =
+    "*=$0200\n"
+    "multiply: LDA #0\n"
+    "        LDX #8\n"
+    "next:   LSR $10\n"
+    "        BCC shift\n"
+    "        CLC\n"
+    "        ADC $11\n"
+    "shift:  ROR A\n"
+    "        ROR $12\n"
+    "        DEX\n"
+    "        BNE next\n"
+    "        STA $13\n"
+    "        RTS\n"
+    "times10: STA $10\n"
+    "        ASL A\n"
+    "        ASL A\n"
+    "        CLC\n"
+    "        ADC $10\n"
+    "        ASL A\n"
+    "        RTS\n"
+    "hello:  LDA #72\n"
+    "        STA $F000\n"
+    "        LDA $F001\n"
+    "        STA $F000\n"
+    "        BRK\n"
+    "*=$FFFC\n"
+    ".WORD hello\n";
+
+static int32_t number_of(mos65_assembly_t *a, const char *name) {
+    int32_t value = -1;
+    CHECK(mos65_symbol(a, (const uint8_t *)name, strlen(name), &value) == MOS65_OK);
+    return value;
+}
+
+static void sources(mos65_assembly_t *a, const mos65_config_t *config) {
+    mos65_fault_t fault = {9, 9, 9};
+    mos65_config_t wrong = MOS65_CONFIG;
+    uint8_t name[32], text[4096];
+    size_t n = 0;
+    int32_t value = -1;
+    CHECK(mos65_symbol(a, (const uint8_t *)"x", 1, &value) == MOS65_CLOSED);
+    CHECK(mos65_symbol_count(a, &n) == MOS65_CLOSED && mos65_listing(a, text, sizeof text, &n) == MOS65_CLOSED);
+    CHECK(mos65_assembly_close(a) == MOS65_CLOSED);
+    CHECK(mos65_assemble(a, config, (const uint8_t *)"a1 = 1\na1 = 2\n", 14, &fault) == MOS65_SOURCE_DUPLICATE_NAME);
+    CHECK(fault.status == MOS65_SOURCE_DUPLICATE_NAME && fault.line == 2 && fault.offset == 0 && !a->live);
+    wrong.port = 0xF001;
+    CHECK(mos65_assemble(a, &wrong, (const uint8_t *)"", 0, &fault) == MOS65_BAD_MAP && fault.status == 0);
+    wrong = (mos65_config_t)MOS65_CONFIG, wrong.profile = 'X';
+    CHECK(mos65_assemble(a, &wrong, (const uint8_t *)"", 0, &fault) == MOS65_MISUSE);
+    wrong = (mos65_config_t)MOS65_CONFIG, wrong.history = 65537;
+    CHECK(mos65_assemble(a, &wrong, (const uint8_t *)"", 0, &fault) == MOS65_MISUSE);
+    CHECK(mos65_assemble(a, config, (const uint8_t *)source, sizeof source - 1, &fault) == MOS65_OK);
+    CHECK(a->live && fault.status == 0);
+    CHECK(mos65_assemble(a, config, (const uint8_t *)source, sizeof source - 1, &fault) == MOS65_MISUSE);
+    CHECK(mos65_symbol_count(a, &n) == MOS65_OK && n == 5);
+    CHECK(mos65_symbol_at(a, 0, name, sizeof name, &n, &value) == MOS65_OK);
+    CHECK(n == 8 && memcmp(name, "multiply", 8) == 0 && value == 0x0200);
+    CHECK(mos65_symbol_at(a, 0, name, 7, &n, &value) == MOS65_MISUSE);
+    CHECK(mos65_symbol_at(a, 5, name, sizeof name, &n, &value) == MOS65_NO_SUCH_NAME);
+    CHECK(mos65_symbol(a, (const uint8_t *)"gone", 4, &value) == MOS65_NO_SUCH_NAME && value == 0x0200);
+    CHECK(mos65_listing(a, text, sizeof text, &n) == MOS65_OK && n > 500 && n < sizeof text);
+    CHECK(memcmp(text, "0000            *=$0200\n", 24) == 0);
+    CHECK(mos65_listing(a, text, 0, &n) == MOS65_OK && n > 500);
+}
+
+static void calls(mos65_t *m, mos65_assembly_t *a) {
+    mos65_registers_t before, after;
+    mos65_ending_t end;
+    uint8_t got[4];
+    uint32_t held = 0;
+    static const uint8_t operands[] = {200, 123};
+    CHECK(mos65_write(m, 0x10, operands, 2) == MOS65_OK);
+    CHECK(mos65_registers(m, &before) == MOS65_OK && before.cycles == 7 && before.s == 0xFD && before.p == 0x24);
+    CHECK(mos65_call(m, (uint16_t)number_of(a, "multiply"), 1000, &end) == MOS65_OK);
+    CHECK(end.why == MOS65_BREAK && end.address == MOS65_RETURN && end.did == 58 && end.status == 0);
+    CHECK(mos65_read(m, 0x12, got, 2) == MOS65_OK && got[0] == 0x18 && got[1] == 0x60);
+    CHECK(mos65_registers(m, &after) == MOS65_OK && after.s == 0xFD && after.pc == MOS65_RETURN && after.a == 0x60);
+    CHECK(mos65_held(m, &held) == MOS65_OK && held == 1 + MOS65_CALL_EVENTS + 58);
+    CHECK(mos65_back(m, end.did + MOS65_CALL_EVENTS) == MOS65_OK);
+    CHECK(mos65_registers(m, &after) == MOS65_OK && memcmp(&before, &after, sizeof before) == 0);
+    CHECK(mos65_back(m, 2) == MOS65_NO_HISTORY);
+    CHECK(mos65_set(m, MOS65_A, 7) == MOS65_OK);
+    CHECK(mos65_call(m, (uint16_t)number_of(a, "times10"), 1000, &end) == MOS65_OK && end.did == 7);
+    /* STA zp 3, ASL A 2, ASL A 2, CLC 2, ADC zp 3, ASL A 2, RTS 6 */
+    CHECK(mos65_registers(m, &after) == MOS65_OK && after.a == 70 && after.cycles - before.cycles == 20);
+    CHECK(mos65_call(m, (uint16_t)number_of(a, "times10"), 3, &end) == MOS65_OK && end.why == MOS65_LIMIT && end.did == 3);
+    CHECK(mos65_run_to(m, MOS65_RETURN, 1000, &end) == MOS65_OK && end.why == MOS65_BREAK && end.did == 4);
+    CHECK(mos65_unbreak(m, MOS65_RETURN) == MOS65_NOT_SET);
+}
+
+static void runs(mos65_t *m, mos65_assembly_t *a) {
+    uint16_t hello = (uint16_t)number_of(a, "hello");
+    mos65_registers_t r;
+    mos65_ending_t end;
+    uint8_t text[13], out[2];
+    uint32_t n = 0;
+    CHECK(mos65_set(m, MOS65_PC, hello) == MOS65_OK && mos65_step(m) == MOS65_OK);
+    CHECK(mos65_disassemble(m, hello + 2, text, sizeof text, &n) == MOS65_OK && n == 3 && strcmp((char *)text, "STA $F000") == 0);
+    CHECK(mos65_disassemble(m, hello, text, 12, &n) == MOS65_MISUSE);
+    CHECK(mos65_input(m, 'i') == MOS65_OK && mos65_break(m, hello + 11) == MOS65_OK);
+    CHECK(mos65_break(m, hello + 11) == MOS65_ALREADY_SET);
+    CHECK(mos65_run(m, 100, &end) == MOS65_OK && end.why == MOS65_BREAK && end.did == 3 && end.address == hello + 11);
+    CHECK(mos65_output_length(m, &n) == MOS65_OK && n == 2);
+    CHECK(mos65_output(m, 0, out, 2) == MOS65_OK && memcmp(out, "Hi", 2) == 0);
+    CHECK(mos65_output(m, 1, out, 2) == MOS65_MISUSE);
+    CHECK(mos65_unbreak(m, hello + 11) == MOS65_OK);
+    CHECK(mos65_watch(m, 0xF000) == MOS65_SESSION_PORT_ADDRESS && mos65_watch(m, 0x01FD) == MOS65_OK);
+    CHECK(mos65_run(m, 1, &end) == MOS65_OK && end.why == MOS65_WATCH && end.address == 0x01FD);
+    CHECK(mos65_unwatch(m, 0x01FD) == MOS65_OK && mos65_unwatch(m, 0x01FD) == MOS65_NOT_SET);
+    CHECK(mos65_patch(m, 0x0300, (const uint8_t *)"\x02", 1) == MOS65_OK && mos65_set(m, MOS65_PC, 0x0300) == MOS65_OK);
+    CHECK(mos65_step(m) == MOS65_UNDOCUMENTED);
+    CHECK(mos65_run(m, 9, &end) == MOS65_OK && end.why == MOS65_REFUSED && end.status == MOS65_UNDOCUMENTED);
+    CHECK(end.did == 0 && end.opcode == 2 && end.address == 0x0300);
+    CHECK(mos65_patch(m, 0xF003, out, 1) == MOS65_PORT_ADDRESS && mos65_patch(m, 0xFFFE, text, 3) == MOS65_PAST_END);
+    CHECK(mos65_patch(m, 0, out, 0) == MOS65_BAD_LENGTH && mos65_patch(m, 0, text, 4) == MOS65_BAD_LENGTH);
+    CHECK(mos65_read(m, 0xFFFF, out, 2) == MOS65_PAST_END && mos65_write(m, 0xFFFF, out, 2) == MOS65_PAST_END);
+    CHECK(mos65_set(m, MOS65_A, 256) == MOS65_MISUSE && mos65_set(m, 6, 0) == MOS65_MISUSE);
+    CHECK(mos65_irq(m, true) == MOS65_OK && mos65_irq(m, false) == MOS65_OK && mos65_nmi(m) == MOS65_OK);
+    CHECK(mos65_reset(m) == MOS65_OK && mos65_registers(m, &r) == MOS65_OK && r.pc == hello);
+}
+
+static void closed(mos65_t *m) {
+    mos65_registers_t r;
+    mos65_ending_t end;
+    uint8_t out[13];
+    uint32_t n;
+    CHECK(mos65_step(m) == MOS65_CLOSED && mos65_reset(m) == MOS65_CLOSED && mos65_irq(m, true) == MOS65_CLOSED);
+    CHECK(mos65_nmi(m) == MOS65_CLOSED && mos65_set(m, MOS65_A, 1) == MOS65_CLOSED && mos65_input(m, 1) == MOS65_CLOSED);
+    CHECK(mos65_patch(m, 0, out, 1) == MOS65_CLOSED && mos65_write(m, 0, out, 1) == MOS65_CLOSED);
+    CHECK(mos65_run(m, 1, &end) == MOS65_CLOSED && mos65_run_to(m, 1, 1, &end) == MOS65_CLOSED);
+    CHECK(mos65_call(m, 1, 1, &end) == MOS65_CLOSED && mos65_back(m, 0) == MOS65_CLOSED && mos65_held(m, &n) == MOS65_CLOSED);
+    CHECK(mos65_break(m, 1) == MOS65_CLOSED && mos65_unbreak(m, 1) == MOS65_CLOSED);
+    CHECK(mos65_watch(m, 1) == MOS65_CLOSED && mos65_unwatch(m, 1) == MOS65_CLOSED);
+    CHECK(mos65_registers(m, &r) == MOS65_CLOSED && mos65_read(m, 0, out, 1) == MOS65_CLOSED);
+    CHECK(mos65_output_length(m, &n) == MOS65_CLOSED && mos65_output(m, 0, out, 1) == MOS65_CLOSED);
+    CHECK(mos65_disassemble(m, 0, out, sizeof out, &n) == MOS65_CLOSED && mos65_close(m) == MOS65_CLOSED);
+}
+
+int main(void) {
+    mos65_config_t config = MOS65_CONFIG, rom = {16, 0xF000, 0x8000, 0x8FFF, true, 'C'};
+    mos65_assembly_t a = MOS65_INIT;
+    mos65_t m = MOS65_INIT, other = MOS65_INIT;
+    mos65_fault_t fault;
+    static const uint8_t tape[] = ";0000010001\r\n", right[] = ";060200A9418D00F000026F\r\n;0000010001\r\n";
+    uint8_t byte = 0;
+    CHECK(mos65_version_number() == MOS65_VERSION_NUMBER);
+    CHECK(strcmp(mos65_status_name(MOS65_SOURCE_VALUE_DIVIDE_BY_ZERO), "DivideByZero") == 0);
+    CHECK(strcmp(mos65_status_name(MOS65_OUT_OF_MEMORY), "OutOfMemory") == 0 && *mos65_status_name(999) == 0);
+    closed(&m);
+    CHECK(mos65_open(&m, &config, &a) == MOS65_CLOSED);
+    sources(&a, &config);
+    CHECK(mos65_open(&m, &config, &a) == MOS65_OK && m.live && mos65_open(&m, &config, &a) == MOS65_MISUSE);
+    calls(&m, &a);
+    runs(&m, &a);
+    CHECK(mos65_open_bytes(&other, &rom, 0x8000, (const uint8_t *)"\x1A", 1) == MOS65_OK);
+    /* $1A is INC A in profile C, and no opcode in profile N. */
+    CHECK(mos65_set(&other, MOS65_PC, 0x8000) == MOS65_OK && mos65_step(&other) == MOS65_OK);
+    CHECK(mos65_read(&other, 0x8000, &byte, 1) == MOS65_OK && byte == 0x1A && mos65_close(&other) == MOS65_OK);
+    CHECK(mos65_open_bytes(&other, &config, 0xF000, &byte, 1) == MOS65_SESSION_PORT_ADDRESS && !other.live);
+    CHECK(mos65_open_bytes(&other, &config, 0xFFFF, (const uint8_t *)"ab", 2) == MOS65_MISUSE);
+    CHECK(mos65_open_tape(&other, &config, (const uint8_t *)"x", 1, &fault) == MOS65_TAPE_JUNK_BETWEEN && fault.offset == 0);
+    CHECK(mos65_open_tape(&other, &config, tape, 11, &fault) == MOS65_TAPE_BAD_COUNT && fault.status == MOS65_TAPE_BAD_COUNT);
+    CHECK(mos65_open_tape(&other, &config, right, sizeof right - 1, &fault) == MOS65_OK && fault.status == 0);
+    CHECK(mos65_read(&other, 0x0200, &byte, 1) == MOS65_OK && byte == 0xA9 && mos65_close(&other) == MOS65_OK);
+    CHECK(mos65_close(&m) == MOS65_OK && !m.live && m.opaque == NULL);
+    closed(&m);
+    CHECK(mos65_assembly_close(&a) == MOS65_OK && mos65_assembly_close(&a) == MOS65_CLOSED);
+    printf("%d passed, %d failed\n", passed, failed);
+    return failed != 0;
+}

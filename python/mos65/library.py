@@ -1,0 +1,305 @@
+"""A machine by the library `libmos65.so`, through ctypes."""
+
+from __future__ import annotations
+
+import ctypes
+import ctypes.util
+import os
+import shutil
+from typing import Dict, Optional, Tuple
+
+from .faults import (
+    AssemblyFault,
+    Closed,
+    EventFault,
+    Fault,
+    MapFault,
+    NoSuchName,
+    Refused,
+    SessionFault,
+    TapeFault,
+)
+from .values import Registers, RunEnd, Why
+
+VERSION_NUMBER = 100
+
+_OWN = {1: (Closed, "Closed"), 2: (Refused, "Misuse"), 3: (Fault, "OutOfMemory"), 4: (NoSuchName, "NoSuchName")}
+_NAMES = {
+    1: "CyclesFull Undocumented ConsoleFull PastEnd PortAddress BadLength InputFull",
+    2: "NoHistory TableFull AlreadySet NotSet PortAddress OutOfMemory",
+    3: "TooLarge LineTooLong NotAscii Syntax ReservedName DuplicateName UnknownHere NoSuchForm TooManyNames"
+    " OriginRange ExprRange DivideByZero NotOneLine - - - - - - UndefinedName ByteRange WordRange BranchRange"
+    " PastEnd Overlap PortAddress ExprRange DivideByZero",
+    4: "NoRecord BadHex BadChecksum PastEnd Truncated BadCount JunkAfterEnd JunkBetween OutOfMemory",
+    5: "BadMap",
+}
+_CLASSES = {1: EventFault, 2: SessionFault, 3: AssemblyFault, 4: TapeFault, 5: MapFault}
+_WHY = (Why.LIMIT, Why.BREAK, Why.WATCH, Why.REFUSED)
+_REGISTERS = {"A": 0, "X": 1, "Y": 2, "S": 3, "P": 4, "PC": 5}
+
+
+class _Slot(ctypes.Structure):
+    _fields_ = [("opaque", ctypes.c_void_p), ("live", ctypes.c_bool)]
+
+
+class _Config(ctypes.Structure):
+    _fields_ = [
+        ("history", ctypes.c_uint32),
+        ("port", ctypes.c_uint16),
+        ("rom_first", ctypes.c_uint16),
+        ("rom_last", ctypes.c_uint16),
+        ("has_rom", ctypes.c_bool),
+        ("profile", ctypes.c_uint8),
+    ]
+
+
+class _Fault(ctypes.Structure):
+    _fields_ = [("status", ctypes.c_uint32), ("line", ctypes.c_uint32), ("offset", ctypes.c_uint64)]
+
+
+class _Registers(ctypes.Structure):
+    _fields_ = [
+        ("cycles", ctypes.c_uint64),
+        ("pc", ctypes.c_uint16),
+        ("a", ctypes.c_uint8),
+        ("x", ctypes.c_uint8),
+        ("y", ctypes.c_uint8),
+        ("s", ctypes.c_uint8),
+        ("p", ctypes.c_uint8),
+    ]
+
+
+class _Ending(ctypes.Structure):
+    _fields_ = [
+        ("did", ctypes.c_uint32),
+        ("why", ctypes.c_uint32),
+        ("status", ctypes.c_uint32),
+        ("address", ctypes.c_uint16),
+        ("opcode", ctypes.c_uint8),
+    ]
+
+
+_P = ctypes.POINTER
+_M, _BYTES, _N = _P(_Slot), ctypes.c_char_p, ctypes.c_size_t
+_U8, _U16, _U32 = ctypes.c_uint8, ctypes.c_uint16, ctypes.c_uint32
+_CALLS = {
+    "version_number": [],
+    "assemble": [_M, _P(_Config), _BYTES, _N, _P(_Fault)],
+    "symbol": [_M, _BYTES, _N, _P(ctypes.c_int32)],
+    "listing": [_M, _BYTES, _N, _P(_N)],
+    "assembly_close": [_M],
+    "open": [_M, _P(_Config), _M],
+    "open_tape": [_M, _P(_Config), _BYTES, _N, _P(_Fault)],
+    "close": [_M],
+    "step": [_M],
+    "reset": [_M],
+    "irq": [_M, ctypes.c_bool],
+    "nmi": [_M],
+    "set": [_M, _U32, _U16],
+    "patch": [_M, _U16, _BYTES, _N],
+    "input": [_M, _U8],
+    "run": [_M, _U32, _P(_Ending)],
+    "run_to": [_M, _U16, _U32, _P(_Ending)],
+    "call": [_M, _U16, _U32, _P(_Ending)],
+    "back": [_M, _U32],
+    "held": [_M, _P(_U32)],
+    "break": [_M, _U16],
+    "unbreak": [_M, _U16],
+    "watch": [_M, _U16],
+    "unwatch": [_M, _U16],
+    "registers": [_M, _P(_Registers)],
+    "read": [_M, _U16, _BYTES, _N],
+    "output_length": [_M, _P(_U32)],
+    "output": [_M, _U32, _BYTES, _N],
+    "disassemble": [_M, _U16, _BYTES, _N, _P(_U32)],
+}
+
+
+def find_library(library: Optional[str] = None) -> Optional[str]:
+    """The library's file: the one that is given, that of MOS65_LIBRARY, the one in `lib` beside the program's folder, or the
+    system's. None where there is none."""
+    found = library or os.environ.get("MOS65_LIBRARY")
+    if found:
+        return found
+    program = shutil.which("mos65")
+    if program:
+        above = os.path.dirname(os.path.dirname(os.path.realpath(program)))
+        if os.path.isfile(f"{above}/lib/libmos65.so"):
+            return f"{above}/lib/libmos65.so"
+    return ctypes.util.find_library("mos65")
+
+
+def fault_of(status: int, told: Optional[_Fault] = None) -> Fault:
+    """The fault that a status stands for."""
+    if status in _OWN:
+        kind, name = _OWN[status]
+        return kind(name, status)
+    family, number = divmod(status, 100)
+    names = _NAMES.get(family, "").split()
+    name = names[number - 1] if 0 < number <= len(names) else "OutOfMemory"
+    if family == 3:
+        return AssemblyFault(name, number, line=told.line if told else None)
+    if family == 4:
+        return TapeFault(name, number, offset=told.offset if told else None)
+    return _CLASSES.get(family, Fault)(name, number)
+
+
+class Library:
+    """The calls of a library, declared as `mos65.h` declares them."""
+
+    _loaded: dict = {}
+
+    def __new__(cls, file: str) -> "Library":
+        if file not in cls._loaded:
+            it = super().__new__(cls)
+            it._declare(ctypes.CDLL(file))
+            cls._loaded[file] = it
+        return cls._loaded[file]
+
+    def _declare(self, loaded: ctypes.CDLL) -> None:
+        for name, arguments in _CALLS.items():
+            call = getattr(loaded, f"mos65_{name}")
+            call.argtypes, call.restype = arguments, ctypes.c_uint32
+            setattr(self, name.rstrip("_"), call)
+        if self.version_number() // 100 != VERSION_NUMBER // 100:
+            raise Refused("Version", text=f"the library's version is {self.version_number()}")
+
+
+class Session:
+    """A machine by the library, with the same methods as `pipe.Pipe`."""
+
+    def __init__(self, library: Library, config: _Config, source: bytes, is_tape: bool) -> None:
+        self._lib, self._slot = library, _Slot()
+        self._m = ctypes.byref(self._slot)
+        self._regs, self._ending, self._count = _Registers(), _Ending(), _U32()
+        self.listing = ""
+        told = _Fault()
+        if is_tape:
+            self._check(library.open_tape(self._m, config, source, len(source), told), told)
+            return
+        assembly = _Slot()
+        self._check(library.assemble(assembly, config, source, len(source), told), told)
+        try:
+            self.listing = self._listing_of(assembly)
+            self._check(library.open(self._m, config, assembly))
+        finally:
+            library.assembly_close(assembly)
+
+    def _listing_of(self, assembly: _Slot) -> str:
+        length = _N()
+        self._check(self._lib.listing(assembly, b"", 0, length))
+        out = ctypes.create_string_buffer(length.value)
+        self._check(self._lib.listing(assembly, out, length.value, length))
+        return out.raw.decode("ascii")
+
+    @staticmethod
+    def _check(status: int, told: Optional[_Fault] = None) -> None:
+        if status:
+            raise fault_of(status, told)
+
+    def close(self) -> None:
+        if self._slot.live:
+            self._lib.close(self._m)
+
+    def __del__(self) -> None:
+        self.close()
+
+    def step(self) -> None:
+        self._check(self._lib.step(self._m))
+
+    def reset(self) -> None:
+        self._check(self._lib.reset(self._m))
+
+    def irq(self, level: bool) -> None:
+        self._check(self._lib.irq(self._m, level))
+
+    def nmi(self) -> None:
+        self._check(self._lib.nmi(self._m))
+
+    def set(self, register: str, value: int) -> None:
+        self._check(self._lib.set(self._m, _REGISTERS[register], value))
+
+    def send(self, data: bytes) -> None:
+        for byte in data:
+            self._check(self._lib.input(self._m, byte))
+
+    def write(self, address: int, data: bytes) -> None:
+        for at in range(0, len(data), 3):
+            some = data[at : at + 3]
+            self._check(self._lib.patch(self._m, address + at, some, len(some)))
+
+    def read(self, address: int, count: int) -> bytes:
+        out = ctypes.create_string_buffer(max(count, 1))
+        self._check(self._lib.read(self._m, address, out, count))
+        return out.raw[:count]
+
+    def registers(self) -> Registers:
+        r = self._regs
+        self._check(self._lib.registers(self._m, r))
+        return Registers(r.a, r.x, r.y, r.s, r.p, r.pc, r.cycles)
+
+    def output(self) -> bytes:
+        self._check(self._lib.output_length(self._m, self._count))
+        count = self._count.value
+        out = ctypes.create_string_buffer(max(count, 1))
+        self._check(self._lib.output(self._m, 0, out, count))
+        return out.raw[:count]
+
+    def _end(self) -> RunEnd:
+        e = self._ending
+        why = _WHY[e.why]
+        if why is Why.LIMIT:
+            return RunEnd(e.did, why)
+        if why is not Why.REFUSED:
+            return RunEnd(e.did, why, e.address)
+        fault = fault_of(e.status).name
+        if fault == "Undocumented":
+            return RunEnd(e.did, why, e.address, e.opcode, fault)
+        return RunEnd(e.did, why, fault=fault)
+
+    def run(self, limit: int) -> RunEnd:
+        self._check(self._lib.run(self._m, limit, self._ending))
+        return self._end()
+
+    def run_to(self, address: int, limit: int) -> RunEnd:
+        self._check(self._lib.run_to(self._m, address, limit, self._ending))
+        return self._end()
+
+    def call(
+        self, address: int, limit: int, given: Dict[str, int]
+    ) -> Tuple[Registers, RunEnd, Registers]:
+        for register, value in given.items():
+            self.set(register, value)
+        before = self.registers()
+        self._check(self._lib.call(self._m, address, limit, self._ending))
+        return before, self._end(), self.registers()
+
+    def back(self, count: int) -> None:
+        self._check(self._lib.back(self._m, count))
+
+    def held(self) -> int:
+        self._check(self._lib.held(self._m, self._count))
+        return self._count.value
+
+    def set_break(self, address: int) -> None:
+        self._check(getattr(self._lib, "break")(self._m, address))
+
+    def clear_break(self, address: int) -> None:
+        self._check(self._lib.unbreak(self._m, address))
+
+    def set_watch(self, address: int) -> None:
+        self._check(self._lib.watch(self._m, address))
+
+    def clear_watch(self, address: int) -> None:
+        self._check(self._lib.unwatch(self._m, address))
+
+    def disassemble(self, address: int) -> Tuple[str, int]:
+        out = ctypes.create_string_buffer(13)
+        self._check(self._lib.disassemble(self._m, address, out, 13, self._count))
+        return out.value.decode("ascii"), self._count.value
+
+
+def config_of(history: int, port: int, rom: Optional[Tuple[int, int]], profile: str) -> _Config:
+    """A configuration as the library takes it."""
+    first, last = rom or (0, 0)
+    return _Config(history, port, first, last, rom is not None, ord(profile))

@@ -1,0 +1,319 @@
+"""A machine through a pipe to the program `mos65 debug`: command lines go in, replies come out."""
+
+from __future__ import annotations
+
+import os
+import re
+import select
+import shutil
+import subprocess
+import tempfile
+import time
+from dataclasses import replace
+from typing import Dict, List, Optional, Sequence, Set, Tuple
+
+from .faults import (
+    AssemblyFault,
+    Closed,
+    EngineDied,
+    EventFault,
+    Fault,
+    MapFault,
+    Refused,
+    SessionFault,
+    TapeFault,
+    Timeout,
+)
+from .values import Registers, RunEnd, Why
+
+_REGISTERS = re.compile(r"A=(..) X=(..) Y=(..) S=(..) P=(..) PC=(....) CYC=(\d+)")
+_END = re.compile(
+    r"DID (\d+) (?:(LIMIT)|(BREAK|WATCH) (....)|FAULT (..) AT (....)|(CONSOLE|CYCLES) FULL)"
+)
+_EVENTS = {"Undocumented", "CyclesFull", "ConsoleFull", "InputFull", "PastEnd", "BadLength"}
+_RETURN = 0xFFFF
+# The largest number that `run` and `back` take.
+_MOST = 1_000_000
+# The most breakpoints.
+_TABLE = 256
+# So many lines go out at once: their replies fit in a pipe.
+_BATCH = 400
+
+
+def find_program(program: Optional[str]) -> str:
+    """The program to run: the one that is given, that of MOS65_PROGRAM, or `mos65` on the PATH."""
+    found = program or os.environ.get("MOS65_PROGRAM") or shutil.which("mos65")
+    if not found:
+        raise EngineDied("NoProgram", text="mos65 is not on the PATH")
+    return found
+
+
+def refusal(text: str, status: int) -> Fault:
+    """The fault that the program's last line on its error stream tells."""
+    lines = text.strip().split("\n")
+    line = lines[-1]
+    if found := re.fullmatch(r"mos65: SOURCE line (\d+) (\w+) (\d+)", line):
+        return AssemblyFault(found[2], int(found[3]), line=int(found[1]))
+    if found := re.fullmatch(r"mos65: TAPE byte (\d+) (\w+) (\d+)", line):
+        return TapeFault(found[2], int(found[3]), offset=int(found[1]))
+    if found := re.fullmatch(r"mos65: TAPE (\w+) (\d+)", line):
+        return SessionFault(found[1], int(found[2]))
+    if found := re.fullmatch(r"mos65: MAP (\w+) (\d+)", line):
+        return MapFault(found[1], int(found[2]))
+    return EngineDied("EngineDied", text=f"status {status}: {line}")
+
+
+def listing_of(program: str, source: str, options: Sequence[str]) -> str:
+    """The listing of a source."""
+    with tempfile.TemporaryDirectory() as folder:
+        tape, listing = os.path.join(folder, "tape"), os.path.join(folder, "listing")
+        words = [program, "asm", source, tape, "--listing", listing, *options]
+        ran = subprocess.run(words, capture_output=True)
+        if ran.returncode:
+            raise refusal(ran.stderr.decode("ascii", "replace"), ran.returncode)
+        with open(listing, encoding="ascii") as it:
+            return it.read()
+
+
+class Pipe:
+    """The program, with one request at a time. A reply that takes longer than `timeout` seconds ends it."""
+
+    def __init__(self, program: str, words: Sequence[str], timeout: float) -> None:
+        self._timeout, self._pending = timeout, b""
+        self._breaks: Set[int] = set()
+        self._errors = tempfile.TemporaryFile()
+        self._engine: Optional[subprocess.Popen[bytes]] = subprocess.Popen(
+            [program, "debug", *words],
+            stdin=subprocess.PIPE,
+            stdout=subprocess.PIPE,
+            stderr=self._errors,
+            bufsize=0,
+        )
+        try:
+            # The engine reads nothing before its image stands: this tells a refusal now.
+            self._ask("breaks")
+        except BaseException:
+            self.close()
+            raise
+
+    def close(self) -> None:
+        """Ends the program."""
+        engine, self._engine = self._engine, None
+        if engine is None:
+            return
+        for it in (engine.stdin, engine.stdout):
+            try:
+                it.close()
+            except OSError:
+                pass
+        try:
+            engine.wait(timeout=2)
+        except subprocess.TimeoutExpired:
+            engine.kill()
+            engine.wait()
+        self._errors.close()
+
+    # ---- lines
+
+    def _died(self) -> Fault:
+        status = self._engine.wait()
+        self._errors.seek(0)
+        return refusal(self._errors.read().decode("ascii", "replace"), status)
+
+    def _line(self, deadline: float) -> str:
+        out = self._engine.stdout
+        while b"\n" not in self._pending:
+            left = deadline - time.monotonic()
+            if left <= 0 or not select.select([out], [], [], left)[0]:
+                self._engine.kill()
+                self._engine.wait()
+                raise Timeout("Timeout", text=f"no reply in {self._timeout} seconds")
+            some = os.read(out.fileno(), 65536)
+            if not some:
+                raise self._died()
+            self._pending += some
+        line, _, self._pending = self._pending.partition(b"\n")
+        return line.decode("ascii")
+
+    def _send(self, lines: Sequence[str]) -> float:
+        if self._engine is None:
+            raise Closed("Closed", 1)
+        text = memoryview("".join(f"{it}\n" for it in lines).encode("ascii"))
+        try:
+            while text:
+                text = text[os.write(self._engine.stdin.fileno(), text) :]
+        except OSError:
+            raise self._died() from None
+        return time.monotonic() + self._timeout
+
+    def _ask_all(self, lines: Sequence[str], is_judged: bool = True) -> List[str]:
+        """Sends lines with one reply line each, and returns the replies. The first refusal is raised once all have come."""
+        replies: List[str] = []
+        for at in range(0, len(lines), _BATCH):
+            some = lines[at : at + _BATCH]
+            deadline = self._send(some)
+            replies += [self._line(deadline) for _ in some]
+        if is_judged:
+            for line, reply in zip(lines, replies):
+                self._judge(line, reply)
+        return replies
+
+    def _ask(self, line: str) -> str:
+        return self._ask_all([line])[0]
+
+    @staticmethod
+    def _judge(line: str, reply: str) -> None:
+        """Raises the fault that a reply tells."""
+        if reply.startswith("? "):
+            raise Refused("BadCommand", text=line)
+        if found := re.fullmatch(r"! FAULT (..) AT (....)", reply):
+            raise EventFault("Undocumented", 2, text=f"${found[1]} at ${found[2]}")
+        if found := re.fullmatch(r"! HISTORY (\d+)", reply):
+            raise SessionFault("NoHistory", 1, text=f"{found[1]} events are held")
+        if found := re.fullmatch(r"! (CONSOLE|CYCLES) FULL", reply):
+            number = 3 if found[1] == "CONSOLE" else 1
+            raise EventFault(found[1].capitalize() + "Full", number)
+        if found := re.fullmatch(r"! (\w+) (\d+)", reply):
+            is_event = found[1] in _EVENTS or line.startswith("patch")
+            raise (EventFault if is_event else SessionFault)(found[1], int(found[2]), text=line)
+
+    # ---- what a machine does
+
+    @staticmethod
+    def _registers(reply: str) -> Registers:
+        found = _REGISTERS.fullmatch(reply)
+        if not found:
+            raise EngineDied("EngineDied", text=reply)
+        return Registers(*(int(it, 16) for it in found.groups()[:6]), int(found[7]))
+
+    @staticmethod
+    def _end(reply: str) -> RunEnd:
+        found = _END.fullmatch(reply)
+        if not found:
+            raise EngineDied("EngineDied", text=reply)
+        steps = int(found[1])
+        if found[2]:
+            return RunEnd(steps, Why.LIMIT)
+        if found[3]:
+            return RunEnd(steps, Why[found[3]], int(found[4], 16))
+        if found[5]:
+            opcode, address = int(found[5], 16), int(found[6], 16)
+            return RunEnd(steps, Why.REFUSED, address, opcode, "Undocumented")
+        return RunEnd(steps, Why.REFUSED, fault=found[7].capitalize() + "Full")
+
+    def step(self) -> None:
+        self._ask("step")
+
+    def reset(self) -> None:
+        self._ask("reset")
+
+    def irq(self, level: bool) -> None:
+        self._ask(f"irq {int(level)}")
+
+    def nmi(self) -> None:
+        self._ask("nmi")
+
+    @staticmethod
+    def _setting(register: str, value: int) -> str:
+        digits = 4 if register == "PC" else 2
+        return f"set {register} {value:0{digits}X}"
+
+    def set(self, register: str, value: int) -> None:
+        self._ask(self._setting(register, value))
+
+    def send(self, data: bytes) -> None:
+        for byte in data:
+            self._ask(f"in {byte:02X}")
+
+    def write(self, address: int, data: bytes) -> None:
+        parts = [(address + at, data[at : at + 3]) for at in range(0, len(data), 3)]
+        self._ask_all([f"patch {at:04X} " + some.hex(" ").upper() for at, some in parts])
+
+    def read(self, address: int, count: int) -> bytes:
+        if count == 0:
+            return b""
+        deadline = self._send([f"mem {address:04X} {address + count - 1:04X}"])
+        found = b""
+        while len(found) < count:
+            found += bytes.fromhex(self._line(deadline)[6:])
+        return found
+
+    def registers(self) -> Registers:
+        return self._registers(self._ask("regs"))
+
+    def output(self) -> bytes:
+        reply = self._ask("out")
+        count, found = int(reply.partition(" ")[2]), b""
+        deadline = time.monotonic() + self._timeout
+        while len(found) < count:
+            found += bytes.fromhex(self._line(deadline))
+        return found
+
+    def run(self, limit: int) -> RunEnd:
+        if limit == 0:
+            return RunEnd(0, Why.LIMIT)
+        steps = 0
+        while limit > _MOST:
+            end = self._end(self._ask(f"run {_MOST}"))
+            steps += end.steps
+            if end.why is not Why.LIMIT:
+                return replace(end, steps=steps)
+            limit -= _MOST
+        end = self._end(self._ask(f"run {limit}"))
+        return replace(end, steps=steps + end.steps)
+
+    def run_to(self, address: int, limit: int) -> RunEnd:
+        return self._stopping(address, [], limit)[0]
+
+    def call(
+        self, address: int, limit: int, given: Dict[str, int]
+    ) -> Tuple[Registers, RunEnd, Registers]:
+        lines = [self._setting(*it) for it in given.items()]
+        before = self._registers(self._ask_all([*lines, "regs"])[-1])
+        ready = [
+            f"patch {0x100 + before.s:04X} FF",
+            f"patch {0x100 + (before.s - 1) % 256:04X} FE",
+            self._setting("S", (before.s - 2) % 256),
+            self._setting("PC", address),
+        ]
+        return (before, *self._stopping(_RETURN, ready, limit))
+
+    def _stopping(self, address: int, ready: List[str], limit: int) -> Tuple[RunEnd, Registers]:
+        """A run that also stops at an address, and the registers after it; a breakpoint that was set there before stays."""
+        is_set = address in self._breaks
+        if not is_set and len(self._breaks) == _TABLE:
+            raise SessionFault("TableFull", 2)
+        first = ready if is_set else [f"break {address:04X}", *ready]
+        last = ["regs"] if is_set else [f"unbreak {address:04X}", "regs"]
+        if 0 < limit <= _MOST:
+            replies = self._ask_all([*first, f"run {limit}", *last])
+            return self._end(replies[len(first)]), self._registers(replies[-1])
+        self._ask_all(first)
+        end = self.run(limit)
+        return end, self._registers(self._ask_all(last)[-1])
+
+    def back(self, count: int) -> None:
+        self._ask(f"back {min(count, _MOST)}")
+
+    def held(self) -> int:
+        # More than can be held: the refusal tells how many are.
+        (reply,) = self._ask_all([f"back {_MOST}"], is_judged=False)
+        return int(reply.split()[2])
+
+    def set_break(self, address: int) -> None:
+        self._ask(f"break {address:04X}")
+        self._breaks.add(address)
+
+    def clear_break(self, address: int) -> None:
+        self._ask(f"unbreak {address:04X}")
+        self._breaks.discard(address)
+
+    def set_watch(self, address: int) -> None:
+        self._ask(f"watch {address:04X}")
+
+    def clear_watch(self, address: int) -> None:
+        self._ask(f"unwatch {address:04X}")
+
+    def disassemble(self, address: int) -> Tuple[str, int]:
+        row = self._ask(f"dis {address:04X} 1")
+        return row[16:], len(row[6:14].split())

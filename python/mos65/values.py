@@ -1,0 +1,115 @@
+"""What a machine tells."""
+
+from __future__ import annotations
+
+import enum
+from dataclasses import dataclass
+from typing import Optional
+
+
+class Why(enum.Enum):
+    """Why a run ended."""
+
+    LIMIT = "limit"
+    BREAK = "breakpoint"
+    WATCH = "watch"
+    REFUSED = "refused"
+
+
+@dataclass(frozen=True)
+class Registers:
+    """The registers, and the cycles since the start, whose reset took 7."""
+
+    a: int
+    x: int
+    y: int
+    s: int
+    p: int
+    pc: int
+    cycles: int
+
+    @property
+    def n(self) -> bool:
+        """Negative."""
+        return bool(self.p & 0x80)
+
+    @property
+    def v(self) -> bool:
+        """Overflow."""
+        return bool(self.p & 0x40)
+
+    @property
+    def d(self) -> bool:
+        """Decimal mode."""
+        return bool(self.p & 0x08)
+
+    @property
+    def i(self) -> bool:
+        """Interrupt disable."""
+        return bool(self.p & 0x04)
+
+    @property
+    def z(self) -> bool:
+        """Zero."""
+        return bool(self.p & 0x02)
+
+    @property
+    def c(self) -> bool:
+        """Carry."""
+        return bool(self.p & 0x01)
+
+
+@dataclass(frozen=True)
+class RunEnd:
+    """How a run ended.
+
+    steps: how many steps it made
+    why: why it ended
+    address: the breakpoint, the watch, or where the undocumented opcode stands
+    opcode: the undocumented opcode
+    fault: the name of the fault where a step is refused
+    """
+
+    steps: int
+    why: Why
+    address: Optional[int] = None
+    opcode: Optional[int] = None
+    fault: Optional[str] = None
+
+
+@dataclass(frozen=True)
+class Call:
+    """What a called subroutine did.
+
+    registers: the registers after its RTS
+    cycles: the cycles from its first instruction to its RTS, both counted, the JSR's 6 not
+    steps: how many instructions that were
+    events: how many events `back` goes over to undo the call
+    """
+
+    registers: Registers
+    cycles: int
+    steps: int
+    events: int
+
+
+@dataclass(frozen=True)
+class Step:
+    """An instruction that was executed.
+
+    registers: the registers before it
+    text: the instruction, as it is disassembled
+    line: the line of the source, counted from 1, None where no line stands there
+    source: the text of that line
+    """
+
+    registers: Registers
+    text: str
+    line: Optional[int]
+    source: Optional[str]
+
+    def __str__(self) -> str:
+        r = self.registers
+        state = f"A={r.a:02X} X={r.x:02X} Y={r.y:02X} S={r.s:02X} P={r.p:02X}"
+        line = "" if self.line is None else f"{self.line:5}  {self.source}"
+        return f"{r.cycles:10}  {r.pc:04X}  {self.text:13} {state} {line}".rstrip()

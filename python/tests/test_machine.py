@@ -1,0 +1,179 @@
+"""Tests of the package by both ways, with the standard library alone: python3 -m unittest discover python/tests
+
+MOS65_PROGRAM and MOS65_LIBRARY name the program and the library; a way whose file is not named is left out. Expected values are counted by
+hand: 200 times 123 is $6018; cycles are those of the MCS6500 manual's table."""
+
+import os
+import stat
+import sys
+import tempfile
+import unittest
+
+HERE = os.path.dirname(os.path.abspath(__file__))
+sys.path.insert(0, os.path.dirname(HERE))
+
+import mos65  # noqa: E402
+from mos65 import Machine, Why  # noqa: E402
+
+SOURCE = os.path.join(HERE, "routines.a65")
+PROGRAM = os.environ.get("MOS65_PROGRAM")
+LIBRARY = os.environ.get("MOS65_LIBRARY")
+
+
+class Ways:
+    """What a machine does, whichever way leads to it."""
+
+    way: dict = {}
+
+    def machine(self, source=SOURCE, **options):
+        made = Machine(source, **options, **self.way)
+        self.addCleanup(made.close)
+        return made
+
+    def refused(self, kind, name, number, call, *words, **options):
+        with self.assertRaises(kind) as raised:
+            call(*words, **options)
+        self.assertEqual((raised.exception.name, raised.exception.number), (name, number))
+        return raised.exception
+
+    def test_a_routine_is_called_and_taken_back(self):
+        m = self.machine()
+        for left, right in ((200, 123), (0, 9), (255, 255)):
+            made = m.write(0x10, bytes([left, right]))
+            before = m.registers
+            call = m.call("multiply")
+            self.assertEqual(int.from_bytes(m.read(0x12, 2), "little"), left * right)
+            self.assertEqual(call.registers.s, before.s)
+            m.back(call.events)
+            self.assertEqual(m.registers, before)
+            self.assertEqual(m.read(0x10, 2), bytes([left, right]))
+            m.back(made)
+        self.assertEqual(m.held, 0)
+
+    def test_cycles_are_the_chips(self):
+        m = self.machine()
+        for a in (0, 7, 25):
+            call = m.call("times10", a=a)
+            # STA zp 3, ASL 2, ASL 2, CLC 2, ADC zp 3, ASL 2, RTS 6
+            self.assertEqual((call.registers.a, call.cycles, call.steps), (10 * a, 20, 7))
+
+    def test_names_and_lines(self):
+        m = self.machine()
+        self.assertEqual(m.symbols["multiply"], 0x0200)
+        self.assertEqual(m.lines[0x0200], 3)
+        self.assertEqual(m.line("next"), (5, "next:   LSR $10"))
+        self.assertEqual(m.disassemble("next", 2), [(0x0204, "LSR $10"), (0x0206, "BCC $020B")])
+        self.refused(mos65.NoSuchName, "NoSuchName", 4, m.call, "gone")
+
+    def test_the_console(self):
+        m = self.machine()
+        m.send(b"i")
+        m.call("hello")
+        self.assertEqual(m.output, b"Hi")
+
+    def test_runs_and_stops(self):
+        m = self.machine()
+        m.set(pc="multiply")
+        end = m.run_to("shift", 100)
+        self.assertEqual((end.why, end.address, end.steps), (Why.BREAK, m.symbols["shift"], 4))
+        m.break_at("shift")
+        self.refused(mos65.SessionFault, "AlreadySet", 3, m.break_at, "shift")
+        self.assertEqual(m.run_to("shift", 100).why, Why.BREAK)
+        m.clear_break("shift")
+        self.refused(mos65.SessionFault, "NotSet", 4, m.clear_break, "shift")
+        m.write(0x10, b"\x01")
+        m.watch(0x10)
+        end = m.run(100)
+        self.assertEqual((end.why, end.address), (Why.WATCH, 0x10))
+        m.clear_watch(0x10)
+        self.refused(mos65.SessionFault, "PortAddress", 5, m.watch, 0xF000)
+        self.assertEqual(m.run(3), mos65.RunEnd(3, Why.LIMIT))
+
+    def test_refusals_change_nothing(self):
+        m = self.machine()
+        before = m.registers
+        self.refused(mos65.SessionFault, "NoHistory", 1, m.back, 1)
+        self.refused(mos65.EventFault, "PortAddress", 5, m.write, 0xEFFF, b"ab")
+        self.refused(mos65.EventFault, "PastEnd", 4, m.write, 0xFFFF, b"ab")
+        self.refused(mos65.EventFault, "PastEnd", 4, m.read, 0xFFFF, 2)
+        self.refused(mos65.Refused, "Value", None, m.set, a=256)
+        self.refused(mos65.Refused, "Register", None, m.set, q=1)
+        self.refused(mos65.Refused, "Address", None, m.read, 0x10000)
+        self.assertEqual((m.registers, m.held), (before, 0))
+        m.write(0x0300, b"\x02")
+        m.set(pc=0x0300)
+        self.refused(mos65.EventFault, "Undocumented", 2, m.step)
+        end = m.run(9)
+        self.assertEqual((end.steps, end.why, end.opcode, end.address), (0, Why.REFUSED, 2, 0x0300))
+
+    def test_sources_and_maps_are_refused(self):
+        fault = self.refused(mos65.AssemblyFault, "DuplicateName", 6, self.machine, b"a1 = 1\na1 = 2\n")
+        self.assertEqual(fault.line, 2)
+        fault = self.refused(mos65.TapeFault, "JunkBetween", 8, self.machine, b"x", tape=True)
+        self.assertEqual(fault.offset, 0)
+        self.refused(mos65.MapFault, "BadMap", 1, self.machine, port=0xF001)
+        self.refused(mos65.MapFault, "History", None, self.machine, history=65537)
+
+    def test_what_does_not_return(self):
+        m = self.machine()
+        with self.assertRaises(mos65.DidNotReturn) as raised:
+            m.call("forever", limit=100)
+        self.assertEqual(raised.exception.end, mos65.RunEnd(100, Why.LIMIT))
+
+    def test_the_last_steps(self):
+        m = self.machine()
+        m.call("times10", a=7)
+        rows = m.last_steps(3)
+        self.assertEqual([it.text for it in rows], ["ADC $10", "ASL A", "RTS"])
+        self.assertEqual(rows[0].line, 19)
+        self.assertIn("ADC $10", str(rows[0]))
+
+    def test_signals(self):
+        m = self.machine(rom=(0x8000, 0x8FFF), profile="C")
+        m.irq(True)
+        m.nmi()
+        m.irq(False)
+        m.reset()
+        self.assertEqual((m.registers.pc, m.cycles), (m.symbols["hello"], 14))
+
+    def test_large_ranges(self):
+        m = self.machine(history=0)
+        data = bytes(it % 251 for it in range(0xE000))
+        m.write(0x0200, data)
+        self.assertEqual(m.read(0x0200, len(data)), data)
+
+    def test_closed(self):
+        m = self.machine()
+        m.close()
+        m.close()
+        self.refused(mos65.Closed, "Closed", 1, m.step)
+        self.refused(mos65.Closed, "Closed", 1, m.read, 0)
+
+
+@unittest.skipUnless(PROGRAM, "MOS65_PROGRAM is not named")
+class ByPipe(Ways, unittest.TestCase):
+    way = {"library": False, "program": PROGRAM}
+
+    def test_a_program_that_dies(self):
+        m = self.machine()
+        m._way._engine.kill()
+        with self.assertRaises(mos65.EngineDied):
+            m.step()
+
+    def test_a_program_that_hangs(self):
+        with tempfile.TemporaryDirectory() as folder:
+            slow = os.path.join(folder, "slow")
+            with open(slow, "w", encoding="ascii") as it:
+                it.write(f'#!/bin/sh\n[ "$1" = debug ] && exec sleep 60\nexec {PROGRAM} "$@"\n')
+            os.chmod(slow, stat.S_IRWXU)
+            with self.assertRaises(mos65.Timeout):
+                Machine(SOURCE, library=False, program=slow, timeout=0.2)
+
+
+@unittest.skipUnless(LIBRARY, "MOS65_LIBRARY is not named")
+class ByLibrary(Ways, unittest.TestCase):
+    way = {"library": LIBRARY}
+
+
+if __name__ == "__main__":
+    unittest.main()
