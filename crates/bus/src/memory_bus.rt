@@ -1,6 +1,6 @@
 //! Memory, ROM and the port.
 
-ghost use Rattle.std.specs.Prelude.{◌≡◌, ◌+◌, ◌-◌, ◌<◌, ◌≤◌, ◌↔◌, length, slice_index, slice_get, slice_set, IsErr, OnOk, OnErr, IfErr, IfOk, Some, true, false, not, ◌||◌, ◌&&◌, ◌++◌, ◌∷◌, [], if◌then◌else◌, ℕ, List};
+ghost use Rattle.std.specs.Prelude.{◌≡◌, ◌==◌, ◌+◌, ◌-◌, ◌<◌, ◌≤◌, ◌↔◌, length, slice_index, slice_get, slice_set, IsErr, OnOk, OnErr, IfErr, IfOk, Some, true, false, not, ◌||◌, ◌&&◌, ◌++◌, ◌∷◌, [], if◌then◌else◌, ℕ, List};
 ghost use Rattle.std.specs.List.{list_all};
 ghost use Rattle.model.specs.State.{console_size, is_port, is_rom, byte_read, after_read, overflows, after_write, stored, input_waits, loaded_bus, has_port_byte, AreBytes, IsBus};
 ghost use Rattle.model.specs.Event.{meets_port, patched};
@@ -19,7 +19,8 @@ use model::{BusFault, Change, Profile};
 use std::alloc::{AllocError, Global};
 use std::marker::Model;
 
-/// Memory of 65,536 bytes, 0 at the port's addresses, with a console and a control byte, 0 or 1, at the port (profile).
+/// Memory of 65,536 bytes, 0 at the port's addresses, with a console and a control byte, 0 or 1, at
+/// the port. Source: mos65.
 #[derive(Drop)]
 pub struct Bus {
     map: MapSpec,
@@ -44,8 +45,10 @@ impl Model for Bus {
 }
 
 impl Bus {
-    /// A bus whose memory is all 0, with an empty console and 0 in the control byte. It takes all the room that the bus will need.
-    /// `OutOfMemory` where a request for memory was refused.
+    /// Makes a bus whose memory is all 0, with an empty console and a control byte of 0. It
+    /// allocates all the room that the bus will need.
+    ///
+    /// Errors: `OutOfMemory` if an allocation fails.
     #[tactic(auto, unfolding(model::specs::State::loaded_bus))]
     pub fn new(alloc: Global, map: MapSpec) -> Result<Bus, BusFault>
         ensures ok { IfOk result (λ bus. bus ≡ loaded_bus map empty_image) }
@@ -71,8 +74,10 @@ impl Bus {
         })
     }
 
-    /// Puts an image into memory, 0 where it has no byte, empties the console, and makes the control byte 0.
-    /// `PortAddress` where the image has a byte at a port address; nothing is changed then.
+    /// Puts an image into memory, 0 where it has no byte, empties the console and clears the
+    /// control byte.
+    ///
+    /// Errors: `PortAddress` if the image has a byte at a port address; nothing changes.
     #[tactic(auto, unfolding(model::specs::State::loaded_bus))]
     pub fn load(&mut self, image: &Image) -> Result<(), BusFault>
         ensures ok { OnOk result (self.new ≡ loaded_bus self.old.map image.now) }
@@ -91,7 +96,7 @@ impl Bus {
         Ok(())
     }
 
-    /// A byte of memory, with no effect: 0 at a port address.
+    /// Returns a byte of memory without a bus read: 0 at a port address.
     #[inline(always)]
     pub fn peek(&self, address: u16) -> u8
         ensures value { result ≡ slice_index self.now.memory address }
@@ -102,8 +107,8 @@ impl Bus {
         self.memory[place]
     }
 
-    /// What every bus is: memory of 65,536 bytes, 0 at the port's addresses, and a console within its room. A law for proofs: it
-    /// does nothing.
+    /// States the invariant of every bus: memory of 65,536 bytes, 0 at the port's addresses, and a
+    /// console within its room. A law for proofs: it does nothing.
     pub fn is_bus(&self)
         ensures { IsBus self.now }
     {
@@ -117,8 +122,9 @@ impl Bus {
         are_bytes(out_after);
     }
 
-    /// A byte as the processor reads it: at base+1 the next byte of input, which is taken, at base+2 whether input waits, at base+3
-    /// the control byte, 0 at base+0, else of memory (profile).
+    /// Reads a byte as the processor does. At base+1 it takes the next byte of input; base+2 gives
+    /// whether input waits, base+3 the control byte, base+0 gives 0, and any other address gives
+    /// memory. Source: mos65.
     #[tactic(auto, unfolding(model::specs::State::byte_read, model::specs::State::after_read, model::specs::State::is_port))]
     pub fn read(&mut self, address: u16) -> u8
         ensures value { result ≡ byte_read self.old address }
@@ -140,8 +146,11 @@ impl Bus {
         }
     }
 
-    /// A byte as the processor stores it: into the output at base+0, its remainder by 2 into the control byte at base+3, nowhere at
-    /// base+1, base+2 and in ROM, else into memory. `ConsoleFull` where it would be the output's 65,537th byte; nothing is changed then.
+    /// Stores a byte as the processor does. At base+0 it goes to the output, at base+3 its
+    /// remainder by 2 becomes the control byte; base+1, base+2 and ROM ignore it; any other address
+    /// is memory.
+    ///
+    /// Errors: `ConsoleFull` if it would be the output's 65,537th byte; nothing changes.
     pub fn write(&mut self, address: u16, value: u8) -> Result<(), BusFault>
         ensures ok { OnOk result (self.new ≡ after_write self.old address value) }
         ensures err { OnErr result (self.new ≡ self.old) }
@@ -155,7 +164,9 @@ impl Bus {
         Ok(())
     }
 
-    /// A byte of a patch, put into memory and ROM alike. `PortAddress` at a port address; nothing is changed then.
+    /// Puts a byte of a patch into memory, ROM included.
+    ///
+    /// Errors: `PortAddress` at a port address; nothing changes.
     pub fn poke(&mut self, address: u16, value: u8) -> Result<(), BusFault>
         ensures ok { OnOk result (self.new ≡ stored self.old address value) }
         ensures err { OnErr result (self.new ≡ self.old) }
@@ -169,8 +180,10 @@ impl Bus {
         Ok(())
     }
 
-    /// A byte of input handed in, after those that were. `InputFull` where 65,536 bytes were handed in, taken ones
-    /// among them; nothing is changed then. A change that could be put back before still can, and gives the same (profile).
+    /// Appends a byte to the input. A change that could be put back before still can, and gives the
+    /// same. Source: mos65.
+    ///
+    /// Errors: `InputFull` if 65,536 bytes were handed in, taken ones included; nothing changes.
     pub fn give(&mut self, byte: u8) -> Result<(), BusFault>
         ensures ok { OnOk result (self.new ≡ record self.old { given = self.old.given ++ byte ∷ [] }) }
         ensures err { OnErr result (self.new ≡ self.old) }
@@ -185,7 +198,8 @@ impl Bus {
         }
     }
 
-    /// Whether one of some bytes from an address on, none of them past 65535, would stand at the port.
+    /// Returns whether one of some bytes from an address on would stand at the port. None of them
+    /// may reach past 65535.
     pub fn meets_port(&self, address: u16, bytes: &[u8]) -> bool
         requires { address + length bytes.now ≤ 65536 }
         ensures { result ≡ meets_port self.now.map address bytes.now }
@@ -198,28 +212,29 @@ impl Bus {
         false
     }
 
-    /// How many bytes the output holds, 0 to 65,536.
+    /// Returns how many bytes the output holds, 0 to 65,536.
     pub fn output_len(&self) -> u32
         ensures { result ≡ length self.now.out }
     {
         self.out.len() as u32
     }
 
-    /// The output's byte at an index, counted from 0.
+    /// Returns the output's byte at an index, counted from 0.
     pub fn output_at(&self, index: u32) -> Option<u8>
         ensures { result ≡ slice_get self.now.out index }
     {
         self.out.get(index as usize).copied()
     }
 
-    /// How many more bytes of input may be handed in: 65,536 less those that were, taken ones among them.
+    /// Returns how many more bytes of input may be handed in: 65,536 less all that were, taken ones
+    /// included.
     pub fn input_room(&self) -> u32
         ensures { result + length self.now.given ≡ 65536 }
     {
         65536 - self.given.len() as u32
     }
 
-    /// The processor's profile, as the map has it.
+    /// Returns the processor's profile.
     #[inline(always)]
     pub fn profile(&self) -> Profile
         ensures { result ≡ self.now.map.profile }
@@ -227,7 +242,7 @@ impl Bus {
         self.map.profile()
     }
 
-    /// Whether the port has this address.
+    /// Returns whether the address is one of the port's four.
     #[inline(always)]
     pub fn is_port(&self, address: u16) -> bool
         ensures { result ≡ is_port self.now.map address }
@@ -235,14 +250,25 @@ impl Bus {
         self.map.is_port(address)
     }
 
-    /// How many bytes of input were taken.
+    /// Returns whether a read at this address takes a byte of the input, if one waits. Any other
+    /// read changes nothing.
+    #[inline(always)]
+    #[tactic(auto, unfolding(model::specs::State::after_read))]
+    pub fn takes_input(&self, address: u16) -> bool
+        ensures exact { result ≡ (address == self.now.map.port + 1) }
+        ensures kept { result ≡ false → after_read self.now address ≡ self.now }
+    {
+        address == self.map.port() + 1
+    }
+
+    /// Returns how many bytes of input were taken.
     pub fn taken(&self) -> u32
         ensures { result ≡ self.now.taken }
     {
         self.taken
     }
 
-    /// Whether the control byte is 1.
+    /// Returns whether the control byte is 1.
     #[inline(always)]
     pub fn control(&self) -> bool
         ensures { result ≡ self.now.control }
@@ -250,7 +276,8 @@ impl Bus {
         self.control
     }
 
-    /// Whether the port asks for an interrupt: its control byte is 1 and a byte of input waits (profile).
+    /// Returns whether the port asks for an interrupt: the control byte is 1 and input waits.
+    /// Source: mos65.
     #[inline(always)]
     pub fn asks_irq(&self) -> bool
         ensures { result ≡ (self.now.control && input_waits self.now) }
@@ -258,7 +285,8 @@ impl Bus {
         self.control && self.input_waits()
     }
 
-    /// Makes the control byte 0, as a reset does. A change that could be put back before still can, and gives the same (profile).
+    /// Clears the control byte, as a reset does. A change that could be put back before still can,
+    /// and gives the same. Source: mos65.
     #[inline(always)]
     pub fn clear_control(&mut self)
         ensures after { self.new ≡ record self.old { control = false } }
@@ -268,7 +296,7 @@ impl Bus {
         self.control = false;
     }
 
-    /// Whether a byte of input waits.
+    /// Returns whether a byte of input waits.
     #[inline(always)]
     fn input_waits(&self) -> bool
         ensures { result ≡ input_waits self.now }
@@ -276,7 +304,7 @@ impl Bus {
         (self.taken as usize) < self.given.len()
     }
 
-    /// The next byte of input, or 0 where none waits.
+    /// Takes the next byte of input, or returns 0 if none waits.
     fn take_input(&mut self) -> u8
         ensures value { result ≡ (if input_waits self.old then slice_index self.old.given self.old.taken else 0) }
         ensures after { self.new ≡ (if input_waits self.old then record self.old { taken = self.old.taken + 1 } else self.old) }
@@ -291,7 +319,7 @@ impl Bus {
         }
     }
 
-    /// Whether a store at this address would append to an output of 65,536 bytes.
+    /// Returns whether a store at this address would append to an output of 65,536 bytes.
     #[inline(always)]
     #[tactic(auto, unfolding(model::specs::State::overflows))]
     pub fn overflows(&self, address: u16) -> bool
@@ -300,7 +328,7 @@ impl Bus {
         address == self.map.port() && self.out.len() >= 65536
     }
 
-    /// Whether a store at this address changes memory.
+    /// Returns whether a store at this address changes memory.
     #[inline(always)]
     pub fn is_plain(&self, address: u16) -> bool
         ensures { result ≡ not (is_port self.now.map address || is_rom self.now.map address) }
@@ -308,7 +336,7 @@ impl Bus {
         !(self.map.is_port(address) || self.map.is_rom(address))
     }
 
-    /// A byte as the processor stores it, where the output has room.
+    /// Stores a byte as the processor does, where the output has room.
     #[tactic(auto, unfolding(model::specs::State::after_write, model::specs::State::overflows, model::specs::State::is_port))]
     fn put(&mut self, address: u16, value: u8)
         requires { overflows self.old address ≡ false }
@@ -323,7 +351,7 @@ impl Bus {
         }
     }
 
-    /// A byte put into memory.
+    /// Puts a byte into memory.
     #[inline(always)]
     fn set(&mut self, address: u16, value: u8)
         requires { is_port self.old.map address ≡ false }
@@ -332,7 +360,7 @@ impl Bus {
         self.memory[address as usize] = value;
     }
 
-    /// The change that puts this bus back to what it is now.
+    /// Returns an empty change, which puts the bus back to what it is now.
     #[inline(always)]
     #[tactic(auto, unfolding(model::specs::Undo::restored, model::specs::Undo::spares_port))]
     pub fn mark(&self) -> Change
@@ -350,7 +378,7 @@ impl Bus {
         }
     }
 
-    /// Whether a change can be put back here.
+    /// Returns whether a change can be put back here.
     #[tactic(auto, unfolding(model::specs::Undo::spares_port))]
     pub fn can_restore(&self, change: &Change) -> bool
         ensures { (result ≡ true) ↔ CanRestore change.now self.now }
@@ -366,8 +394,8 @@ impl Bus {
         spares_port(&self.map, &change.cells[..change.count as usize])
     }
 
-    /// Puts back what a change holds: its bytes in their order, in ROM too, the number taken, the control byte, and both lists of
-    /// the console cut to their old lengths.
+    /// Puts back what a change holds: its bytes in their order, ROM included, the number of bytes
+    /// taken and the control byte. It cuts both lists of the console to their old lengths.
     #[tactic(auto, unfolding(model::specs::Undo::restored))]
     pub fn restore(&mut self, change: Change)
         requires { CanRestore change self.old }
@@ -380,7 +408,7 @@ impl Bus {
         self.control = change.control;
     }
 
-    /// Notes what leads back to this bus. It takes no memory.
+    /// Saves what leads back to this bus. Does not allocate.
     pub fn save(&self, into: &mut Saved)
         ensures { into.new ≡ saved self.now }
     {
@@ -389,8 +417,8 @@ impl Bus {
         self.save_counts(into);
     }
 
-    /// Notes the same, where memory differs from what is noted there only in pages whose stamp is not below `since`. No other page
-    /// is copied. It takes no memory.
+    /// Saves the same, but copies only the pages whose stamp is at least `since`. In all other
+    /// pages memory has to be what `into` holds. Does not allocate.
     pub fn save_pages(&self, into: &mut Saved, stamps: &Stamps, since: u32)
         requires { AreSameBelow since stamps.now into.old.memory self.now.memory }
         ensures { into.new ≡ saved self.now }
@@ -400,7 +428,7 @@ impl Bus {
         self.save_counts(into);
     }
 
-    /// Notes the rest, once memory and map are noted.
+    /// Saves the rest, once memory and map are saved.
     #[tactic(auto, unfolding(model::specs::Checkpoint::saved))]
     fn save_counts(&self, into: &mut Saved)
         requires memory { into.old.memory ≡ self.now.memory }
@@ -413,7 +441,8 @@ impl Bus {
         into.control = self.control;
     }
 
-    /// Puts back what was saved, and cuts both lists of the console to their old lengths. It takes no memory.
+    /// Puts back what was saved, and cuts both lists of the console to their old lengths. Does not
+    /// allocate.
     #[tactic(auto, unfolding(model::specs::Checkpoint::put_back))]
     pub fn restore_saved(&mut self, old: &Saved)
         requires { CanPutBack old.now self.old }
@@ -426,7 +455,8 @@ impl Bus {
         self.control = old.control;
     }
 
-    /// A store into the stack's page, where neither port nor ROM stands. The change notes the byte that was there.
+    /// Stores a byte in the stack's page, where neither port nor ROM can stand. The change notes
+    /// the byte that was there.
     #[inline(always)]
     pub fn push(&mut self, change: &mut Change, s: u8, value: u8)
         requires count { change.old.count < 3 }
@@ -442,8 +472,8 @@ impl Bus {
         self.set_low(address, value);
     }
 
-    /// A byte as the processor stores it, where the output has room. The change notes the byte of memory that was there; the
-    /// console and the control byte it holds since it was made.
+    /// Stores a byte as the processor does, where the output has room. The change notes the byte of
+    /// memory that was there; it holds the console's lengths and the control byte already.
     pub fn store(&mut self, change: &mut Change, address: u16, value: u8)
         requires room { overflows self.old address ≡ false }
         requires count { change.old.count < 3 }
@@ -460,7 +490,8 @@ impl Bus {
         self.put(address, value);
     }
 
-    /// A byte that the processor stores where a store changes memory. Its page gets the stamp `now`.
+    /// Stores a byte as the processor does, at an address where that changes memory. Its page gets
+    /// the stamp `now`.
     #[inline(always)]
     pub fn store_plain(&mut self, address: u16, value: u8, stamps: &mut Stamps, now: u32)
         requires { not (is_port self.old.map address || is_rom self.old.map address) ≡ true }
@@ -471,7 +502,8 @@ impl Bus {
         self.set(address, value);
     }
 
-    /// A store into the stack's page, where neither port nor ROM stands. The page gets the stamp `now`.
+    /// Stores a byte in the stack's page, where neither port nor ROM can stand. The page gets the
+    /// stamp `now`.
     #[inline(always)]
     pub fn push_plain(&mut self, s: u8, value: u8, stamps: &mut Stamps, now: u32)
         ensures after { self.new ≡ stored self.old (256 + s) value }
@@ -482,8 +514,8 @@ impl Bus {
         self.set_low(place, value);
     }
 
-    /// The bytes of a patch, put into memory and ROM alike from an address on, none of them past 65535 and none at the port.
-    /// The change notes the bytes that were there.
+    /// Puts the bytes of a patch into memory, ROM included. None of them may reach past 65535 or
+    /// stand at the port. The change notes the bytes that were there.
     pub fn patch(&mut self, change: &mut Change, address: u16, bytes: &[u8])
         requires end { address + length bytes.now ≤ 65536 }
         requires plain { meets_port self.old.map address bytes.now ≡ false }
@@ -498,7 +530,8 @@ impl Bus {
         }
     }
 
-    /// A byte put into memory and ROM alike, not at the port. The change notes the byte that was there.
+    /// Puts a byte into memory, ROM included, but not at the port. The change notes the byte that
+    /// was there.
     fn patch_byte(&mut self, change: &mut Change, address: u16, value: u8)
         requires plain { is_port self.old.map address ≡ false }
         requires count { change.old.count < 3 }
@@ -513,7 +546,7 @@ impl Bus {
         self.set(address, value);
     }
 
-    /// A byte put into memory below $0200, where neither port nor ROM stands.
+    /// Puts a byte into memory below $0200, where neither port nor ROM can stand.
     #[inline(always)]
     #[tactic(auto, unfolding(model::specs::State::is_port))]
     fn set_low(&mut self, address: u16, value: u8)
@@ -525,7 +558,7 @@ impl Bus {
     }
 }
 
-/// Whether none of some cells stands at the port.
+/// Returns whether none of some cells stands at the port.
 fn spares_port(map: &MapSpec, cells: &[(u16, u8)]) -> bool
     ensures { result ≡ list_all (λ cell. not (is_port map.now cell.0)) cells.now }
 {
@@ -537,7 +570,7 @@ fn spares_port(map: &MapSpec, cells: &[(u16, u8)]) -> bool
     true
 }
 
-/// Bytes put into a memory, in their order.
+/// Puts bytes into a memory, in their order.
 fn put_cells(memory: &mut Vec<u8>, cells: &[(u16, u8)])
     requires { length memory.old.items ≡ 65536 }
     ensures { memory.new.items ≡ put_cells cells.now memory.old.items }
@@ -547,7 +580,7 @@ fn put_cells(memory: &mut Vec<u8>, cells: &[(u16, u8)])
     }
 }
 
-/// The change with one cell more, before the others.
+/// Returns the change with one cell more, before the others.
 fn noting(change: Change, address: u16, old: u8) -> Change
     requires { change.count < 3 }
     ensures cells { cells_of result ≡ (address, old) ∷ cells_of change }
@@ -562,7 +595,7 @@ fn noting(change: Change, address: u16, old: u8) -> Change
     }
 }
 
-/// Memory of this size that is all 0.
+/// Makes a memory of this size that is all 0.
 #[tactic(auto, unfolding(crate::specs::Memory::zeros))]
 fn zeroed(alloc: Global, size: usize) -> Result<Vec<u8>, AllocError>
     ensures zeros { IfOk result (λ memory. memory.items ≡ zeros size) }
@@ -572,7 +605,7 @@ fn zeroed(alloc: Global, size: usize) -> Result<Vec<u8>, AllocError>
     vec![in alloc; 0u8; size]
 }
 
-/// Whether an image has a byte here.
+/// Returns whether an image has a byte here.
 #[tactic(auto, unfolding(model::specs::Image::has_byte))]
 fn has_byte(image: &Image, address: u16) -> bool
     ensures { result ≡ has_byte image.now address }
@@ -580,7 +613,7 @@ fn has_byte(image: &Image, address: u16) -> bool
     image.get(address).is_some()
 }
 
-/// Whether an image has a byte at a port address.
+/// Returns whether an image has a byte at a port address.
 #[tactic(auto, unfolding(model::specs::State::has_port_byte))]
 fn has_port_byte(map: &MapSpec, image: &Image) -> bool
     ensures { result ≡ has_port_byte map.now image.now }
@@ -592,7 +625,8 @@ fn has_port_byte(map: &MapSpec, image: &Image) -> bool
         | has_byte(image, port + 3)
 }
 
-/// Each of some bytes is below 256, as their type says. A law for proofs: it does nothing.
+/// States that each of some bytes is below 256, as their type says. A law for proofs: it does
+/// nothing.
 fn are_bytes(bytes: &[u8])
     ensures { AreBytes bytes.now }
 {}

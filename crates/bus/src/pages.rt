@@ -9,7 +9,8 @@ use model::Change;
 /// For each page of memory, 256 bytes, the number that was current when a byte of it last changed.
 pub type Stamps = [u32; 256];
 
-/// Copies the pages whose stamp is not below `since`. The others are the same in both, so that the whole memories are in the end.
+/// Copies the pages whose stamp is at least `since`. The others are the same in both already, so
+/// both memories are equal afterwards.
 pub(crate) fn copy_pages(into: &mut [u8], from: &[u8], stamps: &Stamps, since: u32)
     requires into_size { length into.old ≡ 65536 }
     requires from_size { length from.now ≡ 65536 }
@@ -37,8 +38,9 @@ fn copy_page(into: &mut [u8], from: &[u8], page: usize)
     into[start..start + 256].copy_from_slice(&from[start..start + 256]);
 }
 
-/// Gives the pages in which a step stored the stamp `now`. A change notes where that was: what was the same as memory before the
-/// step still is, in each page with a lower stamp.
+/// Gives each page in which a step stored the stamp `now`; the change notes where that was. A
+/// memory that agreed with the memory before the step, in all pages with a lower stamp, still
+/// agrees.
 #[inline(always)]
 pub fn stamp_pages(stamps: &mut Stamps, now: u32, change: &Change)
     requires { change.now.count ≤ 3 }
@@ -47,7 +49,8 @@ pub fn stamp_pages(stamps: &mut Stamps, now: u32, change: &Change)
     stamp_cells(stamps, now, change);
 }
 
-/// The same, by page: one whose stamp is lower then has none of the cells, and its stamp is what it was.
+/// Stamps the pages of a change's cells. A page whose stamp is lower afterwards has none of the
+/// cells, and has its old stamp.
 #[inline(always)]
 fn stamp_cells(stamps: &mut Stamps, now: u32, change: &Change)
     requires { change.now.count ≤ 3 }
@@ -67,7 +70,7 @@ pub(crate) fn stamp_page(stamps: &mut Stamps, now: u32, address: u16)
     stamps[(address >> 8) as usize] = now;
 }
 
-/// Gives all pages the stamp `now`: no page has a lower one then, so that there is none in which memories had to be the same.
+/// Gives all pages the stamp `now`. No page has a lower one then, so nothing is claimed of any.
 pub fn stamp_all(stamps: &mut Stamps, now: u32)
     ensures { (since : ℕ) → since ≤ now → (xs ys : List ℕ) → AreSameBelow since stamps.new xs ys }
 {

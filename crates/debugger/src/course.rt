@@ -1,4 +1,5 @@
-//! The trail of a session, with the last steps of a run only counted: they are noted together, before anything else happens.
+//! The trail of a session, with the last steps of a run only counted: they are noted together,
+//! before anything else happens.
 
 ghost use Rattle.std.specs.Prelude.{◌≡◌, ◌+◌, ◌-◌, ◌*◌, ◌<◌, ◌≤◌, ◌++◌, ◌∷◌, ◌%◌, [], min, length, take, IfOk, IfErr, ℕ, List, true, false};
 ghost use Rattle.model.specs.State.{State};
@@ -46,8 +47,10 @@ impl Model for Course {
     ghost invariant = { λ c. HasRoom (with_steps c.trail c.steps) × IsQuiet c.trail c.steps c.quiet };
 }
 
-/// The trail of a machine to which nothing has happened yet. It takes all the room that events need.
-/// `OutOfMemory` where a request for memory was refused.
+/// Makes the course of a machine to which nothing has happened yet. It allocates all the room that
+/// events need.
+///
+/// Errors: `OutOfMemory` if an allocation fails.
 pub fn begin(alloc: Global, machine: &Machine, history: u32) -> Result<Course, SessionFault>
     requires { history ≤ 65536 }
     ensures room { IfOk result (λ course. HasRoom course) }
@@ -69,7 +72,7 @@ pub fn begin(alloc: Global, machine: &Machine, history: u32) -> Result<Course, S
 }
 
 impl Course {
-    /// How many of the last events can be gone back over.
+    /// Returns how many of the last events can be undone.
     pub fn held(&self) -> u32
         ensures { result ≡ self.now.held }
     {
@@ -78,8 +81,9 @@ impl Course {
     }
 }
 
-/// Goes back over the last `count` events: to the last checkpoint that is not later, and over the events from there on.
-/// Answers how many these were. All pages may have changed then.
+/// Undoes the last `count` events: goes back to the last checkpoint that is not later, and makes
+/// the events from there on again. Returns how many these were. All pages may have changed
+/// afterwards.
 pub fn rewind(
     course: &mut Course,
     machine: &mut Machine,
@@ -121,7 +125,7 @@ pub fn note(course: &mut Course, machine: &Machine, pages: &mut Pages, event: Ev
     note_apart(course, machine, pages, event);
 }
 
-/// The same, at once.
+/// Notes the same at once.
 #[inline(never)]
 fn note_apart(course: &mut Course, machine: &Machine, pages: &mut Pages, event: Event)
     requires { TellsPages pages.old course.old.kept.items course.old.spare.items machine.now.bus.memory }
@@ -155,7 +159,8 @@ pub fn note_step(course: &mut Course, machine: &Machine, pages: &mut Pages)
     course.steps += 1;
 }
 
-/// Steps one after another, as `Machine::quick_run` makes them, none of which makes a checkpoint or lets the oldest part go.
+/// Makes steps as `Machine::quick_run` does, none of which makes a checkpoint or drops the oldest
+/// part.
 #[inline(always)]
 pub fn run_quietly(
     course: &mut Course,
@@ -185,7 +190,7 @@ pub fn run_quietly(
     ran
 }
 
-/// Notes some steps, none of which makes a checkpoint or lets the oldest part go.
+/// Notes some steps, none of which makes a checkpoint or drops the oldest part.
 #[inline(never)]
 fn settle(trail: &mut Trail, steps: u32)
     requires few { steps ≤ 1024 }
@@ -199,7 +204,7 @@ fn settle(trail: &mut Trail, steps: u32)
     trail.held = held.min(trail.history);
 }
 
-/// How many steps may come before one that makes a checkpoint or lets the oldest part go.
+/// Returns how many steps may come before one that makes a checkpoint or drops the oldest part.
 fn quiet_steps(trail: &Trail) -> u32
     requires { HasRoom trail.now }
     ensures { IsQuiet trail.now 0 result }

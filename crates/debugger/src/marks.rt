@@ -32,7 +32,9 @@ impl Model for Marks {
 }
 
 impl Marks {
-    /// No addresses. `OutOfMemory` where a request for memory was refused.
+    /// Makes a table with no addresses.
+    ///
+    /// Errors: `OutOfMemory` if an allocation fails.
     pub fn new(alloc: Global) -> Result<Marks, SessionFault>
         ensures ok { IfOk result (λ marks. marks ≡ []) }
         ensures only { IfErr result (λ fault. fault ≡ SessionFault.OutOfMemory) }
@@ -46,7 +48,7 @@ impl Marks {
         }
     }
 
-    /// How many there are.
+    /// Returns how many addresses there are.
     #[inline(always)]
     pub fn len(&self) -> u32
         ensures { result ≡ length self.now }
@@ -54,14 +56,14 @@ impl Marks {
         self.set.len() as u32
     }
 
-    /// The address at an index, counted from 0.
+    /// Returns the address at an index, counted from 0.
     pub fn at(&self, index: u32) -> Option<u16>
         ensures { result ≡ slice_get self.now index }
     {
         self.set.get_index(index as usize).copied()
     }
 
-    /// Whether an address is among them.
+    /// Returns whether an address is in the table.
     #[inline(always)]
     pub fn contains(&self, address: u16) -> bool
         ensures { result ≡ list_any (nat_eq address) self.now }
@@ -72,7 +74,7 @@ impl Marks {
         self.set.contains(&address)
     }
 
-    /// A byte for each address, which is 0 only where the address is not in the table.
+    /// Returns a byte for each address, which is 0 only if the address is not in the table.
     #[inline(always)]
     pub fn map(&self) -> &[u8]
         ensures size { length result.now ≡ 65536 }
@@ -81,8 +83,10 @@ impl Marks {
         self.map.as_slice()
     }
 
-    /// Puts an address at the end. `AlreadySet` where it is set, then `TableFull` where 256 are, then `OutOfMemory` where a request
-    /// for memory was refused; nothing is changed then.
+    /// Appends an address.
+    ///
+    /// Errors, in this order: `AlreadySet` if it is set; `TableFull` if 256 are; `OutOfMemory` if
+    /// an allocation fails. Nothing changes.
     #[tactic(auto, unfolding(model::specs::Tables::put_in))]
     pub fn set(&mut self, address: u16) -> Result<(), SessionFault>
         ensures ok { OnOk result (put_in self.old address ≡ Ok self.new) }
@@ -104,7 +108,9 @@ impl Marks {
         }
     }
 
-    /// Takes an address out; the others keep their order. `NotSet` where it is not set; nothing is changed then.
+    /// Takes an address out; the others keep their order.
+    ///
+    /// Errors: `NotSet` if it is not set; nothing changes.
     #[tactic(auto, unfolding(model::specs::Tables::taken_out))]
     pub fn clear(&mut self, address: u16) -> Result<(), SessionFault>
         ensures ok { OnOk result (taken_out self.old address ≡ Ok self.new) }
@@ -121,7 +127,7 @@ impl Marks {
     }
 }
 
-/// A byte of 0 for each address.
+/// Makes a byte of 0 for each address.
 fn zeroed(alloc: Global) -> Result<Vec<u8>, AllocError>
     ensures len { IfOk result (λ map. length map.items ≡ 65536) }
 {

@@ -4,8 +4,9 @@ ghost use Rattle.std.specs.Prelude.{◌≡◌};
 
 use bus::Stamps;
 
-/// What is known of the checkpoints' memory. Each checkpoint has a number: those in use count up to `now`, which the last one has.
-/// A checkpoint is the same as memory in each page whose stamp is below its number.
+/// What is known of the checkpoints' memory. Each checkpoint has a number: those in use count up to
+/// `now`, which the last one has. In each page whose stamp is below its number, a checkpoint's
+/// memory is the machine's.
 #[derive(Drop)]
 pub struct Pages {
     pub stamps: Stamps,
@@ -16,7 +17,7 @@ pub struct Pages {
 }
 
 impl Pages {
-    /// No page has changed since the first checkpoint, and no checkpoint is spare of which anything is known.
+    /// No page has changed since the first checkpoint, and nothing is known of a spare one.
     pub fn new() -> Pages
         ensures now { result.now ≡ 1 }
         ensures spare { result.spare ≡ 0 }

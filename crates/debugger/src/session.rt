@@ -24,7 +24,8 @@ use model::{Event, EventFault, Profile, Regs, RunEnd, SessionFault, Why};
 use std::alloc::Global;
 use std::marker::Model;
 
-/// A machine, and the events that lead to its earlier states from checkpoints before them (profile).
+/// A machine, and the events that lead to its earlier states from checkpoints before them. Source:
+/// mos65.
 #[derive(Drop)]
 pub struct Session {
     machine: Machine,
@@ -58,9 +59,11 @@ impl Model for Session {
 }
 
 impl Session {
-    /// A session whose only state is the start of a machine with this map and image, and that holds up to `history`
-    /// earlier states, at most 65,536. It takes all the room that events need.
-    /// `PortAddress` where the image has a byte at a port address, `OutOfMemory` where a request for memory was refused.
+    /// Makes a session whose only state is the start of a machine with this map and image. It holds
+    /// up to `history` earlier states, at most 65,536, and allocates all the room that events need.
+    ///
+    /// Errors: `PortAddress` if the image has a byte at a port address, `OutOfMemory` if an
+    /// allocation fails.
     pub fn new(
         alloc: Global,
         map: MapSpec,
@@ -97,8 +100,11 @@ impl Session {
         })
     }
 
-    /// One event. An accepted event is held until it is older than the last `history` events; a refused one changes nothing,
-    /// and the fault is that of the machine's call, or `BadLength` where a patch counts more than three bytes. It takes no memory.
+    /// Makes one event. An accepted event is held until it is older than the last `history` events.
+    /// Does not allocate.
+    ///
+    /// Errors: those of the machine's call for the event, or `BadLength` if a patch counts more
+    /// than three bytes; nothing changes.
     #[inline(always)]
     pub fn event(&mut self, event: Event) -> Result<(), EventFault>
         ensures ok { OnOk result ((state : State) × (event_of self.old.current event ≡ Ok state) × (self.new ≡ appended self.old state)) }
@@ -120,8 +126,9 @@ impl Session {
         }
     }
 
-    /// Steps until the first of: one that changes a watched byte of memory, one that leads to a breakpoint, `count` of them, one that
-    /// is refused, which is not counted. Where several come after one step, the reason is the first of these. It takes no memory.
+    /// Makes steps until one changes a watched byte of memory, one leads to a breakpoint, `count`
+    /// are made, or one is refused, which is not counted. If several of these come after one step,
+    /// the reason is the first of them. Does not allocate. Source: mos65.
     pub fn run(&mut self, count: u32) -> RunEnd
         ensures end { result ≡ run_end count self.old }
         ensures after { self.new ≡ after_steps result.did self.old }
@@ -152,7 +159,8 @@ impl Session {
         }
     }
 
-    /// The first steps of a run, one at least, and why it ends with the last of them, if it does.
+    /// Makes the first steps of a run, one at least, and returns why it ends with the last of them,
+    /// if it does.
     fn run_on(&mut self, limit: u32) -> Result<Stretch, EventFault>
         requires { 0 < limit }
         ensures within { IfOk result (λ stretch. stretch.steps ≤ limit) }
@@ -193,7 +201,7 @@ impl Session {
         }
     }
 
-    /// A step of a run by itself, and why the run ends with it, if it does.
+    /// Makes one step of a run by itself, and returns why the run ends with it, if it does.
     #[inline(never)]
     fn slow_step(&mut self) -> Result<Option<Why>, EventFault>
         ensures { StepsTo self.old result self.new }
@@ -212,7 +220,11 @@ impl Session {
         }
     }
 
-    /// Goes back over the last `count` events. `NoHistory` where fewer are held; nothing is changed then. It takes no memory.
+    /// Undoes the last `count` events. The machine, its memory, its cycle count and the console are
+    /// then exactly as they were before those events; breakpoints and watches stay. Does not
+    /// allocate. Source: mos65.
+    ///
+    /// Errors: `NoHistory { held }` if fewer than `count` events are held; nothing changes.
     pub fn back(&mut self, count: u32) -> Result<(), SessionFault>
         ensures ok { OnOk result (back_of count self.old ≡ Ok self.new) }
         ensures err { IfErr result (λ fault. (back_of count self.old ≡ Err fault) × (self.new ≡ self.old)) }
@@ -233,8 +245,8 @@ impl Session {
         Ok(())
     }
 
-    /// How many events the last accepted going back over one event or more has replayed, which is the number of the state then
-    /// reached; 0 before the first.
+    /// Returns how many events the last successful `back` of at least one event has replayed, which
+    /// is the number of the state that it reached; 0 before that.
     pub fn replayed(&self) -> u32
         ensures number { result ≡ self.now.replayed }
         ensures within { result < 1024 }
@@ -242,7 +254,7 @@ impl Session {
         self.replayed
     }
 
-    /// How many events can be gone back over.
+    /// Returns how many events can be undone.
     pub fn held(&self) -> u32
         ensures held { result ≡ length self.now.earlier }
         ensures within { result ≤ self.now.history }
@@ -250,7 +262,10 @@ impl Session {
         self.trail.held()
     }
 
-    /// Sets a breakpoint. `AlreadySet`, then `TableFull` where 256 are set, then `OutOfMemory`; nothing is changed then.
+    /// Sets a breakpoint.
+    ///
+    /// Errors, in this order: `AlreadySet`; `TableFull` if 256 are set; `OutOfMemory` if an
+    /// allocation fails. Nothing changes.
     #[tactic(auto, unfolding(model::specs::Tables::break_set))]
     pub fn set_break(&mut self, address: u16) -> Result<(), SessionFault>
         ensures ok { OnOk result (break_set address self.old ≡ Ok self.new) }
@@ -260,7 +275,9 @@ impl Session {
         self.breaks.set(address)
     }
 
-    /// Clears a breakpoint. `NotSet` where it is not set; nothing is changed then.
+    /// Clears a breakpoint.
+    ///
+    /// Errors: `NotSet` if it is not set; nothing changes.
     #[tactic(auto, unfolding(model::specs::Tables::break_cleared))]
     pub fn clear_break(&mut self, address: u16) -> Result<(), SessionFault>
         ensures ok { OnOk result (break_cleared address self.old ≡ Ok self.new) }
@@ -269,8 +286,10 @@ impl Session {
         self.breaks.clear(address)
     }
 
-    /// Sets a watch. `PortAddress` at a port address, then `AlreadySet`, then `TableFull` where 256 are set, then `OutOfMemory`;
-    /// nothing is changed then.
+    /// Sets a watch.
+    ///
+    /// Errors, in this order: `PortAddress` at a port address; `AlreadySet`; `TableFull` if 256 are
+    /// set; `OutOfMemory` if an allocation fails. Nothing changes.
     #[tactic(auto, unfolding(model::specs::Tables::watch_set))]
     pub fn set_watch(&mut self, address: u16) -> Result<(), SessionFault>
         ensures ok { OnOk result (watch_set address self.old ≡ Ok self.new) }
@@ -283,7 +302,9 @@ impl Session {
         self.watches.set(address)
     }
 
-    /// Clears a watch. `NotSet` where it is not set; nothing is changed then.
+    /// Clears a watch.
+    ///
+    /// Errors: `NotSet` if it is not set; nothing changes.
     #[tactic(auto, unfolding(model::specs::Tables::watch_cleared))]
     pub fn clear_watch(&mut self, address: u16) -> Result<(), SessionFault>
         ensures ok { OnOk result (watch_cleared address self.old ≡ Ok self.new) }
@@ -292,49 +313,49 @@ impl Session {
         self.watches.clear(address)
     }
 
-    /// How many breakpoints are set.
+    /// Returns how many breakpoints are set.
     pub fn break_count(&self) -> u32
         ensures { result ≡ length self.now.breaks }
     {
         self.breaks.len()
     }
 
-    /// The breakpoint at an index in order of setting, counted from 0.
+    /// Returns the breakpoint at an index in the order of setting, counted from 0.
     pub fn break_at(&self, index: u32) -> Option<u16>
         ensures { result ≡ slice_get self.now.breaks index }
     {
         self.breaks.at(index)
     }
 
-    /// The processor's profile, as the session's map has it.
+    /// Returns the processor's profile.
     pub fn profile(&self) -> Profile
         ensures { result ≡ self.now.current.bus.map.profile }
     {
         self.machine.profile()
     }
 
-    /// Whether an address is one of the port's four.
+    /// Returns whether an address is one of the port's four.
     pub fn is_port(&self, address: u16) -> bool
         ensures { result ≡ is_port self.now.current.bus.map address }
     {
         self.machine.is_port(address)
     }
 
-    /// The registers of the current state.
+    /// Returns the registers of the current state.
     pub fn regs(&self) -> Regs
         ensures { result ≡ self.now.current.regs }
     {
         self.machine.regs()
     }
 
-    /// The current state's cycles since load.
+    /// Returns the current state's cycles since load.
     pub fn cycles(&self) -> u64
         ensures { result ≡ self.now.current.cycles }
     {
         self.machine.cycles()
     }
 
-    /// A byte of the current state's memory, with no effect: 0 at a port address.
+    /// Returns a byte of the current state's memory without a bus read: 0 at a port address.
     pub fn peek(&self, address: u16) -> u8
         ensures value { result ≡ slice_index self.now.current.bus.memory address }
         ensures within { address < length self.now.current.bus.memory }
@@ -343,29 +364,29 @@ impl Session {
         self.machine.peek(address)
     }
 
-    /// How many bytes the current state's output holds, 0 to 65,536.
+    /// Returns how many bytes the current state's output holds, 0 to 65,536.
     pub fn output_len(&self) -> u32
         ensures { result ≡ length self.now.current.bus.out }
     {
         self.machine.output_len()
     }
 
-    /// The byte of the current state's output at an index, counted from 0.
+    /// Returns the byte of the current state's output at an index, counted from 0.
     pub fn output_at(&self, index: u32) -> Option<u8>
         ensures { result ≡ slice_get self.now.current.bus.out index }
     {
         self.machine.output_at(index)
     }
 
-    /// How many more bytes of input may be handed in at the current state.
+    /// Returns how many more bytes of input may be handed in at the current state.
     pub fn input_room(&self) -> u32
         ensures { result + length self.now.current.bus.given ≡ 65536 }
     {
         self.machine.input_room()
     }
 
-    /// What every current state is: a bus of 65,536 bytes, registers of 8 and 16 bits, and a cycle count of 64 bits. A law for proofs:
-    /// it does nothing.
+    /// States the invariant of every current state: a bus of 65,536 bytes, registers of 8 and 16
+    /// bits, and a cycle count of 64 bits. A law for proofs: it does nothing.
     pub fn is_state(&self)
         ensures { IsState self.now.current }
     {

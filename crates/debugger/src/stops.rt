@@ -13,14 +13,15 @@ use bus::Change;
 use cpu::Machine;
 use model::Why;
 
-/// Steps of a run made one after another, and why the run ends with the last of them, if it does.
+/// Steps of a run that were made one after another, and why the run ends with the last of them, if
+/// it does.
 #[derive(Clone, Copy)]
 pub struct Stretch {
     pub steps: u32,
     pub why: Option<Why>,
 }
 
-/// Why a run ends in this state after the step that the change is of, if it does.
+/// Returns why a run ends in this state, after the step that the change is of, if it does.
 #[inline(always)]
 #[tactic(auto, unfolding(crate::specs::Stops::stop_after, model::specs::Run::watch_met, model::specs::Run::break_met))]
 pub fn stop_after(
@@ -38,7 +39,7 @@ pub fn stop_after(
     break_at(machine.pc(), breaks)
 }
 
-/// Why a run ends at an address after a step that changes no watched byte, if it does.
+/// Returns why a run ends at an address after a step that changes no watched byte, if it does.
 #[inline(always)]
 pub fn break_at(pc: u16, breaks: &Marks) -> Option<Why>
     ensures { result ≡ if list_any (nat_eq pc) breaks.now then Some (Break pc) else None }
@@ -50,7 +51,8 @@ pub fn break_at(pc: u16, breaks: &Marks) -> Option<Why>
     }
 }
 
-/// The lowest watched address whose byte of memory is not what it was before the step that the change is of.
+/// Returns the lowest watched address whose byte of memory is not what it was before the step that
+/// the change is of.
 #[inline(always)]
 fn lowest_changed(machine: &Machine, watches: &Marks, change: &Change) -> Option<u16>
     requires { change.now.count ≤ 3 }
@@ -65,7 +67,7 @@ fn lowest_changed(machine: &Machine, watches: &Marks, change: &Change) -> Option
     lowest_stored(machine, watches, change)
 }
 
-/// The same, where the step has stored something.
+/// Returns the same, where the step has stored something.
 #[inline(never)]
 fn lowest_stored(machine: &Machine, watches: &Marks, change: &Change) -> Option<u16>
     requires { change.now.count ≤ 3 }
@@ -84,7 +86,7 @@ fn lowest_stored(machine: &Machine, watches: &Marks, change: &Change) -> Option<
     least
 }
 
-/// The lower of two addresses, if there is a second one.
+/// Returns the lower of two addresses, if there is a second one.
 fn lower(address: u16, other: Option<u16>) -> u16
     ensures { result ≡ option_map_or (min address) other address }
 {
@@ -94,7 +96,7 @@ fn lower(address: u16, other: Option<u16>) -> u16
     }
 }
 
-/// The byte of memory before the step that the change is of.
+/// Returns the byte of memory before the step that the change is of.
 #[tactic(auto, unfolding(model::specs::Undo::restored))]
 fn byte_before(machine: &Machine, change: &Change, address: u16) -> u8
     requires { change.now.count ≤ 3 }

@@ -23,7 +23,8 @@ use std::alloc::Global;
 /// How many events lie between two checkpoints (profile).
 pub const PART: usize = 1024;
 
-/// Events with the checkpoints along them, the oldest first: one at the first event, and one after each 1,024th.
+/// Events with the checkpoints along them, the oldest first: one at the first event, and one after
+/// each 1,024th.
 #[derive(Drop)]
 pub struct Trail {
     pub events: HeapCircularBuffer<Event>,
@@ -36,8 +37,10 @@ pub struct Trail {
     pub history: u32,
 }
 
-/// What an event does to a machine. Pages that it changes get the stamp `now`. It is slower where it stores at an address whose byte
-/// of `watches` is not 0.
+/// Makes an event. Pages that it changes get the stamp `now`. A step that stores at an address
+/// whose byte of `watches` is not 0 takes longer.
+///
+/// Errors: those of the machine's call for the event; nothing changes.
 #[inline(always)]
 pub fn happen(
     machine: &mut Machine,
@@ -61,7 +64,7 @@ pub fn happen(
     }
 }
 
-/// A step, quick where it can be, without a record.
+/// Makes a step without a record, by the jump if it can.
 #[inline(always)]
 fn make_step(
     machine: &mut Machine,
@@ -83,7 +86,7 @@ fn make_step(
     made
 }
 
-/// The same for any event, with the record that leads back.
+/// Makes any event, and returns the record that leads back.
 #[inline(never)]
 #[tactic(auto, unfolding(model::specs::Event::event_of))]
 fn happen_apart(machine: &mut Machine, event: Event) -> Result<Undo, EventFault>
@@ -107,7 +110,7 @@ fn happen_apart(machine: &mut Machine, event: Event) -> Result<Undo, EventFault>
     }
 }
 
-/// Events from one place to another, one after another. The stamps tell nothing afterwards.
+/// Makes the events from one place to another again. The stamps say nothing afterwards.
 fn replay(
     machine: &mut Machine,
     watches: &[u8],
@@ -128,7 +131,7 @@ fn replay(
     }
 }
 
-/// The machine at the last of some checkpoints.
+/// Puts the machine back to the last of some checkpoints.
 fn return_to_last(machine: &mut Machine, kept: &HeapCircularBuffer<Checkpoint>)
     requires { (c : Seen) → last_item kept.now.items ≡ Some c → CanPutBack c.bus machine.old.bus }
     ensures { (c : Seen) → last_item kept.now.items ≡ Some c → machine.new ≡ returned c machine.old }
@@ -138,7 +141,7 @@ fn return_to_last(machine: &mut Machine, kept: &HeapCircularBuffer<Checkpoint>)
     }
 }
 
-/// Checkpoints past the first `count`, put aside.
+/// Moves the checkpoints past the first `count` to the spare ones.
 fn put_aside(
     kept: &mut HeapCircularBuffer<Checkpoint>,
     spare: &mut HeapCircularBuffer<Checkpoint>,
@@ -158,8 +161,9 @@ fn put_aside(
     }
 }
 
-/// Goes back over the last `count` events: to the last checkpoint that is not later, and over the events from there on.
-/// Answers how many these were. All pages may have changed then.
+/// Undoes the last `count` events: goes back to the last checkpoint that is not later, and makes
+/// the events from there on again. Returns how many these were. All pages may have changed
+/// afterwards.
 pub fn rewind(
     trail: &mut Trail,
     machine: &mut Machine,
@@ -216,7 +220,7 @@ pub fn note(trail: &mut Trail, machine: &Machine, pages: &mut Pages, event: Even
     mark(trail, machine, pages);
 }
 
-/// One more, but not more than a limit.
+/// Returns one more, but not more than a limit.
 #[inline(always)]
 fn one_more(held: u32, limit: u32) -> u32
     requires { held ≤ limit }
@@ -225,7 +229,7 @@ fn one_more(held: u32, limit: u32) -> u32
     if held < limit { held + 1 } else { held }
 }
 
-/// The oldest events let go with their checkpoint, once there are as many between two checkpoints that can't be gone back over.
+/// Drops the oldest 1,024 events and their checkpoint once `back` can no longer reach them.
 #[inline(always)]
 fn let_go(trail: &mut Trail, pages: &mut Pages)
     requires kept { 0 < length trail.old.kept.items }
@@ -247,7 +251,7 @@ fn let_go(trail: &mut Trail, pages: &mut Pages)
     }
 }
 
-/// A checkpoint at the machine's state, where one is due.
+/// Makes a checkpoint of the machine's state if one is due.
 #[inline(always)]
 fn mark(trail: &mut Trail, machine: &Machine, pages: &mut Pages)
     requires pages { TellsPages pages.old trail.old.kept.items trail.old.spare.items machine.now.bus.memory }
@@ -268,8 +272,10 @@ fn mark(trail: &mut Trail, machine: &Machine, pages: &mut Pages)
     }
 }
 
-/// The trail of a machine to which nothing has happened yet. It takes all the room that events need.
-/// `OutOfMemory` where a request for memory was refused.
+/// Makes the trail of a machine to which nothing has happened yet. It allocates all the room that
+/// events need.
+///
+/// Errors: `OutOfMemory` if an allocation fails.
 pub fn begin(alloc: Global, machine: &Machine, history: u32) -> Result<Trail, SessionFault>
     requires { history ≤ 65536 }
     ensures room { IfOk result (λ trail. HasRoom trail) }
@@ -304,7 +310,7 @@ pub fn begin(alloc: Global, machine: &Machine, history: u32) -> Result<Trail, Se
     })
 }
 
-/// Checkpoints with nothing in them, one fewer than there is room for.
+/// Makes empty checkpoints, one fewer than there is room for.
 fn checkpoints(alloc: Global, size: usize) -> Result<HeapCircularBuffer<Checkpoint>, SessionFault>
     requires { 0 < size }
     ensures count { IfOk result (λ spare. length spare.items + 1 ≡ size) }

@@ -1,2 +1,3 @@
-pub mod Reading
+pub mod Calm
 pub mod Pushing
+pub mod Reading

@@ -10,7 +10,7 @@ use bus::Stamps;
 use registers::Registers;
 
 impl Machine {
-    /// Notes what leads back to this state. It takes no memory (profile).
+    /// Saves what leads back to this state. Does not allocate. Source: mos65.
     pub fn save(&self, into: &mut Checkpoint)
         ensures { into.new ≡ checkpoint_of self.now }
     {
@@ -18,8 +18,8 @@ impl Machine {
         self.save_processor(into);
     }
 
-    /// Notes the same, where memory differs from what is noted there only in pages whose stamp is not below `since`. No other page
-    /// is copied. It takes no memory.
+    /// Saves the same, but copies only the pages whose stamp is at least `since`. In all other
+    /// pages memory has to be what `into` holds. Does not allocate.
     pub fn save_pages(&self, into: &mut Checkpoint, stamps: &Stamps, since: u32)
         requires { AreSameBelow since stamps.now into.old.bus.memory self.now.bus.memory }
         ensures { into.new ≡ checkpoint_of self.now }
@@ -28,7 +28,7 @@ impl Machine {
         self.save_processor(into);
     }
 
-    /// Notes the rest, once the bus is noted.
+    /// Saves the rest, once the bus is saved.
     #[tactic(auto, unfolding(model::specs::Checkpoint::checkpoint_of))]
     fn save_processor(&self, into: &mut Checkpoint)
         requires { into.old.bus ≡ saved self.now.bus }
@@ -40,7 +40,8 @@ impl Machine {
         into.cycles = self.processor.cycles;
     }
 
-    /// Puts back what a checkpoint holds, and cuts both lists of the console to its lengths. It takes no memory (profile).
+    /// Puts back what a checkpoint holds, and cuts both lists of the console to its lengths. Does
+    /// not allocate. Source: mos65.
     #[tactic(auto, unfolding(model::specs::Checkpoint::returned))]
     pub fn restore(&mut self, old: &Checkpoint)
         requires { CanPutBack old.now.bus self.old.bus }
