@@ -1,0 +1,1 @@
+autocmd BufRead,BufNewFile *.a65 setfiletype mos65
