@@ -15,7 +15,8 @@ use debugger::Session;
 use std::alloc::Global;
 use std::io::{Read, Write};
 
-/// Debugs an image: command lines are served on a session that starts with it.
+/// Debugs an image: serves command lines on a session that starts with it. The image's own memory is
+/// free before a line is read.
 ///
 /// # Errors
 ///
@@ -27,25 +28,26 @@ pub fn debug_image<R: Read, W: Write>(
     alloc: Global,
     map: MapSpec,
     history: u32,
-    image: &Image,
+    image: Image,
     reader: &mut R,
     writer: &mut W,
 ) -> Result<(), EngineFault>
     requires { history ≤ 65536 }
 
     // The session that starts with the image is served.
-    ensures serves { Serves (fresh history (start map image.now)) (R.remaining reader.old) (R.remaining reader.new) (W.contents writer.old) (W.contents writer.new) result }
+    ensures serves { Serves (fresh history (start map image)) (R.remaining reader.old) (R.remaining reader.new) (W.contents writer.old) (W.contents writer.new) result }
 
     // Where no session stood, neither reader nor writer was asked.
     ensures reaches { Reaches result ⊤ ((reader.new ≡ reader.old) × (writer.new ≡ writer.old)) }
 
     // An image with a byte at a port address is refused, and no other is, memory aside.
-    ensures port { has_port_byte map image.now ≡ true → (result ≡ Err (EngineFault.Session PortAddress)) ⊎ (result ≡ Err EngineFault.OutOfMemory) }
-    ensures session { IfSession result (λ fault. (fault ≡ PortAddress) × (has_port_byte map image.now ≡ true)) }
+    ensures port { has_port_byte map image ≡ true → (result ≡ Err (EngineFault.Session PortAddress)) ⊎ (result ≡ Err EngineFault.OutOfMemory) }
+    ensures session { IfSession result (λ fault. (fault ≡ PortAddress) × (has_port_byte map image ≡ true)) }
 
     ensures source { IfSource result (λ _. ⊥) }
     ensures tape { IfTape result (λ _. ⊥) }
 {
-    let mut session = Session::new(alloc, map, image, history)?;
+    let mut session = Session::new(alloc, map, &image, history)?;
+    drop(image);
     serve(alloc, &mut session, reader, writer)
 }
