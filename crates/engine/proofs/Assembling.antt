@@ -14,7 +14,7 @@ use Rattle.source_laws.specs.Judging.{numbered}
 use Rattle.assembler.specs.Assembly as assemblies
 use Rattle.replies.specs.declared.fault.ReplyFault.{ReplyFault}
 use Rattle.replies.specs.declared.fault.ReplyFault.TheVariants as reply_fault
-use Rattle.session_laws.proofs.Written.{front_none}
+use Rattle.model.proofs.Written.{front_none}
 
 abbrev Bytes : Type 0
 Bytes = List ℕ

@@ -13,7 +13,7 @@ use Rattle.engine.specs.declared.fault.EngineFault.TheVariants as engine_fault
 use Rattle.engine.specs.Outcome.{Begins, EndsReply, EndsServing, Reaches, Serves}
 use Rattle.engine.specs.Refusals.{IfSession, IfSource, IfTape, of_session, of_source, of_tape}
 use Rattle.engine.proofs.Refused.{source_either, tape_either}
-use Rattle.session_laws.proofs.Written.{front_none}
+use Rattle.model.proofs.Written.{front_none}
 
 -- ---- before a session stands
 

@@ -6,29 +6,31 @@ ghost use Rattle.engine.specs.Refusals.{of_session, of_source, of_tape, of_tape_
 
 use model::{AsmFault, AsmFaultKind, SessionFault, TapeFault, TapeFaultKind};
 use papertape::TapeReadFault;
+use std::fmt;
 use thiserror::Error;
 
 /// A fault of the engine. Source: mos65.
 #[derive(Clone, Copy, Debug, PartialEq, Eq, Error)]
 pub enum EngineFault {
     /// The source is rejected with this fault.
-    #[error("Source 1")]
     Source(AsmFault),
     /// The text is not a tape; this is its first fault.
-    #[error("Tape 2")]
     Tape(TapeFault),
     /// No session can be made: the image has a byte at a port address.
-    #[error("Session 3")]
     Session(SessionFault),
     /// A read of command lines, or of the tape, failed.
-    #[error("Read 4")]
     Read,
     /// A write or a flush of a reply failed, or a write took no byte.
-    #[error("Write 5")]
     Write,
     /// An allocation failed, in any part.
-    #[error("OutOfMemory 6")]
     OutOfMemory,
+}
+
+impl fmt::Display for EngineFault {
+    /// Its name and its number.
+    fn fmt<W: fmt::Write>(&self, f: &mut fmt::Formatter<W>) -> fmt::Result {
+        write!(f, "{} {}", self.name(), self.number())
+    }
 }
 
 impl EngineFault {
@@ -36,27 +38,28 @@ impl EngineFault {
     pub fn number(&self) -> u8
         ensures { result ≡ engine_fault_number self.now }
     {
-        match self {
-            EngineFault::Source(_) => 1,
-            EngineFault::Tape(_) => 2,
-            EngineFault::Session(_) => 3,
-            EngineFault::Read => 4,
-            EngineFault::Write => 5,
-            EngineFault::OutOfMemory => 6,
-        }
+        self.entry().0
     }
 
     /// Returns the fault's name.
     pub fn name(&self) -> &'static str
         ensures { result.now ≡ engine_fault_name self.now }
     {
+        self.entry().1
+    }
+
+    /// The fault's line in the table of numbers and names.
+    fn entry(&self) -> (u8, &'static str)
+        ensures number { result.0 ≡ engine_fault_number self.now }
+        ensures name { result.1.now ≡ engine_fault_name self.now }
+    {
         match self {
-            EngineFault::Source(_) => "Source",
-            EngineFault::Tape(_) => "Tape",
-            EngineFault::Session(_) => "Session",
-            EngineFault::Read => "Read",
-            EngineFault::Write => "Write",
-            EngineFault::OutOfMemory => "OutOfMemory",
+            EngineFault::Source(_) => (1, "Source"),
+            EngineFault::Tape(_) => (2, "Tape"),
+            EngineFault::Session(_) => (3, "Session"),
+            EngineFault::Read => (4, "Read"),
+            EngineFault::Write => (5, "Write"),
+            EngineFault::OutOfMemory => (6, "OutOfMemory"),
         }
     }
 }

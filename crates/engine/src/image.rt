@@ -15,7 +15,8 @@ use debugger::Session;
 use std::alloc::Global;
 use std::io::{Read, Write};
 
-/// Debugs an image: serves command lines on a session that starts with it.
+/// Debugs an image: serves command lines on a session that starts with it. The image is dropped before
+/// a line is read.
 ///
 /// # Errors
 ///
@@ -27,29 +28,30 @@ pub fn debug_image<R: Read, W: Write>(
     alloc: Global,
     map: MapSpec,
     history: u32,
-    image: &Image,
+    image: Image,
     reader: &mut R,
     writer: &mut W,
 ) -> Result<(), EngineFault>
     requires { history ≤ 65536 }
 
     // The session that starts with the image is served.
-    ensures serves { Serves (fresh history (start map image.now)) (R.remaining reader.old)
+    ensures serves { Serves (fresh history (start map image)) (R.remaining reader.old)
         (R.remaining reader.new) (W.contents writer.old) (W.contents writer.new) result }
 
     // If no session began, neither reader nor writer was used.
     ensures reaches { Reaches result ⊤ ((reader.new ≡ reader.old) × (writer.new ≡ writer.old)) }
 
     // An image with a byte at a port address is rejected, and no other is, unless memory runs out.
-    ensures port { has_port_byte map image.now ≡ true
+    ensures port { has_port_byte map image ≡ true
         → (result ≡ Err (EngineFault.Session PortAddress))
         ⊎ (result ≡ Err EngineFault.OutOfMemory) }
     ensures session { IfSession result
-        (λ fault. (fault ≡ PortAddress) × (has_port_byte map image.now ≡ true)) }
+        (λ fault. (fault ≡ PortAddress) × (has_port_byte map image ≡ true)) }
 
     ensures source { IfSource result (λ _. ⊥) }
     ensures tape { IfTape result (λ _. ⊥) }
 {
-    let mut session = Session::new(alloc, map, image, history)?;
+    let mut session = Session::new(alloc, map, &image, history)?;
+    drop(image);
     serve(alloc, &mut session, reader, writer)
 }

@@ -69,5 +69,7 @@ pub fn debug_source<R: Read, W: Write>(
 {
     let assembly = assemble(alloc, source, &map)?;
     let tape = write_tape(alloc, assembly.image())?;
+    // A session takes its own memory: the assembly's is free before a line is read.
+    drop(assembly);
     debug_tape(alloc, map, history, tape.as_slice(), reader, writer)
 }

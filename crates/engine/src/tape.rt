@@ -77,5 +77,5 @@ pub fn debug_tape<R: Read, W: Write>(
     ensures source { IfSource result (λ _. ⊥) }
 {
     let image = read_tape(alloc, tape)?;
-    debug_image(alloc, map, history, &image, reader, writer)
+    debug_image(alloc, map, history, image, reader, writer)
 }

@@ -84,5 +84,5 @@ pub fn debug_tape_from<T: Read, R: Read, W: Write>(
     ensures source { IfSource result (λ _. ⊥) }
 {
     let image = read_tape_from(alloc, tape)?;
-    debug_image(alloc, map, history, &image, reader, writer)
+    debug_image(alloc, map, history, image, reader, writer)
 }

@@ -33,25 +33,27 @@ impl BusFault {
     pub fn number(&self) -> u8
         ensures { result ≡ bus_fault_number self.now }
     {
-        match self {
-            BusFault::BadMap => 1,
-            BusFault::OutOfMemory => 2,
-            BusFault::ConsoleFull => 3,
-            BusFault::InputFull => 4,
-            BusFault::PortAddress => 5,
-        }
+        self.entry().0
     }
 
     /// Returns the fault's name.
     pub fn name(&self) -> &'static str
         ensures { result.now ≡ bus_fault_name self.now }
     {
+        self.entry().1
+    }
+
+    /// The fault's line in the table of numbers and names.
+    fn entry(&self) -> (u8, &'static str)
+        ensures number { result.0 ≡ bus_fault_number self.now }
+        ensures name { result.1.now ≡ bus_fault_name self.now }
+    {
         match self {
-            BusFault::BadMap => "BadMap",
-            BusFault::OutOfMemory => "OutOfMemory",
-            BusFault::ConsoleFull => "ConsoleFull",
-            BusFault::InputFull => "InputFull",
-            BusFault::PortAddress => "PortAddress",
+            BusFault::BadMap => (1, "BadMap"),
+            BusFault::OutOfMemory => (2, "OutOfMemory"),
+            BusFault::ConsoleFull => (3, "ConsoleFull"),
+            BusFault::InputFull => (4, "InputFull"),
+            BusFault::PortAddress => (5, "PortAddress"),
         }
     }
 }

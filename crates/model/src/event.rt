@@ -37,29 +37,29 @@ impl EventFault {
     pub fn number(&self) -> u8
         ensures { result ≡ event_fault_number self.now }
     {
-        match self {
-            EventFault::CyclesFull => 1,
-            EventFault::Undocumented { .. } => 2,
-            EventFault::ConsoleFull => 3,
-            EventFault::PastEnd => 4,
-            EventFault::PortAddress => 5,
-            EventFault::BadLength => 6,
-            EventFault::InputFull => 7,
-        }
+        self.entry().0
     }
 
     /// Returns the fault's name.
     pub fn name(&self) -> &'static str
         ensures { result.now ≡ event_fault_name self.now }
     {
+        self.entry().1
+    }
+
+    /// The fault's line in the table of numbers and names.
+    fn entry(&self) -> (u8, &'static str)
+        ensures number { result.0 ≡ event_fault_number self.now }
+        ensures name { result.1.now ≡ event_fault_name self.now }
+    {
         match self {
-            EventFault::CyclesFull => "CyclesFull",
-            EventFault::Undocumented { .. } => "Undocumented",
-            EventFault::ConsoleFull => "ConsoleFull",
-            EventFault::PastEnd => "PastEnd",
-            EventFault::PortAddress => "PortAddress",
-            EventFault::BadLength => "BadLength",
-            EventFault::InputFull => "InputFull",
+            EventFault::CyclesFull => (1, "CyclesFull"),
+            EventFault::Undocumented { .. } => (2, "Undocumented"),
+            EventFault::ConsoleFull => (3, "ConsoleFull"),
+            EventFault::PastEnd => (4, "PastEnd"),
+            EventFault::PortAddress => (5, "PortAddress"),
+            EventFault::BadLength => (6, "BadLength"),
+            EventFault::InputFull => (7, "InputFull"),
         }
     }
 }

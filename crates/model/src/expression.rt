@@ -65,19 +65,24 @@ impl LineFault {
     pub fn number(&self) -> u8
         ensures { result ≡ line_fault_number self.now }
     {
-        match self {
-            LineFault::Syntax => 1,
-            LineFault::OutOfMemory => 2,
-        }
+        self.entry().0
     }
 
     /// Returns the fault's name.
     pub fn name(&self) -> &'static str
         ensures { result.now ≡ line_fault_name self.now }
     {
+        self.entry().1
+    }
+
+    /// The fault's line in the table of numbers and names.
+    fn entry(&self) -> (u8, &'static str)
+        ensures number { result.0 ≡ line_fault_number self.now }
+        ensures name { result.1.now ≡ line_fault_name self.now }
+    {
         match self {
-            LineFault::Syntax => "Syntax",
-            LineFault::OutOfMemory => "OutOfMemory",
+            LineFault::Syntax => (1, "Syntax"),
+            LineFault::OutOfMemory => (2, "OutOfMemory"),
         }
     }
 }
@@ -128,21 +133,25 @@ impl ExprFault {
     pub fn number(&self) -> u8
         ensures { result ≡ expression_fault_number self.now }
     {
-        match self {
-            ExprFault::UnknownName => 1,
-            ExprFault::Range => 2,
-            ExprFault::DivideByZero => 3,
-        }
+        self.entry().0
     }
 
     /// Returns the fault's name.
     pub fn name(&self) -> &'static str
         ensures { result.now ≡ expression_fault_name self.now }
     {
+        self.entry().1
+    }
+
+    /// The fault's line in the table of numbers and names.
+    fn entry(&self) -> (u8, &'static str)
+        ensures number { result.0 ≡ expression_fault_number self.now }
+        ensures name { result.1.now ≡ expression_fault_name self.now }
+    {
         match self {
-            ExprFault::UnknownName => "UnknownName",
-            ExprFault::Range => "Range",
-            ExprFault::DivideByZero => "DivideByZero",
+            ExprFault::UnknownName => (1, "UnknownName"),
+            ExprFault::Range => (2, "Range"),
+            ExprFault::DivideByZero => (3, "DivideByZero"),
         }
     }
 }

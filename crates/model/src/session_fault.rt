@@ -35,27 +35,28 @@ impl SessionFault {
     pub fn number(&self) -> u8
         ensures { result ≡ session_fault_number self.now }
     {
-        match self {
-            SessionFault::NoHistory { .. } => 1,
-            SessionFault::TableFull => 2,
-            SessionFault::AlreadySet => 3,
-            SessionFault::NotSet => 4,
-            SessionFault::PortAddress => 5,
-            SessionFault::OutOfMemory => 6,
-        }
+        self.entry().0
     }
 
     /// Returns the fault's name.
     pub fn name(&self) -> &'static str
         ensures { result.now ≡ session_fault_name self.now }
     {
+        self.entry().1
+    }
+
+    /// The fault's line in the table of numbers and names.
+    fn entry(&self) -> (u8, &'static str)
+        ensures number { result.0 ≡ session_fault_number self.now }
+        ensures name { result.1.now ≡ session_fault_name self.now }
+    {
         match self {
-            SessionFault::NoHistory { .. } => "NoHistory",
-            SessionFault::TableFull => "TableFull",
-            SessionFault::AlreadySet => "AlreadySet",
-            SessionFault::NotSet => "NotSet",
-            SessionFault::PortAddress => "PortAddress",
-            SessionFault::OutOfMemory => "OutOfMemory",
+            SessionFault::NoHistory { .. } => (1, "NoHistory"),
+            SessionFault::TableFull => (2, "TableFull"),
+            SessionFault::AlreadySet => (3, "AlreadySet"),
+            SessionFault::NotSet => (4, "NotSet"),
+            SessionFault::PortAddress => (5, "PortAddress"),
+            SessionFault::OutOfMemory => (6, "OutOfMemory"),
         }
     }
 }

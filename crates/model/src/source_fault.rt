@@ -74,61 +74,45 @@ impl AsmFaultKind {
     pub fn number(&self) -> u8
         ensures { result ≡ source_fault_number self.now }
     {
-        match self {
-            AsmFaultKind::TooLarge => 1,
-            AsmFaultKind::LineTooLong => 2,
-            AsmFaultKind::NotAscii => 3,
-            AsmFaultKind::Syntax => 4,
-            AsmFaultKind::ReservedName => 5,
-            AsmFaultKind::DuplicateName => 6,
-            AsmFaultKind::UnknownHere => 7,
-            AsmFaultKind::NoSuchForm => 8,
-            AsmFaultKind::TooManyNames => 9,
-            AsmFaultKind::OriginRange => 10,
-            AsmFaultKind::ExprRange => 11,
-            AsmFaultKind::DivideByZero => 12,
-            AsmFaultKind::NotOneLine => 13,
-            AsmFaultKind::UndefinedName => 20,
-            AsmFaultKind::ByteRange => 21,
-            AsmFaultKind::WordRange => 22,
-            AsmFaultKind::BranchRange => 23,
-            AsmFaultKind::PastEnd => 24,
-            AsmFaultKind::Overlap => 25,
-            AsmFaultKind::PortAddress => 26,
-            AsmFaultKind::ValueExprRange => 27,
-            AsmFaultKind::ValueDivideByZero => 28,
-            AsmFaultKind::OutOfMemory => 99,
-        }
+        self.entry().0
     }
 
     /// Returns the fault's name. Two kinds have the name `ExprRange`, and two `DivideByZero`.
     pub fn name(&self) -> &'static str
         ensures { result.now ≡ source_fault_name self.now }
     {
+        self.entry().1
+    }
+
+    /// The fault's line in the table of numbers and names.
+    fn entry(&self) -> (u8, &'static str)
+        ensures number { result.0 ≡ source_fault_number self.now }
+        ensures name { result.1.now ≡ source_fault_name self.now }
+    {
         match self {
-            AsmFaultKind::TooLarge => "TooLarge",
-            AsmFaultKind::LineTooLong => "LineTooLong",
-            AsmFaultKind::NotAscii => "NotAscii",
-            AsmFaultKind::Syntax => "Syntax",
-            AsmFaultKind::ReservedName => "ReservedName",
-            AsmFaultKind::DuplicateName => "DuplicateName",
-            AsmFaultKind::UnknownHere => "UnknownHere",
-            AsmFaultKind::NoSuchForm => "NoSuchForm",
-            AsmFaultKind::TooManyNames => "TooManyNames",
-            AsmFaultKind::OriginRange => "OriginRange",
-            AsmFaultKind::ExprRange => "ExprRange",
-            AsmFaultKind::DivideByZero => "DivideByZero",
-            AsmFaultKind::NotOneLine => "NotOneLine",
-            AsmFaultKind::UndefinedName => "UndefinedName",
-            AsmFaultKind::ByteRange => "ByteRange",
-            AsmFaultKind::WordRange => "WordRange",
-            AsmFaultKind::BranchRange => "BranchRange",
-            AsmFaultKind::PastEnd => "PastEnd",
-            AsmFaultKind::Overlap => "Overlap",
-            AsmFaultKind::PortAddress => "PortAddress",
-            AsmFaultKind::ValueExprRange => "ExprRange",
-            AsmFaultKind::ValueDivideByZero => "DivideByZero",
-            AsmFaultKind::OutOfMemory => "OutOfMemory",
+            AsmFaultKind::TooLarge => (1, "TooLarge"),
+            AsmFaultKind::LineTooLong => (2, "LineTooLong"),
+            AsmFaultKind::NotAscii => (3, "NotAscii"),
+            AsmFaultKind::Syntax => (4, "Syntax"),
+            AsmFaultKind::ReservedName => (5, "ReservedName"),
+            AsmFaultKind::DuplicateName => (6, "DuplicateName"),
+            AsmFaultKind::UnknownHere => (7, "UnknownHere"),
+            AsmFaultKind::NoSuchForm => (8, "NoSuchForm"),
+            AsmFaultKind::TooManyNames => (9, "TooManyNames"),
+            AsmFaultKind::OriginRange => (10, "OriginRange"),
+            AsmFaultKind::ExprRange => (11, "ExprRange"),
+            AsmFaultKind::DivideByZero => (12, "DivideByZero"),
+            AsmFaultKind::NotOneLine => (13, "NotOneLine"),
+            AsmFaultKind::UndefinedName => (20, "UndefinedName"),
+            AsmFaultKind::ByteRange => (21, "ByteRange"),
+            AsmFaultKind::WordRange => (22, "WordRange"),
+            AsmFaultKind::BranchRange => (23, "BranchRange"),
+            AsmFaultKind::PastEnd => (24, "PastEnd"),
+            AsmFaultKind::Overlap => (25, "Overlap"),
+            AsmFaultKind::PortAddress => (26, "PortAddress"),
+            AsmFaultKind::ValueExprRange => (27, "ExprRange"),
+            AsmFaultKind::ValueDivideByZero => (28, "DivideByZero"),
+            AsmFaultKind::OutOfMemory => (99, "OutOfMemory"),
         }
     }
 }

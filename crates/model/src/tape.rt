@@ -44,35 +44,32 @@ impl TapeFaultKind {
     pub fn number(&self) -> u8
         ensures { result ≡ tape_fault_number self.now }
     {
-        match self {
-            TapeFaultKind::NoRecord => 1,
-            TapeFaultKind::BadHex => 2,
-            TapeFaultKind::BadChecksum => 3,
-            TapeFaultKind::PastEnd => 4,
-            TapeFaultKind::Truncated => 5,
-            TapeFaultKind::BadCount => 6,
-            TapeFaultKind::JunkAfterEnd => 7,
-            TapeFaultKind::JunkBetween => 8,
-            TapeFaultKind::OutOfMemory => 9,
-            TapeFaultKind::TooLong => 10,
-        }
+        self.entry().0
     }
 
     /// Returns the kind's name, as the program prints it. Source: mos65.
     pub fn name(&self) -> &'static str
         ensures { result.now ≡ tape_fault_name self.now }
     {
+        self.entry().1
+    }
+
+    /// The fault's line in the table of numbers and names.
+    fn entry(&self) -> (u8, &'static str)
+        ensures number { result.0 ≡ tape_fault_number self.now }
+        ensures name { result.1.now ≡ tape_fault_name self.now }
+    {
         match self {
-            TapeFaultKind::NoRecord => "NoRecord",
-            TapeFaultKind::BadHex => "BadHex",
-            TapeFaultKind::BadChecksum => "BadChecksum",
-            TapeFaultKind::PastEnd => "PastEnd",
-            TapeFaultKind::Truncated => "Truncated",
-            TapeFaultKind::BadCount => "BadCount",
-            TapeFaultKind::JunkAfterEnd => "JunkAfterEnd",
-            TapeFaultKind::JunkBetween => "JunkBetween",
-            TapeFaultKind::OutOfMemory => "OutOfMemory",
-            TapeFaultKind::TooLong => "TooLong",
+            TapeFaultKind::NoRecord => (1, "NoRecord"),
+            TapeFaultKind::BadHex => (2, "BadHex"),
+            TapeFaultKind::BadChecksum => (3, "BadChecksum"),
+            TapeFaultKind::PastEnd => (4, "PastEnd"),
+            TapeFaultKind::Truncated => (5, "Truncated"),
+            TapeFaultKind::BadCount => (6, "BadCount"),
+            TapeFaultKind::JunkAfterEnd => (7, "JunkAfterEnd"),
+            TapeFaultKind::JunkBetween => (8, "JunkBetween"),
+            TapeFaultKind::OutOfMemory => (9, "OutOfMemory"),
+            TapeFaultKind::TooLong => (10, "TooLong"),
         }
     }
 }

@@ -4,7 +4,7 @@ use Rattle.std.proofs.lemmas.List.{take_all}
 use Rattle.std.specs.Io.KnownBytes.{Appends}
 use Rattle.std.proofs.KnownBytes.{Appends-trans}
 use Rattle.model.specs.Written.{AppendsFront, Writes}
-use Rattle.session_laws.proofs.Written.{front_after}
+use Rattle.model.proofs.Written.{front_after}
 
 -- n more bytes after the first i, of what is left of them
 pub Appends-step : (a b c : Option (List ℕ)) (bs : List ℕ) (i n : ℕ) → Appends a b (take i bs) → Appends b c (take n (take (length bs - i) (drop i bs))) → Appends a c (take (i + n) bs)

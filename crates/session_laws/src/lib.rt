@@ -5,8 +5,7 @@
 //! (going back), `Calls` (going back among any calls), `LineCalls` (command lines are calls),
 //! `Looks` (looking changes no state), `RunLines` (lines for what is kept of others), `Told` (what
 //! was read so far), `Unset` and `Polled` (steps, and then sessions, that store no odd byte at
-//! base+3). `Written` has lemmas on beginnings of a text that was to be written; `replies` and
-//! `engine` share them.
+//! base+3).
 #![tactic(auto)]
 
 pub mod law;

@@ -18,16 +18,21 @@ use Rattle.model.specs.Bytes.{line_bytes, pieces_of}
 use Rattle.model.specs.OneLine.{one_line, no_numbers}
 use Rattle.text_laws.proofs.Forms.{as_coded}
 
-pub with_operand : (profile : Profile) (m : Mnemonic) (mode : Mode) (operand : Operand) (e : Term) (a op : ℕ) (text front : List ℕ)
-    → read_line profile text ≡ Ok (labelled None (instruction m operand)) → term_of operand ≡ Some e → coded_by no_numbers a (Some e) (form_of profile m operand) ≡ Ok (as_coded op mode)
-    → length_in mode ≤ 3 → a + length_in mode ≤ 65536 → operand_piece a mode (eval_of no_numbers (pos a) e) ≡ Ok front
+pub with_operand : (profile : Profile) (m : Mnemonic) (mode : Mode) (operand : Operand) (e : Term)
+    (a op : ℕ) (text front : List ℕ)
+    → read_line profile text ≡ Ok (labelled None (instruction m operand)) → term_of operand ≡ Some e
+    → coded_by no_numbers a (Some e) (form_of profile m operand) ≡ Ok (as_coded op mode)
+    → length_in mode ≤ 3 → a + length_in mode ≤ 65536
+    → operand_piece a mode (eval_of no_numbers (pos a) e) ≡ Ok front
     → one_line profile a text ≡ Ok (op ∷ front ++ [])
 unfolding one_line line_fixed laid size_of line_bytes pieces_of lowest lower
 with_operand profile m mode operand e a op text front read term taken small fits piece =
     rw (read, term, taken, le-leb (length_in mode) 3 small, le-leb (a + length_in mode) 65536 fits, piece) refl
 
-pub without_operand : (profile : Profile) (m : Mnemonic) (mode : Mode) (operand : Operand) (a op : ℕ) (text : List ℕ)
-    → read_line profile text ≡ Ok (labelled None (instruction m operand)) → term_of operand ≡ None → coded_by no_numbers a None (form_of profile m operand) ≡ Ok (as_coded op mode)
+pub without_operand : (profile : Profile) (m : Mnemonic) (mode : Mode) (operand : Operand)
+    (a op : ℕ) (text : List ℕ)
+    → read_line profile text ≡ Ok (labelled None (instruction m operand)) → term_of operand ≡ None
+    → coded_by no_numbers a None (form_of profile m operand) ≡ Ok (as_coded op mode)
     → length_in mode ≤ 3 → a + length_in mode ≤ 65536
     → one_line profile a text ≡ Ok (op ∷ [])
 unfolding one_line line_fixed laid size_of line_bytes pieces_of lowest lower
@@ -48,7 +53,8 @@ zero_page_again b below =
     let n : b % 256 ≡ b = omega (arith, below) in
     rw (le-ltb b 0 (omega arith), le-ltb 255 b (omega (arith, below)), n) refl
 
-pub address_again : (b c : ℕ) → b < 256 → c < 256 → address_piece (Ok (pos (b + 256 * c))) ≡ Ok (b ∷ c ∷ [])
+pub address_again : (b c : ℕ) → b < 256 → c < 256
+    → address_piece (Ok (pos (b + 256 * c))) ≡ Ok (b ∷ c ∷ [])
 unfolding address_piece
 address_again b c low high =
     let n : (b + 256 * c) % 65536 ≡ b + 256 * c = omega (arith, low, high) in
@@ -59,7 +65,8 @@ address_again b c low high =
 -- ---- branches
 
 -- the difference of two addresses modulo 65536
-difference : (t s d : ℕ) → t < 65536 → s < 65538 → d < 65536 → t ≡ (s + d) % 65536 → modulo (pos t -ℤ pos s) 65536 ≡ d
+difference : (t s d : ℕ) → t < 65536 → s < 65538 → d < 65536 → t ≡ (s + d) % 65536
+    → modulo (pos t -ℤ pos s) 65536 ≡ d
 difference t zero d tb sb db e =
     let n : (t + 0) % 65536 ≡ d = omega (arith, tb, db, e) in
     n
@@ -93,7 +100,8 @@ distance_again b below = elim (cases_Bool (nat_lt b 128)) [
       rw (f, lt-leb (b + 65280) 127 (omega (arith, large)), le-leb 65408 (b + 65280) (omega (arith, large)), n) refl
 ]
 
-pub branch_again : (a b : ℕ) → a < 65536 → b < 256 → branch_piece a (Ok (pos (target_of a b))) ≡ Ok (b ∷ [])
+pub branch_again : (a b : ℕ) → a < 65536 → b < 256
+    → branch_piece a (Ok (pos (target_of a b))) ≡ Ok (b ∷ [])
 unfolding branch_piece
 branch_again a b here below =
     let t : ℕ = target_of a b in
@@ -102,7 +110,9 @@ branch_again a b here below =
 
 -- ---- `.BYTE`
 
-pub byte_line : (profile : Profile) (a b : ℕ) (e : Term) (text : List ℕ) → read_line profile text ≡ Ok (labelled None (bytes (value e ∷ []))) → eval_of no_numbers (pos a) e ≡ Ok (pos b) → b < 256 → a < 65536
+pub byte_line : (profile : Profile) (a b : ℕ) (e : Term) (text : List ℕ)
+    → read_line profile text ≡ Ok (labelled None (bytes (value e ∷ [])))
+    → eval_of no_numbers (pos a) e ≡ Ok (pos b) → b < 256 → a < 65536
     → one_line profile a text ≡ Ok (b ∷ [])
 unfolding one_line line_fixed laid size_of line_bytes pieces_of lowest lower
 byte_line profile a b e text read valued below here =

@@ -15,7 +15,8 @@ pub record Digit (d h : ℕ) : Type 0 where
   pub source : is_source_byte h ≡ true
   pub value : digit_value h ≡ d
 
-below_16 : {A : Type 0} (f g : ℕ → A) (x : A) → map f (range_with_len 0 16) ≡ map g (range_with_len 0 16) → (d : ℕ) → d < 16 → f d ≡ g d
+below_16 : {A : Type 0} (f g : ℕ → A) (x : A)
+    → map f (range_with_len 0 16) ≡ map g (range_with_len 0 16) → (d : ℕ) → d < 16 → f d ≡ g d
 below_16 f g x same d below =
     sym (get_or-map-range_with_len f 0 16 d d x below (omega arith))
     ∙ ap (λ rows. get_or rows d x) same

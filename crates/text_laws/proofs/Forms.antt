@@ -29,12 +29,15 @@ both profile m d = (has_row profile m Zp || has_row profile m Abs) && has_row pr
 abbrev both_pointers : Profile → Mnemonic → Mode → Bool
 both_pointers profile m d = has_row profile m IndZ && has_row profile m Ind
 
-never_both : (profile : Profile) → map (λ m. map (both profile m) all_modes) all_mnemonics ≡ map (λ (m : Mnemonic). map (λ (d : Mode). false) all_modes) all_mnemonics
+never_both : (profile : Profile) → map (λ m. map (both profile m) all_modes) all_mnemonics
+    ≡ map (λ (m : Mnemonic). map (λ (d : Mode). false) all_modes) all_mnemonics
 unfolding has_row encoded find_opcode table documented added
 never_both N = refl
 never_both C = refl
 
-never_both_pointers : (profile : Profile) → map (λ m. map (both_pointers profile m) all_modes) all_mnemonics ≡ map (λ (m : Mnemonic). map (λ (d : Mode). false) all_modes) all_mnemonics
+never_both_pointers : (profile : Profile)
+    → map (λ m. map (both_pointers profile m) all_modes) all_mnemonics
+    ≡ map (λ (m : Mnemonic). map (λ (d : Mode). false) all_modes) all_mnemonics
 unfolding has_row encoded find_opcode table documented added
 never_both_pointers N = refl
 never_both_pointers C = refl
@@ -46,11 +49,13 @@ apart profile m = same_at_each (both profile) (λ m d. false) (never_both profil
 abbrev pub as_coded : ℕ → Mode → Coded
 as_coded op mode = record { opcode = op; mode = mode }
 
-pub has_code : (profile : Profile) (m : Mnemonic) (d : Mode) (op : ℕ) → encoded profile m d ≡ Some op → has_row profile m d ≡ true
+pub has_code : (profile : Profile) (m : Mnemonic) (d : Mode) (op : ℕ)
+    → encoded profile m d ≡ Some op → has_row profile m d ≡ true
 unfolding has_row
 has_code profile m d op code = rw code refl
 
-no_code : (profile : Profile) (m : Mnemonic) (d : Mode) → has_row profile m d ≡ false → encoded profile m d ≡ None
+no_code : (profile : Profile) (m : Mnemonic) (d : Mode) → has_row profile m d ≡ false
+    → encoded profile m d ≡ None
 unfolding has_row
 no_code profile m d h = by (encoded profile m d) h
   where
@@ -58,13 +63,16 @@ no_code profile m d h = by (encoded profile m d) h
     by None e = refl
     by (Some op) e = absurd cc
 
-no_pointer : (profile : Profile) (m : Mnemonic) (op : ℕ) → encoded profile m IndZ ≡ Some op → encoded profile m Ind ≡ None
+no_pointer : (profile : Profile) (m : Mnemonic) (op : ℕ) → encoded profile m IndZ ≡ Some op
+    → encoded profile m Ind ≡ None
 no_pointer profile m op code = no_code profile m Ind (rw (has_code profile m IndZ op code) at (same_at_each (both_pointers profile) (λ m d. false) (never_both_pointers profile) m Imp))
 
-no_branch : (profile : Profile) (m : Mnemonic) (op : ℕ) → encoded profile m Zp ≡ Some op → encoded profile m Rel ≡ None
+no_branch : (profile : Profile) (m : Mnemonic) (op : ℕ) → encoded profile m Zp ≡ Some op
+    → encoded profile m Rel ≡ None
 no_branch profile m op code = no_code profile m Rel (rw (has_code profile m Zp op code) at (apart profile m))
 
-no_branch_long : (profile : Profile) (m : Mnemonic) (op : ℕ) → encoded profile m Abs ≡ Some op → encoded profile m Rel ≡ None
+no_branch_long : (profile : Profile) (m : Mnemonic) (op : ℕ) → encoded profile m Abs ≡ Some op
+    → encoded profile m Rel ≡ None
 no_branch_long profile m op code = no_code profile m Rel (by (has_row profile m Zp) (has_row profile m Abs) (has_row profile m Rel) (has_code profile m Abs op code) (apart profile m))
   where
     by : (a b c : Bool) → b ≡ true → ((a || b) && c) ≡ false → c ≡ false
@@ -74,71 +82,97 @@ no_branch_long profile m op code = no_code profile m Rel (by (has_row profile m 
 
 -- ---- one mode
 
-pub implied_code : (profile : Profile) (m : Mnemonic) (n : Numbers) (a op : ℕ) → encoded profile m Imp ≡ Some op → coded_by n a None (form_of profile m absent) ≡ Ok (as_coded op Imp)
+pub implied_code : (profile : Profile) (m : Mnemonic) (n : Numbers) (a op : ℕ)
+    → encoded profile m Imp ≡ Some op
+    → coded_by n a None (form_of profile m absent) ≡ Ok (as_coded op Imp)
 unfolding form_of
 implied_code profile m n a op code = rw code refl
 
-pub accumulator_code : (profile : Profile) (m : Mnemonic) (n : Numbers) (a op : ℕ) → encoded profile m Acc ≡ Some op → coded_by n a None (form_of profile m accumulator) ≡ Ok (as_coded op Acc)
+pub accumulator_code : (profile : Profile) (m : Mnemonic) (n : Numbers) (a op : ℕ)
+    → encoded profile m Acc ≡ Some op
+    → coded_by n a None (form_of profile m accumulator) ≡ Ok (as_coded op Acc)
 unfolding form_of
 accumulator_code profile m n a op code = rw code refl
 
-pub immediate_code : (profile : Profile) (m : Mnemonic) (n : Numbers) (a op : ℕ) (e : Term) → encoded profile m Imm ≡ Some op → coded_by n a (Some e) (form_of profile m (immediate e)) ≡ Ok (as_coded op Imm)
+pub immediate_code : (profile : Profile) (m : Mnemonic) (n : Numbers) (a op : ℕ) (e : Term)
+    → encoded profile m Imm ≡ Some op → coded_by n a (Some e)
+    (form_of profile m (immediate e)) ≡ Ok (as_coded op Imm)
 unfolding form_of
 immediate_code profile m n a op e code = rw code refl
 
-pub pointer_code : (profile : Profile) (m : Mnemonic) (n : Numbers) (a op : ℕ) (e : Term) → encoded profile m Ind ≡ Some op → coded_by n a (Some e) (form_of profile m (pointer e)) ≡ Ok (as_coded op Ind)
+pub pointer_code : (profile : Profile) (m : Mnemonic) (n : Numbers) (a op : ℕ) (e : Term)
+    → encoded profile m Ind ≡ Some op → coded_by n a (Some e)
+    (form_of profile m (pointer e)) ≡ Ok (as_coded op Ind)
 unfolding form_of
 pointer_code profile m n a op e code = rw code refl
 
-pub zero_page_pointer_code : (profile : Profile) (m : Mnemonic) (n : Numbers) (a op : ℕ) (e : Term) → encoded profile m IndZ ≡ Some op → coded_by n a (Some e) (form_of profile m (pointer e)) ≡ Ok (as_coded op IndZ)
+pub zero_page_pointer_code : (profile : Profile) (m : Mnemonic) (n : Numbers) (a op : ℕ) (e : Term)
+    → encoded profile m IndZ ≡ Some op → coded_by n a (Some e)
+    (form_of profile m (pointer e)) ≡ Ok (as_coded op IndZ)
 unfolding form_of
 zero_page_pointer_code profile m n a op e code = rw (no_pointer profile m op code, code) refl
 
-pub pointer_by_x_code : (profile : Profile) (m : Mnemonic) (n : Numbers) (a op : ℕ) (e : Term) → encoded profile m IndX ≡ Some op → coded_by n a (Some e) (form_of profile m (pointer_by_x e)) ≡ Ok (as_coded op IndX)
+pub pointer_by_x_code : (profile : Profile) (m : Mnemonic) (n : Numbers) (a op : ℕ) (e : Term)
+    → encoded profile m IndX ≡ Some op → coded_by n a (Some e)
+    (form_of profile m (pointer_by_x e)) ≡ Ok (as_coded op IndX)
 unfolding form_of
 pointer_by_x_code profile m n a op e code = rw code refl
 
-pub pointer_by_y_code : (profile : Profile) (m : Mnemonic) (n : Numbers) (a op : ℕ) (e : Term) → encoded profile m IndY ≡ Some op → coded_by n a (Some e) (form_of profile m (pointer_by_y e)) ≡ Ok (as_coded op IndY)
+pub pointer_by_y_code : (profile : Profile) (m : Mnemonic) (n : Numbers) (a op : ℕ) (e : Term)
+    → encoded profile m IndY ≡ Some op → coded_by n a (Some e)
+    (form_of profile m (pointer_by_y e)) ≡ Ok (as_coded op IndY)
 unfolding form_of
 pointer_by_y_code profile m n a op e code = rw code refl
 
-pub branch_code : (profile : Profile) (m : Mnemonic) (n : Numbers) (a op : ℕ) (e : Term) → encoded profile m Rel ≡ Some op → coded_by n a (Some e) (form_of profile m (direct false e Unindexed)) ≡ Ok (as_coded op Rel)
+pub branch_code : (profile : Profile) (m : Mnemonic) (n : Numbers) (a op : ℕ) (e : Term)
+    → encoded profile m Rel ≡ Some op → coded_by n a (Some e)
+    (form_of profile m (direct false e Unindexed)) ≡ Ok (as_coded op Rel)
 unfolding form_of
 branch_code profile m n a op e code = rw code refl
 
-pub marked_code : (profile : Profile) (m : Mnemonic) (n : Numbers) (a op : ℕ) (e : Term) (by : Index) → encoded profile m (absolute_mode by) ≡ Some op → coded_by n a (Some e) (form_of profile m (direct true e by)) ≡ Ok (as_coded op (absolute_mode by))
+pub marked_code : (profile : Profile) (m : Mnemonic) (n : Numbers) (a op : ℕ) (e : Term)
+    (by : Index) → encoded profile m (absolute_mode by) ≡ Some op → coded_by n a (Some e)
+    (form_of profile m (direct true e by)) ≡ Ok (as_coded op (absolute_mode by))
 unfolding form_of
 marked_code profile m n a op e by code = rw code refl
 
 -- ---- two modes
 
-short_code : (n : Numbers) (a v : ℕ) (short : Coded) (long : Option Coded) → v < 256 → coded_by n a (Some (of_number v)) (either (Some short) long) ≡ Ok short
+short_code : (n : Numbers) (a v : ℕ) (short : Coded) (long : Option Coded) → v < 256
+    → coded_by n a (Some (of_number v)) (either (Some short) long) ≡ Ok short
 unfolding eval_of
 short_code n a v short None small = refl
 short_code n a v short (Some long) small = rw (le-leb v 255 (omega (arith, small))) refl
 
-long_code : (n : Numbers) (a v : ℕ) (short : Option Coded) (long : Coded) → (is_some short ≡ true → 256 ≤ v) → coded_by n a (Some (of_number v)) (either short (Some long)) ≡ Ok long
+long_code : (n : Numbers) (a v : ℕ) (short : Option Coded) (long : Coded)
+    → (is_some short ≡ true → 256 ≤ v) → coded_by n a (Some (of_number v))
+    (either short (Some long)) ≡ Ok long
 unfolding eval_of
 long_code n a v None long large = refl
 long_code n a v (Some short) long large = rw (lt-leb v 255 (omega (arith, large refl))) refl
 
-no_branch_here : (profile : Profile) (m : Mnemonic) (by : Index) (op : ℕ) → encoded profile m (zero_page_mode by) ≡ Some op → branch_form profile m by ≡ None
+no_branch_here : (profile : Profile) (m : Mnemonic) (by : Index) (op : ℕ)
+    → encoded profile m (zero_page_mode by) ≡ Some op → branch_form profile m by ≡ None
 no_branch_here profile m Unindexed op code = rw (no_branch profile m op code) refl
 no_branch_here profile m X op code = refl
 no_branch_here profile m Y op code = refl
 
-no_branch_far : (profile : Profile) (m : Mnemonic) (by : Index) (op : ℕ) → encoded profile m (absolute_mode by) ≡ Some op → branch_form profile m by ≡ None
+no_branch_far : (profile : Profile) (m : Mnemonic) (by : Index) (op : ℕ)
+    → encoded profile m (absolute_mode by) ≡ Some op → branch_form profile m by ≡ None
 no_branch_far profile m Unindexed op code = rw (no_branch_long profile m op code) refl
 no_branch_far profile m X op code = refl
 no_branch_far profile m Y op code = refl
 
-pub zero_page_code : (profile : Profile) (m : Mnemonic) (n : Numbers) (a v op : ℕ) (by : Index) → v < 256 → encoded profile m (zero_page_mode by) ≡ Some op
-    → coded_by n a (Some (of_number v)) (form_of profile m (direct false (of_number v) by)) ≡ Ok (as_coded op (zero_page_mode by))
+pub zero_page_code : (profile : Profile) (m : Mnemonic) (n : Numbers) (a v op : ℕ) (by : Index)
+    → v < 256 → encoded profile m (zero_page_mode by) ≡ Some op
+    → coded_by n a (Some (of_number v))
+    (form_of profile m (direct false (of_number v) by)) ≡ Ok (as_coded op (zero_page_mode by))
 unfolding form_of
 zero_page_code profile m n a v op by small code =
     rw (no_branch_here profile m by op code, code) (short_code n a v (as_coded op (zero_page_mode by)) (in_mode profile m (absolute_mode by)) small)
 
-large_code : (profile : Profile) (m : Mnemonic) (v : ℕ) (mode : Mode) → (has_row profile m mode ≡ true → 256 ≤ v) → is_some (in_mode profile m mode) ≡ true → 256 ≤ v
+large_code : (profile : Profile) (m : Mnemonic) (v : ℕ) (mode : Mode)
+    → (has_row profile m mode ≡ true → 256 ≤ v) → is_some (in_mode profile m mode) ≡ true → 256 ≤ v
 unfolding has_row
 large_code profile m v mode large h = by (encoded profile m mode) large h
   where
@@ -146,8 +180,11 @@ large_code profile m v mode large h = by (encoded profile m mode) large h
     by None l e = absurd cc
     by (Some op) l e = l refl
 
-pub absolute_code : (profile : Profile) (m : Mnemonic) (n : Numbers) (a v op : ℕ) (by : Index) → (has_row profile m (zero_page_mode by) ≡ true → 256 ≤ v) → encoded profile m (absolute_mode by) ≡ Some op
-    → coded_by n a (Some (of_number v)) (form_of profile m (direct false (of_number v) by)) ≡ Ok (as_coded op (absolute_mode by))
+pub absolute_code : (profile : Profile) (m : Mnemonic) (n : Numbers) (a v op : ℕ) (by : Index)
+    → (has_row profile m (zero_page_mode by) ≡ true → 256 ≤ v)
+    → encoded profile m (absolute_mode by) ≡ Some op
+    → coded_by n a (Some (of_number v))
+    (form_of profile m (direct false (of_number v) by)) ≡ Ok (as_coded op (absolute_mode by))
 unfolding form_of
 absolute_code profile m n a v op by large code =
     rw (no_branch_far profile m by op code, code) (long_code n a v (in_mode profile m (zero_page_mode by)) (as_coded op (absolute_mode by)) (large_code profile m v (zero_page_mode by) large))

@@ -50,7 +50,8 @@ abbrev pub Read : Profile → List ℕ → Mnemonic → Operand → Type 0
 Read profile text m operand = read_line profile text ≡ Ok (labelled None (instruction m operand))
 
 -- what was read, with the number for its text
-with_number : (profile : Profile) (text : List ℕ) (m : Mnemonic) (shape : Term → Operand) (e f : Term) → e ≡ f → Read profile text m (shape e) → Read profile text m (shape f)
+with_number : (profile : Profile) (text : List ℕ) (m : Mnemonic) (shape : Term → Operand)
+    (e f : Term) → e ≡ f → Read profile text m (shape e) → Read profile text m (shape f)
 with_number profile text m shape e f same read = rw same at read
 
 -- ---- modes with one byte
@@ -58,14 +59,16 @@ with_number profile text m shape e f same read = rw same at read
 abbrev pub One : Profile → Mnemonic → Mode → ℕ → ℕ → ℕ → List ℕ → Type 0
 One profile m mode a op b text = encoded profile m mode ≡ Some op → b < 256 → a + length_in mode ≤ 65536 → one_line profile a text ≡ Ok (op ∷ b ∷ [])
 
-pub immediate_again : (profile : Profile) (m : Mnemonic) (a op b : ℕ) → One profile m Imm a op b (mnemonic_text m ++ 32 ∷ 35 ∷ byte_text b)
+pub immediate_again : (profile : Profile) (m : Mnemonic) (a op b : ℕ)
+    → One profile m Imm a op b (mnemonic_text m ++ 32 ∷ 35 ∷ byte_text b)
 unfolding operand_piece eval_of
 immediate_again profile m a op b code below fits =
     with_operand profile m Imm (immediate (of_number b)) (of_number b) a op _ (b ∷ [])
     (with_number profile _ m immediate _ _ (byte_number b below) (texts.immediate_said profile m (named_of_code profile m Imm op code) _ _ _ _ (high b below) (low b)))
     refl (forms.immediate_code profile m no_numbers a op (of_number b) code) (omega arith) fits (byte_again b below)
 
-zero_page_piece_of : (a : ℕ) (by : Index) (b : ℕ) → b < 256 → operand_piece a (zero_page_mode by) (eval_of no_numbers (pos a) (of_number b)) ≡ Ok (b ∷ [])
+zero_page_piece_of : (a : ℕ) (by : Index) (b : ℕ) → b < 256 → operand_piece a (zero_page_mode by)
+    (eval_of no_numbers (pos a) (of_number b)) ≡ Ok (b ∷ [])
 unfolding operand_piece eval_of
 zero_page_piece_of a Unindexed b below = zero_page_again b below
 zero_page_piece_of a X b below = zero_page_again b below
@@ -76,34 +79,40 @@ short_small Unindexed = omega arith
 short_small X = omega arith
 short_small Y = omega arith
 
-pub zero_page_again_by : (profile : Profile) (m : Mnemonic) (by : Index) (a op b : ℕ) (text : List ℕ) → Read profile text m (direct false (written (byte_text b)) by) → One profile m (zero_page_mode by) a op b text
+pub zero_page_again_by : (profile : Profile) (m : Mnemonic) (by : Index) (a op b : ℕ)
+    (text : List ℕ) → Read profile text m (direct false (written (byte_text b)) by)
+    → One profile m (zero_page_mode by) a op b text
 zero_page_again_by profile m by a op b text read code below fits =
     with_operand profile m (zero_page_mode by) (direct false (of_number b) by) (of_number b) a op text (b ∷ [])
     (with_number profile text m (λ e. direct false e by) _ _ (byte_number b below) read)
     refl (forms.zero_page_code profile m no_numbers a b op by below code) (short_small by) fits (zero_page_piece_of a by b below)
 
-pub pointer_by_x_again : (profile : Profile) (m : Mnemonic) (a op b : ℕ) (text : List ℕ) → Read profile text m (pointer_by_x (written (byte_text b))) → One profile m IndX a op b text
+pub pointer_by_x_again : (profile : Profile) (m : Mnemonic) (a op b : ℕ) (text : List ℕ)
+    → Read profile text m (pointer_by_x (written (byte_text b))) → One profile m IndX a op b text
 unfolding operand_piece eval_of
 pointer_by_x_again profile m a op b text read code below fits =
     with_operand profile m IndX (pointer_by_x (of_number b)) (of_number b) a op text (b ∷ [])
     (with_number profile text m pointer_by_x _ _ (byte_number b below) read)
     refl (forms.pointer_by_x_code profile m no_numbers a op (of_number b) code) (omega arith) fits (zero_page_again b below)
 
-pub zero_page_pointer_again : (profile : Profile) (m : Mnemonic) (a op b : ℕ) (text : List ℕ) → Read profile text m (pointer (written (byte_text b))) → One profile m IndZ a op b text
+pub zero_page_pointer_again : (profile : Profile) (m : Mnemonic) (a op b : ℕ) (text : List ℕ)
+    → Read profile text m (pointer (written (byte_text b))) → One profile m IndZ a op b text
 unfolding operand_piece eval_of
 zero_page_pointer_again profile m a op b text read code below fits =
     with_operand profile m IndZ (pointer (of_number b)) (of_number b) a op text (b ∷ [])
     (with_number profile text m pointer _ _ (byte_number b below) read)
     refl (forms.zero_page_pointer_code profile m no_numbers a op (of_number b) code) (omega arith) fits (zero_page_again b below)
 
-pub pointer_by_y_again : (profile : Profile) (m : Mnemonic) (a op b : ℕ) (text : List ℕ) → Read profile text m (pointer_by_y (written (byte_text b))) → One profile m IndY a op b text
+pub pointer_by_y_again : (profile : Profile) (m : Mnemonic) (a op b : ℕ) (text : List ℕ)
+    → Read profile text m (pointer_by_y (written (byte_text b))) → One profile m IndY a op b text
 unfolding operand_piece eval_of
 pointer_by_y_again profile m a op b text read code below fits =
     with_operand profile m IndY (pointer_by_y (of_number b)) (of_number b) a op text (b ∷ [])
     (with_number profile text m pointer_by_y _ _ (byte_number b below) read)
     refl (forms.pointer_by_y_code profile m no_numbers a op (of_number b) code) (omega arith) fits (zero_page_again b below)
 
-pub branch_again_at : (profile : Profile) (m : Mnemonic) (a op b : ℕ) → a < 65536 → One profile m Rel a op b (mnemonic_text m ++ 32 ∷ word_text (target_of a b))
+pub branch_again_at : (profile : Profile) (m : Mnemonic) (a op b : ℕ) → a < 65536
+    → One profile m Rel a op b (mnemonic_text m ++ 32 ∷ word_text (target_of a b))
 unfolding operand_piece eval_of
 branch_again_at profile m a op b here code below fits =
     let t : ℕ = target_of a b in
@@ -114,7 +123,9 @@ branch_again_at profile m a op b here code below fits =
 
 -- ---- modes with an address
 
-absolute_piece_of : (a : ℕ) (by : Index) (b c : ℕ) → b < 256 → c < 256 → operand_piece a (absolute_mode by) (eval_of no_numbers (pos a) (of_number (b + 256 * c))) ≡ Ok (b ∷ c ∷ [])
+absolute_piece_of : (a : ℕ) (by : Index) (b c : ℕ) → b < 256 → c < 256
+    → operand_piece a (absolute_mode by)
+    (eval_of no_numbers (pos a) (of_number (b + 256 * c))) ≡ Ok (b ∷ c ∷ [])
 unfolding operand_piece eval_of
 absolute_piece_of a Unindexed b c l h = address_again b c l h
 absolute_piece_of a X b c l h = address_again b c l h
@@ -134,11 +145,14 @@ large_if w true e h = by (nat_lt w 256) refl e
 large_if w false e h = absurd cc
 
 -- with and without `!`
-pub absolute_again : (profile : Profile) (m : Mnemonic) (by : Index) (a op b c : ℕ) (suffix : List ℕ)
+pub absolute_again : (profile : Profile) (m : Mnemonic) (by : Index) (a op b c : ℕ)
+    (suffix : List ℕ)
     → Read profile (mnemonic_text m ++ (32 ∷ (word_text (b + 256 * c) ++ suffix))) m (direct false (written (word_text (b + 256 * c))) by)
     → Read profile (mnemonic_text m ++ (32 ∷ 33 ∷ (word_text (b + 256 * c) ++ suffix))) m (direct true (written (word_text (b + 256 * c))) by)
-    → encoded profile m (absolute_mode by) ≡ Some op → b < 256 → c < 256 → a + length_in (absolute_mode by) ≤ 65536
-    → one_line profile a (mnemonic_text m ++ (32 ∷ (absolute_text profile m (zero_page_mode by) (b + 256 * c) ++ suffix))) ≡ Ok (op ∷ b ∷ c ∷ [])
+    → encoded profile m (absolute_mode by) ≡ Some op → b < 256 → c < 256
+    → a + length_in (absolute_mode by) ≤ 65536
+    → one_line profile a (mnemonic_text m ++ (32 ∷ (absolute_text profile m (zero_page_mode by) (b + 256 * c) ++ suffix)))
+    ≡ Ok (op ∷ b ∷ c ∷ [])
 absolute_again profile m by a op b c suffix plain marked code l h fits = on (nat_lt (b + 256 * c) 256 && has_row profile m (zero_page_mode by)) refl
   where
     w : ℕ
@@ -155,7 +169,9 @@ absolute_again profile m by a op b c suffix plain marked code l h fits = on (nat
         (with_number profile _ m (λ e. direct false e by) _ _ (word_number (b + 256 * c) below) plain)
         refl (forms.absolute_code profile m no_numbers a (b + 256 * c) op by (large_if (b + 256 * c) (has_row profile m (zero_page_mode by)) t) code) (long_small by) fits (absolute_piece_of a by b c l h))
 
-pub pointer_again : (profile : Profile) (m : Mnemonic) (a op b c : ℕ) (text : List ℕ) → Read profile text m (pointer (written (word_text (b + 256 * c)))) → encoded profile m Ind ≡ Some op → b < 256 → c < 256 → a + 3 ≤ 65536
+pub pointer_again : (profile : Profile) (m : Mnemonic) (a op b c : ℕ) (text : List ℕ)
+    → Read profile text m (pointer (written (word_text (b + 256 * c))))
+    → encoded profile m Ind ≡ Some op → b < 256 → c < 256 → a + 3 ≤ 65536
     → one_line profile a text ≡ Ok (op ∷ b ∷ c ∷ [])
 unfolding operand_piece eval_of
 pointer_again profile m a op b c text read code l h fits =

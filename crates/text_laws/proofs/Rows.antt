@@ -36,27 +36,35 @@ Plain profile m by w suffix = Read profile (mnemonic_text m ++ (32 ∷ (word_tex
 abbrev Marked : Profile → Mnemonic → Index → ℕ → List ℕ → Type 0
 Marked profile m by w suffix = Read profile (mnemonic_text m ++ (32 ∷ 33 ∷ (word_text w ++ suffix))) m (direct true (written (word_text w)) by)
 
-plain : (profile : Profile) (m : Mnemonic) (named : Named profile m) (w : ℕ) → w < 65536 → Plain profile m Unindexed w []
+plain : (profile : Profile) (m : Mnemonic) (named : Named profile m) (w : ℕ) → w < 65536
+    → Plain profile m Unindexed w []
 plain profile m named w below = texts.absolute_said profile m named _ _ _ _ _ _ _ _ (high (w / 256) (first_half w below)) (low (w / 256)) (high (w % 256) (last_half w)) (low (w % 256))
 
-marked : (profile : Profile) (m : Mnemonic) (named : Named profile m) (w : ℕ) → w < 65536 → Marked profile m Unindexed w []
+marked : (profile : Profile) (m : Mnemonic) (named : Named profile m) (w : ℕ) → w < 65536
+    → Marked profile m Unindexed w []
 marked profile m named w below = texts.marked_said profile m named _ _ _ _ _ _ _ _ (high (w / 256) (first_half w below)) (low (w / 256)) (high (w % 256) (last_half w)) (low (w % 256))
 
-plain_by_x : (profile : Profile) (m : Mnemonic) (named : Named profile m) (w : ℕ) → w < 65536 → Plain profile m X w (44 ∷ 88 ∷ [])
+plain_by_x : (profile : Profile) (m : Mnemonic) (named : Named profile m) (w : ℕ) → w < 65536
+    → Plain profile m X w (44 ∷ 88 ∷ [])
 plain_by_x profile m named w below = texts.absolute_by_x_said profile m named _ _ _ _ _ _ _ _ (high (w / 256) (first_half w below)) (low (w / 256)) (high (w % 256) (last_half w)) (low (w % 256))
 
-marked_by_x : (profile : Profile) (m : Mnemonic) (named : Named profile m) (w : ℕ) → w < 65536 → Marked profile m X w (44 ∷ 88 ∷ [])
+marked_by_x : (profile : Profile) (m : Mnemonic) (named : Named profile m) (w : ℕ) → w < 65536
+    → Marked profile m X w (44 ∷ 88 ∷ [])
 marked_by_x profile m named w below = texts.marked_by_x_said profile m named _ _ _ _ _ _ _ _ (high (w / 256) (first_half w below)) (low (w / 256)) (high (w % 256) (last_half w)) (low (w % 256))
 
-plain_by_y : (profile : Profile) (m : Mnemonic) (named : Named profile m) (w : ℕ) → w < 65536 → Plain profile m Y w (44 ∷ 89 ∷ [])
+plain_by_y : (profile : Profile) (m : Mnemonic) (named : Named profile m) (w : ℕ) → w < 65536
+    → Plain profile m Y w (44 ∷ 89 ∷ [])
 plain_by_y profile m named w below = texts.absolute_by_y_said profile m named _ _ _ _ _ _ _ _ (high (w / 256) (first_half w below)) (low (w / 256)) (high (w % 256) (last_half w)) (low (w % 256))
 
-marked_by_y : (profile : Profile) (m : Mnemonic) (named : Named profile m) (w : ℕ) → w < 65536 → Marked profile m Y w (44 ∷ 89 ∷ [])
+marked_by_y : (profile : Profile) (m : Mnemonic) (named : Named profile m) (w : ℕ) → w < 65536
+    → Marked profile m Y w (44 ∷ 89 ∷ [])
 marked_by_y profile m named w below = texts.marked_by_y_said profile m named _ _ _ _ _ _ _ _ (high (w / 256) (first_half w below)) (low (w / 256)) (high (w % 256) (last_half w)) (low (w % 256))
 
 -- the bytes of an instruction again, from its mnemonic, its mode and its operand bytes
-instruction_again : (profile : Profile) (m : Mnemonic) (mode : Mode) (a op b c : ℕ) → a < 65536 → encoded profile m mode ≡ Some op → b < 256 → c < 256 → a + length_in mode ≤ 65536
-    → one_line profile a (mnemonic_text m ++ operand_text profile m mode a b c) ≡ Ok (take (length_in mode) (op ∷ b ∷ c ∷ []))
+instruction_again : (profile : Profile) (m : Mnemonic) (mode : Mode) (a op b c : ℕ) → a < 65536
+    → encoded profile m mode ≡ Some op → b < 256 → c < 256 → a + length_in mode ≤ 65536
+    → one_line profile a (mnemonic_text m ++ operand_text profile m mode a b c)
+    ≡ Ok (take (length_in mode) (op ∷ b ∷ c ∷ []))
 unfolding operand_text
 instruction_again profile m Imp a op b c here code l h fits =
     without_operand profile m Imp absent a op _ (texts.implied_said profile m (named_of_code profile m Imp op code)) refl (forms.implied_code profile m no_numbers a op code) (omega arith) fits
@@ -92,7 +100,8 @@ instruction_again profile m IndZ a op b c here code l h fits =
     zero_page_pointer_again profile m a op b _ (texts.zero_page_pointer_said profile m (named_of_code profile m IndZ op code) _ _ _ _ (high b l) (low b)) code l fits
 
 -- a byte that begins no instruction
-byte_row_again : (profile : Profile) (a b : ℕ) → a < 65536 → b < 256 → one_line profile a (byte_row b).text ≡ Ok (b ∷ [])
+byte_row_again : (profile : Profile) (a b : ℕ) → a < 65536 → b < 256
+    → one_line profile a (byte_row b).text ≡ Ok (b ∷ [])
 unfolding eval_of
 byte_row_again profile a b here below =
     let e = byte_number b below in
@@ -103,7 +112,8 @@ byte_row_again profile a b here below =
 abbrev front_of : List ℕ → List ℕ
 front_of bs = slice_index bs 0 ∷ slice_index bs 1 ∷ slice_index bs 2 ∷ []
 
-take_front : (mode : Mode) (bs : List ℕ) → length_in mode ≤ length bs → take (length_in mode) (front_of bs) ≡ take (length_in mode) bs
+take_front : (mode : Mode) (bs : List ℕ) → length_in mode ≤ length bs → take (length_in mode)
+    (front_of bs) ≡ take (length_in mode) bs
 take_front mode bs long = go (length_in mode) bs long (length_in_small mode)
   where
     go : (n : ℕ) (bs : List ℕ) → n ≤ length bs → n ≤ 3 → take n (slice_index bs 0 ∷ slice_index bs 1 ∷ slice_index bs 2 ∷ []) ≡ take n bs
@@ -119,7 +129,8 @@ take_front mode bs long = go (length_in mode) bs long (length_in_small mode)
 abbrev IsAgain : Profile → ℕ → List ℕ → TextRow → Type 0
 IsAgain profile a bs row = one_line profile a row.text ≡ Ok (take row.len bs)
 
-one_byte : (profile : Profile) (a : ℕ) (bs : List ℕ) → 0 < length bs → a < 65536 → ((i : ℕ) → slice_index bs i < 256) → IsAgain profile a bs (byte_row (slice_index bs 0))
+one_byte : (profile : Profile) (a : ℕ) (bs : List ℕ) → 0 < length bs → a < 65536
+    → ((i : ℕ) → slice_index bs i < 256) → IsAgain profile a bs (byte_row (slice_index bs 0))
 one_byte profile a [] some here each = absurd (omega (arith, some))
 one_byte profile a (x ∷ bs) some here each = byte_row_again profile a x here (each 0)
 

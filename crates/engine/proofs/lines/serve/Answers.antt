@@ -6,7 +6,7 @@ use Rattle.model.specs.Lines.{last_line}
 use Rattle.model.specs.Transcript.{transcript}
 use Rattle.engine.specs.Feeding.{feed}
 use Rattle.engine.proofs.Outcomes.{replying_serves, replying_serving}
-use Rattle.session_laws.proofs.Written.{front_after, front_more}
+use Rattle.model.proofs.Written.{front_after, front_more}
 use Rattle.engine.proofs.Feeds.{IsServed, served_start}
 use Rattle.engine.proofs.Serving.{known, served_more, served_quit, served_bytes, none_quits, so_far, served_all, served_last, length_zero, length_some}
 use Rattle.engine.proofs.lines.serve.Goals as goal

@@ -1,7 +1,7 @@
 use Rattle.std.proofs.Common.{◌+◌, ◌++◌, ◌∷◌, [], get_or, sym, ap, ◌∙◌, drop, true, false}
 use Rattle.std.proofs.KnownBytes.{Appends-trans}
 use Rattle.engine.specs.Feeding.{feed, fed, fed_after}
-use Rattle.session_laws.proofs.Written.{front_after, front_more}
+use Rattle.model.proofs.Written.{front_after, front_more}
 use Rattle.engine.proofs.Feeds.{feed_at, fed_then, then_on, then_quit, then_written, feed_end}
 use Rattle.engine.proofs.lines.serve_bytes.Goals as goal
 

@@ -1,6 +1,6 @@
 use Rattle.std.proofs.Common.{◌+◌, ◌<◌, ◌≤◌, ◌++◌, arith, ◌∙◌, length}
 use Rattle.std.proofs.KnownBytes.{Appends-nil, Appends-trans}
-use Rattle.session_laws.proofs.Written.{front_after, front_more}
+use Rattle.model.proofs.Written.{front_after, front_more}
 use Rattle.replies.proofs.Lists.{addresses_to, addresses_none, addresses_more, addresses_front, addresses_all}
 use Rattle.replies.proofs.views.put_addresses.Goals as goal
 

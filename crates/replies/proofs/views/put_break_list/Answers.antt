@@ -1,7 +1,7 @@
 use Rattle.std.proofs.Common.{◌∷◌, []}
 use Rattle.std.specs.List.{flat_map}
 use Rattle.model.specs.Text.{address_part}
-use Rattle.session_laws.proofs.Written.{front_more}
+use Rattle.model.proofs.Written.{front_more}
 use Rattle.replies.proofs.Writing.{Writes-then}
 use Rattle.replies.proofs.views.put_break_list.Goals as goal
 

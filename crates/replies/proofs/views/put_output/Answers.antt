@@ -2,7 +2,7 @@ use Rattle.std.proofs.Common.{◌∙◌, ◌++◌, ◌∷◌, [], length, subst,
 use Rattle.std.specs.Prelude.{decimal}
 use Rattle.model.specs.Written.{AppendsFront, Writes}
 use Rattle.replies.specs.Output.{output_rows}
-use Rattle.session_laws.proofs.Written.{front_more}
+use Rattle.model.proofs.Written.{front_more}
 use Rattle.replies.proofs.Writing.{Writes-then}
 use Rattle.replies.proofs.Rows.{output_whole}
 use Rattle.replies.proofs.views.put_output.Goals as goal

@@ -1,6 +1,6 @@
 use Rattle.std.proofs.Common.{◌≡◌, ◌+◌, ◌/◌, ◌*◌, ◌++◌, arith, ap, ◌∙◌, refl, length}
 use Rattle.std.proofs.KnownBytes.{Appends-nil, Appends-trans}
-use Rattle.session_laws.proofs.Written.{front_after, front_more}
+use Rattle.model.proofs.Written.{front_after, front_more}
 use Rattle.replies.proofs.Rows.{parts_to, output_part, parts_none, parts_more, parts_front, output_all, output_at, rows_count}
 use Rattle.replies.proofs.views.put_output_rows.Goals as goal
 

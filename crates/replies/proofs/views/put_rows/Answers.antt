@@ -1,6 +1,6 @@
 use Rattle.std.proofs.Common.{◌≡◌, ◌+◌, ◌/◌, ◌*◌, ◌++◌, arith, ap, ◌∙◌, refl}
 use Rattle.std.proofs.KnownBytes.{Appends-nil, Appends-trans}
-use Rattle.session_laws.proofs.Written.{front_after, front_more}
+use Rattle.model.proofs.Written.{front_after, front_more}
 use Rattle.replies.proofs.Rows.{parts_to, row_of, parts_none, parts_more, parts_front, rows_all, row_at}
 use Rattle.replies.proofs.views.put_rows.Goals as goal
 
