@@ -1,6 +1,7 @@
 //! Expressions and items among the tokens of a line.
 
-ghost use Rattle.std.specs.Prelude.{◌≡◌, ◌<◌, ◌≤◌, ◌-◌, IfOk, IfErr, List, None, Option, Some, drop};
+ghost use Rattle.std.specs.Prelude.{◌≡◌, ◌<◌, ◌≤◌, ◌-◌, IfOk, IfErr, List, None, Option, Some};
+ghost use Rattle.std.specs.Prelude.{drop};
 ghost use Rattle.std.specs.Prelude.{length, map, take, true};
 ghost use Rattle.model.specs.Expression.{Term};
 ghost use Rattle.model.specs.Line.{Item as SeenItem, item_of, list_within, whole_expression};

@@ -161,7 +161,8 @@ pub fn assemble(alloc: Global, source: &[u8], map: &MapSpec) -> Result<Assembly,
 /// Lays out the source, and then puts its bytes.
 fn assemble_lines(alloc: Global, source: &[u8], map: &MapSpec) -> Result<Assembly, AsmFault>
     ensures exact { AnswersSource seen_verdict result (verdict map.now source.now) }
-    ensures large { 1048576 < length source.now → result ≡ Err (record { line = 0; kind = TooLarge }) }
+    ensures large { 1048576 < length source.now
+        → result ≡ Err (record { line = 0; kind = TooLarge }) }
     ensures cells { IfOk result (λ a. IsImage a.image) }
     ensures kept { IfOk result (λ a. a.source ≡ source.now) }
     ensures spared { IfOk result (λ a. has_port_byte map.now a.image ≡ false) }

@@ -71,7 +71,10 @@ impl<'a> Lines<'a> {
         requires small { site.count ≤ 510 }
         requires sized { site.count ≡ size_of (line_content site.code (seen_line line)) }
         ensures { OnOk result (found_of self.new ≡ noting number (found_of self.old)
-            (record { address = address; content = line_content site.code (seen_line line.entry) })) }
+            (record {
+              address = address;
+              content = line_content site.code (seen_line line.entry);
+            })) }
     {
         self.spans.push(Span {
             address,

@@ -1,8 +1,13 @@
 //! Memory, ROM and the port.
 
-ghost use Rattle.std.specs.Prelude.{◌≡◌, ◌==◌, ◌+◌, ◌-◌, ◌<◌, ◌≤◌, ◌↔◌, length, slice_index, slice_get, slice_set, IsErr, OnOk, OnErr, IfErr, IfOk, Some, true, false, not, ◌||◌, ◌&&◌, ◌++◌, ◌∷◌, [], if◌then◌else◌, ℕ, List};
+ghost use Rattle.std.specs.Prelude.{◌≡◌, ◌==◌, ◌+◌, ◌-◌, ◌<◌, ◌≤◌, ◌↔◌, length, slice_index};
+ghost use Rattle.std.specs.Prelude.{slice_get, slice_set, IsErr, OnOk, OnErr, IfErr, IfOk, Some};
+ghost use Rattle.std.specs.Prelude.{true, false, not, ◌||◌, ◌&&◌, ◌++◌, ◌∷◌, [], if◌then◌else◌, ℕ};
+ghost use Rattle.std.specs.Prelude.{List};
 ghost use Rattle.std.specs.List.{list_all};
-ghost use Rattle.model.specs.State.{console_size, is_port, is_rom, byte_read, after_read, overflows, after_write, stored, input_waits, loaded_bus, has_port_byte, AreBytes, IsBus};
+ghost use Rattle.model.specs.State.{console_size, is_port, is_rom, byte_read, after_read};
+ghost use Rattle.model.specs.State.{overflows, after_write, stored, input_waits, loaded_bus};
+ghost use Rattle.model.specs.State.{has_port_byte, AreBytes, IsBus};
 ghost use Rattle.model.specs.Event.{meets_port, patched};
 ghost use Rattle.model.specs.Image.{empty_image, has_byte};
 ghost use Rattle.model.specs.Undo.{CanRestore, restored, cells_of, put_cells};
@@ -38,10 +43,19 @@ impl Model for Bus {
 
     ghost Value = { model.Bus };
 
-    ghost view = { λ b. record { map = b.map; memory = b.memory.items; given = b.given.items; taken = b.taken; out = b.out.items; control = b.control } };
+    ghost view = { λ b. record {
+      map = b.map;
+      memory = b.memory.items;
+      given = b.given.items;
+      taken = b.taken;
+      out = b.out.items;
+      control = b.control;
+    } };
 
-    ghost invariant = { λ b. (length b.memory.items ≡ 65536) × (b.given.capacity ≡ 65536) × (b.out.capacity ≡ 65536) × (b.taken ≤ length b.given.items)
-        × (length b.given.items ≤ 65536) × (length b.out.items ≤ 65536) × (512 ≤ b.map.port) × ((k : ℕ) → is_port b.map k ≡ true → slice_index b.memory.items k ≡ 0) };
+    ghost invariant = { λ b. (length b.memory.items ≡ 65536) × (b.given.capacity ≡ 65536)
+        × (b.out.capacity ≡ 65536) × (b.taken ≤ length b.given.items)
+        × (length b.given.items ≤ 65536) × (length b.out.items ≤ 65536) × (512 ≤ b.map.port)
+        × ((k : ℕ) → is_port b.map k ≡ true → slice_index b.memory.items k ≡ 0) };
 }
 
 impl Bus {
@@ -185,11 +199,14 @@ impl Bus {
     ///
     /// Errors: `InputFull` if 65,536 bytes were handed in, taken ones included; nothing changes.
     pub fn give(&mut self, byte: u8) -> Result<(), BusFault>
-        ensures ok { OnOk result (self.new ≡ record self.old { given = self.old.given ++ byte ∷ [] }) }
+        ensures ok { OnOk result (self.new ≡ record self.old {
+          given = self.old.given ++ byte ∷ [];
+        }) }
         ensures err { OnErr result (self.new ≡ self.old) }
         ensures full { IsErr result ↔ (console_size ≤ length self.old.given) }
         ensures only { IfErr result (λ fault. fault ≡ BusFault.InputFull) }
-        ensures undo { (change : Change) → CanRestore change self.old → restored change self.new ≡ restored change self.old }
+        ensures undo { (change : Change) → CanRestore change self.old
+            → restored change self.new ≡ restored change self.old }
         ensures fits { (change : Change) → CanRestore change self.old → CanRestore change self.new }
     {
         match self.given.try_push_back(byte) {
@@ -306,8 +323,10 @@ impl Bus {
 
     /// Takes the next byte of input, or returns 0 if none waits.
     fn take_input(&mut self) -> u8
-        ensures value { result ≡ (if input_waits self.old then slice_index self.old.given self.old.taken else 0) }
-        ensures after { self.new ≡ (if input_waits self.old then record self.old { taken = self.old.taken + 1 } else self.old) }
+        ensures value { result
+            ≡ (if input_waits self.old then slice_index self.old.given self.old.taken else 0) }
+        ensures after { self.new ≡ (if input_waits self.old
+            then record self.old { taken = self.old.taken + 1 } else self.old) }
     {
         match self.given.get(self.taken as usize) {
             None => 0,
@@ -496,7 +515,8 @@ impl Bus {
     pub fn store_plain(&mut self, address: u16, value: u8, stamps: &mut Stamps, now: u32)
         requires { not (is_port self.old.map address || is_rom self.old.map address) ≡ true }
         ensures after { self.new ≡ after_write self.old address value }
-        ensures stores { (watches : List ℕ) → slice_index watches address ≡ 0 → Stores watches now stamps.old stamps.new self.old self.new }
+        ensures stores { (watches : List ℕ) → slice_index watches address ≡ 0
+            → Stores watches now stamps.old stamps.new self.old self.new }
     {
         stamp_page(stamps, now, address);
         self.set(address, value);
@@ -507,7 +527,8 @@ impl Bus {
     #[inline(always)]
     pub fn push_plain(&mut self, s: u8, value: u8, stamps: &mut Stamps, now: u32)
         ensures after { self.new ≡ stored self.old (256 + s) value }
-        ensures stores { (watches : List ℕ) → slice_index watches (256 + s) ≡ 0 → Stores watches now stamps.old stamps.new self.old self.new }
+        ensures stores { (watches : List ℕ) → slice_index watches (256 + s) ≡ 0
+            → Stores watches now stamps.old stamps.new self.old self.new }
     {
         let place = 256 + s as u16;
         stamp_page(stamps, now, place);
@@ -585,7 +606,8 @@ fn noting(change: Change, address: u16, old: u8) -> Change
     requires { change.count < 3 }
     ensures cells { cells_of result ≡ (address, old) ∷ cells_of change }
     ensures count { result.count ≡ change.count + 1 }
-    ensures rest { (result.taken ≡ change.taken) × (result.given_len ≡ change.given_len) × (result.out_len ≡ change.out_len) × (result.control ≡ change.control) }
+    ensures rest { (result.taken ≡ change.taken) × (result.given_len ≡ change.given_len)
+        × (result.out_len ≡ change.out_len) × (result.control ≡ change.control) }
 {
     let cells = [(address, old), change.cells[0], change.cells[1]];
     Change {

@@ -32,7 +32,8 @@ fn copy_page(into: &mut [u8], from: &[u8], page: usize)
     requires page { page < 256 }
     ensures size { length into.new ≡ 65536 }
     ensures copied { (k : ℕ) → k / 256 ≡ page → slice_index into.new k ≡ slice_index from.now k }
-    ensures kept { (k : ℕ) → slice_index into.old k ≡ slice_index from.now k → slice_index into.new k ≡ slice_index from.now k }
+    ensures kept { (k : ℕ) → slice_index into.old k ≡ slice_index from.now k
+        → slice_index into.new k ≡ slice_index from.now k }
 {
     let start = page * 256;
     into[start..start + 256].copy_from_slice(&from[start..start + 256]);
@@ -44,7 +45,8 @@ fn copy_page(into: &mut [u8], from: &[u8], page: usize)
 #[inline(always)]
 pub fn stamp_pages(stamps: &mut Stamps, now: u32, change: &Change)
     requires { change.now.count ≤ 3 }
-    ensures { (memory : List ℕ) → StaySame now stamps.old stamps.new (put_cells (cells_of change.now) memory) memory }
+    ensures { (memory : List ℕ)
+        → StaySame now stamps.old stamps.new (put_cells (cells_of change.now) memory) memory }
 {
     stamp_cells(stamps, now, change);
 }
@@ -54,8 +56,10 @@ pub fn stamp_pages(stamps: &mut Stamps, now: u32, change: &Change)
 #[inline(always)]
 fn stamp_cells(stamps: &mut Stamps, now: u32, change: &Change)
     requires { change.now.count ≤ 3 }
-    ensures kept { (page : ℕ) → slice_index stamps.new page < now → slice_index stamps.new page ≡ slice_index stamps.old page }
-    ensures others { (page : ℕ) → slice_index stamps.new page < now → SparesPage (cells_of change.now) page }
+    ensures kept { (page : ℕ) → slice_index stamps.new page < now
+        → slice_index stamps.new page ≡ slice_index stamps.old page }
+    ensures others { (page : ℕ) → slice_index stamps.new page < now
+        → SparesPage (cells_of change.now) page }
 {
     for (place, _) in &change.cells[..change.count as usize] {
         stamps[(*place >> 8) as usize] = now;

@@ -14,7 +14,8 @@ with_steps t n = record {
   history = t.history;
 }
 
--- After some steps so many more may come, none of which makes a checkpoint or lets the oldest part go.
+-- After some steps so many more may come, none of which makes a checkpoint or lets the oldest part
+-- go.
 pub record IsQuiet (t : Trail) (steps more : ℕ) : Type 0 where
   pub few : steps + more ≤ 1024
   pub size : t.history ≤ 65536

@@ -51,19 +51,21 @@ pub record LeadsBack (c : Checkpoint) (now then : State) : Type 0 where
 -- each checkpoint leads from the current state back to the one before its part of p events
 abbrev pub AllMark : ℕ → List Checkpoint → State → List Event → State → Type 0
 AllMark p [] base events now = Unit {0}
-AllMark p (c ∷ cs) base events now = LeadsBack c now base × AllMark p cs (replayed base (take p events)) (drop p events) now
+AllMark p (c ∷ cs) base events now = LeadsBack c now base
+    × AllMark p cs (replayed base (take p events)) (drop p events) now
 
 -- the state before all of the events that are kept
 abbrev pub base_of : List Checkpoint → State → State
 base_of [] now = now
 base_of (c ∷ cs) now = returned c now
 
--- Some checkpoints and events are the history of a state: the events were accepted one after another and lead to it, and each
--- checkpoint leads back to the state before its part of p events.
-pub record IsHistory (p : ℕ) (kept : List Checkpoint) (events : List Event) (now : State) : Type 0 where
-  pub follow : AllFollow (base_of kept now) events
-  pub whole : replayed (base_of kept now) events ≡ now
-  pub marks : AllMark p kept (base_of kept now) events now
+-- Some checkpoints and events are the history of a state: the events were accepted one after
+-- another and lead to it, and each checkpoint leads back to the state before its part of p events.
+pub record IsHistory (p : ℕ) (kept : List Checkpoint) (events : List Event) (now : State) : Type 0
+  where
+    pub follow : AllFollow (base_of kept now) events
+    pub whole : replayed (base_of kept now) events ≡ now
+    pub marks : AllMark p kept (base_of kept now) events now
 
 -- the earlier states that are held
 abbrev pub held_states : ℕ → List Checkpoint → List Event → State → List State

@@ -31,17 +31,22 @@ end_at did why = record { did = did; why = why }
 abbrev pub beyond : ℕ → RunEnd → RunEnd
 beyond k e = end_at (k + e.did) e.why
 
--- how a run ends that began with so many steps: with the last of them, or so many steps later than the rest of it
+-- how a run ends that began with so many steps: with the last of them, or so many steps later than
+-- the rest of it
 abbrev pub end_after : ℕ → Option Why → RunEnd → RunEnd
 end_after steps (Some why) rest = end_at steps why
 end_after steps None rest = beyond steps rest
 
--- the first steps of a run lead from one session to another, and tell whether the run ends with the last of them; or the first is refused
+-- the first steps of a run lead from one session to another, and tell whether the run ends with the
+-- last of them; or the first is refused
 abbrev pub RunsTo : Session → Result Stretch EventFault → Session → Type 0
-RunsTo s (Ok r) t = (0 < r.steps) × (t ≡ after_steps r.steps s) × ((count : ℕ) → r.steps ≤ count → run_end count s ≡ end_after r.steps r.why (run_end (count - r.steps) t))
-RunsTo s (Err fault) t = ((count : ℕ) → 0 < count → run_end count s ≡ end_at 0 (Refused fault)) × (t ≡ s)
+RunsTo s (Ok r) t = (0 < r.steps) × (t ≡ after_steps r.steps s) × ((count : ℕ) → r.steps ≤ count
+    → run_end count s ≡ end_after r.steps r.why (run_end (count - r.steps) t))
+RunsTo s (Err fault) t = ((count : ℕ) → 0 < count → run_end count s ≡ end_at 0 (Refused fault))
+    × (t ≡ s)
 
 -- one step leads from a session to another, and tells whether a run ends with it
 abbrev pub StepsTo : Session → Result (Option Why) EventFault → Session → Type 0
-StepsTo s (Ok why) t = (state : State) × (step s.current ≡ Ok state) × (why ≡ stop_of s s.current state) × (t ≡ appended s state)
+StepsTo s (Ok why) t = (state : State) × (step s.current ≡ Ok state)
+    × (why ≡ stop_of s s.current state) × (t ≡ appended s state)
 StepsTo s (Err fault) t = (step s.current ≡ Err fault) × (t ≡ s)

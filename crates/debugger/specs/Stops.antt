@@ -12,4 +12,5 @@ abbrev pub before_of : Change → State → State
 before_of change state = record state { bus = restored change state.bus }
 
 unfoldable pub stop_after : List ℕ → List ℕ → Change → State → Option Why
-stop_after watches breaks change state = option_or (watch_met watches (before_of change state) state) (break_met breaks state state)
+stop_after watches breaks change state
+    = option_or (watch_met watches (before_of change state) state) (break_met breaks state state)

@@ -21,7 +21,8 @@ pub record HasRoom (t : Trail) : Type 0 where
 -- an event was noted
 pub record IsNoted (old new : Trail) (before now : State) : Type 0 where
   pub history : IsHistory 1024 new.kept.items new.events.items now
-  pub states : held_states new.held new.kept.items new.events.items now ≡ keep_last old.history (held_states old.held old.kept.items old.events.items before ++ before ∷ [])
+  pub states : held_states new.held new.kept.items new.events.items now ≡ keep_last old.history
+      (held_states old.held old.kept.items old.events.items before ++ before ∷ [])
 
 -- trails that differ in their lists alone
 pub record SameRoom (old new : Trail) : Type 0 where

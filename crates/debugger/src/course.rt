@@ -1,7 +1,8 @@
 //! The trail of a session, with the last steps of a run only counted: they are noted together,
 //! before anything else happens.
 
-ghost use Rattle.std.specs.Prelude.{◌≡◌, ◌+◌, ◌-◌, ◌*◌, ◌<◌, ◌≤◌, ◌++◌, ◌∷◌, ◌%◌, [], min, length, take, IfOk, IfErr, ℕ, List, true, false};
+ghost use Rattle.std.specs.Prelude.{◌≡◌, ◌+◌, ◌-◌, ◌*◌, ◌<◌, ◌≤◌, ◌++◌, ◌∷◌, ◌%◌, [], min, length};
+ghost use Rattle.std.specs.Prelude.{take, IfOk, IfErr, ℕ, List, true, false};
 ghost use Rattle.model.specs.State.{State};
 ghost use Rattle.model.specs.Run.{after_steps};
 ghost use Rattle.model.specs.declared.event.Event.TheVariants.{Step};
@@ -44,7 +45,8 @@ impl Model for Course {
 
     ghost view = { λ c. with_steps c.trail c.steps };
 
-    ghost invariant = { λ c. HasRoom (with_steps c.trail c.steps) × IsQuiet c.trail c.steps c.quiet };
+    ghost invariant = { λ c. HasRoom (with_steps c.trail c.steps) × IsQuiet c.trail c.steps
+        c.quiet };
 }
 
 /// Makes the course of a machine to which nothing has happened yet. It allocates all the room that
@@ -55,9 +57,11 @@ pub fn begin(alloc: Global, machine: &Machine, history: u32) -> Result<Course, S
     requires { history ≤ 65536 }
     ensures room { IfOk result (λ course. HasRoom course) }
     ensures size { IfOk result (λ course. course.history ≡ history) }
-    ensures history { IfOk result (λ course. IsHistory 1024 course.kept.items course.events.items machine.now) }
+    ensures history { IfOk result
+        (λ course. IsHistory 1024 course.kept.items course.events.items machine.now) }
     ensures none { IfOk result (λ course. length course.events.items ≡ 0) }
-    ensures states { IfOk result (λ course. held_states course.held course.kept.items course.events.items machine.now ≡ []) }
+    ensures states { IfOk result
+        (λ course. held_states course.held course.kept.items course.events.items machine.now ≡ []) }
     ensures first { IfOk result (λ course. course.kept.items ≡ checkpoint_of machine.now ∷ []) }
     ensures only { IfErr result (λ fault. fault ≡ SessionFault.OutOfMemory) }
 {
@@ -97,11 +101,14 @@ pub fn rewind(
     ensures room { HasRoom course.new }
     ensures size { course.new.history ≡ course.old.history }
     ensures history { IsHistory 1024 course.new.kept.items course.new.events.items machine.new }
-    ensures states { held_states course.new.held course.new.kept.items course.new.events.items machine.new ++ machine.new ∷ []
-        ≡ take (course.old.held - count + 1) (held_states course.old.held course.old.kept.items course.old.events.items machine.old ++ machine.old ∷ []) }
+    ensures states { held_states course.new.held course.new.kept.items course.new.events.items
+        machine.new ++ machine.new ∷ []
+        ≡ take (course.old.held - count + 1) (held_states course.old.held course.old.kept.items
+        course.old.events.items machine.old ++ machine.old ∷ []) }
     ensures number { result ≡ length course.new.events.items % 1024 }
     ensures fewer { length course.new.events.items + count ≡ length course.old.events.items }
-    ensures pages { TellsPages pages.new course.new.kept.items course.new.spare.items machine.new.bus.memory }
+    ensures pages { TellsPages pages.new course.new.kept.items course.new.spare.items
+        machine.new.bus.memory }
 {
     settle(&mut course.trail, course.steps);
     course.steps = 0;
@@ -112,12 +119,17 @@ pub fn rewind(
 /// Notes an accepted event, which led to the machine's state.
 #[inline(always)]
 pub fn note(course: &mut Course, machine: &Machine, pages: &mut Pages, event: Event)
-    requires { TellsPages pages.old course.old.kept.items course.old.spare.items machine.now.bus.memory }
+    requires { TellsPages pages.old course.old.kept.items course.old.spare.items
+        machine.now.bus.memory }
     ensures room { HasRoom course.new }
     ensures size { course.new.history ≡ course.old.history }
-    ensures number { length course.new.events.items % 1024 ≡ (length course.old.events.items % 1024 + 1) % 1024 }
-    ensures noted { (before : State) → IsHistory 1024 course.old.kept.items course.old.events.items before → Follows before event machine.now → IsNoted course.old course.new before machine.now }
-    ensures pages { TellsPages pages.new course.new.kept.items course.new.spare.items machine.now.bus.memory }
+    ensures number { length course.new.events.items % 1024
+        ≡ (length course.old.events.items % 1024 + 1) % 1024 }
+    ensures noted { (before : State)
+        → IsHistory 1024 course.old.kept.items course.old.events.items before
+        → Follows before event machine.now → IsNoted course.old course.new before machine.now }
+    ensures pages { TellsPages pages.new course.new.kept.items course.new.spare.items
+        machine.now.bus.memory }
 {
     if let Event::Step = event {
         return note_step(course, machine, pages);
@@ -128,12 +140,17 @@ pub fn note(course: &mut Course, machine: &Machine, pages: &mut Pages, event: Ev
 /// Notes the same at once.
 #[inline(never)]
 fn note_apart(course: &mut Course, machine: &Machine, pages: &mut Pages, event: Event)
-    requires { TellsPages pages.old course.old.kept.items course.old.spare.items machine.now.bus.memory }
+    requires { TellsPages pages.old course.old.kept.items course.old.spare.items
+        machine.now.bus.memory }
     ensures room { HasRoom course.new }
     ensures size { course.new.history ≡ course.old.history }
-    ensures number { length course.new.events.items % 1024 ≡ (length course.old.events.items % 1024 + 1) % 1024 }
-    ensures noted { (before : State) → IsHistory 1024 course.old.kept.items course.old.events.items before → Follows before event machine.now → IsNoted course.old course.new before machine.now }
-    ensures pages { TellsPages pages.new course.new.kept.items course.new.spare.items machine.now.bus.memory }
+    ensures number { length course.new.events.items % 1024
+        ≡ (length course.old.events.items % 1024 + 1) % 1024 }
+    ensures noted { (before : State)
+        → IsHistory 1024 course.old.kept.items course.old.events.items before
+        → Follows before event machine.now → IsNoted course.old course.new before machine.now }
+    ensures pages { TellsPages pages.new course.new.kept.items course.new.spare.items
+        machine.now.bus.memory }
 {
     settle(&mut course.trail, course.steps);
     course.steps = 0;
@@ -144,12 +161,17 @@ fn note_apart(course: &mut Course, machine: &Machine, pages: &mut Pages, event: 
 /// Notes a step, which led to the machine's state.
 #[inline(always)]
 pub fn note_step(course: &mut Course, machine: &Machine, pages: &mut Pages)
-    requires { TellsPages pages.old course.old.kept.items course.old.spare.items machine.now.bus.memory }
+    requires { TellsPages pages.old course.old.kept.items course.old.spare.items
+        machine.now.bus.memory }
     ensures room { HasRoom course.new }
     ensures size { course.new.history ≡ course.old.history }
-    ensures number { length course.new.events.items % 1024 ≡ (length course.old.events.items % 1024 + 1) % 1024 }
-    ensures noted { (before : State) → IsHistory 1024 course.old.kept.items course.old.events.items before → Follows before Step machine.now → IsNoted course.old course.new before machine.now }
-    ensures pages { TellsPages pages.new course.new.kept.items course.new.spare.items machine.now.bus.memory }
+    ensures number { length course.new.events.items % 1024
+        ≡ (length course.old.events.items % 1024 + 1) % 1024 }
+    ensures noted { (before : State)
+        → IsHistory 1024 course.old.kept.items course.old.events.items before
+        → Follows before Step machine.now → IsNoted course.old course.new before machine.now }
+    ensures pages { TellsPages pages.new course.new.kept.items course.new.spare.items
+        machine.now.bus.memory }
 {
     if course.quiet == 0 {
         note_apart(course, machine, pages, Event::Step);
@@ -173,14 +195,20 @@ pub fn run_quietly(
     requires stops { length stops.now ≡ 65536 }
     requires watches { length watches.now ≡ 65536 }
     requires history { IsHistory 1024 course.old.kept.items course.old.events.items machine.old }
-    requires pages { TellsPages pages.old course.old.kept.items course.old.spare.items machine.old.bus.memory }
+    requires pages { TellsPages pages.old course.old.kept.items course.old.spare.items
+        machine.old.bus.memory }
     ensures within { result.steps ≤ limit }
-    ensures on { result.stopped ≡ false → AllGoOn stops.now watches.now result.steps machine.old machine.new }
-    ensures last { result.stopped ≡ true → AllButLast stops.now watches.now result.steps machine.old machine.new }
+    ensures on { result.stopped ≡ false
+        → AllGoOn stops.now watches.now result.steps machine.old machine.new }
+    ensures last { result.stopped ≡ true
+        → AllButLast stops.now watches.now result.steps machine.old machine.new }
     ensures room { HasRoom course.new }
     ensures history { IsHistory 1024 course.new.kept.items course.new.events.items machine.new }
-    ensures steps { (breaks watched : List ℕ) (replayed : ℕ) → session_of course.new machine.new breaks watched replayed ≡ after_steps result.steps (session_of course.old machine.old breaks watched replayed) }
-    ensures pages { TellsPages pages.new course.new.kept.items course.new.spare.items machine.new.bus.memory }
+    ensures steps { (breaks watched : List ℕ) (replayed : ℕ)
+        → session_of course.new machine.new breaks watched replayed
+        ≡ after_steps result.steps (session_of course.old machine.old breaks watched replayed) }
+    ensures pages { TellsPages pages.new course.new.kept.items course.new.spare.items
+        machine.new.bus.memory }
 {
     let most = limit.min(course.quiet);
     let now = pages.now;

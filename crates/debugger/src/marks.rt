@@ -1,6 +1,8 @@
 //! Addresses in the order in which they were set.
 
-ghost use Rattle.std.specs.Prelude.{◌≡◌, ◌≢◌, ◌<◌, ◌≤◌, [], ◌∷◌, ◌++◌, length, nat_eq, slice_get, slice_index, ℕ, false, true, OnOk, OnErr, IfErr, IfOk, IsErrOf, IsOk, Ok, Err};
+ghost use Rattle.std.specs.Prelude.{◌≡◌, ◌≢◌, ◌<◌, ◌≤◌, [], ◌∷◌, ◌++◌, length, nat_eq, slice_get};
+ghost use Rattle.std.specs.Prelude.{slice_index, ℕ, false, true, OnOk, OnErr, IfErr, IfOk, IsErrOf};
+ghost use Rattle.std.specs.Prelude.{IsOk, Ok, Err};
 ghost use Rattle.std.specs.List.{list_any};
 ghost use Rattle.model.specs.Tables.{put_in, taken_out};
 
@@ -28,7 +30,8 @@ impl Model for Marks {
 
     ghost view = { λ m. m.set.keys };
 
-    ghost invariant = { λ m. (length m.set.keys ≤ 256) × (length m.map.items ≡ 65536) × ((k : ℕ) → slice_index m.map.items k ≡ 0 → list_any (nat_eq k) m.set.keys ≡ false) };
+    ghost invariant = { λ m. (length m.set.keys ≤ 256) × (length m.map.items ≡ 65536)
+        × ((k : ℕ) → slice_index m.map.items k ≡ 0 → list_any (nat_eq k) m.set.keys ≡ false) };
 }
 
 impl Marks {
@@ -78,7 +81,8 @@ impl Marks {
     #[inline(always)]
     pub fn map(&self) -> &[u8]
         ensures size { length result.now ≡ 65536 }
-        ensures none { (k : ℕ) → slice_index result.now k ≡ 0 → list_any (nat_eq k) self.now ≡ false }
+        ensures none { (k : ℕ) → slice_index result.now k ≡ 0
+            → list_any (nat_eq k) self.now ≡ false }
     {
         self.map.as_slice()
     }
@@ -90,7 +94,8 @@ impl Marks {
     #[tactic(auto, unfolding(model::specs::Tables::put_in))]
     pub fn set(&mut self, address: u16) -> Result<(), SessionFault>
         ensures ok { OnOk result (put_in self.old address ≡ Ok self.new) }
-        ensures err { IfErr result (λ fault. (self.new ≡ self.old) × (fault ≢ SessionFault.OutOfMemory → put_in self.old address ≡ Err fault)) }
+        ensures err { IfErr result (λ fault. (self.new ≡ self.old)
+            × (fault ≢ SessionFault.OutOfMemory → put_in self.old address ≡ Err fault)) }
         ensures memory { IsErrOf result SessionFault.OutOfMemory → IsOk (put_in self.old address) }
     {
         if self.contains(address) {
@@ -114,7 +119,8 @@ impl Marks {
     #[tactic(auto, unfolding(model::specs::Tables::taken_out))]
     pub fn clear(&mut self, address: u16) -> Result<(), SessionFault>
         ensures ok { OnOk result (taken_out self.old address ≡ Ok self.new) }
-        ensures err { IfErr result (λ fault. (taken_out self.old address ≡ Err fault) × (self.new ≡ self.old)) }
+        ensures err { IfErr result
+            (λ fault. (taken_out self.old address ≡ Err fault) × (self.new ≡ self.old)) }
     {
         if self.set.shift_remove(&address) {
             if !self.set.contains(&address) {

@@ -1,6 +1,8 @@
 //! A session.
 
-ghost use Rattle.std.specs.Prelude.{◌≡◌, ◌≢◌, ◌+◌, ◌-◌, ◌<◌, ◌≤◌, ◌⊎◌, ◌++◌, ◌∷◌, [], true, false, length, take, slice_get, slice_index, OnOk, IfOk, IfErr, IsErrOf, IsOk, Ok, Err};
+ghost use Rattle.std.specs.Prelude.{◌≡◌, ◌≢◌, ◌+◌, ◌-◌, ◌<◌, ◌≤◌, ◌⊎◌, ◌++◌, ◌∷◌, [], true, false};
+ghost use Rattle.std.specs.Prelude.{length, take, slice_get, slice_index, OnOk, IfOk, IfErr};
+ghost use Rattle.std.specs.Prelude.{IsErrOf, IsOk, Ok, Err};
 ghost use Rattle.model.specs.State.{has_port_byte, is_port, IsState, State};
 ghost use Rattle.model.specs.Event.{event_of, start};
 ghost use Rattle.model.specs.Undo.{CanRestore, restored, Undoes};
@@ -55,7 +57,9 @@ impl Model for Session {
       replayed = s.replayed;
     } };
 
-    ghost invariant = { λ s. HasRoom s.trail × IsHistory 1024 s.trail.kept.items s.trail.events.items s.machine × (s.replayed < 1024) × TellsPages s.pages s.trail.kept.items s.trail.spare.items s.machine.bus.memory };
+    ghost invariant = { λ s. HasRoom s.trail
+        × IsHistory 1024 s.trail.kept.items s.trail.events.items s.machine × (s.replayed < 1024)
+        × TellsPages s.pages s.trail.kept.items s.trail.spare.items s.machine.bus.memory };
 }
 
 impl Session {
@@ -73,8 +77,10 @@ impl Session {
         requires { history ≤ 65536 }
         ensures ok { IfOk result (λ session. session ≡ fresh history (start map image.now)) }
         ensures room { OnOk result (has_port_byte map image.now ≡ false) }
-        ensures port { IsErrOf result SessionFault.PortAddress → has_port_byte map image.now ≡ true }
-        ensures only { IfErr result (λ fault. (fault ≡ SessionFault.PortAddress) ⊎ (fault ≡ SessionFault.OutOfMemory)) }
+        ensures port { IsErrOf result SessionFault.PortAddress
+            → has_port_byte map image.now ≡ true }
+        ensures only { IfErr result
+            (λ fault. (fault ≡ SessionFault.PortAddress) ⊎ (fault ≡ SessionFault.OutOfMemory)) }
     {
         let machine = match Machine::new(alloc, map, image) {
             Ok(machine) => machine,
@@ -107,8 +113,10 @@ impl Session {
     /// than three bytes; nothing changes.
     #[inline(always)]
     pub fn event(&mut self, event: Event) -> Result<(), EventFault>
-        ensures ok { OnOk result ((state : State) × (event_of self.old.current event ≡ Ok state) × (self.new ≡ appended self.old state)) }
-        ensures err { IfErr result (λ fault. (event_of self.old.current event ≡ Err fault) × (self.new ≡ self.old)) }
+        ensures ok { OnOk result ((state : State) × (event_of self.old.current event ≡ Ok state)
+            × (self.new ≡ appended self.old state)) }
+        ensures err { IfErr result
+            (λ fault. (event_of self.old.current event ≡ Err fault) × (self.new ≡ self.old)) }
     {
         let now = self.pages.now;
         match happen(
@@ -227,7 +235,8 @@ impl Session {
     /// Errors: `NoHistory { held }` if fewer than `count` events are held; nothing changes.
     pub fn back(&mut self, count: u32) -> Result<(), SessionFault>
         ensures ok { OnOk result (back_of count self.old ≡ Ok self.new) }
-        ensures err { IfErr result (λ fault. (back_of count self.old ≡ Err fault) × (self.new ≡ self.old)) }
+        ensures err { IfErr result
+            (λ fault. (back_of count self.old ≡ Err fault) × (self.new ≡ self.old)) }
     {
         let held = self.held();
         if count > held {
@@ -269,8 +278,10 @@ impl Session {
     #[tactic(auto, unfolding(model::specs::Tables::break_set))]
     pub fn set_break(&mut self, address: u16) -> Result<(), SessionFault>
         ensures ok { OnOk result (break_set address self.old ≡ Ok self.new) }
-        ensures err { IfErr result (λ fault. (self.new ≡ self.old) × (fault ≢ SessionFault.OutOfMemory → break_set address self.old ≡ Err fault)) }
-        ensures memory { IsErrOf result SessionFault.OutOfMemory → IsOk (break_set address self.old) }
+        ensures err { IfErr result (λ fault. (self.new ≡ self.old)
+            × (fault ≢ SessionFault.OutOfMemory → break_set address self.old ≡ Err fault)) }
+        ensures memory { IsErrOf result SessionFault.OutOfMemory
+            → IsOk (break_set address self.old) }
     {
         self.breaks.set(address)
     }
@@ -281,7 +292,8 @@ impl Session {
     #[tactic(auto, unfolding(model::specs::Tables::break_cleared))]
     pub fn clear_break(&mut self, address: u16) -> Result<(), SessionFault>
         ensures ok { OnOk result (break_cleared address self.old ≡ Ok self.new) }
-        ensures err { IfErr result (λ fault. (break_cleared address self.old ≡ Err fault) × (self.new ≡ self.old)) }
+        ensures err { IfErr result
+            (λ fault. (break_cleared address self.old ≡ Err fault) × (self.new ≡ self.old)) }
     {
         self.breaks.clear(address)
     }
@@ -293,8 +305,10 @@ impl Session {
     #[tactic(auto, unfolding(model::specs::Tables::watch_set))]
     pub fn set_watch(&mut self, address: u16) -> Result<(), SessionFault>
         ensures ok { OnOk result (watch_set address self.old ≡ Ok self.new) }
-        ensures err { IfErr result (λ fault. (self.new ≡ self.old) × (fault ≢ SessionFault.OutOfMemory → watch_set address self.old ≡ Err fault)) }
-        ensures memory { IsErrOf result SessionFault.OutOfMemory → IsOk (watch_set address self.old) }
+        ensures err { IfErr result (λ fault. (self.new ≡ self.old)
+            × (fault ≢ SessionFault.OutOfMemory → watch_set address self.old ≡ Err fault)) }
+        ensures memory { IsErrOf result SessionFault.OutOfMemory
+            → IsOk (watch_set address self.old) }
     {
         if self.machine.is_port(address) {
             return Err(SessionFault::PortAddress);
@@ -308,7 +322,8 @@ impl Session {
     #[tactic(auto, unfolding(model::specs::Tables::watch_cleared))]
     pub fn clear_watch(&mut self, address: u16) -> Result<(), SessionFault>
         ensures ok { OnOk result (watch_cleared address self.old ≡ Ok self.new) }
-        ensures err { IfErr result (λ fault. (watch_cleared address self.old ≡ Err fault) × (self.new ≡ self.old)) }
+        ensures err { IfErr result
+            (λ fault. (watch_cleared address self.old ≡ Err fault) × (self.new ≡ self.old)) }
     {
         self.watches.clear(address)
     }

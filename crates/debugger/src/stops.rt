@@ -1,6 +1,7 @@
 //! Why a run ends after a step.
 
-ghost use Rattle.std.specs.Prelude.{◌≡◌, ◌≤◌, ◌∷◌, slice_index, min, nat_eq, if◌then◌else◌, Some, None};
+ghost use Rattle.std.specs.Prelude.{◌≡◌, ◌≤◌, ◌∷◌, slice_index, min, nat_eq, if◌then◌else◌, Some};
+ghost use Rattle.std.specs.Prelude.{None};
 ghost use Rattle.std.specs.List.{list_any};
 ghost use Rattle.model.specs.declared.run_end.Why.TheVariants.{Break};
 ghost use Rattle.std.specs.Option.{option_map_or};

@@ -1,6 +1,7 @@
 //! The events that led to the current state, and checkpoints along them.
 
-ghost use Rattle.std.specs.Prelude.{◌≡◌, ◌+◌, ◌-◌, ◌*◌, ◌/◌, ◌%◌, ◌<◌, ◌≤◌, ◌++◌, ◌∷◌, [], min, length, take, drop, Some, Ok, Err, OnOk, IfOk, IfErr, List, ℕ};
+ghost use Rattle.std.specs.Prelude.{◌≡◌, ◌+◌, ◌-◌, ◌*◌, ◌/◌, ◌%◌, ◌<◌, ◌≤◌, ◌++◌, ◌∷◌, [], min};
+ghost use Rattle.std.specs.Prelude.{length, take, drop, Some, Ok, Err, OnOk, IfOk, IfErr, List, ℕ};
 ghost use Rattle.model.specs.State.{State};
 ghost use Rattle.model.specs.Event.{event_of};
 ghost use Rattle.model.specs.declared.event.Event.TheVariants.{Step};
@@ -10,7 +11,8 @@ ghost use Rattle.model.specs.Checkpoint.{Checkpoint as Seen, CanPutBack, checkpo
 ghost use Rattle.circular_buffer.specs.Buffer.{last_item};
 ghost use Rattle.bus.specs.Pages.{StaySame};
 ghost use Rattle.debugger.specs.Pages.{TellsPages};
-ghost use Rattle.debugger.specs.Replay.{AllFollow, Follows, IsHistory, held_states, replayed, base_of};
+ghost use Rattle.debugger.specs.Replay.{AllFollow, Follows, IsHistory, held_states, replayed};
+ghost use Rattle.debugger.specs.Replay.{base_of};
 ghost use Rattle.debugger.specs.Trail.{HasRoom, IsNoted, LetGo, Marked};
 
 use crate::pages::Pages;
@@ -51,8 +53,10 @@ pub fn happen(
 ) -> Result<(), EventFault>
     requires { length watches.now ≡ 65536 }
     ensures ok { OnOk result (Follows machine.old event machine.new) }
-    ensures err { IfErr result (λ fault. (event_of machine.old event ≡ Err fault) × (machine.new ≡ machine.old)) }
-    ensures same { StaySame now stamps.old stamps.new machine.old.bus.memory machine.new.bus.memory }
+    ensures err { IfErr result
+        (λ fault. (event_of machine.old event ≡ Err fault) × (machine.new ≡ machine.old)) }
+    ensures same { StaySame now stamps.old stamps.new machine.old.bus.memory
+        machine.new.bus.memory }
 {
     if let Event::Step = event {
         return make_step(machine, watches, stamps, now);
@@ -74,8 +78,10 @@ fn make_step(
 ) -> Result<(), EventFault>
     requires { length watches.now ≡ 65536 }
     ensures ok { OnOk result (Follows machine.old Step machine.new) }
-    ensures err { IfErr result (λ fault. (event_of machine.old Step ≡ Err fault) × (machine.new ≡ machine.old)) }
-    ensures same { StaySame now stamps.old stamps.new machine.old.bus.memory machine.new.bus.memory }
+    ensures err { IfErr result
+        (λ fault. (event_of machine.old Step ≡ Err fault) × (machine.new ≡ machine.old)) }
+    ensures same { StaySame now stamps.old stamps.new machine.old.bus.memory
+        machine.new.bus.memory }
 {
     if machine.quick_step(watches, stamps, now) {
         return Ok(());
@@ -91,7 +97,8 @@ fn make_step(
 #[tactic(auto, unfolding(model::specs::Event::event_of))]
 fn happen_apart(machine: &mut Machine, event: Event) -> Result<Undo, EventFault>
     ensures ok { OnOk result (event_of machine.old event ≡ Ok machine.new) }
-    ensures err { IfErr result (λ fault. (event_of machine.old event ≡ Err fault) × (machine.new ≡ machine.old)) }
+    ensures err { IfErr result
+        (λ fault. (event_of machine.old event ≡ Err fault) × (machine.new ≡ machine.old)) }
     ensures undo { IfOk result (λ undo. Undoes undo machine.old machine.new) }
 {
     match event {
@@ -122,7 +129,8 @@ fn replay(
     requires watches { length watches.now ≡ 65536 }
     requires order { from ≤ to }
     requires within { to ≤ length events.now.items }
-    ensures { (base : State) → AllFollow base events.now.items → machine.old ≡ replayed base (take from events.now.items) → machine.new ≡ replayed base (take to events.now.items) }
+    ensures { (base : State) → AllFollow base events.now.items → machine.old ≡ replayed base
+        (take from events.now.items) → machine.new ≡ replayed base (take to events.now.items) }
 {
     for index in from..to {
         if let Some(event) = events.get(index) {
@@ -134,7 +142,8 @@ fn replay(
 /// Puts the machine back to the last of some checkpoints.
 fn return_to_last(machine: &mut Machine, kept: &HeapCircularBuffer<Checkpoint>)
     requires { (c : Seen) → last_item kept.now.items ≡ Some c → CanPutBack c.bus machine.old.bus }
-    ensures { (c : Seen) → last_item kept.now.items ≡ Some c → machine.new ≡ returned c machine.old }
+    ensures { (c : Seen) → last_item kept.now.items ≡ Some c
+        → machine.new ≡ returned c machine.old }
 {
     if let Some(checkpoint) = kept.back() {
         machine.restore(checkpoint);
@@ -150,7 +159,8 @@ fn put_aside(
     requires few { count ≤ length kept.old.items }
     requires room { length kept.old.items + length spare.old.items ≤ spare.old.capacity }
     ensures kept { kept.new.items ≡ take count kept.old.items }
-    ensures spare { length kept.new.items + length spare.new.items ≡ length kept.old.items + length spare.old.items }
+    ensures spare { length kept.new.items + length spare.new.items
+        ≡ length kept.old.items + length spare.old.items }
     ensures kept_room { kept.new.capacity ≡ kept.old.capacity }
     ensures spare_room { spare.new.capacity ≡ spare.old.capacity }
 {
@@ -178,11 +188,14 @@ pub fn rewind(
     ensures room { HasRoom trail.new }
     ensures size { trail.new.history ≡ trail.old.history }
     ensures history { IsHistory 1024 trail.new.kept.items trail.new.events.items machine.new }
-    ensures states { held_states trail.new.held trail.new.kept.items trail.new.events.items machine.new ++ machine.new ∷ []
-        ≡ take (trail.old.held - count + 1) (held_states trail.old.held trail.old.kept.items trail.old.events.items machine.old ++ machine.old ∷ []) }
+    ensures states { held_states trail.new.held trail.new.kept.items trail.new.events.items
+        machine.new
+        ++ machine.new ∷ [] ≡ take (trail.old.held - count + 1) (held_states trail.old.held
+        trail.old.kept.items trail.old.events.items machine.old ++ machine.old ∷ []) }
     ensures number { result ≡ length trail.new.events.items % 1024 }
     ensures fewer { length trail.new.events.items + count ≡ length trail.old.events.items }
-    ensures pages { TellsPages pages.new trail.new.kept.items trail.new.spare.items machine.new.bus.memory }
+    ensures pages { TellsPages pages.new trail.new.kept.items trail.new.spare.items
+        machine.new.bus.memory }
 {
     let target = trail.events.len() - count as usize;
     let place = target / PART;
@@ -207,12 +220,16 @@ pub fn rewind(
 #[inline(always)]
 pub fn note(trail: &mut Trail, machine: &Machine, pages: &mut Pages, event: Event)
     requires room { HasRoom trail.old }
-    requires pages { TellsPages pages.old trail.old.kept.items trail.old.spare.items machine.now.bus.memory }
+    requires pages { TellsPages pages.old trail.old.kept.items trail.old.spare.items
+        machine.now.bus.memory }
     ensures room { HasRoom trail.new }
     ensures size { trail.new.history ≡ trail.old.history }
-    ensures number { length trail.new.events.items % 1024 ≡ (length trail.old.events.items % 1024 + 1) % 1024 }
-    ensures noted { (before : State) → IsHistory 1024 trail.old.kept.items trail.old.events.items before → Follows before event machine.now → IsNoted trail.old trail.new before machine.now }
-    ensures pages { TellsPages pages.new trail.new.kept.items trail.new.spare.items machine.now.bus.memory }
+    ensures number { length trail.new.events.items % 1024
+        ≡ (length trail.old.events.items % 1024 + 1) % 1024 }
+    ensures noted { (before : State) → IsHistory 1024 trail.old.kept.items trail.old.events.items
+        before → Follows before event machine.now → IsNoted trail.old trail.new before machine.now }
+    ensures pages { TellsPages pages.new trail.new.kept.items trail.new.spare.items
+        machine.now.bus.memory }
 {
     trail.events.push_back(event);
     trail.held = one_more(trail.held, trail.history);
@@ -236,8 +253,11 @@ fn let_go(trail: &mut Trail, pages: &mut Pages)
     requires few_kept { length trail.old.kept.items ≤ 66 }
     requires room { length trail.old.spare.items < trail.old.spare.capacity }
     ensures few { length trail.old.events.items < trail.old.held + 1024 → trail.new ≡ trail.old }
-    ensures many { trail.old.held + 1024 ≤ length trail.old.events.items → LetGo trail.old trail.new }
-    ensures pages { (memory : List ℕ) → TellsPages pages.old trail.old.kept.items trail.old.spare.items memory → TellsPages pages.new trail.new.kept.items trail.new.spare.items memory }
+    ensures many { trail.old.held + 1024 ≤ length trail.old.events.items
+        → LetGo trail.old trail.new }
+    ensures pages { (memory : List ℕ)
+        → TellsPages pages.old trail.old.kept.items trail.old.spare.items memory
+        → TellsPages pages.new trail.new.kept.items trail.new.spare.items memory }
 {
     if trail.events.len() < trail.held as usize + PART {
         return;
@@ -254,12 +274,16 @@ fn let_go(trail: &mut Trail, pages: &mut Pages)
 /// Makes a checkpoint of the machine's state if one is due.
 #[inline(always)]
 fn mark(trail: &mut Trail, machine: &Machine, pages: &mut Pages)
-    requires pages { TellsPages pages.old trail.old.kept.items trail.old.spare.items machine.now.bus.memory }
+    requires pages { TellsPages pages.old trail.old.kept.items trail.old.spare.items
+        machine.now.bus.memory }
     requires spare { length trail.old.events.items % 1024 ≡ 0 → 0 < length trail.old.spare.items }
-    requires room { length trail.old.events.items % 1024 ≡ 0 → length trail.old.kept.items < trail.old.kept.capacity }
+    requires room { length trail.old.events.items % 1024 ≡ 0
+        → length trail.old.kept.items < trail.old.kept.capacity }
     ensures none { 0 < length trail.old.events.items % 1024 → trail.new ≡ trail.old }
-    ensures one { length trail.old.events.items % 1024 ≡ 0 → Marked trail.old trail.new (checkpoint_of machine.now) }
-    ensures pages { TellsPages pages.new trail.new.kept.items trail.new.spare.items machine.now.bus.memory }
+    ensures one { length trail.old.events.items % 1024 ≡ 0
+        → Marked trail.old trail.new (checkpoint_of machine.now) }
+    ensures pages { TellsPages pages.new trail.new.kept.items trail.new.spare.items
+        machine.now.bus.memory }
 {
     if trail.events.len() % PART != 0 {
         return;
@@ -280,9 +304,11 @@ pub fn begin(alloc: Global, machine: &Machine, history: u32) -> Result<Trail, Se
     requires { history ≤ 65536 }
     ensures room { IfOk result (λ trail. HasRoom trail) }
     ensures size { IfOk result (λ trail. trail.history ≡ history) }
-    ensures history { IfOk result (λ trail. IsHistory 1024 trail.kept.items trail.events.items machine.now) }
+    ensures history { IfOk result
+        (λ trail. IsHistory 1024 trail.kept.items trail.events.items machine.now) }
     ensures none { IfOk result (λ trail. length trail.events.items ≡ 0) }
-    ensures states { IfOk result (λ trail. held_states trail.held trail.kept.items trail.events.items machine.now ≡ []) }
+    ensures states { IfOk result
+        (λ trail. held_states trail.held trail.kept.items trail.events.items machine.now ≡ []) }
     ensures first { IfOk result (λ trail. trail.kept.items ≡ checkpoint_of machine.now ∷ []) }
     ensures only { IfErr result (λ fault. fault ≡ SessionFault.OutOfMemory) }
 {

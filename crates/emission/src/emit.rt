@@ -546,8 +546,8 @@ pub fn value_fault(
     Ok(gathered.kind())
 }
 
-/// Puts the bytes of a line into an image. If the line has a value fault, returns that fault and leaves
-/// the image as it was.
+/// Puts the bytes of a line into an image. If the line has a value fault, returns that fault and
+/// leaves the image as it was.
 pub fn put_line(
     gathered: &mut Gathered,
     map: &MapSpec,

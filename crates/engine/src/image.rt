@@ -15,8 +15,8 @@ use debugger::Session;
 use std::alloc::Global;
 use std::io::{Read, Write};
 
-/// Debugs an image: serves command lines on a session that starts with it. The image is dropped before
-/// a line is read.
+/// Debugs an image: serves command lines on a session that starts with it. The image is dropped
+/// before a line is read.
 ///
 /// # Errors
 ///

@@ -1,4 +1,5 @@
--- What C hands over and is answered: configurations, statuses, registers and how a run ended. Source: mos65.
+-- What C hands over and is answered: configurations, statuses, registers and how a run ended.
+-- Source: mos65.
 use Rattle.std.specs.Prelude.{ℕ, ◌+◌, Bool, true, false, not, ◌||◌, ◌==◌, nat_lt, if◌then◌else◌, List, [], ◌∷◌, ◌++◌, take, Option, Some, None}
 use Rattle.model.specs.State.{Map, State, is_map}
 use Rattle.model.specs.Effect.{status}
@@ -32,8 +33,8 @@ rom_of c = if c.has_rom then Some (c.rom_first, c.rom_last) else None
 abbrev pub config_map : Config → Map
 config_map c = record { profile = profile_of c.profile; rom = rom_of c; port = c.port }
 
--- 2 where the history is above 65,536 or the profile has another letter than N or C; then 501, 500 and the number of BadMap, where port
--- and ROM make no map; else 0.
+-- 2 where the history is above 65,536 or the profile has another letter than N or C; then 501, 500
+-- and the number of BadMap, where port and ROM make no map; else 0.
 unfoldable pub config_status : Config → ℕ
 config_status c =
     if nat_lt 65536 c.history || not (is_profile c.profile) then 2
@@ -73,9 +74,17 @@ place_of fault = 0
 
 abbrev pub ending_by : ℕ → Why → Ending
 ending_by did Limit = record { did = did; why = 0; status = 0; address = 0; opcode = 0 }
-ending_by did (Break address) = record { did = did; why = 1; status = 0; address = address; opcode = 0 }
-ending_by did (Watch address) = record { did = did; why = 2; status = 0; address = address; opcode = 0 }
-ending_by did (Refused fault) = record { did = did; why = 3; status = 100 + event_fault_number fault; address = place_of fault; opcode = opcode_of fault }
+ending_by did (Break address)
+    = record { did = did; why = 1; status = 0; address = address; opcode = 0 }
+ending_by did (Watch address)
+    = record { did = did; why = 2; status = 0; address = address; opcode = 0 }
+ending_by did (Refused fault) = record {
+  did = did;
+  why = 3;
+  status = 100 + event_fault_number fault;
+  address = place_of fault;
+  opcode = opcode_of fault;
+}
 
 abbrev pub ending_of : RunEnd → Ending
 ending_of end = ending_by end.did end.why

@@ -15,7 +15,8 @@ use assembler::assemble;
 use slot::AssemblySlot;
 use std::alloc::Global;
 
-/// Assembles a source for a configuration's map; where the source is refused, its fault and its line are told.
+/// Assembles a source for a configuration's map; where the source is refused, its fault and its
+/// line are told.
 #[unsafe(no_mangle)]
 pub extern "C" fn mos65_assemble(
     alloc: Global,
@@ -24,11 +25,16 @@ pub extern "C" fn mos65_assemble(
     source: &[u8],
     fault: &mut Fault,
 ) -> u32
-    ensures assembled { result ≡ 0 → (x : Assembled) × (assembly.new.slot.assembly ≡ Some x) × IsAssembly (config_map config.now) source.now x }
+    ensures assembled { result ≡ 0 → (x : Assembled) × (assembly.new.slot.assembly ≡ Some x)
+        × IsAssembly (config_map config.now) source.now x }
     ensures same { result ≢ 0 → assembly.new.slot.assembly ≡ assembly.old.slot.assembly }
     ensures busy { assembly.old.live ≡ true → result ≡ 2 }
-    ensures config { assembly.old.live ≡ false → config_status config.now ≢ 0 → result ≡ config_status config.now }
-    ensures faulty { (f : AsmFault) → assembly.old.live ≡ false → config_status config.now ≡ 0 → HasFault (config_map config.now) source.now f → ((result ≡ 300 + source_fault_number f.kind) × (fault.new.line ≡ f.line)) ⊎ (result ≡ 399) }
+    ensures config { assembly.old.live ≡ false → config_status config.now ≢ 0
+        → result ≡ config_status config.now }
+    ensures faulty { (f : AsmFault) → assembly.old.live ≡ false → config_status config.now ≡ 0
+        → HasFault (config_map config.now) source.now f
+        → ((result ≡ 300 + source_fault_number f.kind) × (fault.new.line ≡ f.line))
+        ⊎ (result ≡ 399) }
 {
     *fault = Fault::none();
     if assembly.live {
@@ -61,7 +67,8 @@ pub extern "C" fn mos65_assemble(
     }
 }
 
-/// Writes the beginning of the listing for which `out` has room, and tells how long the whole listing is.
+/// Writes the beginning of the listing for which `out` has room, and tells how long the whole
+/// listing is.
 #[unsafe(no_mangle)]
 pub extern "C" fn mos65_listing(
     alloc: Global,
@@ -69,7 +76,9 @@ pub extern "C" fn mos65_listing(
     out: &mut [u8],
     count: &mut usize,
 ) -> u32
-    ensures written { (x : Assembled) → assembly.old.slot.assembly ≡ Some x → result ≡ 0 → (count.new ≡ length (listing_of x)) × (take (min (length out.old) (length (listing_of x))) out.new ≡ take (length out.old) (listing_of x)) }
+    ensures written { (x : Assembled) → assembly.old.slot.assembly ≡ Some x → result ≡ 0
+        → (count.new ≡ length (listing_of x)) × (take (min (length out.old) (length (listing_of x)))
+        out.new ≡ take (length out.old) (listing_of x)) }
     ensures gone { assembly.old.slot.assembly ≡ None → result ≡ 1 }
     ensures same { assembly.new.slot.assembly ≡ assembly.old.slot.assembly }
 {

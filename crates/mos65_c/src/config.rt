@@ -37,7 +37,8 @@ fn rom(config: &Config) -> Option<(u16, u16)>
 /// The map of a configuration, or the status that refuses it.
 #[tactic(auto, unfolding(crate::specs::Status::config_status))]
 pub fn map_of(config: &Config) -> Result<MapSpec, u32>
-    ensures ok { IfOk result (λ map. (map ≡ config_map config.now) × (config_status config.now ≡ 0) × (config.now.history ≤ 65536)) }
+    ensures ok { IfOk result (λ map. (map ≡ config_map config.now) × (config_status config.now ≡ 0)
+        × (config.now.history ≤ 65536)) }
     ensures err { IfErr result (λ status. (status ≡ config_status config.now) × (status ≢ 0)) }
     // It is no status of a session's fault.
     ensures own { IfErr result (λ status. status ≢ 205) }

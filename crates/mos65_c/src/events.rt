@@ -12,7 +12,8 @@ use debugger::{Event, Setting};
 const BAD_LENGTH: u32 = 106;
 
 fn happen(m: &mut Mos65, event: Event) -> u32
-    ensures live { (s : Seen) → m.old.slot.session ≡ Some s → AnswersEvent s event result m.new.slot.session }
+    ensures live { (s : Seen) → m.old.slot.session ≡ Some s
+        → AnswersEvent s event result m.new.slot.session }
     ensures gone { m.old.slot.session ≡ None → (result ≡ 1) × (m.new.slot.session ≡ None) }
 {
     if !m.live {
@@ -27,7 +28,8 @@ fn happen(m: &mut Mos65, event: Event) -> u32
 /// Makes one step.
 #[unsafe(no_mangle)]
 pub extern "C" fn mos65_step(m: &mut Mos65) -> u32
-    ensures live { (s : Seen) → m.old.slot.session ≡ Some s → AnswersEvent s Event.Step result m.new.slot.session }
+    ensures live { (s : Seen) → m.old.slot.session ≡ Some s
+        → AnswersEvent s Event.Step result m.new.slot.session }
     ensures gone { m.old.slot.session ≡ None → (result ≡ 1) × (m.new.slot.session ≡ None) }
 {
     happen(m, Event::Step)
@@ -36,7 +38,8 @@ pub extern "C" fn mos65_step(m: &mut Mos65) -> u32
 /// Resets the machine.
 #[unsafe(no_mangle)]
 pub extern "C" fn mos65_reset(m: &mut Mos65) -> u32
-    ensures live { (s : Seen) → m.old.slot.session ≡ Some s → AnswersEvent s Event.Reset result m.new.slot.session }
+    ensures live { (s : Seen) → m.old.slot.session ≡ Some s
+        → AnswersEvent s Event.Reset result m.new.slot.session }
     ensures gone { m.old.slot.session ≡ None → (result ≡ 1) × (m.new.slot.session ≡ None) }
 {
     happen(m, Event::Reset)
@@ -45,7 +48,8 @@ pub extern "C" fn mos65_reset(m: &mut Mos65) -> u32
 /// Sets the IRQ line, true for the level that asks for an interrupt.
 #[unsafe(no_mangle)]
 pub extern "C" fn mos65_irq(m: &mut Mos65, level: bool) -> u32
-    ensures live { (s : Seen) → m.old.slot.session ≡ Some s → AnswersEvent s (Event.Irq level) result m.new.slot.session }
+    ensures live { (s : Seen) → m.old.slot.session ≡ Some s
+        → AnswersEvent s (Event.Irq level) result m.new.slot.session }
     ensures gone { m.old.slot.session ≡ None → (result ≡ 1) × (m.new.slot.session ≡ None) }
 {
     happen(m, Event::Irq(level))
@@ -54,7 +58,8 @@ pub extern "C" fn mos65_irq(m: &mut Mos65, level: bool) -> u32
 /// Signals an NMI.
 #[unsafe(no_mangle)]
 pub extern "C" fn mos65_nmi(m: &mut Mos65) -> u32
-    ensures live { (s : Seen) → m.old.slot.session ≡ Some s → AnswersEvent s Event.Nmi result m.new.slot.session }
+    ensures live { (s : Seen) → m.old.slot.session ≡ Some s
+        → AnswersEvent s Event.Nmi result m.new.slot.session }
     ensures gone { m.old.slot.session ≡ None → (result ≡ 1) × (m.new.slot.session ≡ None) }
 {
     happen(m, Event::Nmi)
@@ -63,7 +68,8 @@ pub extern "C" fn mos65_nmi(m: &mut Mos65) -> u32
 /// Hands in a byte of input.
 #[unsafe(no_mangle)]
 pub extern "C" fn mos65_input(m: &mut Mos65, byte: u8) -> u32
-    ensures live { (s : Seen) → m.old.slot.session ≡ Some s → AnswersEvent s (Event.Input byte) result m.new.slot.session }
+    ensures live { (s : Seen) → m.old.slot.session ≡ Some s
+        → AnswersEvent s (Event.Input byte) result m.new.slot.session }
     ensures gone { m.old.slot.session ≡ None → (result ≡ 1) × (m.new.slot.session ≡ None) }
 {
     happen(m, Event::Input(byte))
@@ -89,11 +95,15 @@ fn setting_of(register: u32, value: u16) -> Option<Setting>
     }
 }
 
-/// Sets a register by its number: 0 to 5 for A, X, Y, S, P and PC. Of P only the six flags are taken.
+/// Sets a register by its number: 0 to 5 for A, X, Y, S, P and PC. Of P only the six flags are
+/// taken.
 #[unsafe(no_mangle)]
 pub extern "C" fn mos65_set(m: &mut Mos65, register: u32, value: u16) -> u32
-    ensures live { (s : Seen) (setting : Setting) → m.old.slot.session ≡ Some s → setting_of register value ≡ Some setting → AnswersEvent s (Event.Set setting) result m.new.slot.session }
-    ensures misuse { setting_of register value ≡ None → (result ≡ 2) × (m.new.slot.session ≡ m.old.slot.session) }
+    ensures live { (s : Seen) (setting : Setting) → m.old.slot.session ≡ Some s
+        → setting_of register value ≡ Some setting
+        → AnswersEvent s (Event.Set setting) result m.new.slot.session }
+    ensures misuse { setting_of register value ≡ None
+        → (result ≡ 2) × (m.new.slot.session ≡ m.old.slot.session) }
 {
     match setting_of(register, value) {
         Some(setting) => happen(m, Event::Set(setting)),
@@ -116,8 +126,10 @@ fn three_bytes(bytes: &[u8]) -> [u8; 3]
 /// Changes one to three bytes of memory, in ROM too: one event.
 #[unsafe(no_mangle)]
 pub extern "C" fn mos65_patch(m: &mut Mos65, address: u16, bytes: &[u8]) -> u32
-    ensures live { (s : Seen) → m.old.slot.session ≡ Some s → length bytes.now ≤ 3 → AnswersEvent s (Event.Patch address (three_bytes bytes.now) (length bytes.now)) result m.new.slot.session }
-    ensures long { 3 < length bytes.now → (result ≡ 106) × (m.new.slot.session ≡ m.old.slot.session) }
+    ensures live { (s : Seen) → m.old.slot.session ≡ Some s → length bytes.now ≤ 3 → AnswersEvent s
+        (Event.Patch address (three_bytes bytes.now) (length bytes.now)) result m.new.slot.session }
+    ensures long { 3 < length bytes.now
+        → (result ≡ 106) × (m.new.slot.session ≡ m.old.slot.session) }
 {
     if bytes.len() > 3 {
         return BAD_LENGTH;

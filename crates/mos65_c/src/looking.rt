@@ -16,7 +16,8 @@ const PAST_END: u32 = 104;
 /// Tells the registers and the cycle count.
 #[unsafe(no_mangle)]
 pub extern "C" fn mos65_registers(m: &mut Mos65, out: &mut Registers) -> u32
-    ensures live { (s : Seen) → m.old.slot.session ≡ Some s → (result ≡ 0) × (out.new ≡ registers_of s.current) }
+    ensures live { (s : Seen) → m.old.slot.session ≡ Some s
+        → (result ≡ 0) × (out.new ≡ registers_of s.current) }
     ensures gone { m.old.slot.session ≡ None → (result ≡ 1) × (out.new ≡ out.old) }
     ensures same { m.new.slot.session ≡ m.old.slot.session }
 {
@@ -40,8 +41,10 @@ pub extern "C" fn mos65_registers(m: &mut Mos65, out: &mut Registers) -> u32
 /// Copies memory from an address on, as many bytes as `out` has. A port address reads 0.
 #[unsafe(no_mangle)]
 pub extern "C" fn mos65_read(m: &mut Mos65, address: u16, out: &mut [u8]) -> u32
-    ensures live { (s : Seen) → m.old.slot.session ≡ Some s → address + length out.old ≤ 65536 → (result ≡ 0) × (out.new ≡ take (length out.old) (drop address s.current.bus.memory)) }
-    ensures long { (s : Seen) → m.old.slot.session ≡ Some s → 65536 < address + length out.old → (result ≡ 104) × (out.new ≡ out.old) }
+    ensures live { (s : Seen) → m.old.slot.session ≡ Some s → address + length out.old ≤ 65536
+        → (result ≡ 0) × (out.new ≡ take (length out.old) (drop address s.current.bus.memory)) }
+    ensures long { (s : Seen) → m.old.slot.session ≡ Some s → 65536 < address + length out.old
+        → (result ≡ 104) × (out.new ≡ out.old) }
     ensures gone { m.old.slot.session ≡ None → (result ≡ 1) × (out.new ≡ out.old) }
     ensures same { m.new.slot.session ≡ m.old.slot.session }
 {
@@ -58,7 +61,8 @@ pub extern "C" fn mos65_read(m: &mut Mos65, address: u16, out: &mut [u8]) -> u32
 /// Tells how many bytes the console's output has.
 #[unsafe(no_mangle)]
 pub extern "C" fn mos65_output_length(m: &mut Mos65, count: &mut u32) -> u32
-    ensures live { (s : Seen) → m.old.slot.session ≡ Some s → (result ≡ 0) × (count.new ≡ length s.current.bus.out) }
+    ensures live { (s : Seen) → m.old.slot.session ≡ Some s
+        → (result ≡ 0) × (count.new ≡ length s.current.bus.out) }
     ensures gone { m.old.slot.session ≡ None → (result ≡ 1) × (count.new ≡ count.old) }
     ensures same { m.new.slot.session ≡ m.old.slot.session }
 {
@@ -72,8 +76,11 @@ pub extern "C" fn mos65_output_length(m: &mut Mos65, count: &mut u32) -> u32
 /// Copies the console's output from an index on, as many bytes as `out` has.
 #[unsafe(no_mangle)]
 pub extern "C" fn mos65_output(m: &mut Mos65, from: u32, out: &mut [u8]) -> u32
-    ensures live { (s : Seen) → m.old.slot.session ≡ Some s → from + length out.old ≤ length s.current.bus.out → (result ≡ 0) × (out.new ≡ take (length out.old) (drop from s.current.bus.out)) }
-    ensures long { (s : Seen) → m.old.slot.session ≡ Some s → length s.current.bus.out < from + length out.old → (result ≡ 2) × (out.new ≡ out.old) }
+    ensures live { (s : Seen) → m.old.slot.session ≡ Some s
+        → from + length out.old ≤ length s.current.bus.out
+        → (result ≡ 0) × (out.new ≡ take (length out.old) (drop from s.current.bus.out)) }
+    ensures long { (s : Seen) → m.old.slot.session ≡ Some s
+        → length s.current.bus.out < from + length out.old → (result ≡ 2) × (out.new ≡ out.old) }
     ensures gone { m.old.slot.session ≡ None → (result ≡ 1) × (out.new ≡ out.old) }
     ensures same { m.new.slot.session ≡ m.old.slot.session }
 {
@@ -91,7 +98,8 @@ pub extern "C" fn mos65_output(m: &mut Mos65, from: u32, out: &mut [u8]) -> u32
 
 /// The row of memory at an address.
 fn row_at(session: &Session, address: u16) -> disasm::TextLine
-    ensures text { seen result ≡ row_in session.now.current.bus.map.profile session.now.current.bus.memory address }
+    ensures text { seen result
+        ≡ row_in session.now.current.bus.map.profile session.now.current.bus.memory address }
     ensures short { result.text_len ≤ 12 }
 {
     let mut bytes = [0u8; 3];
@@ -102,7 +110,8 @@ fn row_at(session: &Session, address: u16) -> disasm::TextLine
 /// The row, over room for as many bytes as it can have.
 fn shown_row(session: &Session, address: u16, bytes: &mut [u8]) -> disasm::TextLine
     requires { length bytes.old ≡ min 3 (65536 - address) }
-    ensures text { seen result ≡ row_in session.now.current.bus.map.profile session.now.current.bus.memory address }
+    ensures text { seen result
+        ≡ row_in session.now.current.bus.map.profile session.now.current.bus.memory address }
     ensures short { result.text_len ≤ 12 }
 {
     // For the proof: memory has 65,536 bytes.
@@ -111,8 +120,8 @@ fn shown_row(session: &Session, address: u16, bytes: &mut [u8]) -> disasm::TextL
     disasm::line_in(session.profile(), bytes, address)
 }
 
-/// Writes the instruction at an address as text, with zero bytes after it, and tells how many bytes of memory it has. `out` has room for
-/// 13 bytes at least.
+/// Writes the instruction at an address as text, with zero bytes after it, and tells how many bytes
+/// of memory it has. `out` has room for 13 bytes at least.
 #[unsafe(no_mangle)]
 pub extern "C" fn mos65_disassemble(
     m: &mut Mos65,
@@ -120,8 +129,10 @@ pub extern "C" fn mos65_disassemble(
     out: &mut [u8],
     count: &mut u32,
 ) -> u32
-    ensures live { (s : Seen) → m.old.slot.session ≡ Some s → 13 ≤ length out.old → (result ≡ 0) × (count.new ≡ (row_in s.current.bus.map.profile s.current.bus.memory address).len)
-        × (take (length (row_in s.current.bus.map.profile s.current.bus.memory address).text) out.new ≡ (row_in s.current.bus.map.profile s.current.bus.memory address).text) }
+    ensures live { (s : Seen) → m.old.slot.session ≡ Some s → 13 ≤ length out.old → (result ≡ 0)
+        × (count.new ≡ (row_in s.current.bus.map.profile s.current.bus.memory address).len)
+        × (take (length (row_in s.current.bus.map.profile s.current.bus.memory address).text)
+        out.new ≡ (row_in s.current.bus.map.profile s.current.bus.memory address).text) }
     ensures gone { m.old.slot.session ≡ None → result ≡ 1 }
     ensures same { m.new.slot.session ≡ m.old.slot.session }
 {

@@ -33,7 +33,8 @@ impl Fault {
 /// Tells the number of a name that the source defines.
 #[unsafe(no_mangle)]
 pub extern "C" fn mos65_symbol(assembly: &mut Mos65Assembly, name: &[u8], value: &mut i32) -> u32
-    ensures live { (x : Assembled) → assembly.old.slot.assembly ≡ Some x → AnswersName (number_in x.names name.now) result value.old value.new }
+    ensures live { (x : Assembled) → assembly.old.slot.assembly ≡ Some x
+        → AnswersName (number_in x.names name.now) result value.old value.new }
     ensures gone { assembly.old.slot.assembly ≡ None → (result ≡ 1) × (value.new ≡ value.old) }
     ensures same { assembly.new.slot.assembly ≡ assembly.old.slot.assembly }
 {
@@ -52,7 +53,8 @@ pub extern "C" fn mos65_symbol(assembly: &mut Mos65Assembly, name: &[u8], value:
 /// Tells how many names the source defines.
 #[unsafe(no_mangle)]
 pub extern "C" fn mos65_symbol_count(assembly: &mut Mos65Assembly, count: &mut usize) -> u32
-    ensures live { (x : Assembled) → assembly.old.slot.assembly ≡ Some x → (result ≡ 0) × (count.new ≡ length x.names) }
+    ensures live { (x : Assembled) → assembly.old.slot.assembly ≡ Some x
+        → (result ≡ 0) × (count.new ≡ length x.names) }
     ensures gone { assembly.old.slot.assembly ≡ None → (result ≡ 1) × (count.new ≡ count.old) }
     ensures same { assembly.new.slot.assembly ≡ assembly.old.slot.assembly }
 {
@@ -63,8 +65,8 @@ pub extern "C" fn mos65_symbol_count(assembly: &mut Mos65Assembly, count: &mut u
     0
 }
 
-/// Tells a name and its number by its place in the order of definition, counted from 0. The name's bytes go to the beginning of `name`, which
-/// has room for the name.
+/// Tells a name and its number by its place in the order of definition, counted from 0. The name's
+/// bytes go to the beginning of `name`, which has room for the name.
 #[unsafe(no_mangle)]
 pub extern "C" fn mos65_symbol_at(
     assembly: &mut Mos65Assembly,
@@ -73,8 +75,10 @@ pub extern "C" fn mos65_symbol_at(
     count: &mut usize,
     value: &mut i32,
 ) -> u32
-    ensures told { (x : Assembled) → assembly.old.slot.assembly ≡ Some x → result ≡ 0 → slice_get x.names index ≡ Some (take count.new name.new, value.new) }
-    ensures none { (x : Assembled) → assembly.old.slot.assembly ≡ Some x → slice_get x.names index ≡ None → result ≡ 4 }
+    ensures told { (x : Assembled) → assembly.old.slot.assembly ≡ Some x → result ≡ 0
+        → slice_get x.names index ≡ Some (take count.new name.new, value.new) }
+    ensures none { (x : Assembled) → assembly.old.slot.assembly ≡ Some x
+        → slice_get x.names index ≡ None → result ≡ 4 }
     ensures gone { assembly.old.slot.assembly ≡ None → result ≡ 1 }
     ensures same { assembly.new.slot.assembly ≡ assembly.old.slot.assembly }
 {

@@ -1,6 +1,7 @@
 //! Machines opened and closed.
 
-ghost use Rattle.std.specs.Prelude.{◌≡◌, ◌≢◌, ◌+◌, ◌≤◌, ◌⊎◌, ℕ, length, List, None, Option, Some, false, true};
+ghost use Rattle.std.specs.Prelude.{◌≡◌, ◌≢◌, ◌+◌, ◌≤◌, ◌⊎◌, ℕ, length, List, None, Option, Some};
+ghost use Rattle.std.specs.Prelude.{false, true};
 ghost use Rattle.assembler.specs.Assembly.{Assembled};
 ghost use Rattle.model.specs.Event.{start};
 ghost use Rattle.model.specs.Image.{empty_image, with_bytes};
@@ -36,7 +37,8 @@ pub extern "C" fn mos65_version_number() -> u32
 /// Starts a closed machine with an image.
 fn open_image(alloc: Global, m: &mut Mos65, config: &Config, image: &Image) -> u32
     requires { m.old.live ≡ false }
-    ensures opened { result ≡ 0 → m.new.slot.session ≡ Some (fresh config.now.history (start (config_map config.now) image.now)) }
+    ensures opened { result ≡ 0 → m.new.slot.session
+        ≡ Some (fresh config.now.history (start (config_map config.now) image.now)) }
     ensures same { result ≢ 0 → m.new.slot.session ≡ m.old.slot.session }
     ensures config { config_status config.now ≢ 0 → result ≡ config_status config.now }
     ensures port { result ≡ 205 → has_port_byte (config_map config.now) image.now ≡ true }
@@ -71,12 +73,15 @@ pub extern "C" fn mos65_open(
     config: &Config,
     assembly: &mut Mos65Assembly,
 ) -> u32
-    ensures opened { result ≡ 0 → (x : Assembled) × (assembly.old.slot.assembly ≡ Some x) × (m.new.slot.session ≡ Some (fresh config.now.history (start (config_map config.now) x.image))) }
+    ensures opened { result ≡ 0
+        → (x : Assembled) × (assembly.old.slot.assembly ≡ Some x) × (m.new.slot.session
+        ≡ Some (fresh config.now.history (start (config_map config.now) x.image))) }
     ensures same { result ≢ 0 → m.new.slot.session ≡ m.old.slot.session }
     ensures kept { assembly.new.slot.assembly ≡ assembly.old.slot.assembly }
     ensures busy { m.old.live ≡ true → result ≡ 2 }
     ensures closed { m.old.live ≡ false → assembly.old.live ≡ false → result ≡ 1 }
-    ensures config { m.old.live ≡ false → assembly.old.live ≡ true → config_status config.now ≢ 0 → result ≡ config_status config.now }
+    ensures config { m.old.live ≡ false → assembly.old.live ≡ true → config_status config.now ≢ 0
+        → result ≡ config_status config.now }
 {
     if m.live {
         return MISUSE;
@@ -87,7 +92,8 @@ pub extern "C" fn mos65_open(
     open_image(alloc, m, config, assembly.slot.inside().image())
 }
 
-/// Opens a machine that starts with a tape's image; where the tape is refused, its fault and where it stands are told.
+/// Opens a machine that starts with a tape's image; where the tape is refused, its fault and where
+/// it stands are told.
 #[unsafe(no_mangle)]
 pub extern "C" fn mos65_open_tape(
     alloc: Global,
@@ -96,10 +102,14 @@ pub extern "C" fn mos65_open_tape(
     tape: &[u8],
     fault: &mut Fault,
 ) -> u32
-    ensures opened { result ≡ 0 → (image : List (Option ℕ)) × TapeDenotes tape.now image × (m.new.slot.session ≡ Some (fresh config.now.history (start (config_map config.now) image))) }
+    ensures opened { result ≡ 0
+        → (image : List (Option ℕ)) × TapeDenotes tape.now image × (m.new.slot.session
+        ≡ Some (fresh config.now.history (start (config_map config.now) image))) }
     ensures same { result ≢ 0 → m.new.slot.session ≡ m.old.slot.session }
     ensures busy { m.old.live ≡ true → result ≡ 2 }
-    ensures faulty { (kind : TapeFaultKind) (offset : ℕ) → m.old.live ≡ false → FirstFault tape.now kind offset → ((result ≡ 400 + tape_fault_number kind) × (fault.new.offset ≡ offset)) ⊎ (result ≡ 409) }
+    ensures faulty { (kind : TapeFaultKind) (offset : ℕ) → m.old.live ≡ false
+        → FirstFault tape.now kind offset
+        → ((result ≡ 400 + tape_fault_number kind) × (fault.new.offset ≡ offset)) ⊎ (result ≡ 409) }
 {
     *fault = Fault::none();
     if m.live {
@@ -128,7 +138,8 @@ pub extern "C" fn mos65_open_bytes(
     address: u16,
     bytes: &[u8],
 ) -> u32
-    ensures opened { result ≡ 0 → m.new.slot.session ≡ Some (fresh config.now.history (start (config_map config.now) (with_bytes empty_image address bytes.now))) }
+    ensures opened { result ≡ 0 → m.new.slot.session ≡ Some (fresh config.now.history
+        (start (config_map config.now) (with_bytes empty_image address bytes.now))) }
     ensures same { result ≢ 0 → m.new.slot.session ≡ m.old.slot.session }
     ensures busy { m.old.live ≡ true → result ≡ 2 }
 {

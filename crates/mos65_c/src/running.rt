@@ -11,11 +11,15 @@ ghost use Rattle.rig.specs.Subroutine.{call_of, run_to_of};
 use crate::ending::{Ending, ending_of};
 use crate::machine::{CLOSED, Mos65};
 
-/// Runs up to `limit` steps, to the first that changes a watched byte, leads to a breakpoint, or is refused.
+/// Runs up to `limit` steps, to the first that changes a watched byte, leads to a breakpoint, or is
+/// refused.
 #[unsafe(no_mangle)]
 pub extern "C" fn mos65_run(m: &mut Mos65, limit: u32, ending: &mut Ending) -> u32
-    ensures live { (s : Seen) → m.old.slot.session ≡ Some s → (result ≡ 0) × (ending.new ≡ ending_of (run_end limit s)) × (m.new.slot.session ≡ Some (after_run limit s)) }
-    ensures gone { m.old.slot.session ≡ None → (result ≡ 1) × (m.new.slot.session ≡ None) × (ending.new ≡ ending.old) }
+    ensures live { (s : Seen) → m.old.slot.session ≡ Some s
+        → (result ≡ 0) × (ending.new ≡ ending_of (run_end limit s))
+        × (m.new.slot.session ≡ Some (after_run limit s)) }
+    ensures gone { m.old.slot.session ≡ None
+        → (result ≡ 1) × (m.new.slot.session ≡ None) × (ending.new ≡ ending.old) }
 {
     if !m.live {
         return CLOSED;
@@ -28,8 +32,10 @@ pub extern "C" fn mos65_run(m: &mut Mos65, limit: u32, ending: &mut Ending) -> u
 /// Runs as `mos65_run` does, and stops at an address too.
 #[unsafe(no_mangle)]
 pub extern "C" fn mos65_run_to(m: &mut Mos65, address: u16, limit: u32, ending: &mut Ending) -> u32
-    ensures live { (s : Seen) → m.old.slot.session ≡ Some s → AnswersRun (run_to_of address limit s) s result ending.new m.new.slot.session }
-    ensures gone { m.old.slot.session ≡ None → (result ≡ 1) × (m.new.slot.session ≡ None) × (ending.new ≡ ending.old) }
+    ensures live { (s : Seen) → m.old.slot.session ≡ Some s
+        → AnswersRun (run_to_of address limit s) s result ending.new m.new.slot.session }
+    ensures gone { m.old.slot.session ≡ None
+        → (result ≡ 1) × (m.new.slot.session ≡ None) × (ending.new ≡ ending.old) }
 {
     if !m.live {
         return CLOSED;
@@ -46,8 +52,10 @@ pub extern "C" fn mos65_run_to(m: &mut Mos65, address: u16, limit: u32, ending: 
 /// Calls a subroutine as a JSR at $FFFC would, and runs to its RTS.
 #[unsafe(no_mangle)]
 pub extern "C" fn mos65_call(m: &mut Mos65, address: u16, limit: u32, ending: &mut Ending) -> u32
-    ensures live { (s : Seen) → m.old.slot.session ≡ Some s → AnswersRun (call_of address limit s) s result ending.new m.new.slot.session }
-    ensures gone { m.old.slot.session ≡ None → (result ≡ 1) × (m.new.slot.session ≡ None) × (ending.new ≡ ending.old) }
+    ensures live { (s : Seen) → m.old.slot.session ≡ Some s
+        → AnswersRun (call_of address limit s) s result ending.new m.new.slot.session }
+    ensures gone { m.old.slot.session ≡ None
+        → (result ≡ 1) × (m.new.slot.session ≡ None) × (ending.new ≡ ending.old) }
 {
     if !m.live {
         return CLOSED;
@@ -64,7 +72,8 @@ pub extern "C" fn mos65_call(m: &mut Mos65, address: u16, limit: u32, ending: &m
 /// Goes back over the last `count` events.
 #[unsafe(no_mangle)]
 pub extern "C" fn mos65_back(m: &mut Mos65, count: u32) -> u32
-    ensures live { (s : Seen) → m.old.slot.session ≡ Some s → AnswersChange (back_of count s) s result m.new.slot.session }
+    ensures live { (s : Seen) → m.old.slot.session ≡ Some s
+        → AnswersChange (back_of count s) s result m.new.slot.session }
     ensures gone { m.old.slot.session ≡ None → (result ≡ 1) × (m.new.slot.session ≡ None) }
 {
     if !m.live {
@@ -79,7 +88,8 @@ pub extern "C" fn mos65_back(m: &mut Mos65, count: u32) -> u32
 /// Tells how many events can be gone back over.
 #[unsafe(no_mangle)]
 pub extern "C" fn mos65_held(m: &mut Mos65, count: &mut u32) -> u32
-    ensures live { (s : Seen) → m.old.slot.session ≡ Some s → (result ≡ 0) × (count.new ≡ length s.earlier) }
+    ensures live { (s : Seen) → m.old.slot.session ≡ Some s
+        → (result ≡ 0) × (count.new ≡ length s.earlier) }
     ensures gone { m.old.slot.session ≡ None → (result ≡ 1) × (count.new ≡ count.old) }
     ensures same { m.new.slot.session ≡ m.old.slot.session }
 {

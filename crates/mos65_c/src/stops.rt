@@ -10,7 +10,8 @@ use crate::machine::{CLOSED, Mos65};
 /// Sets a breakpoint.
 #[unsafe(no_mangle)]
 pub extern "C" fn mos65_break(m: &mut Mos65, address: u16) -> u32
-    ensures live { (s : Seen) → m.old.slot.session ≡ Some s → AnswersSetting (break_set address s) s result m.new.slot.session }
+    ensures live { (s : Seen) → m.old.slot.session ≡ Some s
+        → AnswersSetting (break_set address s) s result m.new.slot.session }
     ensures gone { m.old.slot.session ≡ None → (result ≡ 1) × (m.new.slot.session ≡ None) }
 {
     if !m.live {
@@ -25,7 +26,8 @@ pub extern "C" fn mos65_break(m: &mut Mos65, address: u16) -> u32
 /// Clears a breakpoint.
 #[unsafe(no_mangle)]
 pub extern "C" fn mos65_unbreak(m: &mut Mos65, address: u16) -> u32
-    ensures live { (s : Seen) → m.old.slot.session ≡ Some s → AnswersChange (break_cleared address s) s result m.new.slot.session }
+    ensures live { (s : Seen) → m.old.slot.session ≡ Some s
+        → AnswersChange (break_cleared address s) s result m.new.slot.session }
     ensures gone { m.old.slot.session ≡ None → (result ≡ 1) × (m.new.slot.session ≡ None) }
 {
     if !m.live {
@@ -40,7 +42,8 @@ pub extern "C" fn mos65_unbreak(m: &mut Mos65, address: u16) -> u32
 /// Sets a watch: a run stops after a step that changes this byte of memory.
 #[unsafe(no_mangle)]
 pub extern "C" fn mos65_watch(m: &mut Mos65, address: u16) -> u32
-    ensures live { (s : Seen) → m.old.slot.session ≡ Some s → AnswersSetting (watch_set address s) s result m.new.slot.session }
+    ensures live { (s : Seen) → m.old.slot.session ≡ Some s
+        → AnswersSetting (watch_set address s) s result m.new.slot.session }
     ensures gone { m.old.slot.session ≡ None → (result ≡ 1) × (m.new.slot.session ≡ None) }
 {
     if !m.live {
@@ -55,7 +58,8 @@ pub extern "C" fn mos65_watch(m: &mut Mos65, address: u16) -> u32
 /// Clears a watch.
 #[unsafe(no_mangle)]
 pub extern "C" fn mos65_unwatch(m: &mut Mos65, address: u16) -> u32
-    ensures live { (s : Seen) → m.old.slot.session ≡ Some s → AnswersChange (watch_cleared address s) s result m.new.slot.session }
+    ensures live { (s : Seen) → m.old.slot.session ≡ Some s
+        → AnswersChange (watch_cleared address s) s result m.new.slot.session }
     ensures gone { m.old.slot.session ≡ None → (result ≡ 1) × (m.new.slot.session ≡ None) }
 {
     if !m.live {

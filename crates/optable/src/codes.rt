@@ -24,8 +24,8 @@ macro_rules! codes {
     };
 }
 
-/// The opcode of each mnemonic in each mode in profile C, which has all of them. Rows and columns are
-/// in the order of `Mnemonic` and of `Mode`.
+/// The opcode of each mnemonic in each mode in profile C, which has all of them. Rows and columns
+/// are in the order of `Mnemonic` and of `Mode`.
 const CODES: [[Option<u8>; 14]; 62] = [
     //           Imp  Acc  Imm  Zp   ZpX  ZpY  Abs  AbsX AbsY IndX IndY Ind  Rel  IndZ
     codes!(Adc: _    _    0x69 0x65 0x75 _    0x6d 0x7d 0x79 0x61 0x71 _    _    0x72),

@@ -100,8 +100,8 @@ pub fn mnemonic_in(profile: Profile, text: &[u8]) -> Option<Mnemonic>
     look_up(names, capitals(text))
 }
 
-/// Returns the three letters of a mnemonic, in capitals. (MCS6500 manual, appendix B; the last six are
-/// profile C's.)
+/// Returns the three letters of a mnemonic, in capitals. (MCS6500 manual, appendix B; the last six
+/// are profile C's.)
 #[tactic(auto, using(crate::proofs::Naming::letters_at))]
 pub fn letters_of(mnemonic: Mnemonic) -> [u8; 3]
     ensures { result ≡ mnemonic_text mnemonic }

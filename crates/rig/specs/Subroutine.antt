@@ -1,4 +1,5 @@
--- Runs to an address, and subroutines called from outside the program. Source: mos65; what JSR pushes, MCS6500 manual, chapter 8.
+-- Runs to an address, and subroutines called from outside the program. Source: mos65; what JSR
+-- pushes, MCS6500 manual, chapter 8.
 use Rattle.std.specs.Prelude.{ℕ, ◌+◌, ◌%◌, List, [], ◌∷◌, Result, Ok, Err}
 use Rattle.model.specs.State.{State}
 use Rattle.model.specs.Event.{event_of}
@@ -37,11 +38,15 @@ if_cleared s (Err fault) = s
 unfoldable pub without_break : ℕ → Session → Session
 without_break address s = if_cleared s (break_cleared address s)
 
--- How a run that also ends at an address ends, and the session after it: a breakpoint is set there, the session is made ready, it runs,
--- and the breakpoint is cleared. One that was set before stays set. Where 256 others are set the run is refused.
-abbrev pub run_by : ℕ → ℕ → (Session → Session) → Session → Result Session SessionFault → Result (RunEnd × Session) SessionFault
-run_by address limit ready s (Ok t) = Ok (run_end limit (ready t), without_break address (after_run limit (ready t)))
-run_by address limit ready s (Err AlreadySet) = Ok (run_end limit (ready s), after_run limit (ready s))
+-- How a run that also ends at an address ends, and the session after it: a breakpoint is set there,
+-- the session is made ready, it runs, and the breakpoint is cleared. One that was set before stays
+-- set. Where 256 others are set the run is refused.
+abbrev pub run_by : ℕ → ℕ → (Session → Session) → Session → Result Session SessionFault
+    → Result (RunEnd × Session) SessionFault
+run_by address limit ready s (Ok t)
+    = Ok (run_end limit (ready t), without_break address (after_run limit (ready t)))
+run_by address limit ready s (Err AlreadySet)
+    = Ok (run_end limit (ready s), after_run limit (ready s))
 run_by address limit ready s (Err fault) = Err fault
 
 unfoldable pub run_to_of : ℕ → ℕ → Session → Result (RunEnd × Session) SessionFault
@@ -49,15 +54,17 @@ run_to_of address limit s = run_by address limit (λ t. t) s (break_set address 
 
 -- ---- a subroutine called
 
--- Where a called subroutine returns to. No instruction can stand there: it is the high byte of the IRQ vector.
+-- Where a called subroutine returns to. No instruction can stand there: it is the high byte of the
+-- IRQ vector.
 abbrev pub return_address : ℕ
 return_address = 0xFFFF
 
 abbrev pub byte_patched : ℕ → ℕ → Event
 byte_patched address byte = Patch address (byte ∷ 0 ∷ 0 ∷ []) 1
 
--- What a JSR at $FFFC does, as events: the address of its last byte, $FFFE, is pushed, the high byte first; the stack pointer goes down
--- by two; and the program counter is the subroutine's address. The stack pointer wraps within page one.
+-- What a JSR at $FFFC does, as events: the address of its last byte, $FFFE, is pushed, the high
+-- byte first; the stack pointer goes down by two; and the program counter is the subroutine's
+-- address. The stack pointer wraps within page one.
 abbrev pub jsr_events : ℕ → ℕ → List Event
 jsr_events address stack =
     byte_patched (256 + stack) 0xFF
@@ -71,4 +78,5 @@ called address s = after_events s (jsr_events address s.current.regs.s)
 
 -- A subroutine called, and run to the return address.
 unfoldable pub call_of : ℕ → ℕ → Session → Result (RunEnd × Session) SessionFault
-call_of address limit s = run_by return_address limit (called address) s (break_set return_address s)
+call_of address limit s
+    = run_by return_address limit (called address) s (break_set return_address s)

@@ -4,7 +4,8 @@ ghost use Rattle.std.specs.Prelude.{◌≡◌, ◌+◌, ◌<◌, ◌≤◌, drop
 
 use debugger::Session;
 
-/// Copies memory from an address on, as many bytes as `out` has, none of them past $FFFF. It changes nothing; a port address reads 0.
+/// Copies memory from an address on, as many bytes as `out` has, none of them past $FFFF. It
+/// changes nothing; a port address reads 0.
 pub fn read(session: &Session, address: u16, out: &mut [u8])
     requires { address + length out.old ≤ 65536 }
     ensures { out.new ≡ take (length out.old) (drop address session.now.current.bus.memory) }
@@ -14,7 +15,8 @@ pub fn read(session: &Session, address: u16, out: &mut [u8])
     }
 }
 
-/// Copies the console's output from an index on, as many bytes as `out` has, all of which the output has.
+/// Copies the console's output from an index on, as many bytes as `out` has, all of which the
+/// output has.
 pub fn read_output(session: &Session, from: u32, out: &mut [u8])
     requires { from + length out.old ≤ length session.now.current.bus.out }
     ensures { out.new ≡ take (length out.old) (drop from session.now.current.bus.out) }

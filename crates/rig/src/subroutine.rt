@@ -2,15 +2,16 @@
 
 ghost use Rattle.std.specs.Prelude.{◌≡◌, ◌≢◌, Ok, Err, IfOk, IfErr, IsErrOf, IsOk};
 ghost use Rattle.model.specs.Tables.{break_set};
-ghost use Rattle.rig.specs.Subroutine.{after_event, byte_patched, call_of, called, return_address, run_to_of, without_break};
+ghost use Rattle.rig.specs.Subroutine.{after_event, byte_patched, call_of, called, return_address};
+ghost use Rattle.rig.specs.Subroutine.{run_to_of, without_break};
 
 use debugger::{Event, RunEnd, Session, SessionFault, Setting};
 
 /// Where a called subroutine returns to (`specs/Subroutine.antt`).
 const RETURN_ADDRESS: u16 = 0xffff;
 
-/// Runs as `Session::run` does, up to `limit` steps, and stops at an address too: a breakpoint stands there while it runs, and stays only
-/// where it was set before.
+/// Runs as `Session::run` does, up to `limit` steps, and stops at an address too: a breakpoint
+/// stands there while it runs, and stays only where it was set before.
 ///
 /// # Errors
 ///
@@ -21,8 +22,10 @@ const RETURN_ADDRESS: u16 = 0xffff;
 #[tactic(auto, unfolding(crate::specs::Subroutine::run_to_of))]
 pub fn run_to(session: &mut Session, address: u16, limit: u32) -> Result<RunEnd, SessionFault>
     ensures ok { IfOk result (λ end. run_to_of address limit session.old ≡ Ok (end, session.new)) }
-    ensures err { IfErr result (λ fault. (session.new ≡ session.old) × (fault ≢ SessionFault.OutOfMemory → run_to_of address limit session.old ≡ Err fault)) }
-    ensures memory { IsErrOf result SessionFault.OutOfMemory → IsOk (break_set address session.old) }
+    ensures err { IfErr result (λ fault. (session.new ≡ session.old)
+        × (fault ≢ SessionFault.OutOfMemory → run_to_of address limit session.old ≡ Err fault)) }
+    ensures memory { IsErrOf result SessionFault.OutOfMemory
+        → IsOk (break_set address session.old) }
 {
     match session.set_break(address) {
         Ok(()) => {
@@ -35,9 +38,10 @@ pub fn run_to(session: &mut Session, address: u16, limit: u32) -> Result<RunEnd,
     }
 }
 
-/// Calls a subroutine as a JSR at $FFFC would, and runs up to `limit` steps to its RTS: the run then ends at a breakpoint at $FFFF, and the
-/// stack pointer is what it was. The four events of the call and then each step are held. The JSR itself is no step, so its 6 cycles are
-/// not counted. (MCS6500 manual, chapter 8, for what JSR pushes.)
+/// Calls a subroutine as a JSR at $FFFC would, and runs up to `limit` steps to its RTS: the run
+/// then ends at a breakpoint at $FFFF, and the stack pointer is what it was. The four events of the
+/// call and then each step are held. The JSR itself is no step, so its 6 cycles are not counted.
+/// (MCS6500 manual, chapter 8, for what JSR pushes.)
 ///
 /// # Errors
 ///
@@ -48,8 +52,10 @@ pub fn run_to(session: &mut Session, address: u16, limit: u32) -> Result<RunEnd,
 #[tactic(auto, unfolding(crate::specs::Subroutine::call_of))]
 pub fn call(session: &mut Session, address: u16, limit: u32) -> Result<RunEnd, SessionFault>
     ensures ok { IfOk result (λ end. call_of address limit session.old ≡ Ok (end, session.new)) }
-    ensures err { IfErr result (λ fault. (session.new ≡ session.old) × (fault ≢ SessionFault.OutOfMemory → call_of address limit session.old ≡ Err fault)) }
-    ensures memory { IsErrOf result SessionFault.OutOfMemory → IsOk (break_set return_address session.old) }
+    ensures err { IfErr result (λ fault. (session.new ≡ session.old)
+        × (fault ≢ SessionFault.OutOfMemory → call_of address limit session.old ≡ Err fault)) }
+    ensures memory { IsErrOf result SessionFault.OutOfMemory
+        → IsOk (break_set return_address session.old) }
 {
     match session.set_break(RETURN_ADDRESS) {
         Ok(()) => {

@@ -25,11 +25,19 @@ mending_of mendings.Smallest = all.smallest
 mending_of mendings.Largest = all.largest
 
 abbrev pub refused_at : ℕ → AsmFaultKind → all.Found
-refused_at address kind = record { kind = Some kind; place = record { address = address; content = no_bytes }; begins = false }
+refused_at address kind = record {
+  kind = Some kind;
+  place = record { address = address; content = no_bytes };
+  begins = false;
+}
 
 abbrev pub seen_found : Found → all.Found
 seen_found (Refused address kind) = refused_at address kind
-seen_found (Plain address begins) = record { kind = None; place = record { address = address; content = no_bytes }; begins = begins }
+seen_found (Plain address begins) = record {
+  kind = None;
+  place = record { address = address; content = no_bytes };
+  begins = begins;
+}
 seen_found (Bytes k) = record { kind = None; place = placed_of k; begins = false }
 
 abbrev pub ends_line : Line → Bool
@@ -40,12 +48,16 @@ abbrev pub before_line : Profile → ℕ → Definitions → Fixed
 before_line profile address names = record { profile = profile; address = address; names = names }
 
 -- A line is laid out or mended, which leaves these names.
-pub record LaysLine (m : all.Mending) (profile : Profile) (address : ℕ) (names : Definitions) (text : List ℕ) (laid : Laid) (left : Definitions) : Type 0 where
-  pub found : seen_found laid.found ≡ found_line (before_line profile address names) text (layout_of (before_line profile address names) text)
-  pub fixed : fixed_after m (before_line profile address names) text (layout_of (before_line profile address names) text) ≡ before_line profile laid.next left
+pub record LaysLine (m : all.Mending) (profile : Profile) (address : ℕ) (names : Definitions)
+    (text : List ℕ) (laid : Laid) (left : Definitions) : Type 0 where
+  pub found : seen_found laid.found ≡ found_line (before_line profile address names) text
+      (layout_of (before_line profile address names) text)
+  pub fixed : fixed_after m (before_line profile address names) text
+      (layout_of (before_line profile address names) text) ≡ before_line profile laid.next left
   pub end : laid.ended ≡ is_end (read_line profile text)
 
-abbrev pub Lays : all.Mending → Profile → ℕ → Definitions → List ℕ → Result Laid AllocError → Definitions → Type 0
+abbrev pub Lays : all.Mending → Profile → ℕ → Definitions → List ℕ → Result Laid AllocError
+    → Definitions → Type 0
 Lays m profile address names text (Ok laid) left = LaysLine m profile address names text laid left
 Lays m profile address names text (Err e) left = ⊤
 

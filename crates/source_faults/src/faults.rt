@@ -1,6 +1,7 @@
 //! All faults of a source.
 
-ghost use Rattle.std.specs.Prelude.{◌≡◌, ◌≤◌, ℕ, [], ◌∷◌, List, Option, Some, length, slice_get, IfOk};
+ghost use Rattle.std.specs.Prelude.{◌≡◌, ◌≤◌, ℕ, [], ◌∷◌, List, Option, Some, length, slice_get};
+ghost use Rattle.std.specs.Prelude.{IfOk};
 ghost use Rattle.model.specs.AllFaults.{faults_of, judged_lines};
 ghost use Rattle.model.specs.Source.{Denotes, HasFault, read_lines};
 ghost use Rattle.model.specs.declared.source_fault.AsmFault.{AsmFault};
@@ -29,7 +30,8 @@ fn judged(
     source: &[u8],
 ) -> Result<Vec<Judged>, AllocError>
     requires size { length source.now ≤ 1048576 }
-    ensures exact { IfOk result (λ judged. seen_all judged.items ≡ judged_lines map.now (mending_of mending) (read_lines map.now.profile source.now)) }
+    ensures exact { IfOk result (λ judged. seen_all judged.items
+        ≡ judged_lines map.now (mending_of mending) (read_lines map.now.profile source.now)) }
     ensures few { IfOk result (λ judged. length judged.items ≤ 1048576) }
 {
     let mut symbols = Symbols::new(alloc);
@@ -49,16 +51,18 @@ fn too_large(alloc: Global) -> Result<Vec<AsmFault>, AllocError>
     Ok(faults)
 }
 
-/// All faults of a source in its map's profile that do not hang on how the others are mended. Those of the layout come first, then
-/// those of values, each by line; no line is named twice. A source that assembles has none.
+/// All faults of a source in its map's profile that do not hang on how the others are mended. Those
+/// of the layout come first, then those of values, each by line; no line is named twice. A source
+/// that assembles has none.
 ///
-/// The first is the fault that `assembler::assemble` answers. For each next one the lines with a fault are mended. Nobody knows how, so
-/// that all lines are judged twice: with mended lines that have no byte, and whose first word is a name that is 0; and with mended lines
-/// of 3 bytes, whose first word is a name without a number. A line is named with the fault that it has in both. `PastEnd`, `Overlap`
-/// and `PortAddress` are told only where the line has one address in both, and no line since the last `*=` has a fault.
+/// The first is the fault that `assembler::assemble` answers. For each next one the lines with a
+/// fault are mended. Nobody knows how, so that all lines are judged twice: with mended lines that
+/// have no byte, and whose first word is a name that is 0; and with mended lines of 3 bytes, whose
+/// first word is a name without a number. A line is named with the fault that it has in both.
+/// `PastEnd`, `Overlap` and `PortAddress` are told only where the line has one address in both, and
+/// no line since the last `*=` has a fault.
 ///
-/// The only error is that a request for memory was refused.
-/// Source: mos65.
+/// The only error is that a request for memory was refused. Source: mos65.
 pub fn source_faults(
     alloc: Global,
     source: &[u8],
@@ -66,9 +70,11 @@ pub fn source_faults(
 ) -> Result<Vec<AsmFault>, AllocError>
     ensures exact { IfOk result (λ faults. faults.items ≡ faults_of map.now source.now) }
     // The first is the source's fault.
-    ensures first { IfOk result (λ faults. (fault : AsmFault) → HasFault map.now source.now fault → slice_get faults.items 0 ≡ Some fault) }
+    ensures first { IfOk result (λ faults. (fault : AsmFault) → HasFault map.now source.now fault
+        → slice_get faults.items 0 ≡ Some fault) }
     // A source that denotes an image has none.
-    ensures none { IfOk result (λ faults. (image : List (Option ℕ)) → Denotes map.now source.now image → faults.items ≡ []) }
+    ensures none { IfOk result (λ faults. (image : List (Option ℕ))
+        → Denotes map.now source.now image → faults.items ≡ []) }
 {
     // For the proof: what two passes compute is what the source denotes, or its fault.
     judging_is_right();

@@ -22,7 +22,8 @@ pub enum Found<'a> {
     Bytes(Kept<'a>),
 }
 
-/// Whether a statement is a `*=`, if it denotes no bytes; nothing if it does, an instruction by its opcode.
+/// Whether a statement is a `*=`, if it denotes no bytes; nothing if it does, an instruction by its
+/// opcode.
 fn without_bytes(code: Option<Code>, statement: &Statement<'_>) -> Option<bool>
     ensures plain { IfSome result (λ begins. content_by code (seen statement.now) ≡ no_bytes) }
     ensures begins { IfSome result (λ begins. is_origin (seen statement.now) ≡ begins) }
@@ -44,7 +45,14 @@ pub fn found_at<'a>(number: u32, address: u32, line: Line<'a>, site: Site) -> Fo
     requires near { address < 2 ^ 31 - 510 }
     requires small { site.count ≤ 510 }
     requires sized { site.count ≡ size_of (line_content site.code (seen_line line)) }
-    ensures { seen_found result ≡ record { kind = None; place = record { address = address; content = line_content site.code (seen_line line.entry) }; begins = begins_line (seen_line line.entry) } }
+    ensures { seen_found result ≡ record {
+      kind = None;
+      place = record {
+        address = address;
+        content = line_content site.code (seen_line line.entry);
+      };
+      begins = begins_line (seen_line line.entry);
+    } }
 {
     match line {
         Line::Labelled(_, statement) => match without_bytes(site.code, &statement) {

@@ -2,9 +2,11 @@
 
 ghost use Rattle.std.specs.Prelude.{◌≡◌, length, IfOk, OnOk};
 ghost use Rattle.line_parts.specs.Kept.{placed_of};
-ghost use Rattle.model.specs.AllFaults.{but_of_place, image_after, is_of_place, judged_found, judged_line, made_after, nothing_made, value_kind};
+ghost use Rattle.model.specs.AllFaults.{but_of_place, image_after, is_of_place, judged_found};
+ghost use Rattle.model.specs.AllFaults.{judged_line, made_after, nothing_made, value_kind};
 ghost use Rattle.model.specs.Names.{number_in};
-ghost use Rattle.source_faults.specs.Seen.{made_of, found_all, seen_all, seen_found, seen_judged, seen_made};
+ghost use Rattle.source_faults.specs.Seen.{made_of, found_all, seen_all, seen_found, seen_judged};
+ghost use Rattle.source_faults.specs.Seen.{seen_made};
 
 use crate::found::Found;
 use bus::{Image, MapSpec};
@@ -47,7 +49,8 @@ pub fn but_of_place(kind: Option<AsmFaultKind>) -> Option<AsmFaultKind>
     }
 }
 
-/// The value fault of a line that denotes bytes; without one its bytes are put, unless it could be moved.
+/// The value fault of a line that denotes bytes; without one its bytes are put, unless it could be
+/// moved.
 fn judge_kept(
     gathered: &mut Gathered,
     map: &MapSpec,
@@ -56,8 +59,10 @@ fn judge_kept(
     moved: bool,
     line: &Kept<'_>,
 ) -> Result<Option<AsmFaultKind>, AllocError>
-    ensures kind { IfOk result (λ kind. kind ≡ value_kind map.now (number_in names.now) (made_of image.old moved) (placed_of line.now)) }
-    ensures image { IfOk result (λ kind. image.new ≡ image_after (number_in names.now) (made_of image.old moved) (placed_of line.now) kind) }
+    ensures kind { IfOk result (λ kind. kind
+        ≡ value_kind map.now (number_in names.now) (made_of image.old moved) (placed_of line.now)) }
+    ensures image { IfOk result (λ kind. image.new
+        ≡ image_after (number_in names.now) (made_of image.old moved) (placed_of line.now) kind) }
 {
     if moved {
         let kind = value_fault(gathered, map, image, names, line)?;
@@ -78,8 +83,12 @@ fn judge_found(
     made: &mut Made,
     found: &Found<'_>,
 ) -> Result<Judged, AllocError>
-    ensures judged { IfOk result (λ j. seen_judged j ≡ judged_line (seen_found found.now) (value_kind map.now (number_in names.now) (seen_made made.old) (seen_found found.now).place)) }
-    ensures made { OnOk result (seen_made made.new ≡ made_after (number_in names.now) (seen_made made.old) (seen_found found.now) (value_kind map.now (number_in names.now) (seen_made made.old) (seen_found found.now).place)) }
+    ensures judged { IfOk result (λ j. seen_judged j ≡ judged_line (seen_found found.now)
+        (value_kind
+        map.now (number_in names.now) (seen_made made.old) (seen_found found.now).place)) }
+    ensures made { OnOk result (seen_made made.new
+        ≡ made_after (number_in names.now) (seen_made made.old) (seen_found found.now) (value_kind
+        map.now (number_in names.now) (seen_made made.old) (seen_found found.now).place)) }
 {
     match found {
         Found::Refused { address, kind } => {
@@ -127,14 +136,16 @@ fn nothing_made(alloc: Global) -> Result<Made, AllocError>
     }
 }
 
-/// All lines that were found, judged under the numbers of all names. The only error is that a request for memory was refused.
+/// All lines that were found, judged under the numbers of all names. The only error is that a
+/// request for memory was refused.
 pub fn judge(
     alloc: Global,
     map: &MapSpec,
     names: &Symbols,
     found: &[Found<'_>],
 ) -> Result<Vec<Judged>, AllocError>
-    ensures exact { IfOk result (λ judged. seen_all judged.items ≡ judged_found map.now (number_in names.now) nothing_made (found_all found.now)) }
+    ensures exact { IfOk result (λ judged. seen_all judged.items
+        ≡ judged_found map.now (number_in names.now) nothing_made (found_all found.now)) }
     ensures few { IfOk result (λ judged. length judged.items ≡ length found.now) }
 {
     let mut made = nothing_made(alloc)?;

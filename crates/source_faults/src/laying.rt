@@ -6,7 +6,8 @@ ghost use Rattle.line_parts.specs.Seen.{seen_line};
 ghost use Rattle.model.specs.AllFaults.{first_word, fixed_by, found_lines, with_word};
 ghost use Rattle.model.specs.Line.{read_line};
 ghost use Rattle.model.specs.Source.{nothing_fixed, read_lines};
-ghost use Rattle.source_faults.specs.Seen.{Lays, ends_line, mending_of, refused_at, found_all, seen_found};
+ghost use Rattle.source_faults.specs.Seen.{Lays, ends_line, mending_of, refused_at, found_all};
+ghost use Rattle.source_faults.specs.Seen.{seen_found};
 
 use crate::found::{Found, found_at};
 use crate::mending::{Mending, number_word};
@@ -48,7 +49,8 @@ fn mend<'a>(
 ) -> Result<Laid<'a>, AllocError>
     requires { address < 2 ^ 31 - 510 }
     ensures found { IfOk result (λ laid. seen_found laid.found ≡ refused_at address kind) }
-    ensures names { OnOk result (symbols.new ≡ with_word (mending_of mending).numbered (first_word text.now) symbols.old) }
+    ensures names { OnOk result
+        (symbols.new ≡ with_word (mending_of mending).numbered (first_word text.now) symbols.old) }
     ensures next { IfOk result (λ laid. laid.next ≡ address + (mending_of mending).bytes) }
     ensures near { IfOk result (λ laid. laid.next ≤ address + 3) }
     ensures end { IfOk result (λ laid. laid.ended ≡ ended) }
@@ -76,7 +78,8 @@ fn lay_read<'a>(
     requires room { address < 2 ^ 31 - 510 }
     requires read { read_line profile text.now ≡ Ok (seen_line line) }
     requires small { IsSmallLine (seen_line line) }
-    ensures exact { Lays (mending_of mending) profile address symbols.old text.now result symbols.new }
+    ensures exact { Lays (mending_of mending) profile address symbols.old text.now result
+        symbols.new }
     ensures near { IfOk result (λ laid. laid.next ≤ max (address + 510) 65536) }
 {
     let ended = ends(&line);
@@ -110,7 +113,8 @@ fn lay_line<'a>(
     text: &'a [u8],
 ) -> Result<Laid<'a>, AllocError>
     requires { address < 2 ^ 31 - 510 }
-    ensures exact { Lays (mending_of mending) profile address symbols.old text.now result symbols.new }
+    ensures exact { Lays (mending_of mending) profile address symbols.old text.now result
+        symbols.new }
     ensures near { IfOk result (λ laid. laid.next ≤ max (address + 510) 65536) }
 {
     match read_line_with(alloc, profile, room, text) {
@@ -122,8 +126,8 @@ fn lay_line<'a>(
     }
 }
 
-/// What is found of each line that is read, those with a layout fault mended, and all names with their numbers. The only error is that
-/// a request for memory was refused.
+/// What is found of each line that is read, those with a layout fault mended, and all names with
+/// their numbers. The only error is that a request for memory was refused.
 pub fn lay_out<'a>(
     alloc: Global,
     profile: Profile,
@@ -133,8 +137,10 @@ pub fn lay_out<'a>(
 ) -> Result<Vec<Found<'a>>, AllocError>
     requires size { length source.now ≤ 1048576 }
     requires empty { symbols.old ≡ [] }
-    ensures found { IfOk result (λ found. found_all found.items ≡ found_lines (mending_of mending) (nothing_fixed profile) (read_lines profile source.now)) }
-    ensures names { OnOk result (symbols.new ≡ (fixed_by (mending_of mending) (nothing_fixed profile) (read_lines profile source.now)).names) }
+    ensures found { IfOk result (λ found. found_all found.items ≡ found_lines (mending_of mending)
+        (nothing_fixed profile) (read_lines profile source.now)) }
+    ensures names { OnOk result (symbols.new ≡ (fixed_by (mending_of mending)
+        (nothing_fixed profile) (read_lines profile source.now)).names) }
     ensures few { IfOk result (λ found. length found.items ≤ 1048576) }
 {
     let mut found = Vec::new(alloc);

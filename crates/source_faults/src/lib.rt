@@ -1,7 +1,7 @@
 //! All faults of a source at once, so that one run names every line to mend.
 //!
-//! `laying` finds where each line stands and mends those with a fault; `judging` finds the value faults; `told` compares two such
-//! judgements. The definition is `AllFaults.antt` of `model`.
+//! `laying` finds where each line stands and mends those with a fault; `judging` finds the value
+//! faults; `told` compares two such judgements. The definition is `AllFaults.antt` of `model`.
 #![tactic(auto)]
 
 mod faults;

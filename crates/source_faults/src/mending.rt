@@ -40,8 +40,8 @@ impl Mending {
     }
 }
 
-/// The name that a mended line begins with defined as 0, if it is numbered so and has no number yet. The only error is that a request
-/// for memory was refused.
+/// The name that a mended line begins with defined as 0, if it is numbered so and has no number
+/// yet. The only error is that a request for memory was refused.
 #[tactic(auto, unfolding(model::specs::AllFaults::with_word))]
 pub fn number_word(
     alloc: Global,
@@ -49,7 +49,8 @@ pub fn number_word(
     symbols: &mut Symbols,
     text: &[u8],
 ) -> Result<(), AllocError>
-    ensures { OnOk result (symbols.new ≡ with_word (mending_of mending).numbered (first_word text.now) symbols.old) }
+    ensures { OnOk result
+        (symbols.new ≡ with_word (mending_of mending).numbered (first_word text.now) symbols.old) }
 {
     if mending.is_numbered() {
         let word = first_word(text);

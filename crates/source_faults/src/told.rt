@@ -61,7 +61,8 @@ impl Part {
         second: &[Judged],
     ) -> Result<(), AllocError>
         requires { length first.now ≤ 1048576 }
-        ensures { OnOk result (faults.new.items ≡ faults.old.items ++ told_by (rule_of self) 1 (seen_all first.now) (seen_all second.now)) }
+        ensures { OnOk result (faults.new.items ≡ faults.old.items
+            ++ told_by (rule_of self) 1 (seen_all first.now) (seen_all second.now)) }
     {
         let mut number = 0u32;
         for one in first {
@@ -81,7 +82,8 @@ impl Part {
 /// What two judgements of the same lines tell: the faults of the layout, and then those of values.
 pub fn told(alloc: Global, first: &[Judged], second: &[Judged]) -> Result<Vec<AsmFault>, AllocError>
     requires { length first.now ≤ 1048576 }
-    ensures { IfOk result (λ faults. faults.items ≡ told (seen_all first.now) (seen_all second.now)) }
+    ensures { IfOk result
+        (λ faults. faults.items ≡ told (seen_all first.now) (seen_all second.now)) }
 {
     let mut faults = Vec::new(alloc);
     Part::Layout.tell(&mut faults, first, second)?;

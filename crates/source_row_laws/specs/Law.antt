@@ -8,4 +8,6 @@ use Rattle.source_rows.specs.declared.mark.Mark.{Mark}
 
 -- Under each map at whose port the image has no byte, and whatever is marked.
 abbrev pub SourceDenotes : Type 0
-SourceDenotes = (bus_map : Map) (image : List (Option ℕ)) (marks : List Mark) → IsImage image → has_port_byte bus_map image ≡ false → Denotes bus_map (source_of bus_map.profile image marks) image
+SourceDenotes = (bus_map : Map) (image : List (Option ℕ)) (marks : List Mark) → IsImage image
+    → has_port_byte bus_map image ≡ false
+    → Denotes bus_map (source_of bus_map.profile image marks) image

@@ -1,4 +1,5 @@
--- The source that is written of an image. Source: mos65; the lines are those of a source, the instructions' those of a listing.
+-- The source that is written of an image. Source: mos65; the lines are those of a source, the
+-- instructions' those of a listing.
 use Rattle.std.specs.Prelude.{ℕ, zero, suc, ◌+◌, Bool, true, false, if◌then◌else◌, List, [], ◌∷◌, ◌++◌, length, codes, Option, Some, None, slice_index_or}
 use Rattle.std.specs.List.{flat_map}
 use Rattle.model.specs.declared.instruction.Profile.{Profile}
@@ -10,7 +11,8 @@ use Rattle.source_rows.specs.declared.mark.Mark.TheVariants.{Code, Data, Text}
 
 -- ---- what a byte is written as
 
--- A byte that is marked as text is written so where a string may have it, and as a number elsewhere.
+-- A byte that is marked as text is written so where a string may have it, and as a number
+-- elsewhere.
 abbrev pub kind_of : Mark → ℕ → Mark
 kind_of Code b = Code
 kind_of Data b = Data
@@ -40,7 +42,8 @@ byte_before (Some b) passes rest = if passes b then b ∷ rest else []
 unfoldable pub stretch : List (Option ℕ) → List Mark → Mark → ℕ → ℕ → List ℕ
 stretch image marks kind zero address = []
 stretch image marks kind (suc n) address =
-    byte_before (cell_at image address) (λ b. is_kind kind (kind_of (mark_at marks address) b)) (stretch image marks kind n (address + 1))
+    byte_before (cell_at image address) (λ b. is_kind kind (kind_of (mark_at marks address) b))
+    (stretch image marks kind n (address + 1))
 
 -- ---- rows
 
@@ -60,14 +63,17 @@ data_row bytes = record { len = length bytes; text = codes ".BYTE " ++ bytes_tex
 abbrev pub string_row : List ℕ → TextRow
 string_row bytes = record { len = length bytes; text = codes ".BYTE " ++ 34 ∷ bytes ++ 34 ∷ [] }
 
--- The row that begins at an address: an instruction whose bytes are all marked as code, or up to 8 numbers, or up to 32 letters.
+-- The row that begins at an address: an instruction whose bytes are all marked as code, or up to 8
+-- numbers, or up to 32 letters.
 abbrev pub row_by : Mark → Profile → List (Option ℕ) → List Mark → ℕ → TextRow
-row_by Code profile image marks address = row_of profile (stretch image marks Code 3 address) address
+row_by Code profile image marks address
+    = row_of profile (stretch image marks Code 3 address) address
 row_by Data profile image marks address = data_row (stretch image marks Data 8 address)
 row_by Text profile image marks address = string_row (stretch image marks Text 32 address)
 
 unfoldable pub row_at : Profile → List (Option ℕ) → List Mark → ℕ → ℕ → TextRow
-row_at profile image marks address b = row_by (kind_of (mark_at marks address) b) profile image marks address
+row_at profile image marks address b
+    = row_by (kind_of (mark_at marks address) b) profile image marks address
 
 -- ---- lines
 
@@ -84,13 +90,15 @@ abbrev pub by_cell : {A : Type 0} → Option ℕ → A → (ℕ → A) → A
 by_cell None gap row = gap
 by_cell (Some b) gap row = row b
 
--- The lines of an image from an address on, by at most so many steps; whether a row ends at the address.
+-- The lines of an image from an address on, by at most so many steps; whether a row ends at the
+-- address.
 unfoldable pub lines_of_image : Profile → List (Option ℕ) → List Mark → ℕ → ℕ → Bool → List (List ℕ)
 lines_of_image profile image marks zero address ends = []
 lines_of_image profile image marks (suc n) address ends =
     by_cell (cell_at image address)
     (lines_of_image profile image marks n (address + 1) false)
-    (λ b. opened ends address ++ (row_at profile image marks address b).text ∷ lines_of_image profile image marks n (address + (row_at profile image marks address b).len) true)
+    (λ b. opened ends address ++ (row_at profile image marks address b).text ∷ lines_of_image
+    profile image marks n (address + (row_at profile image marks address b).len) true)
 
 -- A line with its end.
 abbrev pub ended : List ℕ → List ℕ

@@ -13,12 +13,13 @@ use source_row_laws::source_denotes;
 use source_writer::{Mark, write_source};
 use std::alloc::{AllocError, Global};
 
-/// Writes the source of an image in a profile: `*=` before each range, then a line for each instruction whose bytes are all marked as
-/// code, and `.BYTE` for what is none and for what is marked as data or as text. An address without a mark is code.
+/// Writes the source of an image in a profile: `*=` before each range, then a line for each
+/// instruction whose bytes are all marked as code, and `.BYTE` for what is none and for what is
+/// marked as data or as text. An address without a mark is code.
 ///
-/// The text is a source, and under each map of the profile at whose port the image has no byte it denotes exactly the image. The only
-/// error is that a request for memory was refused.
-/// Source: mos65.
+/// The text is a source, and under each map of the profile at whose port the image has no byte it
+/// denotes exactly the image. The only error is that a request for memory was refused. Source:
+/// mos65.
 pub fn source_text(
     alloc: Global,
     profile: Profile,
@@ -26,7 +27,8 @@ pub fn source_text(
     marks: &[Mark],
 ) -> Result<Vec<u8>, AllocError>
     ensures text { IfOk result (λ text. text.items ≡ source_of profile image.now marks.now) }
-    ensures denotes { IfOk result (λ text. (bus_map : Map) → bus_map.profile ≡ profile → has_port_byte bus_map image.now ≡ false → Denotes bus_map text.items image.now) }
+    ensures denotes { IfOk result (λ text. (bus_map : Map) → bus_map.profile ≡ profile
+        → has_port_byte bus_map image.now ≡ false → Denotes bus_map text.items image.now) }
 {
     // For the proof: the law, and what `cells` says of each image.
     source_denotes();
@@ -34,8 +36,9 @@ pub fn source_text(
     write_source(alloc, profile, image, marks)
 }
 
-/// Writes the source of an image in a map's profile, and assembles it: the answer's image is the image itself, whatever is marked.
-/// The image has no byte at the map's port. The only fault is `OutOfMemory`, where a request for memory was refused.
+/// Writes the source of an image in a map's profile, and assembles it: the answer's image is the
+/// image itself, whatever is marked. The image has no byte at the map's port. The only fault is
+/// `OutOfMemory`, where a request for memory was refused.
 pub fn assembled_again(
     alloc: Global,
     map: &MapSpec,

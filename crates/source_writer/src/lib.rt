@@ -1,7 +1,7 @@
 //! The source of an image, written.
 //!
-//! `write_source` is the one call. What it writes is defined in `Rows.antt` of `source_rows`. `stretch` finds the bytes of a row, `rows` writes
-//! it, `text` goes along the image.
+//! `write_source` is the one call. What it writes is defined in `Rows.antt` of `source_rows`.
+//! `stretch` finds the bytes of a row, `rows` writes it, `text` goes along the image.
 #![tactic(auto)]
 
 mod rows;

@@ -1,9 +1,11 @@
 //! Rows as lines of a source.
 
-ghost use Rattle.std.specs.Prelude.{◌≡◌, ℕ, ◌+◌, ◌<◌, ◌≤◌, List, [], ◌∷◌, ◌++◌, length, drop, codes, Some, IfOk, OnOk};
+ghost use Rattle.std.specs.Prelude.{◌≡◌, ℕ, ◌+◌, ◌<◌, ◌≤◌, List, [], ◌∷◌, ◌++◌, length, drop};
+ghost use Rattle.std.specs.Prelude.{codes, Some, IfOk, OnOk};
 ghost use Rattle.model.specs.Image.{cell_at};
 ghost use Rattle.model.specs.Instruction.{byte_text};
-ghost use Rattle.source_rows.specs.Rows.{bytes_text, ended, kind_of, mark_at, more_bytes, origin_line, row_at, row_by};
+ghost use Rattle.source_rows.specs.Rows.{bytes_text, ended, kind_of, mark_at, more_bytes};
+ghost use Rattle.source_rows.specs.Rows.{origin_line, row_at, row_by};
 
 use crate::stretch::{kind_of, mark_at, stretch};
 use disasm::line_in;
@@ -64,8 +66,10 @@ fn push_code(
     requires size { length cells.now ≡ 65536 }
     requires here { cell_at cells.now address ≡ Some byte }
     requires kind { kind_of (mark_at marks.now address) byte ≡ Mark.Code }
-    ensures text { OnOk result (out.new.items ≡ out.old.items ++ ended (row_by Mark.Code profile cells.now marks.now address).text) }
-    ensures len { IfOk result (λ n. n ≡ (row_by Mark.Code profile cells.now marks.now address).len) }
+    ensures text { OnOk result (out.new.items
+        ≡ out.old.items ++ ended (row_by Mark.Code profile cells.now marks.now address).text) }
+    ensures len { IfOk result (λ n. n ≡ (row_by Mark.Code profile cells.now marks.now
+        address).len) }
     ensures within { IfOk result (λ n. address + n ≤ 65536) }
 {
     let bytes = stretch(cells, marks, Mark::Code, address as usize, 3);
@@ -84,8 +88,10 @@ fn push_data(
     address: u16,
 ) -> Result<usize, AllocError>
     requires size { length cells.now ≡ 65536 }
-    ensures text { OnOk result (out.new.items ≡ out.old.items ++ ended (row_by Mark.Data profile cells.now marks.now address).text) }
-    ensures len { IfOk result (λ n. n ≡ (row_by Mark.Data profile cells.now marks.now address).len) }
+    ensures text { OnOk result (out.new.items
+        ≡ out.old.items ++ ended (row_by Mark.Data profile cells.now marks.now address).text) }
+    ensures len { IfOk result (λ n. n ≡ (row_by Mark.Data profile cells.now marks.now
+        address).len) }
     ensures within { IfOk result (λ n. address + n ≤ 65536) }
 {
     let bytes = stretch(cells, marks, Mark::Data, address as usize, 8);
@@ -104,8 +110,11 @@ fn push_string(
     address: u16,
 ) -> Result<usize, AllocError>
     requires size { length cells.now ≡ 65536 }
-    ensures text { OnOk result (out.new.items ≡ out.old.items ++ ended (row_by Mark.Text profile cells.now marks.now address).text) }
-    ensures len { IfOk result (λ n. n ≡ (row_by Mark.Text profile cells.now marks.now address).len) }
+    ensures text { OnOk result
+        (out.new.items
+        ≡ out.old.items ++ ended (row_by Mark.Text profile cells.now marks.now address).text) }
+    ensures len { IfOk result (λ n. n ≡ (row_by Mark.Text profile cells.now marks.now
+        address).len) }
     ensures within { IfOk result (λ n. address + n ≤ 65536) }
 {
     let bytes = stretch(cells, marks, Mark::Text, address as usize, 32);
@@ -127,7 +136,8 @@ pub fn push_row(
 ) -> Result<usize, AllocError>
     requires size { length cells.now ≡ 65536 }
     requires here { cell_at cells.now address ≡ Some byte }
-    ensures text { OnOk result (out.new.items ≡ out.old.items ++ ended (row_at profile cells.now marks.now address byte).text) }
+    ensures text { OnOk result (out.new.items
+        ≡ out.old.items ++ ended (row_at profile cells.now marks.now address byte).text) }
     ensures len { IfOk result (λ n. n ≡ (row_at profile cells.now marks.now address byte).len) }
     ensures within { IfOk result (λ n. address + n ≤ 65536) }
 {

@@ -1,6 +1,7 @@
 //! The bytes that a row is made of.
 
-ghost use Rattle.std.specs.Prelude.{◌≡◌, ℕ, ◌+◌, ◌<◌, ◌≤◌, List, [], ◌∷◌, length, MatchOption, IfSome};
+ghost use Rattle.std.specs.Prelude.{◌≡◌, ℕ, ◌+◌, ◌<◌, ◌≤◌, List, [], ◌∷◌, length, MatchOption};
+ghost use Rattle.std.specs.Prelude.{IfSome};
 ghost use Rattle.model.specs.Image.{cell_at};
 ghost use Rattle.model.specs.Token.{is_string_byte};
 ghost use Rattle.source_rows.specs.Rows.{byte_before, is_kind, kind_of, mark_at, stretch};
@@ -78,7 +79,10 @@ pub fn cell_at(cells: &[Option<u8>], address: usize) -> Option<u8>
 
 /// The byte at an address, if there is one of a kind.
 fn byte_of(cells: &[Option<u8>], marks: &[Mark], kind: Mark, address: usize) -> Option<u8>
-    ensures one { MatchOption result ((rest : List ℕ) → byte_before (cell_at cells.now address) (λ b. is_kind kind (kind_of (mark_at marks.now address) b)) rest ≡ []) (λ b. (rest : List ℕ) → byte_before (cell_at cells.now address) (λ b. is_kind kind (kind_of (mark_at marks.now address) b)) rest ≡ b ∷ rest) }
+    ensures one { MatchOption result ((rest : List ℕ) → byte_before (cell_at cells.now address)
+        (λ b. is_kind kind (kind_of (mark_at marks.now address) b)) rest ≡ [])
+        (λ b. (rest : List ℕ) → byte_before (cell_at cells.now address)
+        (λ b. is_kind kind (kind_of (mark_at marks.now address) b)) rest ≡ b ∷ rest) }
     ensures within { IfSome result (λ b. address < length cells.now) }
 {
     let byte = cell_at(cells, address)?;

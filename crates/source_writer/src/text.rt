@@ -22,7 +22,8 @@ fn push_opening(out: &mut Vec<u8>, address: u16, ends: bool) -> Result<(), Alloc
     push_origin(out, address)
 }
 
-/// What stands at an address: its row, after `*=` where no row ends there, or nothing. The next address, and whether a row ends at it.
+/// What stands at an address: its row, after `*=` where no row ends there, or nothing. The next
+/// address, and whether a row ends at it.
 #[tactic(auto, using(crate::proofs::Going::at_gap, crate::proofs::Going::at_row))]
 fn push_at(
     out: &mut Vec<u8>,
@@ -34,7 +35,9 @@ fn push_at(
 ) -> Result<(usize, bool), AllocError>
     requires size { length cells.now ≡ 65536 }
     requires near { address ≤ 131071 }
-    ensures text { IfOk result (λ next. (n : ℕ) → out.new.items ++ flat_map ended (lines_of_image profile cells.now marks.now n next.0 next.1) ≡ out.old.items ++ flat_map ended (lines_of_image profile cells.now marks.now (suc n) address ends)) }
+    ensures text { IfOk result (λ next. (n : ℕ) → out.new.items ++ flat_map ended
+        (lines_of_image profile cells.now marks.now n next.0 next.1) ≡ out.old.items
+        ++ flat_map ended (lines_of_image profile cells.now marks.now (suc n) address ends)) }
     ensures within { IfOk result (λ next. next.0 ≤ max (address + 1) 65536) }
 {
     let Some(byte) = cell_at(cells, address) else {
@@ -54,7 +57,8 @@ fn push_lines(
     marks: &[Mark],
 ) -> Result<(), AllocError>
     requires { length cells.now ≡ 65536 }
-    ensures { OnOk result (out.new.items ≡ out.old.items ++ flat_map ended (lines_of_image profile cells.now marks.now 65536 0 false)) }
+    ensures { OnOk result (out.new.items ≡ out.old.items
+        ++ flat_map ended (lines_of_image profile cells.now marks.now 65536 0 false)) }
 {
     let mut address = 0usize;
     let mut ends = false;
@@ -68,10 +72,10 @@ fn push_lines(
     Ok(())
 }
 
-/// Writes the source of an image in a profile: `*=` before each range, then a line for each instruction whose bytes are all marked as
-/// code, and `.BYTE` for what is none and for what is marked as data or as text. An address without a mark is code. The only error is
-/// that a request for memory was refused.
-/// Source: mos65.
+/// Writes the source of an image in a profile: `*=` before each range, then a line for each
+/// instruction whose bytes are all marked as code, and `.BYTE` for what is none and for what is
+/// marked as data or as text. An address without a mark is code. The only error is that a request
+/// for memory was refused. Source: mos65.
 #[tactic(auto, unfolding(source_rows::specs::Rows::source_of))]
 pub fn write_source(
     alloc: Global,
