@@ -1,0 +1,4 @@
+pub mod Asked
+pub mod Marks
+pub mod Statuses
+pub mod Views

@@ -1,0 +1,61 @@
+//! The command line as `clap` is told of it.
+
+use clap::{Arg, ArgAction, Command, Error};
+use std::alloc::Global;
+
+/// A word.
+fn word<'a>(alloc: Global, name: &'a str, required: bool, help: &'a str) -> Arg<'a> {
+    Arg::new(alloc, name)
+        .required(required)
+        .action(ArgAction::Set)
+        .help(help)
+}
+
+/// An option with one value.
+fn option<'a>(alloc: Global, name: &'a str, value: &'a str, help: &'a str) -> Arg<'a> {
+    Arg::new(alloc, name)
+        .long(name)
+        .value_name(value)
+        .action(ArgAction::Set)
+        .help(help)
+}
+
+/// The option that chooses a source in place of a listing.
+fn source<'a>(alloc: Global) -> Arg<'a> {
+    Arg::new(alloc, "source")
+        .long("source")
+        .action(ArgAction::SetTrue)
+        .help("Writes a source that `asm` takes, and no listing")
+}
+
+/// The command line of `dis` with `--source`. The only error is that a request for memory was refused.
+pub fn command<'a>(alloc: Global) -> Result<Command<'a>, Error> {
+    let command = Command::new(alloc, "dis")
+        .about("Writes what a tape has as a source that `asm` takes")
+        .after_help("Example:\n  mos65 dis hello.tape --source --text 0210-021C > hello.a65")
+        .no_binary_name(true)
+        .bin_name("mos65 dis")?
+        .arg(word(alloc, "TAPE", true, "The tape to read"))?
+        .arg(word(alloc, "LO", false, "The first address [default: 0000]"))?
+        .arg(word(alloc, "HI", false, "The last address [default: FFFF]"))?
+        .arg(source(alloc))?
+        .arg(option(
+            alloc,
+            "data",
+            "LO-HI",
+            "Addresses of numbers [default: none]",
+        ))?
+        .arg(option(
+            alloc,
+            "text",
+            "LO-HI",
+            "Addresses of letters [default: none]",
+        ))?
+        .arg(option(
+            alloc,
+            "profile",
+            "N|C",
+            "The processor, N or C [default: N]",
+        ))?;
+    Ok(command)
+}

@@ -1,0 +1,84 @@
+//! What is marked, and the part of an image that is written.
+ghost use Rattle.std.specs.Prelude.{◌≡◌, ℕ, ◌<◌, IfOk, slice_index_or, vec_len};
+ghost use Rattle.model.specs.Image.{cell_at};
+ghost use Rattle.dis_source.specs.Marks.{cell_between, lies_in, mark_of, with_cell};
+
+use bus::Image;
+use model::BusFault;
+use source_text::Mark;
+use std::alloc::{AllocError, Global};
+
+/// Whether an address lies in a range, if there is one.
+fn lies_in(range: Option<(u16, u16)>, address: u16) -> bool
+    ensures { result ≡ lies_in range address }
+{
+    match range {
+        None => false,
+        Some(range) => (range.0 <= address) & (address <= range.1),
+    }
+}
+
+/// What an address is marked as.
+fn mark_of(numbers: Option<(u16, u16)>, letters: Option<(u16, u16)>, address: u16) -> Mark
+    ensures { result ≡ mark_of numbers letters address }
+{
+    if lies_in(letters, address) {
+        Mark::Text
+    } else if lies_in(numbers, address) {
+        Mark::Data
+    } else {
+        Mark::Code
+    }
+}
+
+/// The marks of all addresses. The only error is that a request for memory was refused.
+pub fn marks_of(
+    alloc: Global,
+    numbers: Option<(u16, u16)>,
+    letters: Option<(u16, u16)>,
+) -> Result<Vec<Mark>, AllocError>
+    ensures len { IfOk result (λ marks. vec_len marks ≡ 65536) }
+    ensures each { IfOk result (λ marks. (a : ℕ) → a < 65536 → slice_index_or marks.items a Mark.Code ≡ mark_of numbers letters a) }
+{
+    let mut marks = Vec::new(alloc);
+    for address in 0..65536u32 {
+        marks.push(mark_of(numbers, letters, address as u16))?;
+    }
+    Ok(marks)
+}
+
+/// An image's byte at an address that lies between two others, if there is one.
+fn cell_between(image: &Image, first: u16, last: u16, address: u16) -> Option<u8>
+    ensures { result ≡ cell_between image.now first last address }
+{
+    if (first <= address) & (address <= last) {
+        image.get(address)
+    } else {
+        None
+    }
+}
+
+/// Puts a byte, if there is one, at an address.
+fn put_cell(part: &mut Image, address: u16, cell: Option<u8>)
+    ensures { part.new ≡ with_cell part.old address cell }
+{
+    match cell {
+        None => {}
+        Some(byte) => part.put(address, byte),
+    }
+}
+
+/// An image's bytes between two addresses. The only error is that a request for memory was refused.
+#[tactic(auto, using(crate::proofs::Between::turn))]
+pub fn between(alloc: Global, image: &Image, first: u16, last: u16) -> Result<Image, BusFault>
+    ensures { IfOk result (λ part. (a : ℕ) → a < 65536 → cell_at part a ≡ cell_between image.now first last a) }
+{
+    let mut part = Image::new(alloc)?;
+    // For the proof: that every image has 65,536 cells.
+    let _ = part.cells();
+    for address in 0..65536u32 {
+        let cell = cell_between(image, first, last, address as u16);
+        put_cell(&mut part, address as u16, cell);
+    }
+    Ok(part)
+}

@@ -1,0 +1,62 @@
+//! Why no source is written.
+ghost use Rattle.std.specs.Prelude.{◌≡◌};
+ghost use Rattle.dis_source.specs.Statuses.{status_of};
+
+use model::{TapeFault, TapeFaultKind};
+use papertape::TapeReadFault;
+use std::io;
+use std::io::ErrorKind;
+use thiserror::Error;
+
+/// Why `dis --source` ends without having written its source.
+#[derive(Clone, Copy, Debug, PartialEq, Eq, Error)]
+pub enum Refusal {
+    /// A word is none that it takes.
+    #[error("WORDS")]
+    Words,
+    /// The tape has a fault.
+    #[error("TAPE {0}")]
+    Tape(TapeFault),
+    /// A request for memory was refused.
+    #[error("OutOfMemory")]
+    OutOfMemory,
+    /// The tape cannot be read.
+    #[error("READ")]
+    Read,
+    /// The source cannot be written.
+    #[error("WRITE")]
+    Write,
+}
+
+impl Refusal {
+    /// The exit status: 1 for a tape, 2 for the words, 3 for memory, 4 for reading and writing.
+    pub fn status(&self) -> u8
+        ensures { result ≡ status_of self.now }
+    {
+        match self {
+            Refusal::Tape(_) => 1,
+            Refusal::Words => 2,
+            Refusal::OutOfMemory => 3,
+            Refusal::Read | Refusal::Write => 4,
+        }
+    }
+
+    /// Why a file could not be opened.
+    pub fn unreadable(error: &io::Error) -> Refusal {
+        match error.kind() {
+            ErrorKind::OutOfMemory => Refusal::OutOfMemory,
+            _ => Refusal::Read,
+        }
+    }
+
+    /// Why a tape was not read.
+    pub fn unread(fault: TapeReadFault) -> Refusal {
+        match fault {
+            TapeReadFault::Read => Refusal::Read,
+            TapeReadFault::Tape(fault) => match fault.kind {
+                TapeFaultKind::OutOfMemory => Refusal::OutOfMemory,
+                _ => Refusal::Tape(fault),
+            },
+        }
+    }
+}
