@@ -267,10 +267,11 @@ class Session:
 
     def call(
         self, address: int, limit: int, given: Dict[str, int]
-    ) -> Tuple[Registers, RunEnd, Registers]:
+    ) -> Tuple[int, RunEnd, Registers]:
         for register, value in given.items():
             self.set(register, value)
-        before = self.registers()
+        self._check(self._lib.registers(self._m, self._regs))
+        before = self._regs.cycles
         self._check(self._lib.call(self._m, address, limit, self._ending))
         return before, self._end(), self.registers()
 

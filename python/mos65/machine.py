@@ -257,7 +257,7 @@ class Machine:
         if end.why is not Why.BREAK or end.address != _RETURN:
             raise DidNotReturn(str(place), end)
         events = len(given) + _CALL_EVENTS + end.steps
-        return Call(after, after.cycles - before.cycles, end.steps, events)
+        return Call(after, after.cycles - before, end.steps, events)
 
     @staticmethod
     def _limit(limit: int) -> int:

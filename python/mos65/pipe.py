@@ -267,7 +267,7 @@ class Pipe:
 
     def call(
         self, address: int, limit: int, given: Dict[str, int]
-    ) -> Tuple[Registers, RunEnd, Registers]:
+    ) -> Tuple[int, RunEnd, Registers]:
         lines = [self._setting(*it) for it in given.items()]
         before = self._registers(self._ask_all([*lines, "regs"])[-1])
         ready = [
@@ -276,7 +276,7 @@ class Pipe:
             self._setting("S", (before.s - 2) % 256),
             self._setting("PC", address),
         ]
-        return (before, *self._stopping(_RETURN, ready, limit))
+        return (before.cycles, *self._stopping(_RETURN, ready, limit))
 
     def _stopping(self, address: int, ready: List[str], limit: int) -> Tuple[RunEnd, Registers]:
         """A run that also stops at an address, and the registers after it; a breakpoint that was set there before stays."""

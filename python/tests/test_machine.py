@@ -7,13 +7,22 @@ import os
 import stat
 import sys
 import tempfile
+import types
 import unittest
 
 HERE = os.path.dirname(os.path.abspath(__file__))
 sys.path.insert(0, os.path.dirname(HERE))
 
+try:
+    import pytest  # noqa: F401
+except ImportError:
+    # Where there is no pytest its hook is called by hand.
+    stand_in = types.ModuleType("pytest")
+    stand_in.hookimpl = lambda **options: lambda hook: hook
+    sys.modules["pytest"] = stand_in
+
 import mos65  # noqa: E402
-from mos65 import Machine, Why  # noqa: E402
+from mos65 import Machine, Why, pytest_plugin  # noqa: E402
 
 SOURCE = os.path.join(HERE, "routines.a65")
 PROGRAM = os.environ.get("MOS65_PROGRAM")
@@ -127,6 +136,19 @@ class Ways:
         self.assertEqual([it.text for it in rows], ["ADC $10", "ASL A", "RTS"])
         self.assertEqual(rows[0].line, 19)
         self.assertIn("ADC $10", str(rows[0]))
+
+    def test_a_failed_test_shows_the_last_steps(self):
+        m = self.machine()
+        m.call("times10", a=7)
+        report = types.SimpleNamespace(when="call", failed=True, sections=[])
+        hook = pytest_plugin.pytest_runtest_makereport(None, None)
+        next(hook)
+        with self.assertRaises(StopIteration):
+            hook.send(types.SimpleNamespace(get_result=lambda: report))
+        name, text = report.sections[0]
+        self.assertEqual(name, "mos65: the last steps")
+        self.assertEqual(len(text.splitlines()), 7)
+        self.assertIn("ADC $10", text)
 
     def test_signals(self):
         m = self.machine(rom=(0x8000, 0x8FFF), profile="C")

@@ -31,6 +31,10 @@ source_told refusal f number is (inr e) =
     let same : refusal ≡ assemblies.out_of_memory = ap source_fault_in e in
     inr (ap (λ n. 300 + n) (is ∙ ap (λ g. source_fault_number g.kind) same))
 
+-- Where only memory was refused.
+pub source_memory : (refusal : AsmFault) (number : ℕ) → number ≡ source_fault_number refusal.kind → refusal ≡ assemblies.out_of_memory → 300 + number ≡ 399
+source_memory refusal number is same = ap (λ n. 300 + n) (is ∙ ap (λ g. source_fault_number g.kind) same)
+
 abbrev tape_fault_in : Result (List (Option ℕ)) TapeFault → TapeFault
 tape_fault_in (Ok image) = tape_faults.out_of_memory
 tape_fault_in (Err fault) = fault
@@ -45,3 +49,11 @@ tape_told refusal kind offset number is (inl e) =
 tape_told refusal kind offset number is (inr e) =
     let same : refusal ≡ tape_faults.out_of_memory = ap tape_fault_in e in
     inr (ap (λ n. 400 + n) (is ∙ ap (λ g. tape_fault_number g.kind) same))
+
+-- Where the text is a tape.
+pub tape_memory : (refusal : TapeFault) (image : List (Option ℕ)) (number : ℕ) → number ≡ tape_fault_number refusal.kind
+    → (failed (List (Option ℕ)) TapeFault refusal ≡ Ok image) ⊎ (failed (List (Option ℕ)) TapeFault refusal ≡ Err tape_faults.out_of_memory) → 400 + number ≡ 409
+tape_memory refusal image number is (inl e) = absurd cc
+tape_memory refusal image number is (inr e) =
+    let same : refusal ≡ tape_faults.out_of_memory = ap tape_fault_in e in
+    ap (λ n. 400 + n) (is ∙ ap (λ g. tape_fault_number g.kind) same)

@@ -1,9 +1,10 @@
 //! Sources assembled.
 
-ghost use Rattle.std.specs.Prelude.{◌≡◌, ◌≢◌, ◌+◌, ◌⊎◌, length, None, Some, false, min, take, true};
+ghost use Rattle.std.specs.Prelude.{◌≡◌, ◌≢◌, ◌+◌, ◌⊎◌, ℕ, length, List, None, Option, Some, false};
+ghost use Rattle.std.specs.Prelude.{min, take, true};
 ghost use Rattle.assembler.specs.Assembly.{Assembled, listing_of};
 ghost use Rattle.model.specs.FaultNames.{source_fault_number};
-ghost use Rattle.model.specs.Source.{HasFault};
+ghost use Rattle.model.specs.Source.{Denotes, HasFault};
 ghost use Rattle.model.specs.declared.source_fault.AsmFault.{AsmFault};
 ghost use Rattle.mos65_c.specs.Answers.{IsAssembly};
 ghost use Rattle.mos65_c.specs.Status.{config_map, config_status};
@@ -31,6 +32,10 @@ pub extern "C" fn mos65_assemble(
     ensures busy { assembly.old.live ≡ true → result ≡ 2 }
     ensures config { assembly.old.live ≡ false → config_status config.now ≢ 0
         → result ≡ config_status config.now }
+    // A source that denotes an image is assembled, memory aside.
+    ensures right { (image : List (Option ℕ)) → assembly.old.live ≡ false
+        → config_status config.now ≡ 0 → Denotes (config_map config.now) source.now image
+        → (result ≡ 0) ⊎ ((result ≡ 3) ⊎ (result ≡ 399)) }
     ensures faulty { (f : AsmFault) → assembly.old.live ≡ false → config_status config.now ≡ 0
         → HasFault (config_map config.now) source.now f
         → ((result ≡ 300 + source_fault_number f.kind) × (fault.new.line ≡ f.line))

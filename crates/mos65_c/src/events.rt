@@ -11,6 +11,7 @@ use debugger::{Event, Setting};
 /// The number of `BadLength`, and 100.
 const BAD_LENGTH: u32 = 106;
 
+#[inline(always)]
 fn happen(m: &mut Mos65, event: Event) -> u32
     ensures live { (s : Seen) → m.old.slot.session ≡ Some s
         → AnswersEvent s event result m.new.slot.session }

@@ -21,7 +21,9 @@ pub struct Fault {
 
 impl Fault {
     /// No fault.
-    pub fn none() -> Fault {
+    pub fn none() -> Fault
+        ensures { result.status ≡ 0 }
+    {
         Fault {
             status: 0,
             line: 0,

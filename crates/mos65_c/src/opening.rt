@@ -107,6 +107,9 @@ pub extern "C" fn mos65_open_tape(
         ≡ Some (fresh config.now.history (start (config_map config.now) image))) }
     ensures same { result ≢ 0 → m.new.slot.session ≡ m.old.slot.session }
     ensures busy { m.old.live ≡ true → result ≡ 2 }
+    // A text that is a tape is not told a fault, memory aside.
+    ensures right { (image : List (Option ℕ)) → m.old.live ≡ false → TapeDenotes tape.now image
+        → (fault.new.status ≡ 0) ⊎ (result ≡ 409) }
     ensures faulty { (kind : TapeFaultKind) (offset : ℕ) → m.old.live ≡ false
         → FirstFault tape.now kind offset
         → ((result ≡ 400 + tape_fault_number kind) × (fault.new.offset ≡ offset)) ⊎ (result ≡ 409) }
