@@ -1,10 +1,30 @@
-//! The program `mos65`: collects the process's words and hands them, with the standard streams, to
-//! `program`.
+//! The program `mos65`: it collects the process's words and hands them, with the standard streams, to the
+//! crate that serves them.
 #![tactic(auto)]
 
+use checking::check;
+use dis_source::dis_source;
 use program::{program, unreadable_words};
 use std::process::ExitCode;
 use std::{env, io};
+
+/// Does what words ask for, and returns the exit status. `check`, and `dis` with a word `--source`, are
+/// served by crates of their own; all other words are those of `program`.
+fn serve(rt: &HostRuntime, words: &[&str]) -> u8 {
+    match words {
+        ["check", rest @ ..] => check(rt, rest, &mut io::writer(rt), &mut rt.stderr()),
+        ["dis", rest @ ..] if rest.contains(&"--source") => {
+            dis_source(rt, rest, &mut io::writer(rt), &mut rt.stderr())
+        }
+        _ => program(
+            rt,
+            words,
+            &mut rt.reader(),
+            &mut io::writer(rt),
+            &mut rt.stderr(),
+        ),
+    }
+}
 
 /// Does what the process's words ask for, and returns the exit status.
 fn run(rt: &HostRuntime) -> io::Result<u8> {
@@ -16,13 +36,7 @@ fn run(rt: &HostRuntime) -> io::Result<u8> {
     for argument in arguments.iter().skip(1) {
         words.push(argument.as_str())?;
     }
-    Ok(program(
-        rt,
-        words.as_slice(),
-        &mut rt.reader(),
-        &mut io::writer(rt),
-        &mut rt.stderr(),
-    ))
+    Ok(serve(rt, words.as_slice()))
 }
 
 fn main(rt: HostRuntime) -> ExitCode {
