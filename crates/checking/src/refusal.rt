@@ -1,0 +1,49 @@
+//! Why `check` ends without having looked at a source.
+
+ghost use Rattle.std.specs.Prelude.{◌≡◌, ◌≤◌};
+
+use std::io;
+use std::io::ErrorKind;
+use thiserror::Error;
+
+/// Why `check` ends without having looked at a source, as `mos65`'s other words say it.
+#[derive(Clone, Copy, Debug, PartialEq, Eq, Error)]
+pub enum Refusal {
+    /// A word is none that `check` takes.
+    #[error("WORDS")]
+    Words,
+    /// The port makes no map.
+    #[error("MAP BadMap 1")]
+    Map,
+    /// Memory ran out.
+    #[error("OutOfMemory")]
+    OutOfMemory,
+    /// The file cannot be read.
+    #[error("READ")]
+    Read,
+    /// The standard output cannot be written.
+    #[error("WRITE")]
+    Write,
+}
+
+impl Refusal {
+    /// The exit status: 2 for the words or the map, 3 for memory, 4 for reading and writing.
+    pub fn status(&self) -> u8
+        ensures least { 2 ≤ result }
+        ensures most { result ≤ 4 }
+    {
+        match self {
+            Refusal::Words | Refusal::Map => 2,
+            Refusal::OutOfMemory => 3,
+            Refusal::Read | Refusal::Write => 4,
+        }
+    }
+
+    /// Why a file could not be read.
+    pub fn unreadable(error: &io::Error) -> Refusal {
+        match error.kind() {
+            ErrorKind::OutOfMemory => Refusal::OutOfMemory,
+            _ => Refusal::Read,
+        }
+    }
+}

@@ -1,0 +1,120 @@
+//! What the word `check` does.
+
+ghost use Rattle.std.specs.Prelude.{◌≡◌, ◌≤◌};
+
+use crate::refusal::Refusal;
+use crate::text::{CheckedText, checked_text};
+use crate::words::{CheckWords, WordsFault, read_words};
+use bus::MapSpec;
+use model::Profile;
+use std::fs::File;
+use std::io;
+use std::io::{Read, Write};
+use std::rt::Files;
+
+/// One byte more than the longest source.
+const MOST_READ: u64 = 1_048_577;
+
+/// The bytes of a source's file, or the first of them where it is too long for a source.
+fn read_source<H: Files + AllocGlobal>(rt: &H, path: &str) -> io::Result<Vec<u8>> {
+    let mut source = Vec::new(rt.alloc());
+    File::open(rt, path)?
+        .take(MOST_READ)
+        .read_to_end(&mut source)?;
+    Ok(source)
+}
+
+/// The map of the words.
+fn map_of(words: &CheckWords<'_>) -> Result<MapSpec, Refusal> {
+    match MapSpec::new(None, words.port) {
+        Ok(map) => match words.profile {
+            Profile::N => Ok(map),
+            Profile::C => Ok(map.profile_c()),
+        },
+        Err(_) => Err(Refusal::Map),
+    }
+}
+
+/// What is to be written of the source that the words name.
+fn checked<H: Files + AllocGlobal>(rt: &H, words: &CheckWords<'_>) -> Result<CheckedText, Refusal> {
+    let map = map_of(words)?;
+    let source = read_source(rt, words.source).map_err(|error| Refusal::unreadable(&error))?;
+    let file = words.source.as_bytes();
+    checked_text(rt.alloc(), file, &source, &map).map_err(|_| Refusal::OutOfMemory)
+}
+
+/// Writes a text and flushes it.
+fn written<O: Write>(output: &mut O, text: &[u8]) -> Result<(), Refusal> {
+    match output.write_all(text) {
+        Ok(()) => output.flush().map_err(|_| Refusal::Write),
+        Err(_) => Err(Refusal::Write),
+    }
+}
+
+/// Writes the fault line, and gives the exit status, also where it cannot be written.
+fn refused<E: Write>(refusal: Refusal, errors: &mut E) -> u8
+    ensures least { 2 ≤ result }
+    ensures most { result ≤ 4 }
+{
+    let _ = writeln!(errors, "mos65: {refusal}");
+    refusal.status()
+}
+
+/// Says why words are refused, or gives the help that they ask for, and gives the exit status.
+fn refused_words<O: Write, E: Write>(fault: WordsFault, output: &mut O, errors: &mut E) -> u8
+    ensures status { result ≤ 4 }
+    ensures quiet { result ≤ 1 → errors.new ≡ errors.old }
+    ensures untouched { result ≡ 2 → output.new ≡ output.old }
+{
+    match fault {
+        WordsFault::Help(text) => match write!(output, "{text}") {
+            Ok(()) => 0,
+            Err(_) => {
+                let _ = writeln!(errors, "mos65: {}", Refusal::Write);
+                4
+            }
+        },
+        WordsFault::Usage(text) => {
+            let _ = write!(errors, "{text}");
+            2
+        }
+        WordsFault::Value => {
+            let _ = writeln!(errors, "mos65: {}", Refusal::Words);
+            2
+        }
+        WordsFault::OutOfMemory => {
+            let _ = writeln!(errors, "mos65: {}", Refusal::OutOfMemory);
+            3
+        }
+    }
+}
+
+/// Does what the words of `check` ask for, its own name left out, and returns the exit status: 0 if the source has no fault, 1 if it has one,
+/// 2 if the words or the map are wrong, 3 if memory ran out, 4 if reading or writing failed. The blocks of the faults go to `output`. For 2
+/// and above a line on `errors` says why; that it cannot be written changes no status.
+pub fn check<H: Files + AllocGlobal, O: Write, E: Write>(
+    rt: &H,
+    words: &[&str],
+    output: &mut O,
+    errors: &mut E,
+) -> u8
+    ensures status { result ≤ 4 }
+    // Where a source was checked nothing is said on the error stream.
+    ensures quiet { result ≤ 1 → errors.new ≡ errors.old }
+    // Words or a map that are refused leave the output as it was.
+    ensures untouched { result ≡ 2 → output.new ≡ output.old }
+{
+    match read_words(rt.alloc(), words) {
+        Ok(words) => match checked(rt, &words) {
+            Ok(checked) => match written(output, &checked.text) {
+                Ok(()) => checked.is_faulty as u8,
+                Err(_) => {
+                    let _ = writeln!(errors, "mos65: {}", Refusal::Write);
+                    4
+                }
+            },
+            Err(refusal) => refused(refusal, errors),
+        },
+        Err(fault) => refused_words(fault, output, errors),
+    }
+}

@@ -1,0 +1,107 @@
+//! The words of `check`.
+
+use clap::error::ErrorKind;
+use clap::{Arg, ArgAction, ArgMatches, Command, Error};
+use commands::address_of;
+use model::Profile;
+use std::alloc::Global;
+
+/// What the words of `check SOURCE [--port HHHH] [--profile N|C]` ask for.
+#[derive(Clone, Copy, Debug, PartialEq, Eq)]
+pub struct CheckWords<'a> {
+    /// The file to read.
+    pub source: &'a str,
+    /// The first of the port's four addresses.
+    pub port: u16,
+    /// The processor whose instructions the source is written in.
+    pub profile: Profile,
+}
+
+/// Why the words ask for nothing that can be done.
+#[derive(Debug, Drop)]
+pub enum WordsFault {
+    /// The words ask for help: its text.
+    Help(Error),
+    /// The words are none that `check` takes: the text that says so.
+    Usage(Error),
+    /// The value of an option is none that it can have.
+    Value,
+    /// Memory ran out.
+    OutOfMemory,
+}
+
+impl From<Error> for WordsFault {
+    fn from(error: Error) -> WordsFault {
+        match error.kind() {
+            ErrorKind::OutOfMemory => WordsFault::OutOfMemory,
+            ErrorKind::DisplayHelp => WordsFault::Help(error),
+            _ => WordsFault::Usage(error),
+        }
+    }
+}
+
+/// An option with one value.
+fn option<'a>(alloc: Global, name: &'a str, value: &'a str, help: &'a str) -> Arg<'a> {
+    Arg::new(alloc, name)
+        .long(name)
+        .value_name(value)
+        .action(ArgAction::Set)
+        .help(help)
+}
+
+/// The command line of `check`.
+fn command<'a>(alloc: Global) -> Result<Command<'a>, Error> {
+    let port = "The first of the port's four addresses, four hex digits [default: F000]";
+    let profile = "The processor, N or C: C has 19 opcodes more [default: N]";
+    let source = Arg::new(alloc, "SOURCE")
+        .required(true)
+        .action(ArgAction::Set)
+        .help("The source to check");
+    let command = Command::new(alloc, "check")
+        .about("Tells all faults of a source")
+        .after_help(
+            "Exit status: 0 no fault, 1 a fault, 2 words or map wrong, 3 memory, 4 reading or writing\n\nExample:\n  mos65 check hello.a65",
+        )
+        .no_binary_name(true)
+        .bin_name("mos65 check")?
+        .arg(source)?
+        .arg(option(alloc, "port", "HHHH", port))?
+        .arg(option(alloc, "profile", "N|C", profile))?;
+    Ok(command)
+}
+
+/// The port that the word after `--port` asks for.
+fn port_of(word: Option<&str>) -> Option<u16> {
+    match word {
+        None => Some(0xf000),
+        Some(word) => address_of(word.as_bytes()),
+    }
+}
+
+/// The profile that the word after `--profile` asks for.
+fn profile_of(word: Option<&str>) -> Option<Profile> {
+    match word {
+        None => Some(Profile::N),
+        Some("N") => Some(Profile::N),
+        Some("C") => Some(Profile::C),
+        Some(_) => None,
+    }
+}
+
+/// What the values that were found ask for, or `None` where one is no value of its option.
+fn asked<'a>(matches: &ArgMatches<'a>) -> Option<CheckWords<'a>> {
+    Some(CheckWords {
+        source: matches.get_str("SOURCE")?,
+        port: port_of(matches.get_str("port"))?,
+        profile: profile_of(matches.get_str("profile"))?,
+    })
+}
+
+/// Reads the words of `check`, its own name left out.
+pub fn read_words<'a>(alloc: Global, words: &'a [&'a str]) -> Result<CheckWords<'a>, WordsFault> {
+    let matches = command(alloc)?.try_get_matches_from(words)?;
+    match asked(&matches) {
+        Some(words) => Ok(words),
+        None => Err(WordsFault::Value),
+    }
+}

@@ -1,0 +1,59 @@
+//! Words put together.
+
+use hexdigits::digits_of_word;
+use itoa::Buffer;
+use std::alloc::{AllocError, Global};
+
+/// What is said of a fault: where in its line, counted in bytes from 0, how many bytes are meant, and in which words.
+#[derive(Drop)]
+pub struct Note {
+    pub start: usize,
+    pub width: usize,
+    pub words: Vec<u8>,
+}
+
+/// Words about some bytes of a line.
+pub fn noted(start: usize, width: usize, words: Vec<u8>) -> Note {
+    Note {
+        start,
+        width,
+        words,
+    }
+}
+
+/// Pieces of text, one after another.
+pub fn joined(alloc: Global, pieces: &[&[u8]]) -> Result<Vec<u8>, AllocError> {
+    let mut words = Vec::new(alloc);
+    for piece in pieces {
+        words.extend_from_slice(piece)?;
+    }
+    Ok(words)
+}
+
+/// Words that stand as they are.
+pub fn said(alloc: Global, words: &str) -> Result<Vec<u8>, AllocError> {
+    Vec::from_slice(alloc, words.as_bytes())
+}
+
+/// A name and what is said of it.
+pub fn named(alloc: Global, name: &[u8], words: &str) -> Result<Vec<u8>, AllocError> {
+    let mut text = Vec::from_slice(alloc, name)?;
+    text.extend_from_slice(words.as_bytes())?;
+    Ok(text)
+}
+
+/// A number in decimal.
+pub fn push_decimal(words: &mut Vec<u8>, number: i32) -> Result<(), AllocError> {
+    words.extend_from_slice(Buffer::new().format(number).as_bytes())
+}
+
+/// A count in decimal.
+pub fn push_count(words: &mut Vec<u8>, number: u32) -> Result<(), AllocError> {
+    words.extend_from_slice(Buffer::new().format(number).as_bytes())
+}
+
+/// An address in hex.
+pub fn push_address(words: &mut Vec<u8>, address: u32) -> Result<(), AllocError> {
+    words.push(b'$')?;
+    words.extend_from_slice(&digits_of_word((address % 65536) as u16))
+}
