@@ -89,9 +89,10 @@ fn refused_words<O: Write, E: Write>(fault: WordsFault, output: &mut O, errors: 
     }
 }
 
-/// Does what the words of `check` ask for, its own name left out, and returns the exit status: 0 if the source has no fault, 1 if it has one,
-/// 2 if the words or the map are wrong, 3 if memory ran out, 4 if reading or writing failed. The blocks of the faults go to `output`. For 2
-/// and above a line on `errors` says why; that it cannot be written changes no status.
+/// Does what the words of `check` ask for, its own name left out, and returns the exit status: 0 if
+/// the source has no fault, 1 if it has one, 2 if the words or the map are wrong, 3 if memory ran
+/// out, 4 if reading or writing failed. The blocks of the faults go to `output`. For 2 and above a
+/// line on `errors` says why; that it cannot be written changes no status.
 pub fn check<H: Files + AllocGlobal, O: Write, E: Write>(
     rt: &H,
     words: &[&str],

@@ -16,8 +16,8 @@ pub struct CheckedText {
     pub is_faulty: bool,
 }
 
-/// What `check` writes of a source on a map: a block for each fault under the name of its file, or nothing if it has none. The only error
-/// is that a request for memory was refused.
+/// What `check` writes of a source on a map: a block for each fault under the name of its file, or
+/// nothing if it has none. The only error is that a request for memory was refused.
 pub fn checked_text(
     alloc: Global,
     file: &[u8],
@@ -27,7 +27,8 @@ pub fn checked_text(
     // Whether a fault is told.
     ensures faulty { IfOk result (λ c. c.is_faulty ≡ not (length (faults_of map.now source.now) == 0)) }
     // A source that denotes an image has none.
-    ensures right { IfOk result (λ c. (image : List (Option ℕ)) → Denotes map.now source.now image → c.is_faulty ≡ false) }
+    ensures right { IfOk result
+        (λ c. (image : List (Option ℕ)) → Denotes map.now source.now image → c.is_faulty ≡ false) }
 {
     let faults = source_faults(alloc, source, map)?;
     let is_faulty = !faults.is_empty();

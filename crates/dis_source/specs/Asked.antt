@@ -1,4 +1,5 @@
--- What the words of `dis` with `--source` ask for, by the values that clap's definition of a parse finds among them. Source: mos65.
+-- What the words of `dis` with `--source` ask for, by the values that clap's definition of a parse
+-- finds among them. Source: mos65.
 use Rattle.std.specs.Prelude.{ℕ, List, Option, Some, None, codes, length, take, drop, get_or, nat_le, ◌==◌, ◌&&◌, if◌then◌else◌, option_map}
 use Rattle.clap.specs.Words.{Text}
 use Rattle.model.specs.Commands.{address_of}
@@ -21,7 +22,8 @@ addresses_of first last = None
 -- LO-HI.
 abbrev pub range_of : List ℕ → Option (ℕ × ℕ)
 range_of word =
-    if length word == 9 && get_or word 4 0 == 45 then addresses_of (address_of (take 4 word)) (address_of (drop 5 word))
+    if length word == 9 && get_or word 4 0 == 45
+    then addresses_of (address_of (take 4 word)) (address_of (drop 5 word))
     else None
 
 -- The range that an option asks for: none where it is not there.
@@ -43,12 +45,22 @@ profile_asked (Some word) =
     else if length word == 1 && get_or word 0 0 == 67 then Some C
     else None
 
-abbrev pub source_of_values : Option Text → Option (ℕ × ℕ) → Option (Option (ℕ × ℕ)) → Option (Option (ℕ × ℕ)) → Option Profile → Option SourceAsked
+abbrev pub source_of_values : Option Text → Option (ℕ × ℕ) → Option (Option (ℕ × ℕ))
+    → Option (Option (ℕ × ℕ)) → Option Profile → Option SourceAsked
 source_of_values (Some tape) (Some bounds) (Some numbers) (Some letters) (Some profile) =
-    Some (record { tape = tape; first = bounds.0; last = bounds.1; numbers = numbers; letters = letters; profile = profile })
+    Some (record {
+      tape = tape;
+      first = bounds.0;
+      last = bounds.1;
+      numbers = numbers;
+      letters = letters;
+      profile = profile;
+    })
 source_of_values tape bounds numbers letters profile = None
 
 -- What the values of the names ask for, where each is one that its name can have.
 abbrev pub source_asked : (Text → Option Text) → Option SourceAsked
-source_asked value = source_of_values (value (codes "TAPE")) (bounds_asked (value (codes "LO")) (value (codes "HI")))
-    (range_asked (value (codes "data"))) (range_asked (value (codes "text"))) (profile_asked (value (codes "profile")))
+source_asked value = source_of_values (value (codes "TAPE"))
+    (bounds_asked (value (codes "LO")) (value (codes "HI")))
+    (range_asked (value (codes "data"))) (range_asked (value (codes "text")))
+    (profile_asked (value (codes "profile")))

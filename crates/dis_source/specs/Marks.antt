@@ -10,11 +10,13 @@ lies_in (Some range) address = nat_le range.0 address && nat_le address range.1
 
 -- Text comes before data, and that before code.
 abbrev pub mark_of : Option (ℕ × ℕ) → Option (ℕ × ℕ) → ℕ → Mark
-mark_of numbers letters address = if lies_in letters address then Text else if lies_in numbers address then Data else Code
+mark_of numbers letters address = if lies_in letters address then Text
+    else if lies_in numbers address then Data else Code
 
 -- A cell between two addresses, and nothing elsewhere.
 abbrev pub cell_between : List (Option ℕ) → ℕ → ℕ → ℕ → Option ℕ
-cell_between cells first last address = if nat_le first address && nat_le address last then cell_at cells address else None
+cell_between cells first last address = if nat_le first address && nat_le address last
+    then cell_at cells address else None
 
 -- An image with a cell put at an address, where it is a byte.
 abbrev pub with_cell : List (Option ℕ) → ℕ → Option ℕ → List (Option ℕ)

@@ -1,7 +1,8 @@
 //! What the words ask for.
 ghost use Rattle.std.specs.Prelude.{◌≡◌, option_map};
 ghost use Rattle.clap.specs.Words.{first_value, found_of};
-ghost use Rattle.dis_source.specs.Asked.{addresses_of, bounds_asked, profile_asked, range_asked, range_of, source_asked};
+ghost use Rattle.dis_source.specs.Asked.{addresses_of, bounds_asked, profile_asked, range_asked};
+ghost use Rattle.dis_source.specs.Asked.{range_of, source_asked};
 ghost use Rattle.dis_source.specs.Views.{source_view};
 ghost use Rattle.model.specs.Commands.{address_of};
 
@@ -12,7 +13,8 @@ use model::Profile;
 use std::alloc::Global;
 use words::WordsFault;
 
-/// What the words of `dis TAPE [LO HI] --source [--data LO-HI] [--text LO-HI] [--profile N|C]` ask for.
+/// What the words of `dis TAPE [LO HI] --source [--data LO-HI] [--text LO-HI] [--profile N|C]` ask
+/// for.
 #[derive(Clone, Copy, Debug, PartialEq, Eq)]
 pub struct SourceWords<'a> {
     /// The file to read.
@@ -68,9 +70,11 @@ fn range_asked(word: Option<&str>) -> Option<Option<(u16, u16)>>
     }
 }
 
-/// The addresses that LO and HI ask for, all where neither is there, or `None` where they are wrong.
+/// The addresses that LO and HI ask for, all where neither is there, or `None` where they are
+/// wrong.
 fn bounds_asked(low: Option<&str>, high: Option<&str>) -> Option<(u16, u16)>
-    ensures { result ≡ bounds_asked (option_map (λ w. w.now) low.entry) (option_map (λ w. w.now) high.entry) }
+    ensures { result
+        ≡ bounds_asked (option_map (λ w. w.now) low.entry) (option_map (λ w. w.now) high.entry) }
 {
     match low {
         None => match high {
@@ -84,7 +88,8 @@ fn bounds_asked(low: Option<&str>, high: Option<&str>) -> Option<(u16, u16)>
     }
 }
 
-/// The profile that an option asks for, N where it is not there, or `None` where its value is wrong.
+/// The profile that an option asks for, N where it is not there, or `None` where its value is
+/// wrong.
 fn profile_asked(word: Option<&str>) -> Option<Profile>
     ensures { result ≡ profile_asked (option_map (λ w. w.now) word.entry) }
 {
@@ -127,8 +132,10 @@ fn source_words<'a>(matches: &ArgMatches<'a>) -> Option<SourceWords<'a>>
 ///
 /// # Errors
 ///
-/// - `Help` where they ask for help, and `Usage` where they do not fit the command line, with `clap`'s text.
-/// - `Value`: they fit, and a value is wrong: an address that is none, LO without HI, or a first address above the last.
+/// - `Help` where they ask for help, and `Usage` where they do not fit the command line, with
+///   `clap`'s text.
+/// - `Value`: they fit, and a value is wrong: an address that is none, LO without HI, or a first
+///   address above the last.
 /// - `OutOfMemory`: a request for memory was refused.
 pub fn read_source_words<'a>(
     alloc: Global,

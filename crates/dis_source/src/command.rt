@@ -28,7 +28,8 @@ fn source<'a>(alloc: Global) -> Arg<'a> {
         .help("Writes a source that `asm` takes, and no listing")
 }
 
-/// The command line of `dis` with `--source`. The only error is that a request for memory was refused.
+/// The command line of `dis` with `--source`. The only error is that a request for memory was
+/// refused.
 pub fn command<'a>(alloc: Global) -> Result<Command<'a>, Error> {
     let command = Command::new(alloc, "dis")
         .about("Writes what a tape has as a source that `asm` takes")

@@ -1,7 +1,9 @@
-//! `dis TAPE [LO HI] --source [--data LO-HI] [--text LO-HI] [--profile N|C]`: a tape written as a source that `asm` takes.
+//! `dis TAPE [LO HI] --source [--data LO-HI] [--text LO-HI] [--profile
+//! N|C]`: a tape written as a source that `asm ` takes.
 //!
-//! `dis_source` is the one call. It reads its words (`command`, `asked`), marks what is data and what is text (`marks`), and writes the source
-//! of the tape's image, which denotes that image: `source_text` has the theorem.
+//! `dis_source` is the one call. It reads its words (`command`, `asked`), marks what is data and
+//! what is text (`marks`), and writes the source of the tape's image, which denotes that image:
+//! `source_text` has the theorem.
 #![tactic(auto)]
 
 mod asked;

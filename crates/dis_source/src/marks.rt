@@ -38,7 +38,8 @@ pub fn marks_of(
     letters: Option<(u16, u16)>,
 ) -> Result<Vec<Mark>, AllocError>
     ensures len { IfOk result (λ marks. vec_len marks ≡ 65536) }
-    ensures each { IfOk result (λ marks. (a : ℕ) → a < 65536 → slice_index_or marks.items a Mark.Code ≡ mark_of numbers letters a) }
+    ensures each { IfOk result (λ marks. (a : ℕ) → a < 65536
+        → slice_index_or marks.items a Mark.Code ≡ mark_of numbers letters a) }
 {
     let mut marks = Vec::new(alloc);
     for address in 0..65536u32 {
@@ -71,7 +72,8 @@ fn put_cell(part: &mut Image, address: u16, cell: Option<u8>)
 /// An image's bytes between two addresses. The only error is that a request for memory was refused.
 #[tactic(auto, using(crate::proofs::Between::turn))]
 pub fn between(alloc: Global, image: &Image, first: u16, last: u16) -> Result<Image, BusFault>
-    ensures { IfOk result (λ part. (a : ℕ) → a < 65536 → cell_at part a ≡ cell_between image.now first last a) }
+    ensures { IfOk result
+        (λ part. (a : ℕ) → a < 65536 → cell_at part a ≡ cell_between image.now first last a) }
 {
     let mut part = Image::new(alloc)?;
     // For the proof: that every image has 65,536 cells.

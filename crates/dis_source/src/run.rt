@@ -94,10 +94,11 @@ fn ended<O: Write, E: Write>(text: Result<Vec<u8>, Refusal>, output: &mut O, err
     }
 }
 
-/// Does what the words after `dis` ask for where `--source` is among them, and returns the exit status: 0 where the source was written, 1
-/// where the tape is refused, 2 where the words are wrong, 3 where memory ran out, 4 where reading or writing failed. For each but 0
-/// a line on `errors` says why; that it cannot be written changes no status. The text is whole, and the tape's file closed, before
-/// any of it is written.
+/// Does what the words after `dis` ask for where `--source` is among them, and returns the exit
+/// status: 0 where the source was written, 1 where the tape is refused, 2 where the words are
+/// wrong, 3 where memory ran out, 4 where reading or writing failed. For each but 0 a line on
+/// `errors` says why; that it cannot be written changes no status. The text is whole, and the
+/// tape's file closed, before any of it is written.
 pub fn dis_source<H: Files + AllocGlobal, O: Write, E: Write>(
     rt: &H,
     words: &[&str],
@@ -107,7 +108,8 @@ pub fn dis_source<H: Files + AllocGlobal, O: Write, E: Write>(
     ensures status { result ≤ 4 }
     // Where it is done nothing is said on the error stream.
     ensures quiet { result ≡ 0 → errors.new ≡ errors.old }
-    // A tape or words that are refused leave the output as it was, and so it is where memory ran out.
+    // A tape or words that are refused leave the output as it was, and so it is where memory ran
+    // out.
     ensures untouched { 1 ≤ result → result ≤ 3 → output.new ≡ output.old }
 {
     match read_source_words(rt.alloc(), words) {

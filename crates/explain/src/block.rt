@@ -111,11 +111,11 @@ fn large_text(alloc: Global, file: &[u8], faults: &[AsmFault]) -> Result<Vec<u8>
     Ok(text)
 }
 
-/// The text of faults of a source: for each of the first 50, by line, `FILE:LINE:COLUMN: NAME NUMBER: ` and what a person needs, the line
-/// and a mark under what is meant; then how many faults there are. Without a fault the text is empty.
+/// The text of faults of a source: for each of the first 50, by line,
+/// `FILE:LINE:COLUMN: NAME NUMBER: ` and what a person needs, the line and a mark under what is
+/// meant; then how many faults there are. Without a fault the text is empty.
 ///
-/// The only error is that a request for memory was refused.
-/// Source: mos65.
+/// The only error is that a request for memory was refused. Source: mos65.
 pub fn faults_text(
     alloc: Global,
     file: &[u8],

@@ -64,7 +64,8 @@ fn unknown_token<'t, 'a>(symbols: &Symbols, tokens: &'t [Token<'a>]) -> Option<&
     None
 }
 
-/// Words about a name that is not defined, or not defined before its line, with the nearest one that is.
+/// Words about a name that is not defined, or not defined before its line, with the nearest one
+/// that is.
 fn unknown_note(
     alloc: Global,
     context: &Context<'_, '_>,

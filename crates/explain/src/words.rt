@@ -4,7 +4,8 @@ use hexdigits::digits_of_word;
 use itoa::Buffer;
 use std::alloc::{AllocError, Global};
 
-/// What is said of a fault: where in its line, counted in bytes from 0, how many bytes are meant, and in which words.
+/// What is said of a fault: where in its line, counted in bytes from 0, how many bytes are meant,
+/// and in which words.
 #[derive(Drop)]
 pub struct Note {
     pub start: usize,

@@ -1,5 +1,5 @@
-//! The program `mos65`: it collects the process's words and hands them, with the standard streams, to the
-//! crate that serves them.
+//! The program `mos65`: it collects the process's words and hands them, with the standard streams,
+//! to the crate that serves them.
 #![tactic(auto)]
 
 use checking::check;
@@ -8,8 +8,8 @@ use program::{program, unreadable_words};
 use std::process::ExitCode;
 use std::{env, io};
 
-/// Does what words ask for, and returns the exit status. `check`, and `dis` with a word `--source`, are
-/// served by crates of their own; all other words are those of `program`.
+/// Does what words ask for, and returns the exit status. `check`, and `dis` with a word `--source`,
+/// are served by crates of their own; all other words are those of `program`.
 fn serve(rt: &HostRuntime, words: &[&str]) -> u8 {
     match words {
         ["check", rest @ ..] => check(rt, rest, &mut io::writer(rt), &mut rt.stderr()),
