@@ -123,8 +123,11 @@ fn debug_command<'a>(alloc: Global) -> Result<Command<'a>, Error>
 }
 
 /// What the program's help shows below its words.
-const STATUSES: &str =
-    "Exit status: 0 done, 1 bad source or tape, 2 bad words or map, 3 out of memory, 4 I/O failed";
+const STATUSES: &str = "Other words:
+  check SOURCE         tells all faults of a source, each with what a person needs
+  dis TAPE --source    writes what a tape has as a source that `asm` takes
+
+Exit status: 0 done, 1 bad source or tape, 2 bad words or map, 3 out of memory, 4 I/O failed";
 
 /// Returns the program's command line.
 ///
