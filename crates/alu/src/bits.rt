@@ -1,7 +1,7 @@
 //! Comparisons, shifts and the bit test.
 
 ghost use Rattle.std.specs.Prelude.{◌≡◌};
-ghost use Rattle.model.specs.Arithmetic.{asl, bit_test, compared, lsr, rol, ror, with_carry};
+ghost use Rattle.model.specs.Arithmetic.{asl, bit_test, compare, lsr, rol, ror, with_carry};
 
 use model::Sum;
 
@@ -10,9 +10,9 @@ use model::Sum;
 /// The value is their difference modulo 256, with N and Z of it. C is set if the register is not
 /// below the byte. V is false. Source: MCS6500 manual, chapter 4 and appendix A.
 #[inline(always)]
-#[tactic(auto, unfolding(model::specs::Arithmetic::compared))]
+#[tactic(auto, unfolding(model::specs::Arithmetic::compare))]
 pub fn compare(reg: u8, m: u8) -> Sum
-    ensures { result ≡ compared reg m }
+    ensures { result ≡ compare reg m }
 {
     with_carry(reg.wrapping_sub(m), reg >= m)
 }

@@ -1,2 +1,2 @@
 pub use Rattle.line_parts.specs.Lexemes
-pub use Rattle.line_parts.specs.Trees
+pub use Rattle.line_parts.specs.TermViews

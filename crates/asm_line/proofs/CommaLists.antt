@@ -5,7 +5,7 @@ use Rattle.std.specs.Option.{option_map, option_and_then}
 use Rattle.std.proofs.lemmas.List.{drop-drop}
 use Rattle.model.specs.Token.{Lexeme}
 use Rattle.model.specs.Reading.{is_symbol}
-use Rattle.model.specs.Line.{list_within, list_after}
+use Rattle.model.specs.SourceLine.{list_within, list_after}
 use Rattle.asm_line.specs.Lists.{goes_on}
 
 -- what is read of the beginning of some tokens, and the tokens after it

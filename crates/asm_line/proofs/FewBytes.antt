@@ -16,11 +16,11 @@ use Rattle.model.specs.Mnemonics.{mnemonic_named}
 use Rattle.model.specs.Token.{Lexeme, Tokens, AreSlices, TokensAreSlices, is_source_byte, tokens_of}
 use Rattle.model.specs.Expression.{Term, Longest}
 use Rattle.model.specs.Reading.{ReadsLongest, is_symbol, expression_of}
-use Rattle.model.specs.Line.{Operand, Item, value, Statement, origin, bytes, words, words_high_first, reserve, instruction, Line, labelled, definition, list_after, list_within, expressions_of, item_of, item_or, items_of, string_in, is_directive, directive_of, finish_alone, origin_after, operand_of, operation_by, statement_of, whole_expression, unlabelled, word_line, line_by, line_of, line_reserves, unreserved, read_line}
+use Rattle.model.specs.SourceLine.{Operand, Item, value, Statement, origin, bytes, words, words_high_first, reserve, instruction, Line, labelled, definition, list_after, list_within, expressions_of, item_of, item_or, items_of, string_in, is_directive, directive_of, finish_alone, origin_after, operand_of, operation_by, statement_of, whole_expression, unlabelled, word_line, line_by, line_of, line_reserves, unreserved, read_line}
 use Rattle.model.specs.Layout.{item_size, items_size}
 use Rattle.line_parts.specs.declared.fault.LineError.{LineError}
 use Rattle.line_parts.specs.declared.statement.Line as code
-use Rattle.line_parts.specs.Seen.{Gives, seen_line}
+use Rattle.line_parts.specs.LineViews.{Gives, line_view}
 use Rattle.line_parts.specs.FewBytes.{IsSmall, IsSmallLine}
 
 -- ---- tokens
@@ -290,6 +290,6 @@ module _ (profile : Profile) (longest : ReadsLongest) where
       (small_tokens slices line (ltb-false 255 (length line) short) (tokens_of line) refl)))
 
   -- what was read is small
-  pub small_read : TokensAreSlices → (line : List ℕ) (r : Result code.Line LineError) → Gives seen_line r (read_line profile line) → IfOk r (λ l. IsSmallLine (seen_line l))
+  pub small_read : TokensAreSlices → (line : List ℕ) (r : Result code.Line LineError) → Gives line_view r (read_line profile line) → IfOk r (λ l. IsSmallLine (line_view l))
   small_read slices line (Ok l) same = let all = right_line slices line in subst Right same all
   small_read slices line (Err e) same = tt

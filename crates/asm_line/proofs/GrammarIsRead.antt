@@ -12,7 +12,7 @@ use Rattle.model.specs.declared.line.Index.{Index}
 use Rattle.model.specs.Token.{Lexeme}
 use Rattle.model.specs.Expression.{Term, symbol_in, symbol_of, operator_for, operator_of, atom_in, Level, Derives, atom, group, plain as plain_unary, minus, single, chain, bare, low_byte, high_byte, IsExpression, OneExpression}
 use Rattle.model.specs.Reading.{ReadsLongest, is_symbol, expression_of}
-use Rattle.model.specs.Line.{Operand, direct, Item, value, Statement, Line, is_word, is_word_in, direct_after, operand_of, list_within, item_of, item_or, string_in, directive_of, operation_by, origin_after, statement_of, unlabelled, word_line, line_by, line_of}
+use Rattle.model.specs.SourceLine.{Operand, direct, Item, value, Statement, Line, is_word, is_word_in, direct_after, operand_of, list_within, item_of, item_or, string_in, directive_of, operation_by, origin_after, statement_of, unlabelled, word_line, line_by, line_of}
 use Rattle.model.specs.Grammar.{IsIndex, unindexed, by_x, by_y, IsOperand, none, letter_a, after_hash, plain, after_mark, in_brackets, in_brackets_by_x, in_brackets_by_y, AreListed, last, more, IsItem, expression, quoted, IsOperation, by_mnemonic, sets_address, byte_directive, word_directive, dbyte_directive, res_directive, end_directive, IsRest, nothing_more, operation, no_label, label, defines, is_a, IsLine, EachLineIsRead}
 use Rattle.asm_line.proofs.SymbolsOutside as foreign
 use Rattle.asm_line.proofs.SymbolsOutside.{Ends, symbol_is, symbol_other, symbol_not, symbol_kind, not_a, none_is, read_before, read_whole, some_token}

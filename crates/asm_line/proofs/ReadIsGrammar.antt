@@ -10,7 +10,7 @@ use Rattle.model.specs.Mnemonics.{mnemonic_named}
 use Rattle.model.specs.Token.{Lexeme}
 use Rattle.model.specs.Expression.{Term, IsExpression, Longest}
 use Rattle.model.specs.Reading.{ReadsLongest, is_symbol, expression_of}
-use Rattle.model.specs.Line.{Operand, absent, accumulator, immediate, direct, pointer, pointer_by_x, pointer_by_y, Item, value, string, Statement, nothing, origin, bytes, words, words_high_first, reserve, finish, instruction, is_word, is_alone, alone, whole_expression, direct_after, pointer_after, direct_operand, operand_of, list_after, list_within, string_in, item_or, item_of, items_of, expressions_of, finish_alone, is_directive, directive_of, origin_after, operation_by, statement_of, Line, labelled, definition, unlabelled, word_line, line_by, line_of}
+use Rattle.model.specs.SourceLine.{Operand, absent, accumulator, immediate, direct, pointer, pointer_by_x, pointer_by_y, Item, value, string, Statement, nothing, origin, bytes, words, words_high_first, reserve, finish, instruction, is_word, is_alone, alone, whole_expression, direct_after, pointer_after, direct_operand, operand_of, list_after, list_within, string_in, item_or, item_of, items_of, expressions_of, finish_alone, is_directive, directive_of, origin_after, operation_by, statement_of, Line, labelled, definition, unlabelled, word_line, line_by, line_of}
 use Rattle.model.specs.Grammar.{IsIndex, unindexed, by_x, by_y, IsOperand, none, letter_a, after_hash, plain, after_mark, in_brackets, in_brackets_by_x, in_brackets_by_y, AreListed, last, more, IsItem, expression, quoted, IsOperation, by_mnemonic, sets_address, byte_directive, word_directive, dbyte_directive, res_directive, end_directive, IsRest, nothing_more, operation, IsDirective, IsLine, no_label, label, defines, is_a, IsSymbol, EachReadLineIsALine}
 use Rattle.asm_line.proofs.SymbolsOutside.{symbol_back}
 

@@ -9,7 +9,7 @@ use Rattle.model.specs.declared.expression.Operator.{Operator}
 use Rattle.model.specs.Token.{Lexeme}
 use Rattle.model.specs.Expression.{Term, symbol_in, symbol_of, operator_for, operator_of, star_term, atom_in, Level, Derives, atom, group, plain, minus, single, chain, bare, low_byte, high_byte, IsExpression, Longest, OneExpression}
 use Rattle.model.specs.Reading.{ReadsLongest, Read, is_symbol, expression_of}
-use Rattle.model.specs.Line.{is_alone, is_word, whole_expression}
+use Rattle.model.specs.SourceLine.{is_alone, is_word, whole_expression}
 
 -- ---- symbols
 

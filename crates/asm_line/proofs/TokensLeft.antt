@@ -7,7 +7,7 @@ use Rattle.line_parts.specs.declared.token.Token.{Token}
 use Rattle.line_parts.specs.Lexemes.{lexemes}
 use Rattle.model.specs.declared.expression.LineFault.{LineFault}
 use Rattle.model.specs.declared.expression.LineFault.TheVariants.{Syntax, OutOfMemory}
-use Rattle.line_parts.specs.Seen.{Reads}
+use Rattle.line_parts.specs.LineViews.{Reads}
 
 -- tokens dropped with or without where they lie
 pub lexemes_drop : (n : ℕ) (ts : List Token) → lexemes (drop n ts) ≡ drop n (lexemes ts)

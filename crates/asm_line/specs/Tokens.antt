@@ -1,7 +1,7 @@
 -- A line's tokens, or why it has none.
 use Rattle.std.specs.Prelude.{ℕ, nat_lt, not, if◌then◌else◌, List, length, Option, Some, None, Result, Ok, Err}
 use Rattle.std.specs.List.{list_all}
-use Rattle.model.specs.Line.{Line, line_of, unreserved}
+use Rattle.model.specs.SourceLine.{Line, line_of, unreserved}
 use Rattle.model.specs.Token.{Lexeme, is_source_byte, tokens_of}
 use Rattle.model.specs.declared.instruction.Profile.{Profile}
 use Rattle.model.specs.declared.source_fault.AsmFaultKind.{AsmFaultKind}
@@ -20,6 +20,6 @@ line_tokens line = if nat_lt 255 (length line) then Err LineTooLong
     else tokens_or (fault_of_bytes line) (tokens_of line)
 
 -- what they say in a profile, or the fault that there is already
-abbrev pub said_by : Profile → Result (List Lexeme) AsmFaultKind → Result Line AsmFaultKind
-said_by profile (Ok ts) = unreserved profile (line_of profile ts)
-said_by profile (Err kind) = Err kind
+abbrev pub line_of_tokens : Profile → Result (List Lexeme) AsmFaultKind → Result Line AsmFaultKind
+line_of_tokens profile (Ok ts) = unreserved profile (line_of profile ts)
+line_of_tokens profile (Err kind) = Err kind

@@ -4,13 +4,13 @@ ghost use Rattle.std.specs.Prelude.{◌≡◌, ◌<◌, ◌≤◌, ◌-◌, IfOk
 ghost use Rattle.std.specs.Prelude.{drop};
 ghost use Rattle.std.specs.Prelude.{length, map, take, true};
 ghost use Rattle.model.specs.Expression.{Term};
-ghost use Rattle.model.specs.Line.{Item as SeenItem, item_of, list_within, whole_expression};
+ghost use Rattle.model.specs.SourceLine.{Item as SeenItem, item_of, list_within, whole_expression};
 ghost use Rattle.model.specs.Token.{Lexeme};
 ghost use Rattle.model.specs.Reading.{expression_of};
 ghost use Rattle.line_parts.specs.Lexemes.{lexemes};
-ghost use Rattle.line_parts.specs.Trees.{view};
+ghost use Rattle.line_parts.specs.TermViews.{term_view};
 ghost use Rattle.asm_line.specs.Lists.{goes_on};
-ghost use Rattle.line_parts.specs.Seen.{Reads, seen_after, seen_item};
+ghost use Rattle.line_parts.specs.LineViews.{Reads, term_view_after, item_view};
 ghost use Rattle.model.specs.declared.expression.LineFault.TheVariants.{Syntax};
 
 use crate::token_tests::is_symbol;
@@ -24,16 +24,16 @@ pub fn expression<'a, 't>(
     alloc: Global,
     tokens: &'t [Token<'a>],
 ) -> Result<(Expr<'a>, &'t [Token<'a>]), LineFault>
-    ensures { Reads seen_after result (expression_of (lexemes tokens.now)) }
+    ensures { Reads term_view_after result (expression_of (lexemes tokens.now)) }
 {
     let (value, taken) = parse_expr(alloc, tokens)?;
     Ok((value, &tokens[taken..]))
 }
 
 /// Returns the expression that is made of all these tokens.
-#[tactic(auto, unfolding(model::specs::Line::whole_expression))]
+#[tactic(auto, unfolding(model::specs::SourceLine::whole_expression))]
 pub fn whole_expression<'a>(alloc: Global, tokens: &[Token<'a>]) -> Result<Expr<'a>, LineFault>
-    ensures { Reads view result (whole_expression (lexemes tokens.now)) }
+    ensures { Reads term_view result (whole_expression (lexemes tokens.now)) }
 {
     let (value, behind) = expression(alloc, tokens)?;
     if behind.is_empty() {
@@ -84,7 +84,7 @@ pub trait Element<'a>: Sized + Drop {
 impl<'a> Element<'a> for Expr<'a> {
     ghost Seen = { Term };
 
-    ghost seen_as = { view };
+    ghost seen_as = { term_view };
 
     ghost element_of = { expression_of };
 
@@ -96,7 +96,7 @@ impl<'a> Element<'a> for Expr<'a> {
 impl<'a> Element<'a> for Item<'a> {
     ghost Seen = { SeenItem };
 
-    ghost seen_as = { seen_item };
+    ghost seen_as = { item_view };
 
     ghost element_of = { item_of };
 

@@ -1,8 +1,8 @@
 //! A line of a source: from its text to what it says.
 //!
 //! `read_line_with` is the one reader, for the assembler's lines and, as `read_line`, for one line
-//! alone. The definition is `Line.antt` of `model`; `specs` here only says how the definitions see
-//! parts that are borrowed from the line.
+//! alone. The definition is `SourceLine.antt` of `model`; `specs` here only says how the
+//! definitions see parts that are borrowed from the line.
 #![tactic(auto)]
 
 mod expressions;

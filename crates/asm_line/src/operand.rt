@@ -3,12 +3,12 @@
 ghost use Rattle.std.specs.Prelude.{◌≡◌};
 ghost use Rattle.std.specs.Option.{option_and_then, option_map};
 ghost use Rattle.model.specs.Expression.{Term};
-ghost use Rattle.model.specs.Line.{direct_after, direct_operand, operand_of, pointer_after};
+ghost use Rattle.model.specs.SourceLine.{direct_after, direct_operand, operand_of, pointer_after};
 ghost use Rattle.model.specs.Reading.{expression_of};
 ghost use Rattle.line_parts.specs.Lexemes.{lexemes};
-ghost use Rattle.line_parts.specs.Trees.{view};
+ghost use Rattle.line_parts.specs.TermViews.{term_view};
 ghost use Rattle.asm_line.specs.Pointers.{pointer_by};
-ghost use Rattle.line_parts.specs.Seen.{Reads, seen_operand};
+ghost use Rattle.line_parts.specs.LineViews.{Reads, operand_view};
 
 use crate::expressions::{expression, whole_expression};
 use crate::token_tests::{is_symbol, is_word};
@@ -18,8 +18,8 @@ use std::alloc::Global;
 
 /// An operand of one expression, by the tokens after it: none, `,X` or `,Y`.
 fn direct_after<'a>(marked: bool, value: Expr<'a>, behind: &[Token<'a>]) -> Option<Operand<'a>>
-    ensures { option_map seen_operand result
-        ≡ direct_after marked (view value.entry) (lexemes behind.now) }
+    ensures { option_map operand_view result
+        ≡ direct_after marked (term_view value.entry) (lexemes behind.now) }
 {
     let index = match behind {
         [] => Index::Unindexed,
@@ -55,7 +55,7 @@ fn closing(behind: &[Token<'_>]) -> Option<Index>
 
 /// An operand of one expression, which may be indexed.
 fn direct<'a>(alloc: Global, marked: bool, tokens: &[Token<'a>]) -> Result<Operand<'a>, LineFault>
-    ensures { Reads seen_operand result (direct_operand marked (lexemes tokens.now)) }
+    ensures { Reads operand_view result (direct_operand marked (lexemes tokens.now)) }
 {
     let (value, behind) = expression(alloc, tokens)?;
     direct_after(marked, value, behind).ok_or(LineFault::Syntax)
@@ -63,7 +63,7 @@ fn direct<'a>(alloc: Global, marked: bool, tokens: &[Token<'a>]) -> Result<Opera
 
 /// The operand after a `(`.
 fn pointer<'a>(alloc: Global, tokens: &[Token<'a>]) -> Result<Operand<'a>, LineFault>
-    ensures { Reads seen_operand result
+    ensures { Reads operand_view result
         (option_and_then (λ p. pointer_after p.0 p.1) (expression_of (lexemes tokens.now))) }
 {
     let (value, behind) = expression(alloc, tokens)?;
@@ -76,9 +76,9 @@ fn pointer<'a>(alloc: Global, tokens: &[Token<'a>]) -> Result<Operand<'a>, LineF
 }
 
 /// Returns the operand that the tokens after a mnemonic are.
-#[tactic(auto, unfolding(model::specs::Line::operand_of))]
+#[tactic(auto, unfolding(model::specs::SourceLine::operand_of))]
 pub fn operand<'a>(alloc: Global, tokens: &[Token<'a>]) -> Result<Operand<'a>, LineFault>
-    ensures { Reads seen_operand result (operand_of (lexemes tokens.now)) }
+    ensures { Reads operand_view result (operand_of (lexemes tokens.now)) }
 {
     let Some((first, rest)) = tokens.split_first() else {
         return Ok(Operand::Absent);

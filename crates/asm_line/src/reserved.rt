@@ -2,10 +2,10 @@
 
 ghost use Rattle.std.specs.Prelude.{◌≡◌};
 ghost use Rattle.std.specs.List.{list_any};
-ghost use Rattle.model.specs.Line.{is_reserved, item_reserves, line_reserves, operand_reserves};
-ghost use Rattle.model.specs.Line.{reserves, term_reserves};
-ghost use Rattle.line_parts.specs.Trees.{view};
-ghost use Rattle.line_parts.specs.Seen.{seen, seen_item, seen_line, seen_operand};
+ghost use Rattle.model.specs.SourceLine.{is_reserved, item_reserves, line_reserves, operand_reserves};
+ghost use Rattle.model.specs.SourceLine.{reserves, term_reserves};
+ghost use Rattle.line_parts.specs.TermViews.{term_view};
+ghost use Rattle.line_parts.specs.LineViews.{statement_view, item_view, line_view, operand_view};
 
 use crate::token_tests::is_in_capitals;
 use line_parts::{Expr, Item, Line, Operand, Statement};
@@ -13,7 +13,7 @@ use model::Profile;
 use optable::mnemonic_in;
 
 /// Returns whether a word is a mnemonic of a profile, A, X or Y, in either letter case.
-#[tactic(auto, unfolding(model::specs::Line::is_reserved))]
+#[tactic(auto, unfolding(model::specs::SourceLine::is_reserved))]
 fn is_reserved(profile: Profile, text: &[u8]) -> bool
     ensures { result ≡ is_reserved profile text.now }
 {
@@ -25,7 +25,7 @@ fn is_reserved(profile: Profile, text: &[u8]) -> bool
 
 /// Returns whether an expression uses a reserved word as a name.
 fn expr_reserves(profile: Profile, expr: &Expr<'_>) -> bool
-    ensures { result ≡ term_reserves profile (view expr.now) }
+    ensures { result ≡ term_reserves profile (term_view expr.now) }
 {
     match expr {
         Expr::Literal(_) | Expr::Here => false,
@@ -40,7 +40,7 @@ fn expr_reserves(profile: Profile, expr: &Expr<'_>) -> bool
 
 /// Returns whether an operand uses a reserved word as a name.
 fn operand_reserves(profile: Profile, operand: &Operand<'_>) -> bool
-    ensures { result ≡ operand_reserves profile (seen_operand operand.now) }
+    ensures { result ≡ operand_reserves profile (operand_view operand.now) }
 {
     match operand {
         Operand::Absent | Operand::Accumulator => false,
@@ -54,7 +54,7 @@ fn operand_reserves(profile: Profile, operand: &Operand<'_>) -> bool
 
 /// Returns whether an item uses a reserved word as a name.
 fn item_reserves(profile: Profile, item: &Item<'_>) -> bool
-    ensures { result ≡ item_reserves profile (seen_item item.now) }
+    ensures { result ≡ item_reserves profile (item_view item.now) }
 {
     match item {
         Item::Value(value) => expr_reserves(profile, value),
@@ -64,14 +64,14 @@ fn item_reserves(profile: Profile, item: &Item<'_>) -> bool
 
 /// Returns whether one of some expressions uses a reserved word as a name.
 fn any_reserves(profile: Profile, values: &[Expr<'_>]) -> bool
-    ensures { result ≡ list_any (λ value. term_reserves profile (view value)) values.now }
+    ensures { result ≡ list_any (λ value. term_reserves profile (term_view value)) values.now }
 {
     values.iter().any(|value| expr_reserves(profile, value))
 }
 
 /// Returns whether one of some items uses a reserved word as a name.
 fn any_item_reserves(profile: Profile, items: &[Item<'_>]) -> bool
-    ensures { result ≡ list_any (λ item. item_reserves profile (seen_item item)) items.now }
+    ensures { result ≡ list_any (λ item. item_reserves profile (item_view item)) items.now }
 {
     items.iter().any(|item| item_reserves(profile, item))
 }
@@ -79,7 +79,7 @@ fn any_item_reserves(profile: Profile, items: &[Item<'_>]) -> bool
 /// Returns whether a statement uses a reserved word as a name.
 #[tactic(auto, using(crate::proofs::TokensLeft::list_any_map))]
 fn reserves(profile: Profile, statement: &Statement<'_>) -> bool
-    ensures { result ≡ reserves profile (seen statement.now) }
+    ensures { result ≡ reserves profile (statement_view statement.now) }
 {
     match statement {
         Statement::Nothing | Statement::Finish => false,
@@ -94,7 +94,7 @@ fn reserves(profile: Profile, statement: &Statement<'_>) -> bool
 
 /// Returns whether a line uses a reserved word as a name.
 pub fn line_reserves(profile: Profile, line: &Line<'_>) -> bool
-    ensures { result ≡ line_reserves profile (seen_line line.now) }
+    ensures { result ≡ line_reserves profile (line_view line.now) }
 {
     match line {
         Line::Labelled(None, statement) => reserves(profile, statement),

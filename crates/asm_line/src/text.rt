@@ -1,12 +1,12 @@
 //! What the text of a line says.
 
 ghost use Rattle.std.specs.Prelude.{◌≡◌, ◌∷◌, [], IfOk, OnErr};
-ghost use Rattle.model.specs.Line.{directive_of, line_of, operation_by, origin_after, read_line};
-ghost use Rattle.model.specs.Line.{statement_of, unlabelled, unreserved, word_line};
+ghost use Rattle.model.specs.SourceLine.{directive_of, line_of, operation_by, origin_after, read_line};
+ghost use Rattle.model.specs.SourceLine.{statement_of, unlabelled, unreserved, word_line};
 ghost use Rattle.line_parts.specs.Lexemes.{lexeme_of, lexemes};
-ghost use Rattle.line_parts.specs.Seen.{Gives, Reads, seen, seen_line};
+ghost use Rattle.line_parts.specs.LineViews.{Gives, Reads, statement_view, line_view};
 ghost use Rattle.line_parts.specs.FewBytes.{IsSmallLine};
-ghost use Rattle.asm_line.specs.Tokens.{fault_of_bytes, line_tokens, said_by};
+ghost use Rattle.asm_line.specs.Tokens.{fault_of_bytes, line_tokens, line_of_tokens};
 
 use crate::expressions::{list, whole_expression};
 use crate::operand::operand;
@@ -23,13 +23,13 @@ use std::alloc::Global;
 const LINE_SIZE: usize = 255;
 
 /// Reads a directive and the tokens after it.
-#[tactic(auto, unfolding(model::specs::Line::directive_of))]
+#[tactic(auto, unfolding(model::specs::SourceLine::directive_of))]
 fn directive<'a>(
     alloc: Global,
     name: &[u8],
     after: &[Token<'a>],
 ) -> Result<Statement<'a>, LineFault>
-    ensures { Reads seen result (directive_of name.now (lexemes after.now)) }
+    ensures { Reads statement_view result (directive_of name.now (lexemes after.now)) }
 {
     if is_in_capitals(name, b".BYTE") {
         return Ok(Statement::Bytes(list(alloc, after)?));
@@ -51,7 +51,7 @@ fn directive<'a>(
 
 /// Reads the tokens after a `*`.
 fn origin<'a>(alloc: Global, after: &[Token<'a>]) -> Result<Statement<'a>, LineFault>
-    ensures { Reads seen result (origin_after (lexemes after.now)) }
+    ensures { Reads statement_view result (origin_after (lexemes after.now)) }
 {
     let Some((equals, rest)) = after.split_first() else {
         return Err(LineFault::Syntax);
@@ -69,7 +69,7 @@ fn instruction<'a>(
     word: &Token<'a>,
     after: &[Token<'a>],
 ) -> Result<Statement<'a>, LineFault>
-    ensures { Reads seen result
+    ensures { Reads statement_view result
         (operation_by profile TokenKind.Word (lexeme_of word.now) (lexemes after.now)) }
 {
     let mnemonic = mnemonic_in(profile, word.text).ok_or(LineFault::Syntax)?;
@@ -77,13 +77,13 @@ fn instruction<'a>(
 }
 
 /// Reads the tokens of a statement.
-#[tactic(auto, unfolding(model::specs::Line::statement_of))]
+#[tactic(auto, unfolding(model::specs::SourceLine::statement_of))]
 fn statement<'a>(
     alloc: Global,
     profile: Profile,
     tokens: &[Token<'a>],
 ) -> Result<Statement<'a>, LineFault>
-    ensures { Reads seen result (statement_of profile (lexemes tokens.now)) }
+    ensures { Reads statement_view result (statement_of profile (lexemes tokens.now)) }
 {
     let Some((first, after)) = tokens.split_first() else {
         return Ok(Statement::Nothing);
@@ -104,7 +104,7 @@ fn unlabelled<'a>(
     profile: Profile,
     tokens: &[Token<'a>],
 ) -> Result<Line<'a>, LineFault>
-    ensures { Reads seen_line result (unlabelled profile (lexemes tokens.now)) }
+    ensures { Reads line_view result (unlabelled profile (lexemes tokens.now)) }
 {
     Ok(Line::Labelled(None, statement(alloc, profile, tokens)?))
 }
@@ -118,7 +118,7 @@ fn word_line<'a>(
     after: &[Token<'a>],
 ) -> Result<Line<'a>, LineFault>
     requires { lexemes tokens.now ≡ lexeme_of word.now ∷ lexemes after.now }
-    ensures { Reads seen_line result (word_line profile (lexeme_of word.now) (lexemes after.now)) }
+    ensures { Reads line_view result (word_line profile (lexeme_of word.now) (lexemes after.now)) }
 {
     let Some((mark, rest)) = after.split_first() else {
         return unlabelled(alloc, profile, tokens);
@@ -133,9 +133,9 @@ fn word_line<'a>(
 }
 
 /// Reads the tokens of a line.
-#[tactic(auto, unfolding(model::specs::Line::line_of))]
+#[tactic(auto, unfolding(model::specs::SourceLine::line_of))]
 fn line_of<'a>(alloc: Global, profile: Profile, tokens: &[Token<'a>]) -> Result<Line<'a>, LineFault>
-    ensures { Reads seen_line result (line_of profile (lexemes tokens.now)) }
+    ensures { Reads line_view result (line_of profile (lexemes tokens.now)) }
 {
     let Some((first, after)) = tokens.split_first() else {
         return Ok(Line::Labelled(None, Statement::Nothing));
@@ -177,8 +177,12 @@ fn line_tokens<'a>(room: &mut Vec<Token<'a>>, line: &'a [u8]) -> Result<(), Line
 }
 
 /// Reads the tokens of a line, or returns the fault of a reserved word among them.
-fn said<'a>(alloc: Global, profile: Profile, tokens: &[Token<'a>]) -> Result<Line<'a>, LineError>
-    ensures { Gives seen_line result (unreserved profile (line_of profile (lexemes tokens.now))) }
+fn line_of_tokens<'a>(
+    alloc: Global,
+    profile: Profile,
+    tokens: &[Token<'a>],
+) -> Result<Line<'a>, LineError>
+    ensures { Gives line_view result (unreserved profile (line_of profile (lexemes tokens.now))) }
 {
     let line = line_of(alloc, profile, tokens)?;
     if line_reserves(profile, &line) {
@@ -194,10 +198,10 @@ fn read<'a>(
     room: &mut Vec<Token<'a>>,
     line: &'a [u8],
 ) -> Result<Line<'a>, LineError>
-    ensures { Gives seen_line result (said_by profile (line_tokens line.now)) }
+    ensures { Gives line_view result (line_of_tokens profile (line_tokens line.now)) }
 {
     match line_tokens(room, line) {
-        Ok(()) => said(alloc, profile, room),
+        Ok(()) => line_of_tokens(alloc, profile, room),
         Err(error) => Err(error),
     }
 }
@@ -217,9 +221,9 @@ pub fn read_line_with<'a>(
     room: &mut Vec<Token<'a>>,
     line: &'a [u8],
 ) -> Result<Line<'a>, LineError>
-    ensures exact { Gives seen_line result (read_line profile line.now) }
+    ensures exact { Gives line_view result (read_line profile line.now) }
     // The line denotes few bytes, since its text has few.
-    ensures small { IfOk result (λ l. IsSmallLine (seen_line l)) }
+    ensures small { IfOk result (λ l. IsSmallLine (line_view l)) }
     // If the line has a fault, the list is empty.
     ensures err { OnErr result (room.new.items ≡ []) }
 {
@@ -237,8 +241,8 @@ pub fn read_line_with<'a>(
 
 /// Reads a line of a source in a profile, as `read_line_with` does, with a list of its own.
 pub fn read_line<'a>(alloc: Global, profile: Profile, line: &'a [u8]) -> Result<Line<'a>, LineError>
-    ensures exact { Gives seen_line result (read_line profile line.now) }
-    ensures small { IfOk result (λ l. IsSmallLine (seen_line l)) }
+    ensures exact { Gives line_view result (read_line profile line.now) }
+    ensures small { IfOk result (λ l. IsSmallLine (line_view l)) }
 {
     let mut room = Vec::new(alloc);
     read_line_with(alloc, profile, &mut room, line)

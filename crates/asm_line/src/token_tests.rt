@@ -3,7 +3,7 @@
 ghost use Rattle.std.specs.Prelude.{◌≡◌};
 ghost use Rattle.std.specs.Str.{bytes_eq, str_to_ascii_uppercase};
 ghost use Rattle.model.specs.Reading.{is_symbol};
-ghost use Rattle.model.specs.Line.{is_word};
+ghost use Rattle.model.specs.SourceLine.{is_word};
 ghost use Rattle.line_parts.specs.Lexemes.{lexeme_of};
 
 use line_parts::Token;

@@ -4,21 +4,21 @@ use Rattle.std.specs.Prelude.{IfOk, IfErr}
 use Rattle.model.specs.Bytes.{Makes}
 use Rattle.model.specs.Image.{empty_image}
 use Rattle.model.specs.State.{Map}
-use Rattle.model.specs.Layout.{Fixed, Placed, LaidOut, extents_of}
-use Rattle.model.specs.Lines.{lines_of}
+use Rattle.model.specs.Layout.{Context, PlacedLine, IsLaidOut, extents_of}
+use Rattle.model.specs.TextLines.{lines_of}
 use Rattle.model.specs.Listing.{IsListing}
 use Rattle.model.specs.Names.{number_in}
-use Rattle.model.specs.Source.{Denotes, HasFault, OneAssignment, nothing_fixed, read_lines}
+use Rattle.model.specs.Source.{Denotes, HasFault, OneAssignment, first_context, read_lines}
 use Rattle.model.specs.declared.source_fault.AsmFault.{AsmFault}
-use Rattle.source_laws.specs.Judging.{DenotedIsJudged, FaultIsJudged, Judged, JudgedIsMeant, Says, judged, judged_as, ◌>>=◌}
-use Rattle.assembler.specs.Assembly.{AnswersSource, Assembled, IsImageOrMemory, Verdict, listing_of, out_of_memory, seen_verdict, verdict, verdict_of}
+use Rattle.law_sources.specs.Judging.{DenotedIsJudged, FaultIsJudged, Judgement, JudgedIsMeant, Says, judgement, judgement_as, ◌>>=◌}
+use Rattle.assembler.specs.Assembly.{AnswersSource, AssemblyView, IsImageOrMemory, Verdict, listing_of, out_of_memory, verdict_view, verdict, verdict_of}
 use Rattle.assembler.proofs.RowsRead.{rows_of_read}
 
 abbrev Cells : Type 0
 Cells = List (Option ℕ)
 
 abbrev Given : Type 0
-Given = Result Assembled AsmFault
+Given = Result AssemblyView AsmFault
 
 same_ok : (v w : Verdict) (a b : Result Verdict AsmFault) → a ≡ Ok v → b ≡ Ok w → a ≡ b → v ≡ w
 same_ok v w a b p q r = cc
@@ -29,90 +29,90 @@ not_both v f a b p q r = cc
 err_same : (f g : AsmFault) (a b : Result Verdict AsmFault) → a ≡ Err f → b ≡ Err g → a ≡ b → f ≡ g
 err_same f g a b p q r = cc
 
-abbrev passed : Result Judged AsmFault → Result Verdict AsmFault
+abbrev passed : Result Judgement AsmFault → Result Verdict AsmFault
 passed r = r >>= λ j. Ok (verdict_of j)
 
 -- what an assembly shows is what was judged
-record Meant (m : Map) (source : List ℕ) (a : Assembled) : Type 0 where
-  judgement : Judged
+record Meant (m : Map) (source : List ℕ) (a : AssemblyView) : Type 0 where
+  judgement : Judgement
   denotes : Denotes m source judgement.image
-  laid : LaidOut (nothing_fixed m.profile) (read_lines m.profile source) judgement.placed judgement.all
-  shown : verdict_of judgement ≡ seen_verdict a
+  laid : IsLaidOut (first_context m.profile) (read_lines m.profile source) judgement.placed judgement.all
+  shown : verdict_of judgement ≡ verdict_view a
 
-meant_by : (m : Map) (source : List ℕ) (a : Assembled) (r : Result Judged AsmFault) → Says m source r → passed r ≡ Ok (seen_verdict a) → Meant m source a
+meant_by : (m : Map) (source : List ℕ) (a : AssemblyView) (r : Result Judgement AsmFault) → Says m source r → passed r ≡ Ok (verdict_view a) → Meant m source a
 meant_by m source a (Ok j) says h = record {
   judgement = j;
   denotes = says.0;
   laid = says.1;
-  shown = same_ok (verdict_of j) (seen_verdict a) (Ok (verdict_of j)) (Ok (seen_verdict a)) refl refl h;
+  shown = same_ok (verdict_of j) (verdict_view a) (Ok (verdict_of j)) (Ok (verdict_view a)) refl refl h;
 }
-meant_by m source a (Err f) says h = absurd (not_both (seen_verdict a) f (Ok (seen_verdict a)) (Err f) refl refl (sym h))
+meant_by m source a (Err f) says h = absurd (not_both (verdict_view a) f (Ok (verdict_view a)) (Err f) refl refl (sym h))
 
-meant_as : JudgedIsMeant → (m : Map) (source : List ℕ) (a : Assembled) → verdict m source ≡ Ok (seen_verdict a) → Meant m source a
-meant_as meant m source a h = meant_by m source a (judged m source) (meant m source) h
+meant_as : JudgedIsMeant → (m : Map) (source : List ℕ) (a : AssemblyView) → verdict m source ≡ Ok (verdict_view a) → Meant m source a
+meant_as meant m source a h = meant_by m source a (judgement m source) (meant m source) h
 
-image_is : (m : Map) (source : List ℕ) (a : Assembled) (x : Meant m source a) → x.judgement.image ≡ a.image
+image_is : (m : Map) (source : List ℕ) (a : AssemblyView) (x : Meant m source a) → x.judgement.image ≡ a.image
 image_is m source a x = ap (λ (v : Verdict). v.image) x.shown
 
-pub denoted_from : JudgedIsMeant → (m : Map) (source : List ℕ) (r : Given) → AnswersSource seen_verdict r (verdict m source) → IfOk r (λ a. Denotes m source a.image)
+pub denoted_from : JudgedIsMeant → (m : Map) (source : List ℕ) (r : Given) → AnswersSource verdict_view r (verdict m source) → IfOk r (λ a. Denotes m source a.image)
 denoted_from meant m source (Ok a) h =
     let x = meant_as meant m source a h in
     subst (λ (i : Cells). Denotes m source i) (image_is m source a x) x.denotes
 denoted_from meant m source (Err f) h = tt
 
-pub places_from : JudgedIsMeant → OneAssignment → (m : Map) (source : List ℕ) (r : Given) → AnswersSource seen_verdict r (verdict m source)
-    → IfOk r (λ a. (placed : List Placed) (all : Fixed) → LaidOut (nothing_fixed m.profile) (read_lines m.profile source) placed all → a.places ≡ extents_of placed)
+pub places_from : JudgedIsMeant → OneAssignment → (m : Map) (source : List ℕ) (r : Given) → AnswersSource verdict_view r (verdict m source)
+    → IfOk r (λ a. (placed : List PlacedLine) (all : Context) → IsLaidOut (first_context m.profile) (read_lines m.profile source) placed all → a.places ≡ extents_of placed)
 places_from meant one m source (Ok a) h = λ placed all laid.
     let x = meant_as meant m source a h in
-    let same : x.judgement.placed ≡ placed = (one (read_lines m.profile source) (nothing_fixed m.profile) x.judgement.placed placed x.judgement.all all x.laid laid).0 in
+    let same : x.judgement.placed ≡ placed = (one (read_lines m.profile source) (first_context m.profile) x.judgement.placed placed x.judgement.all all x.laid laid).0 in
     sym (ap (λ (v : Verdict). v.places) x.shown) ∙ ap extents_of same
 places_from meant one m source (Err f) h = tt
 
-pub names_from : JudgedIsMeant → OneAssignment → (m : Map) (source : List ℕ) (r : Given) → AnswersSource seen_verdict r (verdict m source)
-    → IfOk r (λ a. (placed : List Placed) (all : Fixed) → LaidOut (nothing_fixed m.profile) (read_lines m.profile source) placed all → a.names ≡ all.names)
+pub names_from : JudgedIsMeant → OneAssignment → (m : Map) (source : List ℕ) (r : Given) → AnswersSource verdict_view r (verdict m source)
+    → IfOk r (λ a. (placed : List PlacedLine) (all : Context) → IsLaidOut (first_context m.profile) (read_lines m.profile source) placed all → a.names ≡ all.names)
 names_from meant one m source (Ok a) h = λ placed all laid.
     let x = meant_as meant m source a h in
-    let same : x.judgement.all ≡ all = (one (read_lines m.profile source) (nothing_fixed m.profile) x.judgement.placed placed x.judgement.all all x.laid laid).1 in
-    sym (ap (λ (v : Verdict). v.names) x.shown) ∙ ap (λ (f : Fixed). f.names) same
+    let same : x.judgement.all ≡ all = (one (read_lines m.profile source) (first_context m.profile) x.judgement.placed placed x.judgement.all all x.laid laid).1 in
+    sym (ap (λ (v : Verdict). v.names) x.shown) ∙ ap (λ (f : Context). f.names) same
 names_from meant one m source (Err f) h = tt
 
-pub only_from : DenotedIsJudged → (m : Map) (source : List ℕ) (r : Given) → AnswersSource seen_verdict r (verdict m source) → (image : Cells) → Denotes m source image → IsImageOrMemory r image
+pub only_from : DenotedIsJudged → (m : Map) (source : List ℕ) (r : Given) → AnswersSource verdict_view r (verdict m source) → (image : Cells) → Denotes m source image → IsImageOrMemory r image
 only_from denoted m source (Ok a) h image d =
-    let v = verdict_of (judged_as d.placed d.all image) in
+    let v = verdict_of (judgement_as d.placed d.all image) in
     let there : verdict m source ≡ Ok v = ap passed (denoted m source image d) in
-    ap (λ (w : Verdict). w.image) (same_ok (seen_verdict a) v (verdict m source) (verdict m source) h there refl)
+    ap (λ (w : Verdict). w.image) (same_ok (verdict_view a) v (verdict m source) (verdict m source) h there refl)
 only_from denoted m source (Err f) (inl memory) image d = memory
 only_from denoted m source (Err f) (inr h) image d =
-    let v = verdict_of (judged_as d.placed d.all image) in
+    let v = verdict_of (judgement_as d.placed d.all image) in
     let there : verdict m source ≡ Ok v = ap passed (denoted m source image d) in
     absurd (not_both v f (verdict m source) (verdict m source) there h refl)
 
-refused_by : (m : Map) (source : List ℕ) (f : AsmFault) (r : Result Judged AsmFault) → Says m source r → passed r ≡ Err f → HasFault m source f
+refused_by : (m : Map) (source : List ℕ) (f : AsmFault) (r : Result Judgement AsmFault) → Says m source r → passed r ≡ Err f → HasFault m source f
 refused_by m source f (Ok j) says h = absurd (not_both (verdict_of j) f (Ok (verdict_of j)) (Err f) refl refl h)
 refused_by m source f (Err g) says h = subst (λ (x : AsmFault). HasFault m source x) (err_same g f (Err g) (Err f) refl refl h) says
 
-pub refused_from : JudgedIsMeant → (m : Map) (source : List ℕ) (r : Given) → AnswersSource seen_verdict r (verdict m source) → IfErr r (λ f. (f ≡ out_of_memory) ⊎ HasFault m source f)
+pub refused_from : JudgedIsMeant → (m : Map) (source : List ℕ) (r : Given) → AnswersSource verdict_view r (verdict m source) → IfErr r (λ f. (f ≡ out_of_memory) ⊎ HasFault m source f)
 refused_from meant m source (Ok a) h = tt
 refused_from meant m source (Err f) (inl memory) = inl memory
-refused_from meant m source (Err f) (inr h) = inr (refused_by m source f (judged m source) (meant m source) h)
+refused_from meant m source (Err f) (inr h) = inr (refused_by m source f (judgement m source) (meant m source) h)
 
-pub faulty_from : FaultIsJudged → (m : Map) (source : List ℕ) (r : Given) → AnswersSource seen_verdict r (verdict m source)
+pub faulty_from : FaultIsJudged → (m : Map) (source : List ℕ) (r : Given) → AnswersSource verdict_view r (verdict m source)
     → (f : AsmFault) → HasFault m source f → (r ≡ Err f) ⊎ (r ≡ Err out_of_memory)
 faulty_from fault m source (Ok a) h f bad =
     let there : verdict m source ≡ Err f = ap passed (fault m source f bad) in
-    absurd (not_both (seen_verdict a) f (verdict m source) (verdict m source) h there refl)
+    absurd (not_both (verdict_view a) f (verdict m source) (verdict m source) h there refl)
 faulty_from fault m source (Err e) (inl memory) f bad = inr (ap (λ (x : AsmFault). Err x) memory)
 faulty_from fault m source (Err e) (inr h) f bad =
     let there : verdict m source ≡ Err f = ap passed (fault m source f bad) in
     inl (ap (λ (x : AsmFault). Err x) (err_same e f (verdict m source) (verdict m source) h there refl))
 
-listing_by : (m : Map) (source : List ℕ) (a : Assembled) (x : Meant m source a) → OneAssignment → IsListing m source (listing_of (record { image = a.image; source = source; places = a.places; names = a.names }))
+listing_by : (m : Map) (source : List ℕ) (a : AssemblyView) (x : Meant m source a) → OneAssignment → IsListing m source (listing_of (record { image = a.image; source = source; places = a.places; names = a.names }))
 unfolding read_lines
 listing_by m source a x one =
     let d = x.denotes in
-    let both = one (read_lines m.profile source) (nothing_fixed m.profile) x.judgement.placed d.placed x.judgement.all d.all x.laid d.laid in
+    let both = one (read_lines m.profile source) (first_context m.profile) x.judgement.placed d.placed x.judgement.all d.all x.laid d.laid in
     let places : a.places ≡ extents_of d.placed = sym (ap (λ (v : Verdict). v.places) x.shown) ∙ ap extents_of both.0 in
-    let names : a.names ≡ d.all.names = sym (ap (λ (v : Verdict). v.names) x.shown) ∙ ap (λ (f : Fixed). f.names) both.1 in
+    let names : a.names ≡ d.all.names = sym (ap (λ (v : Verdict). v.names) x.shown) ∙ ap (λ (f : Context). f.names) both.1 in
     record {
       size = d.size;
       placed = d.placed;
@@ -120,10 +120,10 @@ listing_by m source a x one =
       laid = d.laid;
       image = a.image;
       made = subst (λ (i : Cells). Makes m (number_in d.all.names) empty_image d.placed i) (image_is m source a x) d.made;
-      rows = rw (places, names, rows_of_read m.profile a.image (lines_of source) (nothing_fixed m.profile) d.placed d.all d.laid) refl;
+      rows = rw (places, names, rows_of_read m.profile a.image (lines_of source) (first_context m.profile) d.placed d.all d.laid) refl;
     }
 
-pub listed_from : JudgedIsMeant → OneAssignment → (m : Map) (source : List ℕ) (r : Given) → AnswersSource seen_verdict r (verdict m source) → IfOk r (λ a. a.source ≡ source) → IfOk r (λ a. IsListing m source (listing_of a))
+pub listed_from : JudgedIsMeant → OneAssignment → (m : Map) (source : List ℕ) (r : Given) → AnswersSource verdict_view r (verdict m source) → IfOk r (λ a. a.source ≡ source) → IfOk r (λ a. IsListing m source (listing_of a))
 listed_from meant one m source (Ok a) h kept =
     let x = meant_as meant m source a h in
     rw kept (listing_by m source a x one)

@@ -1,18 +1,18 @@
 -- What an assembly shows, and the error that is not a fault of the source.
 use Rattle.std.specs.Prelude.{◌≡◌, ℕ, List, map, Option, Result, Ok, Err}
-pub use Rattle.line_parts.specs.Located.{AnswersSource, out_of_memory}
+pub use Rattle.line_parts.specs.LineFaults.{AnswersSource, out_of_memory}
 use Rattle.model.specs.Names.{Definitions}
 use Rattle.model.specs.Layout.{extents_of}
-use Rattle.model.specs.Lines.{lines_of}
-use Rattle.model.specs.Listing.{listing_text, shown_in}
-use Rattle.source_laws.specs.Judging.{Judged, judged, ◌>>=◌}
+use Rattle.model.specs.TextLines.{lines_of}
+use Rattle.model.specs.Listing.{listing_text, address_and_bytes}
+use Rattle.law_sources.specs.Judging.{Judgement, judgement, ◌>>=◌}
 use Rattle.model.specs.State.{Map}
 use Rattle.model.specs.declared.source_fault.AsmFault.{AsmFault}
 
 -- What clauses see of an assembly: the byte at each address where the source denotes one; the
 -- source; each line's address and byte count, in the order of the lines; and the names with their
 -- numbers, in order of definition.
-pub record Assembled : Type 0 where
+pub record AssemblyView : Type 0 where
   pub image : List (Option ℕ)
   pub source : List ℕ
   pub places : List (ℕ × ℕ)
@@ -24,21 +24,21 @@ pub record Verdict : Type 0 where
   pub places : List (ℕ × ℕ)
   pub names : Definitions
 
-abbrev pub verdict_of : Judged → Verdict
+abbrev pub verdict_of : Judgement → Verdict
 verdict_of j = record { image = j.image; places = extents_of j.placed; names = j.all.names }
 
 abbrev pub verdict : Map → List ℕ → Result Verdict AsmFault
-verdict bus_map source = judged bus_map source >>= λ j. Ok (verdict_of j)
+verdict bus_map source = judgement bus_map source >>= λ j. Ok (verdict_of j)
 
-abbrev pub seen_verdict : Assembled → Verdict
-seen_verdict a = record { image = a.image; places = a.places; names = a.names }
+abbrev pub verdict_view : AssemblyView → Verdict
+verdict_view a = record { image = a.image; places = a.places; names = a.names }
 
 -- The result is this image, or memory ran out.
-abbrev pub IsImageOrMemory : Result Assembled AsmFault → List (Option ℕ) → Type 0
+abbrev pub IsImageOrMemory : Result AssemblyView AsmFault → List (Option ℕ) → Type 0
 IsImageOrMemory (Ok a) image = a.image ≡ image
 IsImageOrMemory (Err fault) image = fault ≡ out_of_memory
 
 -- The listing of what an assembly shows: of its source's lines that have an address, and of its
 -- names.
-abbrev pub listing_of : Assembled → List ℕ
-listing_of a = listing_text (lines_of a.source) (map (shown_in a.image) a.places) a.names
+abbrev pub listing_of : AssemblyView → List ℕ
+listing_of a = listing_text (lines_of a.source) (map (address_and_bytes a.image) a.places) a.names

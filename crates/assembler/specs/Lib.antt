@@ -1,4 +1,4 @@
 pub mod Found
-pub mod Kept
+pub mod FoundLines
 pub mod Assembly
-pub use Rattle.line_parts.specs.Located
+pub use Rattle.line_parts.specs.LineFaults

@@ -3,23 +3,23 @@
 ghost use Rattle.std.specs.Prelude.{◌≡◌, ◌<◌, ◌⊎◌, ℕ, List, Option, Err, IfOk, IfErr, false, length};
 ghost use Rattle.std.specs.Prelude.{slice_get};
 ghost use Rattle.assembler.specs.Assembly.{AnswersSource, IsImageOrMemory, listing_of};
-ghost use Rattle.assembler.specs.Assembly.{out_of_memory, seen_verdict, verdict};
-ghost use Rattle.model.specs.Layout.{Fixed, LaidOut, Placed, extents_of};
+ghost use Rattle.assembler.specs.Assembly.{out_of_memory, verdict_view, verdict};
+ghost use Rattle.model.specs.Layout.{Context, IsLaidOut, PlacedLine, extents_of};
 ghost use Rattle.model.specs.Listing.{IsListing};
 ghost use Rattle.model.specs.Names.{number_in};
-ghost use Rattle.model.specs.Source.{Denotes, HasFault, nothing_fixed, read_lines};
+ghost use Rattle.model.specs.Source.{Denotes, HasFault, first_context, read_lines};
 ghost use Rattle.model.specs.Image.{IsImage};
 ghost use Rattle.model.specs.State.{has_port_byte};
 ghost use Rattle.model.specs.declared.source_fault.AsmFault.{AsmFault};
 ghost use Rattle.model.specs.declared.source_fault.AsmFaultKind.TheVariants.{TooLarge};
-ghost use Rattle.symbols.specs.Entries.{shown};
+ghost use Rattle.symbols.specs.Entries.{entry_view};
 
 use crate::first_pass::lay_out;
-use bus::{Image, MapSpec};
 use emission::make_image;
+use law_sources::{judging_is_right, one_assignment};
 use line_parts::OUT_OF_MEMORY;
+use memory_map::{Image, MapSpec};
 use model::{AsmFault, AsmFaultKind};
-use source_laws::{judging_is_right, one_assignment};
 use source_lines::Span;
 use source_listing::listing_of;
 use std::alloc::Global;
@@ -39,10 +39,10 @@ pub struct Assembly {
 }
 
 impl Model for Assembly {
-    ghost use Rattle.assembler.specs.Assembly.{Assembled};
+    ghost use Rattle.assembler.specs.Assembly.{AssemblyView};
     ghost use Rattle.source_lines.specs.Spans.{pairs_of};
 
-    ghost Value = { Assembled };
+    ghost Value = { AssemblyView };
 
     ghost view = { λ a. record {
       image = a.image;
@@ -69,7 +69,7 @@ impl Assembly {
 
     /// Returns a name and its number, by its index in the order of definition, counted from 0.
     pub fn symbol(&self, index: usize) -> Option<(&[u8], i32)>
-        ensures { shown result ≡ slice_get self.now.names index }
+        ensures { entry_view result ≡ slice_get self.now.names index }
     {
         self.symbols.symbol(index)
     }
@@ -144,10 +144,10 @@ pub fn assemble(alloc: Global, source: &[u8], map: &MapSpec) -> Result<Assembly,
     // The source is kept, with each line's address and number of bytes, and its names.
     ensures kept { IfOk result (λ a. a.source ≡ source.now) }
     ensures places { IfOk result
-        (λ a. (placed : List Placed) (all : Fixed) → LaidOut (nothing_fixed map.now.profile)
+        (λ a. (placed : List PlacedLine) (all : Context) → IsLaidOut (first_context map.now.profile)
         (read_lines map.now.profile source.now) placed all → a.places ≡ extents_of placed) }
     ensures names { IfOk result
-        (λ a. (placed : List Placed) (all : Fixed) → LaidOut (nothing_fixed map.now.profile)
+        (λ a. (placed : List PlacedLine) (all : Context) → IsLaidOut (first_context map.now.profile)
         (read_lines map.now.profile source.now) placed all → a.names ≡ all.names) }
     // The listing of these is that of the source.
     ensures listed { IfOk result (λ a. IsListing map.now source.now (listing_of a)) }
@@ -160,7 +160,7 @@ pub fn assemble(alloc: Global, source: &[u8], map: &MapSpec) -> Result<Assembly,
 
 /// Lays out the source, and then puts its bytes.
 fn assemble_lines(alloc: Global, source: &[u8], map: &MapSpec) -> Result<Assembly, AsmFault>
-    ensures exact { AnswersSource seen_verdict result (verdict map.now source.now) }
+    ensures exact { AnswersSource verdict_view result (verdict map.now source.now) }
     ensures large { 1048576 < length source.now
         → result ≡ Err (record { line = 0; kind = TooLarge }) }
     ensures cells { IfOk result (λ a. IsImage a.image) }

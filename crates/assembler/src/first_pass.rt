@@ -1,16 +1,16 @@
 //! The first pass: the address of each line, and the number of each name.
 
 ghost use Rattle.std.specs.Prelude.{◌≡◌, ◌+◌, ◌-◌, ◌<◌, ◌≤◌, ◌^◌, [], max, length, IfOk};
-ghost use Rattle.assembler.specs.Found.{found_lines, nothing_found, taken};
-ghost use Rattle.assembler.specs.Kept.{Lays, Takes, ends_line, found_of};
-ghost use Rattle.line_parts.specs.Seen.{seen, seen_line};
+ghost use Rattle.assembler.specs.Found.{found_lines, nothing_found, with_line_found};
+ghost use Rattle.assembler.specs.FoundLines.{Lays, Takes, ends_line, found_of};
+ghost use Rattle.line_parts.specs.LineViews.{statement_view, line_view};
 ghost use Rattle.model.specs.Layout.{layout_of};
-ghost use Rattle.model.specs.Source.{is_finish, nothing_fixed, read_lines};
+ghost use Rattle.model.specs.Source.{is_finish, first_context, read_lines};
 
 use crate::found::Lines;
 use asm_line::read_line_with;
-use layout::fix;
-use line_parts::{Line, LineError, OUT_OF_MEMORY, Statement, Token, located};
+use layout::place_line;
+use line_parts::{Line, LineError, OUT_OF_MEMORY, Statement, Token, fault_on_line};
 use model::{AsmFault, Profile};
 use source_lines::next_line;
 use std::alloc::Global;
@@ -18,7 +18,7 @@ use symbols::Symbols;
 
 /// Returns whether a statement is `.END`.
 fn is_finish(statement: &Statement<'_>) -> bool
-    ensures { result ≡ is_finish (seen statement.now) }
+    ensures { result ≡ is_finish (statement_view statement.now) }
 {
     match statement {
         Statement::Finish => true,
@@ -34,7 +34,7 @@ fn is_finish(statement: &Statement<'_>) -> bool
 
 /// Returns whether nothing after a line is read.
 fn ends(line: &Line<'_>) -> bool
-    ensures { result ≡ ends_line (seen_line line.now) }
+    ensures { result ≡ ends_line (line_view line.now) }
 {
     match line {
         Line::Labelled(_, statement) => is_finish(statement),
@@ -58,16 +58,16 @@ fn take_line<'a>(
 ) -> Result<(u32, bool), LineError>
     requires { address < 2 ^ 31 - 510 }
     ensures exact { Takes profile text.now (found_of lines.new) result symbols.new
-        (taken number (found_of lines.old) (layout_of
+        (with_line_found number (found_of lines.old) (layout_of
         (record { profile = profile; address = address; names = symbols.old }) text.now)) }
     ensures near { IfOk result (λ r. r.0 ≤ max (address + 510) 65536) }
 {
     let line = read_line_with(alloc, profile, room, text)?;
     let ended = ends(&line);
-    match fix(alloc, profile, symbols, address, &line) {
-        Ok(site) => {
-            lines.note(number, address, line, site)?;
-            Ok((site.next, ended))
+    match place_line(alloc, profile, symbols, address, &line) {
+        Ok(placement) => {
+            lines.note(number, address, line, placement)?;
+            Ok((placement.next, ended))
         }
         Err(error) => {
             drop(line);
@@ -86,7 +86,7 @@ pub fn lay_out<'a>(
     requires size { length source.now ≤ 1048576 }
     requires empty { symbols.old ≡ [] }
     ensures { Lays profile result symbols.new
-        (found_lines 1 (nothing_fixed profile) nothing_found (read_lines profile source.now)) }
+        (found_lines 1 (first_context profile) nothing_found (read_lines profile source.now)) }
 {
     let mut lines = Lines::new(alloc);
     let mut room = Vec::new(alloc);
@@ -104,7 +104,7 @@ pub fn lay_out<'a>(
                 }
                 address = next;
             }
-            Err(error) => return Err(located(number, error)),
+            Err(error) => return Err(fault_on_line(number, error)),
         }
         rest = behind;
         number += 1;

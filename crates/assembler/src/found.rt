@@ -1,16 +1,16 @@
 //! What the first pass finds.
 
 ghost use Rattle.std.specs.Prelude.{◌≡◌, ◌<◌, ◌≤◌, ◌-◌, ◌^◌, OnOk};
-ghost use Rattle.assembler.specs.Found.{is_kept, noting, nothing_found};
-ghost use Rattle.assembler.specs.Kept.{found_of};
-ghost use Rattle.line_parts.specs.Seen.{seen, seen_line};
+ghost use Rattle.assembler.specs.Found.{is_kept, with_line, nothing_found};
+ghost use Rattle.assembler.specs.FoundLines.{found_of};
+ghost use Rattle.line_parts.specs.LineViews.{statement_view, line_view};
 ghost use Rattle.line_parts.specs.Contents.{content_by, line_content};
-ghost use Rattle.line_parts.specs.Kept.{counted_in};
+ghost use Rattle.line_parts.specs.KeptLines.{numbered_lines};
 ghost use Rattle.model.specs.Layout.{size_of};
 ghost use Rattle.source_lines.specs.Spans.{pairs_of};
 
-use layout::Site;
-use line_parts::{Code, Kept, Line, Statement};
+use layout::Placement;
+use line_parts::{Code, KeptLine, Line, Statement};
 use source_lines::Span;
 use std::alloc::{AllocError, Global};
 
@@ -18,12 +18,12 @@ use std::alloc::{AllocError, Global};
 #[derive(Drop)]
 pub struct Lines<'a> {
     spans: Vec<Span>,
-    kept: Vec<Kept<'a>>,
+    kept: Vec<KeptLine<'a>>,
 }
 
 /// Returns whether a statement denotes bytes, an instruction by its opcode.
 fn is_kept(code: Option<Code>, statement: &Statement<'_>) -> bool
-    ensures { result ≡ is_kept (content_by code (seen statement.now)) }
+    ensures { result ≡ is_kept (content_by code (statement_view statement.now)) }
 {
     match statement {
         Statement::Nothing | Statement::Origin(_) | Statement::Reserve(_) | Statement::Finish => {
@@ -46,8 +46,8 @@ impl<'a> Lines<'a> {
     }
 
     /// Returns the lines that denote bytes.
-    pub fn kept(&self) -> &[Kept<'a>]
-        ensures { counted_in result.now ≡ (found_of self.now).kept }
+    pub fn kept(&self) -> &[KeptLine<'a>]
+        ensures { numbered_lines result.now ≡ (found_of self.now).kept }
     {
         &self.kept
     }
@@ -65,29 +65,29 @@ impl<'a> Lines<'a> {
         number: u32,
         address: u32,
         line: Line<'a>,
-        site: Site,
+        placement: Placement,
     ) -> Result<(), AllocError>
         requires near { address < 2 ^ 31 - 510 }
-        requires small { site.count ≤ 510 }
-        requires sized { site.count ≡ size_of (line_content site.code (seen_line line)) }
-        ensures { OnOk result (found_of self.new ≡ noting number (found_of self.old)
+        requires small { placement.count ≤ 510 }
+        requires sized { placement.count ≡ size_of (line_content placement.code (line_view line)) }
+        ensures { OnOk result (found_of self.new ≡ with_line number (found_of self.old)
             (record {
               address = address;
-              content = line_content site.code (seen_line line.entry);
+              content = line_content placement.code (line_view line.entry);
             })) }
     {
         self.spans.push(Span {
             address,
-            count: site.count,
+            count: placement.count,
         })?;
         match line {
             Line::Labelled(_, statement) => {
-                if is_kept(site.code, &statement) {
-                    self.kept.push(Kept {
+                if is_kept(placement.code, &statement) {
+                    self.kept.push(KeptLine {
                         number,
                         address,
-                        count: site.count,
-                        code: site.code,
+                        count: placement.count,
+                        code: placement.code,
                         statement,
                     })?;
                 } else {

@@ -1,9 +1,9 @@
 //! The assembler: from a source to the image that it denotes, and the names that it defines.
 //!
-//! `first_pass` reads each line once, by the reader of `asm_line`: `layout::fix` defines its name
-//! and finds its address and its size, and `found` keeps them and, if the line denotes bytes, what
-//! it says. `emission::make_image` puts the bytes of the kept lines, under the numbers of all
-//! names. `assembly` has both, and the public calls. A law of `source_laws` over `Source.antt` of
+//! `first_pass` reads each line once, by the reader of `asm_line`: `layout::place_line` defines its
+//! name and finds its address and its size, and `found` keeps them and, if the line denotes bytes,
+//! what it says. `emission::make_image` puts the bytes of the kept lines, under the numbers of all
+//! names. `assembly` has both, and the public calls. A law of `law_sources` over `Source.antt` of
 //! `model` says that the two passes compute what a source denotes.
 #![tactic(auto)]
 

@@ -2,17 +2,17 @@
 
 ghost use Rattle.std.specs.Prelude.{◌≡◌, ◌+◌, ◌-◌, ◌<◌, ◌≤◌, ◌^◌, IfOk, OnOk, length, take, drop};
 ghost use Rattle.std.specs.Prelude.{replicate, map};
-ghost use Rattle.line_parts.specs.Seen.{Gives, seen};
-ghost use Rattle.line_parts.specs.Located.{AnswersSource};
+ghost use Rattle.line_parts.specs.LineViews.{Gives, statement_view};
+ghost use Rattle.line_parts.specs.LineFaults.{AnswersSource};
 ghost use Rattle.line_parts.specs.Contents.{content_by};
 ghost use Rattle.model.specs.Layout.{size_of};
-ghost use Rattle.model.specs.OneLine.{bytes_alone, may_stand_alone, one_line};
-ghost use Rattle.source_laws.specs.Judging.{numbered};
+ghost use Rattle.model.specs.OneLineAssembly.{bytes_alone, may_stand_alone, one_line};
+ghost use Rattle.law_sources.specs.Judging.{on_line};
 
 use asm_line::read_line;
 use emission::bytes_alone;
-use layout::{Site, fix};
-use line_parts::{LineError, Statement, located};
+use layout::{Placement, place_line};
+use line_parts::{LineError, Statement, fault_on_line};
 use model::{AsmFault, AsmFaultKind, Profile};
 use std::alloc::Global;
 use symbols::Symbols;
@@ -42,7 +42,7 @@ fn line_of(written: &[u8]) -> Line
 
 /// Returns whether a statement may be alone.
 fn may_stand_alone(statement: &Statement<'_>) -> bool
-    ensures { result ≡ may_stand_alone (seen statement.now) }
+    ensures { result ≡ may_stand_alone (statement_view statement.now) }
 {
     match statement {
         Statement::Bytes(_)
@@ -59,23 +59,28 @@ fn may_stand_alone(statement: &Statement<'_>) -> bool
 fn encode_alone(
     alloc: Global,
     address: u32,
-    site: Site,
+    placement: Placement,
     statement: &Statement<'_>,
 ) -> Result<Line, LineError>
     requires near { address < 2 ^ 31 - 510 }
-    requires short { site.count ≤ 3 }
-    requires sized { site.count ≡ size_of (content_by site.code (seen statement.now)) }
+    requires short { placement.count ≤ 3 }
+    requires sized { placement.count ≡ size_of
+        (content_by placement.code (statement_view statement.now)) }
     ensures bytes { Gives (λ l. take l.count l.bytes) result (bytes_alone
-        (record { address = address; content = content_by site.code (seen statement.now) })) }
+        (record {
+          address = address;
+          content = content_by placement.code
+              (statement_view statement.now);
+        })) }
     ensures rest { IfOk result (λ l. drop l.count l.bytes ≡ replicate (3 - l.count) 0) }
     ensures few { IfOk result (λ l. l.count ≤ 3) }
 {
-    let bytes = bytes_alone(alloc, address, site.code, site.count, statement)?;
+    let bytes = bytes_alone(alloc, address, placement.code, placement.count, statement)?;
     Ok(line_of(&bytes))
 }
 
 /// Returns the bytes of a line alone at an address, or its fault.
-#[tactic(auto, unfolding(model::specs::OneLine::one_line))]
+#[tactic(auto, unfolding(model::specs::OneLineAssembly::one_line))]
 fn assemble_alone(
     alloc: Global,
     profile: Profile,
@@ -89,11 +94,11 @@ fn assemble_alone(
 {
     let line = read_line(alloc, profile, text)?;
     let mut symbols = Symbols::new(alloc);
-    let site = fix(alloc, profile, &mut symbols, address, &line)?;
+    let placement = place_line(alloc, profile, &mut symbols, address, &line)?;
     match &line {
         line_parts::Line::Labelled(None, statement) => {
-            if may_stand_alone(statement) && site.count <= 3 {
-                encode_alone(alloc, address, site, statement)
+            if may_stand_alone(statement) && placement.count <= 3 {
+                encode_alone(alloc, address, placement, statement)
             } else {
                 Err(LineError::Kind(AsmFaultKind::NotOneLine))
             }
@@ -121,13 +126,13 @@ pub fn assemble_line_in(
 ) -> Result<Line, AsmFault>
     // The bytes or the fault are what the text denotes there, unless memory runs out.
     ensures exact { AnswersSource (λ l. take l.count l.bytes) result
-        (numbered 1 (one_line profile address text.now)) }
+        (on_line 1 (one_line profile address text.now)) }
     ensures rest { IfOk result (λ l. drop l.count l.bytes ≡ replicate (3 - l.count) 0) }
     ensures few { IfOk result (λ l. l.count ≤ 3) }
 {
     match assemble_alone(alloc, profile, address as u32, text) {
         Ok(line) => Ok(line),
-        Err(error) => Err(located(1, error)),
+        Err(error) => Err(fault_on_line(1, error)),
     }
 }
 
@@ -135,7 +140,7 @@ pub fn assemble_line_in(
 pub fn assemble_line(alloc: Global, address: u16, text: &[u8]) -> Result<Line, AsmFault>
     // The bytes or the fault are what the text denotes there, unless memory runs out.
     ensures exact { AnswersSource (λ l. take l.count l.bytes) result
-        (numbered 1 (one_line Profile.N address text.now)) }
+        (on_line 1 (one_line Profile.N address text.now)) }
     ensures rest { IfOk result (λ l. drop l.count l.bytes ≡ replicate (3 - l.count) 0) }
     ensures few { IfOk result (λ l. l.count ≤ 3) }
 {

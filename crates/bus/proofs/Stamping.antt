@@ -3,7 +3,7 @@ use Rattle.std.proofs.Common.{◌≡◌, ◌≢◌, ℕ, ◌<◌, ◌≤◌, ◌
 use Rattle.std.specs.Prelude.{slice_index, slice_set}
 use Rattle.std.proofs.lemmas.List.{get_or-set_same}
 use Rattle.std.proofs.lemmas.List.{get_or-set_other}
-use Rattle.model.specs.State.{Bus, stored}
+use Rattle.model.specs.State.{Bus, bus_with_byte}
 use Rattle.model.specs.Undo.{put_cells}
 use Rattle.bus.specs.Pages.{AreSameBelow, SparesPage, Stores}
 
@@ -23,7 +23,7 @@ still_same since now old new cells kept before after le stays spared back same =
     same k within (omega (arith, below, stays (k / 256) here)) ∙ sym (ap (λ m. slice_index m k) back) ∙ put_cells-elsewhere cells after k (spared (k / 256) here)
 
 -- one byte stored, and its page stamped
-pub stores_one : (watches : List ℕ) (now : ℕ) (old new : List ℕ) (bus after : Bus) (address value : ℕ) → length old ≡ 256 → address < 65536 → new ≡ slice_set old (address / 256) now → after ≡ stored bus address value
+pub stores_one : (watches : List ℕ) (now : ℕ) (old new : List ℕ) (bus after : Bus) (address value : ℕ) → length old ≡ 256 → address < 65536 → new ≡ slice_set old (address / 256) now → after ≡ bus_with_byte bus address value
     → slice_index watches address ≡ 0 → Stores watches now old new bus after
 stores_one watches now old new bus after address value size within stamped is watch = record {
   same = λ since le kept same k inside below.

@@ -6,20 +6,19 @@ ghost use Rattle.std.specs.Prelude.{true, false, not, ◌||◌, ◌&&◌, ◌++�
 ghost use Rattle.std.specs.Prelude.{List};
 ghost use Rattle.std.specs.List.{list_all};
 ghost use Rattle.model.specs.State.{console_size, is_port, is_rom, byte_read, after_read};
-ghost use Rattle.model.specs.State.{overflows, after_write, stored, input_waits, loaded_bus};
+ghost use Rattle.model.specs.State.{overflows, after_write, bus_with_byte, input_waits, loaded_bus};
 ghost use Rattle.model.specs.State.{has_port_byte, AreBytes, IsBus};
-ghost use Rattle.model.specs.Event.{meets_port, patched};
+ghost use Rattle.model.specs.Event.{meets_port, bus_with_patch};
 ghost use Rattle.model.specs.Image.{empty_image, has_byte};
-ghost use Rattle.model.specs.Undo.{CanRestore, restored, cells_of, put_cells};
-ghost use Rattle.model.specs.Checkpoint.{saved, put_back, CanPutBack};
+ghost use Rattle.model.specs.Undo.{CanRestore, bus_before, cells_of, put_cells};
+ghost use Rattle.model.specs.Checkpoint.{saved_of, bus_at, CanPutBack};
 ghost use Rattle.bus.specs.Memory.{zeros};
 ghost use Rattle.bus.specs.Pages.{AreSameBelow, Stores};
 
-use crate::image::Image;
-use crate::map_spec::MapSpec;
 use crate::pages::{Stamps, copy_pages, stamp_page};
 use crate::saved::Saved;
 use circular_buffer::HeapCircularBuffer;
+use memory_map::{Image, MapSpec};
 use model::{BusFault, Change, Profile};
 use std::alloc::{AllocError, Global};
 use std::marker::Model;
@@ -182,7 +181,7 @@ impl Bus {
     ///
     /// Errors: `PortAddress` at a port address; nothing changes.
     pub fn poke(&mut self, address: u16, value: u8) -> Result<(), BusFault>
-        ensures ok { OnOk result (self.new ≡ stored self.old address value) }
+        ensures ok { OnOk result (self.new ≡ bus_with_byte self.old address value) }
         ensures err { OnErr result (self.new ≡ self.old) }
         ensures port { IsErr result ↔ (is_port self.old.map address ≡ true) }
         ensures only { IfErr result (λ fault. fault ≡ BusFault.PortAddress) }
@@ -206,7 +205,7 @@ impl Bus {
         ensures full { IsErr result ↔ (console_size ≤ length self.old.given) }
         ensures only { IfErr result (λ fault. fault ≡ BusFault.InputFull) }
         ensures undo { (change : Change) → CanRestore change self.old
-            → restored change self.new ≡ restored change self.old }
+            → bus_before change self.new ≡ bus_before change self.old }
         ensures fits { (change : Change) → CanRestore change self.old → CanRestore change self.new }
     {
         match self.given.try_push_back(byte) {
@@ -307,7 +306,7 @@ impl Bus {
     #[inline(always)]
     pub fn clear_control(&mut self)
         ensures after { self.new ≡ record self.old { control = false } }
-        ensures undo { (change : Change) → restored change self.new ≡ restored change self.old }
+        ensures undo { (change : Change) → bus_before change self.new ≡ bus_before change self.old }
         ensures fits { (change : Change) → CanRestore change self.old → CanRestore change self.new }
     {
         self.control = false;
@@ -374,16 +373,16 @@ impl Bus {
     #[inline(always)]
     fn set(&mut self, address: u16, value: u8)
         requires { is_port self.old.map address ≡ false }
-        ensures { self.new ≡ stored self.old address value }
+        ensures { self.new ≡ bus_with_byte self.old address value }
     {
         self.memory[address as usize] = value;
     }
 
     /// Returns an empty change, which puts the bus back to what it is now.
     #[inline(always)]
-    #[tactic(auto, unfolding(model::specs::Undo::restored, model::specs::Undo::spares_port))]
-    pub fn mark(&self) -> Change
-        ensures undo { restored result self.now ≡ self.now }
+    #[tactic(auto, unfolding(model::specs::Undo::bus_before, model::specs::Undo::spares_port))]
+    pub fn begin_change(&self) -> Change
+        ensures undo { bus_before result self.now ≡ self.now }
         ensures fits { CanRestore result self.now }
         ensures count { result.count ≡ 0 }
     {
@@ -415,10 +414,10 @@ impl Bus {
 
     /// Puts back what a change holds: its bytes in their order, ROM included, the number of bytes
     /// taken and the control byte. It cuts both lists of the console to their old lengths.
-    #[tactic(auto, unfolding(model::specs::Undo::restored))]
+    #[tactic(auto, unfolding(model::specs::Undo::bus_before))]
     pub fn restore(&mut self, change: Change)
         requires { CanRestore change self.old }
-        ensures { self.new ≡ restored change self.old }
+        ensures { self.new ≡ bus_before change self.old }
     {
         put_cells(&mut self.memory, &change.cells[..change.count as usize]);
         self.given.truncate_back(change.given_len as usize);
@@ -429,7 +428,7 @@ impl Bus {
 
     /// Saves what leads back to this bus. Does not allocate.
     pub fn save(&self, into: &mut Saved)
-        ensures { into.new ≡ saved self.now }
+        ensures { into.new ≡ saved_of self.now }
     {
         into.memory.copy_from_slice(&self.memory);
         into.map = Some(self.map);
@@ -440,7 +439,7 @@ impl Bus {
     /// pages memory has to be what `into` holds. Does not allocate.
     pub fn save_pages(&self, into: &mut Saved, stamps: &Stamps, since: u32)
         requires { AreSameBelow since stamps.now into.old.memory self.now.memory }
-        ensures { into.new ≡ saved self.now }
+        ensures { into.new ≡ saved_of self.now }
     {
         copy_pages(&mut into.memory, &self.memory, stamps, since);
         into.map = Some(self.map);
@@ -448,11 +447,11 @@ impl Bus {
     }
 
     /// Saves the rest, once memory and map are saved.
-    #[tactic(auto, unfolding(model::specs::Checkpoint::saved))]
+    #[tactic(auto, unfolding(model::specs::Checkpoint::saved_of))]
     fn save_counts(&self, into: &mut Saved)
         requires memory { into.old.memory ≡ self.now.memory }
         requires map { into.old.map ≡ Some self.now.map }
-        ensures { into.new ≡ saved self.now }
+        ensures { into.new ≡ saved_of self.now }
     {
         into.taken = self.taken;
         into.given_len = self.given.len() as u32;
@@ -462,10 +461,10 @@ impl Bus {
 
     /// Puts back what was saved, and cuts both lists of the console to their old lengths. Does not
     /// allocate.
-    #[tactic(auto, unfolding(model::specs::Checkpoint::put_back))]
+    #[tactic(auto, unfolding(model::specs::Checkpoint::bus_at))]
     pub fn restore_saved(&mut self, old: &Saved)
         requires { CanPutBack old.now self.old }
-        ensures { self.new ≡ put_back old.now self.old }
+        ensures { self.new ≡ bus_at old.now self.old }
     {
         self.memory.copy_from_slice(&old.memory);
         self.given.truncate_back(old.given_len as usize);
@@ -480,9 +479,9 @@ impl Bus {
     pub fn push(&mut self, change: &mut Change, s: u8, value: u8)
         requires count { change.old.count < 3 }
         requires fits { CanRestore change.old self.old }
-        ensures after { self.new ≡ stored self.old (256 + s) value }
+        ensures after { self.new ≡ bus_with_byte self.old (256 + s) value }
         ensures count { change.new.count ≡ change.old.count + 1 }
-        ensures undo { restored change.new self.new ≡ restored change.old self.old }
+        ensures undo { bus_before change.new self.new ≡ bus_before change.old self.old }
         ensures fits { CanRestore change.new self.new }
     {
         let address = 256 + s as u16;
@@ -499,7 +498,7 @@ impl Bus {
         requires fits { CanRestore change.old self.old }
         ensures after { self.new ≡ after_write self.old address value }
         ensures count { change.new.count ≤ change.old.count + 1 }
-        ensures undo { restored change.new self.new ≡ restored change.old self.old }
+        ensures undo { bus_before change.new self.new ≡ bus_before change.old self.old }
         ensures fits { CanRestore change.new self.new }
     {
         if self.is_plain(address) {
@@ -526,7 +525,7 @@ impl Bus {
     /// stamp `now`.
     #[inline(always)]
     pub fn push_plain(&mut self, s: u8, value: u8, stamps: &mut Stamps, now: u32)
-        ensures after { self.new ≡ stored self.old (256 + s) value }
+        ensures after { self.new ≡ bus_with_byte self.old (256 + s) value }
         ensures stores { (watches : List ℕ) → slice_index watches (256 + s) ≡ 0
             → Stores watches now stamps.old stamps.new self.old self.new }
     {
@@ -542,8 +541,8 @@ impl Bus {
         requires plain { meets_port self.old.map address bytes.now ≡ false }
         requires count { change.old.count + length bytes.now ≤ 3 }
         requires fits { CanRestore change.old self.old }
-        ensures after { self.new ≡ patched address bytes.now self.old }
-        ensures undo { restored change.new self.new ≡ restored change.old self.old }
+        ensures after { self.new ≡ bus_with_patch address bytes.now self.old }
+        ensures undo { bus_before change.new self.new ≡ bus_before change.old self.old }
         ensures fits { CanRestore change.new self.new }
     {
         for (i, byte) in bytes.iter().enumerate() {
@@ -557,9 +556,9 @@ impl Bus {
         requires plain { is_port self.old.map address ≡ false }
         requires count { change.old.count < 3 }
         requires fits { CanRestore change.old self.old }
-        ensures after { self.new ≡ stored self.old address value }
+        ensures after { self.new ≡ bus_with_byte self.old address value }
         ensures count { change.new.count ≡ change.old.count + 1 }
-        ensures undo { restored change.new self.new ≡ restored change.old self.old }
+        ensures undo { bus_before change.new self.new ≡ bus_before change.old self.old }
         ensures fits { CanRestore change.new self.new }
     {
         let old = self.peek(address);
@@ -572,7 +571,7 @@ impl Bus {
     #[tactic(auto, unfolding(model::specs::State::is_port))]
     fn set_low(&mut self, address: u16, value: u8)
         requires { address < 512 }
-        ensures after { self.new ≡ stored self.old address value }
+        ensures after { self.new ≡ bus_with_byte self.old address value }
         ensures port { is_port self.old.map address ≡ false }
     {
         self.memory[address as usize] = value;

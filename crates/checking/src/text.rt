@@ -25,7 +25,8 @@ pub fn checked_text(
     map: &MapSpec,
 ) -> Result<CheckedText, AllocError>
     // Whether a fault is told.
-    ensures faulty { IfOk result (λ c. c.is_faulty ≡ not (length (faults_of map.now source.now) == 0)) }
+    ensures faulty { IfOk result (λ c. c.is_faulty
+        ≡ not (length (faults_of map.now source.now) == 0)) }
     // A source that denotes an image has none.
     ensures right { IfOk result
         (λ c. (image : List (Option ℕ)) → Denotes map.now source.now image → c.is_faulty ≡ false) }

@@ -5,7 +5,7 @@ use Rattle.std.specs.Str.{bytes_eq}
 use Rattle.std.proofs.lemmas.Slice.Eq.{bytes_eq-Decides}
 use Rattle.std.proofs.lemmas.Bool.{le-leb, lt-leb}
 use Rattle.model.specs.declared.command.Command.{Command}
-use Rattle.model.specs.Commands.{address_of, asm_command, is_asm, rest_of, second_word, text_of, unspaced, byte_of, byte_before, bytes_of_words, input_command, no_input, command_of, command_of_words, words_of}
+use Rattle.model.specs.Commands.{address_of, asm_command, is_asm, rest_of, second_word, text_of, without_spaces, byte_of, byte_before, bytes_of_words, input_command, no_input, command_of, command_of_words, words_of}
 use Rattle.model.specs.declared.command.Command.TheVariants.{Bad, Input, Nothing}
 use Rattle.commands.specs.Words.{IsNextWord}
 use Rattle.commands.specs.Groups.{pair_command, triple_command}
@@ -71,11 +71,11 @@ is_first line [] behind p e = cc
 is_first line (b ∷ w) behind p e = p
 
 pub asm_line : (line first behind second rest text : List ℕ) → nat_lt 255 (length line) ≡ false → IsNextWord line first behind → IsNextWord behind second rest → behind ≡ rest_of line → rest ≡ rest_of behind
-    → text ≡ unspaced rest → bytes_eq first (codes "asm") ≡ true → asm_command (address_of second) text ≡ command_of line
+    → text ≡ without_spaces rest → bytes_eq first (codes "asm") ≡ true → asm_command (address_of second) text ≡ command_of line
 unfolding command_of
 asm_line line first behind second rest text short p q e f t yes_asm =
     let words = is_first line first behind p yes_asm in
-    let is_text : text ≡ text_of line = t ∙ ap unspaced (f ∙ ap rest_of e) in
+    let is_text : text ≡ text_of line = t ∙ ap without_spaces (f ∙ ap rest_of e) in
     let is_second : second ≡ second_word (words_of line) = sym (ap second_word words ∙ second_of behind second rest first q) in
     ap (λ x. asm_command (address_of second) x) is_text ∙ ap (λ x. asm_command (address_of x) (text_of line)) is_second
     ∙ sym (ap (λ b. if b then Bad else if is_asm (words_of line) then assembled line (words_of line) else command_of_words (words_of line)) short

@@ -4,28 +4,28 @@ use Rattle.std.proofs.lemmas.List.{take_all, drop_all, take_more, get_or-drop}
 use Rattle.std.proofs.lemmas.List.Folds.{list_all-append}
 use Rattle.std.proofs.lemmas.Bool.Decides.{eqb_tells}
 use Rattle.std.specs.List.{list_all}
-use Rattle.model.specs.Commands.{words_of, attached, goes_on, unspaced, after_word, rest_of}
+use Rattle.model.specs.Commands.{words_of, with_byte_before, goes_on, without_spaces, after_word, rest_of}
 use Rattle.commands.specs.Words.{no_space, IsNextWord}
 
 -- ---- spaces in front
 
 -- a space in front is left out
-pub skip_space : (line : List ℕ) (i : ℕ) → i < length line → get_or line i 0 ≡ 32 → unspaced (drop (i + 1) line) ≡ unspaced (drop i line)
+pub skip_space : (line : List ℕ) (i : ℕ) → i < length line → get_or line i 0 ≡ 32 → without_spaces (drop (i + 1) line) ≡ without_spaces (drop i line)
 skip_space line i h e = rw (drop-cons line i 0, e, add-one) refl
 
-unspaced_byte : (b : ℕ) (bs : List ℕ) → b ≢ 32 → unspaced (b ∷ bs) ≡ b ∷ bs
+unspaced_byte : (b : ℕ) (bs : List ℕ) → b ≢ 32 → without_spaces (b ∷ bs) ≡ b ∷ bs
 unspaced_byte b bs ne = elim (eqb_tells b 32) [
   | inl e ↦ absurd (ne e.1)
   | inr e ↦ rw e.0 refl
 ]
 
 -- what begins with another byte, or is empty, stays
-pub front_stays : (line : List ℕ) (i : ℕ) → ((i < length line) × (get_or line i 0 ≢ 32)) ⊎ (length line ≤ i) → unspaced (drop i line) ≡ drop i line
+pub front_stays : (line : List ℕ) (i : ℕ) → ((i < length line) × (get_or line i 0 ≢ 32)) ⊎ (length line ≤ i) → without_spaces (drop i line) ≡ drop i line
 front_stays line i (inl h) = let within : i < length line = h.0 in rw (drop-cons line i 0) (unspaced_byte _ _ h.1)
 front_stays line i (inr h) = rw (drop_all i line h) refl
 
 -- the words are the same
-words_unspaced : (line : List ℕ) → words_of (unspaced line) ≡ words_of line
+words_unspaced : (line : List ℕ) → words_of (without_spaces line) ≡ words_of line
 words_unspaced [] = refl
 words_unspaced (b ∷ bs) = elim (eqb_tells b 32) [
   | inl e ↦ rw e.0 (words_unspaced bs)
@@ -33,7 +33,7 @@ words_unspaced (b ∷ bs) = elim (eqb_tells b 32) [
 ]
 
 -- and no space is in front of them
-front_starts : (line : List ℕ) → (length (unspaced line) ≡ 0) ⊎ (get_or (unspaced line) 0 0 ≢ 32)
+front_starts : (line : List ℕ) → (length (without_spaces line) ≡ 0) ⊎ (get_or (without_spaces line) 0 0 ≢ 32)
 front_starts [] = inl refl
 front_starts (b ∷ bs) = elim (eqb_tells b 32) [
   | inl e ↦ rw e.0 (front_starts bs)
@@ -78,7 +78,7 @@ plain_byte b h = elim (eqb_tells b 32) [
   | inr e ↦ e.0
 ]
 
-words_byte : (b : ℕ) (bs : List ℕ) → eqb b 32 ≡ false → words_of (b ∷ bs) ≡ attached b (goes_on bs) (words_of bs)
+words_byte : (b : ℕ) (bs : List ℕ) → eqb b 32 ≡ false → words_of (b ∷ bs) ≡ with_byte_before b (goes_on bs) (words_of bs)
 words_byte b bs e = rw e refl
 
 goes_byte : (b : ℕ) (bs : List ℕ) → eqb b 32 ≡ false → goes_on (b ∷ bs) ≡ true
@@ -86,12 +86,12 @@ goes_byte b bs e = rw e refl
 
 -- a word that no further byte belongs to
 word_first : (b : ℕ) (w rest : List ℕ) → list_all no_space (b ∷ w) ≡ true → goes_on rest ≡ false → words_of ((b ∷ w) ++ rest) ≡ (b ∷ w) ∷ words_of rest
-word_first b [] rest all ends = let e = plain_byte b (both (no_space b) _ all).0 in words_byte b rest e ∙ ap (λ g. attached b g (words_of rest)) ends
+word_first b [] rest all ends = let e = plain_byte b (both (no_space b) _ all).0 in words_byte b rest e ∙ ap (λ g. with_byte_before b g (words_of rest)) ends
 word_first b (d ∷ w) rest all ends =
     let parts = both (no_space b) (list_all no_space (d ∷ w)) all in
     let e = plain_byte b parts.0 in
     let f = plain_byte d (both (no_space d) _ parts.1).0 in
-    words_byte b ((d ∷ w) ++ rest) e ∙ ap (λ g. attached b g (words_of ((d ∷ w) ++ rest))) (goes_byte d (w ++ rest) f) ∙ ap (λ ws. attached b true ws) (word_first d w rest parts.1 ends)
+    words_byte b ((d ∷ w) ++ rest) e ∙ ap (λ g. with_byte_before b g (words_of ((d ∷ w) ++ rest))) (goes_byte d (w ++ rest) f) ∙ ap (λ ws. with_byte_before b true ws) (word_first d w rest parts.1 ends)
 
 pub next_word : (w rest : List ℕ) → list_all no_space w ≡ true → goes_on rest ≡ false → (w ≡ [] → words_of rest ≡ []) → IsNextWord (w ++ rest) w rest
 next_word [] rest all ends none = (none refl, none refl)
@@ -121,7 +121,7 @@ of_line : (a b w rest : List ℕ) → words_of a ≡ words_of b → IsNextWord a
 of_line a b [] rest e h = (sym e ∙ h.0, h.1)
 of_line a b (x ∷ w) rest e h = sym e ∙ h
 
-pub found_word : (line front : List ℕ) (e : ℕ) → front ≡ unspaced line → e ≤ length front → list_all no_space (take e front) ≡ true
+pub found_word : (line front : List ℕ) (e : ℕ) → front ≡ without_spaces line → e ≤ length front → list_all no_space (take e front) ≡ true
     → ((e < length front) × (get_or front e 0 ≡ 32)) ⊎ (length front ≤ e) → IsNextWord line (take e front) (drop e front)
 found_word line front e is within all last =
     let long : length (take e front) ≡ e = omega (arith, length-take e front) in

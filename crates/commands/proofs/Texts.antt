@@ -1,7 +1,7 @@
 -- A text with zeros after it, and how long texts are.
 use Rattle.std.proofs.Common.{◌≡◌, ℕ, zero, suc, ◌+◌, ◌-◌, ◌≤◌, List, [], ◌∷◌, ◌++◌, length, take, drop, replicate, refl, ap, ◌∙◌, sym, arith, inl, inr}
 use Rattle.std.proofs.lemmas.Bool.Decides.{eqb_tells}
-use Rattle.model.specs.Commands.{unspaced, after_word, rest_of, text_of}
+use Rattle.model.specs.Commands.{without_spaces, after_word, rest_of, text_of}
 
 zeros_front : (n m : ℕ) → n ≤ m → replicate {A = ℕ} n 0 ≡ take n (replicate {A = ℕ} m 0)
 zeros_front zero m h = refl
@@ -16,7 +16,7 @@ front_of_zeros (b ∷ bs) (suc n) m h k = ap (λ l. b ∷ l) (front_of_zeros bs 
 
 -- ---- lengths
 
-unspaced_short : (line : List ℕ) → length (unspaced line) ≤ length line
+unspaced_short : (line : List ℕ) → length (without_spaces line) ≤ length line
 unspaced_short [] = omega arith
 unspaced_short (b ∷ bs) = elim (eqb_tells b 32) [
   | inl e ↦ rw e.0 (omega (arith, unspaced_short bs))
@@ -31,4 +31,4 @@ after_short (b ∷ bs) = elim (eqb_tells b 32) [
 ]
 
 pub text_short : (line : List ℕ) → length (text_of line) ≤ length line
-text_short line = omega (arith, unspaced_short (rest_of (rest_of line)), after_short (unspaced (rest_of line)), unspaced_short (rest_of line), after_short (unspaced line), unspaced_short line)
+text_short line = omega (arith, unspaced_short (rest_of (rest_of line)), after_short (without_spaces (rest_of line)), unspaced_short (rest_of line), after_short (without_spaces line), unspaced_short line)

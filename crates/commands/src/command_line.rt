@@ -6,11 +6,11 @@ ghost use Rattle.std.specs.Str.{bytes_eq};
 ghost use Rattle.model.specs.Commands.{address_of, asm_command, bytes_of_words, command_of};
 ghost use Rattle.model.specs.Commands.{decimal_of, dis_command, from_1_to, input_command};
 ghost use Rattle.model.specs.Commands.{irq_command, mem_command, most_steps, number_command};
-ghost use Rattle.model.specs.Commands.{patch_command, set_command, unspaced, words_of};
+ghost use Rattle.model.specs.Commands.{patch_command, set_command, without_spaces, words_of};
 ghost use Rattle.commands.specs.Groups.{long_command, pair_command, plain_command, triple_command};
 
 use crate::numbers::{address_of, byte_of, number_up_to};
-use crate::words::{next_word, unspaced};
+use crate::words::{next_word, without_spaces};
 use model::{Command, Setting};
 
 /// Reads a command line without its end. A line of more than 255 bytes is `Bad`.
@@ -26,7 +26,7 @@ pub fn parse(line: &[u8]) -> Command
     let (first, behind) = next_word(line);
     let (second, rest) = next_word(behind);
     if is_text(first, b"asm") {
-        return asm_command(address_of(second), unspaced(rest));
+        return asm_command(address_of(second), without_spaces(rest));
     }
     let (third, rest) = next_word(rest);
     let (fourth, rest) = next_word(rest);

@@ -5,7 +5,7 @@ use Rattle.model.specs.Session.{keep_last}
 use Rattle.model.specs.declared.event.Event.{Event}
 use Rattle.model.specs.Checkpoint.{Checkpoint, checkpoint_of}
 use Rattle.debugger.specs.Replay.{Follows, IsHistory, held_states}
-use Rattle.debugger.specs.Trail.{HasRoom, IsNoted, LetGo, Marked}
+use Rattle.debugger.specs.Trail.{HasRoom, IsNoted, DropsOldest, SavesCheckpoint}
 use Rattle.debugger.specs.declared.trail.Trail.{Trail}
 use Rattle.circular_buffer.specs.Buffer as ring
 use Rattle.debugger.proofs.Checkpoints.{leads-here}
@@ -23,11 +23,11 @@ pub record Pushed (old new : Trail) (e : Event) : Type 0 where
 -- the oldest part is let go where it can be
 pub record LetGoIf (old new : Trail) : Type 0 where
   pub few : length old.events.items < old.held + 1024 → new ≡ old
-  pub many : old.held + 1024 ≤ length old.events.items → LetGo old new
+  pub many : old.held + 1024 ≤ length old.events.items → DropsOldest old new
 
 pub record MarkedIf (old new : Trail) (c : Checkpoint) : Type 0 where
   pub none : 0 < length old.events.items % 1024 → new ≡ old
-  pub one : length old.events.items % 1024 ≡ 0 → Marked old new c
+  pub one : length old.events.items % 1024 ≡ 0 → SavesCheckpoint old new c
 
 -- how much of a trail there is before a checkpoint that may be due
 pub record IsDue (t : Trail) : Type 0 where
@@ -70,7 +70,7 @@ due_few t0 t1 e r p h =
         → length t1.kept.items + length t1.spare.items ≡ length t0.kept.items + length t0.spare.items
     kept_and_spare t0 t1 a b = omega arith
 
-due_many : (t0 t1 t2 : Trail) (e : Event) → HasRoom t0 → Pushed t0 t1 e → t1.held + 1024 ≤ length t1.events.items → LetGo t1 t2 → IsDue t2
+due_many : (t0 t1 t2 : Trail) (e : Event) → HasRoom t0 → Pushed t0 t1 e → t1.held + 1024 ≤ length t1.events.items → DropsOldest t1 t2 → IsDue t2
 due_many t0 t1 t2 e r p h g =
     let long = length-pushed t0 t1 e p in
     let events : length t2.events.items ≡ length t1.events.items - 1024 = ap length g.events ∙ length-drop 1024 t1.events.items in
@@ -119,7 +119,7 @@ room_none t d h = record {
   event_room = d.event_room;
 }
 
-room_one : (t u : Trail) (c : Checkpoint) → IsDue t → length t.events.items % 1024 ≡ 0 → Marked t u c → HasRoom u
+room_one : (t u : Trail) (c : Checkpoint) → IsDue t → length t.events.items % 1024 ≡ 0 → SavesCheckpoint t u c → HasRoom u
 room_one t u c d h m =
     let size = m.room.history in
     let events : length u.events.items ≡ length t.events.items = ap length m.events in
@@ -162,7 +162,7 @@ tells_pushed t0 t1 e s t r p h f =
           ∙ ap (λ x. held_states (min (t0.held + 1) t0.history) t0.kept.items x t) p.events ∙ a.states t0.held t0.history r.held r.few;
     }
 
-tells_many : (t0 t1 t2 : Trail) (e : Event) (now : State) (all : List State) → HasRoom t0 → Pushed t0 t1 e → t1.held + 1024 ≤ length t1.events.items → LetGo t1 t2 → Tells t1 now all → Tells t2 now all
+tells_many : (t0 t1 t2 : Trail) (e : Event) (now : State) (all : List State) → HasRoom t0 → Pushed t0 t1 e → t1.held + 1024 ≤ length t1.events.items → DropsOldest t1 t2 → Tells t1 now all → Tells t2 now all
 tells_many t0 t1 t2 e now all r p h g told =
     let long = length-pushed t0 t1 e p in
     let k1 : length t1.kept.items ≡ length t0.kept.items = ap (λ b. length b.items) p.kept in
@@ -174,7 +174,7 @@ tells_many t0 t1 t2 e now all r p h g told =
           ∙ ap (λ x. held_states t1.held (drop 1 t1.kept.items) x now) g.events ∙ w.states t1.held h ∙ told.states;
     }
 
-tells_one : (t u : Trail) (now : State) (all : List State) → IsDue t → length t.events.items % 1024 ≡ 0 → Marked t u (checkpoint_of now) → Tells t now all → Tells u now all
+tells_one : (t u : Trail) (now : State) (all : List State) → IsDue t → length t.events.items % 1024 ≡ 0 → SavesCheckpoint t u (checkpoint_of now) → Tells t now all → Tells u now all
 tells_one t u now all d h m told =
     let room : 1024 * length t.kept.items ≡ length t.events.items = omega (arith, d.count, d.whole) in
     let w = with_mark 1024 t.kept.items (checkpoint_of now) t.events.items now room (leads-here now) told.history in

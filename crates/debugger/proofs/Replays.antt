@@ -4,11 +4,11 @@ use Rattle.std.specs.Prelude.{slice_get}
 use Rattle.std.proofs.lemmas.List.{drop-append-le, take-take, drop-drop, take_all, drop-take, length-take-le, take-append-drop}
 use Rattle.model.specs.State.{Bus, State}
 use Rattle.model.specs.Event.{event_of}
-use Rattle.model.specs.Undo.{CanRestore, undone, restored, Undoes}
+use Rattle.model.specs.Undo.{CanRestore, state_before, bus_before, Undoes}
 use Rattle.model.specs.Session.{keep_last}
 use Rattle.model.specs.declared.event.Event.{Event}
 use Rattle.model.specs.declared.undo.Undo.{Undo}
-use Rattle.debugger.specs.Replay.{next, replayed, before_each, Grows, Follows, AllFollow}
+use Rattle.debugger.specs.Replay.{next, state_after, before_each, Grows, Follows, AllFollow}
 
 -- ---- replays of parts
 
@@ -16,29 +16,29 @@ pub next-accepted : (s t : State) (e : Event) → event_of s e ≡ Ok t → next
 unfolding next
 next-accepted s t e h = rw h refl
 
-pub replayed-append : (s : State) (es fs : List Event) → replayed s (es ++ fs) ≡ replayed (replayed s es) fs
-replayed-append s [] fs = refl
-replayed-append s (e ∷ es) fs = replayed-append (next s e) es fs
+pub state_after-append : (s : State) (es fs : List Event) → state_after s (es ++ fs) ≡ state_after (state_after s es) fs
+state_after-append s [] fs = refl
+state_after-append s (e ∷ es) fs = state_after-append (next s e) es fs
 
-pub replayed-split : (k : ℕ) (s : State) (es : List Event) → replayed (replayed s (take k es)) (drop k es) ≡ replayed s es
-replayed-split k s es = sym (replayed-append s (take k es) (drop k es)) ∙ ap (replayed s) (take-append-drop k es)
+pub state_after-split : (k : ℕ) (s : State) (es : List Event) → state_after (state_after s (take k es)) (drop k es) ≡ state_after s es
+state_after-split k s es = sym (state_after-append s (take k es) (drop k es)) ∙ ap (state_after s) (take-append-drop k es)
 
 pub length-before_each : (s : State) (es : List Event) → length (before_each s es) ≡ length es
 length-before_each s [] = refl
 length-before_each s (e ∷ es) = omega (arith, length-before_each (next s e) es)
 
-pub before_each-append : (s : State) (es : List Event) (e : Event) → before_each s (es ++ e ∷ []) ≡ before_each s es ++ replayed s es ∷ []
+pub before_each-append : (s : State) (es : List Event) (e : Event) → before_each s (es ++ e ∷ []) ≡ before_each s es ++ state_after s es ∷ []
 before_each-append s [] e = refl
 before_each-append s (f ∷ es) e = ap (λ l. s ∷ l) (before_each-append (next s f) es e)
 
-pub before_each-drop : (k : ℕ) (s : State) (es : List Event) → k ≤ length es → before_each (replayed s (take k es)) (drop k es) ≡ drop k (before_each s es)
+pub before_each-drop : (k : ℕ) (s : State) (es : List Event) → k ≤ length es → before_each (state_after s (take k es)) (drop k es) ≡ drop k (before_each s es)
 before_each-drop zero s es h = refl
 before_each-drop (suc k) s [] h = absurd (omega arith)
 before_each-drop (suc k) s (e ∷ es) h = before_each-drop k (next s e) es (omega arith)
 
 -- all states on the way, the first and the last among them
 abbrev pub states_along : State → List Event → List State
-states_along s es = before_each s es ++ replayed s es ∷ []
+states_along s es = before_each s es ++ state_after s es ∷ []
 
 pub states_along-take : (n : ℕ) (s : State) (es : List Event) → n ≤ length es → states_along s (take n es) ≡ take (suc n) (states_along s es)
 states_along-take zero s [] h = refl
@@ -68,7 +68,7 @@ kept-drop held k xs h =
 
 -- going back takes the last states away
 pub kept-back : (held k n : ℕ) (s : State) (es : List Event) → held ≤ length es → k ≤ held → n ≡ length es - k
-    → keep_last (held - k) (before_each s (take n es)) ++ replayed s (take n es) ∷ [] ≡ take (held - k + 1) (keep_last held (before_each s es) ++ replayed s es ∷ [])
+    → keep_last (held - k) (before_each s (take n es)) ++ state_after s (take n es) ∷ [] ≡ take (held - k + 1) (keep_last held (before_each s es) ++ state_after s es ∷ [])
 kept-back held k n s es h j e =
     let short = take n es in
     let cut = length es - held in
@@ -76,11 +76,11 @@ kept-back held k n s es h j e =
     let long = length-before_each s short in
     let whole = length-before_each s es in
     let a : length (before_each s short) - (held - k) ≡ cut = omega arith in
-    let left : keep_last (held - k) (before_each s short) ++ replayed s short ∷ [] ≡ drop cut (states_along s short) =
-    ap (λ m. drop m (before_each s short) ++ replayed s short ∷ []) a ∙ sym (drop-append-le cut (before_each s short) (replayed s short ∷ []) (omega arith)) in
+    let left : keep_last (held - k) (before_each s short) ++ state_after s short ∷ [] ≡ drop cut (states_along s short) =
+    ap (λ m. drop m (before_each s short) ++ state_after s short ∷ []) a ∙ sym (drop-append-le cut (before_each s short) (state_after s short ∷ []) (omega arith)) in
     let b : length (before_each s es) - held ≡ cut = omega arith in
-    let right : keep_last held (before_each s es) ++ replayed s es ∷ [] ≡ drop cut (states_along s es) =
-    ap (λ m. drop m (before_each s es) ++ replayed s es ∷ []) b ∙ sym (drop-append-le cut (before_each s es) (replayed s es ∷ []) (omega arith)) in
+    let right : keep_last held (before_each s es) ++ state_after s es ∷ [] ≡ drop cut (states_along s es) =
+    ap (λ m. drop m (before_each s es) ++ state_after s es ∷ []) b ∙ sym (drop-append-le cut (before_each s es) (state_after s es ∷ []) (omega arith)) in
     let m : suc n ≡ cut + (held - k + 1) = omega arith in
     left ∙ ap (drop cut) (states_along-take n s es (omega arith) ∙ ap (λ x. take x (states_along s es)) m) ∙ drop-take cut (held - k + 1) (states_along s es) ∙ ap (take (held - k + 1)) (sym right)
 
@@ -123,8 +123,8 @@ grows-trans s t u a b = record {
 cut_again : (n : ℕ) (xs : List ℕ) → n ≤ length xs → take (length (take n xs)) xs ≡ take n xs
 cut_again n xs h = ap (λ m. take m xs) (length-take-le n xs h)
 
-grows_undone : (u : Undo) (t : State) → CanRestore u.change t.bus → Grows (undone u t) t
-unfolding undone restored
+grows_undone : (u : Undo) (t : State) → CanRestore u.change t.bus → Grows (state_before u t) t
+unfolding state_before bus_before
 grows_undone u t fits = record {
   map = refl;
   given = cut_again u.change.given_len t.bus.given fits.given;
@@ -137,16 +137,16 @@ grows_undone u t fits = record {
 pub grows_of : (u : Undo) (s t : State) → Undoes u s t → Grows s t
 grows_of u s t h = subst (λ (x : State). Grows x t) h.back (grows_undone u t h.fits)
 
-pub grows_along : (s : State) (es : List Event) → AllFollow s es → Grows s (replayed s es)
+pub grows_along : (s : State) (es : List Event) → AllFollow s es → Grows s (state_after s es)
 grows_along s [] all = grows-refl s
-grows_along s (e ∷ es) all = grows-trans s (next s e) (replayed (next s e) es) all.0.grows (grows_along (next s e) es all.1)
+grows_along s (e ∷ es) all = grows-trans s (next s e) (state_after (next s e) es) all.0.grows (grows_along (next s e) es all.1)
 
 -- ---- events that were accepted
 
 pub follows_of : (u : Undo) (s t : State) (e : Event) → event_of s e ≡ Ok t → Undoes u s t → Follows s e t
 follows_of u s t e h undoes = record { accepted = h; grows = grows_of u s t undoes }
 
-pub AllFollow-append : (s : State) (es : List Event) (e : Event) (t : State) → AllFollow s es → Follows (replayed s es) e t → AllFollow s (es ++ e ∷ [])
+pub AllFollow-append : (s : State) (es : List Event) (e : Event) (t : State) → AllFollow s es → Follows (state_after s es) e t → AllFollow s (es ++ e ∷ [])
 AllFollow-append s [] e t all h = (subst (λ (x : State). Follows s e x) (sym (next-accepted s t e h.accepted)) h, tt)
 AllFollow-append s (f ∷ es) e t all h = (all.0, AllFollow-append (next s f) es e t all.1 h)
 
@@ -155,16 +155,16 @@ AllFollow-take zero s es all = tt
 AllFollow-take (suc n) s [] all = tt
 AllFollow-take (suc n) s (e ∷ es) all = (all.0, AllFollow-take n (next s e) es all.1)
 
-pub AllFollow-drop : (n : ℕ) (s : State) (es : List Event) → AllFollow s es → AllFollow (replayed s (take n es)) (drop n es)
+pub AllFollow-drop : (n : ℕ) (s : State) (es : List Event) → AllFollow s es → AllFollow (state_after s (take n es)) (drop n es)
 AllFollow-drop zero s es all = all
 AllFollow-drop (suc n) s [] all = all
 AllFollow-drop (suc n) s (e ∷ es) all = AllFollow-drop n (next s e) es all.1
 
 -- the event at a place is accepted where its turn comes, and leads one state on
-pub follow_at : (i : ℕ) (s : State) (es : List Event) (e : Event) → slice_get es i ≡ Some e → AllFollow s es → event_of (replayed s (take i es)) e ≡ Ok (replayed s (take (i + 1) es))
+pub follow_at : (i : ℕ) (s : State) (es : List Event) (e : Event) → slice_get es i ≡ Some e → AllFollow s es → event_of (state_after s (take i es)) e ≡ Ok (state_after s (take (i + 1) es))
 follow_at zero s [] e h all = cc
 follow_at zero s (f ∷ es) e h all = let same : f ≡ e = cc in subst (λ (x : Event). event_of s x ≡ Ok (next s f)) same all.0.accepted
 follow_at (suc i) s [] e h all = cc
 follow_at (suc i) s (f ∷ es) e h all =
     let n : suc (i + 1) ≡ suc i + 1 = omega arith in
-    follow_at i (next s f) es e h all.1 ∙ ap (λ m. Ok (replayed s (take m (f ∷ es)))) n
+    follow_at i (next s f) es e h all.1 ∙ ap (λ m. Ok (state_after s (take m (f ∷ es)))) n

@@ -4,7 +4,7 @@ use Rattle.std.proofs.lemmas.Option.{slice_get_within}
 use Rattle.circular_buffer.proofs.Places.{below_or_not, slice_get-append_left, slice_get-drop, slice_get-last}
 use Rattle.circular_buffer.specs.Buffer.{last_item}
 use Rattle.model.specs.State.{Bus, State}
-use Rattle.model.specs.Checkpoint.{Checkpoint, checkpoint_of, saved}
+use Rattle.model.specs.Checkpoint.{Checkpoint, checkpoint_of, saved_of}
 use Rattle.bus.specs.Pages.{AreSameBelow, StaySame}
 use Rattle.debugger.specs.Pages.{number_at, TellsPages}
 use Rattle.debugger.specs.declared.pages.Pages.{Pages}
@@ -54,7 +54,7 @@ tells_let_go now spare number stamps used unused left more c memory first rest p
 -- a checkpoint at the current state put after the others
 pub tells_mark : (now more spare : ℕ) (stamps : List ℕ) (used unused left all : List Checkpoint) (s : State) → more ≤ now + 1 → all ≡ used ++ checkpoint_of s ∷ []
     → TellsPages (pages_of stamps now spare) used unused s.bus.memory → TellsPages (pages_of stamps more 0) all left s.bus.memory
-unfolding checkpoint_of saved
+unfolding checkpoint_of saved_of
 tells_mark now more spare stamps used unused left all s grown is told = subst (λ l. TellsPages (pages_of stamps more 0) l left s.bus.memory) (sym is) (record {
   within = omega arith;
   kept = λ i c at. elim (below_or_not i (length used)) [

@@ -4,7 +4,7 @@ use Rattle.std.specs.Prelude.{OnOk, IfErr}
 use Rattle.model.specs.State.{State}
 use Rattle.model.specs.Event.{event_of}
 use Rattle.model.specs.Step.{step}
-use Rattle.model.specs.Undo.{CanRestore, restored}
+use Rattle.model.specs.Undo.{CanRestore, bus_before}
 use Rattle.model.specs.declared.event.Event.TheVariants.{Step}
 use Rattle.model.specs.declared.event.EventFault.{EventFault}
 use Rattle.model.specs.declared.undo.Change.{Change}
@@ -12,7 +12,7 @@ use Rattle.debugger.specs.Replay.{Follows}
 use Rattle.debugger.proofs.Replays.{follows_of, grows_plain}
 use Rattle.debugger.proofs.Runs.{event_is_step, record_of, undoes_by}
 
-pub step_follows : (change : Change) (before after : State) → step before ≡ Ok after → CanRestore change after.bus → restored change after.bus ≡ before.bus → Follows before Step after
+pub step_follows : (change : Change) (before after : State) → step before ≡ Ok after → CanRestore change after.bus → bus_before change after.bus ≡ before.bus → Follows before Step after
 step_follows change before after made fits back = follows_of (record_of change before) before after Step (event_is_step before ∙ made) (undoes_by change before after fits back)
 
 -- a step that changed of the bus only memory
@@ -21,7 +21,7 @@ quick_follows before after made rest = record { accepted = event_is_step before 
 
 -- a step of a state that another call has left as it was
 pub noted_follows : (result : Result Unit EventFault) (change : Change) (before same after : State) → same ≡ before
-    → OnOk result (step same ≡ Ok after) → CanRestore change after.bus → restored change after.bus ≡ same.bus → OnOk result (Follows before Step after)
+    → OnOk result (step same ≡ Ok after) → CanRestore change after.bus → bus_before change after.bus ≡ same.bus → OnOk result (Follows before Step after)
 noted_follows (Ok _) change before same after is made fits back = subst (λ (s : State). Follows s Step after) is (step_follows change same after made fits back)
 noted_follows (Err fault) change before same after is made fits back = tt
 

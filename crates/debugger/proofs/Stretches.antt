@@ -5,7 +5,7 @@ use Rattle.std.specs.List.{list_any}
 use Rattle.std.specs.Option.{option_map, option_or}
 use Rattle.model.specs.State.{State}
 use Rattle.model.specs.Step.{step}
-use Rattle.model.specs.Session.{Session, appended}
+use Rattle.model.specs.Session.{Session, with_state}
 use Rattle.model.specs.Run.{run_end, after_steps, stop_of, watch_met, break_met, lowest}
 use Rattle.model.specs.declared.event.Event.TheVariants.{Step}
 use Rattle.model.specs.declared.event.EventFault.{EventFault}
@@ -19,7 +19,7 @@ use Rattle.debugger.specs.Running.{RunsTo, StepsTo, beyond, end_after, end_at, s
 use Rattle.debugger.specs.declared.stops.Stretch.{Stretch}
 use Rattle.debugger.specs.Trail.{HasRoom}
 use Rattle.debugger.specs.declared.trail.Trail.{Trail}
-use Rattle.session_laws.proofs.Runs.{after_steps-add, after_steps-zero, ends_with}
+use Rattle.law_sessions.proofs.Runs.{after_steps-add, after_steps-zero, ends_with}
 use Rattle.debugger.proofs.Quiet.{noted_then, number_then, quieter, room_then}
 use Rattle.debugger.proofs.Replays.{grows_plain}
 use Rattle.debugger.proofs.Runs.{beyond-later, event_is_step, run_goes, run_made, run_refused, step_after}
@@ -142,7 +142,7 @@ on_one s n m t stops bytes marks none on goes =
     let made = g.step.made in
     let stop = goes_none s u t stops bytes on.breaks on.watches marks none g in
     let count_on : n + 1 ≡ suc n = omega arith in
-    let next : appended u t ≡ after_steps (suc n) s = step_after n s u t refl made ∙ ap (λ k. after_steps k s) count_on in
+    let next : with_state u t ≡ after_steps (suc n) s = step_after n s u t refl made ∙ ap (λ k. after_steps k s) count_on in
     record {
       current = ap (λ x. x.current) (sym next);
       breaks = ap (λ x. x.breaks) (sym next) ∙ on.breaks;
@@ -150,8 +150,8 @@ on_one s n m t stops bytes marks none on goes =
       end = λ count h.
           let some : 0 < count - n = omega arith in
           let less : count - n - 1 ≡ count - suc n = omega arith in
-          on.end count (omega arith) ∙ ap (beyond n) (run_goes (count - n) u t some made stop) ∙ beyond-later n (run_end (count - n - 1) (appended u t))
-          ∙ ap (λ k. beyond k (run_end (count - n - 1) (appended u t))) count_on ∙ ap (λ k. beyond (suc n) (run_end k (appended u t))) less ∙ ap (λ x. beyond (suc n) (run_end (count - suc n) x)) next;
+          on.end count (omega arith) ∙ ap (beyond n) (run_goes (count - n) u t some made stop) ∙ beyond-later n (run_end (count - n - 1) (with_state u t))
+          ∙ ap (λ k. beyond k (run_end (count - n - 1) (with_state u t))) count_on ∙ ap (λ k. beyond (suc n) (run_end k (with_state u t))) less ∙ ap (λ x. beyond (suc n) (run_end (count - suc n) x)) next;
     }
 
 pub on_all : (s : Session) (n : ℕ) (t : State) (stops bytes : List ℕ) → ((k : ℕ) → slice_index stops k ≡ 0 → list_any (nat_eq k) s.breaks ≡ false) → ((k : ℕ) → slice_index bytes k ≡ 0 → list_any (nat_eq k) s.watches ≡ false)
@@ -195,27 +195,27 @@ runs_last s u (suc n) t stops bytes why marks none all told at =
     let is : IsStep bytes v.current t = subst (λ x. IsStep bytes x t) (sym on.current) all.1.2 in
     let stop : why ≡ stop_of v v.current t = stop_here s v t bytes why on.breaks on.watches none is told in
     let count_on : n + 1 ≡ suc n = omega arith in
-    let next : appended v t ≡ u = step_after n s v t refl is.made ∙ ap (λ k. after_steps k s) count_on ∙ sym at in (
+    let next : with_state v t ≡ u = step_after n s v t refl is.made ∙ ap (λ k. after_steps k s) count_on ∙ sym at in (
       all.0,
       at,
       λ count h.
           let some : 0 < count - n = omega arith in
           let after : count - n - 1 ≡ count - suc n = omega arith in
-          on.end count (omega arith) ∙ ap (beyond n) (run_made (count - n) v t why some is.made stop) ∙ ends_after n why (run_end (count - n - 1) (appended v t))
-          ∙ ap (λ k. end_after k why (run_end (count - n - 1) (appended v t))) count_on ∙ ap (λ k. end_after (suc n) why (run_end k (appended v t))) after ∙ ap (λ x. end_after (suc n) why (run_end (count - suc n) x)) next,
+          on.end count (omega arith) ∙ ap (beyond n) (run_made (count - n) v t why some is.made stop) ∙ ends_after n why (run_end (count - n - 1) (with_state v t))
+          ∙ ap (λ k. end_after k why (run_end (count - n - 1) (with_state v t))) count_on ∙ ap (λ k. end_after (suc n) why (run_end k (with_state v t))) after ∙ ap (λ x. end_after (suc n) why (run_end (count - suc n) x)) next,
     )
 
 -- a step by itself comes after the others
 pub runs_then : (s u t : Session) (n : ℕ) (why : Option Why) → GoesTo s n u → StepsTo u (Ok why) t → RunsTo s (Ok (record { steps = n + 1; why = why })) t
 runs_then s u t n why goes told =
-    let next : appended u told.0 ≡ t = sym told.3 in (
+    let next : with_state u told.0 ≡ t = sym told.3 in (
       omega arith,
       told.3 ∙ step_after n s u told.0 goes.after told.1,
       λ count h.
           let some : 0 < count - n = omega arith in
           let less : count - n - 1 ≡ count - (n + 1) = omega arith in
-          goes.end count (omega arith) ∙ ap (beyond n) (run_made (count - n) u told.0 why some told.1 told.2) ∙ ends_after n why (run_end (count - n - 1) (appended u told.0))
-          ∙ ap (λ k. end_after (n + 1) why (run_end k (appended u told.0))) less ∙ ap (λ x. end_after (n + 1) why (run_end (count - (n + 1)) x)) next,
+          goes.end count (omega arith) ∙ ap (beyond n) (run_made (count - n) u told.0 why some told.1 told.2) ∙ ends_after n why (run_end (count - n - 1) (with_state u told.0))
+          ∙ ap (λ k. end_after (n + 1) why (run_end k (with_state u told.0))) less ∙ ap (λ x. end_after (n + 1) why (run_end (count - (n + 1)) x)) next,
     )
 
 -- a step by itself is refused after the others, which are told first

@@ -2,7 +2,7 @@
 use Rattle.std.specs.Prelude.{◌≡◌, ℕ, ◌+◌, ◌-◌, ◌%◌, ◌<◌, ◌≤◌, List, length, Option, Some, None, Result, Ok, Err}
 use Rattle.model.specs.State.{State}
 use Rattle.model.specs.Step.{step}
-use Rattle.model.specs.Session.{Session, appended}
+use Rattle.model.specs.Session.{Session, with_state}
 use Rattle.model.specs.Run.{run_end, after_steps, stop_of}
 use Rattle.model.specs.declared.event.EventFault.{EventFault}
 use Rattle.model.specs.declared.run_end.Why.{Why}
@@ -48,5 +48,5 @@ RunsTo s (Err fault) t = ((count : ℕ) → 0 < count → run_end count s ≡ en
 -- one step leads from a session to another, and tells whether a run ends with it
 abbrev pub StepsTo : Session → Result (Option Why) EventFault → Session → Type 0
 StepsTo s (Ok why) t = (state : State) × (step s.current ≡ Ok state)
-    × (why ≡ stop_of s s.current state) × (t ≡ appended s state)
+    × (why ≡ stop_of s s.current state) × (t ≡ with_state s state)
 StepsTo s (Err fault) t = (step s.current ≡ Err fault) × (t ≡ s)

@@ -2,14 +2,14 @@
 use Rattle.std.specs.Prelude.{ℕ, List, Option}
 use Rattle.std.specs.Option.{option_or}
 use Rattle.model.specs.State.{State}
-use Rattle.model.specs.Undo.{restored}
+use Rattle.model.specs.Undo.{bus_before}
 use Rattle.model.specs.declared.undo.Change.{Change}
 use Rattle.model.specs.Run.{watch_met, break_met}
 use Rattle.model.specs.declared.run_end.Why.{Why}
 
 -- a state with the bus that a change gives back
 abbrev pub before_of : Change → State → State
-before_of change state = record state { bus = restored change state.bus }
+before_of change state = record state { bus = bus_before change state.bus }
 
 unfoldable pub stop_after : List ℕ → List ℕ → Change → State → Option Why
 stop_after watches breaks change state

@@ -33,14 +33,14 @@ pub record SameRoom (old new : Trail) : Type 0 where
   pub history : new.history ≡ old.history
 
 -- the oldest part was let go
-pub record LetGo (old new : Trail) : Type 0 where
+pub record DropsOldest (old new : Trail) : Type 0 where
   pub events : new.events.items ≡ drop 1024 old.events.items
   pub kept : new.kept.items ≡ drop 1 old.kept.items
   pub spare : length new.spare.items ≡ length old.spare.items + 1
   pub room : SameRoom old new
 
 -- a checkpoint was put after the others
-pub record Marked (old new : Trail) (c : Checkpoint) : Type 0 where
+pub record SavesCheckpoint (old new : Trail) (c : Checkpoint) : Type 0 where
   pub events : new.events.items ≡ old.events.items
   pub kept : new.kept.items ≡ old.kept.items ++ c ∷ []
   pub spare : length new.spare.items + 1 ≡ length old.spare.items

@@ -53,7 +53,7 @@ impl Model for Course {
 /// events need.
 ///
 /// Errors: `OutOfMemory` if an allocation fails.
-pub fn begin(alloc: Global, machine: &Machine, history: u32) -> Result<Course, SessionFault>
+pub fn new_course(alloc: Global, machine: &Machine, history: u32) -> Result<Course, SessionFault>
     requires { history ≤ 65536 }
     ensures room { IfOk result (λ course. HasRoom course) }
     ensures size { IfOk result (λ course. course.history ≡ history) }
@@ -65,7 +65,7 @@ pub fn begin(alloc: Global, machine: &Machine, history: u32) -> Result<Course, S
     ensures first { IfOk result (λ course. course.kept.items ≡ checkpoint_of machine.now ∷ []) }
     ensures only { IfErr result (λ fault. fault ≡ SessionFault.OutOfMemory) }
 {
-    match trail::begin(alloc, machine, history) {
+    match trail::new_trail(alloc, machine, history) {
         Ok(trail) => Ok(Course {
             trail,
             steps: 0,
@@ -77,7 +77,7 @@ pub fn begin(alloc: Global, machine: &Machine, history: u32) -> Result<Course, S
 
 impl Course {
     /// Returns how many of the last events can be undone.
-    pub fn held(&self) -> u32
+    pub fn held_count(&self) -> u32
         ensures { result ≡ self.now.held }
     {
         let held = self.trail.held + self.steps;
@@ -88,7 +88,7 @@ impl Course {
 /// Undoes the last `count` events: goes back to the last checkpoint that is not later, and makes
 /// the events from there on again. Returns how many these were. All pages may have changed
 /// afterwards.
-pub fn rewind(
+pub fn go_back(
     course: &mut Course,
     machine: &mut Machine,
     watches: &[u8],
@@ -118,7 +118,7 @@ pub fn rewind(
 
 /// Notes an accepted event, which led to the machine's state.
 #[inline(always)]
-pub fn note(course: &mut Course, machine: &Machine, pages: &mut Pages, event: Event)
+pub fn note_event(course: &mut Course, machine: &Machine, pages: &mut Pages, event: Event)
     requires { TellsPages pages.old course.old.kept.items course.old.spare.items
         machine.now.bus.memory }
     ensures room { HasRoom course.new }
@@ -154,7 +154,7 @@ fn note_apart(course: &mut Course, machine: &Machine, pages: &mut Pages, event: 
 {
     settle(&mut course.trail, course.steps);
     course.steps = 0;
-    trail::note(&mut course.trail, machine, pages, event);
+    trail::append_event(&mut course.trail, machine, pages, event);
     course.quiet = quiet_steps(&course.trail);
 }
 

@@ -5,18 +5,18 @@ ghost use Rattle.std.specs.Prelude.{length, take, slice_get, slice_index, OnOk, 
 ghost use Rattle.std.specs.Prelude.{IsErrOf, IsOk, Ok, Err};
 ghost use Rattle.model.specs.State.{has_port_byte, is_port, IsState, State};
 ghost use Rattle.model.specs.Event.{event_of, start};
-ghost use Rattle.model.specs.Undo.{CanRestore, restored, Undoes};
-ghost use Rattle.model.specs.Session.{appended, fresh};
-ghost use Rattle.model.specs.Back.{back_of, gone_back};
+ghost use Rattle.model.specs.Undo.{CanRestore, bus_before, Undoes};
+ghost use Rattle.model.specs.Session.{with_state, new_session};
+ghost use Rattle.model.specs.Back.{back_of, without_last};
 ghost use Rattle.model.specs.Run.{run_end, after_steps};
-ghost use Rattle.model.specs.Tables.{break_set, break_cleared, watch_set, watch_cleared};
+ghost use Rattle.model.specs.Breakpoints.{break_set, break_cleared, watch_set, watch_cleared};
 ghost use Rattle.debugger.specs.Pages.{TellsPages};
 ghost use Rattle.debugger.specs.Replay.{IsHistory, held_states};
 ghost use Rattle.debugger.specs.Running.{RunsTo, StepsTo};
 ghost use Rattle.debugger.specs.Trail.{HasRoom};
 
-use crate::course::{Course, begin, note, note_step, rewind, run_quietly};
-use crate::marks::Marks;
+use crate::address_table::AddressTable;
+use crate::course::{Course, go_back, new_course, note_event, note_step, run_quietly};
 use crate::pages::Pages;
 use crate::stops::{Stretch, break_at, stop_after};
 use crate::trail::happen;
@@ -34,8 +34,8 @@ pub struct Session {
     trail: Course,
     pages: Pages,
     replayed: u32,
-    breaks: Marks,
-    watches: Marks,
+    breaks: AddressTable,
+    watches: AddressTable,
 }
 
 impl Model for Session {
@@ -75,7 +75,7 @@ impl Session {
         history: u32,
     ) -> Result<Session, SessionFault>
         requires { history ≤ 65536 }
-        ensures ok { IfOk result (λ session. session ≡ fresh history (start map image.now)) }
+        ensures ok { IfOk result (λ session. session ≡ new_session history (start map image.now)) }
         ensures room { OnOk result (has_port_byte map image.now ≡ false) }
         ensures port { IsErrOf result SessionFault.PortAddress
             → has_port_byte map image.now ≡ true }
@@ -87,13 +87,13 @@ impl Session {
             Err(BusFault::PortAddress) => return Err(SessionFault::PortAddress),
             Err(_) => return Err(SessionFault::OutOfMemory),
         };
-        let Ok(trail) = begin(alloc, &machine, history) else {
+        let Ok(trail) = new_course(alloc, &machine, history) else {
             return Err(SessionFault::OutOfMemory);
         };
-        let Ok(breaks) = Marks::new(alloc) else {
+        let Ok(breaks) = AddressTable::new(alloc) else {
             return Err(SessionFault::OutOfMemory);
         };
-        let Ok(watches) = Marks::new(alloc) else {
+        let Ok(watches) = AddressTable::new(alloc) else {
             return Err(SessionFault::OutOfMemory);
         };
         Ok(Session {
@@ -114,7 +114,7 @@ impl Session {
     #[inline(always)]
     pub fn event(&mut self, event: Event) -> Result<(), EventFault>
         ensures ok { OnOk result ((state : State) × (event_of self.old.current event ≡ Ok state)
-            × (self.new ≡ appended self.old state)) }
+            × (self.new ≡ with_state self.old state)) }
         ensures err { IfErr result
             (λ fault. (event_of self.old.current event ≡ Err fault) × (self.new ≡ self.old)) }
     {
@@ -127,7 +127,7 @@ impl Session {
             event,
         ) {
             Ok(()) => {
-                note(&mut self.trail, &self.machine, &mut self.pages, event);
+                note_event(&mut self.trail, &self.machine, &mut self.pages, event);
                 Ok(())
             }
             Err(fault) => Err(fault),
@@ -214,7 +214,7 @@ impl Session {
     fn slow_step(&mut self) -> Result<Option<Why>, EventFault>
         ensures { StepsTo self.old result self.new }
     {
-        let mut change = self.machine.mark();
+        let mut change = self.machine.begin_change();
         let made = self.machine.step_noting(&mut change);
         self.machine
             .stamp(&change, &mut self.pages.stamps, self.pages.now);
@@ -243,7 +243,7 @@ impl Session {
             return Err(SessionFault::NoHistory { held });
         }
         if count > 0 {
-            self.replayed = rewind(
+            self.replayed = go_back(
                 &mut self.trail,
                 &mut self.machine,
                 self.watches.map(),
@@ -268,14 +268,14 @@ impl Session {
         ensures held { result ≡ length self.now.earlier }
         ensures within { result ≤ self.now.history }
     {
-        self.trail.held()
+        self.trail.held_count()
     }
 
     /// Sets a breakpoint.
     ///
     /// Errors, in this order: `AlreadySet`; `TableFull` if 256 are set; `OutOfMemory` if an
     /// allocation fails. Nothing changes.
-    #[tactic(auto, unfolding(model::specs::Tables::break_set))]
+    #[tactic(auto, unfolding(model::specs::Breakpoints::break_set))]
     pub fn set_break(&mut self, address: u16) -> Result<(), SessionFault>
         ensures ok { OnOk result (break_set address self.old ≡ Ok self.new) }
         ensures err { IfErr result (λ fault. (self.new ≡ self.old)
@@ -289,7 +289,7 @@ impl Session {
     /// Clears a breakpoint.
     ///
     /// Errors: `NotSet` if it is not set; nothing changes.
-    #[tactic(auto, unfolding(model::specs::Tables::break_cleared))]
+    #[tactic(auto, unfolding(model::specs::Breakpoints::break_cleared))]
     pub fn clear_break(&mut self, address: u16) -> Result<(), SessionFault>
         ensures ok { OnOk result (break_cleared address self.old ≡ Ok self.new) }
         ensures err { IfErr result
@@ -302,7 +302,7 @@ impl Session {
     ///
     /// Errors, in this order: `PortAddress` at a port address; `AlreadySet`; `TableFull` if 256 are
     /// set; `OutOfMemory` if an allocation fails. Nothing changes.
-    #[tactic(auto, unfolding(model::specs::Tables::watch_set))]
+    #[tactic(auto, unfolding(model::specs::Breakpoints::watch_set))]
     pub fn set_watch(&mut self, address: u16) -> Result<(), SessionFault>
         ensures ok { OnOk result (watch_set address self.old ≡ Ok self.new) }
         ensures err { IfErr result (λ fault. (self.new ≡ self.old)
@@ -319,7 +319,7 @@ impl Session {
     /// Clears a watch.
     ///
     /// Errors: `NotSet` if it is not set; nothing changes.
-    #[tactic(auto, unfolding(model::specs::Tables::watch_cleared))]
+    #[tactic(auto, unfolding(model::specs::Breakpoints::watch_cleared))]
     pub fn clear_watch(&mut self, address: u16) -> Result<(), SessionFault>
         ensures ok { OnOk result (watch_cleared address self.old ≡ Ok self.new) }
         ensures err { IfErr result

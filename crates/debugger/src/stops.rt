@@ -5,11 +5,11 @@ ghost use Rattle.std.specs.Prelude.{None};
 ghost use Rattle.std.specs.List.{list_any};
 ghost use Rattle.model.specs.declared.run_end.Why.TheVariants.{Break};
 ghost use Rattle.std.specs.Option.{option_map_or};
-ghost use Rattle.model.specs.Undo.{restored, put_cells, cells_of};
-ghost use Rattle.model.specs.Run.{changed, lowest};
+ghost use Rattle.model.specs.Undo.{bus_before, put_cells, cells_of};
+ghost use Rattle.model.specs.Run.{changed_addresses, lowest};
 ghost use Rattle.debugger.specs.Stops.{before_of, stop_after};
 
-use crate::marks::Marks;
+use crate::address_table::AddressTable;
 use bus::Change;
 use cpu::Machine;
 use model::Why;
@@ -27,8 +27,8 @@ pub struct Stretch {
 #[tactic(auto, unfolding(crate::specs::Stops::stop_after, model::specs::Run::watch_met, model::specs::Run::break_met))]
 pub fn stop_after(
     machine: &Machine,
-    watches: &Marks,
-    breaks: &Marks,
+    watches: &AddressTable,
+    breaks: &AddressTable,
     change: &Change,
 ) -> Option<Why>
     requires { change.now.count ≤ 3 }
@@ -42,7 +42,7 @@ pub fn stop_after(
 
 /// Returns why a run ends at an address after a step that changes no watched byte, if it does.
 #[inline(always)]
-pub fn break_at(pc: u16, breaks: &Marks) -> Option<Why>
+pub fn break_at(pc: u16, breaks: &AddressTable) -> Option<Why>
     ensures { result ≡ if list_any (nat_eq pc) breaks.now then Some (Break pc) else None }
 {
     if breaks.contains(pc) {
@@ -55,9 +55,10 @@ pub fn break_at(pc: u16, breaks: &Marks) -> Option<Why>
 /// Returns the lowest watched address whose byte of memory is not what it was before the step that
 /// the change is of.
 #[inline(always)]
-fn lowest_changed(machine: &Machine, watches: &Marks, change: &Change) -> Option<u16>
+fn lowest_changed(machine: &Machine, watches: &AddressTable, change: &Change) -> Option<u16>
     requires { change.now.count ≤ 3 }
-    ensures { result ≡ lowest (changed watches.now (before_of change.now machine.now) machine.now) }
+    ensures { result ≡ lowest (changed_addresses watches.now (before_of change.now machine.now)
+        machine.now) }
 {
     if change.count == 0 {
         return None;
@@ -70,9 +71,10 @@ fn lowest_changed(machine: &Machine, watches: &Marks, change: &Change) -> Option
 
 /// Returns the same, where the step has stored something.
 #[inline(never)]
-fn lowest_stored(machine: &Machine, watches: &Marks, change: &Change) -> Option<u16>
+fn lowest_stored(machine: &Machine, watches: &AddressTable, change: &Change) -> Option<u16>
     requires { change.now.count ≤ 3 }
-    ensures { result ≡ lowest (changed watches.now (before_of change.now machine.now) machine.now) }
+    ensures { result ≡ lowest (changed_addresses watches.now (before_of change.now machine.now)
+        machine.now) }
 {
     let mut least = None;
     let mut index = watches.len();
@@ -98,7 +100,7 @@ fn lower(address: u16, other: Option<u16>) -> u16
 }
 
 /// Returns the byte of memory before the step that the change is of.
-#[tactic(auto, unfolding(model::specs::Undo::restored))]
+#[tactic(auto, unfolding(model::specs::Undo::bus_before))]
 fn byte_before(machine: &Machine, change: &Change, address: u16) -> u8
     requires { change.now.count ≤ 3 }
     ensures { result ≡ slice_index (before_of change.now machine.now).bus.memory address }

@@ -7,13 +7,13 @@ ghost use Rattle.model.specs.Event.{event_of};
 ghost use Rattle.model.specs.declared.event.Event.TheVariants.{Step};
 ghost use Rattle.model.specs.Session.{keep_last};
 ghost use Rattle.model.specs.Undo.{Undoes};
-ghost use Rattle.model.specs.Checkpoint.{Checkpoint as Seen, CanPutBack, checkpoint_of, returned};
+ghost use Rattle.model.specs.Checkpoint.{Checkpoint as CheckpointView, CanPutBack, checkpoint_of, state_at};
 ghost use Rattle.circular_buffer.specs.Buffer.{last_item};
 ghost use Rattle.bus.specs.Pages.{StaySame};
 ghost use Rattle.debugger.specs.Pages.{TellsPages};
-ghost use Rattle.debugger.specs.Replay.{AllFollow, Follows, IsHistory, held_states, replayed};
+ghost use Rattle.debugger.specs.Replay.{AllFollow, Follows, IsHistory, held_states, state_after};
 ghost use Rattle.debugger.specs.Replay.{base_of};
-ghost use Rattle.debugger.specs.Trail.{HasRoom, IsNoted, LetGo, Marked};
+ghost use Rattle.debugger.specs.Trail.{HasRoom, IsNoted, DropsOldest, SavesCheckpoint};
 
 use crate::pages::Pages;
 use bus::{Stamps, stamp_all};
@@ -22,7 +22,7 @@ use cpu::{Checkpoint, Machine};
 use model::{Event, EventFault, SessionFault, Undo};
 use std::alloc::Global;
 
-/// How many events lie between two checkpoints (profile).
+/// How many events lie between two checkpoints (mos65).
 pub const PART: usize = 1024;
 
 /// Events with the checkpoints along them, the oldest first: one at the first event, and one after
@@ -86,7 +86,7 @@ fn make_step(
     if machine.quick_step(watches, stamps, now) {
         return Ok(());
     }
-    let mut change = machine.mark();
+    let mut change = machine.begin_change();
     let made = machine.step_noting(&mut change);
     machine.stamp(&change, stamps, now);
     made
@@ -129,8 +129,8 @@ fn replay(
     requires watches { length watches.now ≡ 65536 }
     requires order { from ≤ to }
     requires within { to ≤ length events.now.items }
-    ensures { (base : State) → AllFollow base events.now.items → machine.old ≡ replayed base
-        (take from events.now.items) → machine.new ≡ replayed base (take to events.now.items) }
+    ensures { (base : State) → AllFollow base events.now.items → machine.old ≡ state_after base
+        (take from events.now.items) → machine.new ≡ state_after base (take to events.now.items) }
 {
     for index in from..to {
         if let Some(event) = events.get(index) {
@@ -141,9 +141,10 @@ fn replay(
 
 /// Puts the machine back to the last of some checkpoints.
 fn return_to_last(machine: &mut Machine, kept: &HeapCircularBuffer<Checkpoint>)
-    requires { (c : Seen) → last_item kept.now.items ≡ Some c → CanPutBack c.bus machine.old.bus }
-    ensures { (c : Seen) → last_item kept.now.items ≡ Some c
-        → machine.new ≡ returned c machine.old }
+    requires { (c : CheckpointView) → last_item kept.now.items ≡ Some c
+        → CanPutBack c.bus machine.old.bus }
+    ensures { (c : CheckpointView) → last_item kept.now.items ≡ Some c
+        → machine.new ≡ state_at c machine.old }
 {
     if let Some(checkpoint) = kept.back() {
         machine.restore(checkpoint);
@@ -218,7 +219,7 @@ pub fn rewind(
 
 /// Notes an accepted event, which led to the machine's state.
 #[inline(always)]
-pub fn note(trail: &mut Trail, machine: &Machine, pages: &mut Pages, event: Event)
+pub fn append_event(trail: &mut Trail, machine: &Machine, pages: &mut Pages, event: Event)
     requires room { HasRoom trail.old }
     requires pages { TellsPages pages.old trail.old.kept.items trail.old.spare.items
         machine.now.bus.memory }
@@ -233,8 +234,8 @@ pub fn note(trail: &mut Trail, machine: &Machine, pages: &mut Pages, event: Even
 {
     trail.events.push_back(event);
     trail.held = one_more(trail.held, trail.history);
-    let_go(trail, pages);
-    mark(trail, machine, pages);
+    drop_oldest(trail, pages);
+    save_checkpoint(trail, machine, pages);
 }
 
 /// Returns one more, but not more than a limit.
@@ -248,13 +249,13 @@ fn one_more(held: u32, limit: u32) -> u32
 
 /// Drops the oldest 1,024 events and their checkpoint once `back` can no longer reach them.
 #[inline(always)]
-fn let_go(trail: &mut Trail, pages: &mut Pages)
+fn drop_oldest(trail: &mut Trail, pages: &mut Pages)
     requires kept { 0 < length trail.old.kept.items }
     requires few_kept { length trail.old.kept.items ≤ 66 }
     requires room { length trail.old.spare.items < trail.old.spare.capacity }
     ensures few { length trail.old.events.items < trail.old.held + 1024 → trail.new ≡ trail.old }
     ensures many { trail.old.held + 1024 ≤ length trail.old.events.items
-        → LetGo trail.old trail.new }
+        → DropsOldest trail.old trail.new }
     ensures pages { (memory : List ℕ)
         → TellsPages pages.old trail.old.kept.items trail.old.spare.items memory
         → TellsPages pages.new trail.new.kept.items trail.new.spare.items memory }
@@ -273,7 +274,7 @@ fn let_go(trail: &mut Trail, pages: &mut Pages)
 
 /// Makes a checkpoint of the machine's state if one is due.
 #[inline(always)]
-fn mark(trail: &mut Trail, machine: &Machine, pages: &mut Pages)
+fn save_checkpoint(trail: &mut Trail, machine: &Machine, pages: &mut Pages)
     requires pages { TellsPages pages.old trail.old.kept.items trail.old.spare.items
         machine.now.bus.memory }
     requires spare { length trail.old.events.items % 1024 ≡ 0 → 0 < length trail.old.spare.items }
@@ -281,7 +282,7 @@ fn mark(trail: &mut Trail, machine: &Machine, pages: &mut Pages)
         → length trail.old.kept.items < trail.old.kept.capacity }
     ensures none { 0 < length trail.old.events.items % 1024 → trail.new ≡ trail.old }
     ensures one { length trail.old.events.items % 1024 ≡ 0
-        → Marked trail.old trail.new (checkpoint_of machine.now) }
+        → SavesCheckpoint trail.old trail.new (checkpoint_of machine.now) }
     ensures pages { TellsPages pages.new trail.new.kept.items trail.new.spare.items
         machine.now.bus.memory }
 {
@@ -300,7 +301,7 @@ fn mark(trail: &mut Trail, machine: &Machine, pages: &mut Pages)
 /// events need.
 ///
 /// Errors: `OutOfMemory` if an allocation fails.
-pub fn begin(alloc: Global, machine: &Machine, history: u32) -> Result<Trail, SessionFault>
+pub fn new_trail(alloc: Global, machine: &Machine, history: u32) -> Result<Trail, SessionFault>
     requires { history ≤ 65536 }
     ensures room { IfOk result (λ trail. HasRoom trail) }
     ensures size { IfOk result (λ trail. trail.history ≡ history) }

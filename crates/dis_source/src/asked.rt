@@ -10,8 +10,8 @@ use crate::command::command;
 use clap::ArgMatches;
 use commands::address_of;
 use model::Profile;
+use program_words::WordsFault;
 use std::alloc::Global;
-use words::WordsFault;
 
 /// What the words of `dis TAPE [LO HI] --source [--data LO-HI] [--text LO-HI] [--profile N|C]` ask
 /// for.

@@ -7,11 +7,11 @@ use crate::marks::{between, marks_of};
 use crate::refusal::Refusal;
 use bus::Image;
 use papertape::read_tape_from;
+use program_words::WordsFault;
 use source_text::source_text;
 use std::fs::File;
 use std::io::Write;
 use std::rt::Files;
-use words::WordsFault;
 
 /// The image of a tape's file. The tape is read in pieces.
 fn image_of<H: Files + AllocGlobal>(rt: &H, path: &str) -> Result<Image, Refusal> {

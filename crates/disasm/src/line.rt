@@ -1,12 +1,12 @@
 //! Rows of memory as text.
 
 ghost use Rattle.std.specs.Prelude.{◌≡◌, ◌<◌, ◌≤◌, ◌-◌, length, drop, replicate, slice_index};
-ghost use Rattle.model.specs.Instruction.{byte_row, instruction_text, row_of};
-ghost use Rattle.disasm.specs.Rows.{seen};
+ghost use Rattle.model.specs.InstructionText.{byte_row, instruction_text, row_of};
+ghost use Rattle.disasm.specs.Rows.{row_view};
 
 use crate::operand::operand;
 use crate::text::{Text, push_bytes, text_of};
-use hexdigits::digits_of;
+use formatting::digits_of;
 use model::{Profile, Row};
 use optable::{decode_in, letters_of};
 
@@ -23,7 +23,7 @@ pub struct TextLine {
 /// Returns a row of so many bytes of memory with a text.
 fn row(len: u8, written: &[u8]) -> TextLine
     requires { length written.now ≤ 12 }
-    ensures text { seen result ≡ record { len = len; text = written.now } }
+    ensures text { row_view result ≡ record { len = len; text = written.now } }
     ensures rest { drop result.text_len result.text ≡ replicate (12 - result.text_len) 0 }
     ensures short { result.text_len ≤ 12 }
 {
@@ -52,7 +52,7 @@ fn instruction(profile: Profile, found: Row, address: u16, second: u8, third: u8
 
 /// Returns the row of a byte that begins no instruction.
 fn byte_line(byte: u8) -> TextLine
-    ensures text { seen result ≡ byte_row byte }
+    ensures text { row_view result ≡ byte_row byte }
     ensures rest { drop result.text_len result.text ≡ replicate (12 - result.text_len) 0 }
     ensures short { result.text_len ≤ 12 }
 {
@@ -73,7 +73,7 @@ fn byte_or_0(bytes: &[u8], place: usize) -> u8
 /// Returns the row at the front of some bytes in profile N, as `line_in` does.
 pub fn line_at(bytes: &[u8], address: u16) -> TextLine
     requires { 0 < length bytes.now }
-    ensures text { seen result ≡ row_of Profile.N bytes.now address }
+    ensures text { row_view result ≡ row_of Profile.N bytes.now address }
     ensures rest { drop result.text_len result.text ≡ replicate (12 - result.text_len) 0 }
     ensures short { result.text_len ≤ 12 }
     // It shows at least one of the bytes, and no more than are there.
@@ -88,10 +88,10 @@ pub fn line_at(bytes: &[u8], address: u16) -> TextLine
 /// The row is an instruction of the profile. It is `.BYTE` and the first byte if that begins no
 /// instruction, or if the instruction needs a byte past $FFFF or past the last one. Source: MCS6500
 /// manual for the forms; mos65 for `!`, for `.BYTE` and for what profile C adds.
-#[tactic(auto, unfolding(model::specs::Instruction::row_of))]
+#[tactic(auto, unfolding(model::specs::InstructionText::row_of))]
 pub fn line_in(profile: Profile, bytes: &[u8], address: u16) -> TextLine
     requires { 0 < length bytes.now }
-    ensures text { seen result ≡ row_of profile bytes.now address }
+    ensures text { row_view result ≡ row_of profile bytes.now address }
     ensures rest { drop result.text_len result.text ≡ replicate (12 - result.text_len) 0 }
     ensures short { result.text_len ≤ 12 }
     // It shows at least one of the bytes, and no more than are there.

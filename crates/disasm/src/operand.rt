@@ -1,15 +1,15 @@
 //! Operands as text.
 
 ghost use Rattle.std.specs.Prelude.{◌≡◌, ◌≤◌, ◌∷◌, ◌++◌, length};
-ghost use Rattle.model.specs.Instruction.{absolute_text, has_row, operand_text, target_of};
+ghost use Rattle.model.specs.InstructionText.{absolute_text, has_row, operand_text, target_of};
 
 use crate::text::{Text, push_bytes, text_of};
-use hexdigits::{digits_of, digits_of_word};
+use formatting::{digits_of, digits_of_address};
 use model::{Mnemonic, Mode, Profile};
 use optable::encode_in;
 
 /// Returns whether an instruction has a mode in a profile.
-#[tactic(auto, unfolding(model::specs::Instruction::has_row))]
+#[tactic(auto, unfolding(model::specs::InstructionText::has_row))]
 fn has_row(profile: Profile, mnemonic: Mnemonic, mode: Mode) -> bool
     ensures { result ≡ has_row profile mnemonic mode }
 {
@@ -35,7 +35,7 @@ fn absolute(profile: Profile, mnemonic: Mnemonic, short: Mode, word: u16, suffix
     ensures exact { result.items ≡ 32 ∷ (absolute_text profile mnemonic short word ++ suffix.now) }
     ensures short { length result.items ≤ 9 }
 {
-    let [a, b, c, d] = digits_of_word(word);
+    let [a, b, c, d] = digits_of_address(word);
     if (word < 256) & has_row(profile, mnemonic, short) {
         let mut text = text_of(&[b' ', b'!', b'$', a, b, c, d]);
         push_bytes(&mut text, suffix);
@@ -47,7 +47,7 @@ fn absolute(profile: Profile, mnemonic: Mnemonic, short: Mode, word: u16, suffix
 }
 
 /// Returns the operand of an instruction at an address as text, by the bytes after its opcode.
-#[tactic(auto, unfolding(model::specs::Instruction::operand_text))]
+#[tactic(auto, unfolding(model::specs::InstructionText::operand_text))]
 pub fn operand(
     profile: Profile,
     mnemonic: Mnemonic,
@@ -74,11 +74,11 @@ pub fn operand(
         Mode::IndX => text_of(&[b' ', b'(', b'$', h, l, b',', b'X', b')']),
         Mode::IndY => text_of(&[b' ', b'(', b'$', h, l, b')', b',', b'Y']),
         Mode::Ind => {
-            let [a, b, c, d] = digits_of_word(word);
+            let [a, b, c, d] = digits_of_address(word);
             text_of(&[b' ', b'(', b'$', a, b, c, d, b')'])
         }
         Mode::Rel => {
-            let [a, b, c, d] = digits_of_word(target(address, second));
+            let [a, b, c, d] = digits_of_address(target(address, second));
             text_of(&[b' ', b'$', a, b, c, d])
         }
         Mode::IndZ => text_of(&[b' ', b'(', b'$', h, l, b')']),

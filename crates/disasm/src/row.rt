@@ -2,12 +2,11 @@
 
 ghost use Rattle.std.specs.Prelude.{◌≡◌, ◌<◌, ◌≤◌, ◌+◌, ◌++◌, length};
 ghost use Rattle.model.specs.Disassembly.{row_line};
-ghost use Rattle.model.specs.Instruction.{row_of};
+ghost use Rattle.model.specs.InstructionText.{row_of};
 
 use crate::line::line_in;
 use arrayvec::ArrayVec;
-use columns::byte_columns;
-use hexdigits::digits_of_word;
+use formatting::{byte_columns, digits_of_address};
 use model::Profile;
 
 /// A row as it is listed, with its line's end: at most 29 bytes.
@@ -43,7 +42,7 @@ pub fn row_text_in(profile: Profile, bytes: &[u8], address: u16) -> RowText
     ensures some { 0 < result.len }
 {
     let row = line_in(profile, bytes, address);
-    let [a, b, c, d] = digits_of_word(address);
+    let [a, b, c, d] = digits_of_address(address);
     let mut text = Row::new();
     push_bytes(&mut text, &[a, b, c, d, b' ', b' ']);
     push_bytes(&mut text, &byte_columns(&bytes[..row.len as usize]));

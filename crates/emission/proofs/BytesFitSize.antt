@@ -8,15 +8,15 @@ use Rattle.model.specs.State.{Map}
 use Rattle.model.specs.Expression.{Term, here}
 use Rattle.model.specs.FaultNames.{source_fault_number}
 use Rattle.model.specs.Value.{Numbers, eval_of}
-use Rattle.model.specs.Layout.{length_in, ◌>>>◌, Placed, Content, no_bytes, byte_list, word_list, word_list_high_first, code, size_of, items_size}
-use Rattle.model.specs.Line.{Item, value, string}
+use Rattle.model.specs.Layout.{length_in, ◌>>>◌, PlacedLine, Content, no_bytes, byte_list, word_list, word_list_high_first, code, size_of, items_size}
+use Rattle.model.specs.SourceLine.{Item, value, string}
 use Rattle.model.specs.Bytes.{BytesOrFault, modulo, word_bytes, within, byte_piece, zero_page_piece, word_piece, address_piece, distance_piece, branch_piece, operand_piece, bytes_in, kinds_in, kind_if, lower, lowest, place_kinds, has_bytes, has_port, word_bytes_high_first, word_piece_high_first, item_piece, pieces_of, line_bytes, value_fault}
 use Rattle.model.specs.declared.expression.ExprFault.{ExprFault}
 use Rattle.model.specs.declared.instruction.Mode.{Mode}
 use Rattle.model.specs.declared.instruction.Mode.TheVariants.{Imp, Acc, Imm, Zp, ZpX, ZpY, Abs, AbsX, AbsY, IndX, IndY, Ind, Rel, IndZ}
 use Rattle.model.specs.declared.source_fault.AsmFaultKind.{AsmFaultKind}
 use Rattle.model.specs.declared.source_fault.AsmFaultKind.TheVariants.{WordRange, BranchRange, PastEnd, Overlap, PortAddress}
-use Rattle.emission.specs.Gathering.{Gathering, line_gathered}
+use Rattle.emission.specs.Gathering.{Gathering, line_gathering}
 use Rattle.emission.proofs.Gathers.{line_is, lowest-append}
 
 abbrev sized : BytesOrFault → ℕ
@@ -109,7 +109,7 @@ content_size numbers a (word_list_high_first es) = words_size (λ (e : Term). wo
 content_size numbers a (code opcode mode None) = omega (arith, operand_size a mode (eval_of numbers (pos a) here))
 content_size numbers a (code opcode mode (Some e)) = omega (arith, operand_size a mode (eval_of numbers (pos a) e), code_size (operand_piece a mode (eval_of numbers (pos a) e)))
 
-pub line_size : (numbers : Numbers) (p : Placed) → length (line_bytes numbers p) ≤ size_of p.content
+pub line_size : (numbers : Numbers) (p : PlacedLine) → length (line_bytes numbers p) ≤ size_of p.content
 unfolding line_bytes
 line_size numbers p = content_size numbers p.address p.content
 
@@ -129,11 +129,11 @@ kind_none : (t : Bool) (k : AsmFaultKind) → kind_if t k ≡ None → t ≡ fal
 kind_none true k h = cc
 kind_none false k h = refl
 
-pub record IsPlaced (m : Map) (image : List (Option ℕ)) (p : Placed) : Type 0 where
+pub record IsPlaced (m : Map) (image : List (Option ℕ)) (p : PlacedLine) : Type 0 where
   pub past : (nat_lt 0 (size_of p.content) && nat_lt 65536 (p.address + size_of p.content)) ≡ false
   pub port : has_port m p.address (size_of p.content) ≡ false
 
-pub placed_right : (m : Map) (numbers : Numbers) (image : List (Option ℕ)) (p : Placed) → value_fault m numbers image p ≡ None → IsPlaced m image p
+pub placed_right : (m : Map) (numbers : Numbers) (image : List (Option ℕ)) (p : PlacedLine) → value_fault m numbers image p ≡ None → IsPlaced m image p
 unfolding value_fault place_kinds lowest
 placed_right m numbers image p right =
     let size = size_of p.content in
@@ -153,7 +153,7 @@ not_past a s n past small some =
     omega (arith, ltb-false 65536 (a + s) behind)
 
 -- the bytes of a line without a fault have room
-pub line_room : (m : Map) (numbers : Numbers) (image : List (Option ℕ)) (p : Placed) (g : Gathering) → g ≡ line_gathered m numbers image p → g.kind ≡ None
+pub line_room : (m : Map) (numbers : Numbers) (image : List (Option ℕ)) (p : PlacedLine) (g : Gathering) → g ≡ line_gathering m numbers image p → g.kind ≡ None
     → 0 < length g.bytes → p.address + length g.bytes ≤ 65536
 line_room m numbers image p g is met some =
     let right : value_fault m numbers image p ≡ None = sym (ap (λ (x : Gathering). x.kind) (is ∙ line_is m numbers image p)) ∙ met in

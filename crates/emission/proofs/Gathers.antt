@@ -7,30 +7,30 @@ use Rattle.model.specs.State.{Map}
 use Rattle.model.specs.FaultNames.{source_fault_number}
 use Rattle.model.specs.Image.{with_bytes}
 use Rattle.model.specs.Value.{Numbers}
-use Rattle.model.specs.Layout.{Placed, size_of}
+use Rattle.model.specs.Layout.{PlacedLine, size_of}
 use Rattle.model.specs.Bytes.{BytesOrFault, lower, lowest, bytes_in, kinds_in, place_kinds, line_bytes, pieces_of, value_fault}
 use Rattle.model.specs.declared.source_fault.AsmFaultKind.{AsmFaultKind}
-use Rattle.emission.specs.Gathering.{line_gathered, Gathering, nothing_gathered, added, gathered, noted, noted_all}
-use Rattle.source_laws.specs.Judging.{put}
+use Rattle.emission.specs.Gathering.{line_gathering, Gathering, nothing_gathered, with_piece, with_pieces, with_fault_if, with_faults}
+use Rattle.law_sources.specs.Judging.{image_with_line}
 use borrow.Author.Tests.{leb-true, leb-false}
 
 -- ---- loops over values
 
 -- one value more
 pub gathered_step : {A B : Type 0} (f : B → BytesOrFault) (view : A → B) (xs : List A) (i : ℕ) (x : A) (g new : Gathering) (piece : BytesOrFault) (total : Gathering)
-    → i < length xs → x ≡ get_or xs i x → new ≡ added g piece → piece ≡ f (view x)
-    → gathered g (map f (map view (drop i xs))) ≡ total → gathered new (map f (map view (drop (i + 1) xs))) ≡ total
-unfolding gathered
+    → i < length xs → x ≡ get_or xs i x → new ≡ with_piece g piece → piece ≡ f (view x)
+    → with_pieces g (map f (map view (drop i xs))) ≡ total → with_pieces new (map f (map view (drop (i + 1) xs))) ≡ total
+unfolding with_pieces
 gathered_step {A = A} f view xs i x g new piece total within is now means so_far =
     let rest = drop (i + 1) xs in
     let cut : drop i xs ≡ x ∷ rest = drop_more xs i x within ∙ ap (λ (y : A). y ∷ rest) (sym is) in
-    let opened : gathered (added g (f (view x))) (map f (map view rest)) ≡ total = rw cut at so_far in
+    let opened : with_pieces (with_piece g (f (view x))) (map f (map view rest)) ≡ total = rw cut at so_far in
     rw (now, means) opened
 
 -- no value more
 pub gathered_end : {A B : Type 0} (f : B → BytesOrFault) (view : A → B) (xs : List A) (i : ℕ) (g total : Gathering) → length xs ≤ i
-    → gathered g (map f (map view (drop i xs))) ≡ total → g ≡ total
-unfolding gathered
+    → with_pieces g (map f (map view (drop i xs))) ≡ total → g ≡ total
+unfolding with_pieces
 gathered_end f view xs i g total past so_far = rw (drop_all i xs past) at so_far
 
 -- ---- the lowest kind
@@ -71,43 +71,43 @@ lowest-append (x ∷ xs) ys = ap (lower x) (lowest-append xs ys) ∙ sym (lower_
 abbrev pub both : List ℕ → Option AsmFaultKind → Gathering
 both bytes kind = record { bytes = bytes; kind = kind }
 
-pub gathered_is : (g : Gathering) (ps : List BytesOrFault) → gathered g ps ≡ both (g.bytes ++ flat_map bytes_in ps) (lower g.kind (lowest (kinds_in ps)))
-unfolding gathered lowest lower
+pub gathered_is : (g : Gathering) (ps : List BytesOrFault) → with_pieces g ps ≡ both (g.bytes ++ flat_map bytes_in ps) (lower g.kind (lowest (kinds_in ps)))
+unfolding with_pieces lowest lower
 gathered_is g [] = ap (λ (x : List ℕ). both x g.kind) (sym (append-nil g.bytes)) ∙ ap (both (g.bytes ++ [])) (sym (lower_nothing g.kind))
 gathered_is g (Ok bs ∷ ps) =
-    gathered_is (added g (Ok bs)) ps
+    gathered_is (with_piece g (Ok bs)) ps
     ∙ ap (λ (x : List ℕ). both x (lower g.kind (lowest (kinds_in ps)))) (append_assoc g.bytes bs (flat_map bytes_in ps))
 gathered_is g (Err k ∷ ps) =
-    gathered_is (added g (Err k)) ps
+    gathered_is (with_piece g (Err k)) ps
     ∙ ap (both (g.bytes ++ flat_map bytes_in ps)) (lower_again g.kind (Some k) (lowest (kinds_in ps)))
 
-noted_is : (g : Gathering) (ks : List (Option AsmFaultKind)) → noted_all g ks ≡ both g.bytes (lower g.kind (lowest ks))
+noted_is : (g : Gathering) (ks : List (Option AsmFaultKind)) → with_faults g ks ≡ both g.bytes (lower g.kind (lowest ks))
 unfolding lowest
 noted_is g [] = ap (both g.bytes) (sym (lower_nothing g.kind))
-noted_is g (k ∷ ks) = noted_is (noted g k) ks ∙ ap (both g.bytes) (lower_again g.kind k (lowest ks))
+noted_is g (k ∷ ks) = noted_is (with_fault_if g k) ks ∙ ap (both g.bytes) (lower_again g.kind k (lowest ks))
 
 -- ---- the whole line
 
 -- it is the line's bytes and its value fault
-pub line_is : (m : Map) (numbers : Numbers) (image : List (Option ℕ)) (p : Placed) → line_gathered m numbers image p ≡ both (line_bytes numbers p) (value_fault m numbers image p)
+pub line_is : (m : Map) (numbers : Numbers) (image : List (Option ℕ)) (p : PlacedLine) → line_gathering m numbers image p ≡ both (line_bytes numbers p) (value_fault m numbers image p)
 unfolding line_bytes value_fault lower
 line_is m numbers image p =
     let pieces = pieces_of numbers p.address p.content in
     let places = place_kinds m image p.address (size_of p.content) in
-    ap (λ (g : Gathering). noted_all g places) (gathered_is nothing_gathered pieces)
+    ap (λ (g : Gathering). with_faults g places) (gathered_is nothing_gathered pieces)
     ∙ noted_is (both (flat_map bytes_in pieces) (lowest (kinds_in pieces))) places
     ∙ ap (both (flat_map bytes_in pieces)) (sym (lowest-append (kinds_in pieces) places))
 
-pub put_faulty : (m : Map) (numbers : Numbers) (image : List (Option ℕ)) (p : Placed) (g : Gathering) (kind : AsmFaultKind) → g ≡ line_gathered m numbers image p → g.kind ≡ Some kind
-    → put m numbers image p ≡ Err kind
-unfolding put
+pub put_faulty : (m : Map) (numbers : Numbers) (image : List (Option ℕ)) (p : PlacedLine) (g : Gathering) (kind : AsmFaultKind) → g ≡ line_gathering m numbers image p → g.kind ≡ Some kind
+    → image_with_line m numbers image p ≡ Err kind
+unfolding image_with_line
 put_faulty m numbers image p g kind is met =
     let same : value_fault m numbers image p ≡ Some kind = sym (ap (λ (x : Gathering). x.kind) (is ∙ line_is m numbers image p)) ∙ met in
     rw same refl
 
-pub put_right : (m : Map) (numbers : Numbers) (image : List (Option ℕ)) (p : Placed) (g : Gathering) → g ≡ line_gathered m numbers image p → g.kind ≡ None
-    → put m numbers image p ≡ Ok (with_bytes image p.address g.bytes)
-unfolding put
+pub put_right : (m : Map) (numbers : Numbers) (image : List (Option ℕ)) (p : PlacedLine) (g : Gathering) → g ≡ line_gathering m numbers image p → g.kind ≡ None
+    → image_with_line m numbers image p ≡ Ok (with_bytes image p.address g.bytes)
+unfolding image_with_line
 put_right m numbers image p g is met =
     let same : value_fault m numbers image p ≡ None = sym (ap (λ (x : Gathering). x.kind) (is ∙ line_is m numbers image p)) ∙ met in
     let bytes : g.bytes ≡ line_bytes numbers p = ap (λ (x : Gathering). x.bytes) (is ∙ line_is m numbers image p) in

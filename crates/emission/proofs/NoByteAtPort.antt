@@ -7,9 +7,9 @@ use Rattle.model.specs.State.{Map, is_port, has_port_byte}
 use Rattle.model.specs.Image.{empty_image, has_byte, with_bytes}
 use Rattle.model.specs.Value.{Numbers}
 use Rattle.model.specs.Bytes.{has_port, line_bytes, value_fault}
-use Rattle.model.specs.Layout.{Placed, size_of, unless}
+use Rattle.model.specs.Layout.{PlacedLine, size_of, unless}
 use Rattle.model.specs.declared.source_fault.AsmFaultKind.{AsmFaultKind}
-use Rattle.source_laws.specs.Judging.{put}
+use Rattle.law_sources.specs.Judging.{image_with_line}
 use Rattle.emission.proofs.BytesFitSize.{line_size, placed_right}
 
 abbrev Cells : Type 0
@@ -56,8 +56,8 @@ no_ok : (x : Cells) (kind : AsmFaultKind) → wrong kind ≡ right x → ⊥
 no_ok x kind h = cc
 
 -- a line that is put leaves no byte there
-pub put_spared : (m : Map) (numbers : Numbers) (image new : Cells) (p : Placed) → put m numbers image p ≡ Ok new → IsSpared m image → IsSpared m new
-unfolding put
+pub put_spared : (m : Map) (numbers : Numbers) (image new : Cells) (p : PlacedLine) → image_with_line m numbers image p ≡ Ok new → IsSpared m image → IsSpared m new
+unfolding image_with_line
 put_spared m numbers image new p done s = by (value_fault m numbers image p) refl done
   where
     by : (fault : Option AsmFaultKind) → value_fault m numbers image p ≡ fault → unless fault (Ok (with_bytes image p.address (line_bytes numbers p))) ≡ Ok new → IsSpared m new

@@ -5,8 +5,8 @@ use Rattle.model.specs.Bytes.{BytesOrFault, lower, modulo, place_kinds, item_pie
 use Rattle.model.specs.Expression.{Term}
 use Rattle.model.specs.Value.{Numbers, eval_of}
 use Rattle.model.specs.declared.expression.ExprFault.{ExprFault}
-use Rattle.model.specs.Line.{Item}
-use Rattle.model.specs.Layout.{◌>>>◌, Placed, size_of}
+use Rattle.model.specs.SourceLine.{Item}
+use Rattle.model.specs.Layout.{◌>>>◌, PlacedLine, size_of}
 use Rattle.model.specs.declared.source_fault.AsmFaultKind.{AsmFaultKind}
 use Rattle.model.specs.declared.source_fault.AsmFaultKind.TheVariants.{WordRange}
 use Rattle.emission.specs.declared.emit.ByteOrder.{ByteOrder}
@@ -33,14 +33,14 @@ abbrev pub word_piece_in : ByteOrder → Result ℤ ExprFault → BytesOrFault
 word_piece_in order r =
     within (negsuc 32767) (pos 65535) WordRange r >>> λ v. Ok (word_bytes_in order (modulo v 65536))
 
-abbrev pub seen_encoded : Encoded → List ℕ
-seen_encoded Nothing = []
-seen_encoded (Byte b) = b ∷ []
-seen_encoded (Word first second) = first ∷ second ∷ []
+abbrev pub encoded_bytes : Encoded → List ℕ
+encoded_bytes Nothing = []
+encoded_bytes (Byte b) = b ∷ []
+encoded_bytes (Word first second) = first ∷ second ∷ []
 
-abbrev pub seen_piece : Result Encoded AsmFaultKind → BytesOrFault
-seen_piece (Ok encoded) = Ok (seen_encoded encoded)
-seen_piece (Err kind) = Err kind
+abbrev pub piece_view : Result Encoded AsmFaultKind → BytesOrFault
+piece_view (Ok encoded) = Ok (encoded_bytes encoded)
+piece_view (Err kind) = Err kind
 
 -- A line's bytes so far, and the lowest kind of its faults so far.
 pub record Gathering : Type 0 where
@@ -50,29 +50,29 @@ pub record Gathering : Type 0 where
 abbrev pub nothing_gathered : Gathering
 nothing_gathered = record { bytes = []; kind = None }
 
-abbrev pub refused : Gathering → AsmFaultKind → Gathering
-refused g kind = record { bytes = g.bytes; kind = lower g.kind (Some kind) }
+abbrev pub with_fault : Gathering → AsmFaultKind → Gathering
+with_fault g kind = record { bytes = g.bytes; kind = lower g.kind (Some kind) }
 
 -- A kind of fault, if there is one.
-abbrev pub noted : Gathering → Option AsmFaultKind → Gathering
-noted g kind = record { bytes = g.bytes; kind = lower g.kind kind }
+abbrev pub with_fault_if : Gathering → Option AsmFaultKind → Gathering
+with_fault_if g kind = record { bytes = g.bytes; kind = lower g.kind kind }
 
-abbrev pub noted_all : Gathering → List (Option AsmFaultKind) → Gathering
-noted_all g [] = g
-noted_all g (kind ∷ kinds) = noted_all (noted g kind) kinds
+abbrev pub with_faults : Gathering → List (Option AsmFaultKind) → Gathering
+with_faults g [] = g
+with_faults g (kind ∷ kinds) = with_faults (with_fault_if g kind) kinds
 
-abbrev pub added : Gathering → BytesOrFault → Gathering
-added g (Ok bytes) = record { bytes = g.bytes ++ bytes; kind = g.kind }
-added g (Err kind) = refused g kind
+abbrev pub with_piece : Gathering → BytesOrFault → Gathering
+with_piece g (Ok bytes) = record { bytes = g.bytes ++ bytes; kind = g.kind }
+with_piece g (Err kind) = with_fault g kind
 
-unfoldable pub gathered : Gathering → List BytesOrFault → Gathering
-gathered g [] = g
-gathered g (p ∷ ps) = gathered (added g p) ps
+unfoldable pub with_pieces : Gathering → List BytesOrFault → Gathering
+with_pieces g [] = g
+with_pieces g (p ∷ ps) = with_pieces (with_piece g p) ps
 
 -- All that is gathered of a line in its place.
-abbrev pub line_gathered : Map → Numbers → List (Option ℕ) → Placed → Gathering
-line_gathered m numbers image p =
-    noted_all (gathered nothing_gathered (pieces_of numbers p.address p.content))
+abbrev pub line_gathering : Map → Numbers → List (Option ℕ) → PlacedLine → Gathering
+line_gathering m numbers image p =
+    with_faults (with_pieces nothing_gathered (pieces_of numbers p.address p.content))
     (place_kinds m image p.address (size_of p.content))
 
 -- The result, and the image after it, are what a definition gives, unless memory runs out.

@@ -2,29 +2,29 @@
 
 ghost use Rattle.std.specs.Prelude.{◌≡◌, ◌+◌, ◌<◌, ◌≤◌, ◌^◌, ◌-◌, ◌∷◌, [], nat_lt, pos, length};
 ghost use Rattle.std.specs.Prelude.{map, IfErr, IfOk, OnErr, OnOk, Ok, Some, Err};
-ghost use Rattle.line_parts.specs.Trees.{view};
-ghost use Rattle.emission.specs.Gathering.{Stores, added, gathered, item_pieces, line_gathered};
-ghost use Rattle.emission.specs.Gathering.{noted, noted_all, nothing_gathered, refused};
-ghost use Rattle.emission.specs.Gathering.{seen_encoded, seen_piece, value_pieces, word_bytes_in};
+ghost use Rattle.line_parts.specs.TermViews.{term_view};
+ghost use Rattle.emission.specs.Gathering.{Stores, with_piece, with_pieces, item_pieces, line_gathering};
+ghost use Rattle.emission.specs.Gathering.{with_fault_if, with_faults, nothing_gathered, with_fault};
+ghost use Rattle.emission.specs.Gathering.{encoded_bytes, piece_view, value_pieces, word_bytes_in};
 ghost use Rattle.emission.specs.Gathering.{word_piece_in};
-ghost use Rattle.line_parts.specs.Kept.{placed_of};
-ghost use Rattle.line_parts.specs.Seen.{Gives, seen, seen_item};
-ghost use Rattle.line_parts.specs.Contents.{content_by, shown};
+ghost use Rattle.line_parts.specs.KeptLines.{placed_line_of};
+ghost use Rattle.line_parts.specs.LineViews.{Gives, statement_view, item_view};
+ghost use Rattle.line_parts.specs.Contents.{content_by, map_option};
 ghost use Rattle.model.specs.Bytes.{item_piece, pieces_of, address_piece, after_opcode};
 ghost use Rattle.model.specs.Bytes.{branch_piece, byte_piece, distance_piece, has_bytes, has_port};
 ghost use Rattle.model.specs.Bytes.{kind_if, lower, lowest, modulo, operand_piece, place_kinds};
 ghost use Rattle.model.specs.Bytes.{value_fault, within, zero_page_piece};
-ghost use Rattle.source_laws.specs.Judging.{put};
+ghost use Rattle.law_sources.specs.Judging.{image_with_line};
 ghost use Rattle.model.specs.Names.{number_in};
 ghost use Rattle.model.specs.Layout.{size_of};
-ghost use Rattle.model.specs.OneLine.{bytes_alone, no_numbers};
+ghost use Rattle.model.specs.OneLineAssembly.{bytes_alone, no_numbers};
 ghost use Rattle.model.specs.declared.source_fault.AsmFaultKind.TheVariants.{PastEnd};
 ghost use Rattle.model.specs.Image.{has_byte, with_bytes};
 ghost use Rattle.model.specs.Value.{eval_of};
 
-use bus::{Image, MapSpec};
 use evaluator::eval;
-use line_parts::{Code, Expr, Item, Kept, LineError, Statement, term_of};
+use line_parts::{Code, Expr, Item, KeptLine, LineError, Statement, term_of};
+use memory_map::{Image, MapSpec};
 use model::{AsmFaultKind, ExprFault, Mode};
 use std::alloc::{AllocError, Global};
 use std::marker::Model;
@@ -51,7 +51,7 @@ pub enum ByteOrder {
 /// Returns the value of an expression on a line at an address, under all names, or its first fault.
 fn number_at(value: &Expr<'_>, names: &Symbols, here: u32) -> Result<i32, ExprFault>
     requires { here < 2 ^ 31 }
-    ensures { result ≡ eval_of (number_in names.now) (pos here) (view value.now) }
+    ensures { result ≡ eval_of (number_in names.now) (pos here) (term_view value.now) }
 {
     eval(value, names, here as i32)
 }
@@ -81,14 +81,14 @@ fn within(
 
 /// Encodes a number modulo 256 as one byte.
 fn byte_of(number: i32) -> Encoded
-    ensures { seen_encoded result ≡ modulo number 256 ∷ [] }
+    ensures { encoded_bytes result ≡ modulo number 256 ∷ [] }
 {
     Encoded::Byte(number.rem_euclid(256) as u8)
 }
 
 /// Encodes a number modulo 65536, its bytes in this order.
 fn word_of(number: i32, order: ByteOrder) -> Encoded
-    ensures { seen_encoded result ≡ word_bytes_in order (modulo number 65536) }
+    ensures { encoded_bytes result ≡ word_bytes_in order (modulo number 65536) }
 {
     let word = number.rem_euclid(65536) as u16;
     let (low, high) = ((word % 256) as u8, (word / 256) as u8);
@@ -101,7 +101,7 @@ fn word_of(number: i32, order: ByteOrder) -> Encoded
 /// Encodes one byte: -128..255.
 #[tactic(auto, unfolding(model::specs::Bytes::byte_piece))]
 fn byte(value: Result<i32, ExprFault>) -> Result<Encoded, AsmFaultKind>
-    ensures { seen_piece result ≡ byte_piece value }
+    ensures { piece_view result ≡ byte_piece value }
 {
     let number = within(value, -128, 255, AsmFaultKind::ByteRange)?;
     Ok(byte_of(number))
@@ -110,7 +110,7 @@ fn byte(value: Result<i32, ExprFault>) -> Result<Encoded, AsmFaultKind>
 /// Encodes an address in the zero page: 0..255.
 #[tactic(auto, unfolding(model::specs::Bytes::zero_page_piece))]
 fn zero_page(value: Result<i32, ExprFault>) -> Result<Encoded, AsmFaultKind>
-    ensures { seen_piece result ≡ zero_page_piece value }
+    ensures { piece_view result ≡ zero_page_piece value }
 {
     let number = within(value, 0, 255, AsmFaultKind::ByteRange)?;
     Ok(byte_of(number))
@@ -118,7 +118,7 @@ fn zero_page(value: Result<i32, ExprFault>) -> Result<Encoded, AsmFaultKind>
 
 /// Encodes two bytes in this order: -32768..65535.
 fn word(value: Result<i32, ExprFault>, order: ByteOrder) -> Result<Encoded, AsmFaultKind>
-    ensures { seen_piece result ≡ word_piece_in order value }
+    ensures { piece_view result ≡ word_piece_in order value }
 {
     let number = within(value, -32768, 65535, AsmFaultKind::WordRange)?;
     Ok(word_of(number, order))
@@ -127,7 +127,7 @@ fn word(value: Result<i32, ExprFault>, order: ByteOrder) -> Result<Encoded, AsmF
 /// Encodes an address: 0..65535.
 #[tactic(auto, unfolding(model::specs::Bytes::address_piece))]
 fn address(value: Result<i32, ExprFault>) -> Result<Encoded, AsmFaultKind>
-    ensures { seen_piece result ≡ address_piece value }
+    ensures { piece_view result ≡ address_piece value }
 {
     let number = within(value, 0, 65535, AsmFaultKind::WordRange)?;
     Ok(word_of(number, ByteOrder::LowFirst))
@@ -135,7 +135,7 @@ fn address(value: Result<i32, ExprFault>) -> Result<Encoded, AsmFaultKind>
 
 /// Encodes a branch's distance modulo 65536, if it is -128..127.
 fn distance(distance: u32) -> Result<Encoded, AsmFaultKind>
-    ensures { seen_piece result ≡ distance_piece distance }
+    ensures { piece_view result ≡ distance_piece distance }
 {
     if (distance <= 127) | (65408 <= distance) {
         Ok(Encoded::Byte((distance % 256) as u8))
@@ -148,7 +148,7 @@ fn distance(distance: u32) -> Result<Encoded, AsmFaultKind>
 #[tactic(auto, unfolding(model::specs::Bytes::branch_piece))]
 fn branch(here: u32, value: Result<i32, ExprFault>) -> Result<Encoded, AsmFaultKind>
     requires { here < 2 ^ 31 - 510 }
-    ensures { seen_piece result ≡ branch_piece here value }
+    ensures { piece_view result ≡ branch_piece here value }
 {
     let target = within(value, 0, 65535, AsmFaultKind::WordRange)?;
     let from_next = target - (here as i32 + 2);
@@ -159,7 +159,7 @@ fn branch(here: u32, value: Result<i32, ExprFault>) -> Result<Encoded, AsmFaultK
 #[tactic(auto, unfolding(model::specs::Bytes::operand_piece))]
 fn operand(here: u32, mode: Mode, value: Result<i32, ExprFault>) -> Result<Encoded, AsmFaultKind>
     requires { here < 2 ^ 31 - 510 }
-    ensures { seen_piece result ≡ operand_piece here mode value }
+    ensures { piece_view result ≡ operand_piece here mode value }
 {
     match mode {
         Mode::Imp => Ok(Encoded::Nothing),
@@ -256,7 +256,7 @@ impl Gathered {
 
     /// Notes a fault.
     fn refuse(&mut self, kind: AsmFaultKind)
-        ensures { self.new ≡ refused self.old kind }
+        ensures { self.new ≡ with_fault self.old kind }
     {
         self.kind = lower(self.kind, Some(kind));
     }
@@ -264,7 +264,7 @@ impl Gathered {
     /// Notes a fault if a condition holds.
     #[tactic(auto, using(crate::proofs::Gathers::lower_nothing))]
     fn refuse_if(&mut self, holds: bool, kind: AsmFaultKind)
-        ensures { self.new ≡ noted self.old (kind_if holds kind) }
+        ensures { self.new ≡ with_fault_if self.old (kind_if holds kind) }
     {
         if holds {
             self.refuse(kind);
@@ -273,7 +273,7 @@ impl Gathered {
 
     /// Appends bytes.
     fn push(&mut self, encoded: Encoded) -> Result<(), AllocError>
-        ensures { OnOk result (self.new ≡ added self.old (Ok (seen_encoded encoded))) }
+        ensures { OnOk result (self.new ≡ with_piece self.old (Ok (encoded_bytes encoded))) }
     {
         match encoded {
             Encoded::Nothing => {}
@@ -288,7 +288,7 @@ impl Gathered {
 
     /// Appends bytes, or notes a fault.
     fn add(&mut self, piece: Result<Encoded, AsmFaultKind>) -> Result<(), AllocError>
-        ensures { OnOk result (self.new ≡ added self.old (seen_piece piece)) }
+        ensures { OnOk result (self.new ≡ with_piece self.old (piece_view piece)) }
     {
         match piece {
             Ok(encoded) => self.push(encoded),
@@ -301,7 +301,7 @@ impl Gathered {
 
     /// Appends the bytes between the quotes of a string.
     fn push_text(&mut self, text: &[u8]) -> Result<(), AllocError>
-        ensures { OnOk result (self.new ≡ added self.old (Ok text.now)) }
+        ensures { OnOk result (self.new ≡ with_piece self.old (Ok text.now)) }
     {
         self.bytes.extend_from_slice(text)
     }
@@ -310,7 +310,7 @@ impl Gathered {
     fn add_item(&mut self, names: &Symbols, here: u32, item: &Item<'_>) -> Result<(), AllocError>
         requires { here < 2 ^ 31 - 510 }
         ensures { OnOk result (self.new
-            ≡ added self.old (item_piece (number_in names.now) here (seen_item item.now))) }
+            ≡ with_piece self.old (item_piece (number_in names.now) here (item_view item.now))) }
     {
         match item {
             Item::Value(value) => self.add(byte(number_at(value, names, here))),
@@ -326,8 +326,8 @@ impl Gathered {
         items: &[Item<'_>],
     ) -> Result<(), AllocError>
         requires { here < 2 ^ 31 - 510 }
-        ensures { OnOk result (self.new ≡ gathered self.old
-            (item_pieces (number_in names.now) here (map seen_item items.now))) }
+        ensures { OnOk result (self.new ≡ with_pieces self.old
+            (item_pieces (number_in names.now) here (map item_view items.now))) }
     {
         for item in items {
             self.add_item(names, here, item)?;
@@ -344,8 +344,9 @@ impl Gathered {
         order: ByteOrder,
     ) -> Result<(), AllocError>
         requires { here < 2 ^ 31 - 510 }
-        ensures { OnOk result (self.new ≡ gathered self.old
-            (value_pieces (word_piece_in order) (number_in names.now) here (map view values.now))) }
+        ensures { OnOk result (self.new ≡ with_pieces self.old
+            (value_pieces (word_piece_in order) (number_in names.now) here
+            (map term_view values.now))) }
     {
         for value in values {
             self.add(word(number_at(value, names, here), order))?;
@@ -354,7 +355,7 @@ impl Gathered {
     }
 
     /// Appends what comes after an opcode.
-    #[tactic(auto, unfolding(crate::specs::Gathering::gathered))]
+    #[tactic(auto, unfolding(crate::specs::Gathering::with_pieces))]
     fn add_operand(
         &mut self,
         names: &Symbols,
@@ -363,8 +364,9 @@ impl Gathered {
         value: Option<&Expr<'_>>,
     ) -> Result<(), AllocError>
         requires { here < 2 ^ 31 - 510 }
-        ensures { OnOk result (self.new ≡ gathered self.old
-            (after_opcode (number_in names.now) here mode (shown (λ e. view e.now) value.entry))) }
+        ensures { OnOk result (self.new ≡ with_pieces self.old
+            (after_opcode (number_in names.now) here mode
+            (map_option (λ e. term_view e.now) value.entry))) }
     {
         match value {
             None => Ok(()),
@@ -373,7 +375,7 @@ impl Gathered {
     }
 
     /// Appends all parts of a statement, an instruction by its opcode.
-    #[tactic(auto, unfolding(model::specs::Bytes::pieces_of, model::specs::Bytes::word_piece, model::specs::Bytes::word_piece_high_first, crate::specs::Gathering::gathered))]
+    #[tactic(auto, unfolding(model::specs::Bytes::pieces_of, model::specs::Bytes::word_piece, model::specs::Bytes::word_piece_high_first, crate::specs::Gathering::with_pieces))]
     fn add_statement(
         &mut self,
         names: &Symbols,
@@ -382,8 +384,9 @@ impl Gathered {
         statement: &Statement<'_>,
     ) -> Result<(), AllocError>
         requires { here < 2 ^ 31 - 510 }
-        ensures { OnOk result (self.new ≡ gathered self.old
-            (pieces_of (number_in names.now) here (content_by code (seen statement.now)))) }
+        ensures { OnOk result (self.new ≡ with_pieces self.old
+            (pieces_of (number_in names.now) here
+            (content_by code (statement_view statement.now)))) }
     {
         match statement {
             Statement::Bytes(items) => self.add_items(names, here, items),
@@ -445,7 +448,8 @@ fn has_port(map: &MapSpec, address: u32, count: u32) -> bool
 #[tactic(auto, unfolding(model::specs::Bytes::place_kinds))]
 fn judge_place(gathered: &mut Gathered, map: &MapSpec, image: &Image, address: u32, count: u32)
     requires { address + count < 2 ^ 32 }
-    ensures { gathered.new ≡ noted_all gathered.old (place_kinds map.now image.now address count) }
+    ensures { gathered.new ≡ with_faults gathered.old
+        (place_kinds map.now image.now address count) }
 {
     let past_end = (0 < count) & (65536 < address + count);
     gathered.refuse_if(past_end, AsmFaultKind::PastEnd);
@@ -469,10 +473,10 @@ fn gather(
     map: &MapSpec,
     image: &Image,
     names: &Symbols,
-    line: &Kept<'_>,
+    line: &KeptLine<'_>,
 ) -> Result<(), AllocError>
     ensures { OnOk result (gathered.new
-        ≡ line_gathered map.now (number_in names.now) image.now (placed_of line.now)) }
+        ≡ line_gathering map.now (number_in names.now) image.now (placed_line_of line.now)) }
 {
     gathered.clear();
     gathered.add_statement(names, line.address, line.code, &line.statement)?;
@@ -492,8 +496,8 @@ fn gather_alone(
 ) -> Result<Gathered, AllocError>
     requires near { address < 2 ^ 31 - 510 }
     requires small { count ≤ 510 }
-    ensures { IfOk result (λ g. g ≡ noted (gathered nothing_gathered
-        (pieces_of no_numbers address (content_by code (seen statement.now))))
+    ensures { IfOk result (λ g. g ≡ with_fault_if (with_pieces nothing_gathered
+        (pieces_of no_numbers address (content_by code (statement_view statement.now))))
         (kind_if (nat_lt 65536 (address + count)) PastEnd)) }
 {
     let mut gathered = Gathered::new(alloc);
@@ -516,9 +520,9 @@ pub fn bytes_alone(
 ) -> Result<Vec<u8>, LineError>
     requires near { address < 2 ^ 31 - 510 }
     requires small { count ≤ 510 }
-    requires sized { count ≡ size_of (content_by code (seen statement.now)) }
+    requires sized { count ≡ size_of (content_by code (statement_view statement.now)) }
     ensures exact { Gives (λ bytes. bytes.items) result (bytes_alone
-        (record { address = address; content = content_by code (seen statement.now) })) }
+        (record { address = address; content = content_by code (statement_view statement.now) })) }
     ensures few { IfOk result (λ bytes. length bytes.items ≤ count) }
 {
     let gathered = gather_alone(alloc, address, code, count, statement)?;
@@ -537,10 +541,11 @@ pub fn value_fault(
     map: &MapSpec,
     image: &Image,
     names: &Symbols,
-    line: &Kept<'_>,
+    line: &KeptLine<'_>,
 ) -> Result<Option<AsmFaultKind>, AllocError>
     ensures { IfOk result
-        (λ kind. kind ≡ value_fault map.now (number_in names.now) image.now (placed_of line.now)) }
+        (λ kind. kind ≡ value_fault map.now (number_in names.now) image.now
+        (placed_line_of line.now)) }
 {
     gather(gathered, map, image, names, line)?;
     Ok(gathered.kind())
@@ -553,10 +558,10 @@ pub fn put_line(
     map: &MapSpec,
     image: &mut Image,
     names: &Symbols,
-    line: &Kept<'_>,
+    line: &KeptLine<'_>,
 ) -> Result<(), LineError>
     ensures exact { Stores result image.new
-        (put map.now (number_in names.now) image.old (placed_of line.now)) }
+        (image_with_line map.now (number_in names.now) image.old (placed_line_of line.now)) }
     ensures same { OnErr result (image.new ≡ image.old) }
 {
     gather(gathered, map, image, names, line)?;

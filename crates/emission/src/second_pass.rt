@@ -1,16 +1,16 @@
 //! The second pass: the bytes of all lines.
 
 ghost use Rattle.std.specs.Prelude.{◌≡◌, IfErr, IfOk, false};
-ghost use Rattle.emission.specs.Made.{made_kept};
-ghost use Rattle.line_parts.specs.Kept.{counted_in};
-ghost use Rattle.line_parts.specs.Located.{AnswersSource, out_of_memory};
+ghost use Rattle.emission.specs.Made.{image_of_lines};
+ghost use Rattle.line_parts.specs.KeptLines.{numbered_lines};
+ghost use Rattle.line_parts.specs.LineFaults.{AnswersSource, out_of_memory};
 ghost use Rattle.model.specs.Names.{number_in};
 ghost use Rattle.model.specs.Image.{empty_image};
 ghost use Rattle.model.specs.State.{has_port_byte};
 
 use crate::emit::{Gathered, put_line};
-use bus::{Image, MapSpec};
-use line_parts::{Kept, OUT_OF_MEMORY, located};
+use line_parts::{KeptLine, OUT_OF_MEMORY, fault_on_line};
+use memory_map::{Image, MapSpec};
 use model::AsmFault;
 use std::alloc::Global;
 use symbols::Symbols;
@@ -30,10 +30,10 @@ pub fn make_image(
     alloc: Global,
     map: &MapSpec,
     names: &Symbols,
-    kept: &[Kept<'_>],
+    kept: &[KeptLine<'_>],
 ) -> Result<Image, AsmFault>
     ensures exact { AnswersSource (λ image. image) result
-        (made_kept map.now (number_in names.now) empty_image (counted_in kept.now)) }
+        (image_of_lines map.now (number_in names.now) empty_image (numbered_lines kept.now)) }
     // No line without a fault puts a byte at a port address.
     ensures spared { IfOk result (λ image. has_port_byte map.now image ≡ false) }
 {
@@ -42,7 +42,7 @@ pub fn make_image(
     for line in kept {
         match put_line(&mut gathered, map, &mut image, names, line) {
             Ok(()) => {}
-            Err(error) => return Err(located(line.number, error)),
+            Err(error) => return Err(fault_on_line(line.number, error)),
         }
     }
     Ok(image)

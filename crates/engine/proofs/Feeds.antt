@@ -12,8 +12,8 @@ use Rattle.model.specs.declared.command.Command.TheVariants.{Bad, Quit}
 use Rattle.std.specs.Io.BufRead.{strip_last}
 use Rattle.model.specs.Session.{Session}
 use Rattle.model.specs.Commands.{command_of}
-use Rattle.model.specs.Lines.{lines_from}
-use Rattle.model.specs.Transcript.{Answer, answer_to, after_text, served_on, served}
+use Rattle.model.specs.TextLines.{lines_from}
+use Rattle.model.specs.Transcript.{Answer, answer_to, after_text, serving_after, serving}
 use Rattle.engine.specs.Feeding.{Fed, fed, fed_after, fed_on, kept_with, feed}
 
 -- what some bytes make of a line begun: lines of which none is `quit`, and another line begun
@@ -48,13 +48,13 @@ cuts_then begun bs middle cs more c d = record {
 -- the bytes told were served up to the line begun, of which `kept` is the beginning: with more
 -- bytes, and at either end, the transcript is the text so far and the transcript of what is left;
 -- no line was `quit`
-pub record IsServed (start : Session) (told text : List ℕ) (s : Session) (kept : List ℕ) : Type 0 where
+pub record ServesSoFar (start : Session) (told text : List ℕ) (s : Session) (kept : List ℕ) : Type 0 where
   pub begun : List ℕ
   pub front : kept ≡ take 257 begun
-  pub goes_on : (ending : List ℕ → List (List ℕ)) (rest : List ℕ) → served start (lines_from ending [] (told ++ rest)) ≡ after_text text (served s (lines_from ending begun rest))
+  pub goes_on : (ending : List ℕ → List (List ℕ)) (rest : List ℕ) → serving start (lines_from ending [] (told ++ rest)) ≡ after_text text (serving s (lines_from ending begun rest))
   pub cuts : Cuts [] told begun
 
-pub served_start : (s : Session) → IsServed s [] [] s []
+pub served_start : (s : Session) → ServesSoFar s [] [] s []
 served_start s = record { begun = []; front = refl; goes_on = λ ending rest. refl; cuts = cuts_nothing [] }
 
 -- a line that is too long is a bad command, and its kept beginning is one too
@@ -98,8 +98,8 @@ kept-more begun b = elim (cases_lt 256 (length begun)) [
 pub record Feeds (s : Session) (begun bytes : List ℕ) (r : Fed) : Type 0 where
   pub more : List ℕ
   pub front : r.kept ≡ take 257 more
-  pub goes_on : r.quit ≡ false → (ending : List ℕ → List (List ℕ)) (rest : List ℕ) → served s (lines_from ending begun (bytes ++ rest)) ≡ after_text r.written (served r.session (lines_from ending more rest))
-  pub ends : r.quit ≡ true → (ending : List ℕ → List (List ℕ)) (rest : List ℕ) → served s (lines_from ending begun (bytes ++ rest)) ≡ record { written = r.written; session = r.session }
+  pub goes_on : r.quit ≡ false → (ending : List ℕ → List (List ℕ)) (rest : List ℕ) → serving s (lines_from ending begun (bytes ++ rest)) ≡ after_text r.written (serving r.session (lines_from ending more rest))
+  pub ends : r.quit ≡ true → (ending : List ℕ → List (List ℕ)) (rest : List ℕ) → serving s (lines_from ending begun (bytes ++ rest)) ≡ record { written = r.written; session = r.session }
   pub cuts : r.quit ≡ false → Cuts begun bytes more
 
 -- a line that does not end the engine is not `quit`
@@ -108,12 +108,12 @@ unfolding answer_to
 not_quit command s on is = true≢false (sym (ap (λ (c : Command). (answer_to c s).quit) is) ∙ on)
 
 -- one line or one byte of it
-served_line : (s : Session) (begun bs : List ℕ) (ending : List ℕ → List (List ℕ)) → served s (lines_from ending begun (10 ∷ bs)) ≡ served_on (answer_to (command_of (strip_last 13 begun)) s) (λ t. served t (lines_from ending [] bs))
-unfolding served lines_from
+served_line : (s : Session) (begun bs : List ℕ) (ending : List ℕ → List (List ℕ)) → serving s (lines_from ending begun (10 ∷ bs)) ≡ serving_after (answer_to (command_of (strip_last 13 begun)) s) (λ t. serving t (lines_from ending [] bs))
+unfolding serving lines_from
 served_line s begun bs ending = refl
 
-served_byte : (s : Session) (begun bs : List ℕ) (b : ℕ) (ending : List ℕ → List (List ℕ)) → eqb b 10 ≡ false → served s (lines_from ending begun (b ∷ bs)) ≡ served s (lines_from ending (begun ++ b ∷ []) bs)
-unfolding served lines_from
+served_byte : (s : Session) (begun bs : List ℕ) (b : ℕ) (ending : List ℕ → List (List ℕ)) → eqb b 10 ≡ false → serving s (lines_from ending begun (b ∷ bs)) ≡ serving s (lines_from ending (begun ++ b ∷ []) bs)
+unfolding serving lines_from
 served_byte s begun bs b ending e = rw e refl
 
 feed_line : (s : Session) (kept bs : List ℕ) → feed s kept (10 ∷ bs) ≡ fed_on (answer_to (command_of (strip_last 13 kept)) s) (λ t. feed t [] bs)
@@ -129,7 +129,7 @@ unfolding feed
 feed_none s kept = refl
 
 -- a line served, and then what comes after it
-after_line : (a : Answer) (s : Session) (begun bs : List ℕ) → (a.quit ≡ false → command_of (strip_last 13 begun) ≢ Quit) → ((ending : List ℕ → List (List ℕ)) (rest : List ℕ) → served s (lines_from ending begun (10 ∷ bs ++ rest)) ≡ served_on a (λ t. served t (lines_from ending [] (bs ++ rest))))
+after_line : (a : Answer) (s : Session) (begun bs : List ℕ) → (a.quit ≡ false → command_of (strip_last 13 begun) ≢ Quit) → ((ending : List ℕ → List (List ℕ)) (rest : List ℕ) → serving s (lines_from ending begun (10 ∷ bs ++ rest)) ≡ serving_after a (λ t. serving t (lines_from ending [] (bs ++ rest))))
     → ((t : Session) → Feeds t [] bs (feed t [] bs)) → Feeds s begun (10 ∷ bs) (fed_on a (λ t. feed t [] bs))
 after_line a s begun bs stays h rest = by a.quit refl
   where
@@ -138,7 +138,7 @@ after_line a s begun bs stays h rest = by a.quit refl
     by false e = let r = rest a.session in rw e (record {
       more = r.more;
       front = r.front;
-      goes_on = λ no ending more. h ending more ∙ rw e (ap (after_text a.written) (r.goes_on no ending more) ∙ ap (λ w. record { written = w; session = (served (feed a.session [] bs).session (lines_from ending r.more more)).session }) (sym (append_assoc a.written (feed a.session [] bs).written (served (feed a.session [] bs).session (lines_from ending r.more more)).written)));
+      goes_on = λ no ending more. h ending more ∙ rw e (ap (after_text a.written) (r.goes_on no ending more) ∙ ap (λ w. record { written = w; session = (serving (feed a.session [] bs).session (lines_from ending r.more more)).session }) (sym (append_assoc a.written (feed a.session [] bs).written (serving (feed a.session [] bs).session (lines_from ending r.more more)).written)));
       ends = λ yes ending more. h ending more ∙ rw e (ap (after_text a.written) (r.ends yes ending more));
       cuts = λ no. cuts_line begun bs r.more (stays e) (r.cuts no);
     })

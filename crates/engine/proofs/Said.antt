@@ -4,7 +4,7 @@ use Rattle.std.proofs.lemmas.List.{take_all}
 use Rattle.std.specs.Prelude.{nat_lt}
 use Rattle.model.specs.State.{console_size}
 use Rattle.model.specs.Session.{Session}
-use Rattle.model.specs.Written.{Writes}
+use Rattle.model.specs.Writers.{Writes}
 use Rattle.model.specs.Transcript.{Answer, after_input, answer, answer_to, fault_line, input_answer}
 use Rattle.model.specs.declared.command.Command.{Command}
 use Rattle.model.specs.declared.command.Command.TheVariants.{Input}

@@ -3,11 +3,11 @@ use Rattle.std.specs.Prelude.{◌≢◌, ⊤, ◌⊎◌, ℕ, List, Option, Resu
 use Rattle.std.specs.Io.KnownBytes.{Appends, Consumes, IsAtEnd}
 use Rattle.std.specs.List.{All}
 use Rattle.model.specs.Session.{Session}
-use Rattle.model.specs.Lines.{ended_lines_of}
+use Rattle.model.specs.TextLines.{ended_lines_of}
 use Rattle.model.specs.Commands.{command_of}
 use Rattle.model.specs.declared.command.Command.TheVariants.{Quit}
 use Rattle.model.specs.Transcript.{transcript, transcript_so_far}
-use Rattle.model.specs.Written.{AppendsFront}
+use Rattle.model.specs.Writers.{AppendsFront}
 use Rattle.engine.specs.declared.fault.EngineFault.{EngineFault}
 use Rattle.engine.specs.declared.fault.EngineFault.TheVariants as engine_fault
 

@@ -1,9 +1,9 @@
 //! The command that assembles a text.
 
 ghost use Rattle.std.specs.Prelude.{◌≡◌, ◌≢◌, IsErrOf, Err};
-ghost use Rattle.model.specs.OneLine.{one_line};
+ghost use Rattle.model.specs.OneLineAssembly.{one_line};
 ghost use Rattle.model.specs.Transcript.{asm_answer, source_fault_line};
-ghost use Rattle.model.specs.Written.{Writes};
+ghost use Rattle.model.specs.Writers.{Writes};
 
 use assembler::assemble_line_in;
 use debugger::Session;
@@ -15,7 +15,7 @@ use std::io::Write;
 /// Assembles a text at an address in the session's profile, and patches memory with its bytes.
 ///
 /// Writes the reply of a patch, or the fault of the text. If memory runs out, nothing is written.
-pub fn assembled<W: Write>(
+pub fn assemble_patch<W: Write>(
     alloc: Global,
     session: &mut Session,
     address: u16,

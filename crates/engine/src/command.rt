@@ -1,12 +1,12 @@
 //! What the engine does with a command, and what it replies.
 
 ghost use Rattle.std.specs.Prelude.{◌≡◌, take, MatchResult, IfErr, IfOk, Ok, Err, false};
-ghost use Rattle.model.specs.Written.{Writes};
+ghost use Rattle.model.specs.Writers.{Writes};
 ghost use Rattle.engine.specs.Outcome.{EndsReply};
 ghost use Rattle.engine.specs.Refusals.{of_reply};
 ghost use Rattle.model.specs.Transcript.{answer_to};
 
-use crate::asm::assembled;
+use crate::asm::assemble_patch;
 use crate::fault::EngineFault;
 use debugger::Session;
 use model::{Command, Event};
@@ -37,16 +37,16 @@ pub fn execute<W: Write>(
     ensures fault { IfErr result EndsReply }
 {
     match command {
-        Command::Regs => said(put_registers(session, writer)),
-        Command::Step => said(step(session, writer)),
-        Command::Mem { first, last } => said(put_rows(session, first, last, writer)),
-        Command::Out => said(put_output(session, writer)),
-        Command::Set(setting) => said(happen(session, Event::Set(setting), writer)),
+        Command::Regs => after_reply(put_registers(session, writer)),
+        Command::Step => after_reply(step(session, writer)),
+        Command::Mem { first, last } => after_reply(put_rows(session, first, last, writer)),
+        Command::Out => after_reply(put_output(session, writer)),
+        Command::Set(setting) => after_reply(happen(session, Event::Set(setting), writer)),
         Command::Patch {
             address,
             bytes,
             count,
-        } => said(happen(
+        } => after_reply(happen(
             session,
             Event::Patch {
                 address,
@@ -55,30 +55,38 @@ pub fn execute<W: Write>(
             },
             writer,
         )),
-        Command::Reset => said(happen(session, Event::Reset, writer)),
-        Command::Irq(level) => said(happen(session, Event::Irq(level), writer)),
-        Command::Nmi => said(happen(session, Event::Nmi, writer)),
-        Command::Input { bytes, count } => said(take_input(
+        Command::Reset => after_reply(happen(session, Event::Reset, writer)),
+        Command::Irq(level) => after_reply(happen(session, Event::Irq(level), writer)),
+        Command::Nmi => after_reply(happen(session, Event::Nmi, writer)),
+        Command::Input { bytes, count } => after_reply(take_input(
             session,
             first_bytes(&bytes, count),
             writer,
         )),
-        Command::Run(count) => said(run(session, count, writer)),
-        Command::Back(count) => said(go_back(session, count, writer)),
-        Command::Break(address) => said(set_break(session, address, writer)),
-        Command::Unbreak(address) => said(clear_break(session, address, writer)),
-        Command::Watch(address) => said(set_watch(session, address, writer)),
-        Command::Unwatch(address) => said(clear_watch(session, address, writer)),
-        Command::Breaks => said(put_breaks(session, writer)),
-        Command::Dis { address, count } => said(put_instructions(session, address, count, writer)),
+        Command::Run(count) => after_reply(run(session, count, writer)),
+        Command::Back(count) => after_reply(go_back(session, count, writer)),
+        Command::Break(address) => after_reply(set_break(session, address, writer)),
+        Command::Unbreak(address) => after_reply(clear_break(session, address, writer)),
+        Command::Watch(address) => after_reply(set_watch(session, address, writer)),
+        Command::Unwatch(address) => after_reply(clear_watch(session, address, writer)),
+        Command::Breaks => after_reply(put_breaks(session, writer)),
+        Command::Dis { address, count } => after_reply(put_instructions(
+            session, address, count, writer,
+        )),
         Command::Asm {
             address,
             text,
             count,
-        } => said(assembled(alloc, session, address, first_of_text(&text, count), writer)),
+        } => after_reply(assemble_patch(
+            alloc,
+            session,
+            address,
+            first_of_text(&text, count),
+            writer,
+        )),
         Command::Quit => Ok(true),
         Command::Nothing => Ok(false),
-        Command::Bad => said(put(writer, b"? BAD COMMAND\n")),
+        Command::Bad => after_reply(put(writer, b"? BAD COMMAND\n")),
     }
 }
 
@@ -102,7 +110,7 @@ fn first_of_text(text: &[u8; 255], count: u8) -> &[u8]
 }
 
 /// Returns the result of a reply that does not end the engine.
-fn said(written: Result<(), ReplyFault>) -> Result<bool, EngineFault>
+fn after_reply(written: Result<(), ReplyFault>) -> Result<bool, EngineFault>
     ensures { MatchResult written (λ _. result ≡ Ok false) (λ e. result ≡ Err (of_reply e)) }
 {
     match written {

@@ -2,7 +2,7 @@
 
 ghost use Rattle.std.specs.Prelude.{◌≡◌, ◌≤◌, ◌⊎◌, ⊤, true, Err};
 ghost use Rattle.model.specs.Event.{start};
-ghost use Rattle.model.specs.Session.{fresh};
+ghost use Rattle.model.specs.Session.{new_session};
 ghost use Rattle.model.specs.State.{has_port_byte};
 ghost use Rattle.model.specs.declared.session_fault.SessionFault.TheVariants.{PortAddress};
 ghost use Rattle.engine.specs.Outcome.{Reaches, Serves};
@@ -35,7 +35,7 @@ pub fn debug_image<R: Read, W: Write>(
     requires { history ≤ 65536 }
 
     // The session that starts with the image is served.
-    ensures serves { Serves (fresh history (start map image)) (R.remaining reader.old)
+    ensures serves { Serves (new_session history (start map image)) (R.remaining reader.old)
         (R.remaining reader.new) (W.contents writer.old) (W.contents writer.new) result }
 
     // If no session began, neither reader nor writer was used.

@@ -3,7 +3,7 @@
 ghost use Rattle.std.specs.Prelude.{◌≡◌, [], ◌∷◌, IfErr, IfOk};
 ghost use Rattle.std.specs.Io.BufRead.{strip_last};
 ghost use Rattle.model.specs.Commands.{command_of};
-ghost use Rattle.model.specs.Written.{Writes};
+ghost use Rattle.model.specs.Writers.{Writes};
 ghost use Rattle.model.specs.Transcript.{answer_to};
 ghost use Rattle.engine.specs.Feeding.{feed, fed};
 ghost use Rattle.engine.specs.Outcome.{EndsReply, EndsServing, Serves};

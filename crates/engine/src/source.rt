@@ -2,7 +2,7 @@
 
 ghost use Rattle.std.specs.Prelude.{◌≡◌, ◌≤◌, ◌⊎◌, ℕ, List, Option, Err};
 ghost use Rattle.model.specs.Event.{start};
-ghost use Rattle.model.specs.Session.{fresh};
+ghost use Rattle.model.specs.Session.{new_session};
 ghost use Rattle.model.specs.Source.{Denotes, HasFault};
 ghost use Rattle.model.specs.declared.source_fault.AsmFault.{AsmFault};
 ghost use Rattle.engine.specs.Outcome.{Reaches, Serves};
@@ -45,7 +45,8 @@ pub fn debug_source<R: Read, W: Write>(
 
     // The session that starts with the image that the source denotes is served.
     ensures serves { (image : List (Option ℕ)) → Denotes map source.now image
-        → Serves (fresh history (start map image)) (R.remaining reader.old) (R.remaining reader.new)
+        → Serves (new_session history (start map image)) (R.remaining reader.old)
+        (R.remaining reader.new)
         (W.contents writer.old) (W.contents writer.new) result }
 
     // If a session began, the source denotes an image; otherwise neither reader nor writer was

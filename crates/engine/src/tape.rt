@@ -2,7 +2,7 @@
 
 ghost use Rattle.std.specs.Prelude.{◌≡◌, ◌≤◌, ◌⊎◌, true, false, ℕ, List, Option, Err};
 ghost use Rattle.model.specs.Event.{start};
-ghost use Rattle.model.specs.Session.{fresh};
+ghost use Rattle.model.specs.Session.{new_session};
 ghost use Rattle.model.specs.State.{has_port_byte};
 ghost use Rattle.model.specs.Tape.{TapeDenotes, FirstFault};
 ghost use Rattle.model.specs.declared.session_fault.SessionFault.TheVariants.{PortAddress};
@@ -46,7 +46,8 @@ pub fn debug_tape<R: Read, W: Write>(
 
     // The session that starts with the image that the tape denotes is served.
     ensures serves { (image : List (Option ℕ)) → TapeDenotes tape.now image
-        → Serves (fresh history (start map image)) (R.remaining reader.old) (R.remaining reader.new)
+        → Serves (new_session history (start map image)) (R.remaining reader.old)
+        (R.remaining reader.new)
         (W.contents writer.old) (W.contents writer.new) result }
 
     // If a session began, the tape denotes an image; otherwise neither reader nor writer was used.

@@ -2,7 +2,7 @@
 
 ghost use Rattle.std.specs.Prelude.{◌≡◌, ◌≤◌, ◌⊎◌, true, false, ℕ, List, Option, Err, IfSome};
 ghost use Rattle.model.specs.Event.{start};
-ghost use Rattle.model.specs.Session.{fresh};
+ghost use Rattle.model.specs.Session.{new_session};
 ghost use Rattle.model.specs.State.{has_port_byte};
 ghost use Rattle.model.specs.TapePieces.{IsReadInPieces, IsRefusedInPieces};
 ghost use Rattle.model.specs.declared.session_fault.SessionFault.TheVariants.{PortAddress};
@@ -51,7 +51,8 @@ pub fn debug_tape_from<T: Read, R: Read, W: Write>(
     // reader nor writer was used.
     ensures serves { ReachesFrom result
         ((image : List (Option ℕ)) × IsImageOf (T.remaining tape.old) image
-        × Serves (fresh history (start map image)) (R.remaining reader.old) (R.remaining reader.new)
+        × Serves (new_session history (start map image)) (R.remaining reader.old)
+        (R.remaining reader.new)
         (W.contents writer.old) (W.contents writer.new) result)
         ((reader.new ≡ reader.old) × (writer.new ≡ writer.old)) }
 

@@ -1,8 +1,8 @@
 //! The value of an expression.
 
 ghost use Rattle.std.specs.Prelude.{◌≡◌, ℕ, pos, IfOk, IfErr, Err};
-ghost use Rattle.model.specs.Value.{applied, bits, checked, eval_of, knows, value_of};
-ghost use Rattle.line_parts.specs.Trees.{view};
+ghost use Rattle.model.specs.Value.{operation_value, bitwise, in_range_or_fault, eval_of, knows, value_of};
+ghost use Rattle.line_parts.specs.TermViews.{term_view};
 
 use line_parts::Expr;
 use model::{ExprFault, Operator};
@@ -19,8 +19,8 @@ pub trait Names {
 }
 
 /// Returns a result if it is in -2^31..2^31-1.
-fn checked(number: i64) -> Result<i32, ExprFault>
-    ensures { result ≡ checked number }
+fn in_range_or_fault(number: i64) -> Result<i32, ExprFault>
+    ensures { result ≡ in_range_or_fault number }
 {
     if number < -2147483648 || number > 2147483647 {
         return Err(ExprFault::Range);
@@ -29,9 +29,9 @@ fn checked(number: i64) -> Result<i32, ExprFault>
 }
 
 /// Returns both operands of `&`, `|` or `^` if they are in 0..65535.
-fn words(left: i32, right: i32) -> Result<(u16, u16), ExprFault>
+fn bit_operands(left: i32, right: i32) -> Result<(u16, u16), ExprFault>
     ensures words { IfOk result (λ p. (left ≡ pos p.0) × (right ≡ pos p.1)) }
-    ensures fault { IfErr result (λ f. (combine : ℕ → ℕ → ℕ) → bits combine left right ≡ Err f) }
+    ensures fault { IfErr result (λ f. (combine : ℕ → ℕ → ℕ) → bitwise combine left right ≡ Err f) }
 {
     if left < 0 || left > 65535 || right < 0 || right > 65535 {
         return Err(ExprFault::Range);
@@ -41,30 +41,30 @@ fn words(left: i32, right: i32) -> Result<(u16, u16), ExprFault>
 
 /// Applies an operator to two numbers.
 fn apply(operator: Operator, left: i32, right: i32) -> Result<i32, ExprFault>
-    ensures { result ≡ applied operator left right }
+    ensures { result ≡ operation_value operator left right }
 {
     let a = left as i64;
     let b = right as i64;
     match operator {
-        Operator::Add => checked(a + b),
-        Operator::Subtract => checked(a - b),
-        Operator::Multiply => checked(a * b),
+        Operator::Add => in_range_or_fault(a + b),
+        Operator::Subtract => in_range_or_fault(a - b),
+        Operator::Multiply => in_range_or_fault(a * b),
         Operator::Divide => {
             if b == 0 {
                 return Err(ExprFault::DivideByZero);
             }
-            checked(a / b)
+            in_range_or_fault(a / b)
         }
         Operator::And => {
-            let (a, b) = words(left, right)?;
+            let (a, b) = bit_operands(left, right)?;
             Ok((a & b) as i32)
         }
         Operator::Or => {
-            let (a, b) = words(left, right)?;
+            let (a, b) = bit_operands(left, right)?;
             Ok((a | b) as i32)
         }
         Operator::ExclusiveOr => {
-            let (a, b) = words(left, right)?;
+            let (a, b) = bit_operands(left, right)?;
             Ok((a ^ b) as i32)
         }
     }
@@ -72,7 +72,7 @@ fn apply(operator: Operator, left: i32, right: i32) -> Result<i32, ExprFault>
 
 /// Returns whether each name in an expression has a number.
 fn knows<N: Names>(expr: &Expr<'_>, names: &N) -> bool
-    ensures { result ≡ knows (N.number_of names.now) (view expr.now) }
+    ensures { result ≡ knows (N.number_of names.now) (term_view expr.now) }
 {
     match expr {
         Expr::Literal(_) => true,
@@ -87,7 +87,7 @@ fn knows<N: Names>(expr: &Expr<'_>, names: &N) -> bool
 
 /// Returns the value, or the first fault from left to right.
 fn value<N: Names>(expr: &Expr<'_>, names: &N, here: i32) -> Result<i32, ExprFault>
-    ensures { result ≡ value_of (N.number_of names.now) here (view expr.now) }
+    ensures { result ≡ value_of (N.number_of names.now) here (term_view expr.now) }
 {
     match expr {
         Expr::Literal(None) => Err(ExprFault::Range),
@@ -96,7 +96,7 @@ fn value<N: Names>(expr: &Expr<'_>, names: &N, here: i32) -> Result<i32, ExprFau
         Expr::Here => Ok(here),
         Expr::Negated(inner) => {
             let number = value(inner, names, here)?;
-            checked(-(number as i64))
+            in_range_or_fault(-(number as i64))
         }
         Expr::Binary(operator, left, right) => {
             let a = value(left, names, here)?;
@@ -124,7 +124,7 @@ fn value<N: Names>(expr: &Expr<'_>, names: &N, here: i32) -> Result<i32, ExprFau
 /// `DivideByZero` if the right operand of `/` is 0. Source: mos65.
 #[tactic(auto, unfolding(model::specs::Value::eval_of))]
 pub fn eval<N: Names>(expr: &Expr<'_>, names: &N, here: i32) -> Result<i32, ExprFault>
-    ensures { result ≡ eval_of (N.number_of names.now) here (view expr.now) }
+    ensures { result ≡ eval_of (N.number_of names.now) here (term_view expr.now) }
 {
     if !knows(expr, names) {
         return Err(ExprFault::UnknownName);

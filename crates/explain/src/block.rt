@@ -11,7 +11,7 @@ use source_faults::{Mending, lay_out};
 use std::alloc::{AllocError, Global};
 use symbols::Symbols;
 
-/// The most bytes that a source has (profile).
+/// The most bytes that a source has (mos65).
 const SOURCE_SIZE: usize = 1_048_576;
 
 /// The most faults that are written.

@@ -7,7 +7,7 @@ use crate::scan::first_stray;
 use crate::values::{Outside, branch_miss, first_outside};
 use crate::words::{Note, named, noted, push_address, push_count, push_decimal, said};
 use lexer::tokens;
-use line_parts::{Kept, Token};
+use line_parts::{KeptLine, Token};
 use model::{AsmFault, AsmFaultKind, LineFault, Mode, Profile, TokenKind};
 use optable::{encode_in, mnemonic_in};
 use source_faults::Found;
@@ -238,7 +238,7 @@ fn branch_words(alloc: Global, miss: Option<(u32, bool)>) -> Result<Vec<u8>, All
 fn overlap_words(
     alloc: Global,
     context: &Context<'_, '_>,
-    line: &Kept<'_>,
+    line: &KeptLine<'_>,
 ) -> Result<Vec<u8>, AllocError> {
     for found in context.found {
         if let Found::Bytes(other) = found {
@@ -262,7 +262,7 @@ fn placed_words(
     alloc: Global,
     context: &Context<'_, '_>,
     kind: AsmFaultKind,
-    line: &Kept<'_>,
+    line: &KeptLine<'_>,
 ) -> Result<Vec<u8>, AllocError> {
     match kind {
         AsmFaultKind::ByteRange | AsmFaultKind::WordRange => {

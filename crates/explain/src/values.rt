@@ -3,7 +3,7 @@
 ghost use Rattle.std.specs.Prelude.{◌<◌, ◌^◌};
 
 use evaluator::eval;
-use line_parts::{Expr, Item, Kept, Statement, term_of};
+use line_parts::{Expr, Item, KeptLine, Statement, term_of};
 use model::Mode;
 use symbols::Symbols;
 
@@ -90,7 +90,7 @@ fn range_of(mode: Mode) -> Range {
 }
 
 /// The first value of a line that is outside its range.
-pub fn first_outside(line: &Kept<'_>, names: &Symbols) -> Option<Outside> {
+pub fn first_outside(line: &KeptLine<'_>, names: &Symbols) -> Option<Outside> {
     match &line.statement {
         Statement::Bytes(items) => item_outside(items, names, line.address),
         Statement::Words(values) | Statement::WordsHighFirst(values) => {
@@ -110,7 +110,7 @@ pub fn first_outside(line: &Kept<'_>, names: &Symbols) -> Option<Outside> {
 }
 
 /// How many bytes a branch misses its target by, and whether the target is ahead.
-pub fn branch_miss(line: &Kept<'_>, names: &Symbols) -> Option<(u32, bool)> {
+pub fn branch_miss(line: &KeptLine<'_>, names: &Symbols) -> Option<(u32, bool)> {
     let Statement::Instruction(_, operand) = &line.statement else {
         return None;
     };

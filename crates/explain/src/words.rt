@@ -1,6 +1,6 @@
 //! Words put together.
 
-use hexdigits::digits_of_word;
+use formatting::digits_of_address;
 use itoa::Buffer;
 use std::alloc::{AllocError, Global};
 
@@ -56,5 +56,5 @@ pub fn push_count(words: &mut Vec<u8>, number: u32) -> Result<(), AllocError> {
 /// An address in hex.
 pub fn push_address(words: &mut Vec<u8>, address: u32) -> Result<(), AllocError> {
     words.push(b'$')?;
-    words.extend_from_slice(&digits_of_word((address % 65536) as u16))
+    words.extend_from_slice(&digits_of_address((address % 65536) as u16))
 }

@@ -3,12 +3,12 @@ use Rattle.std.proofs.Common.{◌≡◌, ℕ, ◌+◌, ◌<◌, ◌≤◌, List,
 use Rattle.std.specs.Prelude.{map}
 use Rattle.std.proofs.lemmas.List.{drop_all}
 use Rattle.line_parts.specs.declared.statement.Item.{Item}
-use Rattle.line_parts.specs.Seen.{seen_item}
+use Rattle.line_parts.specs.LineViews.{item_view}
 use Rattle.model.specs.Layout.{item_size, items_size}
 
 -- the first of the items that are left, and the others
-pub size_next : (is : List Item) (i : ℕ) (d : Item) → i < length is → items_size (map seen_item (drop i is)) ≡ item_size (seen_item (get_or is i d)) + items_size (map seen_item (drop (i + 1) is))
+pub size_next : (is : List Item) (i : ℕ) (d : Item) → i < length is → items_size (map item_view (drop i is)) ≡ item_size (item_view (get_or is i d)) + items_size (map item_view (drop (i + 1) is))
 size_next is i d below = rw (drop-cons is i d, add-one) refl
 
-pub size_end : (is : List Item) (i : ℕ) → length is ≤ i → items_size (map seen_item (drop i is)) ≡ 0
+pub size_end : (is : List Item) (i : ℕ) → length is ≤ i → items_size (map item_view (drop i is)) ≡ 0
 size_end is i past = rw (drop_all i is past) refl

@@ -1,1 +1,1 @@
-pub mod Sites
+pub mod Placements

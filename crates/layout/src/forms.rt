@@ -1,9 +1,9 @@
 //! Which form an instruction takes.
 
 ghost use Rattle.std.specs.Prelude.{◌≡◌};
-ghost use Rattle.line_parts.specs.Contents.{shown};
-ghost use Rattle.line_parts.specs.Seen.{seen_operand};
-ghost use Rattle.layout.specs.Sites.{direct_form, pointer_form, seen_code, seen_form};
+ghost use Rattle.line_parts.specs.Contents.{map_option};
+ghost use Rattle.line_parts.specs.LineViews.{operand_view};
+ghost use Rattle.layout.specs.Placements.{direct_form, pointer_form, code_view, form_view};
 ghost use Rattle.model.specs.Layout.{absolute_mode, branch_form, either, form_of, in_mode, only};
 ghost use Rattle.model.specs.Layout.{zero_page_mode};
 
@@ -21,7 +21,7 @@ pub enum Form {
 
 /// Returns an instruction in a mode, if the profile has it.
 fn in_mode(profile: Profile, mnemonic: Mnemonic, mode: Mode) -> Option<Code>
-    ensures { shown seen_code result ≡ in_mode profile mnemonic mode }
+    ensures { map_option code_view result ≡ in_mode profile mnemonic mode }
 {
     match encode_in(profile, mnemonic, mode) {
         None => None,
@@ -31,7 +31,7 @@ fn in_mode(profile: Profile, mnemonic: Mnemonic, mode: Mode) -> Option<Code>
 
 /// Returns the form of one mode, if the instruction has it.
 fn only(profile: Profile, mnemonic: Mnemonic, mode: Mode) -> Option<Form>
-    ensures { shown seen_form result ≡ only profile mnemonic mode }
+    ensures { map_option form_view result ≡ only profile mnemonic mode }
 {
     match in_mode(profile, mnemonic, mode) {
         None => None,
@@ -41,7 +41,8 @@ fn only(profile: Profile, mnemonic: Mnemonic, mode: Mode) -> Option<Form>
 
 /// Returns the form of two modes, with those that the instruction has.
 fn either(short: Option<Code>, long: Option<Code>) -> Option<Form>
-    ensures { shown seen_form result ≡ either (shown seen_code short) (shown seen_code long) }
+    ensures { map_option form_view result
+        ≡ either (map_option code_view short) (map_option code_view long) }
 {
     match (short, long) {
         (None, None) => None,
@@ -75,7 +76,7 @@ fn absolute_mode(index: Index) -> Mode
 
 /// Returns a branch's form: its target is an unindexed operand.
 fn branch_form(profile: Profile, mnemonic: Mnemonic, index: Index) -> Option<Form>
-    ensures { shown seen_form result ≡ branch_form profile mnemonic index }
+    ensures { map_option form_view result ≡ branch_form profile mnemonic index }
 {
     match index {
         Index::Unindexed => only(profile, mnemonic, Mode::Rel),
@@ -85,7 +86,7 @@ fn branch_form(profile: Profile, mnemonic: Mnemonic, index: Index) -> Option<For
 
 /// Returns the form for an unmarked operand that may have an index.
 fn direct_form(profile: Profile, mnemonic: Mnemonic, index: Index) -> Option<Form>
-    ensures { shown seen_form result ≡ direct_form profile mnemonic index }
+    ensures { map_option form_view result ≡ direct_form profile mnemonic index }
 {
     match branch_form(profile, mnemonic, index) {
         Some(form) => Some(form),
@@ -99,7 +100,7 @@ fn direct_form(profile: Profile, mnemonic: Mnemonic, index: Index) -> Option<For
 /// Returns the form for a pointer in round brackets: an address, or one in the zero page if the
 /// instruction has no mode for an address.
 fn pointer_form(profile: Profile, mnemonic: Mnemonic) -> Option<Form>
-    ensures { shown seen_form result ≡ pointer_form profile mnemonic }
+    ensures { map_option form_view result ≡ pointer_form profile mnemonic }
 {
     match only(profile, mnemonic, Mode::Ind) {
         Some(form) => Some(form),
@@ -110,7 +111,7 @@ fn pointer_form(profile: Profile, mnemonic: Mnemonic) -> Option<Form>
 /// Returns the form for an operand, if the instruction has one.
 #[tactic(auto, unfolding(model::specs::Layout::form_of))]
 pub fn form_of(profile: Profile, mnemonic: Mnemonic, operand: &Operand<'_>) -> Option<Form>
-    ensures { shown seen_form result ≡ form_of profile mnemonic (seen_operand operand.now) }
+    ensures { map_option form_view result ≡ form_of profile mnemonic (operand_view operand.now) }
 {
     match operand {
         Operand::Absent => only(profile, mnemonic, Mode::Imp),

@@ -2,15 +2,15 @@
 
 ghost use Rattle.std.specs.Prelude.{None, ◌≡◌, ◌+◌, ◌-◌, ◌<◌, ◌≤◌, ◌^◌, ◌*◌, map, max, pos, length};
 ghost use Rattle.std.specs.Prelude.{IfOk};
-ghost use Rattle.line_parts.specs.Trees.{view};
-ghost use Rattle.line_parts.specs.Seen.{seen, seen_item, seen_operand};
+ghost use Rattle.line_parts.specs.TermViews.{term_view};
+ghost use Rattle.line_parts.specs.LineViews.{statement_view, item_view, operand_view};
 ghost use Rattle.line_parts.specs.FewBytes.{IsSmall};
-ghost use Rattle.layout.specs.Sites.{Shows, seen_code, seen_form, site_of};
-ghost use Rattle.line_parts.specs.Contents.{content_by, shown};
-ghost use Rattle.model.specs.Layout.{in_memory, coded_by, length_in, placing, sized, after_room};
-ghost use Rattle.model.specs.Layout.{item_size, items_size, laid, size_of};
+ghost use Rattle.layout.specs.Placements.{Shows, code_view, form_view, placement_of};
+ghost use Rattle.line_parts.specs.Contents.{content_by, map_option};
+ghost use Rattle.model.specs.Layout.{in_memory, code_for, length_in, placing_value, code_by_size, after_room};
+ghost use Rattle.model.specs.Layout.{item_size, items_size, statement_at, size_of};
 ghost use Rattle.model.specs.Value.{eval_of};
-ghost use Rattle.model.specs.Line.{instruction};
+ghost use Rattle.model.specs.SourceLine.{instruction};
 
 use crate::forms::{Form, form_of};
 use evaluator::{Names, eval};
@@ -19,18 +19,18 @@ use model::{AsmFaultKind, ExprFault, Mnemonic, Mode, Profile};
 
 /// How a line's instruction is encoded, if it has one, its byte count, and the next line's address.
 #[derive(Clone, Copy)]
-pub struct Site {
+pub struct Placement {
     pub code: Option<Code>,
     pub count: u32,
     pub next: u32,
 }
 
-impl Site {
+impl Placement {
     /// Returns a line without bytes, and the next line's address.
-    pub fn without_bytes(next: u32) -> Site
+    pub fn without_bytes(next: u32) -> Placement
         ensures { result ≡ record { code = None; count = 0; next = next } }
     {
-        Site {
+        Placement {
             code: None,
             count: 0,
             next,
@@ -38,12 +38,12 @@ impl Site {
     }
 
     /// Returns a line at an address with so many bytes.
-    fn standing(address: u32, code: Option<Code>, count: u32) -> Site
+    fn with_bytes(address: u32, code: Option<Code>, count: u32) -> Placement
         requires near { address < 2 ^ 31 - 510 }
         requires small { count ≤ 510 }
         ensures { result ≡ record { code = code; count = count; next = address + count } }
     {
-        Site {
+        Placement {
             code,
             count,
             next: address + count,
@@ -54,14 +54,18 @@ impl Site {
 /// Returns the value of an expression on a line at an address, or its first fault.
 pub fn value_at<N: Names>(expr: &Expr<'_>, names: &N, address: u32) -> Result<i32, ExprFault>
     requires { address < 2 ^ 31 }
-    ensures { result ≡ eval_of (N.number_of names.now) (pos address) (view expr.now) }
+    ensures { result ≡ eval_of (N.number_of names.now) (pos address) (term_view expr.now) }
 {
     eval(expr, names, address as i32)
 }
 
 /// Chooses between two modes by a value: zero page for 0..255, absolute if a name is not known.
-fn sized(short: Code, long: Code, value: Result<i32, ExprFault>) -> Result<Code, AsmFaultKind>
-    ensures { Shows seen_code result (sized (seen_code short) (seen_code long) value) }
+fn code_by_size(
+    short: Code,
+    long: Code,
+    value: Result<i32, ExprFault>,
+) -> Result<Code, AsmFaultKind>
+    ensures { Shows code_view result (code_by_size (code_view short) (code_view long) value) }
 {
     match value {
         Ok(number) => {
@@ -85,22 +89,22 @@ fn code_of<N: Names>(
     form: Option<Form>,
 ) -> Result<Code, AsmFaultKind>
     requires { address < 2 ^ 31 }
-    ensures { Shows seen_code result (coded_by (N.number_of names.now) address
-        (shown (λ e. view e.now) value.entry) (shown seen_form form)) }
+    ensures { Shows code_view result (code_for (N.number_of names.now) address
+        (map_option (λ e. term_view e.now) value.entry) (map_option form_view form)) }
 {
     match form {
         None => Err(AsmFaultKind::NoSuchForm),
         Some(Form::One(code)) => Ok(code),
         Some(Form::BySize(short, long)) => match value {
             None => Ok(long),
-            Some(value) => sized(short, long, value_at(value, names, address)),
+            Some(value) => code_by_size(short, long, value_at(value, names, address)),
         },
     }
 }
 
 /// Returns the value of an expression that places.
-pub fn placing(value: Result<i32, ExprFault>) -> Result<i32, AsmFaultKind>
-    ensures { result ≡ placing value }
+pub fn placing_value(value: Result<i32, ExprFault>) -> Result<i32, AsmFaultKind>
+    ensures { result ≡ placing_value value }
 {
     match value {
         Ok(number) => Ok(number),
@@ -152,7 +156,7 @@ fn after_room(address: u32, number: i32) -> Result<u32, AsmFaultKind>
 
 /// Returns how many bytes an item has.
 fn item_size(item: &Item<'_>) -> usize
-    ensures { result ≡ item_size (seen_item item.now) }
+    ensures { result ≡ item_size (item_view item.now) }
 {
     match item {
         Item::Value(_) => 1,
@@ -163,8 +167,8 @@ fn item_size(item: &Item<'_>) -> usize
 /// Returns how many bytes items have.
 #[tactic(auto, using(crate::proofs::Sizes::size_next, crate::proofs::Sizes::size_end))]
 fn items_size(items: &[Item<'_>]) -> u32
-    requires { items_size (map seen_item items.now) ≤ 510 }
-    ensures { result ≡ items_size (map seen_item items.now) }
+    requires { items_size (map item_view items.now) ≤ 510 }
+    ensures { result ≡ items_size (map item_view items.now) }
 {
     let mut size = 0u32;
     for item in items {
@@ -174,22 +178,23 @@ fn items_size(items: &[Item<'_>]) -> u32
 }
 
 /// Lays out an instruction at an address.
-#[tactic(auto, unfolding(model::specs::Layout::laid, model::specs::Layout::size_of))]
+#[tactic(auto, unfolding(model::specs::Layout::statement_at, model::specs::Layout::size_of))]
 fn instruct<N: Names>(
     profile: Profile,
     address: u32,
     names: &N,
     mnemonic: Mnemonic,
     operand: &Operand<'_>,
-) -> Result<Site, AsmFaultKind>
+) -> Result<Placement, AsmFaultKind>
     requires { address < 2 ^ 31 - 510 }
-    ensures exact { Shows (site_of address (instruction mnemonic (seen_operand operand.now))) result
-        (laid profile (N.number_of names.now) address
-        (instruction mnemonic (seen_operand operand.now))) }
+    ensures exact { Shows (placement_of address (instruction mnemonic (operand_view operand.now)))
+        result
+        (statement_at profile (N.number_of names.now) address
+        (instruction mnemonic (operand_view operand.now))) }
     ensures near { IfOk result (λ s. s.next ≤ address + 510) }
     ensures small { IfOk result (λ s. s.count ≤ 510) }
     ensures sized { IfOk result (λ s. s.count
-        ≡ size_of (content_by s.code (instruction mnemonic (seen_operand operand.now)))) }
+        ≡ size_of (content_by s.code (instruction mnemonic (operand_view operand.now)))) }
 {
     let code = code_of(
         address,
@@ -197,38 +202,39 @@ fn instruct<N: Names>(
         term_of(operand),
         form_of(profile, mnemonic, operand),
     )?;
-    Ok(Site::standing(address, Some(code), length_in(code.mode)))
+    Ok(Placement::with_bytes(address, Some(code), length_in(code.mode)))
 }
 
 /// Lays out a statement at an address, or returns its layout fault.
-#[tactic(auto, unfolding(model::specs::Layout::laid, model::specs::Layout::size_of))]
-pub fn lay<N: Names>(
+#[tactic(auto, unfolding(model::specs::Layout::statement_at, model::specs::Layout::size_of))]
+pub fn place_statement<N: Names>(
     profile: Profile,
     address: u32,
     names: &N,
     statement: &Statement<'_>,
-) -> Result<Site, AsmFaultKind>
+) -> Result<Placement, AsmFaultKind>
     requires room { address < 2 ^ 31 - 510 }
-    requires small { IsSmall (seen statement.now) }
-    ensures exact { Shows (site_of address (seen statement.now)) result
-        (laid profile (N.number_of names.now) address (seen statement.now)) }
+    requires small { IsSmall (statement_view statement.now) }
+    ensures exact { Shows (placement_of address (statement_view statement.now)) result
+        (statement_at profile (N.number_of names.now) address (statement_view statement.now)) }
     ensures near { IfOk result (λ s. s.next ≤ max (address + 510) 65536) }
     ensures small { IfOk result (λ s. s.count ≤ 510) }
-    ensures sized { IfOk result (λ s. s.count ≡ size_of (content_by s.code (seen statement.now))) }
+    ensures sized { IfOk result (λ s. s.count
+        ≡ size_of (content_by s.code (statement_view statement.now))) }
 {
     match statement {
-        Statement::Nothing | Statement::Finish => Ok(Site::without_bytes(address)),
+        Statement::Nothing | Statement::Finish => Ok(Placement::without_bytes(address)),
         Statement::Origin(value) => {
-            let next = in_memory(placing(value_at(value, names, address))?)?;
-            Ok(Site::without_bytes(next))
+            let next = in_memory(placing_value(value_at(value, names, address))?)?;
+            Ok(Placement::without_bytes(next))
         }
-        Statement::Bytes(items) => Ok(Site::standing(address, None, items_size(items))),
+        Statement::Bytes(items) => Ok(Placement::with_bytes(address, None, items_size(items))),
         Statement::Words(values) | Statement::WordsHighFirst(values) => {
-            Ok(Site::standing(address, None, 2 * values.len() as u32))
+            Ok(Placement::with_bytes(address, None, 2 * values.len() as u32))
         }
         Statement::Reserve(value) => {
-            let next = after_room(address, placing(value_at(value, names, address))?)?;
-            Ok(Site::without_bytes(next))
+            let next = after_room(address, placing_value(value_at(value, names, address))?)?;
+            Ok(Placement::without_bytes(next))
         }
         Statement::Instruction(mnemonic, operand) => instruct(
             profile, address, names, *mnemonic, operand,

@@ -2,11 +2,11 @@
 use Rattle.std.specs.Prelude.{Option, Some, None}
 use Rattle.line_parts.specs.declared.code.Code.{Code}
 use Rattle.model.specs.Layout.{Content, no_bytes, byte_list, word_list, word_list_high_first, code, term_of}
-use Rattle.model.specs.Line.{Statement, nothing, origin, bytes, words, words_high_first, reserve, finish, instruction, Line, labelled, definition}
+use Rattle.model.specs.SourceLine.{Statement, nothing, origin, bytes, words, words_high_first, reserve, finish, instruction, Line, labelled, definition}
 
-abbrev pub shown : {A B : Type 0} → (A → B) → Option A → Option B
-shown f None = None
-shown f (Some a) = Some (f a)
+abbrev pub map_option : {A B : Type 0} → (A → B) → Option A → Option B
+map_option f None = None
+map_option f (Some a) = Some (f a)
 
 abbrev pub code_by : Option Code → Statement → Content
 code_by (Some c) (instruction m operand) = code c.opcode c.mode (term_of operand)

@@ -1,7 +1,7 @@
 -- Lines of few bytes. A line that is read is one, since it has at most 255 bytes itself.
 use Rattle.std.specs.Prelude.{◌≤◌, ⊤, length}
 use Rattle.model.specs.Layout.{items_size}
-use Rattle.model.specs.Line.{Statement, nothing, origin, bytes, words, words_high_first, reserve, finish, instruction, Line, labelled, definition}
+use Rattle.model.specs.SourceLine.{Statement, nothing, origin, bytes, words, words_high_first, reserve, finish, instruction, Line, labelled, definition}
 
 -- What a statement denotes has at most 510 bytes.
 abbrev pub IsSmall : Statement → Type 0

@@ -1,7 +1,7 @@
 pub mod Lexemes
-pub mod Trees
-pub mod Seen
+pub mod TermViews
+pub mod LineViews
 pub mod FewBytes
 pub mod Contents
-pub mod Kept
-pub mod Located
+pub mod KeptLines
+pub mod LineFaults

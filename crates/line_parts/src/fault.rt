@@ -36,7 +36,7 @@ impl<T: Drop> From<AllocFailed<T>> for LineError {
 
 impl From<LineFault> for LineError {
     ghost use Rattle.std.specs.Prelude.{◌≡◌};
-    ghost use Rattle.line_parts.specs.Seen.{error_of};
+    ghost use Rattle.line_parts.specs.LineViews.{error_of};
 
     ghost from_gives = { λ fault e. e ≡ error_of fault };
 

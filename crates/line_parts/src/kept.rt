@@ -1,7 +1,7 @@
 //! What the second pass needs of a line that denotes bytes.
 
 ghost use Rattle.std.specs.Prelude.{◌≡◌, ◌<◌, ◌≤◌, ◌-◌, ◌^◌};
-ghost use Rattle.line_parts.specs.Seen.{seen};
+ghost use Rattle.line_parts.specs.LineViews.{statement_view};
 ghost use Rattle.line_parts.specs.Contents.{content_by};
 ghost use Rattle.model.specs.Layout.{size_of};
 
@@ -10,7 +10,7 @@ use crate::statement::Statement;
 
 /// A line that denotes bytes.
 #[derive(Drop)]
-pub struct Kept<'a> {
+pub struct KeptLine<'a> {
     /// Its number, counted from 1.
     pub number: u32,
     pub address: u32,
@@ -21,5 +21,5 @@ pub struct Kept<'a> {
     pub statement: Statement<'a>,
     ghost near: { address < 2 ^ 31 - 510 },
     ghost small: { count ≤ 510 },
-    ghost sized: { count ≡ size_of (content_by code (seen statement)) },
+    ghost sized: { count ≡ size_of (content_by code (statement_view statement)) },
 }

@@ -15,8 +15,8 @@ mod tree;
 
 pub use code::Code;
 pub use fault::LineError;
-pub use kept::Kept;
-pub use refusal::{OUT_OF_MEMORY, located};
+pub use kept::KeptLine;
+pub use refusal::{OUT_OF_MEMORY, fault_on_line};
 pub use statement::{Item, Line, Operand, Statement, term_of};
 pub use token::Token;
 pub use tree::Expr;

@@ -1,7 +1,7 @@
 //! The fault of a rejected line.
 
 ghost use Rattle.std.specs.Prelude.{◌≡◌};
-ghost use Rattle.line_parts.specs.Located.{located};
+ghost use Rattle.line_parts.specs.LineFaults.{fault_on_line};
 
 use crate::fault::LineError;
 use model::{AsmFault, AsmFaultKind};
@@ -13,8 +13,8 @@ pub const OUT_OF_MEMORY: AsmFault = AsmFault {
 };
 
 /// Returns the fault of a line with a number, or `OUT_OF_MEMORY` if an allocation failed.
-pub fn located(number: u32, error: LineError) -> AsmFault
-    ensures { result ≡ located number error }
+pub fn fault_on_line(number: u32, error: LineError) -> AsmFault
+    ensures { result ≡ fault_on_line number error }
 {
     match error {
         LineError::Memory => OUT_OF_MEMORY,

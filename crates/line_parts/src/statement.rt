@@ -1,9 +1,9 @@
 //! What a line says, as it was read.
 
 ghost use Rattle.std.specs.Prelude.{◌≡◌};
-ghost use Rattle.line_parts.specs.Contents.{shown};
-ghost use Rattle.line_parts.specs.Seen.{seen_operand};
-ghost use Rattle.line_parts.specs.Trees.{view};
+ghost use Rattle.line_parts.specs.Contents.{map_option};
+ghost use Rattle.line_parts.specs.LineViews.{operand_view};
+ghost use Rattle.line_parts.specs.TermViews.{term_view};
 ghost use Rattle.model.specs.Layout.{term_of};
 
 use crate::tree::Expr;
@@ -73,7 +73,7 @@ pub enum Line<'a> {
 
 /// Returns an operand's expression, if it has one.
 pub fn term_of<'s, 'a>(operand: &'s Operand<'a>) -> Option<&'s Expr<'a>>
-    ensures { shown (λ e. view e.now) result ≡ term_of (seen_operand operand.now) }
+    ensures { map_option (λ e. term_view e.now) result ≡ term_of (operand_view operand.now) }
 {
     match operand {
         Operand::Absent => None,

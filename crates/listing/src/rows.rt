@@ -3,11 +3,10 @@
 ghost use Rattle.std.specs.Prelude.{◌≡◌, ◌+◌, ◌-◌, ◌≤◌, ◌<◌, ◌^◌, ◌++◌, ◌∷◌, OnErr, OnOk, length};
 ghost use Rattle.std.specs.Prelude.{take};
 ghost use Rattle.model.specs.Listing.{group_row, group_rows, line_rows, name_row, number_text};
-ghost use Rattle.model.specs.Listing.{separated};
+ghost use Rattle.model.specs.Listing.{with_spaces};
 ghost use Rattle.model.specs.Text.{spaced_bytes};
 
-use columns::{address_text, byte_columns};
-use hexdigits::{digits_of, digits_of_word};
+use formatting::{address_text, byte_columns, digits_of, digits_of_address};
 use itoa::Buffer;
 use std::alloc::AllocError;
 
@@ -15,7 +14,7 @@ use std::alloc::AllocError;
 #[tactic(auto, unfolding(model::specs::Text::spaced_bytes))]
 fn push_separated(out: &mut Vec<u8>, bytes: &[u8]) -> Result<(), AllocError>
     requires { length bytes.now ≤ 3 }
-    ensures rows { OnOk result (out.new.items ≡ out.old.items ++ separated bytes.now) }
+    ensures rows { OnOk result (out.new.items ≡ out.old.items ++ with_spaces bytes.now) }
     ensures kept { take (length out.old.items) out.new.items ≡ out.old.items }
 {
     match bytes {
@@ -117,7 +116,7 @@ fn push_number(out: &mut Vec<u8>, number: i32) -> Result<(), AllocError>
     ensures kept { take (length out.old.items) out.new.items ≡ out.old.items }
 {
     if number >= 0 && number < 65536 {
-        let [a, b, c, d] = digits_of_word(number as u16);
+        let [a, b, c, d] = digits_of_address(number as u16);
         return out.extend_from_slice(&[b'$', a, b, c, d]);
     }
     out.extend_from_slice(Buffer::new().format(number).as_bytes())

@@ -18,10 +18,10 @@ use Rattle.model.specs.FaultNames.{source_fault_number}
 use Rattle.model.specs.Token.{is_blank, is_word_byte}
 use Rattle.model.specs.Value.{Numbers}
 use Rattle.model.specs.Names.{Definitions, number_in}
-use Rattle.model.specs.Line.{Statement, nothing, origin, bytes, words, words_high_first, reserve, finish, instruction, Line, labelled, definition, read_line}
-use Rattle.model.specs.Layout.{Fixed, Placed, Standing, no_bytes, is_defined, layout_of}
+use Rattle.model.specs.SourceLine.{Statement, nothing, origin, bytes, words, words_high_first, reserve, finish, instruction, Line, labelled, definition, read_line}
+use Rattle.model.specs.Layout.{Context, PlacedLine, PlacedAndContext, no_bytes, is_defined, layout_of}
 use Rattle.model.specs.Bytes.{line_bytes, value_fault}
-use Rattle.model.specs.Source.{most_bytes, nothing_fixed, read_lines}
+use Rattle.model.specs.Source.{most_bytes, first_context, read_lines}
 
 -- ---- a line with a fault, mended
 
@@ -47,13 +47,13 @@ first_word line = word_at (drop (prefix_len is_blank line) line)
 
 -- The names after a line that was read and has a fault: its label is defined at its address, unless
 -- an earlier line defines it.
-unfoldable pub names_left : Fixed → Line → Definitions
+unfoldable pub names_left : Context → Line → Definitions
 names_left before (labelled None s) = before.names
 names_left before (labelled (Some name) s) = if is_defined before.names (Some name)
     then before.names else before.names ++ (name, pos before.address) ∷ []
 names_left before (definition name e) = before.names
 
-abbrev pub names_read : Fixed → Result Line AsmFaultKind → Definitions
+abbrev pub names_read : Context → Result Line AsmFaultKind → Definitions
 names_read before (Ok l) = names_left before l
 names_read before (Err kind) = before.names
 
@@ -63,7 +63,7 @@ with_word numbered word names = if numbered && not (is_defined names (Some word)
     then names ++ (word, pos 0) ∷ [] else names
 
 -- What is fixed after a mended line.
-unfoldable pub mended : Mending → Fixed → List ℕ → Fixed
+unfoldable pub mended : Mending → Context → List ℕ → Context
 mended m before line = record {
   profile = before.profile;
   address = before.address + m.bytes;
@@ -77,7 +77,7 @@ mended m before line = record {
 -- one, and whether it is a `*=`.
 pub record Found : Type 0 where
   pub kind : Option AsmFaultKind
-  pub place : Placed
+  pub place : PlacedLine
   pub begins : Bool
 
 abbrev pub is_origin : Statement → Bool
@@ -98,7 +98,7 @@ abbrev pub begins_read : Result Line AsmFaultKind → Bool
 begins_read (Ok l) = begins_line l
 begins_read (Err kind) = false
 
-abbrev pub found_line : Fixed → List ℕ → Result Standing AsmFaultKind → Found
+abbrev pub found_line : Context → List ℕ → Result PlacedAndContext AsmFaultKind → Found
 found_line before line (Ok s)
     = record { kind = None; place = s.0; begins = begins_read (read_line before.profile line) }
 found_line before line (Err kind) = record {
@@ -108,16 +108,16 @@ found_line before line (Err kind) = record {
 }
 
 -- What is fixed after a line: as it says, or mended.
-abbrev pub fixed_after : Mending → Fixed → List ℕ → Result Standing AsmFaultKind → Fixed
+abbrev pub fixed_after : Mending → Context → List ℕ → Result PlacedAndContext AsmFaultKind → Context
 fixed_after m before line (Ok s) = s.1
 fixed_after m before line (Err kind) = mended m before line
 
-abbrev pub found_lines : Mending → Fixed → List (List ℕ) → List Found
+abbrev pub found_lines : Mending → Context → List (List ℕ) → List Found
 found_lines m before [] = []
 found_lines m before (line ∷ lines) = found_line before line (layout_of before line)
     ∷ found_lines m (fixed_after m before line (layout_of before line)) lines
 
-abbrev pub fixed_by : Mending → Fixed → List (List ℕ) → Fixed
+abbrev pub fixed_by : Mending → Context → List (List ℕ) → Context
 fixed_by m before [] = before
 fixed_by m before (line ∷ lines)
     = fixed_by m (fixed_after m before line (layout_of before line)) lines
@@ -143,13 +143,13 @@ abbrev pub nothing_made : Made
 nothing_made = record { image = empty_image; moved = false }
 
 -- A line's value fault, but none of place where it could be moved.
-unfoldable pub value_kind : Map → Numbers → Made → Placed → Option AsmFaultKind
+unfoldable pub value_kind : Map → Numbers → Made → PlacedLine → Option AsmFaultKind
 value_kind bus_map numbers made p = if made.moved
     then but_of_place (value_fault bus_map numbers made.image p)
     else value_fault bus_map numbers made.image p
 
 -- The bytes of a line that has no fault and could not be moved stand in the image.
-unfoldable pub image_after : Numbers → Made → Placed → Option AsmFaultKind → List (Option ℕ)
+unfoldable pub image_after : Numbers → Made → PlacedLine → Option AsmFaultKind → List (Option ℕ)
 image_after numbers made p None = if made.moved then made.image
     else with_bytes made.image p.address (line_bytes numbers p)
 image_after numbers made p (Some kind) = made.image
@@ -178,8 +178,8 @@ judged_found bus_map numbers made (f ∷ fs) =
 -- All lines judged, those with a fault mended so.
 unfoldable pub judged_lines : Map → Mending → List (List ℕ) → List Judged
 judged_lines bus_map m lines =
-    judged_found bus_map (number_in (fixed_by m (nothing_fixed bus_map.profile) lines).names)
-    nothing_made (found_lines m (nothing_fixed bus_map.profile) lines)
+    judged_found bus_map (number_in (fixed_by m (first_context bus_map.profile) lines).names)
+    nothing_made (found_lines m (first_context bus_map.profile) lines)
 
 -- ---- what is told
 

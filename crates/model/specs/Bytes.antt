@@ -8,8 +8,8 @@ use Rattle.model.specs.Image.{has_byte, with_bytes}
 use Rattle.model.specs.FaultNames.{source_fault_number}
 use Rattle.model.specs.Expression.{Term}
 use Rattle.model.specs.Value.{Numbers, eval_of}
-use Rattle.model.specs.Line.{Item, value, string}
-use Rattle.model.specs.Layout.{Fixed, Placed, Content, no_bytes, byte_list, word_list, word_list_high_first, code, size_of, layout_of, ◌>>>◌}
+use Rattle.model.specs.SourceLine.{Item, value, string}
+use Rattle.model.specs.Layout.{Context, PlacedLine, Content, no_bytes, byte_list, word_list, word_list_high_first, code, size_of, layout_of, ◌>>>◌}
 use Rattle.model.specs.declared.expression.ExprFault.{ExprFault}
 use Rattle.model.specs.declared.expression.ExprFault.TheVariants as expression
 use Rattle.model.specs.declared.instruction.Mode.{Mode}
@@ -119,7 +119,7 @@ abbrev pub kinds_in : List BytesOrFault → List (Option AsmFaultKind)
 kinds_in pieces = map kind_in pieces
 
 -- The bytes of a line without a value fault.
-unfoldable pub line_bytes : Numbers → Placed → List ℕ
+unfoldable pub line_bytes : Numbers → PlacedLine → List ℕ
 line_bytes numbers p = flat_map bytes_in (pieces_of numbers p.address p.content)
 
 -- ---- faults
@@ -159,14 +159,14 @@ lowest [] = None
 lowest (k ∷ ks) = lower k (lowest ks)
 
 -- The value fault of a line after the lines that make an image, if it has one.
-unfoldable pub value_fault : Map → Numbers → List (Option ℕ) → Placed → Option AsmFaultKind
+unfoldable pub value_fault : Map → Numbers → List (Option ℕ) → PlacedLine → Option AsmFaultKind
 value_fault bus_map numbers image p =
     lowest (kinds_in (pieces_of numbers p.address p.content)
     ++ place_kinds bus_map image p.address (size_of p.content))
 
 -- These lines, after those that make an image, have no value fault, and with their bytes they make
 -- another image.
-abbrev pub Makes : Map → Numbers → List (Option ℕ) → List Placed → List (Option ℕ) → Type 0
+abbrev pub Makes : Map → Numbers → List (Option ℕ) → List PlacedLine → List (Option ℕ) → Type 0
 Makes bus_map numbers image [] final = final ≡ image
 Makes bus_map numbers image (p ∷ ps) final = (value_fault bus_map numbers image p ≡ None)
     × Makes bus_map numbers (with_bytes image p.address (line_bytes numbers p)) ps final
@@ -174,6 +174,6 @@ Makes bus_map numbers image (p ∷ ps) final = (value_fault bus_map numbers imag
 -- A line that is laid out and has no value fault has as many bytes as its size says.
 abbrev pub BytesFillTheirSize : Type 0
 BytesFillTheirSize = (bus_map : Map) (numbers : Numbers) (image : List (Option ℕ))
-    (before next : Fixed) (line : List ℕ) (p : Placed)
+    (before next : Context) (line : List ℕ) (p : PlacedLine)
     → layout_of before line ≡ Ok (p, next) → value_fault bus_map numbers image p ≡ None
     → length (line_bytes numbers p) ≡ size_of p.content

@@ -3,11 +3,11 @@ use Rattle.std.specs.Prelude.{◌≡◌, ℕ, ◌+◌, ◌-◌, ◌<◌, ◌≤�
 use Rattle.model.specs.State.{State}
 use Rattle.model.specs.Event.{event_of}
 use Rattle.model.specs.Step.{step}
-use Rattle.model.specs.Session.{Session, appended, keep_last}
+use Rattle.model.specs.Session.{Session, with_state, keep_last}
 use Rattle.model.specs.Run.{after_run, run_end}
 use Rattle.model.specs.Back.{back_of}
-use Rattle.model.specs.Tables.{break_set, break_cleared, watch_set, watch_cleared}
-use Rattle.model.specs.Transcript.{after_event, served}
+use Rattle.model.specs.Breakpoints.{break_set, break_cleared, watch_set, watch_cleared}
+use Rattle.model.specs.Transcript.{after_event, serving}
 use Rattle.model.specs.declared.event.Event.{Event}
 use Rattle.model.specs.declared.event.EventFault.{EventFault}
 use Rattle.model.specs.declared.session_fault.SessionFault.{SessionFault}
@@ -60,12 +60,12 @@ abbrev pub past_of : Session → Past
 past_of s = record { states = s.earlier; held = length s.earlier }
 
 -- An accepted event adds one state, and the history holds one more, up to its size.
-abbrev pub left_behind : Session → Past → Past
-left_behind s past
+abbrev pub past_with_current : Session → Past → Past
+past_with_current s past
     = record { states = past.states ++ s.current ∷ []; held = min s.history (past.held + 1) }
 
 abbrev pub past_after_event : Session → Result State EventFault → Past → Past
-past_after_event s (Ok state) past = left_behind s past
+past_after_event s (Ok state) past = past_with_current s past
 past_after_event s (Err fault) past = past
 
 -- So does each step of a run, up to one that is rejected.
@@ -76,7 +76,7 @@ past_if_made (Err fault) past rest = past
 unfoldable pub past_after_steps : ℕ → Session → Past → Past
 past_after_steps zero s past = past
 past_after_steps (suc k) s past = past_if_made (step s.current) past
-    (λ state. past_after_steps k (appended s state) (left_behind s past))
+    (λ state. past_after_steps k (with_state s state) (past_with_current s past))
 
 -- Undoing k events removes the last k states, if the history holds them.
 unfoldable pub past_after_back : ℕ → Past → Past
@@ -126,4 +126,4 @@ BackIsExactAmongCalls = (s : Session) (calls : List Call) (k : ℕ) → length s
 -- holds after any lines too.
 abbrev pub LinesAreCalls : Type 0
 LinesAreCalls = (s : Session) (lines : List (List ℕ))
-    → (calls : List Call) × ((served s lines).session ≡ after_calls s calls)
+    → (calls : List Call) × ((serving s lines).session ≡ after_calls s calls)

@@ -15,20 +15,20 @@ goes_on [] = false
 goes_on (b ∷ bs) = if b == 32 then false else true
 
 -- A byte put before some words: it belongs to the first of them, or is a word of its own.
-abbrev pub attached : ℕ → Bool → List (List ℕ) → List (List ℕ)
-attached b false ws = (b ∷ []) ∷ ws
-attached b true [] = (b ∷ []) ∷ []
-attached b true (w ∷ ws) = (b ∷ w) ∷ ws
+abbrev pub with_byte_before : ℕ → Bool → List (List ℕ) → List (List ℕ)
+with_byte_before b false ws = (b ∷ []) ∷ ws
+with_byte_before b true [] = (b ∷ []) ∷ []
+with_byte_before b true (w ∷ ws) = (b ∷ w) ∷ ws
 
 -- The words of a line, which spaces alone separate; spaces may lead and trail.
 abbrev pub words_of : List ℕ → List (List ℕ)
 words_of [] = []
-words_of (b ∷ bs) = if b == 32 then words_of bs else attached b (goes_on bs) (words_of bs)
+words_of (b ∷ bs) = if b == 32 then words_of bs else with_byte_before b (goes_on bs) (words_of bs)
 
 -- A line without the spaces in front of it.
-abbrev pub unspaced : List ℕ → List ℕ
-unspaced [] = []
-unspaced (b ∷ bs) = if b == 32 then unspaced bs else b ∷ bs
+abbrev pub without_spaces : List ℕ → List ℕ
+without_spaces [] = []
+without_spaces (b ∷ bs) = if b == 32 then without_spaces bs else b ∷ bs
 
 -- The bytes after the first word of some bytes that begin with one.
 abbrev pub after_word : List ℕ → List ℕ
@@ -37,7 +37,7 @@ after_word (b ∷ bs) = if b == 32 then b ∷ bs else after_word bs
 
 -- The bytes after the first word of a line.
 abbrev pub rest_of : List ℕ → List ℕ
-rest_of line = after_word (unspaced line)
+rest_of line = after_word (without_spaces line)
 
 -- ---- numbers
 
@@ -221,7 +221,7 @@ asm_command None text = Bad
 
 -- The text of `asm`: the rest of the line after the address and its spaces.
 abbrev pub text_of : List ℕ → List ℕ
-text_of line = unspaced (rest_of (rest_of line))
+text_of line = without_spaces (rest_of (rest_of line))
 
 -- ---- lines
 

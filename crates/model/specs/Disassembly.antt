@@ -1,15 +1,15 @@
 -- Memory as text: rows of an address, the bytes of an instruction and its text. Source: mos65.
 use Rattle.std.specs.Prelude.{ℕ, zero, suc, ◌+◌, nat_le, if◌then◌else◌, List, [], ◌∷◌, ◌++◌, take, drop}
 use Rattle.model.specs.declared.instruction.Profile.{Profile}
-use Rattle.model.specs.Text.{hex_word}
-use Rattle.model.specs.Instruction.{TextRow, row_of}
-use Rattle.model.specs.Listing.{padded, separated}
+use Rattle.model.specs.Text.{hex_address}
+use Rattle.model.specs.InstructionText.{TextRow, row_of}
+use Rattle.model.specs.Listing.{with_padding, with_spaces}
 
 -- The address of a row, its bytes in 8 columns and its text, with two spaces between them.
 unfoldable pub row_line : ℕ → List ℕ → TextRow → List ℕ
 row_line address bytes row =
-    hex_word address
-    ++ 32 ∷ 32 ∷ (padded (separated (take row.len bytes)) ++ 32 ∷ 32 ∷ (row.text ++ 10 ∷ []))
+    hex_address address
+    ++ 32 ∷ 32 ∷ (with_padding (with_spaces (take row.len bytes)) ++ 32 ∷ 32 ∷ (row.text ++ 10 ∷ []))
 
 -- The bytes from an address on that an instruction can have: three, or those up to $FFFF.
 abbrev pub bytes_from : List ℕ → ℕ → List ℕ

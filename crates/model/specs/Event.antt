@@ -1,7 +1,7 @@
 -- Events, and the state in which a machine starts.
 use Rattle.std.specs.Prelude.{ℕ, ◌+◌, Bool, true, false, ◌||◌, ◌==◌, nat_lt, nat_le, if◌then◌else◌, List, [], ◌∷◌, ◌++◌, length, take, Option, Result, Ok, Err}
-use Rattle.model.specs.State.{Map, Bus, State, console_size, is_port, stored, loaded_bus}
-use Rattle.model.specs.Operand.{word_at}
+use Rattle.model.specs.State.{Map, Bus, State, console_size, is_port, bus_with_byte, loaded_bus}
+use Rattle.model.specs.Operand.{address_at}
 use Rattle.model.specs.Effect.{flags_of_byte}
 use Rattle.model.specs.Step.{most_cycles, step}
 use Rattle.model.specs.declared.registers.Regs.{Regs}
@@ -28,9 +28,9 @@ meets_port map address [] = false
 meets_port map address (byte ∷ bytes) = is_port map address || meets_port map (address + 1) bytes
 
 -- Bytes put into memory from an address on, one after another.
-abbrev pub patched : ℕ → List ℕ → Bus → Bus
-patched address [] bus = bus
-patched address (byte ∷ bytes) bus = patched (address + 1) bytes (stored bus address byte)
+abbrev pub bus_with_patch : ℕ → List ℕ → Bus → Bus
+bus_with_patch address [] bus = bus
+bus_with_patch address (byte ∷ bytes) bus = bus_with_patch (address + 1) bytes (bus_with_byte bus address byte)
 
 -- A patch is the first of these that applies: rejected with BadLength unless it has 1 to 3 bytes;
 -- rejected with PastEnd if it would go past address 65535; rejected with PortAddress if it would
@@ -40,7 +40,7 @@ patch_of address bytes state =
     if (length bytes == 0) || nat_lt 3 (length bytes) then Err BadLength
     else if nat_lt 65536 (address + length bytes) then Err PastEnd
     else if meets_port state.bus.map address bytes then Err PortAddress
-    else Ok (record state { bus = patched address bytes state.bus })
+    else Ok (record state { bus = bus_with_patch address bytes state.bus })
 
 -- All flags clear, all registers 0.
 abbrev pub no_flags : Flags
@@ -57,7 +57,7 @@ reset_state state = record state {
   bus = record state.bus { control = false };
   regs = record state.regs {
     s = 0xFD;
-    pc = word_at state.bus 0xFFFC;
+    pc = address_at state.bus 0xFFFC;
     flags = record state.regs.flags { i = true; d = false };
   };
   nmi = false;

@@ -6,7 +6,7 @@
 --     operand   = "A" | "#" expr | ["!"] expr ["," ("X" | "Y")] | "(" expr ")"
 --               | "(" expr "," "X" ")" | "(" expr ")" "," "Y"
 -- Any word may be a name here; that no name is a reserved word is asked of the whole line
--- afterwards. `Line.antt` reads a line by functions. Laws, which are proved, say that each line of
+-- afterwards. `SourceLine.antt` reads a line by functions. Laws, which are proved, say that each line of
 -- this grammar is read so, and that what is read is such a line.
 use Rattle.std.specs.Prelude.{◌≡◌, ℕ, Bool, true, false, ◌&&◌, List, [], ◌∷◌, ◌++◌, codes, Some, None}
 use Rattle.std.specs.Str.{byte, bytes_eq, str_to_ascii_uppercase}
@@ -18,7 +18,7 @@ use Rattle.model.specs.declared.instruction.Mnemonic.{Mnemonic}
 use Rattle.model.specs.Mnemonics.{mnemonic_named}
 use Rattle.model.specs.Token.{Lexeme}
 use Rattle.model.specs.Expression.{Term, symbol_of, IsExpression}
-use Rattle.model.specs.Line.{Operand, absent, accumulator, immediate, direct, pointer, pointer_by_x, pointer_by_y, Item, value, string, Statement, nothing, origin, bytes, words, words_high_first, reserve, finish, instruction, Line, labelled, definition, is_word, is_alone, string_in, line_of}
+use Rattle.model.specs.SourceLine.{Operand, absent, accumulator, immediate, direct, pointer, pointer_by_x, pointer_by_y, Item, value, string, Statement, nothing, origin, bytes, words, words_high_first, reserve, finish, instruction, Line, labelled, definition, is_word, is_alone, string_in, line_of}
 
 -- ---- tokens
 

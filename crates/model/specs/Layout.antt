@@ -14,11 +14,11 @@ use Rattle.model.specs.declared.instruction.Row.{Row}
 use Rattle.model.specs.declared.source_fault.AsmFaultKind.{AsmFaultKind}
 use Rattle.model.specs.declared.source_fault.AsmFaultKind.TheVariants.{DuplicateName, UnknownHere, NoSuchForm, TooManyNames, OriginRange, ExprRange, DivideByZero}
 use Rattle.model.specs.FaultNames.{source_fault_number}
-use Rattle.model.specs.Table.{row_at, encoded}
+use Rattle.model.specs.OpcodeTable.{row_at, opcode_of}
 use Rattle.model.specs.Expression.{Term}
 use Rattle.model.specs.Value.{Numbers, eval_of}
 use Rattle.model.specs.Names.{Definitions, number_in}
-use Rattle.model.specs.Line.{Operand, absent, accumulator, immediate, direct, pointer, pointer_by_x, pointer_by_y, Item, value, string, Statement, nothing, origin, bytes, words, words_high_first, reserve, finish, instruction, Line, labelled, definition, read_line}
+use Rattle.model.specs.SourceLine.{Operand, absent, accumulator, immediate, direct, pointer, pointer_by_x, pointer_by_y, Item, value, string, Statement, nothing, origin, bytes, words, words_high_first, reserve, finish, instruction, Line, labelled, definition, read_line}
 
 -- A value goes on; a fault ends.
 infixl 10 ◌>>>◌
@@ -63,27 +63,27 @@ absolute_mode X = AbsX
 absolute_mode Y = AbsY
 
 -- How an instruction is encoded: its opcode, and the mode of its operand.
-pub record Coded : Type 0 where
+pub record Encoding : Type 0 where
   pub opcode : ℕ
   pub mode : Mode
 
 -- A mnemonic in a mode, if the table has it.
-abbrev pub in_mode : Profile → Mnemonic → Mode → Option Coded
+abbrev pub in_mode : Profile → Mnemonic → Mode → Option Encoding
 in_mode profile m mode
-    = option_map (λ opcode. record { opcode = opcode; mode = mode }) (encoded profile m mode)
+    = option_map (λ opcode. record { opcode = opcode; mode = mode }) (opcode_of profile m mode)
 
 -- The form of an instruction: one encoding, or two between which the operand's value decides, in
 -- the zero page mode and in the absolute one.
 pub data Form : Type 0 where
-  one : Coded → Form
-  by_size : Coded → Coded → Form
+  one : Encoding → Form
+  by_size : Encoding → Encoding → Form
 
 -- One mode, if the table has it.
 abbrev pub only : Profile → Mnemonic → Mode → Option Form
 only profile m mode = option_map one (in_mode profile m mode)
 
 -- Of two modes, those that the table has.
-abbrev pub either : Option Coded → Option Coded → Option Form
+abbrev pub either : Option Encoding → Option Encoding → Option Form
 either None long = option_map one long
 either (Some short) None = Some (one short)
 either (Some short) (Some long) = Some (by_size short long)
@@ -120,19 +120,19 @@ is_byte (pos n) = nat_le n 255
 is_byte (negsuc n) = false
 
 -- The zero page mode is taken exactly if all names are known and the value is 0..255.
-abbrev pub sized : Coded → Coded → Result ℤ ExprFault → Result Coded AsmFaultKind
-sized short long (Ok v) = if is_byte v then Ok short else Ok long
-sized short long (Err expression.UnknownName) = Ok long
-sized short long (Err expression.Range) = Err ExprRange
-sized short long (Err expression.DivideByZero) = Err DivideByZero
+abbrev pub code_by_size : Encoding → Encoding → Result ℤ ExprFault → Result Encoding AsmFaultKind
+code_by_size short long (Ok v) = if is_byte v then Ok short else Ok long
+code_by_size short long (Err expression.UnknownName) = Ok long
+code_by_size short long (Err expression.Range) = Err ExprRange
+code_by_size short long (Err expression.DivideByZero) = Err DivideByZero
 
 -- How an instruction is encoded, by the value of its operand if that decides.
-abbrev pub coded_by : Numbers → ℕ → Option Term → Option Form → Result Coded AsmFaultKind
-coded_by numbers address e None = Err NoSuchForm
-coded_by numbers address e (Some (one c)) = Ok c
-coded_by numbers address (Some e) (Some (by_size short long))
-    = sized short long (eval_of numbers (pos address) e)
-coded_by numbers address None (Some (by_size short long)) = Ok long
+abbrev pub code_for : Numbers → ℕ → Option Term → Option Form → Result Encoding AsmFaultKind
+code_for numbers address e None = Err NoSuchForm
+code_for numbers address e (Some (one c)) = Ok c
+code_for numbers address (Some e) (Some (by_size short long))
+    = code_by_size short long (eval_of numbers (pos address) e)
+code_for numbers address None (Some (by_size short long)) = Ok long
 
 -- ---- what a line denotes
 
@@ -161,7 +161,7 @@ size_of (word_list_high_first es) = 2 * length es
 size_of (code opcode mode e) = length_in mode
 
 -- A line in its place.
-pub record Placed : Type 0 where
+pub record PlacedLine : Type 0 where
   pub address : ℕ
   pub content : Content
 
@@ -169,23 +169,23 @@ pub record Placed : Type 0 where
 
 -- A statement in its place, and the address of the next line.
 abbrev pub PlacedAndNext : Type 0
-PlacedAndNext = Placed × ℕ
+PlacedAndNext = PlacedLine × ℕ
 
 -- A statement with a size is at its line's address, and the next line comes after it.
-abbrev pub standing : ℕ → Content → PlacedAndNext
-standing address content
+abbrev pub placed_and_next : ℕ → Content → PlacedAndNext
+placed_and_next address content
     = (record { address = address; content = content }, address + size_of content)
 
 -- A statement without bytes, and the address to go on from.
-abbrev pub going_on : ℕ → ℕ → PlacedAndNext
-going_on address next = (record { address = address; content = no_bytes }, next)
+abbrev pub empty_and_next : ℕ → ℕ → PlacedAndNext
+empty_and_next address next = (record { address = address; content = no_bytes }, next)
 
 -- An expression that places: its names have to be known here.
-abbrev pub placing : Result ℤ ExprFault → Result ℤ AsmFaultKind
-placing (Ok v) = Ok v
-placing (Err expression.UnknownName) = Err UnknownHere
-placing (Err expression.Range) = Err ExprRange
-placing (Err expression.DivideByZero) = Err DivideByZero
+abbrev pub placing_value : Result ℤ ExprFault → Result ℤ AsmFaultKind
+placing_value (Ok v) = Ok v
+placing_value (Err expression.UnknownName) = Err UnknownHere
+placing_value (Err expression.Range) = Err ExprRange
+placing_value (Err expression.DivideByZero) = Err DivideByZero
 
 -- An address to go on from.
 abbrev pub in_memory : ℤ → Result ℕ AsmFaultKind
@@ -201,19 +201,19 @@ after_room address (negsuc n) = Err OriginRange
 -- A statement at an address, under the numbers of the names known there, and the next line's
 -- address; or its layout fault. The next line's address is the line's plus its size; after `*= e`
 -- it is the value of e.
-unfoldable pub laid : Profile → Numbers → ℕ → Statement → Result PlacedAndNext AsmFaultKind
-laid profile numbers address nothing = Ok (standing address no_bytes)
-laid profile numbers address (origin e) = placing (eval_of numbers (pos address) e) >>> λ v.
-    in_memory v >>> λ n. Ok (going_on address n)
-laid profile numbers address (bytes items) = Ok (standing address (byte_list items))
-laid profile numbers address (words es) = Ok (standing address (word_list es))
-laid profile numbers address (words_high_first es) = Ok (standing address (word_list_high_first es))
-laid profile numbers address (reserve e) = placing (eval_of numbers (pos address) e) >>> λ v.
-    after_room address v >>> λ n. Ok (going_on address n)
-laid profile numbers address finish = Ok (standing address no_bytes)
-laid profile numbers address (instruction m operand)
-    = coded_by numbers address (term_of operand) (form_of profile m operand) >>> λ c.
-    Ok (standing address (code c.opcode c.mode (term_of operand)))
+unfoldable pub statement_at : Profile → Numbers → ℕ → Statement → Result PlacedAndNext AsmFaultKind
+statement_at profile numbers address nothing = Ok (placed_and_next address no_bytes)
+statement_at profile numbers address (origin e) = placing_value (eval_of numbers (pos address) e) >>> λ v.
+    in_memory v >>> λ n. Ok (empty_and_next address n)
+statement_at profile numbers address (bytes items) = Ok (placed_and_next address (byte_list items))
+statement_at profile numbers address (words es) = Ok (placed_and_next address (word_list es))
+statement_at profile numbers address (words_high_first es) = Ok (placed_and_next address (word_list_high_first es))
+statement_at profile numbers address (reserve e) = placing_value (eval_of numbers (pos address) e) >>> λ v.
+    after_room address v >>> λ n. Ok (empty_and_next address n)
+statement_at profile numbers address finish = Ok (placed_and_next address no_bytes)
+statement_at profile numbers address (instruction m operand)
+    = code_for numbers address (term_of operand) (form_of profile m operand) >>> λ c.
+    Ok (placed_and_next address (code c.opcode c.mode (term_of operand)))
 
 -- ---- the line
 
@@ -223,7 +223,7 @@ most_names = 8192
 
 -- What is fixed before a line: the profile; by the lines before it, its address; and the names that
 -- they define, with their numbers.
-pub record Fixed : Type 0 where
+pub record Context : Type 0 where
   pub profile : Profile
   pub address : ℕ
   pub names : Definitions
@@ -239,23 +239,23 @@ label_at address None = []
 label_at address (Some name) = (name, pos address) ∷ []
 
 -- A line in its place, and what is fixed by it and the lines before it.
-abbrev pub Standing : Type 0
-Standing = Placed × Fixed
+abbrev pub PlacedAndContext : Type 0
+PlacedAndContext = PlacedLine × Context
 
-abbrev pub fixing : Profile → Definitions → PlacedAndNext → Standing
-fixing profile names place
+abbrev pub placed_and_context : Profile → Definitions → PlacedAndNext → PlacedAndContext
+placed_and_context profile names place
     = (place.0, record { profile = profile; address = place.1; names = names })
 
 -- A line after lines that fix so much: its own equation. A name is known if an earlier line defines
 -- it or it is the line's label.
-abbrev pub line_at : Fixed → Line → Result Standing AsmFaultKind
+abbrev pub line_at : Context → Line → Result PlacedAndContext AsmFaultKind
 line_at before (labelled label s) =
     let names = before.names ++ label_at before.address label in
-    laid before.profile (number_in names) before.address s >>> λ place.
-    Ok (fixing before.profile names place)
+    statement_at before.profile (number_in names) before.address s >>> λ place.
+    Ok (placed_and_context before.profile names place)
 line_at before (definition name e) =
-    placing (eval_of (number_in before.names) (pos before.address) e) >>> λ v. Ok (fixing
-    before.profile (before.names ++ (name, v) ∷ []) (going_on before.address before.address))
+    placing_value (eval_of (number_in before.names) (pos before.address) e) >>> λ v. Ok (placed_and_context
+    before.profile (before.names ++ (name, v) ∷ []) (empty_and_next before.address before.address))
 
 -- Whether a name is defined.
 abbrev pub is_defined : Definitions → Option (List ℕ) → Bool
@@ -287,26 +287,26 @@ unless_full true (Err kind) = Err (or_too_many kind)
 -- The same with the rules for names. First, a name has no earlier definition; that fault comes
 -- before all others of the line's operation. Then the lower kind of a name too many and any other
 -- fault.
-unfoldable pub line_fixed : Fixed → Line → Result Standing AsmFaultKind
-line_fixed before l =
+unfoldable pub named_line_at : Context → Line → Result PlacedAndContext AsmFaultKind
+named_line_at before l =
     if is_defined before.names (name_of l) then Err DuplicateName
     else unless_full (is_full before.names (name_of l)) (line_at before l)
 
 -- A line's bytes read and laid out.
-unfoldable pub layout_of : Fixed → List ℕ → Result Standing AsmFaultKind
-layout_of before line = read_line before.profile line >>> λ l. line_fixed before l
+unfoldable pub layout_of : Context → List ℕ → Result PlacedAndContext AsmFaultKind
+layout_of before line = read_line before.profile line >>> λ l. named_line_at before l
 
 -- After lines that fix so much, these lines are in these places, and then so much is fixed: each
 -- one meets its own equation.
-abbrev pub LaidOut : Fixed → List (List ℕ) → List Placed → Fixed → Type 0
-LaidOut before [] placed after = (placed ≡ []) × (after ≡ before)
-LaidOut before (line ∷ lines) [] after = ⊥
-LaidOut before (line ∷ lines) (p ∷ ps) after = (next : Fixed)
-    × (layout_of before line ≡ Ok (p, next)) × LaidOut next lines ps after
+abbrev pub IsLaidOut : Context → List (List ℕ) → List PlacedLine → Context → Type 0
+IsLaidOut before [] placed after = (placed ≡ []) × (after ≡ before)
+IsLaidOut before (line ∷ lines) [] after = ⊥
+IsLaidOut before (line ∷ lines) (p ∷ ps) after = (next : Context)
+    × (layout_of before line ≡ Ok (p, next)) × IsLaidOut next lines ps after
 
 -- A line's address and how many bytes it has.
-abbrev pub extent_of : Placed → ℕ × ℕ
+abbrev pub extent_of : PlacedLine → ℕ × ℕ
 extent_of p = (p.address, size_of p.content)
 
-abbrev pub extents_of : List Placed → List (ℕ × ℕ)
+abbrev pub extents_of : List PlacedLine → List (ℕ × ℕ)
 extents_of placed = map extent_of placed

@@ -5,30 +5,30 @@ use Rattle.std.specs.List.{flat_map}
 use Rattle.std.specs.Fmt.{signed_decimal}
 use Rattle.model.specs.State.{Map}
 use Rattle.model.specs.Image.{empty_image}
-use Rattle.model.specs.Text.{hex_byte, hex_word, spaced_bytes}
+use Rattle.model.specs.Text.{hex_byte, hex_address, spaced_bytes}
 use Rattle.model.specs.Names.{Definitions, number_in}
-use Rattle.model.specs.Layout.{Fixed, Placed, LaidOut, extents_of}
+use Rattle.model.specs.Layout.{Context, PlacedLine, IsLaidOut, extents_of}
 use Rattle.model.specs.Bytes.{Makes}
-use Rattle.model.specs.Source.{nothing_fixed, read_lines, most_bytes}
+use Rattle.model.specs.Source.{first_context, read_lines, most_bytes}
 
 -- ---- rows
 
 -- An address in four digits. Only a line without bytes can be at 65536.
 abbrev pub address_text : ℕ → List ℕ
-address_text address = if nat_lt address 65536 then hex_word address else codes "----"
+address_text address = if nat_lt address 65536 then hex_address address else codes "----"
 
 -- Bytes with a space between them.
-abbrev pub separated : List ℕ → List ℕ
-separated [] = []
-separated (b ∷ bytes) = hex_byte b ++ spaced_bytes bytes
+abbrev pub with_spaces : List ℕ → List ℕ
+with_spaces [] = []
+with_spaces (b ∷ bytes) = hex_byte b ++ spaced_bytes bytes
 
 -- A text with spaces after it up to 8 columns.
-abbrev pub padded : List ℕ → List ℕ
-padded text = text ++ replicate (8 - length text) 32
+abbrev pub with_padding : List ℕ → List ℕ
+with_padding text = text ++ replicate (8 - length text) 32
 
 -- A further row: up to three bytes.
 abbrev pub group_row : ℕ → List ℕ → List ℕ
-group_row address bytes = address_text address ++ 32 ∷ 32 ∷ (separated bytes ++ 10 ∷ [])
+group_row address bytes = address_text address ++ 32 ∷ 32 ∷ (with_spaces bytes ++ 10 ∷ [])
 
 -- The rows of all further bytes.
 abbrev pub group_rows : ℕ → List ℕ → List ℕ
@@ -42,7 +42,7 @@ group_rows address (a ∷ b ∷ c ∷ bytes)
 abbrev pub line_rows : ℕ → List ℕ → List ℕ → List ℕ
 line_rows address bytes line =
     (address_text address
-    ++ 32 ∷ 32 ∷ (padded (separated (take 3 bytes)) ++ 32 ∷ 32 ∷ (line ++ 10 ∷ [])))
+    ++ 32 ∷ 32 ∷ (with_padding (with_spaces (take 3 bytes)) ++ 32 ∷ 32 ∷ (line ++ 10 ∷ [])))
     ++ group_rows (address + 3) (drop 3 bytes)
 
 -- The rows of lines, each with its address and its bytes.
@@ -55,7 +55,7 @@ lines_rows (line ∷ lines) (p ∷ ps) = line_rows p.0 p.1 line ++ lines_rows li
 
 -- A number as an address if it is one, otherwise in decimal.
 abbrev pub number_text : ℤ → List ℕ
-number_text (pos n) = if nat_lt n 65536 then 36 ∷ hex_word n else signed_decimal (pos n)
+number_text (pos n) = if nat_lt n 65536 then 36 ∷ hex_address n else signed_decimal (pos n)
 number_text (negsuc n) = signed_decimal (negsuc n)
 
 abbrev pub name_row : List ℕ × ℤ → List ℕ
@@ -76,17 +76,17 @@ abbrev pub bytes_at : List (Option ℕ) → ℕ → ℕ → List ℕ
 bytes_at image address count = map (λ c. unwrap_or c 0) (take count (drop address image))
 
 -- A line's address, and its bytes in the image.
-abbrev pub shown_in : List (Option ℕ) → ℕ × ℕ → ℕ × List ℕ
-shown_in image place = (place.0, bytes_at image place.0 place.1)
+abbrev pub address_and_bytes : List (Option ℕ) → ℕ × ℕ → ℕ × List ℕ
+address_and_bytes image place = (place.0, bytes_at image place.0 place.1)
 
 -- The listing of a source under a map: of the lines that are read, with the addresses, bytes and
 -- numbers of what it denotes.
 pub record IsListing (bus_map : Map) (source text : List ℕ) : Type 0 where
   pub size : length source ≤ most_bytes
-  pub placed : List Placed
-  pub all : Fixed
-  pub laid : LaidOut (nothing_fixed bus_map.profile) (read_lines bus_map.profile source) placed all
+  pub placed : List PlacedLine
+  pub all : Context
+  pub laid : IsLaidOut (first_context bus_map.profile) (read_lines bus_map.profile source) placed all
   pub image : List (Option ℕ)
   pub made : Makes bus_map (number_in all.names) empty_image placed image
   pub rows : text ≡ listing_text (read_lines bus_map.profile source)
-      (map (shown_in image) (extents_of placed)) all.names
+      (map (address_and_bytes image) (extents_of placed)) all.names

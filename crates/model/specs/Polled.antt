@@ -4,18 +4,18 @@
 use Rattle.std.specs.Prelude.{◌≡◌, ℕ, ◌+◌, ◌%◌, ◌<◌, ⊤, Bool, false, not, ◌&&◌, ◌||◌, ◌==◌, nat_lt, if◌then◌else◌, List, [], ◌∷◌, ◌++◌, slice_index, Option, Some, None, Result, Ok, Err}
 use Rattle.std.specs.List.{All}
 use Rattle.std.specs.Option.{option_map_or}
-use Rattle.model.specs.State.{Map, Bus, State, is_port, is_rom, input_waits, byte_read, after_read, overflows, stored}
+use Rattle.model.specs.State.{Map, Bus, State, is_port, is_rom, input_waits, byte_read, after_read, overflows, bus_with_byte}
 use Rattle.model.specs.Operand.{effective_address, is_accumulator, is_immediate}
-use Rattle.model.specs.Effect.{after_operand, loaded, modified, modify_a, operation_of, performed, store_value, with_result}
-use Rattle.model.specs.Table.{row_at}
-use Rattle.model.specs.Step.{advanced, entered, irq_asked, most_cycles, stores}
+use Rattle.model.specs.Effect.{after_operand, regs_after_read, modify_sum, modify_a, operation_of, after_operation, store_value, with_result}
+use Rattle.model.specs.OpcodeTable.{row_at}
+use Rattle.model.specs.Step.{past_instruction, interrupt_entry, irq_asked, most_cycles, stores}
 use Rattle.model.specs.Event.{start}
-use Rattle.model.specs.Session.{Session, fresh}
+use Rattle.model.specs.Session.{Session, new_session}
 use Rattle.model.specs.Run.{run_end, run_end_by, after_steps, after_steps_by}
 use Rattle.model.specs.Back.{states}
-use Rattle.model.specs.Lines.{lines_of}
+use Rattle.model.specs.TextLines.{lines_of}
 use Rattle.model.specs.Commands.{command_of}
-use Rattle.model.specs.Transcript.{Answer, Served, answer, answer_to, run_line, served, served_on, stepped_answer, transcript}
+use Rattle.model.specs.Transcript.{Answer, Serving, answer, answer_to, run_line, serving, serving_after, stepped_answer, transcript}
 use Rattle.model.specs.declared.instruction.EffectiveAddress.{EffectiveAddress}
 use Rattle.model.specs.declared.instruction.Row.{Row}
 use Rattle.model.specs.declared.instruction.Mode.{Mode}
@@ -49,7 +49,7 @@ polled_write bus address value =
     if is_port bus.map address then
     (if address == bus.map.port then record bus { out = bus.out ++ value ∷ [] } else bus)
     else if is_rom bus.map address then bus
-    else stored bus address value
+    else bus_with_byte bus address value
 
 -- ---- what the instructions did that read and store by the bus
 
@@ -59,7 +59,7 @@ polled_operand mode bus address = if is_immediate mode then slice_index bus.memo
 
 unfoldable pub polled_load : ReadOp → Mode → EffectiveAddress → State → State
 polled_load op mode place state = record state {
-  regs = loaded op (polled_operand mode state.bus place.address) state.regs;
+  regs = regs_after_read op (polled_operand mode state.bus place.address) state.regs;
   bus = after_operand mode state.bus place.address;
 }
 
@@ -69,41 +69,41 @@ polled_store op place state
 
 unfoldable pub polled_modify : ModifyOp → EffectiveAddress → State → State
 polled_modify op place state =
-    let sum = modified op (polled_read state.bus place.address) state.regs.flags.c in
+    let sum = modify_sum op (polled_read state.bus place.address) state.regs.flags.c in
     record state {
       bus = polled_write (after_read state.bus place.address) place.address sum.value;
       regs = with_result state.regs sum;
     }
 
 -- All others did what they do.
-unfoldable pub polled_performed : Operation → Mode → EffectiveAddress → State → State
-polled_performed (Read op) mode place state = polled_load op mode place state
-polled_performed (Store op) mode place state = polled_store op place state
-polled_performed (Modify op) mode place state = if is_accumulator mode then modify_a op state
+unfoldable pub polled_operation : Operation → Mode → EffectiveAddress → State → State
+polled_operation (Read op) mode place state = polled_load op mode place state
+polled_operation (Store op) mode place state = polled_store op place state
+polled_operation (Modify op) mode place state = if is_accumulator mode then modify_a op state
     else polled_modify op place state
-polled_performed operation mode place state = performed operation mode place state
+polled_operation operation mode place state = after_operation operation mode place state
 
 -- ---- the step
 
-unfoldable pub polled_executed : Row → State → Result State EventFault
-polled_executed row state =
+unfoldable pub polled_execution : Row → State → Result State EventFault
+polled_execution row state =
     let place = effective_address state.bus state.regs row.mode in
     let operation = operation_of row.mnemonic in
     if stores operation row.mode && overflows state.bus place.address then Err ConsoleFull
-    else Ok (polled_performed operation row.mode place (advanced row place state))
+    else Ok (polled_operation operation row.mode place (past_instruction row place state))
 
-unfoldable pub polled_attempted : Option Row → State → Result State EventFault
-polled_attempted None state
+unfoldable pub polled_attempt : Option Row → State → Result State EventFault
+polled_attempt None state
     = Err (Undocumented (slice_index state.bus.memory state.regs.pc) state.regs.pc)
-polled_attempted (Some row) state = polled_executed row state
+polled_attempt (Some row) state = polled_execution row state
 
 -- The IRQ entry was taken if the line is 1 and I is 0.
 unfoldable pub polled_step : State → Result State EventFault
 polled_step state =
     if nat_lt most_cycles state.cycles then Err CyclesFull
-    else if state.nmi then Ok (entered (record state { nmi = false }) 0xFFFA)
-    else if state.irq && not state.regs.flags.i then Ok (entered state 0xFFFE)
-    else polled_attempted
+    else if state.nmi then Ok (interrupt_entry (record state { nmi = false }) 0xFFFA)
+    else if state.irq && not state.regs.flags.i then Ok (interrupt_entry state 0xFFFE)
+    else polled_attempt
     (row_at state.bus.map.profile (slice_index state.bus.memory state.regs.pc)) state
 
 -- ---- the transcript
@@ -115,13 +115,13 @@ polled_answer (Run n) s = answer (run_line (run_end_by polled_step n s))
     (after_steps_by polled_step (run_end_by polled_step n s).did s)
 polled_answer command s = answer_to command s
 
-unfoldable pub polled_served : Session → List (List ℕ) → Served
-polled_served s [] = record { written = []; session = s }
-polled_served s (line ∷ lines)
-    = served_on (polled_answer (command_of line) s) (λ t. polled_served t lines)
+unfoldable pub polled_serving : Session → List (List ℕ) → Serving
+polled_serving s [] = record { written = []; session = s }
+polled_serving s (line ∷ lines)
+    = serving_after (polled_answer (command_of line) s) (λ t. polled_serving t lines)
 
-abbrev pub polled_transcript : Session → List ℕ → Served
-polled_transcript s input = polled_served s (lines_of input)
+abbrev pub polled_transcript : Session → List ℕ → Serving
+polled_transcript s input = polled_serving s (lines_of input)
 
 -- ---- steps that store an odd byte at base+3
 
@@ -138,7 +138,7 @@ unfoldable pub byte_stored : Operation → Mode → EffectiveAddress → State �
 byte_stored (Store op) mode place state = Some (store_value op state.regs)
 byte_stored (Modify op) mode place state =
     if is_accumulator mode then None
-    else Some (modified op (byte_read state.bus place.address) state.regs.flags.c).value
+    else Some (modify_sum op (byte_read state.bus place.address) state.regs.flags.c).value
 byte_stored operation mode place state = None
 
 -- Whether an instruction stores an odd byte at base+3.
@@ -174,11 +174,11 @@ AllSpareControl s (line ∷ lines) =
 abbrev pub PolledSessionsStay : Type 0
 PolledSessionsStay = (s : Session) (lines : List (List ℕ))
     → All (λ (state : State). state.bus.control ≡ false) (states s) → AllSpareControl s lines →
-    served s lines ≡ polled_served s lines
+    serving s lines ≡ polled_serving s lines
 
 -- So the transcript of such a session, from its start on, is unchanged.
 abbrev pub PolledTranscriptsStay : Type 0
 PolledTranscriptsStay = (map : Map) (image : List (Option ℕ)) (history : ℕ) (input : List ℕ) →
-    AllSpareControl (fresh history (start map image)) (lines_of input) →
-    transcript (fresh history (start map image)) input
-    ≡ polled_transcript (fresh history (start map image)) input
+    AllSpareControl (new_session history (start map image)) (lines_of input) →
+    transcript (new_session history (start map image)) input
+    ≡ polled_transcript (new_session history (start map image)) input

@@ -5,7 +5,7 @@ use Rattle.std.specs.List.{list_any}
 use Rattle.std.specs.Option.{option_map, option_map_or, option_or}
 use Rattle.model.specs.State.{State}
 use Rattle.model.specs.Step.{step}
-use Rattle.model.specs.Session.{Session, appended}
+use Rattle.model.specs.Session.{Session, with_state}
 use Rattle.model.specs.declared.event.EventFault.{EventFault}
 use Rattle.model.specs.declared.run_end.Why.{Why}
 use Rattle.model.specs.declared.run_end.Why.TheVariants.{Watch, Break, Limit, Refused}
@@ -23,13 +23,13 @@ lowest [] = None
 lowest (a ∷ rest) = Some (option_map_or (min a) (lowest rest) a)
 
 -- The watched addresses whose byte of memory differs between two states.
-abbrev pub changed : List ℕ → State → State → List ℕ
-changed watches before after
+abbrev pub changed_addresses : List ℕ → State → State → List ℕ
+changed_addresses watches before after
     = filter (λ a. not (slice_index before.bus.memory a == slice_index after.bus.memory a)) watches
 
 -- A step that changes a watched byte: the lowest such address is named.
 unfoldable pub watch_met : List ℕ → State → State → Option Why
-watch_met watches before after = option_map Watch (lowest (changed watches before after))
+watch_met watches before after = option_map Watch (lowest (changed_addresses watches before after))
 
 -- A step that leads to a breakpoint.
 unfoldable pub break_met : List ℕ → State → State → Option Why
@@ -93,7 +93,7 @@ run_end n s = run_end_by step n s
 
 -- The session after k steps, or after as many as are made before a rejected one.
 abbrev pub after_step : Session → Result State EventFault → (Session → Session) → Session
-after_step s (Ok state) rest = rest (appended s state)
+after_step s (Ok state) rest = rest (with_state s state)
 after_step s (Err fault) rest = s
 
 unfoldable pub after_steps_by : OneStep → ℕ → Session → Session
@@ -108,19 +108,19 @@ abbrev pub after_run : ℕ → Session → Session
 after_run n s = after_steps (run_end n s).did s
 
 -- The session with no breakpoint and no watchpoint set.
-abbrev pub bare : Session → Session
-bare s = record s { breaks = []; watches = [] }
+abbrev pub without_stops : Session → Session
+without_stops s = record s { breaks = []; watches = [] }
 
 -- A run that was cut short and continued, with no breakpoint and no watchpoint set, ends where one
 -- run with none set ends, and for its reason.
 abbrev pub CutRunGoesOn : Type 0
 CutRunGoesOn = (n : ℕ) (s : Session) →
-    (after_run (n - (run_end n s).did) (bare (after_run n s)) ≡ after_run n (bare s))
-    × ((run_end (n - (run_end n s).did) (bare (after_run n s))).why ≡ (run_end n (bare s)).why)
+    (after_run (n - (run_end n s).did) (without_stops (after_run n s)) ≡ after_run n (without_stops s))
+    × ((run_end (n - (run_end n s).did) (without_stops (after_run n s))).why ≡ (run_end n (without_stops s)).why)
 
 -- As many steps as a run made, asked for with no breakpoint and no watchpoint set, are made, and
 -- lead to the same states.
 abbrev pub RunCanBeRepeated : Type 0
 RunCanBeRepeated = (n : ℕ) (s : Session) →
-    (run_end (run_end n s).did (bare s) ≡ record { did = (run_end n s).did; why = Limit })
-    × (after_run (run_end n s).did (bare s) ≡ bare (after_run n s))
+    (run_end (run_end n s).did (without_stops s) ≡ record { did = (run_end n s).did; why = Limit })
+    × (after_run (run_end n s).did (without_stops s) ≡ without_stops (after_run n s))

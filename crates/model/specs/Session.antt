@@ -20,8 +20,8 @@ abbrev pub keep_last : ℕ → List State → List State
 keep_last n states = drop (length states - n) states
 
 -- A session that is in a state and holds no other.
-abbrev pub fresh : ℕ → State → Session
-fresh history state = record {
+abbrev pub new_session : ℕ → State → Session
+new_session history state = record {
   earlier = [];
   current = state;
   history = history;
@@ -33,8 +33,8 @@ fresh history state = record {
 
 -- An accepted event makes its state the current one. The state before it is held; if that makes
 -- more than `history`, the oldest is dropped.
-abbrev pub appended : Session → State → Session
-appended s state = record s {
+abbrev pub with_state : Session → State → Session
+with_state s state = record s {
   earlier = keep_last s.history (s.earlier ++ s.current ∷ []);
   current = state;
   number = (s.number + 1) % 1024;

@@ -1,7 +1,7 @@
 -- What a source denotes, and the fault of one that denotes nothing. Source: mos65.
 use Rattle.std.specs.Prelude.{◌≡◌, ℕ, ℤ, pos, ⊤, ◌+◌, ◌<◌, ◌≤◌, ◌⊎◌, Bool, true, false, if◌then◌else◌, List, [], ◌∷◌, ◌++◌, length, Option, Some, None, Result, Ok, Err}
 use Rattle.model.specs.State.{Map}
-use Rattle.model.specs.Lines.{lines_of}
+use Rattle.model.specs.TextLines.{lines_of}
 use Rattle.model.specs.Image.{empty_image}
 use Rattle.model.specs.declared.instruction.Profile.{Profile}
 use Rattle.model.specs.declared.source_fault.AsmFault.{AsmFault}
@@ -9,8 +9,8 @@ use Rattle.model.specs.declared.source_fault.AsmFaultKind.{AsmFaultKind}
 use Rattle.model.specs.declared.source_fault.AsmFaultKind.TheVariants.{TooLarge}
 use Rattle.model.specs.Value.{Numbers, eval_of}
 use Rattle.model.specs.Names.{number_in}
-use Rattle.model.specs.Line.{Statement, nothing, origin, bytes, words, words_high_first, reserve, finish, instruction, Line, labelled, definition, read_line}
-use Rattle.model.specs.Layout.{Fixed, Placed, LaidOut, layout_of}
+use Rattle.model.specs.SourceLine.{Statement, nothing, origin, bytes, words, words_high_first, reserve, finish, instruction, Line, labelled, definition, read_line}
+use Rattle.model.specs.Layout.{Context, PlacedLine, IsLaidOut, layout_of}
 use Rattle.model.specs.Bytes.{Makes, value_fault}
 
 -- The most bytes that a source has.
@@ -48,17 +48,17 @@ read_lines profile source = up_to_end profile (lines_of source)
 -- ---- the denotation
 
 -- Before the first line: its address is 0, and no name is defined.
-abbrev pub nothing_fixed : Profile → Fixed
-nothing_fixed profile = record { profile = profile; address = 0; names = [] }
+abbrev pub first_context : Profile → Context
+first_context profile = record { profile = profile; address = 0; names = [] }
 
 -- A source denotes an image under a map: some assignment of an address to each line and of a number
 -- to each name meets each line's own equation; each line has its bytes, at free addresses that are
 -- in memory and not the port's; and the image is these bytes.
 pub record Denotes (bus_map : Map) (source : List ℕ) (image : List (Option ℕ)) : Type 0 where
   pub size : length source ≤ most_bytes
-  pub placed : List Placed
-  pub all : Fixed
-  pub laid : LaidOut (nothing_fixed bus_map.profile) (read_lines bus_map.profile source) placed all
+  pub placed : List PlacedLine
+  pub all : Context
+  pub laid : IsLaidOut (first_context bus_map.profile) (read_lines bus_map.profile source) placed all
   pub made : Makes bus_map (number_in all.names) empty_image placed image
 
 -- ---- faults
@@ -77,9 +77,9 @@ pub record HasLayoutFault (profile : Profile) (source : List ℕ) (fault : AsmFa
   pub line : List ℕ
   pub back : List (List ℕ)
   pub cut : read_lines profile source ≡ front ++ line ∷ back
-  pub placed : List Placed
-  pub before : Fixed
-  pub laid : LaidOut (nothing_fixed profile) front placed before
+  pub placed : List PlacedLine
+  pub before : Context
+  pub laid : IsLaidOut (first_context profile) front placed before
   pub number : fault.line ≡ length front + 1
   pub kind : layout_of before line ≡ Err fault.kind
 
@@ -87,12 +87,12 @@ pub record HasLayoutFault (profile : Profile) (source : List ℕ) (fault : AsmFa
 -- names.
 pub record HasValueFault (bus_map : Map) (source : List ℕ) (fault : AsmFault) : Type 0 where
   pub size : length source ≤ most_bytes
-  pub placed : List Placed
-  pub all : Fixed
-  pub laid : LaidOut (nothing_fixed bus_map.profile) (read_lines bus_map.profile source) placed all
-  pub front : List Placed
-  pub line : Placed
-  pub back : List Placed
+  pub placed : List PlacedLine
+  pub all : Context
+  pub laid : IsLaidOut (first_context bus_map.profile) (read_lines bus_map.profile source) placed all
+  pub front : List PlacedLine
+  pub line : PlacedLine
+  pub back : List PlacedLine
   pub cut : placed ≡ front ++ line ∷ back
   pub image : List (Option ℕ)
   pub made : Makes bus_map (number_in all.names) empty_image front image
@@ -119,8 +119,8 @@ OneImage = (bus_map : Map) (source : List ℕ) (a b : List (Option ℕ)) → Den
 
 -- No source places its lines or numbers its names in two ways.
 abbrev pub OneAssignment : Type 0
-OneAssignment = (lines : List (List ℕ)) (before : Fixed) (p q : List Placed) (a b : Fixed)
-    → LaidOut before lines p a → LaidOut before lines q b → (p ≡ q) × (a ≡ b)
+OneAssignment = (lines : List (List ℕ)) (before : Context) (p q : List PlacedLine) (a b : Context)
+    → IsLaidOut before lines p a → IsLaidOut before lines q b → (p ≡ q) × (a ≡ b)
 
 -- No source has two faults.
 abbrev pub OneFault : Type 0
@@ -136,23 +136,23 @@ ImageOrFault = (bus_map : Map) (source : List ℕ) (image : List (Option ℕ)) (
 
 -- A label's number is its line's address; a defined name's number is its expression's value under
 -- the names known there.
-abbrev pub NameHolds : Numbers → Fixed → Line → Type 0
+abbrev pub NameHolds : Numbers → Context → Line → Type 0
 NameHolds numbers before (labelled None s) = ⊤
 NameHolds numbers before (labelled (Some name) s) = numbers name ≡ Some (pos before.address)
 NameHolds numbers before (definition name e) = (v : ℤ)
     × (eval_of (number_in before.names) (pos before.address) e ≡ Ok v) × (numbers name ≡ Some v)
 
 -- So it is on each line.
-abbrev pub NamesHold : Numbers → Fixed → List (List ℕ) → List Placed → Type 0
+abbrev pub NamesHold : Numbers → Context → List (List ℕ) → List PlacedLine → Type 0
 NamesHold numbers before [] placed = ⊤
 NamesHold numbers before (line ∷ lines) [] = ⊤
 NamesHold numbers before (line ∷ lines) (p ∷ ps) =
-    (next : Fixed) × (l : Line) × (layout_of before line ≡ Ok (p, next))
+    (next : Context) × (l : Line) × (layout_of before line ≡ Ok (p, next))
     × (read_line before.profile line ≡ Ok l) × NameHolds numbers before l
     × NamesHold numbers next lines ps
 
 -- Under the numbers of all names each name that a line defines has the number that the line gives
 -- it.
 abbrev pub NamesHaveTheirNumbers : Type 0
-NamesHaveTheirNumbers = (lines : List (List ℕ)) (placed : List Placed) (before all : Fixed)
-    → LaidOut before lines placed all → NamesHold (number_in all.names) before lines placed
+NamesHaveTheirNumbers = (lines : List (List ℕ)) (placed : List PlacedLine) (before all : Context)
+    → IsLaidOut before lines placed all → NamesHold (number_in all.names) before lines placed

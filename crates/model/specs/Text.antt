@@ -13,8 +13,8 @@ abbrev pub hex_byte : ℕ → List ℕ
 hex_byte b = hex_digit (b / 16) ∷ hex_digit (b % 16) ∷ []
 
 -- An address as four hex digits.
-abbrev pub hex_word : ℕ → List ℕ
-hex_word w = hex_byte (w / 256) ++ hex_byte (w % 256)
+abbrev pub hex_address : ℕ → List ℕ
+hex_address w = hex_byte (w / 256) ++ hex_byte (w % 256)
 
 -- The register line. The status register is printed with B clear.
 unfoldable pub register_line : State → List ℕ
@@ -22,7 +22,7 @@ register_line s =
     codes "A=" ++ hex_byte s.regs.a ++ codes " X=" ++ hex_byte s.regs.x ++ codes " Y="
     ++ hex_byte s.regs.y
     ++ codes " S=" ++ hex_byte s.regs.s ++ codes " P=" ++ hex_byte (status false s.regs.flags)
-    ++ codes " PC=" ++ hex_word s.regs.pc ++ codes " CYC=" ++ decimal s.cycles ++ 10 ∷ []
+    ++ codes " PC=" ++ hex_address s.regs.pc ++ codes " CYC=" ++ decimal s.cycles ++ 10 ∷ []
 
 -- Bytes, each with a space before it.
 unfoldable pub spaced_bytes : List ℕ → List ℕ
@@ -35,7 +35,7 @@ bytes_between memory first last = take (last + 1 - first) (drop first memory)
 -- A row of memory: the first address and, two spaces after it, the bytes.
 unfoldable pub memory_row : List ℕ → ℕ → ℕ → List ℕ
 memory_row memory first last
-    = hex_word first ++ 32 ∷ spaced_bytes (bytes_between memory first last) ++ 10 ∷ []
+    = hex_address first ++ 32 ∷ spaced_bytes (bytes_between memory first last) ++ 10 ∷ []
 
 -- Rows of 16 bytes from one address to another, the last row maybe shorter.
 unfoldable pub memory_rows : List ℕ → ℕ → ℕ → List ℕ
@@ -55,7 +55,7 @@ output_text out =
 
 -- An address after a space.
 unfoldable pub address_part : ℕ → List ℕ
-address_part address = 32 ∷ hex_word address
+address_part address = 32 ∷ hex_address address
 
 -- The breakpoints in order of setting.
 unfoldable pub breaks_line : List ℕ → List ℕ

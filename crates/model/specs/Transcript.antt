@@ -2,16 +2,16 @@
 use Rattle.std.specs.Prelude.{◌≡◌, ℕ, ◌+◌, Bool, true, false, List, [], ◌∷◌, ◌++◌, length, take, nat_lt, if◌then◌else◌, codes, decimal, Result, Ok, Err}
 use Rattle.model.specs.State.{State, console_size}
 use Rattle.model.specs.Event.{event_of, patch_of}
-use Rattle.model.specs.Session.{Session, appended}
+use Rattle.model.specs.Session.{Session, with_state}
 use Rattle.model.specs.Run.{run_end, after_steps}
 use Rattle.model.specs.Back.{back_of}
-use Rattle.model.specs.Tables.{break_set, break_cleared, watch_set, watch_cleared}
+use Rattle.model.specs.Breakpoints.{break_set, break_cleared, watch_set, watch_cleared}
 use Rattle.model.specs.FaultNames.{event_fault_name, event_fault_number, session_fault_name, session_fault_number, source_fault_name, source_fault_number}
-use Rattle.model.specs.Lines.{lines_of, ended_lines_of}
+use Rattle.model.specs.TextLines.{lines_of, ended_lines_of}
 use Rattle.model.specs.Commands.{command_of}
-use Rattle.model.specs.OneLine.{one_line}
+use Rattle.model.specs.OneLineAssembly.{one_line}
 use Rattle.model.specs.Disassembly.{rows_in}
-use Rattle.model.specs.Text.{hex_byte, hex_word, register_line, memory_rows, output_text, breaks_line}
+use Rattle.model.specs.Text.{hex_byte, hex_address, register_line, memory_rows, output_text, breaks_line}
 use Rattle.model.specs.declared.command.Command.{Command}
 use Rattle.model.specs.declared.command.Command.TheVariants.{Regs, Step, Mem, Out, Set, Patch, Reset, Irq, Nmi, Input, Run, Back, Break, Unbreak, Watch, Unwatch, Breaks, Dis, Asm, Quit, Nothing, Bad}
 use Rattle.model.specs.declared.event.Event.TheVariants as event
@@ -36,7 +36,7 @@ answer text s = record { written = text; session = s; quit = false }
 -- Why an event is rejected, as replies name it.
 unfoldable pub refused_text : EventFault → List ℕ
 refused_text (event_fault.Undocumented opcode pc)
-    = codes "FAULT " ++ hex_byte opcode ++ codes " AT " ++ hex_word pc
+    = codes "FAULT " ++ hex_byte opcode ++ codes " AT " ++ hex_address pc
 refused_text event_fault.ConsoleFull = codes "CONSOLE FULL"
 refused_text event_fault.CyclesFull = codes "CYCLES FULL"
 refused_text fault = event_fault_name fault ++ 32 ∷ decimal (event_fault_number fault)
@@ -47,17 +47,17 @@ fault_line fault = codes "! " ++ refused_text fault ++ 10 ∷ []
 
 -- The reply to a step: the register line after it, or why it was rejected.
 abbrev pub stepped_answer : Session → Result State EventFault → Answer
-stepped_answer s (Ok state) = answer (register_line state) (appended s state)
+stepped_answer s (Ok state) = answer (register_line state) (with_state s state)
 stepped_answer s (Err fault) = answer (fault_line fault) s
 
 -- The reply to another event: OK, or why it was rejected.
 abbrev pub event_answer : Session → Result State EventFault → Answer
-event_answer s (Ok state) = answer (codes "OK\n") (appended s state)
+event_answer s (Ok state) = answer (codes "OK\n") (with_state s state)
 event_answer s (Err fault) = answer (fault_line fault) s
 
 -- The session after an event, whether it was accepted or not.
 abbrev pub after_event : Session → Result State EventFault → Session
-after_event s (Ok state) = appended s state
+after_event s (Ok state) = with_state s state
 after_event s (Err fault) = s
 
 -- The session after some bytes of input, each an event of its own.
@@ -75,8 +75,8 @@ input_answer s bytes =
 
 -- Why a run ended, as its reply names it.
 unfoldable pub why_text : Why → List ℕ
-why_text (why.Watch address) = codes "WATCH " ++ hex_word address
-why_text (why.Break address) = codes "BREAK " ++ hex_word address
+why_text (why.Watch address) = codes "WATCH " ++ hex_address address
+why_text (why.Break address) = codes "BREAK " ++ hex_address address
 why_text why.Limit = codes "LIMIT"
 why_text (why.Refused fault) = refused_text fault
 
@@ -140,29 +140,29 @@ answer_to Nothing s = answer [] s
 answer_to Bad s = answer (codes "? BAD COMMAND\n") s
 
 -- What is written for some lines, and the session then.
-pub record Served : Type 0 where
+pub record Serving : Type 0 where
   pub written : List ℕ
   pub session : Session
 
-abbrev pub after_text : List ℕ → Served → Served
+abbrev pub after_text : List ℕ → Serving → Serving
 after_text text r = record { written = text ++ r.written; session = r.session }
 
-abbrev pub served_on : Answer → (Session → Served) → Served
-served_on a rest = if a.quit then record { written = a.written; session = a.session }
+abbrev pub serving_after : Answer → (Session → Serving) → Serving
+serving_after a rest = if a.quit then record { written = a.written; session = a.session }
     else after_text a.written (rest a.session)
 
 -- The lines one after another, up to one that ends the engine.
-unfoldable pub served : Session → List (List ℕ) → Served
-served s [] = record { written = []; session = s }
-served s (line ∷ lines) = served_on (answer_to (command_of line) s) (λ t. served t lines)
+unfoldable pub serving : Session → List (List ℕ) → Serving
+serving s [] = record { written = []; session = s }
+serving s (line ∷ lines) = serving_after (answer_to (command_of line) s) (λ t. serving t lines)
 
 -- The transcript of a whole input.
-abbrev pub transcript : Session → List ℕ → Served
-transcript s input = served s (lines_of input)
+abbrev pub transcript : Session → List ℕ → Serving
+transcript s input = serving s (lines_of input)
 
 -- The transcript of the complete lines, if the reader failed after them.
-abbrev pub transcript_so_far : Session → List ℕ → Served
-transcript_so_far s input = served s (ended_lines_of input)
+abbrev pub transcript_so_far : Session → List ℕ → Serving
+transcript_so_far s input = serving s (ended_lines_of input)
 
 -- The replies to the input so far begin the transcript, whatever is still to come.
 abbrev pub ToldBegins : Type 0

@@ -16,8 +16,8 @@ cells_of change = take change.count change.cells
 
 -- A bus with the old bytes put back, both lists of the console cut to their old lengths, the old
 -- number of bytes taken, and the old control byte.
-unfoldable pub restored : Change → Bus → Bus
-restored change bus = record bus {
+unfoldable pub bus_before : Change → Bus → Bus
+bus_before change bus = record bus {
   memory = put_cells (cells_of change) bus.memory;
   given = take change.given_len bus.given;
   taken = change.taken;
@@ -39,9 +39,9 @@ pub record CanRestore (change : Change) (bus : Bus) : Type 0 where
   pub port : spares_port change bus ≡ true
 
 -- The state that an undo record leads back to.
-unfoldable pub undone : Undo → State → State
-undone undo state = record {
-  bus = restored undo.change state.bus;
+unfoldable pub state_before : Undo → State → State
+state_before undo state = record {
+  bus = bus_before undo.change state.bus;
   regs = undo.regs;
   irq = undo.irq;
   nmi = undo.nmi;
@@ -51,4 +51,4 @@ undone undo state = record {
 -- A record leads from the state after an event back to the state before it.
 pub record Undoes (undo : Undo) (before after : State) : Type 0 where
   pub fits : CanRestore undo.change after.bus
-  pub back : undone undo after ≡ before
+  pub back : state_before undo after ≡ before

@@ -19,28 +19,28 @@ abbrev pub Numbers : Type 0
 Numbers = List ℕ → Option ℤ
 
 -- A result is in -2^31..2^31-1.
-abbrev pub checked : ℤ → Result ℤ ExprFault
-checked (pos n) = if nat_lt n (2 ^ 31) then Ok (pos n) else Err Range
-checked (negsuc n) = if nat_lt n (2 ^ 31) then Ok (negsuc n) else Err Range
+abbrev pub in_range_or_fault : ℤ → Result ℤ ExprFault
+in_range_or_fault (pos n) = if nat_lt n (2 ^ 31) then Ok (pos n) else Err Range
+in_range_or_fault (negsuc n) = if nat_lt n (2 ^ 31) then Ok (negsuc n) else Err Range
 
 -- A quotient is rounded toward zero.
 abbrev pub quotient : ℤ → ℤ → Result ℤ ExprFault
 quotient a (pos zero) = Err DivideByZero
-quotient a b = checked (int_div a b)
+quotient a b = in_range_or_fault (int_div a b)
 
 -- Both operands are in 0..65535.
-abbrev pub bits : (ℕ → ℕ → ℕ) → ℤ → ℤ → Result ℤ ExprFault
-bits f (pos a) (pos b) = if nat_le a 65535 && nat_le b 65535 then Ok (pos (f a b)) else Err Range
-bits f a b = Err Range
+abbrev pub bitwise : (ℕ → ℕ → ℕ) → ℤ → ℤ → Result ℤ ExprFault
+bitwise f (pos a) (pos b) = if nat_le a 65535 && nat_le b 65535 then Ok (pos (f a b)) else Err Range
+bitwise f a b = Err Range
 
-abbrev pub applied : Operator → ℤ → ℤ → Result ℤ ExprFault
-applied Add a b = checked (a +ℤ b)
-applied Subtract a b = checked (a -ℤ b)
-applied Multiply a b = checked (a *ℤ b)
-applied Divide a b = quotient a b
-applied And a b = bits bit_and a b
-applied Or a b = bits bit_or a b
-applied ExclusiveOr a b = bits bit_xor a b
+abbrev pub operation_value : Operator → ℤ → ℤ → Result ℤ ExprFault
+operation_value Add a b = in_range_or_fault (a +ℤ b)
+operation_value Subtract a b = in_range_or_fault (a -ℤ b)
+operation_value Multiply a b = in_range_or_fault (a *ℤ b)
+operation_value Divide a b = quotient a b
+operation_value And a b = bitwise bit_and a b
+operation_value Or a b = bitwise bit_or a b
+operation_value ExclusiveOr a b = bitwise bit_xor a b
 
 abbrev pub literal_value : Option ℤ → Result ℤ ExprFault
 literal_value None = Err Range
@@ -57,9 +57,9 @@ abbrev pub value_of : Numbers → ℤ → Term → Result ℤ ExprFault
 value_of numbers address (literal v) = literal_value v
 value_of numbers address (name text) = name_value (numbers text)
 value_of numbers address here = Ok address
-value_of numbers address (negated e) = value_of numbers address e >>= λ v. checked (pos 0 -ℤ v)
+value_of numbers address (negated e) = value_of numbers address e >>= λ v. in_range_or_fault (pos 0 -ℤ v)
 value_of numbers address (binary op a b) = value_of numbers address a
-    >>= λ x. value_of numbers address b >>= λ y. applied op x y
+    >>= λ x. value_of numbers address b >>= λ y. operation_value op x y
 value_of numbers address (low e) = value_of numbers address e
     >>= λ v. Ok (int_rem_euclid v (pos 256))
 value_of numbers address (high e) = value_of numbers address e

@@ -6,7 +6,7 @@
 
 ghost use Rattle.std.specs.Prelude.{◌≡◌, ◌+◌, ◌%◌};
 ghost use Rattle.model.specs.Operand.{indexed, jump_target, effective_address, straight, target};
-ghost use Rattle.model.specs.Operand.{word_at, word_in_page};
+ghost use Rattle.model.specs.Operand.{address_at, address_in_page};
 
 use bus::{Bus, Profile};
 pub use model::{EffectiveAddress, Mode, Regs};
@@ -31,25 +31,25 @@ pub fn resolve(bus: &Bus, regs: &Regs, mode: Mode) -> Place
         Mode::Zp => straight(bus.peek(next) as u16),
         Mode::ZpX => straight(bus.peek(next).wrapping_add(regs.x) as u16),
         Mode::ZpY => straight(bus.peek(next).wrapping_add(regs.y) as u16),
-        Mode::Abs => straight(word(bus, next)),
-        Mode::AbsX => indexed(word(bus, next), regs.x),
-        Mode::AbsY => indexed(word(bus, next), regs.y),
+        Mode::Abs => straight(address_at(bus, next)),
+        Mode::AbsX => indexed(address_at(bus, next), regs.x),
+        Mode::AbsY => indexed(address_at(bus, next), regs.y),
         Mode::IndX => {
             let pointer = bus.peek(next).wrapping_add(regs.x);
-            straight(word_in_page(bus, pointer as u16))
+            straight(address_in_page(bus, pointer as u16))
         }
-        Mode::IndY => indexed(word_in_page(bus, bus.peek(next) as u16), regs.y),
-        Mode::Ind => straight(jump_target(bus, word(bus, next))),
+        Mode::IndY => indexed(address_in_page(bus, bus.peek(next) as u16), regs.y),
+        Mode::Ind => straight(jump_target(bus, address_at(bus, next))),
         Mode::Rel => target(regs.pc.wrapping_add(2), bus.peek(next)),
-        Mode::IndZ => straight(word_in_page(bus, bus.peek(next) as u16)),
+        Mode::IndZ => straight(address_in_page(bus, bus.peek(next) as u16)),
     }
 }
 
 /// Returns two bytes of plain memory as an address, the low byte first. $0000 comes after $FFFF.
 #[inline(always)]
-#[tactic(auto, unfolding(model::specs::Operand::word_at))]
-pub fn word(bus: &Bus, address: u16) -> u16
-    ensures { result ≡ word_at bus.now address }
+#[tactic(auto, unfolding(model::specs::Operand::address_at))]
+pub fn address_at(bus: &Bus, address: u16) -> u16
+    ensures { result ≡ address_at bus.now address }
 {
     let low = bus.peek(address);
     let high = bus.peek(address.wrapping_add(1));
@@ -58,9 +58,9 @@ pub fn word(bus: &Bus, address: u16) -> u16
 
 /// Returns two bytes of one page as an address: after the page's last byte comes its first.
 #[inline(always)]
-#[tactic(auto, unfolding(model::specs::Operand::word_in_page))]
-fn word_in_page(bus: &Bus, address: u16) -> u16
-    ensures { result ≡ word_in_page bus.now address }
+#[tactic(auto, unfolding(model::specs::Operand::address_in_page))]
+fn address_in_page(bus: &Bus, address: u16) -> u16
+    ensures { result ≡ address_in_page bus.now address }
 {
     let low = bus.peek(address);
     let high = bus.peek((address & 0xff00) + (address.wrapping_add(1) & 0xff));
@@ -76,8 +76,8 @@ fn jump_target(bus: &Bus, pointer: u16) -> u16
     ensures { result ≡ jump_target bus.now.map.profile bus.now pointer }
 {
     match bus.profile() {
-        Profile::N => word_in_page(bus, pointer),
-        Profile::C => word(bus, pointer),
+        Profile::N => address_in_page(bus, pointer),
+        Profile::C => address_at(bus, pointer),
     }
 }
 

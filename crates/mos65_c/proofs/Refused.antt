@@ -16,13 +16,13 @@ not_refused a f g (inr e) = absurd cc
 abbrev failed : (X E : Type 0) → E → Result X E
 failed X E fault = Err fault
 
-abbrev source_fault_in : Result assemblies.Assembled AsmFault → AsmFault
+abbrev source_fault_in : Result assemblies.AssemblyView AsmFault → AsmFault
 source_fault_in (Ok a) = assemblies.out_of_memory
 source_fault_in (Err fault) = fault
 
 -- The status of a source's fault, and its line.
 pub source_told : (refusal f : AsmFault) (number : ℕ) → number ≡ source_fault_number refusal.kind
-    → (failed assemblies.Assembled AsmFault refusal ≡ Err f) ⊎ (failed assemblies.Assembled AsmFault refusal ≡ Err assemblies.out_of_memory)
+    → (failed assemblies.AssemblyView AsmFault refusal ≡ Err f) ⊎ (failed assemblies.AssemblyView AsmFault refusal ≡ Err assemblies.out_of_memory)
     → ((300 + number ≡ 300 + source_fault_number f.kind) × (refusal.line ≡ f.line)) ⊎ (300 + number ≡ 399)
 source_told refusal f number is (inl e) =
     let same : refusal ≡ f = ap source_fault_in e in

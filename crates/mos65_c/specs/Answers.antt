@@ -3,15 +3,15 @@ use Rattle.std.specs.Prelude.{ℕ, ℤ, ◌≡◌, ◌≢◌, ◌+◌, List, Opt
 use Rattle.model.specs.State.{State, Map}
 use Rattle.model.specs.Event.{event_of}
 use Rattle.model.specs.FaultNames.{event_fault_number, session_fault_number}
-use Rattle.model.specs.Layout.{Fixed, LaidOut, Placed}
+use Rattle.model.specs.Layout.{Context, IsLaidOut, PlacedLine}
 use Rattle.model.specs.Listing.{IsListing}
-use Rattle.model.specs.Session.{Session, appended}
-use Rattle.model.specs.Source.{Denotes, nothing_fixed, read_lines}
+use Rattle.model.specs.Session.{Session, with_state}
+use Rattle.model.specs.Source.{Denotes, first_context, read_lines}
 use Rattle.model.specs.declared.event.Event.{Event}
 use Rattle.model.specs.declared.event.EventFault.{EventFault}
 use Rattle.model.specs.declared.run_end.RunEnd.{RunEnd}
 use Rattle.model.specs.declared.session_fault.SessionFault.{SessionFault}
-use Rattle.assembler.specs.Assembly.{Assembled, listing_of}
+use Rattle.assembler.specs.Assembly.{AssemblyView, listing_of}
 use Rattle.mos65_c.specs.declared.ending.Ending.{Ending}
 use Rattle.mos65_c.specs.Status.{ending_of}
 
@@ -20,7 +20,7 @@ use Rattle.mos65_c.specs.Status.{ending_of}
 pub record AnswersEvent (s : Session) (event : Event) (status : ℕ) (now : Option Session) : Type 0
   where
     pub ok : status ≡ 0
-        → (state : State) × (event_of s.current event ≡ Ok state) × (now ≡ Some (appended s state))
+        → (state : State) × (event_of s.current event ≡ Ok state) × (now ≡ Some (with_state s state))
     pub err : status ≢ 0 → (fault : EventFault) × (event_of s.current event ≡ Err fault)
         × (now ≡ Some s) × (status ≡ 100 + event_fault_number fault)
 
@@ -52,11 +52,11 @@ pub record AnswersRun (given : Result (RunEnd × Session) SessionFault) (s : Ses
 
 -- What an assembly of a source is: its image is what the source denotes, and its listing and its
 -- names are the source's.
-pub record IsAssembly (map : Map) (source : List ℕ) (x : Assembled) : Type 0 where
+pub record IsAssembly (map : Map) (source : List ℕ) (x : AssemblyView) : Type 0 where
   pub image : Denotes map source x.image
   pub listed : IsListing map source (listing_of x)
-  pub names : (placed : List Placed) (all : Fixed)
-      → LaidOut (nothing_fixed map.profile) (read_lines map.profile source) placed all
+  pub names : (placed : List PlacedLine) (all : Context)
+      → IsLaidOut (first_context map.profile) (read_lines map.profile source) placed all
       → x.names ≡ all.names
 
 -- A name's number is told, or there is no such name.

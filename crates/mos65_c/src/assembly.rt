@@ -2,7 +2,7 @@
 
 ghost use Rattle.std.specs.Prelude.{◌≡◌, ◌≢◌, ◌+◌, ◌⊎◌, ℕ, length, List, None, Option, Some, false};
 ghost use Rattle.std.specs.Prelude.{min, take, true};
-ghost use Rattle.assembler.specs.Assembly.{Assembled, listing_of};
+ghost use Rattle.assembler.specs.Assembly.{AssemblyView, listing_of};
 ghost use Rattle.model.specs.FaultNames.{source_fault_number};
 ghost use Rattle.model.specs.Source.{Denotes, HasFault};
 ghost use Rattle.model.specs.declared.source_fault.AsmFault.{AsmFault};
@@ -26,7 +26,7 @@ pub extern "C" fn mos65_assemble(
     source: &[u8],
     fault: &mut Fault,
 ) -> u32
-    ensures assembled { result ≡ 0 → (x : Assembled) × (assembly.new.slot.assembly ≡ Some x)
+    ensures assembled { result ≡ 0 → (x : AssemblyView) × (assembly.new.slot.assembly ≡ Some x)
         × IsAssembly (config_map config.now) source.now x }
     ensures same { result ≢ 0 → assembly.new.slot.assembly ≡ assembly.old.slot.assembly }
     ensures busy { assembly.old.live ≡ true → result ≡ 2 }
@@ -81,7 +81,7 @@ pub extern "C" fn mos65_listing(
     out: &mut [u8],
     count: &mut usize,
 ) -> u32
-    ensures written { (x : Assembled) → assembly.old.slot.assembly ≡ Some x → result ≡ 0
+    ensures written { (x : AssemblyView) → assembly.old.slot.assembly ≡ Some x → result ≡ 0
         → (count.new ≡ length (listing_of x)) × (take (min (length out.old) (length (listing_of x)))
         out.new ≡ take (length out.old) (listing_of x)) }
     ensures gone { assembly.old.slot.assembly ≡ None → result ≡ 1 }

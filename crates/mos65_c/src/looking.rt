@@ -1,7 +1,7 @@
 //! What a machine shows: nothing here changes it.
 
 ghost use Rattle.std.specs.Prelude.{◌≡◌, ◌+◌, ◌-◌, ◌<◌, ◌≤◌, drop, length, min, None, Some, take};
-ghost use Rattle.disasm.specs.Rows.{seen};
+ghost use Rattle.disasm.specs.Rows.{row_view};
 ghost use Rattle.model.specs.Disassembly.{row_in};
 ghost use Rattle.model.specs.Session.{Session as Seen};
 ghost use Rattle.mos65_c.specs.Status.{registers_of};
@@ -98,7 +98,7 @@ pub extern "C" fn mos65_output(m: &mut Mos65, from: u32, out: &mut [u8]) -> u32
 
 /// The row of memory at an address.
 fn row_at(session: &Session, address: u16) -> disasm::TextLine
-    ensures text { seen result
+    ensures text { row_view result
         ≡ row_in session.now.current.bus.map.profile session.now.current.bus.memory address }
     ensures short { result.text_len ≤ 12 }
 {
@@ -110,7 +110,7 @@ fn row_at(session: &Session, address: u16) -> disasm::TextLine
 /// The row, over room for as many bytes as it can have.
 fn shown_row(session: &Session, address: u16, bytes: &mut [u8]) -> disasm::TextLine
     requires { length bytes.old ≡ min 3 (65536 - address) }
-    ensures text { seen result
+    ensures text { row_view result
         ≡ row_in session.now.current.bus.map.profile session.now.current.bus.memory address }
     ensures short { result.text_len ≤ 12 }
 {

@@ -1,7 +1,7 @@
 //! The names of a source, and why a source or a tape is refused.
 
 ghost use Rattle.std.specs.Prelude.{◌≡◌, length, None, slice_get, Some, take};
-ghost use Rattle.assembler.specs.Assembly.{Assembled};
+ghost use Rattle.assembler.specs.Assembly.{AssemblyView};
 ghost use Rattle.model.specs.Names.{number_in};
 ghost use Rattle.mos65_c.specs.Answers.{AnswersName};
 
@@ -35,7 +35,7 @@ impl Fault {
 /// Tells the number of a name that the source defines.
 #[unsafe(no_mangle)]
 pub extern "C" fn mos65_symbol(assembly: &mut Mos65Assembly, name: &[u8], value: &mut i32) -> u32
-    ensures live { (x : Assembled) → assembly.old.slot.assembly ≡ Some x
+    ensures live { (x : AssemblyView) → assembly.old.slot.assembly ≡ Some x
         → AnswersName (number_in x.names name.now) result value.old value.new }
     ensures gone { assembly.old.slot.assembly ≡ None → (result ≡ 1) × (value.new ≡ value.old) }
     ensures same { assembly.new.slot.assembly ≡ assembly.old.slot.assembly }
@@ -55,7 +55,7 @@ pub extern "C" fn mos65_symbol(assembly: &mut Mos65Assembly, name: &[u8], value:
 /// Tells how many names the source defines.
 #[unsafe(no_mangle)]
 pub extern "C" fn mos65_symbol_count(assembly: &mut Mos65Assembly, count: &mut usize) -> u32
-    ensures live { (x : Assembled) → assembly.old.slot.assembly ≡ Some x
+    ensures live { (x : AssemblyView) → assembly.old.slot.assembly ≡ Some x
         → (result ≡ 0) × (count.new ≡ length x.names) }
     ensures gone { assembly.old.slot.assembly ≡ None → (result ≡ 1) × (count.new ≡ count.old) }
     ensures same { assembly.new.slot.assembly ≡ assembly.old.slot.assembly }
@@ -77,9 +77,9 @@ pub extern "C" fn mos65_symbol_at(
     count: &mut usize,
     value: &mut i32,
 ) -> u32
-    ensures told { (x : Assembled) → assembly.old.slot.assembly ≡ Some x → result ≡ 0
+    ensures told { (x : AssemblyView) → assembly.old.slot.assembly ≡ Some x → result ≡ 0
         → slice_get x.names index ≡ Some (take count.new name.new, value.new) }
-    ensures none { (x : Assembled) → assembly.old.slot.assembly ≡ Some x
+    ensures none { (x : AssemblyView) → assembly.old.slot.assembly ≡ Some x
         → slice_get x.names index ≡ None → result ≡ 4 }
     ensures gone { assembly.old.slot.assembly ≡ None → result ≡ 1 }
     ensures same { assembly.new.slot.assembly ≡ assembly.old.slot.assembly }

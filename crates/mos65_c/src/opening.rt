@@ -2,10 +2,10 @@
 
 ghost use Rattle.std.specs.Prelude.{◌≡◌, ◌≢◌, ◌+◌, ◌≤◌, ◌⊎◌, ℕ, length, List, None, Option, Some};
 ghost use Rattle.std.specs.Prelude.{false, true};
-ghost use Rattle.assembler.specs.Assembly.{Assembled};
+ghost use Rattle.assembler.specs.Assembly.{AssemblyView};
 ghost use Rattle.model.specs.Event.{start};
 ghost use Rattle.model.specs.Image.{empty_image, with_bytes};
-ghost use Rattle.model.specs.Session.{fresh};
+ghost use Rattle.model.specs.Session.{new_session};
 ghost use Rattle.model.specs.State.{has_port_byte};
 ghost use Rattle.model.specs.Tape.{FirstFault, TapeDenotes};
 ghost use Rattle.model.specs.TapeFault.{tape_fault_number};
@@ -38,7 +38,7 @@ pub extern "C" fn mos65_version_number() -> u32
 fn open_image(alloc: Global, m: &mut Mos65, config: &Config, image: &Image) -> u32
     requires { m.old.live ≡ false }
     ensures opened { result ≡ 0 → m.new.slot.session
-        ≡ Some (fresh config.now.history (start (config_map config.now) image.now)) }
+        ≡ Some (new_session config.now.history (start (config_map config.now) image.now)) }
     ensures same { result ≢ 0 → m.new.slot.session ≡ m.old.slot.session }
     ensures config { config_status config.now ≢ 0 → result ≡ config_status config.now }
     ensures port { result ≡ 205 → has_port_byte (config_map config.now) image.now ≡ true }
@@ -74,8 +74,8 @@ pub extern "C" fn mos65_open(
     assembly: &mut Mos65Assembly,
 ) -> u32
     ensures opened { result ≡ 0
-        → (x : Assembled) × (assembly.old.slot.assembly ≡ Some x) × (m.new.slot.session
-        ≡ Some (fresh config.now.history (start (config_map config.now) x.image))) }
+        → (x : AssemblyView) × (assembly.old.slot.assembly ≡ Some x) × (m.new.slot.session
+        ≡ Some (new_session config.now.history (start (config_map config.now) x.image))) }
     ensures same { result ≢ 0 → m.new.slot.session ≡ m.old.slot.session }
     ensures kept { assembly.new.slot.assembly ≡ assembly.old.slot.assembly }
     ensures busy { m.old.live ≡ true → result ≡ 2 }
@@ -104,7 +104,7 @@ pub extern "C" fn mos65_open_tape(
 ) -> u32
     ensures opened { result ≡ 0
         → (image : List (Option ℕ)) × TapeDenotes tape.now image × (m.new.slot.session
-        ≡ Some (fresh config.now.history (start (config_map config.now) image))) }
+        ≡ Some (new_session config.now.history (start (config_map config.now) image))) }
     ensures same { result ≢ 0 → m.new.slot.session ≡ m.old.slot.session }
     ensures busy { m.old.live ≡ true → result ≡ 2 }
     // A text that is a tape is not told a fault, memory aside.
@@ -141,7 +141,7 @@ pub extern "C" fn mos65_open_bytes(
     address: u16,
     bytes: &[u8],
 ) -> u32
-    ensures opened { result ≡ 0 → m.new.slot.session ≡ Some (fresh config.now.history
+    ensures opened { result ≡ 0 → m.new.slot.session ≡ Some (new_session config.now.history
         (start (config_map config.now) (with_bytes empty_image address bytes.now))) }
     ensures same { result ≢ 0 → m.new.slot.session ≡ m.old.slot.session }
     ensures busy { m.old.live ≡ true → result ≡ 2 }

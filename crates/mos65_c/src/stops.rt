@@ -2,7 +2,7 @@
 
 ghost use Rattle.std.specs.Prelude.{◌≡◌, None, Some};
 ghost use Rattle.model.specs.Session.{Session as Seen};
-ghost use Rattle.model.specs.Tables.{break_cleared, break_set, watch_cleared, watch_set};
+ghost use Rattle.model.specs.Breakpoints.{break_cleared, break_set, watch_cleared, watch_set};
 ghost use Rattle.mos65_c.specs.Answers.{AnswersChange, AnswersSetting};
 
 use crate::machine::{CLOSED, Mos65};

@@ -14,16 +14,16 @@ use Rattle.model.specs.contracts.instruction.Mnemonic.{the_type as mnemonic_type
 use denote.Enum.Declared.{tag_of}
 use Rattle.model.specs.declared.instruction.Mode.TheVariants.{Imp}
 use Rattle.model.specs.Mnemonics.{mnemonic_named, named_among, mnemonic_text, mnemonics}
-use Rattle.table_laws.proofs.Encoding.{all_mnemonics, all_modes, length-mnemonic_text, same_at_each}
+use Rattle.law_opcodes.proofs.Encoding.{all_mnemonics, all_modes, length-mnemonic_text, same_at_each}
 use Rattle.optable.specs.declared.names.TheConstants.{NAMES}
-use Rattle.optable.specs.Names.{looked_up}
+use Rattle.optable.specs.Names.{find_name}
 
 -- the table has all mnemonics with their letters, in their order, and first those of profile N
-pub looked_up_n : (text : List ℕ) → looked_up (str_to_ascii_uppercase text) (take 56 NAMES) ≡ mnemonic_named N text
+pub looked_up_n : (text : List ℕ) → find_name (str_to_ascii_uppercase text) (take 56 NAMES) ≡ mnemonic_named N text
 unfolding mnemonic_named named_among mnemonic_text mnemonics
 looked_up_n text = refl
 
-pub looked_up_c : (text : List ℕ) → looked_up (str_to_ascii_uppercase text) NAMES ≡ mnemonic_named C text
+pub looked_up_c : (text : List ℕ) → find_name (str_to_ascii_uppercase text) NAMES ≡ mnemonic_named C text
 unfolding mnemonic_named named_among mnemonic_text mnemonics
 looked_up_c text = refl
 
@@ -41,11 +41,11 @@ letters_at m = same_at_each (λ n d. letters_in_table n) (λ n d. mnemonic_text 
 -- ---- one name of the table
 
 pub found_at : (letters : List ℕ) (ns : List (List ℕ × Mnemonic)) (i : ℕ) (d : List ℕ × Mnemonic) → i < length ns → bytes_eq (get_or ns i d).0 letters ≡ true
-    → looked_up letters (drop i ns) ≡ looked_up letters ns → Some (get_or ns i d).1 ≡ looked_up letters ns
+    → find_name letters (drop i ns) ≡ find_name letters ns → Some (get_or ns i d).1 ≡ find_name letters ns
 found_at letters ns i d below same kept = rw same at (rw (drop-cons ns i d below) at kept)
 
 pub passed_at : (letters : List ℕ) (ns : List (List ℕ × Mnemonic)) (i : ℕ) (d : List ℕ × Mnemonic) → i < length ns → bytes_eq (get_or ns i d).0 letters ≡ false
-    → looked_up letters (drop i ns) ≡ looked_up letters ns → looked_up letters (drop (i + 1) ns) ≡ looked_up letters ns
+    → find_name letters (drop i ns) ≡ find_name letters ns → find_name letters (drop (i + 1) ns) ≡ find_name letters ns
 passed_at letters ns i d below same kept = rw add-one (rw same at (rw (drop-cons ns i d below) at kept))
 
 -- ---- texts of another length

@@ -2,7 +2,7 @@
 use Rattle.std.specs.Prelude.{ℕ, Option, Some, None}
 use Rattle.model.specs.declared.instruction.Profile.{Profile}
 use Rattle.model.specs.declared.instruction.Row.{Row}
-use Rattle.model.specs.Table.{row_at}
+use Rattle.model.specs.OpcodeTable.{row_at}
 
 abbrev pub if_row : ℕ → Option Row → Option ℕ
 if_row opcode None = None

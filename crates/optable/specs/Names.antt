@@ -4,6 +4,6 @@ use Rattle.std.specs.Str.{bytes_eq}
 use Rattle.model.specs.declared.instruction.Mnemonic.{Mnemonic}
 
 -- the first of some mnemonics that has these letters
-abbrev pub looked_up : List ℕ → List (List ℕ × Mnemonic) → Option Mnemonic
-looked_up letters [] = None
-looked_up letters (n ∷ ns) = if bytes_eq n.0 letters then Some n.1 else looked_up letters ns
+abbrev pub find_name : List ℕ → List (List ℕ × Mnemonic) → Option Mnemonic
+find_name letters [] = None
+find_name letters (n ∷ ns) = if bytes_eq n.0 letters then Some n.1 else find_name letters ns

@@ -1,7 +1,7 @@
 //! The opcode of a mnemonic in a mode.
 
 ghost use Rattle.std.specs.Prelude.{◌≡◌, ◌<◌, ℕ, IfSome, IfNone, Some};
-ghost use Rattle.model.specs.Table.{encoded, row_at, IsRowOf};
+ghost use Rattle.model.specs.OpcodeTable.{opcode_of, row_at, IsRowOf};
 ghost use Rattle.optable.specs.Codes.{within};
 
 use crate::rows::decode_in;
@@ -94,7 +94,7 @@ const CODES: [[Option<u8>; 14]; 62] = [
 
 /// Returns the opcode of a mnemonic in a mode in profile N, as `encode_in` does.
 pub fn encode(mnemonic: Mnemonic, mode: Mode) -> Option<u8>
-    ensures code { result ≡ encoded Profile.N mnemonic mode }
+    ensures code { result ≡ opcode_of Profile.N mnemonic mode }
     ensures found { IfSome result (λ opcode. IsRowOf mnemonic mode (row_at Profile.N opcode)) }
     ensures none { IfNone result
         ((opcode : ℕ) → opcode < 256 → ¬ IsRowOf mnemonic mode (row_at Profile.N opcode)) }
@@ -109,7 +109,7 @@ pub fn encode(mnemonic: Mnemonic, mode: Mode) -> Option<u8>
 /// It is the inverse of `decode_in`: the one opcode whose row has this mnemonic and this mode.
 /// Source: MCS6500 manual, appendix B; mos65 for what profile C adds.
 pub fn encode_in(profile: Profile, mnemonic: Mnemonic, mode: Mode) -> Option<u8>
-    ensures code { result ≡ encoded profile mnemonic mode }
+    ensures code { result ≡ opcode_of profile mnemonic mode }
     ensures found { IfSome result (λ opcode. IsRowOf mnemonic mode (row_at profile opcode)) }
     ensures none { IfNone result
         ((opcode : ℕ) → opcode < 256 → ¬ IsRowOf mnemonic mode (row_at profile opcode)) }

@@ -3,7 +3,7 @@
 ghost use Rattle.std.specs.Prelude.{◌≡◌, length};
 ghost use Rattle.std.specs.Str.{str_to_ascii_uppercase};
 ghost use Rattle.model.specs.Mnemonics.{mnemonic_named, mnemonic_text};
-ghost use Rattle.optable.specs.Names.{looked_up};
+ghost use Rattle.optable.specs.Names.{find_name};
 
 use model::{Mnemonic, Profile};
 
@@ -125,7 +125,7 @@ fn capitals(text: &[u8]) -> [u8; 3]
 
 /// Returns the first mnemonic that has these letters.
 fn look_up(names: &[([u8; 3], Mnemonic)], letters: [u8; 3]) -> Option<Mnemonic>
-    ensures { result ≡ looked_up letters names.now }
+    ensures { result ≡ find_name letters names.now }
 {
     for (name, mnemonic) in names {
         if *name == letters {

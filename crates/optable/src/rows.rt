@@ -1,7 +1,7 @@
 //! The row of an opcode.
 
 ghost use Rattle.std.specs.Prelude.{◌≡◌, ◌<◌, ◌≤◌, IfSome, Some};
-ghost use Rattle.model.specs.Table.{added, find_row, row_at};
+ghost use Rattle.model.specs.OpcodeTable.{added_opcodes, find_row, row_at};
 
 use model::{Mnemonic, Mode, Profile, Row};
 
@@ -96,7 +96,7 @@ impl OpTable {
 
 /// Returns the row of an opcode: that of profile N, otherwise the one that profile C adds.
 #[inline(always)]
-#[tactic(auto, using(table_laws::proofs::Encoding::row_kept, table_laws::proofs::Encoding::row_added))]
+#[tactic(auto, using(law_opcodes::proofs::Encoding::row_kept, law_opcodes::proofs::Encoding::row_added))]
 fn row_in(profile: Profile, opcode: u8) -> Option<Row>
     ensures { result ≡ row_at profile opcode }
 {
@@ -120,9 +120,9 @@ fn documented_row(opcode: u8) -> Option<Row>
 }
 
 /// Returns the row of an opcode that profile C adds.
-#[tactic(auto, unfolding(model::specs::Table::find_row, model::specs::Table::added))]
+#[tactic(auto, unfolding(model::specs::OpcodeTable::find_row, model::specs::OpcodeTable::added_opcodes))]
 fn added_row(opcode: u8) -> Option<Row>
-    ensures { result ≡ find_row opcode added }
+    ensures { result ≡ find_row opcode added_opcodes }
 {
     match opcode {
         0x12 => row!(Ora, IndZ, 2, 5),

@@ -9,7 +9,7 @@ use Rattle.papertape.specs.declared.reading.Place.{Place}
 use Rattle.papertape.specs.declared.reading.Place.TheVariants.{Between, Within, After}
 use Rattle.model.specs.Image.{empty_image, with_bytes}
 use Rattle.model.specs.Tape.{Claim, claim_of, needed, AreFewDigits, AreAllDigits, Part, gap, record_of, IsPiece, IsEnd, front_of, count_of, with_records, text_of, is_skipped, TapeDenotes, FirstFault}
-use Rattle.papertape.specs.Reading.{Progress, settled, with_digit, step, step_in, next_count, run, finished, finished_in, read_of, start, ◌>>=◌}
+use Rattle.papertape.specs.Reading.{Progress, after_record, with_digit, step, step_in, next_count, run, result_at, result_in, read_of, start, ◌>>=◌}
 use Rattle.papertape.proofs.Digits.{just_needed, address_small}
 use Rattle.papertape.proofs.Steps.{list_all-append}
 
@@ -69,8 +69,8 @@ longer front digits b = append_assoc front (59 ∷ digits) (b ∷ [])
 
 -- all digits of a record are there
 settled_sound : (text : List ℕ) (s : Progress) (b : ℕ) (digits : List ℕ) (pieces : List Part) → Front pieces s → s.start ≡ length (front_of pieces) → text ++ b ∷ [] ≡ front_of pieces ++ (59 ∷ digits) → AreAllDigits digits
-    → Sound text b (settled s (claim_of digits))
-unfolding settled
+    → Sound text b (after_record s (claim_of digits))
+unfolding after_record
 settled_sound text s b digits pieces front at spelled all =
     let c : Claim = claim_of digits in
     let whole : (more : List ℕ) → text ++ b ∷ more ≡ front_of pieces ++ (59 ∷ (digits ++ more)) =
@@ -198,7 +198,7 @@ SoundRead text (Err f) = FirstFault text f.kind f.offset
 none_min : (n m : ℕ) → n ≡ min 65536 m → n ≡ 0 → m ≡ 0
 none_min n m e z = omega arith
 
-finished_sound : (text : List ℕ) (s : Progress) (p : Place) → Reached text s p → SoundRead text (finished_in (length text) s p)
+finished_sound : (text : List ℕ) (s : Progress) (p : Place) → Reached text s p → SoundRead text (result_in (length text) s p)
 finished_sound text s Between (pieces, front, spelled, none) =
     elim (cases_Bool (s.count == 0)) [
       | inl t ↦ rw t (record { pieces = pieces; rest = []; place = 0; spelled = spelled ∙ sym (append-nil (front_of pieces)); each = front.each; breaks = (none_min _ _ front.count (eqb-true _ _ t), refl, refl); there = omega (arith, ap length spelled) })
@@ -211,8 +211,8 @@ finished_sound text s After (pieces, front, digits, tail, spelled, end, skipped)
 
 -- what is read is in the grammar, and a fault is the first one
 pub read_sound : (text : List ℕ) → SoundRead text (read_of text)
-unfolding read_of finished
+unfolding read_of result_at
 read_sound text = go (run 0 start text) (run_sound text [] start ([], record { each = tt; cells = refl; count = refl }, refl, refl)) where
-  go : (r : Result Progress TapeFault) → SoundRun [] text r → SoundRead text (r >>= λ s. finished_in (length text) s s.place)
+  go : (r : Result Progress TapeFault) → SoundRun [] text r → SoundRead text (r >>= λ s. result_in (length text) s s.place)
   go (Ok s) k = finished_sound text s s.place k
   go (Err f) k = k

@@ -8,7 +8,7 @@ use Rattle.model.specs.declared.tape.TapeFault.{TapeFault}
 use Rattle.papertape.specs.declared.reading.Place.TheVariants.{Between, Within, After}
 use Rattle.model.specs.Image.{with_bytes}
 use Rattle.model.specs.Tape.{Claim, claim_of, needed, AreAllDigits, Part, gap, record_of, IsPiece, IsData, IsEnd, front_of, count_of, with_records, is_skipped, TapeDenotes}
-use Rattle.papertape.specs.Reading.{Progress, settled, with_digit, step, next_count, run, finished, read_of, start, ◌>>=◌}
+use Rattle.papertape.specs.Reading.{Progress, after_record, with_digit, step, next_count, run, result_at, read_of, start, ◌>>=◌}
 use Rattle.papertape.proofs.Digits.{address_small}
 use Rattle.papertape.proofs.Grammar.{next-min}
 
@@ -30,12 +30,12 @@ pub step_few : (offset b : ℕ) (s : Progress) → s.place ≡ Within → is_hex
 unfolding step with_digit
 step_few offset b s place hex few = rw (place, hex, lt-ltb _ _ few) refl
 
-step_last : (offset b : ℕ) (s : Progress) → s.place ≡ Within → is_hex_byte b ≡ true → needed (s.digits ++ b ∷ []) ≤ length (s.digits ++ b ∷ []) → step offset s b ≡ settled s (claim_of (s.digits ++ b ∷ []))
+step_last : (offset b : ℕ) (s : Progress) → s.place ≡ Within → is_hex_byte b ≡ true → needed (s.digits ++ b ∷ []) ≤ length (s.digits ++ b ∷ []) → step offset s b ≡ after_record s (claim_of (s.digits ++ b ∷ []))
 unfolding step with_digit
 step_last offset b s place hex all = rw (place, hex, le-ltb _ _ all) refl
 
-settled_digits : (s : Progress) (ds : List ℕ) (c : Claim) → settled (record s { digits = ds }) c ≡ settled s c
-unfolding settled
+settled_digits : (s : Progress) (ds : List ℕ) (c : Claim) → after_record (record s { digits = ds }) c ≡ after_record s c
+unfolding after_record
 settled_digits s ds c = refl
 
 bind-Ok : (r : Result Progress TapeFault) → (r >>= λ t. Ok t) ≡ r
@@ -43,7 +43,7 @@ bind-Ok (Ok t) = refl
 bind-Ok (Err f) = refl
 
 pub digits_run : (es : List ℕ) (b offset : ℕ) (s : Progress) → s.place ≡ Within → list_all is_hex_byte (b ∷ es) ≡ true → length (s.digits ++ b ∷ es) ≡ needed (s.digits ++ b ∷ es)
-    → run offset s (b ∷ es) ≡ settled s (claim_of (s.digits ++ b ∷ es))
+    → run offset s (b ∷ es) ≡ after_record s (claim_of (s.digits ++ b ∷ es))
 digits_run [] b offset s place hexes len =
     ap (λ (r : Result Progress TapeFault). r >>= λ t. Ok t) (step_last offset b s place (and_parts (is_hex_byte b) true hexes).0 (omega (arith, len))) ∙ bind-Ok _
 digits_run (c ∷ es) b offset s place hexes len =
@@ -55,11 +55,11 @@ digits_run (c ∷ es) b offset s place hexes len =
     ap (λ (r : Result Progress TapeFault). r >>= λ u. run (offset + 1) u (c ∷ es)) (step_few offset b s place h.0 few)
     ∙ digits_run es c (offset + 1) t place h.1 whole
     ∙ settled_digits s (s.digits ++ b ∷ []) (claim_of ((s.digits ++ b ∷ []) ++ c ∷ es))
-    ∙ ap (λ (ds : List ℕ). settled s (claim_of ds)) same
+    ∙ ap (λ (ds : List ℕ). after_record s (claim_of ds)) same
 
 -- all digits of a record after its `;`
-pub record_run : (ds : List ℕ) (offset : ℕ) (s : Progress) → s.place ≡ Between → AreAllDigits ds → run offset s (59 ∷ ds) ≡ settled (record s { place = Within; start = offset }) (claim_of ds)
-unfolding step settled
+pub record_run : (ds : List ℕ) (offset : ℕ) (s : Progress) → s.place ≡ Between → AreAllDigits ds → run offset s (59 ∷ ds) ≡ after_record (record s { place = Within; start = offset }) (claim_of ds)
+unfolding step after_record
 record_run [] offset s place all = absurd (omega (arith, all.1))
 record_run (b ∷ es) offset s place all =
     let t : Progress = record s { place = Within; start = offset; digits = [] } in
@@ -86,12 +86,12 @@ tail_run (b ∷ tail) offset s place h =
 abbrev after_data : ℕ → Progress → List ℕ → Progress
 after_data offset s ds = record { cells = with_bytes s.cells (claim_of ds).address (claim_of ds).bytes; count = next_count s.count; place = Between; start = offset; digits = [] }
 
-data_settled : (ds : List ℕ) (offset : ℕ) (s : Progress) → IsData ds → settled (record s { place = Within; start = offset }) (claim_of ds) ≡ Ok (after_data offset s ds)
-unfolding settled
+data_settled : (ds : List ℕ) (offset : ℕ) (s : Progress) → IsData ds → after_record (record s { place = Within; start = offset }) (claim_of ds) ≡ Ok (after_data offset s ds)
+unfolding after_record
 data_settled ds offset s h = rw (eq-eqb _ _ h.checked, ne_eqb (claim_of ds).length 0 (λ e. omega (arith, e, h.some)), le-leb _ _ h.fits) refl
 
-pub end_settled : (ds : List ℕ) (count offset : ℕ) (s : Progress) → IsEnd count ds → s.count ≡ min 65536 count → settled (record s { place = Within; start = offset }) (claim_of ds) ≡ Ok (record s { place = After; start = offset; digits = [] })
-unfolding settled
+pub end_settled : (ds : List ℕ) (count offset : ℕ) (s : Progress) → IsEnd count ds → s.count ≡ min 65536 count → after_record (record s { place = Within; start = offset }) (claim_of ds) ≡ Ok (record s { place = After; start = offset; digits = [] })
+unfolding after_record
 end_settled ds count offset s h e = rw (eq-eqb _ _ h.checked, eq-eqb _ _ h.none, eq-eqb (claim_of ds).address s.count (omega (arith, h.counted, e, address_small ds))) refl
 
 -- where pieces lead
@@ -126,8 +126,8 @@ front_run (record_of ds ∷ pieces) offset s n each place count =
       count = l.count ∙ ap (λ k. min 65536 k) (omega arith);
     }
 
-finished_After : (offset : ℕ) (s : Progress) → s.place ≡ After → finished offset s ≡ Ok s.cells
-unfolding finished
+finished_After : (offset : ℕ) (s : Progress) → s.place ≡ After → result_at offset s ≡ Ok s.cells
+unfolding result_at
 finished_After offset s e = rw e refl
 
 pub read_again : (text : List ℕ) (cells : List (Option ℕ)) → TapeDenotes text cells → read_of text ≡ Ok cells
@@ -142,4 +142,4 @@ read_again text cells d =
     let all : run 0 start text ≡ Ok s =
     ap (run 0 start) d.spelled ∙ run-append (front_of d.pieces) (59 ∷ d.digits ++ d.tail) 0 start
     ∙ ap (λ (r : Result Progress TapeFault). r >>= λ u. run n u (59 ∷ d.digits ++ d.tail)) l.ran ∙ behind in
-    ap (λ (r : Result Progress TapeFault). r >>= λ u. finished (length text) u) all ∙ finished_After (length text) s refl ∙ ap Ok (l.cells ∙ sym d.union)
+    ap (λ (r : Result Progress TapeFault). r >>= λ u. result_at (length text) u) all ∙ finished_After (length text) s refl ∙ ap Ok (l.cells ∙ sym d.union)

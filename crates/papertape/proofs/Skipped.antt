@@ -7,7 +7,7 @@ use Rattle.papertape.specs.declared.reading.Place.{Place}
 use Rattle.papertape.specs.declared.reading.Place.TheVariants.{Between, Within, After}
 use Rattle.model.specs.Tape.{is_skipped}
 use Rattle.papertape.specs.Reading.{Progress, step}
-use Rattle.papertape.specs.Feeding.{Fed, fed_byte, fed_up_to, seen}
+use Rattle.papertape.specs.Feeding.{Fed, fed_byte, fed_up_to, fed_of}
 use Rattle.papertape.proofs.GrammarIsRead.{gap_step, tail_step}
 
 skip_in : (p : Place) (offset b : ℕ) (s : Progress) → s.place ≡ p → p ≢ Within → is_skipped b ≡ true → step offset s b ≡ Ok s
@@ -29,5 +29,5 @@ skipped_are_fed (b ∷ bytes) limit offset s ne le h =
 
 -- so a reader that has not failed only counts them
 pub skipped_are_counted : (failed : Option TapeFault) (limit offset : ℕ) (s : Progress) (bytes : List ℕ) → failed ≡ None → s.place ≢ Within → length bytes ≤ limit - offset
-    → list_all is_skipped bytes ≡ true → seen failed (offset + length bytes) s ≡ fed_up_to limit (seen failed offset s) bytes
+    → list_all is_skipped bytes ≡ true → fed_of failed (offset + length bytes) s ≡ fed_up_to limit (fed_of failed offset s) bytes
 skipped_are_counted failed limit offset s bytes none ne le h = rw none (sym (skipped_are_fed bytes limit offset s ne le h))

@@ -7,7 +7,7 @@ use Rattle.std.specs.Io.KnownBytes.{Consumes, IsAtEnd, Keeps}
 use Rattle.model.specs.declared.tape.TapeFault.{TapeFault}
 use Rattle.model.specs.TapeFault.{out_of_memory}
 use Rattle.model.specs.TapePieces.{IsReadInPieces, IsRefusedInPieces, longest}
-use Rattle.papertape.specs.Feeding.{Fed, ended, fed, said, unfed}
+use Rattle.papertape.specs.Feeding.{Fed, end_of_feeding, fed, answer_of, nothing_fed}
 use Rattle.papertape.specs.Streaming.{EndsReading, EndsWithPiece, GoesOn, IsImageOf, IsRefusalOf, IsRefusedAlready, IsTextOf, Reads}
 use Rattle.papertape.specs.declared.stream.TapeReadFault.{TapeReadFault}
 use Rattle.papertape.specs.declared.stream.TapeReadFault.TheVariants.{Tape, Read}
@@ -26,15 +26,15 @@ failed f = Err f
 -- ---- what was fed
 
 -- nothing was refused, so no fault was told
-pub goes_on : (front : List ℕ) → said (fed unfed front) ≡ said_ok → GoesOn front
-goes_on front e = (short, λ fault tells. not_said fault (ap said (sym ((told front fault short).1 tells)) ∙ e)) where
+pub goes_on : (front : List ℕ) → answer_of (fed nothing_fed front) ≡ said_ok → GoesOn front
+goes_on front e = (short, λ fault tells. not_said fault (ap answer_of (sym ((told front fault short).1 tells)) ∙ e)) where
   short : length front ≤ longest
   short = elim (cases_lt longest (length front)) [ inl long ↦ absurd (over_said front long e) | inr h ↦ h ]
 
 -- what was fed is refused, and so is each text that begins so
-pub refused_already : (front : List ℕ) (fault : TapeFault) → fed unfed front ≡ Err fault → IsRefusedAlready front fault
+pub refused_already : (front : List ℕ) (fault : TapeFault) → fed nothing_fed front ≡ Err fault → IsRefusedAlready front fault
 refused_already front fault e =
-    λ more. (refused_in_pieces (front ++ more) fault).0 (ap ended (fed-append longest front more unfed) ∙ ap (λ (s : Fed). ended (fed s more)) e ∙ ap ended (fed-Err longest more fault))
+    λ more. (refused_in_pieces (front ++ more) fault).0 (ap end_of_feeding (fed-append longest front more nothing_fed) ∙ ap (λ (s : Fed). end_of_feeding (fed s more)) e ∙ ap end_of_feeding (fed-Err longest more fault))
 
 still : (a b c : Option (List ℕ)) (front : List ℕ) → Consumes a b front → Consumes b c [] → Consumes a c front
 still a b c front p q = subst (Consumes a c) (append-nil front) (Consumes-trans a b c front [] p q)
@@ -46,7 +46,7 @@ reads_nothing a (Ok image) f h memory = absurd h
 reads_nothing a (Err e) f h memory = subst (λ (x : TapeReadFault). Reads a a (failed x)) (sym h) ([], Consumes-nil a, inl (memory, refl))
 
 pub reads_refused : (a b c : Option (List ℕ)) (answer : Answer) (f : TapeFault) (front bytes : List ℕ) (reader : Fed) → IsErrAnd answer (λ e. e ≡ Tape f)
-    → Consumes a b front → Consumes b c bytes → length bytes ≤ 4096 → reader ≡ fed unfed front → said reader ≡ said_ok → fed reader bytes ≡ Err f → Reads a c answer
+    → Consumes a b front → Consumes b c bytes → length bytes ≤ 4096 → reader ≡ fed nothing_fed front → answer_of reader ≡ said_ok → fed reader bytes ≡ Err f → Reads a c answer
 reads_refused a b c (Ok image) f front bytes reader h p q short same on refused = absurd h
 reads_refused a b c (Err e) f front bytes reader h p q short same on refused =
     subst (λ (x : TapeReadFault). Reads a c (failed x)) (sym h) (
@@ -57,24 +57,24 @@ reads_refused a b c (Err e) f front bytes reader h p q short same on refused =
         piece = bytes;
         parts = refl;
         short = short;
-        right = goes_on front (ap said (sym same) ∙ on);
-        refused = refused_already (front ++ bytes) f (fed-append longest front bytes unfed ∙ ap (λ (s : Fed). fed s bytes) (sym same) ∙ refused);
+        right = goes_on front (ap answer_of (sym same) ∙ on);
+        refused = refused_already (front ++ bytes) f (fed-append longest front bytes nothing_fed ∙ ap (λ (s : Fed). fed s bytes) (sym same) ∙ refused);
       })),
     )
 
 pub reads_fault_at_end : (a b c : Option (List ℕ)) (answer : Answer) (f : TapeFault) (front : List ℕ) (reader : Fed) → IsErrAnd answer (λ e. e ≡ Tape f)
-    → Consumes a b front → Consumes b c [] → IsAtEnd c → reader ≡ fed unfed front → ended reader ≡ Err f → Reads a c answer
+    → Consumes a b front → Consumes b c [] → IsAtEnd c → reader ≡ fed nothing_fed front → end_of_feeding reader ≡ Err f → Reads a c answer
 reads_fault_at_end a b c (Ok image) f front reader h p q end same refused = absurd h
 reads_fault_at_end a b c (Err e) f front reader h p q end same refused =
     subst (λ (x : TapeReadFault). Reads a c (failed x)) (sym h)
-    (front, still a b c front p q, inr (inr (end, (refused_in_pieces front f).0 (ap ended (sym same) ∙ refused))))
+    (front, still a b c front p q, inr (inr (end, (refused_in_pieces front f).0 (ap end_of_feeding (sym same) ∙ refused))))
 
 pub reads_image : (a b c : Option (List ℕ)) (image : Image) (front : List ℕ) (reader : Fed)
-    → Consumes a b front → Consumes b c [] → IsAtEnd c → reader ≡ fed unfed front → ended reader ≡ Ok image → Reads a c (Ok image)
-reads_image a b c image front reader p q end same read = (front, still a b c front p q, (end, (in_pieces front image).0 (ap ended (sym same) ∙ read)))
+    → Consumes a b front → Consumes b c [] → IsAtEnd c → reader ≡ fed nothing_fed front → end_of_feeding reader ≡ Ok image → Reads a c (Ok image)
+reads_image a b c image front reader p q end same read = (front, still a b c front p q, (end, (in_pieces front image).0 (ap end_of_feeding (sym same) ∙ read)))
 
-pub reads_failed : (a b c : Option (List ℕ)) (front : List ℕ) (reader : Fed) → Consumes a b front → Keeps b c → reader ≡ fed unfed front → said reader ≡ said_ok → Reads a c (Err Read)
-reads_failed a b c front reader p q same on = (front, Consumes-kept a b c front p q, goes_on front (ap said (sym same) ∙ on))
+pub reads_failed : (a b c : Option (List ℕ)) (front : List ℕ) (reader : Fed) → Consumes a b front → Keeps b c → reader ≡ fed nothing_fed front → answer_of reader ≡ said_ok → Reads a c (Err Read)
+reads_failed a b c front reader p q same on = (front, Consumes-kept a b c front p q, goes_on front (ap answer_of (sym same) ∙ on))
 
 -- ---- what that says of a text that is known
 

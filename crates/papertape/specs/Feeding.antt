@@ -3,15 +3,15 @@ use Rattle.std.specs.Prelude.{ℕ, ◌+◌, nat_le, if◌then◌else◌, List, [
 use Rattle.model.specs.declared.tape.TapeFault.{TapeFault}
 use Rattle.model.specs.declared.tape.TapeFaultKind.TheVariants.{TooLong}
 use Rattle.model.specs.TapePieces.{longest}
-use Rattle.papertape.specs.Reading.{Progress, step, finished, start, ◌>>=◌}
+use Rattle.papertape.specs.Reading.{Progress, step, result_at, start, ◌>>=◌}
 
 -- how many bytes were fed and what was read of them, or the fault that they had
 abbrev pub Fed : Type 0
 Fed = Result (ℕ × Progress) TapeFault
 
 -- nothing was fed
-abbrev pub unfed : Fed
-unfed = Ok (0, start)
+abbrev pub nothing_fed : Fed
+nothing_fed = Ok (0, start)
 
 -- one byte more, where no more than so many are taken
 abbrev pub fed_byte : ℕ → ℕ × Progress → ℕ → Fed
@@ -27,15 +27,15 @@ abbrev pub fed : Fed → List ℕ → Fed
 fed s piece = fed_up_to longest s piece
 
 -- the end of the tape
-abbrev pub ended : Fed → Result (List (Option ℕ)) TapeFault
-ended s = s >>= λ t. finished t.0 t.1
+abbrev pub end_of_feeding : Fed → Result (List (Option ℕ)) TapeFault
+end_of_feeding s = s >>= λ t. result_at t.0 t.1
 
 -- what a call says of the reader that it leaves: nothing, or its fault
-abbrev pub said : Fed → Result Unit TapeFault
-said (Ok s) = Ok tt
-said (Err f) = Err f
+abbrev pub answer_of : Fed → Result Unit TapeFault
+answer_of (Ok s) = Ok tt
+answer_of (Err f) = Err f
 
 -- a reader that has failed, or goes on
-abbrev pub seen : Option TapeFault → ℕ → Progress → Fed
-seen None offset s = Ok (offset, s)
-seen (Some f) offset s = Err f
+abbrev pub fed_of : Option TapeFault → ℕ → Progress → Fed
+fed_of None offset s = Ok (offset, s)
+fed_of (Some f) offset s = Err f

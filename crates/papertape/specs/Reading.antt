@@ -29,13 +29,13 @@ abbrev pub next_count : ℕ → ℕ
 next_count n = if nat_lt n 65536 then n + 1 else n
 
 -- an end record
-abbrev pub ended : Progress → Claim → Result Progress TapeFault
-ended s claim = if claim.address == s.count then Ok (record s { place = After; digits = [] })
+abbrev pub after_end_record : Progress → Claim → Result Progress TapeFault
+after_end_record s claim = if claim.address == s.count then Ok (record s { place = After; digits = [] })
     else fault_at BadCount s.start
 
 -- a data record
-abbrev pub stored : Progress → Claim → Result Progress TapeFault
-stored s claim =
+abbrev pub after_data_record : Progress → Claim → Result Progress TapeFault
+after_data_record s claim =
     if nat_le (claim.address + claim.length) 65536
     then Ok (record s {
       place = Between;
@@ -46,9 +46,9 @@ stored s claim =
     else fault_at PastEnd s.start
 
 -- all digits of a record are there, and this is what they claim
-unfoldable pub settled : Progress → Claim → Result Progress TapeFault
-settled s claim = if claim.sum == claim.checksum
-    then (if claim.length == 0 then ended s claim else stored s claim)
+unfoldable pub after_record : Progress → Claim → Result Progress TapeFault
+after_record s claim = if claim.sum == claim.checksum
+    then (if claim.length == 0 then after_end_record s claim else after_data_record s claim)
     else fault_at BadChecksum s.start
 
 -- one digit more
@@ -56,7 +56,7 @@ unfoldable pub with_digit : Progress → ℕ → Result Progress TapeFault
 with_digit s b =
     let digits : List ℕ = s.digits ++ b ∷ [] in
     if nat_lt (length digits) (needed digits) then Ok (record s { digits = digits })
-    else settled s (claim_of digits)
+    else after_record s (claim_of digits)
 
 -- one byte more, by where the reader stands
 abbrev pub step_in : ℕ → Progress → ℕ → Place → Result Progress TapeFault
@@ -82,15 +82,15 @@ run offset s [] = Ok s
 run offset s (b ∷ bytes) = step offset s b >>= λ t. run (offset + 1) t bytes
 
 -- the end of the text
-abbrev pub finished_in : ℕ → Progress → Place → Result (List (Option ℕ)) TapeFault
-finished_in offset s Between = if s.count == 0
+abbrev pub result_in : ℕ → Progress → Place → Result (List (Option ℕ)) TapeFault
+result_in offset s Between = if s.count == 0
     then Err (record { offset = offset; kind = NoRecord })
     else Err (record { offset = offset; kind = Truncated })
-finished_in offset s Within = Err (record { offset = offset; kind = Truncated })
-finished_in offset s After = Ok s.cells
+result_in offset s Within = Err (record { offset = offset; kind = Truncated })
+result_in offset s After = Ok s.cells
 
-unfoldable pub finished : ℕ → Progress → Result (List (Option ℕ)) TapeFault
-finished offset s = finished_in offset s s.place
+unfoldable pub result_at : ℕ → Progress → Result (List (Option ℕ)) TapeFault
+result_at offset s = result_in offset s s.place
 
 -- nothing was read
 abbrev pub start : Progress
@@ -98,7 +98,7 @@ start = record { cells = empty_image; count = 0; place = Between; start = 0; dig
 
 -- what reading a whole text gives
 unfoldable pub read_of : List ℕ → Result (List (Option ℕ)) TapeFault
-read_of text = run 0 start text >>= finished (length text)
+read_of text = run 0 start text >>= result_at (length text)
 
 -- what a step of the code returned, and what it left, is what the step gives; after a fault nothing
 -- is said of what it left
@@ -107,7 +107,7 @@ Gives (Ok u) new gives = gives ≡ Ok new
 Gives (Err f) new gives = gives ≡ Err f
 
 -- the buffer has the digits of a record begun
-pub record IsHeld (held : ℕ) (digits : List ℕ) : Type 0 where
+pub record HoldsDigits (held : ℕ) (digits : List ℕ) : Type 0 where
   pub room : held < 520
   pub few : AreFewDigits (take held digits)
 

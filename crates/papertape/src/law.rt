@@ -10,12 +10,12 @@ ghost use Rattle.model.specs.TapeFault.{out_of_memory};
 ghost use Rattle.model.specs.TapePieces.{IsReadInPieces, IsRefusedInPieces, Tells, longest};
 ghost use Rattle.model.specs.TapeText.{tape_text};
 ghost use Rattle.model.specs.declared.tape.TapeFault.{TapeFault};
-ghost use Rattle.papertape.specs.Feeding.{Fed, ended, fed, unfed};
+ghost use Rattle.papertape.specs.Feeding.{Fed, end_of_feeding, fed, nothing_fed};
 ghost use Rattle.papertape.specs.Reading.{AnswersReading};
 
 use crate::reader::{TapeReader, read_tape};
 use crate::writer::write_tape;
-use bus::Image;
+use memory_map::Image;
 use model::TapeFault;
 use std::alloc::Global;
 
@@ -51,17 +51,17 @@ pub fn pieces_are_the_whole()
     ensures cut { (a b : List ℕ) (reader : Fed) → fed reader (a ++ b) ≡ fed (fed reader a) b }
     // A reader that has failed returns its fault for each text still to come.
     ensures failed { (fault : TapeFault) (piece : List ℕ)
-        → (fed (Err fault) piece ≡ Err fault) × (ended (Err fault) ≡ Err fault) }
+        → (fed (Err fault) piece ≡ Err fault) × (end_of_feeding (Err fault) ≡ Err fault) }
     // A text that is not too long is rejected while it is fed exactly if what was fed shows its
     // fault.
     ensures told { (text : List ℕ) (fault : TapeFault) → length text ≤ longest
-        → (fed unfed text ≡ Err fault) ↔ Tells text fault }
+        → (fed nothing_fed text ≡ Err fault) ↔ Tells text fault }
     // At the end there is an image exactly if the text denotes it and is not too long.
     ensures image { (text : List ℕ) (cells : List (Option ℕ))
-        → (ended (fed unfed text) ≡ Ok cells) ↔ IsReadInPieces text cells }
+        → (end_of_feeding (fed nothing_fed text) ≡ Ok cells) ↔ IsReadInPieces text cells }
     // There is a fault exactly if it is the text's first one, or that of a text that is too long.
     ensures fault { (text : List ℕ) (fault : TapeFault)
-        → (ended (fed unfed text) ≡ Err fault) ↔ IsRefusedInPieces text fault }
+        → (end_of_feeding (fed nothing_fed text) ≡ Err fault) ↔ IsRefusedInPieces text fault }
 {}
 
 /// States that no text in pieces has two images, or two faults, or an image and a fault.
@@ -101,7 +101,7 @@ pub fn read_pieces(alloc: Global, pieces: &[&[u8]]) -> Result<Image, TapeFault>
 
 fn read_each(alloc: Global, pieces: &[&[u8]]) -> Result<Image, TapeFault>
     ensures { AnswersReading result
-        (ended (fed unfed (concat (map (λ piece. piece.now) pieces.entry.now)))) }
+        (end_of_feeding (fed nothing_fed (concat (map (λ piece. piece.now) pieces.entry.now)))) }
 {
     let mut reader = TapeReader::new(alloc)?;
     for piece in pieces {

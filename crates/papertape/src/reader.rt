@@ -8,7 +8,7 @@ ghost use Rattle.model.specs.declared.tape.TapeFaultKind.{TapeFaultKind};
 ghost use Rattle.model.specs.TapeFault.{out_of_memory};
 
 use crate::reading::{Reading, all_are_skipped};
-use bus::Image;
+use memory_map::Image;
 use model::{TAPE_OUT_OF_MEMORY, TapeFault, TapeFaultKind};
 use std::alloc::Global;
 use std::marker::Model;
@@ -69,21 +69,21 @@ pub struct TapeReader {
 }
 
 impl Model for TapeReader {
-    ghost use Rattle.papertape.specs.Feeding.{Fed, seen};
+    ghost use Rattle.papertape.specs.Feeding.{Fed, fed_of};
 
     ghost Value = { Fed };
 
-    ghost view = { λ r. seen r.failed r.offset r.reading };
+    ghost view = { λ r. fed_of r.failed r.offset r.reading };
 }
 
 impl TapeReader {
-    ghost use Rattle.papertape.specs.Feeding.{fed, fed_up_to, ended, said, unfed};
+    ghost use Rattle.papertape.specs.Feeding.{fed, fed_up_to, end_of_feeding, answer_of, nothing_fed};
 
     /// Makes a reader that was fed nothing.
     ///
     /// Errors: `OutOfMemory` at offset 0 if an allocation fails.
     pub fn new(alloc: Global) -> Result<TapeReader, TapeFault>
-        ensures new { IfOk result (λ r. r ≡ unfed) }
+        ensures new { IfOk result (λ r. r ≡ nothing_fed) }
         ensures refused { IfErr result (λ f. f ≡ out_of_memory) }
     {
         let image = Image::new(alloc).map_err(|_| TAPE_OUT_OF_MEMORY)?;
@@ -161,7 +161,7 @@ impl TapeReader {
         // The piece comes after what was fed.
         ensures after { self.new ≡ fed self.old piece.now }
         // The result is the reader's fault, if it has one.
-        ensures answer { result ≡ said self.new }
+        ensures answer { result ≡ answer_of self.new }
     {
         self.take_up_to(LONGEST, piece);
         match self.failed {
@@ -175,7 +175,7 @@ impl TapeReader {
     /// Errors: those of `feed`, if the reader has failed; `NoRecord` and `Truncated`, at the number
     /// of bytes fed.
     pub fn finish(self) -> Result<Image, TapeFault>
-        ensures { ended self ≡ result }
+        ensures { end_of_feeding self ≡ result }
     {
         match self.failed {
             None => self.reading.finish(self.offset),

@@ -6,7 +6,7 @@ ghost use Rattle.model.specs.Digits.{is_hex_byte};
 ghost use Rattle.model.specs.Tape.{is_skipped};
 
 use crate::claim::{Claim, is_hex_digit, needed};
-use bus::Image;
+use memory_map::Image;
 use model::{TapeFault, TapeFaultKind};
 use std::marker::Model;
 
@@ -51,7 +51,7 @@ pub struct Reading {
 
 impl Model for Reading {
     ghost use Rattle.std.specs.Prelude.{take};
-    ghost use Rattle.papertape.specs.Reading.{Progress, IsHeld};
+    ghost use Rattle.papertape.specs.Reading.{Progress, HoldsDigits};
 
     ghost Value = { Progress };
 
@@ -63,11 +63,11 @@ impl Model for Reading {
       digits = take r.held r.digits;
     } };
 
-    ghost invariant = { λ r. IsHeld r.held r.digits };
+    ghost invariant = { λ r. HoldsDigits r.held r.digits };
 }
 
 impl Reading {
-    ghost use Rattle.papertape.specs.Reading.{Gives, start, step, settled, with_digit, finished};
+    ghost use Rattle.papertape.specs.Reading.{Gives, start, step, after_record, with_digit, result_at};
     ghost use Rattle.papertape.specs.declared.reading.Place.TheVariants.{Within};
 
     /// Returns whether a record is begun and not ended.
@@ -86,9 +86,9 @@ impl Reading {
         self.held = 0;
     }
 
-    #[tactic(auto, unfolding(crate::specs::Reading::settled))]
+    #[tactic(auto, unfolding(crate::specs::Reading::after_record))]
     fn settle(&mut self, claim: &Claim) -> Result<(), TapeFault>
-        ensures { Gives result self.new (settled self.old claim.now) }
+        ensures { Gives result self.new (after_record self.old claim.now) }
     {
         let fault = |kind| Err(TapeFault {
             offset: self.start,
@@ -187,9 +187,9 @@ impl Reading {
         }
     }
 
-    #[tactic(auto, unfolding(crate::specs::Reading::finished))]
+    #[tactic(auto, unfolding(crate::specs::Reading::result_at))]
     pub fn finish(self, offset: u64) -> Result<Image, TapeFault>
-        ensures { finished offset self ≡ result }
+        ensures { result_at offset self ≡ result }
     {
         match self.place {
             Place::Between => {

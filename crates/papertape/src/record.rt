@@ -4,7 +4,7 @@ ghost use Rattle.std.specs.Prelude.{◌≡◌, ◌++◌, ◌∷◌, ◌≤◌, [
 ghost use Rattle.hex.specs.Hex.{encode_upper};
 ghost use Rattle.model.specs.TapeText.{line, word};
 
-use hexdigits::digits_of;
+use formatting::digits_of;
 use std::alloc::AllocError;
 
 fn push_byte(out: &mut Vec<u8>, byte: u8) -> Result<(), AllocError>

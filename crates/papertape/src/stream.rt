@@ -9,7 +9,7 @@ ghost use Rattle.papertape.specs.declared.stream.TapeReadFault.TheVariants.{Read
 ghost use Rattle.papertape.specs.declared.stream.TapeReadFault.TheVariants.{Tape};
 
 use crate::reader::TapeReader;
-use bus::Image;
+use memory_map::Image;
 use model::TapeFault;
 use std::alloc::Global;
 use std::io::Read;

@@ -7,7 +7,7 @@ ghost use Rattle.model.specs.TapeText.{tape_text};
 
 use crate::piece::Piece;
 use crate::record::write_record;
-use bus::Image;
+use memory_map::Image;
 use model::TapeFault;
 use std::alloc::Global;
 

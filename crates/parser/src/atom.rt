@@ -6,7 +6,7 @@ ghost use Rattle.model.specs.Digits.{digit_value};
 ghost use Rattle.model.specs.Expression.{atom_of, in_range, number_after, number_of_text};
 ghost use Rattle.model.specs.Expression.{operator_of, symbol_of};
 ghost use Rattle.line_parts.specs.Lexemes.{lexeme_of};
-ghost use Rattle.line_parts.specs.Trees.{view};
+ghost use Rattle.line_parts.specs.TermViews.{term_view};
 
 use line_parts::{Expr, Token};
 use model::{Operator, TokenKind};
@@ -84,7 +84,7 @@ fn number(text: &[u8]) -> Option<i32>
 
 /// Returns the expression that a token is by itself, if it is one.
 pub(crate) fn atom<'a>(token: &Token<'a>) -> Option<Expr<'a>>
-    ensures { option_map view result ≡ atom_of (lexeme_of token.now) }
+    ensures { option_map term_view result ≡ atom_of (lexeme_of token.now) }
 {
     match token.kind {
         TokenKind::Word => Some(Expr::Name(token.text)),

@@ -7,7 +7,7 @@ ghost use Rattle.model.specs.Reading.{closed_by, expression_of, inner_at, more_w
 ghost use Rattle.model.specs.Reading.{primary_with, sum_with, unary_with, whole_with};
 ghost use Rattle.model.specs.declared.expression.LineFault.TheVariants.{Syntax};
 ghost use Rattle.line_parts.specs.Lexemes.{lexemes};
-ghost use Rattle.line_parts.specs.Trees.{seen, seen_next, view};
+ghost use Rattle.line_parts.specs.TermViews.{read_view, next_view, term_view};
 
 use crate::atom::{atom, operator, symbol};
 use line_parts::{Expr, Token};
@@ -16,7 +16,7 @@ use std::alloc::{AllocError, Global};
 
 /// Returns what is inside a bracket, if the next token closes it.
 fn closed<'a, 't>(inner: Expr<'a>, tokens: &'t [Token<'a>]) -> Option<(Expr<'a>, &'t [Token<'a>])>
-    ensures { seen result ≡ closed_by (view inner.entry) (lexemes tokens.now) }
+    ensures { read_view result ≡ closed_by (term_view inner.entry) (lexemes tokens.now) }
 {
     let (first, rest) = tokens.split_first()?;
     if symbol(first) == Some(b']') {
@@ -33,7 +33,7 @@ fn primary<'a, 't>(
     tokens: &'t [Token<'a>],
     depth: u8,
 ) -> Result<Option<(Expr<'a>, &'t [Token<'a>])>, AllocError>
-    ensures { IfOk result (λ r. seen r ≡ primary_with (inner_at depth) (lexemes tokens.now)) }
+    ensures { IfOk result (λ r. read_view r ≡ primary_with (inner_at depth) (lexemes tokens.now)) }
 {
     let Some((first, rest)) = tokens.split_first() else {
         return Ok(None);
@@ -60,7 +60,7 @@ fn unary<'a, 't>(
     tokens: &'t [Token<'a>],
     depth: u8,
 ) -> Result<Option<(Expr<'a>, &'t [Token<'a>])>, AllocError>
-    ensures { IfOk result (λ r. seen r ≡ unary_with (inner_at depth) (lexemes tokens.now)) }
+    ensures { IfOk result (λ r. read_view r ≡ unary_with (inner_at depth) (lexemes tokens.now)) }
 {
     let Some((first, rest)) = tokens.split_first() else {
         return Ok(None);
@@ -82,7 +82,7 @@ fn sum<'a, 't>(
     tokens: &'t [Token<'a>],
     depth: u8,
 ) -> Result<Option<(Expr<'a>, &'t [Token<'a>])>, AllocError>
-    ensures { IfOk result (λ r. seen r ≡ sum_with (inner_at depth) (lexemes tokens.now)) }
+    ensures { IfOk result (λ r. read_view r ≡ sum_with (inner_at depth) (lexemes tokens.now)) }
 {
     let Some((first, rest)) = unary(alloc, tokens, depth)? else {
         return Ok(None);
@@ -106,7 +106,8 @@ fn joined<'a>(
     left: Expr<'a>,
     right: Expr<'a>,
 ) -> Result<Expr<'a>, AllocError>
-    ensures { IfOk result (λ e. view e ≡ binary op (view left.entry) (view right.entry)) }
+    ensures { IfOk result (λ e. term_view e
+        ≡ binary op (term_view left.entry) (term_view right.entry)) }
 {
     Ok(Expr::Binary(op, Box::new(alloc, left)?, Box::new(alloc, right)?))
 }
@@ -118,7 +119,7 @@ fn next<'a, 't>(
     tokens: &'t [Token<'a>],
     depth: u8,
 ) -> Result<Option<(Operator, Expr<'a>, &'t [Token<'a>])>, AllocError>
-    ensures { IfOk result (λ r. seen_next r ≡ next_with (inner_at depth) (lexemes tokens.now)) }
+    ensures { IfOk result (λ r. next_view r ≡ next_with (inner_at depth) (lexemes tokens.now)) }
 {
     let Some((token, behind)) = tokens.split_first() else {
         return Ok(None);
@@ -137,7 +138,7 @@ fn low<'a, 't>(
     alloc: Global,
     tokens: &'t [Token<'a>],
 ) -> Result<Option<(Expr<'a>, &'t [Token<'a>])>, AllocError>
-    ensures { IfOk result (λ r. seen r
+    ensures { IfOk result (λ r. read_view r
         ≡ option_map (λ p. (low p.0, p.1)) (sum_with (inner_at 8) (lexemes tokens.now))) }
 {
     let Some((inner, rest)) = sum(alloc, tokens, 8)? else {
@@ -151,7 +152,7 @@ fn high<'a, 't>(
     alloc: Global,
     tokens: &'t [Token<'a>],
 ) -> Result<Option<(Expr<'a>, &'t [Token<'a>])>, AllocError>
-    ensures { IfOk result (λ r. seen r
+    ensures { IfOk result (λ r. read_view r
         ≡ option_map (λ p. (high p.0, p.1)) (sum_with (inner_at 8) (lexemes tokens.now))) }
 {
     let Some((inner, rest)) = sum(alloc, tokens, 8)? else {
@@ -166,7 +167,7 @@ fn whole<'a, 't>(
     alloc: Global,
     tokens: &'t [Token<'a>],
 ) -> Result<Option<(Expr<'a>, &'t [Token<'a>])>, AllocError>
-    ensures { IfOk result (λ r. seen r ≡ expression_of (lexemes tokens.now)) }
+    ensures { IfOk result (λ r. read_view r ≡ expression_of (lexemes tokens.now)) }
 {
     let Some((first, rest)) = tokens.split_first() else {
         return Ok(None);
@@ -186,7 +187,8 @@ fn whole<'a, 't>(
 pub fn parse_expr<'a>(alloc: Global, tokens: &[Token<'a>]) -> Result<(Expr<'a>, usize), LineFault>
     // What is read, and the tokens left after it.
     ensures found { IfOk result
-        (λ p. expression_of (lexemes tokens.now) ≡ Some (view p.0, drop p.1 (lexemes tokens.now))) }
+        (λ p. expression_of (lexemes tokens.now)
+        ≡ Some (term_view p.0, drop p.1 (lexemes tokens.now))) }
     ensures within { IfOk result (λ p. p.1 ≤ length tokens.now) }
     // No beginning is an expression.
     ensures syntax { IfErr result (λ f. f ≡ Syntax → expression_of (lexemes tokens.now) ≡ None) }

@@ -11,12 +11,12 @@ use Rattle.engine.specs.declared.fault.EngineFault.{EngineFault}
 use Rattle.engine.specs.declared.fault.EngineFault.TheVariants as engine_fault
 use Rattle.model.specs.Disassembly.{rows_in}
 use Rattle.model.specs.Event.{start}
-use Rattle.model.specs.Session.{fresh}
+use Rattle.model.specs.Session.{new_session}
 use Rattle.model.specs.Source.{HasFault}
 use Rattle.model.specs.State.{Map, has_port_byte, memory_of}
 use Rattle.model.specs.TapePieces.{IsReadInPieces, IsRefusedInPieces}
 use Rattle.model.specs.TapeFault.{out_of_memory as tape_out_of_memory}
-use Rattle.model.specs.Written.{AppendsFront, Writes}
+use Rattle.model.specs.Writers.{AppendsFront, Writes}
 use Rattle.model.specs.declared.instruction.Profile.{Profile}
 use Rattle.model.specs.declared.session_fault.SessionFault.TheVariants.{PortAddress}
 use Rattle.model.specs.declared.tape.TapeFault.{TapeFault}
@@ -210,7 +210,7 @@ ends_write (Err r) only = subst EndsDis (sym (ap (refusal_in r) only)) tt
 -- Whatever says which images a file stands for.
 pub served_of : (map : Map) (history : ℕ) (input left held now : Option (List ℕ)) (Alone : Type 0) (Denoted : List (Option ℕ) → Type 0)
     (answer : Result (Unit {0}) EngineFault) (outcome : Result (Unit {0}) Refusal)
-    → ((image : List (Option ℕ)) → Denoted image → Serves (fresh history (start map image)) input left held now answer)
+    → ((image : List (Option ℕ)) → Denoted image → Serves (new_session history (start map image)) input left held now answer)
     → Reaches answer ((image : List (Option ℕ)) × Denoted image) Alone
     → MatchResult answer (λ _. outcome ≡ Ok tt) (λ fault. outcome ≡ Err (of_engine fault))
     → IsServed map history input left held now outcome Alone
@@ -227,7 +227,7 @@ served_of m h i l e n A D (Err (engine_fault.Session f)) o serves reaches same =
 -- tape.
 pub served_from : (map : Map) (history : ℕ) (input left held now : Option (List ℕ)) (Alone : Type 0) (Denoted : List (Option ℕ) → Type 0)
     (answer : Result (Unit {0}) EngineFault) (outcome : Result (Unit {0}) Refusal)
-    → ReachesFrom answer ((image : List (Option ℕ)) × Denoted image × Serves (fresh history (start map image)) input left held now answer) Alone
+    → ReachesFrom answer ((image : List (Option ℕ)) × Denoted image × Serves (new_session history (start map image)) input left held now answer) Alone
     → MatchResult answer (λ _. outcome ≡ Ok tt) (λ fault. outcome ≡ Err (of_engine fault))
     → IsServed map history input left held now outcome Alone
 served_from m h i l e n A D (Ok x) o stood same = subst (λ r. IsServed m h i l e n r A) (sym same) (stood.0, stood.2)

@@ -3,13 +3,13 @@ use Rattle.std.proofs.Common.{◌≡◌, ◌∙◌, ℕ, List, Option, Some, IfS
 use Rattle.std.specs.Prelude.{⊤}
 use Rattle.std.specs.Io.KnownBytes.{Appends}
 use Rattle.model.specs.Event.{start}
-use Rattle.model.specs.Session.{fresh}
+use Rattle.model.specs.Session.{new_session}
 use Rattle.model.specs.Transcript.{transcript}
 use Rattle.program.specs.Statuses.{status_of}
 use Rattle.program.specs.Streams.{IsServed}
 use Rattle.program.specs.declared.refusal.Refusal.{Refusal}
 use Rattle.program.specs.declared.refusal.Refusal.TheVariants.{Words, Map, Source, Tape, Session, OutOfMemory, Read, Write}
-use Rattle.words.specs.Asked.{Asked, DebugAsked, debug}
+use Rattle.program_words.specs.Asked.{Asked, DebugAsked, debug}
 
 -- Words ask for one thing.
 pub one_debug : (a : Option Asked) (x y : DebugAsked) → a ≡ Some (debug x) → a ≡ Some (debug y) → x ≡ y
@@ -27,7 +27,7 @@ not_zero Write e = omega arith
 
 -- The transcript of the input was written, from some image on the map.
 abbrev pub IsTranscript : Option (List ℕ) → Option (List ℕ) → Option (List ℕ) → DebugAsked → Type 0
-IsTranscript input held now d = (image : List (Option ℕ)) × IfSome input (λ given. Appends held now (transcript (fresh d.history (start (record { profile = d.profile; rom = d.rom; port = d.port }) image)) given).written)
+IsTranscript input held now d = (image : List (Option ℕ)) × IfSome input (λ given. Appends held now (transcript (new_session d.history (start (record { profile = d.profile; rom = d.rom; port = d.port }) image)) given).written)
 
 pub ended_served : (v d : DebugAsked) (input left held now : Option (List ℕ)) (Alone : Type 0) (outcome : Result ⊤ Refusal) (status : ℕ) → v ≡ d
     → IsServed (record { profile = v.profile; rom = v.rom; port = v.port }) v.history input left held now outcome Alone

@@ -1,6 +1,6 @@
 -- Which refusal the program returns if a part of it fails.
 use Rattle.std.specs.Prelude.{◌≡◌, ⊤, ℕ, Bool, true, false, List, Option}
-use Rattle.bus.specs.declared.map_spec.MapSpec.{MapSpec}
+use Rattle.memory_map.specs.declared.map_spec.MapSpec.{MapSpec}
 use Rattle.model.specs.State.{has_port_byte, is_map}
 use Rattle.model.specs.Source.{HasFault}
 use Rattle.model.specs.TapePieces.{IsReadInPieces, IsRefusedInPieces}

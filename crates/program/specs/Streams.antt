@@ -1,15 +1,15 @@
 -- What `debug` and `dis` do to their streams. Source: mos65.
 use Rattle.std.specs.Prelude.{⊤, ◌≡◌, ◌⊎◌, ℕ, List, Option, Result, Ok, Err, MatchResult}
 use Rattle.std.specs.Io.KnownBytes.{Appends}
-use Rattle.bus.specs.declared.map_spec.MapSpec.{MapSpec}
+use Rattle.memory_map.specs.declared.map_spec.MapSpec.{MapSpec}
 use Rattle.engine.specs.Outcome.{Serves}
 use Rattle.engine.specs.declared.fault.EngineFault.{EngineFault}
 use Rattle.engine.specs.declared.fault.EngineFault.TheVariants as engine_fault
 use Rattle.model.specs.Disassembly.{rows_in}
 use Rattle.model.specs.Event.{start}
-use Rattle.model.specs.Session.{fresh}
+use Rattle.model.specs.Session.{new_session}
 use Rattle.model.specs.State.{memory_of}
-use Rattle.model.specs.Written.{AppendsFront}
+use Rattle.model.specs.Writers.{AppendsFront}
 use Rattle.model.specs.declared.instruction.Profile.{Profile}
 use Rattle.program.specs.Statuses.{status_of}
 use Rattle.program.specs.declared.refusal.Refusal.{Refusal}
@@ -20,7 +20,7 @@ use Rattle.program.specs.declared.refusal.Refusal.TheVariants.{OutOfMemory, Read
 abbrev pub FromImage : MapSpec → ℕ → Option (List ℕ) → Option (List ℕ) → Option (List ℕ)
     → Option (List ℕ) → Result ⊤ EngineFault → Type 0
 FromImage map history input left held now ended = (image : List (Option ℕ))
-    × Serves (fresh history (start map image)) input left held now ended
+    × Serves (new_session history (start map image)) input left held now ended
 
 -- What `debug` did to its streams, by how it ended: a session was served to its end or to a
 -- failure, or none began and the streams were left alone, `Alone`. `Read` may be one of the file,

@@ -15,15 +15,15 @@ use crate::map::map_of;
 use crate::refusal::Refusal;
 use assembler::{Assembly, assemble};
 use bus::MapSpec;
+use law_sources::{each_source_has_one_meaning, one_assignment};
 use model::{AsmFault, AsmFaultKind};
 use papertape::write_tape;
-use source_laws::{each_source_has_one_meaning, one_assignment};
+use program_words::AsmWords;
 use std::alloc::Global;
 use std::fs::File;
 use std::io::Read;
 use std::rt::Files;
 use std::{fs, io};
-use words::AsmWords;
 
 /// One byte more than the longest source, so that a longer file is rejected for its size without
 /// being read to its end.

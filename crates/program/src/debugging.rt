@@ -9,11 +9,11 @@ use crate::assembling::read_source;
 use crate::map::map_of;
 use crate::refusal::Refusal;
 use engine::{EngineFault, debug_source, debug_tape_from};
+use program_words::DebugWords;
 use std::fs::File;
 use std::io;
 use std::io::{Read, Write};
 use std::rt::Files;
-use words::DebugWords;
 
 /// Debugs a source or a tape: the replies to the lines of `input` go to `output`.
 ///

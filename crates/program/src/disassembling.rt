@@ -5,7 +5,7 @@ ghost use Rattle.model.specs.Disassembly.{rows_in};
 ghost use Rattle.model.specs.State.{memory_of};
 ghost use Rattle.model.specs.TapeFault.{out_of_memory};
 ghost use Rattle.model.specs.TapePieces.{IsReadInPieces, IsRefusedInPieces};
-ghost use Rattle.model.specs.Written.{Writes};
+ghost use Rattle.model.specs.Writers.{Writes};
 ghost use Rattle.model.specs.declared.tape.TapeFault.{TapeFault};
 ghost use Rattle.papertape.specs.Streaming.{EndsReading, IsImageOf};
 ghost use Rattle.papertape.specs.declared.stream.TapeReadFault.TheVariants.{Read as ReadFailed};
@@ -14,15 +14,15 @@ ghost use Rattle.program.specs.Refusals.{EndsDis};
 ghost use Rattle.program.specs.Streams.{IsListed};
 
 use crate::refusal::Refusal;
-use disassembly::disassembly;
+use disasm::disassembly;
 use model::{Profile, TAPE_OUT_OF_MEMORY};
 use papertape::{TapeReadFault, read_tape_from};
+use program_words::DisWords;
 use replies::put;
 use std::alloc::Global;
 use std::fs::File;
 use std::io::{Read, Write};
 use std::rt::Files;
-use words::DisWords;
 
 /// Reads a tape from a reader, and returns the text that `mos65 dis` writes.
 ///

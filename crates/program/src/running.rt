@@ -6,24 +6,24 @@ ghost use Rattle.std.specs.Io.KnownBytes.{Appends};
 ghost use Rattle.clap.specs.Words.{IsAmong, fault_of};
 ghost use Rattle.clap.specs.declared.error.kind.ErrorKind.TheVariants.{DisplayHelp};
 ghost use Rattle.model.specs.Event.{start};
-ghost use Rattle.model.specs.Session.{fresh};
+ghost use Rattle.model.specs.Session.{new_session};
 ghost use Rattle.model.specs.State.{is_map};
 ghost use Rattle.model.specs.Transcript.{transcript};
 ghost use Rattle.program.specs.Statuses.{IsStatusOf, status_of};
 ghost use Rattle.program.specs.Streams.{IsListed, IsServed, IsStatus};
 ghost use Rattle.program.specs.declared.refusal.Refusal.{Refusal};
-ghost use Rattle.words.specs.Asked.{AsmAsked, DebugAsked, DisAsked, asked, asm, debug, dis};
-ghost use Rattle.words.specs.CommandLine.{mos65};
-ghost use Rattle.words.specs.Refused.{IsTaken};
+ghost use Rattle.program_words.specs.Asked.{AsmAsked, DebugAsked, DisAsked, asked, asm, debug, dis};
+ghost use Rattle.program_words.specs.CommandLine.{mos65};
+ghost use Rattle.program_words.specs.Refused.{IsTaken};
 
 use crate::assembling::asm;
 use crate::debugging::debug;
 use crate::disassembling::dis;
 use crate::refusal::Refusal;
+use program_words::{Words, WordsFault, read_words};
 use std::io;
 use std::io::{ErrorKind, Read, Write};
 use std::rt::Files;
-use words::{Words, WordsFault, read_words};
 
 /// Writes the fault line, and returns the exit status, even if the line cannot be written.
 fn refused<E: Write>(refusal: Refusal, errors: &mut E) -> u8
@@ -153,7 +153,8 @@ pub fn program<H: Files + AllocGlobal, R: Read, O: Write, E: Write>(
         → IsTaken (map (λ s. s.now) words.entry.now)
         → (image : List (Option ℕ)) × IfSome (R.remaining input.old)
         (λ given. Appends (O.contents output.old) (O.contents output.new) (transcript
-        (fresh d.history (start (record { profile = d.profile; rom = d.rom; port = d.port }) image))
+        (new_session d.history (start (record { profile = d.profile; rom = d.rom; port = d.port })
+        image))
         given).written) }
 {
     match read_words(rt.alloc(), words) {

@@ -4,7 +4,7 @@ use Rattle.std.specs.Prelude.{nat_lt}
 use Rattle.std.proofs.lemmas.Bool.{lt-leb, le-ltb, cases_lt, ltb-false}
 use Rattle.std.proofs.lemmas.List.{take_all, take_more, drop_all}
 use Rattle.model.specs.State.{State, console_size}
-use Rattle.model.specs.Session.{Session, appended}
+use Rattle.model.specs.Session.{Session, with_state}
 use Rattle.model.specs.Event.{event_of, input_of}
 use Rattle.model.specs.Transcript.{after_event, after_input}
 use Rattle.model.specs.declared.event.Event.TheVariants as event
@@ -35,12 +35,12 @@ refused state fault r e f = true_false (sym (ap is_accepted e) ∙ ap is_accepte
 
 -- So the session holds it, whatever the call's result.
 pub handed : (s n : Session) (b : ℕ) (r : Result (Unit {0}) EventFault) → length s.current.bus.given + 1 ≤ 65536
-    → OnOk r ((state : State) × (event_of s.current (event.Input b) ≡ Ok state) × (n ≡ appended s state))
-    → IfErr r (λ fault. (event_of s.current (event.Input b) ≡ Err fault) × (n ≡ s)) → n ≡ appended s (given_more s.current b)
-handed s n b (Ok u) room ok err = ok.2 ∙ ap (λ r. appended s (state_in s.current r)) (sym ok.1 ∙ accepts s.current b room)
+    → OnOk r ((state : State) × (event_of s.current (event.Input b) ≡ Ok state) × (n ≡ with_state s state))
+    → IfErr r (λ fault. (event_of s.current (event.Input b) ≡ Err fault) × (n ≡ s)) → n ≡ with_state s (given_more s.current b)
+handed s n b (Ok u) room ok err = ok.2 ∙ ap (λ r. with_state s (state_in s.current r)) (sym ok.1 ∙ accepts s.current b room)
 handed s n b (Err fault) room ok err = absurd (refused (given_more s.current b) fault (event_of s.current (event.Input b)) (accepts s.current b room) err.0)
 
-pub after_one : (s : Session) (b : ℕ) → length s.current.bus.given + 1 ≤ 65536 → after_input s (b ∷ []) ≡ appended s (given_more s.current b)
+pub after_one : (s : Session) (b : ℕ) → length s.current.bus.given + 1 ≤ 65536 → after_input s (b ∷ []) ≡ with_state s (given_more s.current b)
 unfolding after_input
 after_one s b room = ap (after_event s) (accepts s.current b room)
 

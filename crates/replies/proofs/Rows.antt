@@ -7,7 +7,7 @@ use Rattle.std.proofs.lemmas.Bool.{cases_lt}
 use Rattle.std.proofs.Math.Nat.{min-eq_left, min-eq_right}
 use Rattle.std.specs.Prelude.{decimal}
 use Rattle.std.specs.List.{flat_map, range_with_len}
-use Rattle.model.specs.Text.{hex_byte, hex_word, spaced_bytes, memory_row, memory_rows, output_row, output_text}
+use Rattle.model.specs.Text.{hex_byte, hex_address, spaced_bytes, memory_row, memory_rows, output_row, output_text}
 use Rattle.replies.specs.Output.{output_rows}
 
 -- ---- the bytes of a row
@@ -28,9 +28,9 @@ spaced_more memory first n within =
     ap (flat_map (λ b. 32 ∷ hex_byte b)) (take_more (drop first memory) n 0 inside ∙ ap (λ b. take n (drop first memory) ++ b ∷ []) (get_or-drop first memory n 0))
     ∙ flat_map-append (λ b. 32 ∷ hex_byte b) (take n (drop first memory)) (get_or memory (first + n) 0 ∷ [])
 
-pub row_is : (memory : List ℕ) (first last n : ℕ) → n ≡ last + 1 - first → memory_row memory first last ≡ hex_word first ++ 32 ∷ spaced_from memory first n ++ 10 ∷ []
+pub row_is : (memory : List ℕ) (first last n : ℕ) → n ≡ last + 1 - first → memory_row memory first last ≡ hex_address first ++ 32 ∷ spaced_from memory first n ++ 10 ∷ []
 unfolding spaced_from memory_row
-row_is memory first last n e = ap (λ k. hex_word first ++ 32 ∷ spaced_bytes (take k (drop first memory)) ++ 10 ∷ []) (sym e)
+row_is memory first last n e = ap (λ k. hex_address first ++ 32 ∷ spaced_bytes (take k (drop first memory)) ++ 10 ∷ []) (sym e)
 
 -- ---- parts, one after another
 
@@ -83,8 +83,8 @@ row_at memory first last k start end e f = ap (memory_row memory start) f ∙ ap
 
 -- One more byte of a row.
 pub row_step : (memory : List ℕ) (first address byte : ℕ) (items spaced new : List ℕ) → first ≤ address → address < length memory → byte ≡ get_or memory address 0
-    → items ≡ hex_word first ++ 32 ∷ spaced_from memory first (address - first) → spaced ≡ items ++ 32 ∷ [] → new ≡ spaced ++ hex_byte byte
-    → new ≡ hex_word first ++ 32 ∷ spaced_from memory first (address + 1 - first)
+    → items ≡ hex_address first ++ 32 ∷ spaced_from memory first (address - first) → spaced ≡ items ++ 32 ∷ [] → new ≡ spaced ++ hex_byte byte
+    → new ≡ hex_address first ++ 32 ∷ spaced_from memory first (address + 1 - first)
 row_step memory first address byte items spaced new le within value before e f =
     let n = address - first in
     let at : first + (address - first) ≡ address = omega arith in
@@ -93,7 +93,7 @@ row_step memory first address byte items spaced new le within value before e f =
     let more : spaced_from memory first n ++ 32 ∷ hex_byte byte ≡ spaced_from memory first (address + 1 - first) =
     ap (λ v. spaced_from memory first n ++ 32 ∷ hex_byte v) (value ∙ ap (λ a. get_or memory a 0) (sym at)) ∙ sym (spaced_more memory first n inside) ∙ ap (spaced_from memory first) next in
     f ∙ ap (λ l. l ++ hex_byte byte) (e ∙ ap (λ l. l ++ 32 ∷ []) before)
-    ∙ ap (λ l. hex_word first ++ 32 ∷ l) (append_assoc (spaced_from memory first n) (32 ∷ []) (hex_byte byte) ∙ more)
+    ∙ ap (λ l. hex_address first ++ 32 ∷ l) (append_assoc (spaced_from memory first n) (32 ∷ []) (hex_byte byte) ∙ more)
 
 -- ---- the bytes of a row of output
 

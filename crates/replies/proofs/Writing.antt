@@ -3,7 +3,7 @@ use Rattle.std.proofs.Common.{◌≡◌, ℕ, ◌+◌, ◌≤◌, List, ◌++◌
 use Rattle.std.proofs.lemmas.List.{take_all}
 use Rattle.std.specs.Io.KnownBytes.{Appends}
 use Rattle.std.proofs.KnownBytes.{Appends-trans}
-use Rattle.model.specs.Written.{AppendsFront, Writes}
+use Rattle.model.specs.Writers.{AppendsFront, Writes}
 use Rattle.model.proofs.Written.{front_after}
 
 -- n more bytes after the first i, of what is left of them

@@ -1,10 +1,10 @@
 //! Calls of the session that are not events, and the replies to them.
 
 ghost use Rattle.std.specs.Prelude.{◌≡◌, ◌≢◌, IsErrOf, IsOk, OnErr, Ok, Err};
-ghost use Rattle.model.specs.Written.{Writes};
+ghost use Rattle.model.specs.Writers.{Writes};
 ghost use Rattle.model.specs.Run.{after_steps, run_end};
 ghost use Rattle.model.specs.Back.{back_of};
-ghost use Rattle.model.specs.Tables.{break_cleared, break_set, watch_cleared, watch_set};
+ghost use Rattle.model.specs.Breakpoints.{break_cleared, break_set, watch_cleared, watch_set};
 ghost use Rattle.model.specs.Transcript.{back_answer, refusal_line, run_line, table_answer};
 
 use crate::fault::ReplyFault;

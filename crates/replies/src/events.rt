@@ -1,7 +1,7 @@
 //! Events, and the replies to them.
 
 ghost use Rattle.std.specs.Prelude.{◌≡◌, ◌≤◌, ◌+◌, ◌∷◌, ◌++◌, [], length, OnErr, Ok, Err, nat_lt};
-ghost use Rattle.model.specs.Written.{Writes};
+ghost use Rattle.model.specs.Writers.{Writes};
 ghost use Rattle.model.specs.Event.{event_of};
 ghost use Rattle.model.specs.State.{console_size};
 ghost use Rattle.model.specs.Transcript.{after_input, event_answer, input_answer, stepped_answer};

@@ -1,7 +1,7 @@
 //! How bytes are written.
 
 ghost use Rattle.std.specs.Prelude.{◌≡◌, Err, OnErr};
-ghost use Rattle.model.specs.Written.{Writes};
+ghost use Rattle.model.specs.Writers.{Writes};
 
 use crate::fault::ReplyFault;
 use std::io::Write;

@@ -5,8 +5,8 @@ ghost use Rattle.model.specs.Text.{address_part, memory_row, output_row, registe
 ghost use Rattle.model.specs.Transcript.{fault_line, refusal_line, refused_text, run_line};
 ghost use Rattle.model.specs.Transcript.{source_fault_line, why_text};
 
-use commands::{Text, push_bytes, push_decimal, push_hex_byte, push_hex_word, push_status};
 use debugger::Session;
+use formatting::{Text, push_bytes, push_decimal, push_hex_address, push_hex_byte, push_status};
 use model::{AsmFaultKind, EventFault, RunEnd, SessionFault, Why};
 
 /// Returns the register line.
@@ -27,7 +27,7 @@ pub fn register_text(session: &Session) -> Text
     push_bytes(&mut text, b" P=");
     push_status(&mut text, regs.flags);
     push_bytes(&mut text, b" PC=");
-    push_hex_word(&mut text, regs.pc);
+    push_hex_address(&mut text, regs.pc);
     push_bytes(&mut text, b" CYC=");
     push_decimal(&mut text, session.cycles());
     push_bytes(&mut text, b"\n");
@@ -58,7 +58,7 @@ fn push_refusal(text: &mut Text, fault: EventFault)
             push_bytes(text, b"FAULT ");
             push_hex_byte(text, opcode);
             push_bytes(text, b" AT ");
-            push_hex_word(text, pc);
+            push_hex_address(text, pc);
         }
         EventFault::ConsoleFull => push_bytes(text, b"CONSOLE FULL"),
         EventFault::CyclesFull => push_bytes(text, b"CYCLES FULL"),
@@ -80,11 +80,11 @@ fn push_reason(text: &mut Text, why: Why)
     match why {
         Why::Watch(address) => {
             push_bytes(text, b"WATCH ");
-            push_hex_word(text, address);
+            push_hex_address(text, address);
         }
         Why::Break(address) => {
             push_bytes(text, b"BREAK ");
-            push_hex_word(text, address);
+            push_hex_address(text, address);
         }
         Why::Limit => push_bytes(text, b"LIMIT"),
         Why::Refused(fault) => push_refusal(text, fault),
@@ -149,7 +149,7 @@ pub fn address_text(address: u16) -> Text
 {
     let mut text = Text::new();
     push_bytes(&mut text, b" ");
-    push_hex_word(&mut text, address);
+    push_hex_address(&mut text, address);
     text
 }
 
@@ -159,7 +159,7 @@ pub fn row_text(session: &Session, first: u16, last: u16) -> Text
     ensures { result.items ≡ memory_row session.now.current.bus.memory first last }
 {
     let mut text = Text::new();
-    push_hex_word(&mut text, first);
+    push_hex_address(&mut text, first);
     push_bytes(&mut text, b" ");
     for address in first..=last {
         push_bytes(&mut text, b" ");

@@ -2,7 +2,7 @@
 
 ghost use Rattle.std.specs.Prelude.{◌≡◌, ◌<◌, ◌≤◌, ◌∷◌, ◌++◌, [], OnErr, Err, length, slice_index};
 ghost use Rattle.std.specs.List.{flat_map};
-ghost use Rattle.model.specs.Written.{Writes};
+ghost use Rattle.model.specs.Writers.{Writes};
 ghost use Rattle.model.specs.Text.{address_part, breaks_line, memory_rows, output_text};
 ghost use Rattle.model.specs.Text.{register_line};
 ghost use Rattle.model.specs.Disassembly.{bytes_from, rows_in};
@@ -12,8 +12,8 @@ use crate::fault::ReplyFault;
 use crate::output::put;
 use crate::texts::{address_text, output_head, output_row_text, register_text, row_end, row_text};
 use arrayvec::ArrayVec;
-use commands::Text;
 use debugger::Session;
+use formatting::Text;
 use std::io::Write;
 
 /// Writes the register line.

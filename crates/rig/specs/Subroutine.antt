@@ -3,9 +3,9 @@
 use Rattle.std.specs.Prelude.{ℕ, ◌+◌, ◌%◌, List, [], ◌∷◌, Result, Ok, Err}
 use Rattle.model.specs.State.{State}
 use Rattle.model.specs.Event.{event_of}
-use Rattle.model.specs.Session.{Session, appended}
+use Rattle.model.specs.Session.{Session, with_state}
 use Rattle.model.specs.Run.{run_end, after_run}
-use Rattle.model.specs.Tables.{break_set, break_cleared}
+use Rattle.model.specs.Breakpoints.{break_set, break_cleared}
 use Rattle.model.specs.declared.event.Event.{Event}
 use Rattle.model.specs.declared.event.Event.TheVariants.{Set, Patch}
 use Rattle.model.specs.declared.event.EventFault.{EventFault}
@@ -18,7 +18,7 @@ use Rattle.model.specs.declared.session_fault.SessionFault.TheVariants.{AlreadyS
 
 -- The session after an event. One that is refused leaves it as it was.
 abbrev pub if_accepted : Session → Result State EventFault → Session
-if_accepted s (Ok state) = appended s state
+if_accepted s (Ok state) = with_state s state
 if_accepted s (Err fault) = s
 
 unfoldable pub after_event : Session → Event → Session

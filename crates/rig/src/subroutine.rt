@@ -1,7 +1,7 @@
 //! Runs to an address, and subroutine calls.
 
 ghost use Rattle.std.specs.Prelude.{◌≡◌, ◌≢◌, Ok, Err, IfOk, IfErr, IsErrOf, IsOk};
-ghost use Rattle.model.specs.Tables.{break_set};
+ghost use Rattle.model.specs.Breakpoints.{break_set};
 ghost use Rattle.rig.specs.Subroutine.{after_event, byte_patched, call_of, called, return_address};
 ghost use Rattle.rig.specs.Subroutine.{run_to_of, without_break};
 

@@ -6,7 +6,7 @@ use Rattle.model.specs.declared.source_fault.AsmFault.{AsmFault}
 use Rattle.model.specs.declared.source_fault.AsmFaultKind.{AsmFaultKind}
 use Rattle.assembler.specs.Assembly.{AnswersSource, out_of_memory}
 use Rattle.assembler.specs.declared.one_line.Line.{Line}
-use Rattle.source_laws.specs.Judging.{numbered}
+use Rattle.law_sources.specs.Judging.{on_line}
 
 abbrev pub bytes_of : Line → List ℕ
 bytes_of l = take l.count l.bytes
@@ -14,7 +14,7 @@ bytes_of l = take l.count l.bytes
 abbrev made : List ℕ → Result (List ℕ) AsmFault
 made bytes = Ok bytes
 
-pub right : (r : Result Line AsmFault) (bytes : List ℕ) (given : Result (List ℕ) AsmFaultKind) → given ≡ Ok bytes → AnswersSource bytes_of r (numbered 1 given) → IfOk r (λ l. bytes_of l ≡ bytes)
+pub right : (r : Result Line AsmFault) (bytes : List ℕ) (given : Result (List ℕ) AsmFaultKind) → given ≡ Ok bytes → AnswersSource bytes_of r (on_line 1 given) → IfOk r (λ l. bytes_of l ≡ bytes)
 right (Ok l) bytes given is says = let same : made bytes ≡ Ok (bytes_of l) = rw is at says in cc
 right (Err f) bytes given is says = tt
 
@@ -23,6 +23,6 @@ no_fault : (f : AsmFault) (bytes : List ℕ) → (f ≡ out_of_memory) ⊎ (made
 no_fault f bytes (inl memory) = memory
 no_fault f bytes (inr never) = cc
 
-pub only_memory : (r : Result Line AsmFault) (bytes : List ℕ) (given : Result (List ℕ) AsmFaultKind) → given ≡ Ok bytes → AnswersSource bytes_of r (numbered 1 given) → IfErr r (λ f. f ≡ out_of_memory)
+pub only_memory : (r : Result Line AsmFault) (bytes : List ℕ) (given : Result (List ℕ) AsmFaultKind) → given ≡ Ok bytes → AnswersSource bytes_of r (on_line 1 given) → IfErr r (λ f. f ≡ out_of_memory)
 only_memory (Ok l) bytes given is says = tt
 only_memory (Err f) bytes given is says = no_fault f bytes (rw is at says)

@@ -2,12 +2,12 @@
 
 ghost use Rattle.std.specs.Prelude.{◌≡◌, ◌<◌, IfErr, IfOk, length, take};
 ghost use Rattle.assembler.specs.Assembly.{out_of_memory};
-ghost use Rattle.model.specs.Instruction.{row_of};
+ghost use Rattle.model.specs.InstructionText.{row_of};
 
 use assembler::{AsmFault, Line, Profile, assemble_line_in};
 use disasm::line_in;
+use law_texts::text_is_read_again;
 use std::alloc::Global;
-use text_laws::text_is_read_again;
 
 /// Lists the first row of some bytes in a profile, and assembles its text at the same address.
 ///

@@ -1,7 +1,7 @@
 //! What is listed assembles back: the theorem on disassembler and assembler as a call's contract.
 //!
 //! `assembled_again` is the one call, and its contract holds for any bytes at any address. The law
-//! under it is in `text_laws`.
+//! under it is in `law_texts`.
 #![tactic(auto)]
 
 pub use again::assembled_again;

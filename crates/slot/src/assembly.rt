@@ -1,7 +1,7 @@
 //! A place for an assembly.
 
 ghost use Rattle.std.specs.Prelude.{Option};
-ghost use Rattle.assembler.specs.Assembly.{Assembled as Seen};
+ghost use Rattle.assembler.specs.Assembly.{AssemblyView as Seen};
 
 use std::alloc::Global;
 use std::marker::Model;

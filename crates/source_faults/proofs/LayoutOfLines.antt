@@ -1,14 +1,14 @@
 -- The layout, line by line.
 use Rattle.std.proofs.Common.{◌≡◌, ℕ, ◌+◌, true, false, List, [], ◌∷◌, ◌++◌, length, map, refl, sym, ◌∙◌, ap, length-append}
 use Rattle.std.proofs.lemmas.List.{nil_from_length}
-use Rattle.model.specs.Lines.{lines_from, lines_of}
+use Rattle.model.specs.TextLines.{lines_from, lines_of}
 use Rattle.model.specs.declared.instruction.Profile.{Profile}
 use Rattle.model.specs.AllFaults as all
 use Rattle.model.specs.AllFaults.{fixed_after, fixed_by, found_line, found_lines}
-use Rattle.model.specs.Line.{read_line}
-use Rattle.model.specs.Layout.{Fixed, layout_of}
+use Rattle.model.specs.SourceLine.{read_line}
+use Rattle.model.specs.Layout.{Context, layout_of}
 use Rattle.model.specs.Names.{Definitions}
-use Rattle.model.specs.Source.{is_end, up_to_end, nothing_fixed, read_lines}
+use Rattle.model.specs.Source.{is_end, up_to_end, first_context, read_lines}
 use Rattle.source_faults.specs.declared.found.Found.{Found}
 use Rattle.source_faults.specs.Seen.{found_all, seen_found}
 
@@ -29,28 +29,28 @@ nothing_after [] = refl
 nothing_after (f ∷ fs) = ap (λ (y : List all.Found). f ∷ y) (nothing_after fs)
 
 -- a line that others follow
-pub goes_on : (m : all.Mending) (profile : Profile) (before next : Fixed) (fs : List Found) (f : Found) (rest text behind : List ℕ) (total : List all.Found)
+pub goes_on : (m : all.Mending) (profile : Profile) (before next : Context) (fs : List Found) (f : Found) (rest text behind : List ℕ) (total : List all.Found)
     → lines_of rest ≡ text ∷ lines_of behind → is_end (read_line profile text) ≡ false
     → seen_found f ≡ found_line before text (layout_of before text) → fixed_after m before text (layout_of before text) ≡ next
     → found_all fs ++ found_lines m before (lines_left profile rest) ≡ total → found_all (fs ++ f ∷ []) ++ found_lines m next (lines_left profile behind) ≡ total
 goes_on m profile before next fs f rest text behind total cut more is after so_far =
     snoc fs f (found_lines m next (lines_left profile behind)) ∙ sym (rw (cut, more, after, ← is) refl) ∙ so_far
 
-pub fixed_on : (m : all.Mending) (profile : Profile) (before next : Fixed) (rest text behind : List ℕ) (total : Fixed)
+pub fixed_on : (m : all.Mending) (profile : Profile) (before next : Context) (rest text behind : List ℕ) (total : Context)
     → lines_of rest ≡ text ∷ lines_of behind → is_end (read_line profile text) ≡ false → fixed_after m before text (layout_of before text) ≡ next
     → fixed_by m before (lines_left profile rest) ≡ total → fixed_by m next (lines_left profile behind) ≡ total
 fixed_on m profile before next rest text behind total cut more after so_far =
     let opened : fixed_by m before (lines_left profile rest) ≡ fixed_by m (fixed_after m before text (layout_of before text)) (lines_left profile behind) = rw (cut, more) refl in
-    sym (opened ∙ ap (λ (x : Fixed). fixed_by m x (lines_left profile behind)) after) ∙ so_far
+    sym (opened ∙ ap (λ (x : Context). fixed_by m x (lines_left profile behind)) after) ∙ so_far
 
 -- the line of `.END`
-pub ends : (m : all.Mending) (profile : Profile) (before : Fixed) (fs : List Found) (f : Found) (rest text behind : List ℕ) (total : List all.Found)
+pub ends : (m : all.Mending) (profile : Profile) (before : Context) (fs : List Found) (f : Found) (rest text behind : List ℕ) (total : List all.Found)
     → lines_of rest ≡ text ∷ lines_of behind → is_end (read_line profile text) ≡ true → seen_found f ≡ found_line before text (layout_of before text)
     → found_all fs ++ found_lines m before (lines_left profile rest) ≡ total → found_all (fs ++ f ∷ []) ≡ total
 ends m profile before fs f rest text behind total cut closed is so_far =
     sym (nothing_after (found_all (fs ++ f ∷ []))) ∙ snoc fs f [] ∙ sym (rw (cut, closed, ← is) refl) ∙ so_far
 
-pub fixed_end : (m : all.Mending) (profile : Profile) (before next : Fixed) (rest text behind : List ℕ) (total : Fixed)
+pub fixed_end : (m : all.Mending) (profile : Profile) (before next : Context) (rest text behind : List ℕ) (total : Context)
     → lines_of rest ≡ text ∷ lines_of behind → is_end (read_line profile text) ≡ true → fixed_after m before text (layout_of before text) ≡ next
     → fixed_by m before (lines_left profile rest) ≡ total → next ≡ total
 fixed_end m profile before next rest text behind total cut closed after so_far =
@@ -58,21 +58,21 @@ fixed_end m profile before next rest text behind total cut closed after so_far =
     sym (opened ∙ after) ∙ so_far
 
 -- no line is left
-pub done : (m : all.Mending) (profile : Profile) (before : Fixed) (fs : List Found) (rest : List ℕ) (total : List all.Found) → length rest ≡ 0
+pub done : (m : all.Mending) (profile : Profile) (before : Context) (fs : List Found) (rest : List ℕ) (total : List all.Found) → length rest ≡ 0
     → found_all fs ++ found_lines m before (lines_left profile rest) ≡ total → found_all fs ≡ total
 done m profile before fs rest total empty so_far = sym (nothing_after (found_all fs)) ∙ sym (rw (no_lines rest empty) refl) ∙ so_far
 
-pub fixed_done : (m : all.Mending) (profile : Profile) (before : Fixed) (rest : List ℕ) (total : Fixed) → length rest ≡ 0 → fixed_by m before (lines_left profile rest) ≡ total → before ≡ total
+pub fixed_done : (m : all.Mending) (profile : Profile) (before : Context) (rest : List ℕ) (total : Context) → length rest ≡ 0 → fixed_by m before (lines_left profile rest) ≡ total → before ≡ total
 fixed_done m profile before rest total empty so_far = sym (rw (no_lines rest empty) refl) ∙ so_far
 
 -- before the first line
 pub starts : (m : all.Mending) (profile : Profile) (names : Definitions) (source : List ℕ) → names ≡ []
-    → found_lines m (record { profile = profile; address = 0; names = names }) (lines_left profile source) ≡ found_lines m (nothing_fixed profile) (read_lines profile source)
+    → found_lines m (record { profile = profile; address = 0; names = names }) (lines_left profile source) ≡ found_lines m (first_context profile) (read_lines profile source)
 unfolding read_lines
 starts m profile names source none = rw none refl
 
 pub fixed_starts : (m : all.Mending) (profile : Profile) (names : Definitions) (source : List ℕ) → names ≡ []
-    → fixed_by m (record { profile = profile; address = 0; names = names }) (lines_left profile source) ≡ fixed_by m (nothing_fixed profile) (read_lines profile source)
+    → fixed_by m (record { profile = profile; address = 0; names = names }) (lines_left profile source) ≡ fixed_by m (first_context profile) (read_lines profile source)
 unfolding read_lines
 fixed_starts m profile names source none = rw none refl
 

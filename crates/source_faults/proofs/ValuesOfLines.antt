@@ -8,9 +8,9 @@ use Rattle.model.specs.Value.{Numbers}
 use Rattle.model.specs.AllFaults as all
 use Rattle.model.specs.AllFaults.{but_of_place, image_after, judged_found, judged_line, made_after, value_kind}
 use Rattle.model.specs.Bytes.{has_bytes, has_port, line_bytes, lower, lowest, pieces_of, place_kinds, value_fault}
-use Rattle.model.specs.Layout.{Placed, no_bytes, size_of, unless}
+use Rattle.model.specs.Layout.{PlacedLine, no_bytes, size_of, unless}
 use Rattle.model.specs.declared.source_fault.AsmFaultKind.{AsmFaultKind}
-use Rattle.source_laws.specs.Judging.{put}
+use Rattle.law_sources.specs.Judging.{image_with_line}
 use Rattle.source_faults.specs.declared.found.Found.{Found}
 use Rattle.source_faults.specs.declared.judging.Judged.{Judged}
 use Rattle.source_faults.specs.Seen.{found_all, made_of, refused_at, seen_all, seen_found, seen_judged}
@@ -45,23 +45,23 @@ fault_kind kind made (Some k) e = same k kind (Err k) refl e
     same : (a b : AsmFaultKind) (r : Result Cells AsmFaultKind) → r ≡ Err a → r ≡ Err b → Some a ≡ Some b
     same a b r p q = cc
 
-pub put_kind : (m : Map) (numbers : Numbers) (image new : Cells) (p : Placed) → put m numbers image p ≡ Ok new → value_kind m numbers (made_of image false) p ≡ None
-unfolding put value_kind
+pub put_kind : (m : Map) (numbers : Numbers) (image new : Cells) (p : PlacedLine) → image_with_line m numbers image p ≡ Ok new → value_kind m numbers (made_of image false) p ≡ None
+unfolding image_with_line value_kind
 put_kind m numbers image new p e = right_kind new (with_bytes image p.address (line_bytes numbers p)) (value_fault m numbers image p) e
 
-pub put_image : (m : Map) (numbers : Numbers) (image new : Cells) (p : Placed) → put m numbers image p ≡ Ok new → new ≡ image_after numbers (made_of image false) p None
-unfolding put image_after
+pub put_image : (m : Map) (numbers : Numbers) (image new : Cells) (p : PlacedLine) → image_with_line m numbers image p ≡ Ok new → new ≡ image_after numbers (made_of image false) p None
+unfolding image_with_line image_after
 put_image m numbers image new p e = right_image new (with_bytes image p.address (line_bytes numbers p)) (value_fault m numbers image p) e
 
-pub put_fault : (m : Map) (numbers : Numbers) (image : Cells) (p : Placed) (kind : AsmFaultKind) → put m numbers image p ≡ Err kind → value_kind m numbers (made_of image false) p ≡ Some kind
-unfolding put value_kind
+pub put_fault : (m : Map) (numbers : Numbers) (image : Cells) (p : PlacedLine) (kind : AsmFaultKind) → image_with_line m numbers image p ≡ Err kind → value_kind m numbers (made_of image false) p ≡ Some kind
+unfolding image_with_line value_kind
 put_fault m numbers image p kind e = fault_kind kind (with_bytes image p.address (line_bytes numbers p)) (value_fault m numbers image p) e
 
 -- a line without bytes
 abbrev nothing_told : Option AsmFaultKind
 nothing_told = None
 
-abbrev pub plain : ℕ → Placed
+abbrev pub plain : ℕ → PlacedLine
 plain address = record { address = address; content = no_bytes }
 
 pub plain_kind : (m : Map) (numbers : Numbers) (made : all.Made) (address : ℕ) → value_kind m numbers made (plain address) ≡ None
@@ -108,17 +108,17 @@ done m numbers made js fs i total past so_far = sym (nothing_after (seen_all js)
 
 -- ---- what a line leaves
 
-pub moved_kind : (m : Map) (numbers : Numbers) (image : Cells) (moved : Bool) (p : Placed) (kind answer : Option AsmFaultKind) → moved ≡ true → kind ≡ value_fault m numbers image p
+pub moved_kind : (m : Map) (numbers : Numbers) (image : Cells) (moved : Bool) (p : PlacedLine) (kind answer : Option AsmFaultKind) → moved ≡ true → kind ≡ value_fault m numbers image p
     → answer ≡ but_of_place kind → answer ≡ value_kind m numbers (made_of image moved) p
 unfolding value_kind
 moved_kind m numbers image moved p kind answer is found answered = rw (is, answered, found) refl
 
-pub moved_image : (numbers : Numbers) (image : Cells) (moved : Bool) (p : Placed) (kind : Option AsmFaultKind) → moved ≡ true → image ≡ image_after numbers (made_of image moved) p kind
+pub moved_image : (numbers : Numbers) (image : Cells) (moved : Bool) (p : PlacedLine) (kind : Option AsmFaultKind) → moved ≡ true → image ≡ image_after numbers (made_of image moved) p kind
 unfolding image_after
 moved_image numbers image moved p None is = rw is refl
 moved_image numbers image moved p (Some kind) is = refl
 
-pub fault_image : (numbers : Numbers) (made : all.Made) (p : Placed) (kind : AsmFaultKind) → image_after numbers made p (Some kind) ≡ made.image
+pub fault_image : (numbers : Numbers) (made : all.Made) (p : PlacedLine) (kind : AsmFaultKind) → image_after numbers made p (Some kind) ≡ made.image
 unfolding image_after
 fault_image numbers made p kind = refl
 

@@ -5,11 +5,11 @@ use Rattle.model.specs.declared.instruction.Profile.{Profile}
 use Rattle.model.specs.declared.source_fault.AsmFaultKind.{AsmFaultKind}
 use Rattle.model.specs.AllFaults as all
 use Rattle.model.specs.AllFaults.{fixed_after, found_line}
-use Rattle.model.specs.Layout.{Fixed, layout_of, no_bytes}
-use Rattle.model.specs.Line.{Line, labelled, definition, read_line}
+use Rattle.model.specs.Layout.{Context, layout_of, no_bytes}
+use Rattle.model.specs.SourceLine.{Line, labelled, definition, read_line}
 use Rattle.model.specs.Names.{Definitions}
 use Rattle.model.specs.Source.{is_end, is_finish}
-use Rattle.line_parts.specs.Kept.{placed_of}
+use Rattle.line_parts.specs.KeptLines.{placed_line_of}
 use Rattle.source_faults.specs.declared.found.Found.{Found}
 use Rattle.source_faults.specs.declared.found.Found.TheVariants.{Refused, Plain, Bytes}
 use Rattle.source_faults.specs.declared.judging.Judged.{Judged}
@@ -38,13 +38,13 @@ seen_found (Plain address begins) = record {
   place = record { address = address; content = no_bytes };
   begins = begins;
 }
-seen_found (Bytes k) = record { kind = None; place = placed_of k; begins = false }
+seen_found (Bytes k) = record { kind = None; place = placed_line_of k; begins = false }
 
 abbrev pub ends_line : Line → Bool
 ends_line (labelled label s) = is_finish s
 ends_line (definition name e) = false
 
-abbrev pub before_line : Profile → ℕ → Definitions → Fixed
+abbrev pub before_line : Profile → ℕ → Definitions → Context
 before_line profile address names = record { profile = profile; address = address; names = names }
 
 -- A line is laid out or mended, which leaves these names.

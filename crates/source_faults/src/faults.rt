@@ -6,19 +6,19 @@ ghost use Rattle.model.specs.AllFaults.{faults_of, judged_lines};
 ghost use Rattle.model.specs.Source.{Denotes, HasFault, read_lines};
 ghost use Rattle.model.specs.declared.source_fault.AsmFault.{AsmFault};
 ghost use Rattle.source_faults.specs.Seen.{mending_of, seen_all};
-ghost use Rattle.source_laws.specs.Judging.{too_large};
+ghost use Rattle.law_sources.specs.Judging.{too_large};
 
 use crate::judging::{Judged, judge};
 use crate::laying::lay_out;
 use crate::mending::Mending;
 use crate::told::told;
 use bus::MapSpec;
+use law_sources::judging_is_right;
 use model::{AsmFault, AsmFaultKind};
-use source_laws::judging_is_right;
 use std::alloc::{AllocError, Global};
 use symbols::Symbols;
 
-/// The most bytes that a source has (profile).
+/// The most bytes that a source has (mos65).
 const SOURCE_SIZE: usize = 1_048_576;
 
 /// All lines of a source judged, those with a fault mended in one way.

@@ -2,13 +2,13 @@
 
 ghost use Rattle.std.specs.Prelude.{◌≡◌, ◌<◌, ◌≤◌, ◌-◌, ◌^◌, None, IfNone, IfSome, false};
 ghost use Rattle.line_parts.specs.Contents.{content_by, line_content};
-ghost use Rattle.line_parts.specs.Seen.{seen, seen_line};
+ghost use Rattle.line_parts.specs.LineViews.{statement_view, line_view};
 ghost use Rattle.model.specs.AllFaults.{begins_line, is_origin};
 ghost use Rattle.model.specs.Layout.{no_bytes, size_of};
 ghost use Rattle.source_faults.specs.Seen.{seen_found};
 
-use layout::Site;
-use line_parts::{Code, Kept, Line, Statement};
+use layout::Placement;
+use line_parts::{Code, KeptLine, Line, Statement};
 use model::AsmFaultKind;
 
 /// What is found of a line.
@@ -19,15 +19,16 @@ pub enum Found<'a> {
     /// It has no bytes; whether it is a `*=`.
     Plain { address: u32, begins: bool },
     /// It denotes bytes.
-    Bytes(Kept<'a>),
+    Bytes(KeptLine<'a>),
 }
 
 /// Whether a statement is a `*=`, if it denotes no bytes; nothing if it does, an instruction by its
 /// opcode.
 fn without_bytes(code: Option<Code>, statement: &Statement<'_>) -> Option<bool>
-    ensures plain { IfSome result (λ begins. content_by code (seen statement.now) ≡ no_bytes) }
-    ensures begins { IfSome result (λ begins. is_origin (seen statement.now) ≡ begins) }
-    ensures bytes { IfNone result (is_origin (seen statement.now) ≡ false) }
+    ensures plain { IfSome result (λ begins. content_by code (statement_view statement.now)
+        ≡ no_bytes) }
+    ensures begins { IfSome result (λ begins. is_origin (statement_view statement.now) ≡ begins) }
+    ensures bytes { IfNone result (is_origin (statement_view statement.now) ≡ false) }
 {
     match statement {
         Statement::Origin(_) => Some(true),
@@ -41,30 +42,30 @@ fn without_bytes(code: Option<Code>, statement: &Statement<'_>) -> Option<bool>
 }
 
 /// What is found of a line that has no layout fault.
-pub fn found_at<'a>(number: u32, address: u32, line: Line<'a>, site: Site) -> Found<'a>
+pub fn found_at<'a>(number: u32, address: u32, line: Line<'a>, placement: Placement) -> Found<'a>
     requires near { address < 2 ^ 31 - 510 }
-    requires small { site.count ≤ 510 }
-    requires sized { site.count ≡ size_of (line_content site.code (seen_line line)) }
+    requires small { placement.count ≤ 510 }
+    requires sized { placement.count ≡ size_of (line_content placement.code (line_view line)) }
     ensures { seen_found result ≡ record {
       kind = None;
       place = record {
         address = address;
-        content = line_content site.code (seen_line line.entry);
+        content = line_content placement.code (line_view line.entry);
       };
-      begins = begins_line (seen_line line.entry);
+      begins = begins_line (line_view line.entry);
     } }
 {
     match line {
-        Line::Labelled(_, statement) => match without_bytes(site.code, &statement) {
+        Line::Labelled(_, statement) => match without_bytes(placement.code, &statement) {
             Some(begins) => {
                 drop(statement);
                 Found::Plain { address, begins }
             }
-            None => Found::Bytes(Kept {
+            None => Found::Bytes(KeptLine {
                 number,
                 address,
-                count: site.count,
-                code: site.code,
+                count: placement.count,
+                code: placement.code,
                 statement,
             }),
         },

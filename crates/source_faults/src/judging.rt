@@ -1,7 +1,7 @@
 //! The value faults of all lines.
 
 ghost use Rattle.std.specs.Prelude.{◌≡◌, length, IfOk, OnOk};
-ghost use Rattle.line_parts.specs.Kept.{placed_of};
+ghost use Rattle.line_parts.specs.KeptLines.{placed_line_of};
 ghost use Rattle.model.specs.AllFaults.{but_of_place, image_after, is_of_place, judged_found};
 ghost use Rattle.model.specs.AllFaults.{judged_line, made_after, nothing_made, value_kind};
 ghost use Rattle.model.specs.Names.{number_in};
@@ -11,7 +11,7 @@ ghost use Rattle.source_faults.specs.Seen.{seen_made};
 use crate::found::Found;
 use bus::{Image, MapSpec};
 use emission::{Gathered, put_line, value_fault};
-use line_parts::{Kept, LineError};
+use line_parts::{KeptLine, LineError};
 use model::AsmFaultKind;
 use std::alloc::{AllocError, Global};
 use symbols::Symbols;
@@ -57,12 +57,14 @@ fn judge_kept(
     names: &Symbols,
     image: &mut Image,
     moved: bool,
-    line: &Kept<'_>,
+    line: &KeptLine<'_>,
 ) -> Result<Option<AsmFaultKind>, AllocError>
     ensures kind { IfOk result (λ kind. kind
-        ≡ value_kind map.now (number_in names.now) (made_of image.old moved) (placed_of line.now)) }
+        ≡ value_kind map.now (number_in names.now) (made_of image.old moved)
+        (placed_line_of line.now)) }
     ensures image { IfOk result (λ kind. image.new
-        ≡ image_after (number_in names.now) (made_of image.old moved) (placed_of line.now) kind) }
+        ≡ image_after (number_in names.now) (made_of image.old moved) (placed_line_of line.now)
+        kind) }
 {
     if moved {
         let kind = value_fault(gathered, map, image, names, line)?;

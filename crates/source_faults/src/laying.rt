@@ -2,17 +2,17 @@
 
 ghost use Rattle.std.specs.Prelude.{◌≡◌, ◌+◌, ◌-◌, ◌<◌, ◌≤◌, ◌^◌, [], Ok, max, length, IfOk, OnOk};
 ghost use Rattle.line_parts.specs.FewBytes.{IsSmallLine};
-ghost use Rattle.line_parts.specs.Seen.{seen_line};
+ghost use Rattle.line_parts.specs.LineViews.{line_view};
 ghost use Rattle.model.specs.AllFaults.{first_word, fixed_by, found_lines, with_word};
-ghost use Rattle.model.specs.Line.{read_line};
-ghost use Rattle.model.specs.Source.{nothing_fixed, read_lines};
+ghost use Rattle.model.specs.SourceLine.{read_line};
+ghost use Rattle.model.specs.Source.{first_context, read_lines};
 ghost use Rattle.source_faults.specs.Seen.{Lays, ends_line, mending_of, refused_at, found_all};
 ghost use Rattle.source_faults.specs.Seen.{seen_found};
 
 use crate::found::{Found, found_at};
 use crate::mending::{Mending, number_word};
 use asm_line::read_line_with;
-use layout::fix;
+use layout::place_line;
 use line_parts::{Line, LineError, Statement, Token};
 use model::{AsmFaultKind, Profile};
 use source_lines::next_line;
@@ -29,7 +29,7 @@ pub struct Laid<'a> {
 
 /// Whether nothing after a line is read.
 fn ends(line: &Line<'_>) -> bool
-    ensures { result ≡ ends_line (seen_line line.now) }
+    ensures { result ≡ ends_line (line_view line.now) }
 {
     match line {
         Line::Labelled(_, Statement::Finish) => true,
@@ -76,17 +76,17 @@ fn lay_read<'a>(
     line: Line<'a>,
 ) -> Result<Laid<'a>, AllocError>
     requires room { address < 2 ^ 31 - 510 }
-    requires read { read_line profile text.now ≡ Ok (seen_line line) }
-    requires small { IsSmallLine (seen_line line) }
+    requires read { read_line profile text.now ≡ Ok (line_view line) }
+    requires small { IsSmallLine (line_view line) }
     ensures exact { Lays (mending_of mending) profile address symbols.old text.now result
         symbols.new }
     ensures near { IfOk result (λ laid. laid.next ≤ max (address + 510) 65536) }
 {
     let ended = ends(&line);
-    match fix(alloc, profile, symbols, address, &line) {
-        Ok(site) => Ok(Laid {
-            found: found_at(number, address, line, site),
-            next: site.next,
+    match place_line(alloc, profile, symbols, address, &line) {
+        Ok(placement) => Ok(Laid {
+            found: found_at(number, address, line, placement),
+            next: placement.next,
             ended,
         }),
         Err(LineError::Kind(kind)) => {
@@ -138,9 +138,9 @@ pub fn lay_out<'a>(
     requires size { length source.now ≤ 1048576 }
     requires empty { symbols.old ≡ [] }
     ensures found { IfOk result (λ found. found_all found.items ≡ found_lines (mending_of mending)
-        (nothing_fixed profile) (read_lines profile source.now)) }
+        (first_context profile) (read_lines profile source.now)) }
     ensures names { OnOk result (symbols.new ≡ (fixed_by (mending_of mending)
-        (nothing_fixed profile) (read_lines profile source.now)).names) }
+        (first_context profile) (read_lines profile source.now)).names) }
     ensures few { IfOk result (λ found. length found.items ≤ 1048576) }
 {
     let mut found = Vec::new(alloc);

@@ -7,16 +7,16 @@ use Rattle.std.proofs.Math.Nat.{min-le_right}
 use Rattle.std.proofs.lemmas.Option.{slice_get_within, slice_get_cases, get_or_from_slice_get}
 use Rattle.source_lines.specs.declared.span.Span.{Span}
 use Rattle.source_lines.specs.Spans.{pairs_of}
-use Rattle.model.specs.Lines.{lines_from, lines_of}
+use Rattle.model.specs.TextLines.{lines_from, lines_of}
 use Rattle.model.specs.Names.{Definitions}
-use Rattle.model.specs.Listing.{bytes_at, line_rows, lines_rows, name_row, shown_in}
+use Rattle.model.specs.Listing.{bytes_at, line_rows, lines_rows, name_row, address_and_bytes}
 
 abbrev Cells : Type 0
 Cells = List (Option ℕ)
 
 -- the rows of lines in the places from one on
 abbrev pub rows_left : Cells → List (List ℕ) → List Span → ℕ → List ℕ
-rows_left image lines spans i = lines_rows lines (map (shown_in image) (pairs_of (drop i spans)))
+rows_left image lines spans i = lines_rows lines (map (address_and_bytes image) (pairs_of (drop i spans)))
 
 first_left : (spans : List Span) (i : ℕ) (span : Span) → i < length spans → span ≡ get_or spans i span → drop i spans ≡ span ∷ drop (i + 1) spans
 first_left spans i span within is = drop_more spans i span within ∙ ap (λ (x : Span). x ∷ drop (i + 1) spans) (sym is)

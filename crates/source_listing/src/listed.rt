@@ -3,12 +3,12 @@
 ghost use Rattle.std.specs.Prelude.{◌≡◌, ◌+◌, ◌-◌, ◌<◌, ◌≤◌, ◌^◌, ◌++◌, IfOk, OnOk, drop, length};
 ghost use Rattle.std.specs.Prelude.{map, take};
 ghost use Rattle.source_lines.specs.Spans.{pairs_of};
-ghost use Rattle.model.specs.Lines.{lines_of};
+ghost use Rattle.model.specs.TextLines.{lines_of};
 ghost use Rattle.model.specs.Listing.{bytes_at, lines_rows, listing_text, name_row, names_rows};
-ghost use Rattle.model.specs.Listing.{shown_in};
+ghost use Rattle.model.specs.Listing.{address_and_bytes};
 
-use bus::Image;
 use listing::{push_line, push_name};
+use memory_map::Image;
 use source_lines::{Span, next_line};
 use std::alloc::{AllocError, Global};
 use symbols::Symbols;
@@ -44,7 +44,8 @@ fn push_lines(
 ) -> Result<(), AllocError>
     requires { length cells.now ≡ 65536 }
     ensures { OnOk result (out.new.items ≡ out.old.items
-        ++ lines_rows (lines_of source.now) (map (shown_in cells.now) (pairs_of spans.now))) }
+        ++ lines_rows (lines_of source.now)
+        (map (address_and_bytes cells.now) (pairs_of spans.now))) }
 {
     let mut room = Vec::new(alloc);
     let mut rest = source;
@@ -97,7 +98,7 @@ pub fn listing_of(
     names: &Symbols,
 ) -> Result<Vec<u8>, AllocError>
     ensures { IfOk result (λ out. out.items ≡ listing_text (lines_of source.now)
-        (map (shown_in image.now) (pairs_of spans.now)) names.now) }
+        (map (address_and_bytes image.now) (pairs_of spans.now)) names.now) }
 {
     let mut out = Vec::new(alloc);
     push_lines(&mut out, alloc, source, spans, image.cells())?;

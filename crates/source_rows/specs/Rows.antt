@@ -5,7 +5,7 @@ use Rattle.std.specs.List.{flat_map}
 use Rattle.model.specs.declared.instruction.Profile.{Profile}
 use Rattle.model.specs.Image.{cell_at}
 use Rattle.model.specs.Token.{is_string_byte}
-use Rattle.model.specs.Instruction.{TextRow, row_of, byte_text, word_text}
+use Rattle.model.specs.InstructionText.{TextRow, row_of, byte_text, word_text}
 use Rattle.source_rows.specs.declared.mark.Mark.{Mark}
 use Rattle.source_rows.specs.declared.mark.Mark.TheVariants.{Code, Data, Text}
 

@@ -1,7 +1,7 @@
 //! The source of an image: the definition of what is written of it, line by line.
 //!
 //! The definition is `specs/Rows.antt`. That this text denotes the image is the law of
-//! `source_row_laws`; `source_writer` writes it.
+//! `law_source_rows`; `source_writer` writes it.
 #![tactic(auto)]
 
 mod mark;

@@ -1,13 +1,13 @@
 -- What holds of a text that was written, and of what it assembles to.
 use Rattle.std.proofs.Common.{◌≡◌, ℕ, List, Option, Result, Ok, Err, false}
 use Rattle.std.specs.Prelude.{IfOk, IfErr}
-use Rattle.assembler.specs.Assembly.{Assembled, IsImageOrMemory, out_of_memory}
+use Rattle.assembler.specs.Assembly.{AssemblyView, IsImageOrMemory, out_of_memory}
 use Rattle.model.specs.Image.{IsImage}
 use Rattle.model.specs.Source.{Denotes}
 use Rattle.model.specs.State.{Map, has_port_byte}
 use Rattle.model.specs.declared.instruction.Profile.{Profile}
 use Rattle.model.specs.declared.source_fault.AsmFault.{AsmFault}
-use Rattle.source_row_laws.specs.Law.{SourceDenotes}
+use Rattle.law_source_rows.specs.Law.{SourceDenotes}
 use Rattle.source_rows.specs.Rows.{source_of}
 use Rattle.source_rows.specs.declared.mark.Mark.{Mark}
 
@@ -25,10 +25,10 @@ pub written_means : {X E : Type 0} (items : X → List ℕ) (law : SourceDenotes
 written_means items law profile image marks (Ok x) is written = text_means law profile image marks (items x) is written
 written_means items law profile image marks (Err e) is written = tt
 
-pub same_image : (r : Result Assembled AsmFault) (image : List (Option ℕ)) → IsImageOrMemory r image → IfOk r (λ a. a.image ≡ image)
+pub same_image : (r : Result AssemblyView AsmFault) (image : List (Option ℕ)) → IsImageOrMemory r image → IfOk r (λ a. a.image ≡ image)
 same_image (Ok a) image h = h
 same_image (Err f) image h = tt
 
-pub only_memory : (r : Result Assembled AsmFault) (image : List (Option ℕ)) → IsImageOrMemory r image → IfErr r (λ f. f ≡ out_of_memory)
+pub only_memory : (r : Result AssemblyView AsmFault) (image : List (Option ℕ)) → IsImageOrMemory r image → IfErr r (λ f. f ≡ out_of_memory)
 only_memory (Ok a) image h = tt
 only_memory (Err f) image h = h

@@ -8,8 +8,8 @@ ghost use Rattle.source_rows.specs.Rows.{source_of};
 
 use assembler::{AsmFault, AsmFaultKind, Assembly, assemble};
 use bus::{Image, MapSpec};
+use law_source_rows::source_denotes;
 use model::Profile;
-use source_row_laws::source_denotes;
 use source_writer::{Mark, write_source};
 use std::alloc::{AllocError, Global};
 

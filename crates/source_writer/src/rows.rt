@@ -3,13 +3,13 @@
 ghost use Rattle.std.specs.Prelude.{◌≡◌, ℕ, ◌+◌, ◌<◌, ◌≤◌, List, [], ◌∷◌, ◌++◌, length, drop};
 ghost use Rattle.std.specs.Prelude.{codes, Some, IfOk, OnOk};
 ghost use Rattle.model.specs.Image.{cell_at};
-ghost use Rattle.model.specs.Instruction.{byte_text};
+ghost use Rattle.model.specs.InstructionText.{byte_text};
 ghost use Rattle.source_rows.specs.Rows.{bytes_text, ended, kind_of, mark_at, more_bytes};
 ghost use Rattle.source_rows.specs.Rows.{origin_line, row_at, row_by};
 
 use crate::stretch::{kind_of, mark_at, stretch};
 use disasm::line_in;
-use hexdigits::{digits_of, digits_of_word};
+use formatting::{digits_of, digits_of_address};
 use model::Profile;
 use source_rows::Mark;
 use std::alloc::AllocError;
@@ -18,7 +18,7 @@ use std::alloc::AllocError;
 pub fn push_origin(out: &mut Vec<u8>, address: u16) -> Result<(), AllocError>
     ensures { OnOk result (out.new.items ≡ out.old.items ++ ended (origin_line address)) }
 {
-    let [a, b, c, d] = digits_of_word(address);
+    let [a, b, c, d] = digits_of_address(address);
     out.extend_from_slice(&[b'*', b'=', b'$', a, b, c, d, b'\n'])?;
     Ok(())
 }

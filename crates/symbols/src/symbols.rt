@@ -2,7 +2,7 @@
 
 ghost use Rattle.std.specs.Prelude.{◌≡◌, ◌∷◌, ◌++◌, [], None, OnOk, OnErr, length, slice_get};
 ghost use Rattle.model.specs.Names.{number_in};
-ghost use Rattle.symbols.specs.Entries.{shown};
+ghost use Rattle.symbols.specs.Entries.{entry_view};
 
 use evaluator::Names;
 use indexmap::IndexMap;
@@ -17,11 +17,11 @@ pub struct Symbols {
 
 impl Model for Symbols {
     ghost use Rattle.model.specs.Names.{Definitions};
-    ghost use Rattle.symbols.specs.Entries.{named};
+    ghost use Rattle.symbols.specs.Entries.{definitions_of};
 
     ghost Value = { Definitions };
 
-    ghost view = { λ s. named s.map.entries };
+    ghost view = { λ s. definitions_of s.map.entries };
 }
 
 impl Names for Symbols {
@@ -53,7 +53,7 @@ impl Symbols {
 
     /// Returns a name and its number, by its index in the order of definition, counted from 0.
     pub fn symbol(&self, index: usize) -> Option<(&[u8], i32)>
-        ensures { shown result ≡ slice_get self.now index }
+        ensures { entry_view result ≡ slice_get self.now index }
     {
         let (name, number) = self.map.get_index(index)?;
         Some((name.as_slice(), *number))

@@ -2,7 +2,7 @@
 
 ghost use Rattle.std.specs.Prelude.{◌≡◌};
 ghost use Rattle.bus.specs.Pages.{AreSameBelow};
-ghost use Rattle.model.specs.Checkpoint.{checkpoint_of, returned, saved, CanPutBack};
+ghost use Rattle.model.specs.Checkpoint.{checkpoint_of, state_at, saved_of, CanPutBack};
 
 use crate::checkpoint::Checkpoint;
 use crate::machine::Machine;
@@ -31,10 +31,10 @@ impl Machine {
     /// Saves the rest, once the bus is saved.
     #[tactic(auto, unfolding(model::specs::Checkpoint::checkpoint_of))]
     fn save_processor(&self, into: &mut Checkpoint)
-        requires { into.old.bus ≡ saved self.now.bus }
+        requires { into.old.bus ≡ saved_of self.now.bus }
         ensures { into.new ≡ checkpoint_of self.now }
     {
-        into.regs = self.processor.regs.seen();
+        into.regs = self.processor.regs.to_regs();
         into.irq = self.processor.irq;
         into.nmi = self.processor.nmi;
         into.cycles = self.processor.cycles;
@@ -42,10 +42,10 @@ impl Machine {
 
     /// Puts back what a checkpoint holds, and cuts both lists of the console to its lengths. Does
     /// not allocate. Source: mos65.
-    #[tactic(auto, unfolding(model::specs::Checkpoint::returned))]
+    #[tactic(auto, unfolding(model::specs::Checkpoint::state_at))]
     pub fn restore(&mut self, old: &Checkpoint)
         requires { CanPutBack old.now.bus self.old.bus }
-        ensures { self.new ≡ returned old.now self.old }
+        ensures { self.new ≡ state_at old.now self.old }
     {
         self.processor.bus.restore_saved(&old.bus);
         self.processor.regs = Registers::of(old.regs);

@@ -2,7 +2,7 @@ use Rattle.std.proofs.Common.{◌≡◌, Bool, ◌+◌, ◌-◌, [], ◌∷◌, 
 use Rattle.std.specs.Prelude.{map, Some, None}
 use Rattle.std.proofs.lemmas.List.{map-append}
 use Rattle.line_parts.specs.Lexemes.{lexemes}
-use Rattle.model.specs.Line.{list_within}
+use Rattle.model.specs.SourceLine.{list_within}
 use Rattle.asm_line.specs.Lists.{goes_on}
 use Rattle.asm_line.proofs.TokensLeft.{lexemes_after, passed_on, fault_read}
 use Rattle.asm_line.proofs.CommaLists.{none_read, last_read, more_read, wrong_read, zero_read, before}

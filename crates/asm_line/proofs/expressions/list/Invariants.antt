@@ -1,7 +1,7 @@
 use Rattle.std.proofs.Common.{◌≡◌, ◌-◌, ◌≤◌, drop, length}
 use Rattle.std.specs.Prelude.{map}
 use Rattle.line_parts.specs.Lexemes.{lexemes}
-use Rattle.model.specs.Line.{list_within}
+use Rattle.model.specs.SourceLine.{list_within}
 use Rattle.asm_line.proofs.CommaLists.{before}
 use Rattle.asm_line.proofs.expressions.list.Given as goal
 

@@ -1,5 +1,5 @@
 use Rattle.std.proofs.Common.{sym, ◌∙◌, true-eqb, arith}
-use Rattle.assembler.specs.Kept.{found_of}
+use Rattle.assembler.specs.FoundLines.{found_of}
 use Rattle.assembler.proofs.FirstPass.{starts, goes_on, done}
 use Rattle.assembler.proofs.first_pass.lay_out.Goals as goal
 

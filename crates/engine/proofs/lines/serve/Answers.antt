@@ -2,17 +2,17 @@ use Rattle.std.proofs.KnownBytes.{Appends-nil, Appends-trans, Consumes-nil, Cons
 use Rattle.std.proofs.Common.{◌≡◌, [], ◌++◌, sym, ap, subst, take, length, refl, append-nil, arith, true, false, ◌<◌, inl, inr}
 use Rattle.std.proofs.lemmas.Bool.{eqb-true, eqb-false}
 use Rattle.std.specs.Io.KnownBytes.{Appends}
-use Rattle.model.specs.Lines.{last_line}
+use Rattle.model.specs.TextLines.{last_line}
 use Rattle.model.specs.Transcript.{transcript}
 use Rattle.engine.specs.Feeding.{feed}
 use Rattle.engine.proofs.Outcomes.{replying_serves, replying_serving}
 use Rattle.model.proofs.Written.{front_after, front_more}
-use Rattle.engine.proofs.Feeds.{IsServed, served_start}
+use Rattle.engine.proofs.Feeds.{ServesSoFar, served_start}
 use Rattle.engine.proofs.Serving.{known, served_more, served_quit, served_bytes, none_quits, so_far, served_all, served_last, length_zero, length_some}
 use Rattle.engine.proofs.lines.serve.Goals as goal
 
 pub loop-init : goal.loop-init
-loop-init g c = ([], [], Consumes-nil _, Appends-nil _, subst (IsServed c.args.session.now [] [] c.args.session.now) (sym c.new-begun.ensures) (served_start c.args.session.now))
+loop-init g c = ([], [], Consumes-nil _, Appends-nil _, subst (ServesSoFar c.args.session.now [] [] c.args.session.now) (sym c.new-begun.ensures) (served_start c.args.session.now))
 
 pub returns-then-is_empty-clause-serves : goal.returns-then-is_empty-clause-serves
 returns-then-is_empty-clause-serves g c =
@@ -80,8 +80,8 @@ loop-preserved g c =
       inv.1 ++ (feed c.loop.session c.loop.begun.items bs).written,
       Consumes-trans _ _ _ inv.0 bs inv.2 c.in-Ok.ensures.bytes.0,
       Appends-trans _ _ _ _ _ inv.3 c.in-Ok-false.ensures.writes,
-      subst (λ s. IsServed c.args.session.now (inv.0 ++ bs) (inv.1 ++ (feed c.loop.session c.loop.begun.items bs).written) s c.serve_bytes.new.begun.items) (ap (λ r. r.session) fed_is)
-          (subst (λ k. IsServed c.args.session.now (inv.0 ++ bs) (inv.1 ++ (feed c.loop.session c.loop.begun.items bs).written) (feed c.loop.session c.loop.begun.items bs).session k) (ap (λ r. r.kept) fed_is) now),
+      subst (λ s. ServesSoFar c.args.session.now (inv.0 ++ bs) (inv.1 ++ (feed c.loop.session c.loop.begun.items bs).written) s c.serve_bytes.new.begun.items) (ap (λ r. r.session) fed_is)
+          (subst (λ k. ServesSoFar c.args.session.now (inv.0 ++ bs) (inv.1 ++ (feed c.loop.session c.loop.begun.items bs).written) (feed c.loop.session c.loop.begun.items bs).session k) (ap (λ r. r.kept) fed_is) now),
     )
 
 pub returns-clause-serves : goal.returns-clause-serves

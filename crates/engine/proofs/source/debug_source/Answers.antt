@@ -1,6 +1,6 @@
 use Rattle.std.proofs.Common.{refl, subst, sym}
 use Rattle.model.specs.Event.{start}
-use Rattle.model.specs.Session.{fresh}
+use Rattle.model.specs.Session.{new_session}
 use Rattle.model.specs.Source.{HasFault}
 use Rattle.model.specs.Tape as tapes
 use Rattle.engine.specs.Outcome.{Serves}
@@ -41,7 +41,7 @@ returns-clause-serves g c image h =
     let own = c.in_ok-assembly.assembly.image in
     let of_image = subst (λ i. tapes.TapeDenotes c.in_ok-tape.tape.items i) c.image.ensures c.in_ok-tape.ensures.denotes in
     let tape = subst (λ t. tapes.TapeDenotes t own) (sym c.as_slice.ensures.value) of_image in
-    subst (λ i. Serves (fresh c.args.history (start c.args.map i)) (g.R.Read.remaining c.args.reader.now) (g.R.Read.remaining c.debug_tape.new.reader)
+    subst (λ i. Serves (new_session c.args.history (start c.args.map i)) (g.R.Read.remaining c.args.reader.now) (g.R.Read.remaining c.debug_tape.new.reader)
     (g.W.Write.contents c.args.writer.now) (g.W.Write.contents c.debug_tape.new.writer) c.debug_tape.result)
     (c.in_ok-assembly.ensures.only image h) (c.debug_tape.ensures.serves own tape)
 

@@ -1,6 +1,6 @@
 use Rattle.std.proofs.Common.{◌≡◌, Err, ◌⊎◌, inr, sym, ◌∙◌, true, false, true≢false, refl}
 use Rattle.model.specs.Event.{start}
-use Rattle.model.specs.Session.{fresh}
+use Rattle.model.specs.Session.{new_session}
 use Rattle.model.specs.State.{has_port_byte}
 use Rattle.model.specs.declared.session_fault.SessionFault.TheVariants.{PortAddress}
 use Rattle.engine.specs.Outcome.{Serves}
@@ -32,7 +32,7 @@ returns-in_err-image-clause-reaches g c =
 
 pub returns-clause-serves : goal.returns-clause-serves
 returns-clause-serves g c =
-    for_each (λ image. Serves (fresh c.args.history (start c.args.map image)) (g.R.Read.remaining c.args.reader.now) (g.R.Read.remaining c.debug_image.new.reader)
+    for_each (λ image. Serves (new_session c.args.history (start c.args.map image)) (g.R.Read.remaining c.args.reader.now) (g.R.Read.remaining c.debug_image.new.reader)
     (g.W.Write.contents c.args.writer.now) (g.W.Write.contents c.debug_image.new.writer) c.debug_image.result)
     c.args.tape.now c.in_ok-image.image c.in_ok-image.ensures.only c.debug_image.ensures.serves
 

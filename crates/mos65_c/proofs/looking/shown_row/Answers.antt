@@ -1,5 +1,5 @@
 use Rattle.std.proofs.Common.{ap, ◌∙◌, length}
-use Rattle.model.specs.Instruction.{row_of}
+use Rattle.model.specs.InstructionText.{row_of}
 use Rattle.mos65_c.proofs.Shown.{shown_all}
 use Rattle.mos65_c.proofs.looking.shown_row.Goals as goal
 

@@ -1,5 +1,5 @@
 use Rattle.std.proofs.Common.{◌∙◌}
-use Rattle.table_laws.proofs.Encoding.{encoded_of_row}
+use Rattle.law_opcodes.proofs.Encoding.{encoded_of_row}
 use Rattle.optable.proofs.Encoding.{code_is, found, none}
 use Rattle.optable.proofs.codes.encode_in.Goals as goal
 

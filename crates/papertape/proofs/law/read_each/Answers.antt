@@ -1,6 +1,6 @@
 use Rattle.std.proofs.Common.{◌∙◌, map, ap, drop, ◌+◌, Bor, List, ℕ, []}
 use Rattle.std.specs.List.{concat}
-use Rattle.papertape.specs.Feeding.{Fed, ended, fed, unfed}
+use Rattle.papertape.specs.Feeding.{Fed, end_of_feeding, fed, nothing_fed}
 use Rattle.papertape.proofs.Answers.{answers_fault}
 use Rattle.papertape.proofs.Pieces.{each_next, said_fault, failed_on}
 use Rattle.papertape.proofs.law.read_each.Goals as goal
@@ -12,8 +12,8 @@ returns-in_err-feed c =
     let now = λ (piece : Bor (List ℕ)). piece.now in
     let next = each_next now pieces i (record { ref_ptr = (0, 0); now = [] }) c.loop-piece.reader (concat (map now pieces)) c.loop-piece-test.true c.loop-piece.invariant in
     let fault = said_fault c.feed.new.self c.in_err-feed.field-0.0 c.in_err-feed.ensures.answer in
-    answers_fault (ended (fed unfed (concat (map now pieces)))) c.from_residual-in_err-feed.result c.in_err-feed.field-0.0 c.from_residual-in_err-feed.ensures.1
-    (failed_on c.feed.new.self c.in_err-feed.field-0.0 (concat (map now (drop (i + 1) pieces))) (fed unfed (concat (map now pieces))) fault
+    answers_fault (end_of_feeding (fed nothing_fed (concat (map now pieces)))) c.from_residual-in_err-feed.result c.in_err-feed.field-0.0 c.from_residual-in_err-feed.ensures.1
+    (failed_on c.feed.new.self c.in_err-feed.field-0.0 (concat (map now (drop (i + 1) pieces))) (fed nothing_fed (concat (map now pieces))) fault
     (ap (λ (s : Fed). fed s (concat (map now (drop (i + 1) pieces)))) c.in_err-feed.ensures.after ∙ next))
 
 pub loop-piece-preserved : goal.loop-piece-preserved

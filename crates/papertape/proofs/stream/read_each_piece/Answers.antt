@@ -1,7 +1,7 @@
 use Rattle.std.proofs.KnownBytes.{Consumes-trans, Keeps-refl}
 use Rattle.std.proofs.Common.{◌++◌, sym, ap, ◌∙◌, take, refl, arith, length-take}
 use Rattle.model.specs.TapePieces.{longest}
-use Rattle.papertape.specs.Feeding.{Fed, fed, unfed}
+use Rattle.papertape.specs.Feeding.{Fed, fed, nothing_fed}
 use Rattle.papertape.proofs.Pieces.{fed-append, said_fault}
 use Rattle.papertape.proofs.Streaming.{reads_failed, reads_fault_at_end, reads_image, reads_nothing, reads_refused}
 use Rattle.papertape.proofs.stream.read_each_piece.Goals as goal
@@ -46,6 +46,6 @@ loop-preserved g c =
     let bs = take c.in-Ok.n c.read.new.buf in (
       inv.0 ++ bs,
       Consumes-trans _ _ _ inv.0 bs inv.1 c.in-Ok.ensures.bytes.0,
-      c.feed.ensures.after ∙ ap (λ (s : Fed). fed s bs) inv.2 ∙ sym (fed-append longest inv.0 bs unfed),
+      c.feed.ensures.after ∙ ap (λ (s : Fed). fed s bs) inv.2 ∙ sym (fed-append longest inv.0 bs nothing_fed),
       sym c.in_ok-feed-in-Ok.ensures.answer,
     )

@@ -1,6 +1,6 @@
 use Rattle.std.proofs.Common.{◌≡◌, ◌+◌, ◌-◌, ◌<◌, ◌≤◌, ◌++◌, ◌∷◌, [], arith, ap, sym, ◌∙◌, length, length-append, refl, inl, inr}
 use Rattle.std.proofs.lemmas.Bool.{cases_lt}
-use Rattle.model.specs.Text.{hex_word}
+use Rattle.model.specs.Text.{hex_address}
 use Rattle.replies.proofs.Rows.{spaced_none, row_step, row_is}
 use Rattle.replies.proofs.texts.row_text.Goals as goal
 use Rattle.replies.proofs.texts.row_text.Goals.{else-loop-address-test, then-loop-address-test+else-address-last}
@@ -9,7 +9,7 @@ pub loop-address-init : goal.loop-address-init
 loop-address-init c =
     let first = c.args.first in
     let none : c.args.first - c.args.first ≡ 0 = omega arith in
-    let text = c.push_bytes.ensures ∙ ap (λ l. l ++ 32 ∷ []) (c.push_hex_word.ensures ∙ ap (λ l. l ++ hex_word first) c.new-text.ensures) in
+    let text = c.push_bytes.ensures ∙ ap (λ l. l ++ 32 ∷ []) (c.push_hex_address.ensures ∙ ap (λ l. l ++ hex_address first) c.new-text.ensures) in
     record {
       text = rw (none, spaced_none) text;
       long = rw none (ap length text);

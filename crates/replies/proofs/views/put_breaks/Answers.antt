@@ -1,7 +1,7 @@
 use Rattle.std.proofs.Common.{◌++◌, ◌∷◌, [], subst, codes}
 use Rattle.std.specs.List.{flat_map}
 use Rattle.model.specs.Text.{address_part}
-use Rattle.model.specs.Written.{AppendsFront, Writes}
+use Rattle.model.specs.Writers.{AppendsFront, Writes}
 use Rattle.model.proofs.Written.{front_more}
 use Rattle.replies.proofs.Writing.{Writes-then}
 use Rattle.replies.proofs.Lists.{breaks_whole}

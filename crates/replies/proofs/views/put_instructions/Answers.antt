@@ -1,7 +1,7 @@
 use Rattle.std.proofs.Common.{◌≡◌, ◌+◌, ◌-◌, ◌<◌, ◌++◌, [], arith, ap, ◌∙◌, sym, append-nil, append_assoc}
 use Rattle.std.proofs.KnownBytes.{Appends-nil, Appends-trans}
 use Rattle.model.specs.Disassembly.{bytes_from, row_in, row_line, rows_in}
-use Rattle.model.specs.Instruction.{row_of}
+use Rattle.model.specs.InstructionText.{row_of}
 use Rattle.model.proofs.Written.{front_after, front_more}
 use Rattle.replies.proofs.Lists.{rows_past, rows_none, rows_more}
 use Rattle.replies.proofs.views.put_instructions.Goals as goal

@@ -1,6 +1,6 @@
 use Rattle.std.proofs.Common.{◌∙◌, ◌++◌, ◌∷◌, [], length, subst, codes}
 use Rattle.std.specs.Prelude.{decimal}
-use Rattle.model.specs.Written.{AppendsFront, Writes}
+use Rattle.model.specs.Writers.{AppendsFront, Writes}
 use Rattle.replies.specs.Output.{output_rows}
 use Rattle.model.proofs.Written.{front_more}
 use Rattle.replies.proofs.Writing.{Writes-then}

@@ -1,6 +1,6 @@
 use Rattle.std.proofs.Common.{◌≡◌, Ok, take, ap, ◌∙◌}
-use Rattle.model.specs.Instruction.{TextRow, row_of}
-use Rattle.model.specs.OneLine.{one_line}
+use Rattle.model.specs.InstructionText.{TextRow, row_of}
+use Rattle.model.specs.OneLineAssembly.{one_line}
 use Rattle.round_trip.proofs.Answered.{right, only_memory}
 use Rattle.round_trip.proofs.again.assembled_again.Goals as goal
 

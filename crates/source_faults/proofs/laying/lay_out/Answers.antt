@@ -1,5 +1,5 @@
 use Rattle.std.proofs.Common.{ap, arith, refl, sym, true-eqb, ◌∙◌}
-use Rattle.model.specs.Layout.{Fixed}
+use Rattle.model.specs.Layout.{Context}
 use Rattle.source_faults.specs.Seen.{before_line, mending_of}
 use Rattle.source_faults.proofs.LayoutOfLines.{counted, done, ends, fixed_done, fixed_end, fixed_on, fixed_starts, goes_on, starts}
 use Rattle.source_faults.proofs.laying.lay_out.Goals as goal
@@ -38,7 +38,7 @@ returns-then-ended-clause-found c =
 pub returns-then-ended-clause-names : goal.returns-then-ended-clause-names
 returns-then-ended-clause-names c =
     let e = c.in_ok-laid.ensures.exact in
-    ap (λ (x : Fixed). x.names)
+    ap (λ (x : Context). x.names)
     (fixed_end (mending_of c.args.mending) c.args.profile (before_line c.args.profile c.loop-rest.address c.loop-rest.symbols) (before_line c.args.profile c.in_ok-laid.laid.next c.lay_line.new.symbols)
     c.loop-rest.rest.now c.next_line.result.0.now c.next_line.result.1.now _ c.next_line.ensures.cut (sym e.end ∙ c.if-ended.true) e.fixed c.loop-rest.invariant.fixed)
 
@@ -49,6 +49,6 @@ returns-clause-found c =
 
 pub returns-clause-names : goal.returns-clause-names
 returns-clause-names c =
-    ap (λ (x : Fixed). x.names)
+    ap (λ (x : Context). x.names)
     (fixed_done (mending_of c.args.mending) c.args.profile (before_line c.args.profile c.loop-rest.address c.loop-rest.symbols) c.loop-rest.rest.now _
     (true-eqb _ 0 c.loop-rest-test.ensures) c.loop-rest.invariant.fixed)

@@ -1,5 +1,5 @@
 use Rattle.std.proofs.Common.{◌≤◌, length, true-eqb, sym, arith, ap, ◌≡◌, List, ℕ, ◌∙◌}
-use Rattle.model.specs.Lines.{lines_of}
+use Rattle.model.specs.TextLines.{lines_of}
 use Rattle.model.specs.Listing.{bytes_at}
 use Rattle.source_listing.proofs.RowsLeft.{bytes_few, no_line, no_place}
 use Rattle.source_listing.proofs.listed.push_lines.Goals as goal

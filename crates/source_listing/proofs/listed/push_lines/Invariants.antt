@@ -1,5 +1,5 @@
 use Rattle.std.proofs.Common.{◌≡◌, ◌++◌}
-use Rattle.model.specs.Lines.{lines_of}
+use Rattle.model.specs.TextLines.{lines_of}
 use Rattle.source_listing.proofs.RowsLeft.{rows_left}
 use Rattle.source_listing.proofs.listed.push_lines.Given as goal
 

@@ -1,7 +1,7 @@
 use Rattle.std.proofs.Common.{arith, sym, ap, ◌∙◌, ◌≡◌, ◌+◌, ◌-◌, ◌≤◌}
 use Rattle.model.specs.Step.{step}
 use Rattle.model.specs.Run.{run_end}
-use Rattle.session_laws.proofs.Runs.{after_steps-zero}
+use Rattle.law_sessions.proofs.Runs.{after_steps-zero}
 use Rattle.debugger.specs.Running.{beyond}
 use Rattle.debugger.proofs.Runs.{beyond-end, run_none}
 use Rattle.debugger.proofs.Stretches.{IsFurther, goes_further, stops_further}

@@ -1,8 +1,8 @@
 use Rattle.std.proofs.Common.{◌≡◌, drop, map}
-use Rattle.emission.specs.Gathering.{gathered, item_pieces}
-use Rattle.line_parts.specs.Seen.{seen_item}
+use Rattle.emission.specs.Gathering.{with_pieces, item_pieces}
+use Rattle.line_parts.specs.LineViews.{item_view}
 use Rattle.model.specs.Names.{number_in}
 use Rattle.emission.proofs.emit.Gathered.add_items.Given as goal
 
 abbrev pub invariant-loop-item : goal.invariant-loop-item
-invariant-loop-item l = gathered l.self (item_pieces (number_in l.names) l.here (map seen_item (drop l.item-index l.items))) ≡ gathered l.fn.self (item_pieces (number_in l.names) l.here (map seen_item l.items))
+invariant-loop-item l = with_pieces l.self (item_pieces (number_in l.names) l.here (map item_view (drop l.item-index l.items))) ≡ with_pieces l.fn.self (item_pieces (number_in l.names) l.here (map item_view l.items))

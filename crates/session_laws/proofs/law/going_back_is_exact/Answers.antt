@@ -1,5 +1,0 @@
-use Rattle.session_laws.proofs.Backs as lemmas
-use Rattle.session_laws.proofs.law.going_back_is_exact.Goals as goal
-
-pub returns : goal.returns
-returns c = lemmas.back_is_exact

@@ -1,5 +1,0 @@
-use Rattle.session_laws.proofs.Polled as lemmas
-use Rattle.session_laws.proofs.law.polled_sessions_stay.Goals as goal
-
-pub returns : goal.returns
-returns c = lemmas.polled_sessions_stay

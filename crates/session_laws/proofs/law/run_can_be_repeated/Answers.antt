@@ -1,5 +1,0 @@
-use Rattle.session_laws.proofs.Runs as lemmas
-use Rattle.session_laws.proofs.law.run_can_be_repeated.Goals as goal
-
-pub returns : goal.returns
-returns c = lemmas.run_can_be_repeated

@@ -1,5 +1,0 @@
-use Rattle.table_laws.proofs.Encoding.{encoded_exactly}
-use Rattle.table_laws.proofs.table_is_read_both_ways.Goals as goal
-
-pub returns : goal.returns
-returns c = encoded_exactly

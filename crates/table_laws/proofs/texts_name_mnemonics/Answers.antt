@@ -1,5 +1,0 @@
-use Rattle.table_laws.proofs.Encoding.{mnemonics_named, named_of_code}
-use Rattle.table_laws.proofs.texts_name_mnemonics.Goals as goal
-
-pub returns : goal.returns
-returns c = record { each = mnemonics_named; used = named_of_code }
