@@ -34,7 +34,8 @@ keep_last-zero xs = drop_all (length xs - 0) xs (omega arith)
 
 -- one state more, in a history that is full or not
 pushed : (limit held : ℕ) (xs : List State) (x : State) → held ≤ length xs → held ≤ limit
-    → keep_last limit (keep_last held xs ++ x ∷ []) ≡ keep_last (min limit (held + 1)) (xs ++ x ∷ [])
+    → keep_last limit (keep_last held xs ++ x ∷ []) ≡ keep_last (min limit (held + 1))
+    (xs ++ x ∷ [])
 pushed zero held xs x within few = keep_last-zero (keep_last held xs ++ x ∷ []) ∙ sym (ap (λ n. keep_last n (xs ++ x ∷ [])) none ∙ keep_last-zero (xs ++ x ∷ [])) where
   none : min 0 (held + 1) ≡ 0
   none = omega arith
@@ -48,23 +49,28 @@ pushed (suc limit) held xs x within few =
           let n : min (suc limit) (held + 1) - 1 ≡ suc limit - 1 = omega arith in
           keep_last-keep_last (suc limit - 1) held xs (omega arith) ∙ sym (ap (λ m. keep_last m xs) n)
 
-is_left_behind : (s : Session) (past : Past) (state : State) → IsPast s past → IsPast (with_state s state) (past_with_current s past)
+is_left_behind : (s : Session) (past : Past) (state : State) → IsPast s past
+    → IsPast (with_state s state) (past_with_current s past)
 is_left_behind s past state h = record {
   within = omega (arith, h.within, length-append past.states (s.current ∷ []));
   few = omega arith;
   kept = ap (λ l. keep_last s.history (l ++ s.current ∷ [])) h.kept ∙ pushed s.history past.held past.states s.current h.within h.few;
 }
 
-event_past : (s : Session) (past : Past) (r : Result State EventFault) → IsPast s past → IsPast (after_event s r) (past_after_event s r past)
+event_past : (s : Session) (past : Past) (r : Result State EventFault) → IsPast s past
+    → IsPast (after_event s r) (past_after_event s r past)
 event_past s past (Ok state) h = is_left_behind s past state h
 event_past s past (Err fault) h = h
 
-step_past : (s : Session) (past : Past) (r : Result State EventFault) (rest : Session → Session) (behind : State → Past)
-    → IsPast s past → ((state : State) → IsPast (rest (with_state s state)) (behind state)) → IsPast (after_step s r rest) (past_if_made r past behind)
+step_past : (s : Session) (past : Past) (r : Result State EventFault) (rest : Session → Session)
+    (behind : State → Past)
+    → IsPast s past → ((state : State) → IsPast (rest (with_state s state)) (behind state))
+    → IsPast (after_step s r rest) (past_if_made r past behind)
 step_past s past (Ok state) rest behind h on = on state
 step_past s past (Err fault) rest behind h on = h
 
-steps_past : (k : ℕ) (s : Session) (past : Past) → IsPast s past → IsPast (after_steps k s) (past_after_steps k s past)
+steps_past : (k : ℕ) (s : Session) (past : Past) → IsPast s past → IsPast (after_steps k s)
+    (past_after_steps k s past)
 unfolding after_steps_by past_after_steps
 steps_past zero s past h = h
 steps_past (suc k) s past h =
@@ -73,20 +79,23 @@ steps_past (suc k) s past h =
 
 -- ---- going back
 
-earlier_back : (k held : ℕ) (xs : List State) → held ≤ length xs → k ≤ held → take (held - k) (keep_last held xs) ≡ keep_last (held - k) (take (length xs - k) xs)
+earlier_back : (k held : ℕ) (xs : List State) → held ≤ length xs → k ≤ held → take (held - k)
+    (keep_last held xs) ≡ keep_last (held - k) (take (length xs - k) xs)
 earlier_back k held xs within there =
     let n = length xs - held in
     let m : n + (held - k) ≡ length xs - k = omega arith in
     let d : length (take (length xs - k) xs) - (held - k) ≡ n = omega (arith, length-take (length xs - k) xs) in
     sym (drop-take n (held - k) xs) ∙ ap (λ j. drop n (take j xs)) m ∙ sym (ap (λ j. drop j (take (length xs - k) xs)) d)
 
-current_back : (k held : ℕ) (xs : List State) (x : State) → held ≤ length xs → k ≤ held → get_or (keep_last held xs ++ x ∷ []) (held - k) x ≡ get_or (xs ++ x ∷ []) (length xs - k) x
+current_back : (k held : ℕ) (xs : List State) (x : State) → held ≤ length xs → k ≤ held
+    → get_or (keep_last held xs ++ x ∷ []) (held - k) x ≡ get_or (xs ++ x ∷ []) (length xs - k) x
 current_back k held xs x within there =
     let n = length xs - held in
     let m : n + (held - k) ≡ length xs - k = omega arith in
     ap (λ l. get_or l (held - k) x) (sym (drop-append-le n xs (x ∷ []) (omega arith))) ∙ get_or-drop n (xs ++ x ∷ []) (held - k) x ∙ ap (λ j. get_or (xs ++ x ∷ []) j x) m
 
-is_before : (k : ℕ) (s : Session) (past : Past) → IsPast s past → k ≤ past.held → IsBefore k s past (without_last k s)
+is_before : (k : ℕ) (s : Session) (past : Past) → IsPast s past → k ≤ past.held
+    → IsBefore k s past (without_last k s)
 unfolding without_last
 is_before k s past h there =
     let size = length-held s past h in record {
@@ -105,7 +114,8 @@ goes_back k s past h =
       λ more. back_of-refused k s (omega (arith, size, more)) ∙ ap (λ n. Err (NoHistory n)) size,
     )
 
-back_past : (k : ℕ) (s : Session) (past : Past) → IsPast s past → IsPast (after_answer s (back_of k s)) (past_after_back k past)
+back_past : (k : ℕ) (s : Session) (past : Past) → IsPast s past
+    → IsPast (after_answer s (back_of k s)) (past_after_back k past)
 unfolding past_after_back
 back_past k s past h = elim (cases_lt past.held k) [
   | inl more ↦
@@ -124,19 +134,24 @@ back_past k s past h = elim (cases_lt past.held k) [
 
 -- ---- any call
 
-breaks_past : (s : Session) (past : Past) (r : Result (List ℕ) SessionFault) → IsPast s past → IsPast (after_answer s (with_breaks s r)) past
+breaks_past : (s : Session) (past : Past) (r : Result (List ℕ) SessionFault) → IsPast s past
+    → IsPast (after_answer s (with_breaks s r)) past
 breaks_past s past (Ok table) h = record { within = h.within; few = h.few; kept = h.kept }
 breaks_past s past (Err fault) h = h
 
-watches_past : (s : Session) (past : Past) (r : Result (List ℕ) SessionFault) → IsPast s past → IsPast (after_answer s (with_watches s r)) past
+watches_past : (s : Session) (past : Past) (r : Result (List ℕ) SessionFault) → IsPast s past
+    → IsPast (after_answer s (with_watches s r)) past
 watches_past s past (Ok table) h = record { within = h.within; few = h.few; kept = h.kept }
 watches_past s past (Err fault) h = h
 
-watch_past : (s : Session) (past : Past) (b : Bool) (f : SessionFault) (r : Result (List ℕ) SessionFault) → IsPast s past → IsPast (after_answer s (cond b (Err f) (with_watches s r))) past
+watch_past : (s : Session) (past : Past) (b : Bool) (f : SessionFault)
+    (r : Result (List ℕ) SessionFault) → IsPast s past
+    → IsPast (after_answer s (cond b (Err f) (with_watches s r))) past
 watch_past s past true f r h = h
 watch_past s past false f r h = watches_past s past r h
 
-call_past : (call : Call) (s : Session) (past : Past) → IsPast s past → IsPast (after_call s call) (past_after_call s call past)
+call_past : (call : Call) (s : Session) (past : Past) → IsPast s past → IsPast (after_call s call)
+    (past_after_call s call past)
 unfolding after_call past_after_call break_set break_cleared watch_set watch_cleared
 call_past (happen event) s past h = event_past s past (event_of s.current event) h
 call_past (run n) s past h = steps_past (run_end n s).did s past h
@@ -147,7 +162,8 @@ call_past (set_watch address) s past h = watch_past s past _ _ _ h
 call_past (clear_watch address) s past h = watches_past s past _ h
 call_past view s past h = h
 
-calls_past : (calls : List Call) (s : Session) (past : Past) → IsPast s past → IsPast (after_calls s calls) (past_after_calls s calls past)
+calls_past : (calls : List Call) (s : Session) (past : Past) → IsPast s past
+    → IsPast (after_calls s calls) (past_after_calls s calls past)
 calls_past [] s past h = h
 calls_past (call ∷ calls) s past h = calls_past calls (after_call s call) (past_after_call s call past) (call_past call s past h)
 

@@ -27,7 +27,8 @@ Leads s t = (calls : List Call) × (t ≡ after_calls s calls)
 one_call : (s t : Session) (call : Call) → t ≡ after_call s call → Leads s t
 one_call s t call e = (call ∷ [], e)
 
-stepped : (s : Session) (r : Result State EventFault) → (stepped_answer s r).session ≡ after_event s r
+stepped : (s : Session) (r : Result State EventFault)
+    → (stepped_answer s r).session ≡ after_event s r
 stepped s (Ok state) = refl
 stepped s (Err fault) = refl
 
@@ -35,21 +36,25 @@ evented : (s : Session) (r : Result State EventFault) → (event_answer s r).ses
 evented s (Ok state) = refl
 evented s (Err fault) = refl
 
-backed : (s : Session) (r : Result Session SessionFault) → (back_answer s r).session ≡ after_answer s r
+backed : (s : Session) (r : Result Session SessionFault)
+    → (back_answer s r).session ≡ after_answer s r
 backed s (Ok t) = refl
 backed s (Err fault) = refl
 
-tabled : (s : Session) (r : Result Session SessionFault) → (table_answer s r).session ≡ after_answer s r
+tabled : (s : Session) (r : Result Session SessionFault)
+    → (table_answer s r).session ≡ after_answer s r
 tabled s (Ok t) = refl
 tabled s (Err fault) = refl
 
 -- each byte of input is an event
-handed : (bytes : List ℕ) (s : Session) → after_input s bytes ≡ after_calls s (map (λ b. happen (event.Input b)) bytes)
+handed : (bytes : List ℕ) (s : Session)
+    → after_input s bytes ≡ after_calls s (map (λ b. happen (event.Input b)) bytes)
 unfolding after_input after_call
 handed [] s = refl
 handed (b ∷ bytes) s = handed bytes (after_event s (event_of s.current (event.Input b)))
 
-given : (s : Session) (bytes : List ℕ) (full : Bool) (text other : List ℕ) → Leads s (cond full (answer text s) (answer other (after_input s bytes))).session
+given : (s : Session) (bytes : List ℕ) (full : Bool) (text other : List ℕ)
+    → Leads s (cond full (answer text s) (answer other (after_input s bytes))).session
 given s bytes true text other = ([], refl)
 given s bytes false text other = (map (λ b. happen (event.Input b)) bytes, handed bytes s)
 
@@ -59,7 +64,8 @@ or_true true = refl
 or_true false = refl
 
 patch_by : (long : Bool) (s : State) (address : ℕ) (bytes : List ℕ) → nat_lt 3 (length bytes) ≡ long
-    → cond long (Err BadLength) (patch_of address (take (length bytes) bytes) s) ≡ patch_of address bytes s
+    → cond long (Err BadLength)
+    (patch_of address (take (length bytes) bytes) s) ≡ patch_of address bytes s
 unfolding patch_of
 patch_by true s address bytes e =
     let rest : Result State EventFault =
@@ -68,11 +74,13 @@ patch_by true s address bytes e =
     sym (ap (λ b. cond ((length bytes == 0) || b) (Err BadLength) rest) e ∙ ap (λ b. cond b (Err BadLength) rest) (or_true (length bytes == 0)))
 patch_by false s address bytes e = ap (λ l. patch_of address l s) (take_all (length bytes) bytes (omega arith))
 
-is_patch : (s : State) (address : ℕ) (bytes : List ℕ) → event_of s (event.Patch address bytes (length bytes)) ≡ patch_of address bytes s
+is_patch : (s : State) (address : ℕ) (bytes : List ℕ)
+    → event_of s (event.Patch address bytes (length bytes)) ≡ patch_of address bytes s
 unfolding event_of
 is_patch s address bytes = patch_by (nat_lt 3 (length bytes)) s address bytes refl
 
-assembled : (s : Session) (address : ℕ) (r : Result (List ℕ) AsmFaultKind) → Leads s (asm_answer s address r).session
+assembled : (s : Session) (address : ℕ) (r : Result (List ℕ) AsmFaultKind)
+    → Leads s (asm_answer s address r).session
 unfolding after_call
 assembled s address (Ok bytes) =
     one_call s _ (happen (event.Patch address bytes (length bytes))) (evented s (patch_of address bytes s.current) ∙ ap (after_event s) (sym (is_patch s.current address bytes)))
@@ -107,14 +115,17 @@ leads Bad s = ([], refl)
 
 -- ---- lines
 
-one_after_another : (xs ys : List Call) (s : Session) → after_calls (after_calls s xs) ys ≡ after_calls s (xs ++ ys)
+one_after_another : (xs ys : List Call) (s : Session)
+    → after_calls (after_calls s xs) ys ≡ after_calls s (xs ++ ys)
 one_after_another [] ys s = refl
 one_after_another (x ∷ xs) ys s = one_after_another xs ys (after_call s x)
 
 leads_on : (s t u : Session) → Leads s t → Leads t u → Leads s u
 leads_on s t u first then = (first.0 ++ then.0, then.1 ∙ ap (λ v. after_calls v then.0) first.1 ∙ one_after_another first.0 then.0 s)
 
-served_leads : (s : Session) (a : Answer) (quit : Bool) (rest : Session → Serving) → a.quit ≡ quit → Leads s a.session → Leads a.session (rest a.session).session → Leads s (serving_after a rest).session
+served_leads : (s : Session) (a : Answer) (quit : Bool) (rest : Session → Serving) → a.quit ≡ quit
+    → Leads s a.session → Leads a.session (rest a.session).session
+    → Leads s (serving_after a rest).session
 served_leads s a true rest e first then = rw e first
 served_leads s a false rest e first then = rw e (leads_on s a.session (rest a.session).session first then)
 

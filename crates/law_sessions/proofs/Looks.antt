@@ -28,11 +28,13 @@ abbrev obeyed : Session → List Command → Session
 obeyed s [] = s
 obeyed s (command ∷ commands) = cond (answer_to command s).quit (answer_to command s).session (obeyed (answer_to command s).session commands)
 
-session_of : (a : Answer) (b : Bool) (rest : Session → Serving) → a.quit ≡ b → (serving_after a rest).session ≡ cond b a.session (rest a.session).session
+session_of : (a : Answer) (b : Bool) (rest : Session → Serving) → a.quit ≡ b
+    → (serving_after a rest).session ≡ cond b a.session (rest a.session).session
 session_of a true rest h = rw h refl
 session_of a false rest h = rw h refl
 
-obeyed-serving : (lines : List (List ℕ)) (s : Session) → (serving s lines).session ≡ obeyed s (map command_of lines)
+obeyed-serving : (lines : List (List ℕ)) (s : Session)
+    → (serving s lines).session ≡ obeyed s (map command_of lines)
 unfolding serving
 obeyed-serving [] s = refl
 obeyed-serving (line ∷ lines) s =
@@ -44,34 +46,42 @@ pub record SameBare (a b : Answer) : Type 0 where
   pub session : a.session ≡ without_stops b.session
   pub quit : a.quit ≡ b.quit
 
-stepped : (s : Session) (r : Result State EventFault) → SameBare (stepped_answer (without_stops s) r) (stepped_answer s r)
+stepped : (s : Session) (r : Result State EventFault)
+    → SameBare (stepped_answer (without_stops s) r) (stepped_answer s r)
 stepped s (Ok t) = record { session = refl; quit = refl }
 stepped s (Err f) = record { session = refl; quit = refl }
 
-evented : (s : Session) (r : Result State EventFault) → SameBare (event_answer (without_stops s) r) (event_answer s r)
+evented : (s : Session) (r : Result State EventFault) → SameBare (event_answer (without_stops s) r)
+    (event_answer s r)
 evented s (Ok t) = record { session = refl; quit = refl }
 evented s (Err f) = record { session = refl; quit = refl }
 
-assembled : (s : Session) (address : ℕ) (r : Result (List ℕ) AsmFaultKind) → SameBare (asm_answer (without_stops s) address r) (asm_answer s address r)
+assembled : (s : Session) (address : ℕ) (r : Result (List ℕ) AsmFaultKind)
+    → SameBare (asm_answer (without_stops s) address r) (asm_answer s address r)
 assembled s address (Ok bytes) = evented s (patch_of address bytes s.current)
 assembled s address (Err kind) = record { session = refl; quit = refl }
 
-after_event-without_stops : (s : Session) (r : Result State EventFault) → after_event (without_stops s) r ≡ without_stops (after_event s r)
+after_event-without_stops : (s : Session) (r : Result State EventFault)
+    → after_event (without_stops s) r ≡ without_stops (after_event s r)
 after_event-without_stops s (Ok t) = refl
 after_event-without_stops s (Err f) = refl
 
-after_input-without_stops : (bytes : List ℕ) (s : Session) → after_input (without_stops s) bytes ≡ without_stops (after_input s bytes)
+after_input-without_stops : (bytes : List ℕ) (s : Session)
+    → after_input (without_stops s) bytes ≡ without_stops (after_input s bytes)
 unfolding after_input
 after_input-without_stops [] s = refl
 after_input-without_stops (byte ∷ bytes) s =
     ap (λ t. after_input t bytes) (after_event-without_stops s (event_of s.current (event.Input byte))) ∙ after_input-without_stops bytes (after_event s (event_of s.current (event.Input byte)))
 
 given : (s : Session) (bytes : List ℕ) (b : Bool) (text other : List ℕ)
-    → SameBare (cond b (answer text (without_stops s)) (answer other (after_input (without_stops s) bytes))) (cond b (answer text s) (answer other (after_input s bytes)))
+    → SameBare (cond b (answer text (without_stops s)) (answer other (after_input (without_stops s) bytes)))
+    (cond b (answer text s) (answer other (after_input s bytes)))
 given s bytes true text other = record { session = refl; quit = refl }
 given s bytes false text other = record { session = after_input-without_stops bytes s; quit = refl }
 
-backed : (n : ℕ) (s : Session) → SameBare (back_answer (without_stops s) (back_of n (without_stops s))) (back_answer s (back_of n s))
+backed : (n : ℕ) (s : Session)
+    → SameBare (back_answer (without_stops s) (back_of n (without_stops s)))
+    (back_answer s (back_of n s))
 unfolding back_of without_last
 backed n s = by (nat_le n (length s.earlier))
   where
@@ -85,15 +95,18 @@ pub record Looked (a : Answer) (s : Session) : Type 0 where
   pub session : without_stops a.session ≡ without_stops s
   pub quit : a.quit ≡ false
 
-breaks_looked : (s : Session) (r : Result (List ℕ) SessionFault) → Looked (table_answer s (with_breaks s r)) s
+breaks_looked : (s : Session) (r : Result (List ℕ) SessionFault)
+    → Looked (table_answer s (with_breaks s r)) s
 breaks_looked s (Ok t) = record { session = refl; quit = refl }
 breaks_looked s (Err f) = record { session = refl; quit = refl }
 
-watches_looked : (s : Session) (r : Result (List ℕ) SessionFault) → Looked (table_answer s (with_watches s r)) s
+watches_looked : (s : Session) (r : Result (List ℕ) SessionFault)
+    → Looked (table_answer s (with_watches s r)) s
 watches_looked s (Ok t) = record { session = refl; quit = refl }
 watches_looked s (Err f) = record { session = refl; quit = refl }
 
-refused_or : (s : Session) (b : Bool) (f : SessionFault) (r : Result (List ℕ) SessionFault) → Looked (table_answer s (cond b (Err f) (with_watches s r))) s
+refused_or : (s : Session) (b : Bool) (f : SessionFault) (r : Result (List ℕ) SessionFault)
+    → Looked (table_answer s (cond b (Err f) (with_watches s r))) s
 refused_or s true f r = record { session = refl; quit = refl }
 refused_or s false f r = watches_looked s r
 
@@ -128,8 +141,10 @@ sort (Asm a text n) s = inr (inl (assembled s a (one_line s.current.bus.map.prof
 sort Quit s = inr (inl (record { session = refl; quit = refl }, λ rest. refl))
 
 -- what is obeyed after a command that ends alike
-alike : (a b : Answer) (rest others : Session → Session) → SameBare a b → others (without_stops b.session) ≡ without_stops (rest b.session)
-    → cond a.quit a.session (others a.session) ≡ without_stops (cond b.quit b.session (rest b.session))
+alike : (a b : Answer) (rest others : Session → Session) → SameBare a b
+    → others (without_stops b.session) ≡ without_stops (rest b.session)
+    → cond a.quit a.session (others a.session)
+    ≡ without_stops (cond b.quit b.session (rest b.session))
 alike a b rest others h on =
     ap (λ q. cond q a.session (others a.session)) h.quit ∙ ap (λ t. cond b.quit t (others t)) h.session ∙ by b.quit
   where
@@ -137,11 +152,13 @@ alike a b rest others h on =
     by true = refl
     by false = on
 
-obeyed-run : (n : ℕ) (s : Session) (rest : List Command) → obeyed s (Run n ∷ rest) ≡ obeyed (after_run n s) rest
+obeyed-run : (n : ℕ) (s : Session) (rest : List Command)
+    → obeyed s (Run n ∷ rest) ≡ obeyed (after_run n s) rest
 unfolding answer_to
 obeyed-run n s rest = refl
 
-without_look-run : (n : ℕ) (s : Session) (rest : List Command) → without_look (Run n) s rest ≡ run_again (run_end n s).did rest
+without_look-run : (n : ℕ) (s : Session) (rest : List Command)
+    → without_look (Run n) s rest ≡ run_again (run_end n s).did rest
 unfolding without_look
 without_look-run n s rest = refl
 
@@ -150,13 +167,16 @@ unfolding answer_to
 session-run n s = refl
 
 -- a run made again, or left out where it made no step
-again : (k : ℕ) (s : Session) (rest : List Command) → after_run k (without_stops s) ≡ without_stops (after_steps k s) → obeyed (without_stops s) (run_again k rest) ≡ obeyed (without_stops (after_steps k s)) rest
+again : (k : ℕ) (s : Session) (rest : List Command)
+    → after_run k (without_stops s) ≡ without_stops (after_steps k s) → obeyed (without_stops s)
+    (run_again k rest) ≡ obeyed (without_stops (after_steps k s)) rest
 again zero s rest h = ap (λ t. obeyed (without_stops t) rest) (sym (after_steps-zero step s))
 again (suc k) s rest h =
     let e : eqb (suc k) 0 ≡ false = grind (arith, nat_tests) in
     ap (λ b. obeyed (without_stops s) (cond b rest (Run (suc k) ∷ rest))) e ∙ obeyed-run (suc k) (without_stops s) rest ∙ ap (λ t. obeyed t rest) h
 
-harmless : (commands : List Command) (s : Session) → obeyed (without_stops s) (without_looks s commands) ≡ without_stops (obeyed s commands)
+harmless : (commands : List Command) (s : Session) → obeyed (without_stops s)
+    (without_looks s commands) ≡ without_stops (obeyed s commands)
 unfolding without_looks
 harmless [] s = refl
 harmless (c ∷ cs) s =

@@ -49,7 +49,8 @@ SparesSteps n s = (k : ℕ) → k < n → sets_control (after_steps k s).current
 spares_first : (n : ℕ) (s : Session) → 0 < n → SparesSteps n s → sets_control s.current ≡ false
 spares_first n s h p = subst (λ (u : Session). sets_control u.current ≡ false) (after_steps-zero step s) (p 0 h)
 
-spares_rest : (n : ℕ) (s : Session) (t : State) → step s.current ≡ Ok t → SparesSteps (suc n) s → SparesSteps n (with_state s t)
+spares_rest : (n : ℕ) (s : Session) (t : State) → step s.current ≡ Ok t → SparesSteps (suc n) s
+    → SparesSteps n (with_state s t)
 spares_rest n s t h p k l = subst (λ (u : Session). sets_control u.current ≡ false) (after_steps-made step k s t h) (p (suc k) (omega arith))
 
 -- two sessions that are the same, and hold only states whose control byte is 0
@@ -57,7 +58,8 @@ pub record SameSession (new old : Session) : Type 0 where
   pub same : new ≡ old
   pub unset : AllUnset new
 
-steps_same : (k : ℕ) (s : Session) (r : Result State EventFault) → step s.current ≡ r → AllUnset s → SparesSteps k s → SameSession (after_steps k s) (after_steps_by polled_step k s)
+steps_same : (k : ℕ) (s : Session) (r : Result State EventFault) → step s.current ≡ r → AllUnset s
+    → SparesSteps k s → SameSession (after_steps k s) (after_steps_by polled_step k s)
 steps_same zero s r h u p = record {
   same = after_steps-zero step s ∙ sym (after_steps-zero polled_step s);
   unset = subst AllUnset (sym (after_steps-zero step s)) u;
@@ -78,7 +80,8 @@ ends_later : (stop : Option Why) (rest : RunEnd) → 0 < (ends_with stop rest).d
 ends_later None rest = omega arith
 ends_later (Some why) rest = omega arith
 
-run_same : (n : ℕ) (s : Session) (r : Result State EventFault) → step s.current ≡ r → Unset s.current → SparesSteps (run_end n s).did s → run_end n s ≡ run_end_by polled_step n s
+run_same : (n : ℕ) (s : Session) (r : Result State EventFault) → step s.current ≡ r
+    → Unset s.current → SparesSteps (run_end n s).did s → run_end n s ≡ run_end_by polled_step n s
 run_same zero s r h u p = run_end-zero step s ∙ sym (run_end-zero polled_step s)
 run_same (suc n) s (Ok t) h u p =
     let stop = option_or (watch_met s.watches s.current t) (break_met s.breaks s.current t) in
@@ -117,11 +120,13 @@ reset_leaves : (state : State) → Leaves (reset_of state)
 unfolding reset_of reset_state
 reset_leaves state = either _ _ _ (refuses _) (leaves _ refl)
 
-patched_keeps : (bytes : List ℕ) (address : ℕ) (bus : Bus) → (bus_with_patch address bytes bus).control ≡ bus.control
+patched_keeps : (bytes : List ℕ) (address : ℕ) (bus : Bus)
+    → (bus_with_patch address bytes bus).control ≡ bus.control
 patched_keeps [] address bus = refl
 patched_keeps (byte ∷ bytes) address bus = patched_keeps bytes (address + 1) (bus_with_byte bus address byte)
 
-patch_leaves : (address : ℕ) (bytes : List ℕ) (state : State) → Unset state → Leaves (patch_of address bytes state)
+patch_leaves : (address : ℕ) (bytes : List ℕ) (state : State) → Unset state
+    → Leaves (patch_of address bytes state)
 unfolding patch_of
 patch_leaves address bytes state h =
     either (eqb (length bytes) 0 || nat_lt 3 (length bytes)) (Err BadLength) _ (refuses BadLength)
@@ -143,15 +148,18 @@ pub record SameAnswer (new old : Answer) : Type 0 where
 stays : (text : List ℕ) (s : Session) → AllUnset s → SameAnswer (answer text s) (answer text s)
 stays text s u = record { same = refl; unset = u }
 
-evented : (s : Session) (r : Result State EventFault) → AllUnset s → Leaves r → SameAnswer (event_answer s r) (event_answer s r)
+evented : (s : Session) (r : Result State EventFault) → AllUnset s → Leaves r
+    → SameAnswer (event_answer s r) (event_answer s r)
 evented s (Ok t) u l = record { same = refl; unset = appended_unset s t u (l.unset t refl) }
 evented s (Err f) u l = stays (fault_line f) s u
 
-assembled : (s : Session) (address : ℕ) (r : Result (List ℕ) AsmFaultKind) → AllUnset s → SameAnswer (asm_answer s address r) (asm_answer s address r)
+assembled : (s : Session) (address : ℕ) (r : Result (List ℕ) AsmFaultKind) → AllUnset s
+    → SameAnswer (asm_answer s address r) (asm_answer s address r)
 assembled s address (Ok bytes) u = evented s (patch_of address bytes s.current) u (patch_leaves address bytes s.current (current_unset s u))
 assembled s address (Err kind) u = record { same = refl; unset = u }
 
-after_event-unset : (s : Session) (r : Result State EventFault) → AllUnset s → Leaves r → AllUnset (after_event s r)
+after_event-unset : (s : Session) (r : Result State EventFault) → AllUnset s → Leaves r
+    → AllUnset (after_event s r)
 after_event-unset s (Ok t) u l = appended_unset s t u (l.unset t refl)
 after_event-unset s (Err f) u l = u
 
@@ -161,7 +169,8 @@ after_input-unset [] s u = u
 after_input-unset (byte ∷ bytes) s u =
     after_input-unset bytes (after_event s (input_of byte s.current)) (after_event-unset s (input_of byte s.current) u (input_leaves byte s.current (current_unset s u)))
 
-given : (s : Session) (bytes : List ℕ) → AllUnset s → SameAnswer (input_answer s bytes) (input_answer s bytes)
+given : (s : Session) (bytes : List ℕ) → AllUnset s → SameAnswer (input_answer s bytes)
+    (input_answer s bytes)
 unfolding input_answer
 given s bytes u = by (nat_lt console_size (length s.current.bus.given + length bytes))
   where
@@ -169,7 +178,8 @@ given s bytes u = by (nat_lt console_size (length s.current.bus.given + length b
     by true = stays (fault_line InputFull) s u
     by false = stays (codes "OK\n") (after_input s bytes) (after_input-unset bytes s u)
 
-without_last-unset : (k : ℕ) (s : Session) → k ≤ length s.earlier → AllUnset s → AllUnset (without_last k s)
+without_last-unset : (k : ℕ) (s : Session) → k ≤ length s.earlier → AllUnset s
+    → AllUnset (without_last k s)
 unfolding without_last
 without_last-unset k s h u =
     let left = length s.earlier - k in
@@ -177,7 +187,8 @@ without_last-unset k s h u =
     All-push Unset (take left s.earlier) (get_or (states s) left s.current) (All-take Unset left s.earlier (All-pop Unset (states s) s.earlier (Some s.current) refl u).0)
     (All-get_or Unset (states s) left s.current within u)
 
-backed : (k : ℕ) (s : Session) → AllUnset s → SameAnswer (back_answer s (back_of k s)) (back_answer s (back_of k s))
+backed : (k : ℕ) (s : Session) → AllUnset s → SameAnswer (back_answer s (back_of k s))
+    (back_answer s (back_of k s))
 unfolding back_of
 backed k s u = by (nat_le k (length s.earlier)) refl
   where
@@ -186,25 +197,31 @@ backed k s u = by (nat_le k (length s.earlier)) refl
     by true h = record { same = refl; unset = without_last-unset k s (grind (arith, nat_tests)) u }
     by false h = record { same = refl; unset = u }
 
-breaks_set : (s : Session) (r : Result (List ℕ) SessionFault) → AllUnset s → SameAnswer (table_answer s (with_breaks s r)) (table_answer s (with_breaks s r))
+breaks_set : (s : Session) (r : Result (List ℕ) SessionFault) → AllUnset s
+    → SameAnswer (table_answer s (with_breaks s r)) (table_answer s (with_breaks s r))
 breaks_set s (Ok t) u = record { same = refl; unset = u }
 breaks_set s (Err f) u = record { same = refl; unset = u }
 
-watches_set : (s : Session) (r : Result (List ℕ) SessionFault) → AllUnset s → SameAnswer (table_answer s (with_watches s r)) (table_answer s (with_watches s r))
+watches_set : (s : Session) (r : Result (List ℕ) SessionFault) → AllUnset s
+    → SameAnswer (table_answer s (with_watches s r)) (table_answer s (with_watches s r))
 watches_set s (Ok t) u = record { same = refl; unset = u }
 watches_set s (Err f) u = record { same = refl; unset = u }
 
-refused_or : (s : Session) (b : Bool) (f : SessionFault) (r : Result (List ℕ) SessionFault) → AllUnset s
-    → SameAnswer (table_answer s (cond b (Err f) (with_watches s r))) (table_answer s (cond b (Err f) (with_watches s r)))
+refused_or : (s : Session) (b : Bool) (f : SessionFault) (r : Result (List ℕ) SessionFault)
+    → AllUnset s
+    → SameAnswer (table_answer s (cond b (Err f) (with_watches s r)))
+    (table_answer s (cond b (Err f) (with_watches s r)))
 refused_or s true f r u = record { same = refl; unset = u }
 refused_or s false f r u = watches_set s r u
 
-stepped : (s : Session) (new old : Result State EventFault) → AllUnset s → PolledStep new old → SameAnswer (stepped_answer s new) (stepped_answer s old)
+stepped : (s : Session) (new old : Result State EventFault) → AllUnset s → PolledStep new old
+    → SameAnswer (stepped_answer s new) (stepped_answer s old)
 stepped s (Ok t) old u p = record { same = ap (stepped_answer s) p.same; unset = appended_unset s t u (p.unset t refl) }
 stepped s (Err f) old u p = record { same = ap (stepped_answer s) p.same; unset = u }
 
 ran : (n : ℕ) (s : Session) → AllUnset s → SparesSteps (run_end n s).did s
-    → SameAnswer (answer (run_line (run_end n s)) (after_steps (run_end n s).did s)) (answer (run_line (run_end_by polled_step n s)) (after_steps_by polled_step (run_end_by polled_step n s).did s))
+    → SameAnswer (answer (run_line (run_end n s)) (after_steps (run_end n s).did s))
+    (answer (run_line (run_end_by polled_step n s)) (after_steps_by polled_step (run_end_by polled_step n s).did s))
 ran n s u p =
     let steps = steps_same (run_end n s).did s (step s.current) refl u p in record {
       same = ap (answer (run_line (run_end n s))) steps.same
@@ -212,7 +229,8 @@ ran n s u p =
       unset = steps.unset;
     }
 
-answered : (c : Command) (s : Session) → AllUnset s → SparesControl c s → SameAnswer (answer_to c s) (polled_answer c s)
+answered : (c : Command) (s : Session) → AllUnset s → SparesControl c s → SameAnswer (answer_to c s)
+    (polled_answer c s)
 unfolding answer_to polled_answer event_of break_set break_cleared watch_set watch_cleared
 answered Step s u p = stepped s (step s.current) (polled_step s.current) u (step_same s.current (current_unset s u) p)
 answered (Run n) s u p = ran n s u p
@@ -232,12 +250,14 @@ answered command s u p = record { same = refl; unset = u }
 
 -- ---- lines
 
-goes_on : (a : Answer) (b : Bool) (lines : List (List ℕ)) → a.quit ≡ b → (b ≡ false → serving a.session lines ≡ polled_serving a.session lines)
+goes_on : (a : Answer) (b : Bool) (lines : List (List ℕ)) → a.quit ≡ b
+    → (b ≡ false → serving a.session lines ≡ polled_serving a.session lines)
     → serving_after a (λ t. serving t lines) ≡ serving_after a (λ t. polled_serving t lines)
 goes_on a true lines h rest = rw h refl
 goes_on a false lines h rest = rw (h, rest refl) refl
 
-served_same : (lines : List (List ℕ)) (s : Session) → AllUnset s → AllSpareControl s lines → serving s lines ≡ polled_serving s lines
+served_same : (lines : List (List ℕ)) (s : Session) → AllUnset s → AllSpareControl s lines
+    → serving s lines ≡ polled_serving s lines
 unfolding serving polled_serving
 served_same [] s u p = refl
 served_same (line ∷ lines) s u p =

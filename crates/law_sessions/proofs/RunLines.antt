@@ -54,7 +54,8 @@ seven a b c d e f g = (48 + a) ∷ (48 + b) ∷ (48 + c) ∷ (48 + d) ∷ (48 + 
 abbrev run_line : Bytes → Bytes
 run_line digits = 114 ∷ 117 ∷ 110 ∷ 32 ∷ digits
 
-run_words : (digits : Bytes) → words_of digits ≡ digits ∷ [] → words_of (run_line digits) ≡ (114 ∷ 117 ∷ 110 ∷ []) ∷ digits ∷ []
+run_words : (digits : Bytes) → words_of digits ≡ digits ∷ []
+    → words_of (run_line digits) ≡ (114 ∷ 117 ∷ 110 ∷ []) ∷ digits ∷ []
 run_words digits e = rw e refl
 
 from_1 : (k : ℕ) → 1 ≤ k → k ≤ most_steps → from_1_to most_steps (Some k) ≡ Some k
@@ -63,11 +64,13 @@ from_1 k some most =
     let high : nat_le k most_steps ≡ true = grind (arith, nat_tests) in
     rw (low, high) refl
 
-runs : (digits : Bytes) (k : ℕ) → decimal_of digits ≡ Some k → 1 ≤ k → k ≤ most_steps → command_of_words ((114 ∷ 117 ∷ 110 ∷ []) ∷ digits ∷ []) ≡ Run k
+runs : (digits : Bytes) (k : ℕ) → decimal_of digits ≡ Some k → 1 ≤ k → k ≤ most_steps
+    → command_of_words ((114 ∷ 117 ∷ 110 ∷ []) ∷ digits ∷ []) ≡ Run k
 unfolding command_of_words
 runs digits k number some most = ap (λ n. number_command Run (from_1_to most_steps n)) number ∙ ap (number_command Run) (from_1 k some most)
 
-next_digit : (n x : ℕ) (bytes : Bytes) → x < 10 → number_from decimal_value 10 n ((48 + x) ∷ bytes) ≡ number_from decimal_value 10 (n * 10 + x) bytes
+next_digit : (n x : ℕ) (bytes : Bytes) → x < 10 → number_from decimal_value 10 n ((48 + x) ∷ bytes)
+    ≡ number_from decimal_value 10 (n * 10 + x) bytes
 next_digit n x bytes small = ap (option_and_then (λ value. number_from decimal_value 10 (n * 10 + value) bytes)) (digit x small)
 
 abbrev AreSmall : List ℕ → Type 0
@@ -78,7 +81,8 @@ abbrev number_after : ℕ → List ℕ → ℕ
 number_after n [] = n
 number_after n (x ∷ xs) = number_after (n * 10 + x) xs
 
-numbers : (xs : List ℕ) (n : ℕ) → AreSmall xs → number_from decimal_value 10 n (map (λ x. 48 + x) xs) ≡ Some (number_after n xs)
+numbers : (xs : List ℕ) (n : ℕ) → AreSmall xs
+    → number_from decimal_value 10 n (map (λ x. 48 + x) xs) ≡ Some (number_after n xs)
 numbers [] n h = refl
 numbers (x ∷ xs) n h = next_digit n x (map (λ x. 48 + x) xs) h.0 ∙ numbers xs (n * 10 + x) h.1
 
@@ -126,26 +130,31 @@ either : (b : Bool) (x y : Command) → FewSteps x → FewSteps y → FewSteps (
 either true x y h k = h
 either false x y h k = k
 
-none_few : (command : Command) (ws : List Bytes) → FewSteps command → FewSteps (with_none command ws)
+none_few : (command : Command) (ws : List Bytes) → FewSteps command
+    → FewSteps (with_none command ws)
 none_few command [] h = h
 none_few command (a ∷ ws) h = tt
 
-one_few : (f : Bytes → Command) (ws : List Bytes) → ((a : Bytes) → FewSteps (f a)) → FewSteps (with_one f ws)
+one_few : (f : Bytes → Command) (ws : List Bytes) → ((a : Bytes) → FewSteps (f a))
+    → FewSteps (with_one f ws)
 one_few f [] h = tt
 one_few f (a ∷ []) h = h a
 one_few f (a ∷ b ∷ ws) h = tt
 
-two_few : (f : Bytes → Bytes → Command) (ws : List Bytes) → ((a b : Bytes) → FewSteps (f a b)) → FewSteps (with_two f ws)
+two_few : (f : Bytes → Bytes → Command) (ws : List Bytes) → ((a b : Bytes) → FewSteps (f a b))
+    → FewSteps (with_two f ws)
 two_few f [] h = tt
 two_few f (a ∷ []) h = tt
 two_few f (a ∷ b ∷ []) h = h a b
 two_few f (a ∷ b ∷ c ∷ ws) h = tt
 
-number_few : (f : ℕ → Command) (n : Option ℕ) → ((k : ℕ) → FewSteps (f k)) → FewSteps (number_command f n)
+number_few : (f : ℕ → Command) (n : Option ℕ) → ((k : ℕ) → FewSteps (f k))
+    → FewSteps (number_command f n)
 number_few f (Some k) h = h k
 number_few f None h = tt
 
-in_range : (k : ℕ) (b : Bool) → nat_le k most_steps ≡ b → FewSteps (number_command Run (cond (nat_le 1 k && b) (Some k) None))
+in_range : (k : ℕ) (b : Bool) → nat_le k most_steps ≡ b
+    → FewSteps (number_command Run (cond (nat_le 1 k && b) (Some k) None))
 in_range k true e = by (nat_le 1 k)
   where
     high : k ≤ most_steps
@@ -259,7 +268,8 @@ abbrev AreFew : List Row → Type 0
 AreFew [] = ⊤
 AreFew (row ∷ rows) = ((ws : List Bytes) → FewSteps (row.1 ws)) × AreFew rows
 
-named_few : (rows : List Row) (name : Bytes) (ws : List Bytes) → AreFew rows → FewSteps (command_named rows name ws)
+named_few : (rows : List Row) (name : Bytes) (ws : List Bytes) → AreFew rows
+    → FewSteps (command_named rows name ws)
 named_few [] name ws h = tt
 named_few (row ∷ rows) name ws h = either (bytes_eq name row.0) (row.1 ws) (command_named rows name ws) (h.0 ws) (named_few rows name ws h.1)
 
@@ -353,11 +363,14 @@ later_few (Some r) n h = omega arith
 abbrev limit : ℕ → RunEnd
 limit n = record { did = n; why = Limit }
 
-made_few : (r : Result State EventFault) (rest : State → Option RunEnd) (n : ℕ) → ((t : State) → (unwrap_or (rest t) (limit n)).did ≤ n) → (unwrap_or (refused_now_or_later r rest) (limit (suc n))).did ≤ suc n
+made_few : (r : Result State EventFault) (rest : State → Option RunEnd) (n : ℕ)
+    → ((t : State) → (unwrap_or (rest t) (limit n)).did ≤ n)
+    → (unwrap_or (refused_now_or_later r rest) (limit (suc n))).did ≤ suc n
 made_few (Ok t) rest n h = later_few (rest t) n (h t)
 made_few (Err f) rest n h = omega arith
 
-refused_few : (one : OneStep) (n : ℕ) (s : State) → (unwrap_or (first_refused one n s) (limit n)).did ≤ n
+refused_few : (one : OneStep) (n : ℕ) (s : State)
+    → (unwrap_or (first_refused one n s) (limit n)).did ≤ n
 unfolding first_refused
 refused_few one zero s = omega arith
 refused_few one (suc n) s = made_few (one s) (λ t. first_refused one n t) n (λ t. refused_few one n t)
@@ -374,18 +387,22 @@ steps_few n s =
 abbrev HasLines : List Command → Type 0
 HasLines commands = (others : List Bytes) × (map command_of others ≡ commands)
 
-run_again_lines : (k : ℕ) (rest : List Command) → k ≤ most_steps → HasLines rest → HasLines (run_again k rest)
+run_again_lines : (k : ℕ) (rest : List Command) → k ≤ most_steps → HasLines rest
+    → HasLines (run_again k rest)
 run_again_lines zero rest few h = h
 run_again_lines (suc k) rest few h =
     let some : eqb (suc k) 0 ≡ false = grind (arith, nat_tests) in
     let line = each_run_has_a_line (suc k) (omega arith) few in
     rw some (line.0 ∷ h.0, λ i. line.1 i ∷ h.1 i)
 
-look_lines : (b : Bool) (line : Bytes) (command : Command) (rest : List Command) → command_of line ≡ command → HasLines rest → HasLines (cond b rest (command ∷ rest))
+look_lines : (b : Bool) (line : Bytes) (command : Command) (rest : List Command)
+    → command_of line ≡ command → HasLines rest → HasLines (cond b rest (command ∷ rest))
 look_lines true line command rest e h = h
 look_lines false line command rest e h = (line ∷ h.0, λ i. e i ∷ h.1 i)
 
-kept_lines : (line : Bytes) (command : Command) (s : Session) (rest : List Command) → command_of line ≡ command → FewSteps command → HasLines rest → HasLines (without_look command s rest)
+kept_lines : (line : Bytes) (command : Command) (s : Session) (rest : List Command)
+    → command_of line ≡ command → FewSteps command → HasLines rest
+    → HasLines (without_look command s rest)
 unfolding without_look
 kept_lines line (Run n) s rest e few h = run_again_lines (run_end n s).did rest (omega (arith, steps_few n s, few)) h
 kept_lines line command s rest e few h = look_lines (is_look command) line command rest e h

@@ -18,7 +18,8 @@ split_line : (begun bs : List ℕ) → Split [] bs → Split begun (10 ∷ bs)
 unfolding lines_from
 split_line begun bs c = (strip_last 13 begun ∷ c.0, c.1, λ ending rest. ap (λ l. strip_last 13 begun ∷ l) (c.2 ending rest))
 
-split_byte : (begun bs : List ℕ) (b : ℕ) → eqb b 10 ≡ false → Split (begun ++ b ∷ []) bs → Split begun (b ∷ bs)
+split_byte : (begun bs : List ℕ) (b : ℕ) → eqb b 10 ≡ false → Split (begun ++ b ∷ []) bs
+    → Split begun (b ∷ bs)
 unfolding lines_from
 split_byte begun bs b e c = (c.0, c.1, λ ending rest. rw e (c.2 ending rest))
 
@@ -34,7 +35,8 @@ abbrev GoesOn : Session → Lines → Lines → Type 0
 GoesOn s xs ys = (more : List ℕ) × ((serving s (xs ++ ys)).written ≡ (serving s xs).written ++ more)
 
 goes_on_from : (a : Answer) (xs ys : Lines) → ((t : Session) → GoesOn t xs ys)
-    → (more : List ℕ) × ((serving_after a (λ t. serving t (xs ++ ys))).written ≡ (serving_after a (λ t. serving t xs)).written ++ more)
+    → (more : List ℕ)
+    × ((serving_after a (λ t. serving t (xs ++ ys))).written ≡ (serving_after a (λ t. serving t xs)).written ++ more)
 goes_on_from a xs ys rest = by a.quit refl
   where
     by : (q : Bool) → a.quit ≡ q → (more : List ℕ) × ((serving_after a (λ t. serving t (xs ++ ys))).written ≡ (serving_after a (λ t. serving t xs)).written ++ more)
@@ -46,7 +48,8 @@ unfolding serving
 goes_on s [] ys = ((serving s ys).written, refl)
 goes_on s (x ∷ xs) ys = goes_on_from (answer_to (command_of x) s) xs ys (λ t. goes_on t xs ys)
 
-pub told_begins : (s : Session) (told left : List ℕ) → (more : List ℕ) × ((transcript s (told ++ left)).written ≡ (transcript_so_far s told).written ++ more)
+pub told_begins : (s : Session) (told left : List ℕ) → (more : List ℕ)
+    × ((transcript s (told ++ left)).written ≡ (transcript_so_far s told).written ++ more)
 unfolding lines_from
 told_begins s told left =
     let c = split [] told in

@@ -34,7 +34,8 @@ both : {A : Type 0} (b : Bool) (x : A) → cond b x x ≡ x
 both true x = refl
 both false x = refl
 
-read_same : (bus : Bus) (address : ℕ) → bus.control ≡ false → byte_read bus address ≡ polled_read bus address
+read_same : (bus : Bus) (address : ℕ) → bus.control ≡ false
+    → byte_read bus address ≡ polled_read bus address
 unfolding byte_read polled_read
 read_same bus address h =
     let at = eqb address (bus.map.port + 3) in
@@ -47,11 +48,14 @@ cleared bus true true h e = cc
 cleared bus true false h e = λ i. record bus { control = sym h i }
 cleared bus false odd h e = refl
 
-write_same : (bus : Bus) (address value : ℕ) → bus.control ≡ false → (eqb address (bus.map.port + 3) && eqb (value % 2) 1) ≡ false → after_write bus address value ≡ polled_write bus address value
+write_same : (bus : Bus) (address value : ℕ) → bus.control ≡ false
+    → (eqb address (bus.map.port + 3) && eqb (value % 2) 1) ≡ false
+    → after_write bus address value ≡ polled_write bus address value
 unfolding after_write polled_write
 write_same bus address value h e = rw (cleared bus (eqb address (bus.map.port + 3)) (eqb (value % 2) 1) h e) refl
 
-write_keeps : (bus : Bus) (address value : ℕ) → (polled_write bus address value).control ≡ bus.control
+write_keeps : (bus : Bus) (address value : ℕ)
+    → (polled_write bus address value).control ≡ bus.control
 unfolding polled_write
 write_keeps bus address value = kept (is_port bus.map address) (eqb address bus.map.port) (is_rom bus.map address)
   where
@@ -66,7 +70,8 @@ taken_if : (bus : Bus) (b : Bool) → ((cond b (record bus { taken = bus.taken +
 taken_if bus true = (refl, refl)
 taken_if bus false = (refl, refl)
 
-read_keeps : (bus : Bus) (address : ℕ) → ((after_read bus address).control ≡ bus.control) × ((after_read bus address).map ≡ bus.map)
+read_keeps : (bus : Bus) (address : ℕ) → ((after_read bus address).control ≡ bus.control)
+    × ((after_read bus address).map ≡ bus.map)
 unfolding after_read
 read_keeps bus address = taken_if bus (eqb address (bus.map.port + 1) && input_waits bus)
 
@@ -81,7 +86,8 @@ pub record Polled (new old : State) : Type 0 where
 abbrev Spares : Operation → Mode → EffectiveAddress → State → Type 0
 Spares op mode place state = (eqb place.address (state.bus.map.port + 3) && option_map_or (λ byte. eqb (byte % 2) 1) (byte_stored op mode place state) false) ≡ false
 
-load_same : (op : ReadOp) (mode : Mode) (place : EffectiveAddress) (state : State) → Unset state → Polled (load op mode place state) (polled_load op mode place state)
+load_same : (op : ReadOp) (mode : Mode) (place : EffectiveAddress) (state : State) → Unset state
+    → Polled (load op mode place state) (polled_load op mode place state)
 unfolding load polled_load operand polled_operand after_operand
 load_same op mode place state h = record {
   same = rw (read_same state.bus place.address h) refl;
@@ -92,7 +98,9 @@ load_same op mode place state h = record {
     kept true = h
     kept false = (read_keeps state.bus place.address).0 ∙ h
 
-store_same : (op : StoreOp) (mode : Mode) (place : EffectiveAddress) (state : State) → Unset state → Spares (operation.Store op) mode place state → Polled (store op place state) (polled_store op place state)
+store_same : (op : StoreOp) (mode : Mode) (place : EffectiveAddress) (state : State) → Unset state
+    → Spares (operation.Store op) mode place state → Polled (store op place state)
+    (polled_store op place state)
 unfolding store polled_store byte_stored
 store_same op mode place state h e =
     let w = write_same state.bus place.address (store_value op state.regs) h e in record {
@@ -104,7 +112,8 @@ store_same op mode place state h e =
 abbrev new_byte : ModifyOp → EffectiveAddress → State → ℕ
 new_byte op place state = (modify_sum op (byte_read state.bus place.address) state.regs.flags.c).value
 
-modify_same : (op : ModifyOp) (place : EffectiveAddress) (state : State) → Unset state → (eqb place.address (state.bus.map.port + 3) && eqb (new_byte op place state % 2) 1) ≡ false
+modify_same : (op : ModifyOp) (place : EffectiveAddress) (state : State) → Unset state
+    → (eqb place.address (state.bus.map.port + 3) && eqb (new_byte op place state % 2) 1) ≡ false
     → Polled (modify_memory op place state) (polled_modify op place state)
 unfolding modify_memory polled_modify
 modify_same op place state h e =
@@ -117,7 +126,8 @@ modify_same op place state h e =
       unset = ap (λ (b : Bus). b.control) w ∙ write_keeps read place.address (new_byte op place state) ∙ unread;
     }
 
-branch_unset : (op : BranchOp) (place : EffectiveAddress) (state : State) → Unset state → Unset (branch op place state)
+branch_unset : (op : BranchOp) (place : EffectiveAddress) (state : State) → Unset state
+    → Unset (branch op place state)
 unfolding branch
 branch_unset op place state h = taken (branches op state.regs.flags)
   where
@@ -125,7 +135,8 @@ branch_unset op place state h = taken (branches op state.regs.flags)
     taken true = h
     taken false = h
 
-performed_same : (op : Operation) (mode : Mode) (place : EffectiveAddress) (state : State) → Unset state → Spares op mode place state
+performed_same : (op : Operation) (mode : Mode) (place : EffectiveAddress) (state : State)
+    → Unset state → Spares op mode place state
     → Polled (after_operation op mode place state) (polled_operation op mode place state)
 unfolding after_operation polled_operation byte_stored modify_a after_push after_pull pull_a pull_x pull_y pull_status call return_from_call return_from_interrupt interrupt_sequence break_entry
 performed_same (operation.Read op) mode place state h e = load_same op mode place state h
@@ -166,7 +177,8 @@ made new old p = record { same = ap Ok p.same; unset = λ t h. let is : new ≡ 
 refused : (f : EventFault) → PolledStep (Err f) (Err f)
 refused f = record { same = refl; unset = λ t h. cc }
 
-value_advanced : (op : StoreOp) (row : Row) (place : EffectiveAddress) (state : State) → store_value op (past_instruction row place state).regs ≡ store_value op state.regs
+value_advanced : (op : StoreOp) (row : Row) (place : EffectiveAddress) (state : State)
+    → store_value op (past_instruction row place state).regs ≡ store_value op state.regs
 unfolding past_instruction store_value
 value_advanced store_op.Sta row place state = refl
 value_advanced store_op.Stx row place state = refl
@@ -174,12 +186,15 @@ value_advanced store_op.Sty row place state = refl
 value_advanced store_op.Stz row place state = refl
 
 -- the bytes that are stored do not hang on PC
-byte_advanced : (op : Operation) (row : Row) (place : EffectiveAddress) (state : State) → byte_stored op row.mode place (past_instruction row place state) ≡ byte_stored op row.mode place state
+byte_advanced : (op : Operation) (row : Row) (place : EffectiveAddress) (state : State)
+    → byte_stored op row.mode place (past_instruction row place state)
+    ≡ byte_stored op row.mode place state
 unfolding past_instruction byte_stored
 byte_advanced (operation.Store op) row place state = ap Some (value_advanced op row place state)
 byte_advanced op row place state = refl
 
-executed_same : (row : Row) (state : State) → Unset state → stores_odd row state ≡ false → PolledStep (execution row state) (polled_execution row state)
+executed_same : (row : Row) (state : State) → Unset state → stores_odd row state ≡ false
+    → PolledStep (execution row state) (polled_execution row state)
 unfolding execution polled_execution stores_odd past_instruction
 executed_same row state h e =
     let place = effective_address state.bus state.regs row.mode in
@@ -192,7 +207,9 @@ executed_same row state h e =
     by true p = refused ConsoleFull
     by false {new} {old} p = made new old p
 
-attempted_same : (row : Option Row) (state : State) → Unset state → option_map_or (λ r. stores_odd r state) row false ≡ false → PolledStep (attempt row state) (polled_attempt row state)
+attempted_same : (row : Option Row) (state : State) → Unset state
+    → option_map_or (λ r. stores_odd r state) row false ≡ false → PolledStep (attempt row state)
+    (polled_attempt row state)
 unfolding attempt polled_attempt
 attempted_same None state h e = refused (Undocumented (slice_index state.bus.memory state.regs.pc) state.regs.pc)
 attempted_same (Some row) state h e = executed_same row state h e
@@ -202,7 +219,8 @@ unfolding interrupt_entry interrupt_sequence after_push
 entered_unset state vector h = h
 
 -- where the control byte is 0 an IRQ is asked for by its line alone
-asked_by_line : (line waits : Bool) {control : Bool} → control ≡ false → (line || (control && waits)) ≡ line
+asked_by_line : (line waits : Bool) {control : Bool} → control ≡ false
+    → (line || (control && waits)) ≡ line
 asked_by_line true waits h = refl
 asked_by_line false waits h = ap (λ c. c && waits) h
 
@@ -210,7 +228,8 @@ asked_by_line false waits h = ap (λ c. c && waits) h
 abbrev unless : Bool → Bool → Bool → Option Row → Option Row
 unless full nmi asked row = cond (full || nmi || asked) None row
 
-pub step_same : (state : State) → Unset state → sets_control state ≡ false → PolledStep (step state) (polled_step state)
+pub step_same : (state : State) → Unset state → sets_control state ≡ false → PolledStep (step state)
+    (polled_step state)
 unfolding step polled_step sets_control instruction_at
 step_same state h e =
     let asked = irq_asked state && not state.regs.flags.i in
@@ -230,10 +249,12 @@ step_same state h e =
 -- ---- refused steps
 
 -- base+0 is not base+3
-apart : (address port : ℕ) (full odd : Bool) → (eqb address port && full) ≡ true → (eqb address (port + 3) && odd) ≡ false
+apart : (address port : ℕ) (full odd : Bool) → (eqb address port && full) ≡ true
+    → (eqb address (port + 3) && odd) ≡ false
 apart address port full odd h = grind (arith, nat_tests)
 
-executed_refused : (row : Row) (state : State) (f : EventFault) → execution row state ≡ Err f → stores_odd row state ≡ false
+executed_refused : (row : Row) (state : State) (f : EventFault) → execution row state ≡ Err f
+    → stores_odd row state ≡ false
 unfolding execution stores_odd overflows
 executed_refused row state f h =
     let place = effective_address state.bus state.regs row.mode in
@@ -245,7 +266,8 @@ executed_refused row state f h =
     by true false new h = cc
     by false b new h = cc
 
-pub refused_spares : (state : State) (f : EventFault) → step state ≡ Err f → sets_control state ≡ false
+pub refused_spares : (state : State) (f : EventFault) → step state ≡ Err f
+    → sets_control state ≡ false
 unfolding step sets_control instruction_at attempt
 refused_spares state f h =
     by (nat_lt most_cycles state.cycles) state.nmi (irq_asked state && not state.regs.flags.i) (row_at state.bus.map.profile (slice_index state.bus.memory state.regs.pc)) h

@@ -31,12 +31,14 @@ all_below n [] long = refl
 all_below zero (c ∷ cells) long = absurd (omega (arith, long))
 all_below (suc n) (c ∷ cells) long = ap (λ (cs : List (Option ℕ)). c ∷ cs) (all_below n cells (omega (arith, long)))
 
-pub gap_below : (a : ℕ) (cells : List (Option ℕ)) → cell_at cells a ≡ None → below (suc a) cells ≡ below a cells
+pub gap_below : (a : ℕ) (cells : List (Option ℕ)) → cell_at cells a ≡ None
+    → below (suc a) cells ≡ below a cells
 gap_below a [] gap = refl
 gap_below zero (c ∷ cells) gap = rw gap refl
 gap_below (suc a) (c ∷ cells) gap = ap (λ (cs : List (Option ℕ)). c ∷ cs) (gap_below a cells gap)
 
-pub byte_below : (a b : ℕ) (cells : List (Option ℕ)) → cell_at cells a ≡ Some b → slice_set (below a cells) a (Some b) ≡ below (suc a) cells
+pub byte_below : (a b : ℕ) (cells : List (Option ℕ)) → cell_at cells a ≡ Some b
+    → slice_set (below a cells) a (Some b) ≡ below (suc a) cells
 byte_below a b [] here = absurd cc
 byte_below zero b (c ∷ cells) here = rw here refl
 byte_below (suc a) b (c ∷ cells) here = ap (λ (cs : List (Option ℕ)). c ∷ cs) (byte_below a b cells here)
@@ -48,7 +50,8 @@ none_from zero (suc i) (c ∷ cells) after = none_from zero i cells (omega arith
 none_from (suc a) zero (c ∷ cells) after = absurd (omega (arith, after))
 none_from (suc a) (suc i) (c ∷ cells) after = none_from a i cells (omega (arith, after))
 
-pub free_from : (n a i : ℕ) (cells : List (Option ℕ)) → a ≤ i → has_bytes (below a cells) i n ≡ false
+pub free_from : (n a i : ℕ) (cells : List (Option ℕ)) → a ≤ i
+    → has_bytes (below a cells) i n ≡ false
 unfolding has_bytes has_byte
 free_from zero a i cells after = refl
 free_from (suc n) a i cells after = rw (none_from a i cells after) (free_from n a (i + 1) cells (omega (arith, after)))
@@ -60,13 +63,15 @@ abbrev pub Shows : List (Option ℕ) → ℕ → List ℕ → Type 0
 Shows cells a [] = ⊤
 Shows cells a (b ∷ bytes) = (cell_at cells a ≡ Some b) × Shows cells (a + 1) bytes
 
-pub shows_front : (n : ℕ) (cells : List (Option ℕ)) (a : ℕ) (bytes : List ℕ) → Shows cells a bytes → Shows cells a (take n bytes)
+pub shows_front : (n : ℕ) (cells : List (Option ℕ)) (a : ℕ) (bytes : List ℕ) → Shows cells a bytes
+    → Shows cells a (take n bytes)
 shows_front zero cells a bytes shown = tt
 shows_front (suc n) cells a [] shown = tt
 shows_front (suc n) cells a (b ∷ bytes) shown = (shown.0, shows_front n cells (a + 1) bytes shown.1)
 
 -- put over the bytes below them they are the bytes below their end
-pub put_below : (cells : List (Option ℕ)) (a : ℕ) (bytes : List ℕ) → Shows cells a bytes → with_bytes (below a cells) a bytes ≡ below (a + length bytes) cells
+pub put_below : (cells : List (Option ℕ)) (a : ℕ) (bytes : List ℕ) → Shows cells a bytes
+    → with_bytes (below a cells) a bytes ≡ below (a + length bytes) cells
 put_below cells a [] shown = let e : a + 0 ≡ a = omega arith in rw e refl
 put_below cells a (b ∷ bytes) shown =
     let e : (a + 1) + length bytes ≡ a + suc (length bytes) = omega arith in
@@ -78,7 +83,8 @@ is_within a b [] here = absurd cc
 is_within zero b (c ∷ cells) here = omega arith
 is_within (suc a) b (c ∷ cells) here = omega (arith, is_within a b cells here)
 
-pub shown_within : (cells : List (Option ℕ)) (a : ℕ) (bytes : List ℕ) → 0 < length bytes → Shows cells a bytes → a + length bytes ≤ length cells
+pub shown_within : (cells : List (Option ℕ)) (a : ℕ) (bytes : List ℕ) → 0 < length bytes
+    → Shows cells a bytes → a + length bytes ≤ length cells
 shown_within cells a [] some shown = absurd (omega (arith, some))
 shown_within cells a (b ∷ []) some shown = omega (arith, is_within a b cells shown.0)
 shown_within cells a (b ∷ c ∷ bytes) some shown = omega (arith, shown_within cells (a + 1) (c ∷ bytes) (omega arith) shown.1)
@@ -98,7 +104,8 @@ unfolding has_byte
 has_it cells a b here = rw here refl
 
 -- one of the port's four
-at_port : (m : Map) (cells : List (Option ℕ)) (d : ℕ) → d < 4 → has_port_byte m cells ≡ false → has_byte cells (m.port + d) ≡ false
+at_port : (m : Map) (cells : List (Option ℕ)) (d : ℕ) → d < 4 → has_port_byte m cells ≡ false
+    → has_byte cells (m.port + d) ≡ false
 unfolding has_port_byte
 at_port m cells d small spared = by d small
   where
@@ -118,7 +125,8 @@ at_port m cells d small spared = by d small
     by (suc (suc (suc zero))) small = parts.1
     by (suc (suc (suc (suc d)))) small = absurd (omega (arith, small))
 
-pub no_port_here : (m : Map) (cells : List (Option ℕ)) (a b : ℕ) → has_port_byte m cells ≡ false → cell_at cells a ≡ Some b → is_port m a ≡ false
+pub no_port_here : (m : Map) (cells : List (Option ℕ)) (a b : ℕ) → has_port_byte m cells ≡ false
+    → cell_at cells a ≡ Some b → is_port m a ≡ false
 unfolding is_port
 no_port_here m cells a b spared here = on (nat_le m.port a && nat_lt a (m.port + 4)) refl
   where
@@ -134,7 +142,8 @@ no_port_here m cells a b spared here = on (nat_le m.port a && nat_lt a (m.port +
         let never : has_byte cells a ≡ false = rw same at off in
         cc
 
-pub no_port : (m : Map) (cells : List (Option ℕ)) (a : ℕ) (bytes : List ℕ) → has_port_byte m cells ≡ false → Shows cells a bytes → has_port m a (length bytes) ≡ false
+pub no_port : (m : Map) (cells : List (Option ℕ)) (a : ℕ) (bytes : List ℕ)
+    → has_port_byte m cells ≡ false → Shows cells a bytes → has_port m a (length bytes) ≡ false
 unfolding has_port
 no_port m cells a [] spared shown = refl
 no_port m cells a (b ∷ bytes) spared shown = rw (no_port_here m cells a b spared shown.0) (no_port m cells (a + 1) bytes spared shown.1)

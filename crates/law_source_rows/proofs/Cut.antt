@@ -32,7 +32,8 @@ no_cr b source = elim (eqb_tells b 13) [
 abbrev pub IsPlain : List ℕ → Type 0
 IsPlain line = list_all is_source_byte line ≡ true
 
-at_each : (line : List ℕ) (i : ℕ) → i < length line → IsPlain line → is_source_byte (get_or line i 0) ≡ true
+at_each : (line : List ℕ) (i : ℕ) → i < length line → IsPlain line
+    → is_source_byte (get_or line i 0) ≡ true
 at_each [] i inside plain = absurd (omega (arith, inside))
 at_each (b ∷ line) zero inside plain = (and_true _ _ plain).0
 at_each (b ∷ line) (suc i) inside plain = at_each line i (omega (arith, inside)) (and_true _ _ plain).1
@@ -43,7 +44,8 @@ whole (b ∷ line) plain =
     let last : is_source_byte (get_or (b ∷ line) (length (b ∷ line) - 1) 0) ≡ true = at_each (b ∷ line) (length (b ∷ line) - 1) (omega arith) plain in
     rw (lt-ltb 0 (length (b ∷ line)) (omega arith), no_cr (get_or (b ∷ line) (length (b ∷ line) - 1) 0) last) refl
 
-cut : (begun line rest : List ℕ) → IsPlain line → lines_from last_line begun (line ++ 10 ∷ rest) ≡ strip_last 13 (begun ++ line) ∷ lines_from last_line [] rest
+cut : (begun line rest : List ℕ) → IsPlain line → lines_from last_line begun (line ++ 10 ∷ rest)
+    ≡ strip_last 13 (begun ++ line) ∷ lines_from last_line [] rest
 unfolding lines_from
 cut begun [] rest plain = rw append-nil refl
 cut begun (b ∷ line) rest plain =
@@ -54,7 +56,8 @@ abbrev pub ArePlain : List (List ℕ) → Type 0
 ArePlain [] = ⊤
 ArePlain (line ∷ lines) = IsPlain line × ArePlain lines
 
-first_cut : (line rest : List ℕ) → IsPlain line → lines_of ((line ++ 10 ∷ []) ++ rest) ≡ line ∷ lines_of rest
+first_cut : (line rest : List ℕ) → IsPlain line
+    → lines_of ((line ++ 10 ∷ []) ++ rest) ≡ line ∷ lines_of rest
 first_cut line rest plain = rw append_assoc (cut [] line rest plain ∙ ap (λ (l : List ℕ). l ∷ lines_of rest) (whole line plain))
 
 pub text_cut : (lines : List (List ℕ)) → ArePlain lines → lines_of (flat_map ended lines) ≡ lines
@@ -67,6 +70,7 @@ abbrev pub GoOn : Profile → List (List ℕ) → Type 0
 GoOn profile [] = ⊤
 GoOn profile (line ∷ lines) = (is_end (read_line profile line) ≡ false) × GoOn profile lines
 
-pub all_read : (profile : Profile) (lines : List (List ℕ)) → GoOn profile lines → up_to_end profile lines ≡ lines
+pub all_read : (profile : Profile) (lines : List (List ℕ)) → GoOn profile lines
+    → up_to_end profile lines ≡ lines
 all_read profile [] on = refl
 all_read profile (line ∷ lines) on = rw on.0 (ap (λ (ls : List (List ℕ)). line ∷ ls) (all_read profile lines on.1))

@@ -42,7 +42,8 @@ no_word : (bs : List ℕ) → begins is_word_byte (more_bytes bs) ≡ false
 no_word [] = refl
 no_word (b ∷ bs) = refl
 
-comma_first : (p : ℕ) (rest : List ℕ) → tokens_from p 0 (44 ∷ rest) ≡ before (symbol p 44) (tokens_from (p + 1) 0 rest)
+comma_first : (p : ℕ) (rest : List ℕ) → tokens_from p 0 (44 ∷ rest) ≡ before (symbol p 44)
+    (tokens_from (p + 1) 0 rest)
 unfolding tokens_from token_at
 comma_first p rest = refl
 
@@ -50,10 +51,13 @@ at_end : (p : ℕ) → tokens_from p 0 [] ≡ Some []
 unfolding tokens_from
 at_end p = refl
 
-number_first : (p b : ℕ) (bs : List ℕ) → b < 256 → tokens_from p 0 (byte_text b ++ more_bytes bs) ≡ before (number p (byte_text b)) (tokens_from (p + 1 + 1 + 1) 0 (more_bytes bs))
+number_first : (p b : ℕ) (bs : List ℕ) → b < 256
+    → tokens_from p 0 (byte_text b ++ more_bytes bs) ≡ before (number p (byte_text b))
+    (tokens_from (p + 1 + 1 + 1) 0 (more_bytes bs))
 number_first p b bs below = byte_first p _ _ _ _ (more_bytes bs) (high b below) (low b) (no_digit bs) (no_word bs)
 
-more_found : (p : ℕ) (bs : List ℕ) → AreSmall bs → tokens_from p 0 (more_bytes bs) ≡ Some (more_tokens p bs)
+more_found : (p : ℕ) (bs : List ℕ) → AreSmall bs
+    → tokens_from p 0 (more_bytes bs) ≡ Some (more_tokens p bs)
 more_found p [] small = at_end p
 more_found p (b ∷ bs) small =
     comma_first p (byte_text b ++ more_bytes bs)
@@ -63,7 +67,8 @@ more_found p (b ∷ bs) small =
 abbrev directive : Lexeme
 directive = record { kind = Directive; start = 0; text = codes ".BYTE" }
 
-directive_first : (rest : List ℕ) → tokens_from 0 0 (46 ∷ 66 ∷ 89 ∷ 84 ∷ 69 ∷ 32 ∷ rest) ≡ before directive (tokens_from 6 0 rest)
+directive_first : (rest : List ℕ)
+    → tokens_from 0 0 (46 ∷ 66 ∷ 89 ∷ 84 ∷ 69 ∷ 32 ∷ rest) ≡ before directive (tokens_from 6 0 rest)
 unfolding tokens_from token_at
 directive_first rest = refl
 
@@ -81,7 +86,8 @@ values_are : (bs : List ℕ) → AreSmall bs → values bs ≡ numbered bs
 values_are [] small = refl
 values_are (b ∷ bs) small = rw (byte_number b small.0, values_are bs small.1) refl
 
-items_found : (bs : List ℕ) (n p q b : ℕ) → length bs < n → list_within item_of n (number p (byte_text b) ∷ more_tokens q bs) ≡ Some (values (b ∷ bs))
+items_found : (bs : List ℕ) (n p q b : ℕ) → length bs < n
+    → list_within item_of n (number p (byte_text b) ∷ more_tokens q bs) ≡ Some (values (b ∷ bs))
 unfolding list_within expression_of
 items_found bs zero p q b room = absurd (omega (arith, room))
 items_found [] (suc n) p q b room = refl
@@ -91,7 +97,9 @@ enough_tokens : (p : ℕ) (bs : List ℕ) → length bs ≤ length (more_tokens 
 enough_tokens p [] = omega arith
 enough_tokens p (b ∷ bs) = omega (arith, enough_tokens (p + 1 + 1 + 1 + 1) bs)
 
-line_found : (profile : Profile) (b : ℕ) (bs : List ℕ) → line_of profile (directive ∷ number 6 (byte_text b) ∷ more_tokens 9 bs) ≡ Some (labelled None (bytes (values (b ∷ bs))))
+line_found : (profile : Profile) (b : ℕ) (bs : List ℕ)
+    → line_of profile (directive ∷ number 6 (byte_text b) ∷ more_tokens 9 bs)
+    ≡ Some (labelled None (bytes (values (b ∷ bs))))
 unfolding line_of statement_of directive_of
 line_found profile b bs = rw (items_found bs (suc (length (more_tokens 9 bs))) 6 9 b (omega (arith, enough_tokens 9 bs))) refl
 
@@ -105,14 +113,17 @@ more_plain : (bs : List ℕ) → AreSmall bs → IsPlain (more_bytes bs)
 more_plain [] small = refl
 more_plain (b ∷ bs) small = rw ((high b small.0).source, (low b).source) (more_plain bs small.1)
 
-none_reserved : (profile : Profile) (bs : List ℕ) → list_any (item_reserves profile) (values bs) ≡ false
+none_reserved : (profile : Profile) (bs : List ℕ) → list_any (item_reserves profile)
+    (values bs) ≡ false
 none_reserved profile [] = refl
 none_reserved profile (b ∷ bs) = none_reserved profile bs
 
 line_plain : (b : ℕ) (bs : List ℕ) → b < 256 → AreSmall bs → IsPlain (data_row (b ∷ bs)).text
 line_plain b bs below small = rw ((high b below).source, (low b).source) (more_plain bs small)
 
-data_tokens : (b : ℕ) (bs : List ℕ) → b < 256 → AreSmall bs → tokens_from 0 0 (data_row (b ∷ bs)).text ≡ Some (directive ∷ number 6 (byte_text b) ∷ more_tokens 9 bs)
+data_tokens : (b : ℕ) (bs : List ℕ) → b < 256 → AreSmall bs
+    → tokens_from 0 0 (data_row (b ∷ bs)).text
+    ≡ Some (directive ∷ number 6 (byte_text b) ∷ more_tokens 9 bs)
 data_tokens b bs below small =
     directive_first (byte_text b ++ more_bytes bs) ∙ ap (before directive) (number_first 6 b bs below)
     ∙ ap (λ (t : Tokens). before directive (before (number 6 (byte_text b)) t)) (more_found 9 bs small)
@@ -120,7 +131,8 @@ data_tokens b bs below small =
 pub length_data : (b : ℕ) (bs : List ℕ) → length (data_row (b ∷ bs)).text ≡ 9 + 4 * length bs
 length_data b bs = omega (arith, length_more bs)
 
-data_said : (profile : Profile) (b : ℕ) (bs : List ℕ) → b < 256 → AreSmall bs → length bs < 8 → read_line profile (data_row (b ∷ bs)).text ≡ Ok (labelled None (bytes (numbered (b ∷ bs))))
+data_said : (profile : Profile) (b : ℕ) (bs : List ℕ) → b < 256 → AreSmall bs → length bs < 8
+    → read_line profile (data_row (b ∷ bs)).text ≡ Ok (labelled None (bytes (numbered (b ∷ bs))))
 unfolding read_line tokens_of
 data_said profile b bs below small few =
     let fits : length (data_row (b ∷ bs)).text ≤ 255 = omega (arith, length_data b bs) in
@@ -132,21 +144,27 @@ size_numbered : (bs : List ℕ) → items_size (numbered bs) ≡ length bs
 size_numbered [] = refl
 size_numbered (b ∷ bs) = omega (arith, size_numbered bs)
 
-piece_of : (numbers : Numbers) (a b : ℕ) → b < 256 → item_piece numbers a (value (of_number b)) ≡ Ok (b ∷ [])
+piece_of : (numbers : Numbers) (a b : ℕ) → b < 256
+    → item_piece numbers a (value (of_number b)) ≡ Ok (b ∷ [])
 unfolding eval_of
 piece_of numbers a b below = byte_again b below
 
-numbered_right : (numbers : Numbers) (a : ℕ) (bs : List ℕ) → AreSmall bs → (more : List (Option AsmFaultKind)) → lowest (kinds_in (map (λ i. item_piece numbers a i) (numbered bs)) ++ more) ≡ lowest more
+numbered_right : (numbers : Numbers) (a : ℕ) (bs : List ℕ) → AreSmall bs
+    → (more : List (Option AsmFaultKind))
+    → lowest (kinds_in (map (λ i. item_piece numbers a i) (numbered bs)) ++ more) ≡ lowest more
 unfolding lowest lower
 numbered_right numbers a [] small more = refl
 numbered_right numbers a (b ∷ bs) small more = rw (piece_of numbers a b small.0) (numbered_right numbers a bs small.1 more)
 
-numbered_bytes : (numbers : Numbers) (a : ℕ) (bs : List ℕ) → AreSmall bs → flat_map bytes_in (map (λ i. item_piece numbers a i) (numbered bs)) ≡ bs
+numbered_bytes : (numbers : Numbers) (a : ℕ) (bs : List ℕ) → AreSmall bs
+    → flat_map bytes_in (map (λ i. item_piece numbers a i) (numbered bs)) ≡ bs
 numbered_bytes numbers a [] small = refl
 numbered_bytes numbers a (b ∷ bs) small = rw (piece_of numbers a b small.0) (ap (λ (x : List ℕ). b ∷ x) (numbered_bytes numbers a bs small.1))
 
-bytes_laid : (profile : Profile) (line : List ℕ) (items : List Item) (a n : ℕ) (names : Definitions) → read_line profile line ≡ Ok (labelled None (bytes items)) → items_size items ≡ n
-    → layout_of (fixed_at profile a names) line ≡ Ok (placed_at a (byte_list items), fixed_at profile (a + n) names)
+bytes_laid : (profile : Profile) (line : List ℕ) (items : List Item) (a n : ℕ) (names : Definitions)
+    → read_line profile line ≡ Ok (labelled None (bytes items)) → items_size items ≡ n
+    → layout_of (fixed_at profile a names) line
+    ≡ Ok (placed_at a (byte_list items), fixed_at profile (a + n) names)
 unfolding layout_of named_line_at statement_at size_of
 bytes_laid profile line items a n names read size = rw (read, append-nil names, size) refl
 
@@ -154,12 +172,16 @@ size_is : (items : List Item) → size_of (byte_list items) ≡ items_size items
 unfolding size_of
 size_is items = refl
 
-pieces_are_right : (numbers : Numbers) (a : ℕ) (items : List Item) (more : List (Option AsmFaultKind)) → lowest (kinds_in (map (λ i. item_piece numbers a i) items) ++ more) ≡ lowest more
+pieces_are_right : (numbers : Numbers) (a : ℕ) (items : List Item)
+    (more : List (Option AsmFaultKind))
+    → lowest (kinds_in (map (λ i. item_piece numbers a i) items) ++ more) ≡ lowest more
     → lowest (kinds_in (pieces_of numbers a (byte_list items)) ++ more) ≡ lowest more
 unfolding pieces_of
 pieces_are_right numbers a items more right = right
 
-pieces_bytes : (numbers : Numbers) (a : ℕ) (items : List Item) (bs : List ℕ) → flat_map bytes_in (map (λ i. item_piece numbers a i) items) ≡ bs → line_bytes numbers (placed_at a (byte_list items)) ≡ bs
+pieces_bytes : (numbers : Numbers) (a : ℕ) (items : List Item) (bs : List ℕ)
+    → flat_map bytes_in (map (λ i. item_piece numbers a i) items) ≡ bs
+    → line_bytes numbers (placed_at a (byte_list items)) ≡ bs
 unfolding line_bytes pieces_of
 pieces_bytes numbers a items bs is = is
 
@@ -197,7 +219,8 @@ quote_behind (b ∷ bs) = quote_behind bs
 some_length : (bs : List ℕ) → (suc (length bs) == 0) ≡ false
 some_length bs = elim (eqb_tells (suc (length bs)) 0) [ inl same ↦ absurd (omega (arith, same.1)) | inr other ↦ other.0 ]
 
-string_found : (b : ℕ) (bs : List ℕ) → AreLetters (b ∷ bs) → token_at (quoted (b ∷ bs)) ≡ Some (Str, quoted (b ∷ bs))
+string_found : (b : ℕ) (bs : List ℕ) → AreLetters (b ∷ bs)
+    → token_at (quoted (b ∷ bs)) ≡ Some (Str, quoted (b ∷ bs))
 unfolding token_at
 string_found b bs letters = rw (letters_run (b ∷ bs) letters, quote_behind (b ∷ bs), some_length bs) refl
 
@@ -209,13 +232,15 @@ covered p (b ∷ bs) = covered (p + 1) bs
 abbrev string_token : List ℕ → Lexeme
 string_token bs = record { kind = Str; start = 6; text = quoted bs }
 
-string_first : (b : ℕ) (bs : List ℕ) → AreLetters (b ∷ bs) → tokens_from 6 0 (quoted (b ∷ bs)) ≡ Some (string_token (b ∷ bs) ∷ [])
+string_first : (b : ℕ) (bs : List ℕ) → AreLetters (b ∷ bs)
+    → tokens_from 6 0 (quoted (b ∷ bs)) ≡ Some (string_token (b ∷ bs) ∷ [])
 unfolding tokens_from
 string_first b bs letters =
     let rest : length (quoted (b ∷ bs)) - 1 ≡ length ((b ∷ bs) ++ 34 ∷ []) = omega arith in
     rw (string_found b bs letters, rest, covered 7 ((b ∷ bs) ++ 34 ∷ [])) refl
 
-string_tokens : (b : ℕ) (bs : List ℕ) → AreLetters (b ∷ bs) → tokens_from 0 0 (string_row (b ∷ bs)).text ≡ Some (directive ∷ string_token (b ∷ bs) ∷ [])
+string_tokens : (b : ℕ) (bs : List ℕ) → AreLetters (b ∷ bs)
+    → tokens_from 0 0 (string_row (b ∷ bs)).text ≡ Some (directive ∷ string_token (b ∷ bs) ∷ [])
 string_tokens b bs letters = directive_first (quoted (b ∷ bs)) ∙ ap (before directive) (string_first b bs letters)
 
 inside : (bs : List ℕ) → take (length bs) (bs ++ 34 ∷ []) ≡ bs
@@ -226,7 +251,9 @@ pub length_quoted : (bs : List ℕ) → length (bs ++ 34 ∷ []) ≡ length bs +
 length_quoted [] = refl
 length_quoted (b ∷ bs) = omega (arith, length_quoted bs)
 
-string_line_found : (profile : Profile) (bs : List ℕ) → line_of profile (directive ∷ string_token bs ∷ []) ≡ Some (labelled None (bytes (string bs ∷ [])))
+string_line_found : (profile : Profile) (bs : List ℕ)
+    → line_of profile (directive ∷ string_token bs ∷ [])
+    ≡ Some (labelled None (bytes (string bs ∷ [])))
 unfolding line_of statement_of directive_of list_within
 string_line_found profile bs =
     let long : length (quoted bs) - 2 ≡ length bs = omega (arith, length_quoted bs) in
@@ -246,17 +273,21 @@ letters_plain (b ∷ bs) letters = rw (letter_plain b letters.0) (letters_plain 
 pub length_string : (bs : List ℕ) → length (string_row bs).text ≡ 8 + length bs
 length_string bs = omega (arith, length_quoted bs)
 
-string_said : (profile : Profile) (b : ℕ) (bs : List ℕ) → AreLetters (b ∷ bs) → length bs < 32 → read_line profile (string_row (b ∷ bs)).text ≡ Ok (labelled None (bytes (string (b ∷ bs) ∷ [])))
+string_said : (profile : Profile) (b : ℕ) (bs : List ℕ) → AreLetters (b ∷ bs) → length bs < 32
+    → read_line profile (string_row (b ∷ bs)).text
+    ≡ Ok (labelled None (bytes (string (b ∷ bs) ∷ [])))
 unfolding read_line tokens_of
 string_said profile b bs letters few =
     let fits : length (string_row (b ∷ bs)).text ≤ 255 = omega (arith, length_string (b ∷ bs)) in
     rw (le-ltb 255 (length (string_row (b ∷ bs)).text) fits, letters_plain (b ∷ bs) letters, string_tokens b bs letters, string_line_found profile (b ∷ bs)) refl
 
-string_right : (numbers : Numbers) (a : ℕ) (bs : List ℕ) (more : List (Option AsmFaultKind)) → lowest (kinds_in (map (λ i. item_piece numbers a i) (string bs ∷ [])) ++ more) ≡ lowest more
+string_right : (numbers : Numbers) (a : ℕ) (bs : List ℕ) (more : List (Option AsmFaultKind))
+    → lowest (kinds_in (map (λ i. item_piece numbers a i) (string bs ∷ [])) ++ more) ≡ lowest more
 unfolding lowest lower
 string_right numbers a bs more = refl
 
-string_bytes : (numbers : Numbers) (a : ℕ) (bs : List ℕ) → flat_map bytes_in (map (λ i. item_piece numbers a i) (string bs ∷ [])) ≡ bs
+string_bytes : (numbers : Numbers) (a : ℕ) (bs : List ℕ)
+    → flat_map bytes_in (map (λ i. item_piece numbers a i) (string bs ∷ [])) ≡ bs
 string_bytes numbers a bs = append-nil bs
 
 string_size : (bs : List ℕ) → items_size (string bs ∷ []) ≡ length bs

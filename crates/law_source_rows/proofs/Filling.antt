@@ -32,7 +32,8 @@ use Rattle.law_source_rows.proofs.Listed.{IsRow, row_is}
 
 -- ---- `*=`
 
-star_first : (rest : List ℕ) → tokens_from 0 0 (42 ∷ 61 ∷ rest) ≡ before (symbol 0 42) (before (symbol 1 61) (tokens_from 2 0 rest))
+star_first : (rest : List ℕ) → tokens_from 0 0 (42 ∷ 61 ∷ rest) ≡ before (symbol 0 42)
+    (before (symbol 1 61) (tokens_from 2 0 rest))
 unfolding tokens_from token_at
 star_first rest = refl
 
@@ -40,16 +41,20 @@ no_more : tokens_from 7 0 [] ≡ Some []
 unfolding tokens_from
 no_more = refl
 
-origin_tokens : (w : ℕ) → w < 65536 → tokens_from 0 0 (origin_line w) ≡ Some (symbol 0 42 ∷ symbol 1 61 ∷ number 2 (word_text w) ∷ [])
+origin_tokens : (w : ℕ) → w < 65536 → tokens_from 0 0 (origin_line w)
+    ≡ Some (symbol 0 42 ∷ symbol 1 61 ∷ number 2 (word_text w) ∷ [])
 origin_tokens w below =
     star_first (word_text w) ∙ ap (λ (t : Tokens). before (symbol 0 42) (before (symbol 1 61) t))
     (address_first 2 _ _ _ _ _ _ _ _ [] (high (w / 256) (first_half w below)) (low (w / 256)) (high (w % 256) (last_half w)) (low (w % 256)) refl refl ∙ ap (before (number 2 (word_text w))) no_more)
 
-origin_line_of : (profile : Profile) (t : List ℕ) → line_of profile (symbol 0 42 ∷ symbol 1 61 ∷ number 2 t ∷ []) ≡ Some (labelled None (origin (written t)))
+origin_line_of : (profile : Profile) (t : List ℕ)
+    → line_of profile (symbol 0 42 ∷ symbol 1 61 ∷ number 2 t ∷ [])
+    ≡ Some (labelled None (origin (written t)))
 unfolding line_of statement_of whole_expression expression_of
 origin_line_of profile t = refl
 
-origin_said : (profile : Profile) (w : ℕ) → w < 65536 → read_line profile (origin_line w) ≡ Ok (labelled None (origin (of_number w)))
+origin_said : (profile : Profile) (w : ℕ) → w < 65536
+    → read_line profile (origin_line w) ≡ Ok (labelled None (origin (of_number w)))
 unfolding read_line tokens_of
 origin_said profile w below =
     let value : written (word_text w) ≡ of_number w = ap literal (four_digits w below) in
@@ -62,7 +67,8 @@ same_kind Code = refl
 same_kind Data = refl
 same_kind Text = refl
 
-is_letter_kind : (mark : Mark) (b : ℕ) → is_kind Text (kind_of mark b) ≡ true → is_string_byte b ≡ true
+is_letter_kind : (mark : Mark) (b : ℕ) → is_kind Text (kind_of mark b) ≡ true
+    → is_string_byte b ≡ true
 is_letter_kind Code b h = absurd cc
 is_letter_kind Data b h = absurd cc
 is_letter_kind Text b h = by (is_string_byte b) h
@@ -71,7 +77,9 @@ is_letter_kind Text b h = by (is_string_byte b) h
     by true h = refl
     by false h = absurd cc
 
-shown_before : (cells : List (Option ℕ)) (a : ℕ) (passes : ℕ → Bool) (rest : List ℕ) → Shows cells (a + 1) rest → (c : Option ℕ) → cell_at cells a ≡ c → Shows cells a (byte_before c passes rest)
+shown_before : (cells : List (Option ℕ)) (a : ℕ) (passes : ℕ → Bool) (rest : List ℕ)
+    → Shows cells (a + 1) rest → (c : Option ℕ) → cell_at cells a ≡ c
+    → Shows cells a (byte_before c passes rest)
 shown_before cells a passes rest s None e = tt
 shown_before cells a passes rest s (Some b) e = pick (passes b)
   where
@@ -79,7 +87,8 @@ shown_before cells a passes rest s (Some b) e = pick (passes b)
     pick true = (e, s)
     pick false = tt
 
-letters_before : (mark : Mark) (rest : List ℕ) → AreLetters rest → (c : Option ℕ) → AreLetters (byte_before c (λ b. is_kind Text (kind_of mark b)) rest)
+letters_before : (mark : Mark) (rest : List ℕ) → AreLetters rest → (c : Option ℕ)
+    → AreLetters (byte_before c (λ b. is_kind Text (kind_of mark b)) rest)
 letters_before mark rest l None = tt
 letters_before mark rest l (Some b) = pick (is_kind Text (kind_of mark b)) refl
   where
@@ -87,7 +96,8 @@ letters_before mark rest l (Some b) = pick (is_kind Text (kind_of mark b)) refl
     pick true e = (is_letter_kind mark b e, l)
     pick false e = tt
 
-few_before : (passes : ℕ → Bool) (rest : List ℕ) (n : ℕ) → length rest ≤ n → (c : Option ℕ) → length (byte_before c passes rest) ≤ suc n
+few_before : (passes : ℕ → Bool) (rest : List ℕ) (n : ℕ) → length rest ≤ n → (c : Option ℕ)
+    → length (byte_before c passes rest) ≤ suc n
 few_before passes rest n h None = omega arith
 few_before passes rest n h (Some b) = pick (passes b)
   where
@@ -115,10 +125,12 @@ module _ (cells : List (Option ℕ)) (marks : List Mark) where
   unfolding stretch
   begins kind n a b here is = rw (here, is, same_kind kind) refl
 
-small_here : (cells : List (Option ℕ)) (a b : ℕ) → IsImage cells → cell_at cells a ≡ Some b → b < 256
+small_here : (cells : List (Option ℕ)) (a b : ℕ) → IsImage cells → cell_at cells a ≡ Some b
+    → b < 256
 small_here cells a b image here = let cell : IsCell (cell_at cells a) = image.each a None (is_within a b cells here) in rw here at cell
 
-small_shown : (cells : List (Option ℕ)) (a : ℕ) (bs : List ℕ) → IsImage cells → Shows cells a bs → AreSmall bs
+small_shown : (cells : List (Option ℕ)) (a : ℕ) (bs : List ℕ) → IsImage cells → Shows cells a bs
+    → AreSmall bs
 small_shown cells a [] image s = tt
 small_shown cells a (b ∷ bs) image s = (small_here cells a b image s.0, small_shown cells (a + 1) bs image s.1)
 
@@ -191,7 +203,8 @@ module _ (Near : Definitions → Type 0) (Final : Numbers → Type 0) (profile :
 
 -- ---- all lines
 
-lines_read : (profile : Profile) (lines : List (List ℕ)) → ArePlain lines → GoOn profile lines → read_lines profile (flat_map ended lines) ≡ lines
+lines_read : (profile : Profile) (lines : List (List ℕ)) → ArePlain lines → GoOn profile lines
+    → read_lines profile (flat_map ended lines) ≡ lines
 unfolding read_lines
 lines_read profile lines plain on = rw (text_cut lines plain) (all_read profile lines on)
 

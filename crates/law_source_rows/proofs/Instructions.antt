@@ -25,18 +25,25 @@ use Rattle.law_source_rows.proofs.Stands.{Stands, fixed_at, placed_at, read_plai
 
 -- ---- an instruction with an operand
 
-operand_laid : (profile : Profile) (m : Mnemonic) (mode : Mode) (operand : Operand) (e : Term) (text : List ℕ) (a op n : ℕ) (names : Definitions)
-    → Read profile text m operand → term_of operand ≡ Some e → code_for (number_in names) a (Some e) (form_of profile m operand) ≡ Ok (as_coded op mode) → length_in mode ≡ n
-    → layout_of (fixed_at profile a names) text ≡ Ok (placed_at a (code op mode (Some e)), fixed_at profile (a + n) names)
+operand_laid : (profile : Profile) (m : Mnemonic) (mode : Mode) (operand : Operand) (e : Term)
+    (text : List ℕ) (a op n : ℕ) (names : Definitions)
+    → Read profile text m operand → term_of operand ≡ Some e → code_for (number_in names) a (Some e)
+    (form_of profile m operand) ≡ Ok (as_coded op mode) → length_in mode ≡ n
+    → layout_of (fixed_at profile a names) text
+    ≡ Ok (placed_at a (code op mode (Some e)), fixed_at profile (a + n) names)
 unfolding layout_of named_line_at statement_at size_of
 operand_laid profile m mode operand e text a op n names read term coded size = rw (read, append-nil names, term, coded, size) refl
 
-operand_right : (numbers : Numbers) (a op : ℕ) (mode : Mode) (e : Term) (front : List ℕ) (more : List (Option AsmFaultKind)) → operand_piece a mode (eval_of numbers (pos a) e) ≡ Ok front
+operand_right : (numbers : Numbers) (a op : ℕ) (mode : Mode) (e : Term) (front : List ℕ)
+    (more : List (Option AsmFaultKind))
+    → operand_piece a mode (eval_of numbers (pos a) e) ≡ Ok front
     → lowest (kinds_in (pieces_of numbers a (code op mode (Some e))) ++ more) ≡ lowest more
 unfolding pieces_of lowest lower
 operand_right numbers a op mode e front more piece = rw piece refl
 
-operand_bytes : (numbers : Numbers) (a op : ℕ) (mode : Mode) (e : Term) (front : List ℕ) → operand_piece a mode (eval_of numbers (pos a) e) ≡ Ok front → line_bytes numbers (placed_at a (code op mode (Some e))) ≡ op ∷ front
+operand_bytes : (numbers : Numbers) (a op : ℕ) (mode : Mode) (e : Term) (front : List ℕ)
+    → operand_piece a mode (eval_of numbers (pos a) e) ≡ Ok front
+    → line_bytes numbers (placed_at a (code op mode (Some e))) ≡ op ∷ front
 unfolding line_bytes pieces_of
 operand_bytes numbers a op mode e front piece = rw piece (ap (λ (x : List ℕ). op ∷ x) (append-nil front))
 
@@ -44,52 +51,66 @@ size_is : (op : ℕ) (mode : Mode) (e : Option Term) → size_of (code op mode e
 unfolding size_of
 size_is op mode e = refl
 
-alone_laid : (profile : Profile) (m : Mnemonic) (mode : Mode) (operand : Operand) (text : List ℕ) (a op n : ℕ) (names : Definitions)
-    → Read profile text m operand → term_of operand ≡ None → code_for (number_in names) a None (form_of profile m operand) ≡ Ok (as_coded op mode) → length_in mode ≡ n
-    → layout_of (fixed_at profile a names) text ≡ Ok (placed_at a (code op mode None), fixed_at profile (a + n) names)
+alone_laid : (profile : Profile) (m : Mnemonic) (mode : Mode) (operand : Operand) (text : List ℕ)
+    (a op n : ℕ) (names : Definitions)
+    → Read profile text m operand → term_of operand ≡ None
+    → code_for (number_in names) a None (form_of profile m operand) ≡ Ok (as_coded op mode)
+    → length_in mode ≡ n
+    → layout_of (fixed_at profile a names) text
+    ≡ Ok (placed_at a (code op mode None), fixed_at profile (a + n) names)
 unfolding layout_of named_line_at statement_at size_of
 alone_laid profile m mode operand text a op n names read term coded size = rw (read, append-nil names, term, coded, size) refl
 
-alone_right : (numbers : Numbers) (a op : ℕ) (mode : Mode) (more : List (Option AsmFaultKind)) → lowest (kinds_in (pieces_of numbers a (code op mode None)) ++ more) ≡ lowest more
+alone_right : (numbers : Numbers) (a op : ℕ) (mode : Mode) (more : List (Option AsmFaultKind))
+    → lowest (kinds_in (pieces_of numbers a (code op mode None)) ++ more) ≡ lowest more
 unfolding pieces_of lowest lower
 alone_right numbers a op mode more = refl
 
-alone_bytes : (numbers : Numbers) (a op : ℕ) (mode : Mode) → line_bytes numbers (placed_at a (code op mode None)) ≡ op ∷ []
+alone_bytes : (numbers : Numbers) (a op : ℕ) (mode : Mode)
+    → line_bytes numbers (placed_at a (code op mode None)) ≡ op ∷ []
 unfolding line_bytes pieces_of
 alone_bytes numbers a op mode = refl
 
 -- ---- values
 
-pub of_number_is : (numbers : Numbers) (a v : ℕ) → eval_of numbers (pos a) (of_number v) ≡ Ok (pos v)
+pub of_number_is : (numbers : Numbers) (a v : ℕ) → eval_of numbers (pos a)
+    (of_number v) ≡ Ok (pos v)
 unfolding eval_of
 of_number_is numbers a v = refl
 
 -- what an instruction is encoded as hangs on its operand's value alone
-pub same_coded : (numbers : Numbers) (a : ℕ) (d e : Term) (f : Option Form) → eval_of numbers (pos a) e ≡ eval_of numbers (pos a) d → code_for numbers a (Some e) f ≡ code_for numbers a (Some d) f
+pub same_coded : (numbers : Numbers) (a : ℕ) (d e : Term) (f : Option Form)
+    → eval_of numbers (pos a) e ≡ eval_of numbers (pos a) d
+    → code_for numbers a (Some e) f ≡ code_for numbers a (Some d) f
 same_coded numbers a d e None same = refl
 same_coded numbers a d e (Some (one c)) same = refl
 same_coded numbers a d e (Some (by_size short long)) same = rw same refl
 
 -- a name that is not known takes the long form, as a large value does
-pub far_coded : (numbers : Numbers) (a v : ℕ) (e : Term) (f : Option Form) (c : Encoding) → eval_of numbers (pos a) e ≡ Err expression.UnknownName → 256 ≤ v → code_for numbers a (Some (of_number v)) f ≡ Ok c
+pub far_coded : (numbers : Numbers) (a v : ℕ) (e : Term) (f : Option Form) (c : Encoding)
+    → eval_of numbers (pos a) e ≡ Err expression.UnknownName → 256 ≤ v
+    → code_for numbers a (Some (of_number v)) f ≡ Ok c
     → code_for numbers a (Some e) f ≡ Ok c
 unfolding eval_of
 far_coded numbers a v e None c unknown large h = h
 far_coded numbers a v e (Some (one d)) c unknown large h = h
 far_coded numbers a v e (Some (by_size short long)) c unknown large h = let long_is = rw (lt-leb v 255 (omega (arith, large))) at h in rw unknown long_is
 
-same_form : (profile : Profile) (m : Mnemonic) (marked : Bool) (d e : Term) (by : Index) → form_of profile m (direct marked d by) ≡ form_of profile m (direct marked e by)
+same_form : (profile : Profile) (m : Mnemonic) (marked : Bool) (d e : Term) (by : Index)
+    → form_of profile m (direct marked d by) ≡ form_of profile m (direct marked e by)
 unfolding form_of
 same_form profile m true d e by = refl
 same_form profile m false d e by = refl
 
-absolute_piece_of : (a : ℕ) (by : Index) (b c : ℕ) → b < 256 → c < 256 → operand_piece a (absolute_mode by) (Ok (pos (b + 256 * c))) ≡ Ok (b ∷ c ∷ [])
+absolute_piece_of : (a : ℕ) (by : Index) (b c : ℕ) → b < 256 → c < 256
+    → operand_piece a (absolute_mode by) (Ok (pos (b + 256 * c))) ≡ Ok (b ∷ c ∷ [])
 unfolding operand_piece
 absolute_piece_of a Unindexed b c l h = address_again b c l h
 absolute_piece_of a X b c l h = address_again b c l h
 absolute_piece_of a Y b c l h = address_again b c l h
 
-zero_page_piece_of : (a : ℕ) (by : Index) (b : ℕ) → b < 256 → operand_piece a (zero_page_mode by) (Ok (pos b)) ≡ Ok (b ∷ [])
+zero_page_piece_of : (a : ℕ) (by : Index) (b : ℕ) → b < 256 → operand_piece a (zero_page_mode by)
+    (Ok (pos b)) ≡ Ok (b ∷ [])
 unfolding operand_piece
 zero_page_piece_of a Unindexed b below = zero_page_again b below
 zero_page_piece_of a X b below = zero_page_again b below
@@ -111,11 +132,13 @@ pointer_piece : (a b : ℕ) → b < 256 → operand_piece a IndZ (Ok (pos b)) �
 unfolding operand_piece
 pointer_piece a b below = zero_page_again b below
 
-far_pointer_piece : (a b c : ℕ) → b < 256 → c < 256 → operand_piece a Ind (Ok (pos (b + 256 * c))) ≡ Ok (b ∷ c ∷ [])
+far_pointer_piece : (a b c : ℕ) → b < 256 → c < 256
+    → operand_piece a Ind (Ok (pos (b + 256 * c))) ≡ Ok (b ∷ c ∷ [])
 unfolding operand_piece
 far_pointer_piece a b c l h = address_again b c l h
 
-branch_piece : (a b : ℕ) → a < 65536 → b < 256 → operand_piece a Rel (Ok (pos (target_of a b))) ≡ Ok (b ∷ [])
+branch_piece : (a b : ℕ) → a < 65536 → b < 256
+    → operand_piece a Rel (Ok (pos (target_of a b))) ≡ Ok (b ∷ [])
 unfolding operand_piece
 branch_piece a b here below = branch_again a b here below
 

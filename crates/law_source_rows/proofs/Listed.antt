@@ -33,7 +33,8 @@ use Rattle.law_source_rows.proofs.Instructions.{of_number_is, short_stands, long
 word_number : (w : ℕ) → w < 65536 → written (word_text w) ≡ of_number w
 word_number w below = ap literal (four_digits w below)
 
-with_number : (profile : Profile) (text : List ℕ) (m : Mnemonic) (shape : Term → Operand) (e f : Term) → e ≡ f → Read profile text m (shape e) → Read profile text m (shape f)
+with_number : (profile : Profile) (text : List ℕ) (m : Mnemonic) (shape : Term → Operand)
+    (e f : Term) → e ≡ f → Read profile text m (shape e) → Read profile text m (shape f)
 with_number profile text m shape e f same read = rw same at read
 
 word_below : (b c : ℕ) → b < 256 → c < 256 → b + 256 * c < 65536
@@ -58,12 +59,14 @@ suffix_of Unindexed = []
 suffix_of X = 44 ∷ 88 ∷ []
 suffix_of Y = 44 ∷ 89 ∷ []
 
-plain : (profile : Profile) (m : Mnemonic) (by : Index) (named : Named profile m) (w : ℕ) → w < 65536 → Plain profile m by w (suffix_of by)
+plain : (profile : Profile) (m : Mnemonic) (by : Index) (named : Named profile m) (w : ℕ)
+    → w < 65536 → Plain profile m by w (suffix_of by)
 plain profile m Unindexed named w below = texts.absolute_said profile m named _ _ _ _ _ _ _ _ (high (w / 256) (first_half w below)) (low (w / 256)) (high (w % 256) (last_half w)) (low (w % 256))
 plain profile m X named w below = texts.absolute_by_x_said profile m named _ _ _ _ _ _ _ _ (high (w / 256) (first_half w below)) (low (w / 256)) (high (w % 256) (last_half w)) (low (w % 256))
 plain profile m Y named w below = texts.absolute_by_y_said profile m named _ _ _ _ _ _ _ _ (high (w / 256) (first_half w below)) (low (w / 256)) (high (w % 256) (last_half w)) (low (w % 256))
 
-marked : (profile : Profile) (m : Mnemonic) (by : Index) (named : Named profile m) (w : ℕ) → w < 65536 → Marked profile m by w (suffix_of by)
+marked : (profile : Profile) (m : Mnemonic) (by : Index) (named : Named profile m) (w : ℕ)
+    → w < 65536 → Marked profile m by w (suffix_of by)
 marked profile m Unindexed named w below = texts.marked_said profile m named _ _ _ _ _ _ _ _ (high (w / 256) (first_half w below)) (low (w / 256)) (high (w % 256) (last_half w)) (low (w % 256))
 marked profile m X named w below = texts.marked_by_x_said profile m named _ _ _ _ _ _ _ _ (high (w / 256) (first_half w below)) (low (w / 256)) (high (w % 256) (last_half w)) (low (w % 256))
 marked profile m Y named w below = texts.marked_by_y_said profile m named _ _ _ _ _ _ _ _ (high (w / 256) (first_half w below)) (low (w / 256)) (high (w % 256) (last_half w)) (low (w % 256))
@@ -73,14 +76,16 @@ marked profile m Y named w below = texts.marked_by_y_said profile m named _ _ _ 
 word_size : (w : ℕ) → length (word_text w) ≡ 5
 word_size w = refl
 
-absolute_size : (profile : Profile) (m : Mnemonic) (short : Mode) (w : ℕ) → length (absolute_text profile m short w) ≤ 6
+absolute_size : (profile : Profile) (m : Mnemonic) (short : Mode) (w : ℕ)
+    → length (absolute_text profile m short w) ≤ 6
 absolute_size profile m short w = by (nat_lt w 256 && has_row profile m short) refl
   where
     by : (t : Bool) → (nat_lt w 256 && has_row profile m short) ≡ t → length (absolute_text profile m short w) ≤ 6
     by true e = rw e (omega arith)
     by false e = rw e (omega arith)
 
-operand_size : (profile : Profile) (m : Mnemonic) (mode : Mode) (a b c : ℕ) → length (operand_text profile m mode a b c) ≤ 9
+operand_size : (profile : Profile) (m : Mnemonic) (mode : Mode) (a b c : ℕ)
+    → length (operand_text profile m mode a b c) ≤ 9
 unfolding operand_text
 operand_size profile m Imp a b c = omega arith
 operand_size profile m Acc a b c = omega arith
@@ -97,7 +102,8 @@ operand_size profile m Ind a b c = omega arith
 operand_size profile m Rel a b c = omega arith
 operand_size profile m IndZ a b c = omega arith
 
-text_size : (profile : Profile) (m : Mnemonic) (mode : Mode) (a b c : ℕ) → length (mnemonic_text m ++ operand_text profile m mode a b c) ≤ 12
+text_size : (profile : Profile) (m : Mnemonic) (mode : Mode) (a b c : ℕ)
+    → length (mnemonic_text m ++ operand_text profile m mode a b c) ≤ 12
 text_size profile m mode a b c = omega (arith, length-append (mnemonic_text m) (operand_text profile m mode a b c), length-mnemonic_text m, operand_size profile m mode a b c)
 
 -- ---- instructions
@@ -182,7 +188,8 @@ pub record IsRow (Near : Definitions → Type 0) (Final : Numbers → Type 0) (p
 abbrev front_of : List ℕ → List ℕ
 front_of bs = slice_index bs 0 ∷ slice_index bs 1 ∷ slice_index bs 2 ∷ []
 
-take_front : (mode : Mode) (bs : List ℕ) → length_in mode ≤ length bs → take (length_in mode) (front_of bs) ≡ take (length_in mode) bs
+take_front : (mode : Mode) (bs : List ℕ) → length_in mode ≤ length bs → take (length_in mode)
+    (front_of bs) ≡ take (length_in mode) bs
 take_front mode bs long = go (length_in mode) bs long (length_in_small mode)
   where
     go : (n : ℕ) (bs : List ℕ) → n ≤ length bs → n ≤ 3 → take n (slice_index bs 0 ∷ slice_index bs 1 ∷ slice_index bs 2 ∷ []) ≡ take n bs

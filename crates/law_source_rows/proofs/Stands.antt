@@ -26,7 +26,8 @@ abbrev pub placed_at : ℕ → Content → PlacedLine
 placed_at a content = record { address = a; content = content }
 
 -- a line that was read has only bytes of a source
-pub read_plain : (profile : Profile) (line : List ℕ) (l : Line) → read_line profile line ≡ Ok l → IsPlain line
+pub read_plain : (profile : Profile) (line : List ℕ) (l : Line) → read_line profile line ≡ Ok l
+    → IsPlain line
 unfolding read_line
 read_plain profile line l read = by (nat_lt 255 (length line)) (list_all is_source_byte line) refl read
   where
@@ -56,7 +57,8 @@ pub record Fills (Final : Numbers → Type 0) (m : Map) (cells : List (Option �
 
 -- ---- a row
 
-place_right : (m : Map) (cells : List (Option ℕ)) (a : ℕ) (bytes : List ℕ) → length cells ≡ 65536 → has_port_byte m cells ≡ false → 0 < length bytes → Shows cells a bytes
+place_right : (m : Map) (cells : List (Option ℕ)) (a : ℕ) (bytes : List ℕ) → length cells ≡ 65536
+    → has_port_byte m cells ≡ false → 0 < length bytes → Shows cells a bytes
     → lowest (place_kinds m (below a cells) a (length bytes)) ≡ None
 unfolding place_kinds lowest lower
 place_right m cells a bytes size spared some shown =
@@ -83,12 +85,15 @@ module _ (Near : Definitions → Type 0) (Final : Numbers → Type 0) (m : Map) 
 
 -- ---- `*=`
 
-origin_laid : (profile : Profile) (line : List ℕ) (a b : ℕ) (names : Definitions) → read_line profile line ≡ Ok (labelled None (origin (of_number a))) → a < 65536
-    → layout_of (fixed_at profile b names) line ≡ Ok (placed_at b no_bytes, fixed_at profile a names)
+origin_laid : (profile : Profile) (line : List ℕ) (a b : ℕ) (names : Definitions)
+    → read_line profile line ≡ Ok (labelled None (origin (of_number a))) → a < 65536
+    → layout_of (fixed_at profile b names) line
+    ≡ Ok (placed_at b no_bytes, fixed_at profile a names)
 unfolding layout_of named_line_at statement_at eval_of
 origin_laid profile line a b names read small = rw (read, le-leb a 65535 (omega (arith, small)), append-nil names) refl
 
-nothing_wrong : (m : Map) (numbers : Numbers) (image : List (Option ℕ)) (b : ℕ) → value_fault m numbers image (placed_at b no_bytes) ≡ None
+nothing_wrong : (m : Map) (numbers : Numbers) (image : List (Option ℕ)) (b : ℕ)
+    → value_fault m numbers image (placed_at b no_bytes) ≡ None
 unfolding value_fault pieces_of size_of place_kinds has_bytes has_port lowest lower
 nothing_wrong m numbers image b = refl
 
@@ -96,9 +101,11 @@ no_bytes_there : (numbers : Numbers) (b : ℕ) → line_bytes numbers (placed_at
 unfolding line_bytes pieces_of
 no_bytes_there numbers b = refl
 
-pub origin_first : (Final : Numbers → Type 0) (m : Map) (cells : List (Option ℕ)) (line : List ℕ) (a b : ℕ) (names : Definitions) (lines : List (List ℕ))
+pub origin_first : (Final : Numbers → Type 0) (m : Map) (cells : List (Option ℕ)) (line : List ℕ)
+    (a b : ℕ) (names : Definitions) (lines : List (List ℕ))
     → read_line m.profile line ≡ Ok (labelled None (origin (of_number a))) → a < 65536
-    → Fills Final m cells a (fixed_at m.profile a names) lines → Fills Final m cells a (fixed_at m.profile b names) (line ∷ lines)
+    → Fills Final m cells a (fixed_at m.profile a names) lines
+    → Fills Final m cells a (fixed_at m.profile b names) (line ∷ lines)
 origin_first Final m cells line a b names lines read small rest = record {
   placed = placed_at b no_bytes ∷ rest.placed;
   after = rest.after;

@@ -25,7 +25,8 @@ no_ok k a e = cc
 ok_same : {A : Type 0} (x y : A) → right A x ≡ Ok y → x ≡ y
 ok_same x y e = cc
 
-bind_ok : {A B : Type 0} (r : Result A AsmFaultKind) (f : A → Result B AsmFaultKind) (b : B) → r >>> f ≡ Ok b → (a : A) × (r ≡ Ok a) × (f a ≡ Ok b)
+bind_ok : {A B : Type 0} (r : Result A AsmFaultKind) (f : A → Result B AsmFaultKind) (b : B)
+    → r >>> f ≡ Ok b → (a : A) × (r ≡ Ok a) × (f a ≡ Ok b)
 bind_ok (Ok a) f b h = (a, refl, h)
 bind_ok (Err k) f b h = absurd (no_ok k b h)
 
@@ -35,7 +36,8 @@ same_name : (n : List ℕ) → bytes_eq n n ≡ true
 same_name n = (bytes_eq-Decides n n).1 refl
 
 -- a name keeps its number when more names follow
-kept : (ds more : Definitions) (n : List ℕ) (v : ℤ) → number_in ds n ≡ Some v → number_in (ds ++ more) n ≡ Some v
+kept : (ds more : Definitions) (n : List ℕ) (v : ℤ) → number_in ds n ≡ Some v
+    → number_in (ds ++ more) n ≡ Some v
 kept [] more n v h = cc
 kept (d ∷ ds) more n v h = elim (cases_Bool (bytes_eq n d.0)) [
   | inl t ↦ let there : Some d.1 ≡ Some v = rw t at h in rw t there
@@ -43,7 +45,8 @@ kept (d ∷ ds) more n v h = elim (cases_Bool (bytes_eq n d.0)) [
 ]
 
 -- a new name has the number that it is given
-given : (ds : Definitions) (n : List ℕ) (v : ℤ) → is_some (number_in ds n) ≡ false → number_in (ds ++ (n, v) ∷ []) n ≡ Some v
+given : (ds : Definitions) (n : List ℕ) (v : ℤ) → is_some (number_in ds n) ≡ false
+    → number_in (ds ++ (n, v) ∷ []) n ≡ Some v
 given [] n v h = rw (same_name n) refl
 given (d ∷ ds) n v h = elim (cases_Bool (bytes_eq n d.0)) [
   | inl t ↦ let there : true ≡ false = rw t at h in absurd cc
@@ -57,7 +60,8 @@ record Adds (before : Context) (l : Line) (next : Context) : Type 0 where
   grown : next.names ≡ before.names ++ more
   holds : NameHolds (number_in next.names) before l
 
-full_ok : (b : Bool) (r : Result PlacedAndContext AsmFaultKind) (q : PlacedAndContext) → unless_full b r ≡ Ok q → r ≡ Ok q
+full_ok : (b : Bool) (r : Result PlacedAndContext AsmFaultKind) (q : PlacedAndContext)
+    → unless_full b r ≡ Ok q → r ≡ Ok q
 full_ok false r q h = h
 full_ok true (Ok a) q h = cc
 full_ok true (Err k) q h = cc
@@ -71,10 +75,12 @@ placing_ok (Err expression.UnknownName) v h = cc
 placing_ok (Err expression.Range) v h = cc
 placing_ok (Err expression.DivideByZero) v h = cc
 
-along : (a b : Definitions) (n : List ℕ) (v : ℤ) → b ≡ a → number_in a n ≡ Some v → number_in b n ≡ Some v
+along : (a b : Definitions) (n : List ℕ) (v : ℤ) → b ≡ a → number_in a n ≡ Some v
+    → number_in b n ≡ Some v
 along a b n v same h = rw same h
 
-line_adds : (before : Context) (l : Line) (q : PlacedAndContext) → is_defined before.names (name_of l) ≡ false → line_at before l ≡ Ok q → Adds before l q.1
+line_adds : (before : Context) (l : Line) (q : PlacedAndContext)
+    → is_defined before.names (name_of l) ≡ false → line_at before l ≡ Ok q → Adds before l q.1
 line_adds before (labelled None s) q new h =
     let b = bind_ok (statement_at before.profile (number_in (before.names ++ [])) before.address s) (λ place. Ok (placed_and_context before.profile (before.names ++ []) place)) q h in
     record { more = []; grown = sym (ap fixed_names (ok_same (placed_and_context before.profile (before.names ++ []) b.0) q b.2)); holds = tt }
@@ -93,7 +99,8 @@ line_adds before (definition n e) q new h =
       holds = (b.0, placing_ok (eval_of (number_in before.names) (pos before.address) e) b.0 b.1, along names q.1.names n b.0 grown (given before.names n b.0 new));
     }
 
-fixed_adds : (before : Context) (l : Line) (q : PlacedAndContext) → named_line_at before l ≡ Ok q → Adds before l q.1
+fixed_adds : (before : Context) (l : Line) (q : PlacedAndContext) → named_line_at before l ≡ Ok q
+    → Adds before l q.1
 unfolding named_line_at
 fixed_adds before l q h = elim (cases_Bool (is_defined before.names (name_of l))) [
   | inl t ↦ let bad : wrong PlacedAndContext DuplicateName ≡ Ok q = rw t at h in absurd (no_ok DuplicateName q bad)
@@ -102,12 +109,15 @@ fixed_adds before l q h = elim (cases_Bool (is_defined before.names (name_of l))
 
 -- ---- all lines
 
-read_first : (before : Context) (line : List ℕ) (q : PlacedAndContext) → layout_of before line ≡ Ok q → (l : Line) × (read_line before.profile line ≡ Ok l) × (named_line_at before l ≡ Ok q)
+read_first : (before : Context) (line : List ℕ) (q : PlacedAndContext)
+    → layout_of before line ≡ Ok q → (l : Line) × (read_line before.profile line ≡ Ok l)
+    × (named_line_at before l ≡ Ok q)
 unfolding layout_of
 read_first before line q h = bind_ok (read_line before.profile line) (λ l. named_line_at before l) q h
 
 -- the names of a line stand at the front of all names
-grows : (lines : List (List ℕ)) (ps : List PlacedLine) (before all : Context) → IsLaidOut before lines ps all → (more : Definitions) × (all.names ≡ before.names ++ more)
+grows : (lines : List (List ℕ)) (ps : List PlacedLine) (before all : Context)
+    → IsLaidOut before lines ps all → (more : Definitions) × (all.names ≡ before.names ++ more)
 grows [] ps before all h = ([], ap (λ (x : Context). x.names) h.1 ∙ sym (append-nil before.names))
 grows (line ∷ lines) [] before all h = absurd h
 grows (line ∷ lines) (p ∷ ps) before all h =
@@ -116,7 +126,8 @@ grows (line ∷ lines) (p ∷ ps) before all h =
     let r = grows lines ps h.0 all h.2 in
     (a.more ++ r.0, r.1 ∙ ap (λ (x : Definitions). x ++ r.0) a.grown ∙ append_assoc before.names a.more r.0)
 
-holds_later : (ds all more : Definitions) (before : Context) (l : Line) → all ≡ ds ++ more → NameHolds (number_in ds) before l → NameHolds (number_in all) before l
+holds_later : (ds all more : Definitions) (before : Context) (l : Line) → all ≡ ds ++ more
+    → NameHolds (number_in ds) before l → NameHolds (number_in all) before l
 holds_later ds all more before (labelled None s) is h = tt
 holds_later ds all more before (labelled (Some n) s) is h = along (ds ++ more) all n (pos before.address) is (kept ds more n (pos before.address) h)
 holds_later ds all more before (definition n e) is h = (h.0, h.1, along (ds ++ more) all n h.0 is (kept ds more n h.0 h.2))

@@ -16,7 +16,8 @@ abbrev is_right : Option Row → Bool
 is_right None = true
 is_right (Some row) = row.len == length_in row.mode
 
-all_right : (profile : Profile) → map (λ opcode. is_right (row_at profile opcode)) (range_with_len 0 256) ≡ map (λ (opcode : ℕ). true) (range_with_len 0 256)
+all_right : (profile : Profile) → map (λ opcode. is_right (row_at profile opcode))
+    (range_with_len 0 256) ≡ map (λ (opcode : ℕ). true) (range_with_len 0 256)
 unfolding row_at find_row table documented_opcodes added_opcodes
 all_right N = refl
 all_right C = refl

@@ -37,15 +37,18 @@ wrong A k = Err k
 no_ok : {A : Type 0} (f : AsmFault) (a : A) → failed A f ≡ Ok a → ⊥
 no_ok f a e = cc
 
-bind_ok : {A B : Type 0} (r : Result A AsmFault) (f : A → Result B AsmFault) (b : B) → r >>= f ≡ Ok b → (a : A) × (r ≡ Ok a) × (f a ≡ Ok b)
+bind_ok : {A B : Type 0} (r : Result A AsmFault) (f : A → Result B AsmFault) (b : B)
+    → r >>= f ≡ Ok b → (a : A) × (r ≡ Ok a) × (f a ≡ Ok b)
 bind_ok (Ok a) f b h = (a, refl, h)
 bind_ok (Err e) f b h = absurd (no_ok e b h)
 
-bind_err : {A B : Type 0} (r : Result A AsmFault) (f : A → Result B AsmFault) (e : AsmFault) → r >>= f ≡ Err e → (r ≡ Err e) ⊎ ((a : A) × (r ≡ Ok a) × (f a ≡ Err e))
+bind_err : {A B : Type 0} (r : Result A AsmFault) (f : A → Result B AsmFault) (e : AsmFault)
+    → r >>= f ≡ Err e → (r ≡ Err e) ⊎ ((a : A) × (r ≡ Ok a) × (f a ≡ Err e))
 bind_err (Ok a) f e h = inr (a, refl, h)
 bind_err {A = A} (Err g) f e h = let same : g ≡ e = cc in inl (ap (failed A) same)
 
-numbered_ok : {A : Type 0} (n : ℕ) (r : Result A AsmFaultKind) (a : A) → on_line n r ≡ Ok a → r ≡ Ok a
+numbered_ok : {A : Type 0} (n : ℕ) (r : Result A AsmFaultKind) (a : A) → on_line n r ≡ Ok a
+    → r ≡ Ok a
 numbered_ok {A = A} n (Ok x) a h = let same : x ≡ a = cc in ap (right A) same
 numbered_ok n (Err k) a h = absurd (no_ok (record { line = n; kind = k }) a h)
 
@@ -61,7 +64,8 @@ ok_not_err a f h = cc
 ok_same : {A : Type 0} (x y : A) → done A x ≡ Ok y → x ≡ y
 ok_same x y h = cc
 
-numbered_err : {A : Type 0} (n : ℕ) (r : Result A AsmFaultKind) (e : AsmFault) → on_line n r ≡ Err e → (e.line ≡ n) × (r ≡ Err e.kind)
+numbered_err : {A : Type 0} (n : ℕ) (r : Result A AsmFaultKind) (e : AsmFault) → on_line n r ≡ Err e
+    → (e.line ≡ n) × (r ≡ Err e.kind)
 numbered_err n (Ok x) e h = absurd (ok_not_err x e h)
 numbered_err {A = A} n (Err k) e h =
     let same : fault n k ≡ e = err_fault {A = A} (fault n k) e h in
@@ -71,13 +75,15 @@ unless_ok : (k : Option AsmFaultKind) (a b : Cells) → unless k (Ok a) ≡ Ok b
 unless_ok None a b h = let same : a ≡ b = cc in (refl, sym same)
 unless_ok (Some k) a b h = cc
 
-unless_err : (k : Option AsmFaultKind) (a : Cells) (e : AsmFaultKind) → unless k (Ok a) ≡ Err e → k ≡ Some e
+unless_err : (k : Option AsmFaultKind) (a : Cells) (e : AsmFaultKind) → unless k (Ok a) ≡ Err e
+    → k ≡ Some e
 unless_err None a e h = cc
 unless_err (Some k) a e h = let same : k ≡ e = cc in ap (λ (x : AsmFaultKind). Some x) same
 
 -- ---- all lines laid out
 
-laid_sound : (lines : List (List ℕ)) (n : ℕ) (before : Context) (l : Laid) → layout_from n before lines ≡ Ok l → IsLaidOut before lines l.0 l.1
+laid_sound : (lines : List (List ℕ)) (n : ℕ) (before : Context) (l : Laid)
+    → layout_from n before lines ≡ Ok l → IsLaidOut before lines l.0 l.1
 laid_sound [] n before l h =
     let same : ([], before) ≡ l = ok_same ([], before) l h in
     (sym (ap (λ (x : Laid). x.0) same), sym (ap (λ (x : Laid). x.1) same))
@@ -91,7 +97,8 @@ laid_sound (line ∷ lines) n before l h =
     along : (l : Laid) {m : Laid} → m ≡ l → IsLaidOut before (line ∷ lines) m.0 m.1 → IsLaidOut before (line ∷ lines) l.0 l.1
     along l same h = rw same at h
 
-laid_again : (lines : List (List ℕ)) (placed : List PlacedLine) (n : ℕ) (before after : Context) → IsLaidOut before lines placed after → layout_from n before lines ≡ Ok (placed, after)
+laid_again : (lines : List (List ℕ)) (placed : List PlacedLine) (n : ℕ) (before after : Context)
+    → IsLaidOut before lines placed after → layout_from n before lines ≡ Ok (placed, after)
 laid_again [] placed n before after l = rw (l.0, l.1) refl
 laid_again (line ∷ lines) [] n before after l = absurd l
 laid_again (line ∷ lines) (p ∷ ps) n before after l = rw (l.1, laid_again lines ps (n + 1) l.0 after l.2) refl
@@ -107,7 +114,8 @@ record FirstLayout (n : ℕ) (start : Context) (lines : List (List ℕ)) (f : As
   number : f.line ≡ length front + n
   kind : layout_of before line ≡ Err f.kind
 
-layout_fault : (lines : List (List ℕ)) (n : ℕ) (start : Context) (f : AsmFault) → layout_from n start lines ≡ Err f → FirstLayout n start lines f
+layout_fault : (lines : List (List ℕ)) (n : ℕ) (start : Context) (f : AsmFault)
+    → layout_from n start lines ≡ Err f → FirstLayout n start lines f
 layout_fault [] n start f h = absurd (ok_not_err ([], start) f h)
 layout_fault (line ∷ lines) n start f h = elim (bind_err (on_line n (layout_of start line)) _ f h) [
   | inl here ↦
@@ -141,8 +149,11 @@ layout_fault (line ∷ lines) n start f h = elim (bind_err (on_line n (layout_of
   ]
 ]
 
-layout_fault_again : (front : List (List ℕ)) (line : List ℕ) (back : List (List ℕ)) (placed : List PlacedLine) (n : ℕ) (start before : Context) (number : ℕ) (k : AsmFaultKind)
-    → IsLaidOut start front placed before → number ≡ length front + n → layout_of before line ≡ Err k → layout_from n start (front ++ line ∷ back) ≡ Err (fault number k)
+layout_fault_again : (front : List (List ℕ)) (line : List ℕ) (back : List (List ℕ))
+    (placed : List PlacedLine) (n : ℕ) (start before : Context) (number : ℕ) (k : AsmFaultKind)
+    → IsLaidOut start front placed before → number ≡ length front + n
+    → layout_of before line ≡ Err k
+    → layout_from n start (front ++ line ∷ back) ≡ Err (fault number k)
 layout_fault_again [] line back placed n start before number k l is bad =
     let same : n ≡ number = omega (arith, is) in
     let there : layout_of start line ≡ Err k = rw l.1 at bad in
@@ -153,7 +164,8 @@ layout_fault_again (x ∷ front) line back (p ∷ ps) n start before number k l 
 
 -- ---- all bytes put
 
-made_sound : (m : Map) (numbers : Numbers) (ps : List PlacedLine) (n : ℕ) (image final : Cells) → image_from m numbers n image ps ≡ Ok final → Makes m numbers image ps final
+made_sound : (m : Map) (numbers : Numbers) (ps : List PlacedLine) (n : ℕ) (image final : Cells)
+    → image_from m numbers n image ps ≡ Ok final → Makes m numbers image ps final
 unfolding image_with_line
 made_sound m numbers [] n image final h = sym (ok_same image final h)
 made_sound m numbers (p ∷ ps) n image final h =
@@ -161,7 +173,8 @@ made_sound m numbers (p ∷ ps) n image final h =
     let u = unless_ok (value_fault m numbers image p) (with_bytes image p.address (line_bytes numbers p)) first.0 (numbered_ok n _ first.0 first.1) in
     (u.0, made_sound m numbers ps (n + 1) (with_bytes image p.address (line_bytes numbers p)) final (rw u.1 at first.2))
 
-made_again : (m : Map) (numbers : Numbers) (ps : List PlacedLine) (n : ℕ) (image final : Cells) → Makes m numbers image ps final → image_from m numbers n image ps ≡ Ok final
+made_again : (m : Map) (numbers : Numbers) (ps : List PlacedLine) (n : ℕ) (image final : Cells)
+    → Makes m numbers image ps final → image_from m numbers n image ps ≡ Ok final
 unfolding image_with_line
 made_again m numbers [] n image final h = ap (λ (x : Cells). Ok x) (sym h)
 made_again m numbers (p ∷ ps) n image final h = rw h.0 (made_again m numbers ps (n + 1) (with_bytes image p.address (line_bytes numbers p)) final h.1)
@@ -176,7 +189,8 @@ record FirstValue (m : Map) (numbers : Numbers) (n : ℕ) (start : Cells) (place
   number : f.line ≡ length front + n
   kind : value_fault m numbers image line ≡ Some f.kind
 
-value_fault_of : (m : Map) (numbers : Numbers) (ps : List PlacedLine) (n : ℕ) (image : Cells) (f : AsmFault) → image_from m numbers n image ps ≡ Err f → FirstValue m numbers n image ps f
+value_fault_of : (m : Map) (numbers : Numbers) (ps : List PlacedLine) (n : ℕ) (image : Cells)
+    (f : AsmFault) → image_from m numbers n image ps ≡ Err f → FirstValue m numbers n image ps f
 unfolding image_with_line
 value_fault_of m numbers [] n image f h = absurd (ok_not_err image f h)
 value_fault_of m numbers (p ∷ ps) n image f h = elim (bind_err (on_line n (image_with_line m numbers image p)) _ f h) [
@@ -207,8 +221,10 @@ value_fault_of m numbers (p ∷ ps) n image f h = elim (bind_err (on_line n (ima
       }
 ]
 
-value_fault_again : (m : Map) (numbers : Numbers) (front : List PlacedLine) (line : PlacedLine) (back : List PlacedLine) (n number : ℕ) (start image : Cells) (k : AsmFaultKind)
-    → Makes m numbers start front image → number ≡ length front + n → value_fault m numbers image line ≡ Some k
+value_fault_again : (m : Map) (numbers : Numbers) (front : List PlacedLine) (line : PlacedLine)
+    (back : List PlacedLine) (n number : ℕ) (start image : Cells) (k : AsmFaultKind)
+    → Makes m numbers start front image → number ≡ length front + n
+    → value_fault m numbers image line ≡ Some k
     → image_from m numbers n start (front ++ line ∷ back) ≡ Err (fault number k)
 unfolding image_with_line
 value_fault_again m numbers [] line back n number start image k made is bad =
@@ -220,18 +236,22 @@ value_fault_again m numbers (p ∷ front) line back n number start image k made 
 
 -- ---- the source
 
-small_source : (m : Map) (source : List ℕ) → length source ≤ most_bytes → judgement m source ≡ judgement_of_lines m (read_lines m.profile source)
+small_source : (m : Map) (source : List ℕ) → length source ≤ most_bytes
+    → judgement m source ≡ judgement_of_lines m (read_lines m.profile source)
 unfolding judgement
 small_source m source small = rw (le-ltb most_bytes (length source) small) refl
 
-large_source : (m : Map) (source : List ℕ) → most_bytes < length source → judgement m source ≡ Err too_large
+large_source : (m : Map) (source : List ℕ) → most_bytes < length source
+    → judgement m source ≡ Err too_large
 unfolding judgement
 large_source m source large = rw (lt-ltb most_bytes (length source) large) refl
 
-says_along : (m : Map) (source : List ℕ) (a b : Judgement) → a ≡ b → Says m source (Ok a) → Says m source (Ok b)
+says_along : (m : Map) (source : List ℕ) (a b : Judgement) → a ≡ b → Says m source (Ok a)
+    → Says m source (Ok b)
 says_along m source a b same h = rw same at h
 
-says_ok : (m : Map) (source : List ℕ) (j : Judgement) → length source ≤ most_bytes → judgement_of_lines m (read_lines m.profile source) ≡ Ok j → Says m source (Ok j)
+says_ok : (m : Map) (source : List ℕ) (j : Judgement) → length source ≤ most_bytes
+    → judgement_of_lines m (read_lines m.profile source) ≡ Ok j → Says m source (Ok j)
 unfolding judgement_of_lines
 says_ok m source j small h =
     let lines = read_lines m.profile source in
@@ -242,7 +262,8 @@ says_ok m source j small h =
     let made = made_sound m (number_in first.0.1.names) first.0.0 1 empty_image second.0 second.1 in
     says_along m source all j (ok_same all j second.2) (record { size = small; placed = first.0.0; all = first.0.1; laid = stands; made = made }, stands)
 
-says_err : (m : Map) (source : List ℕ) (f : AsmFault) → length source ≤ most_bytes → judgement_of_lines m (read_lines m.profile source) ≡ Err f → HasFault m source f
+says_err : (m : Map) (source : List ℕ) (f : AsmFault) → length source ≤ most_bytes
+    → judgement_of_lines m (read_lines m.profile source) ≡ Err f → HasFault m source f
 unfolding judgement_of_lines
 says_err m source f small h =
     let lines = read_lines m.profile source in
@@ -273,7 +294,8 @@ judged_says m source = by (nat_lt most_bytes (length source)) refl
         let small : length source ≤ most_bytes = ltb-false most_bytes (length source) e in
         rw (small_source m source small) (on (judgement_of_lines m (read_lines m.profile source)) small refl)
 
-pub denotes_again : (m : Map) (source : List ℕ) (image : Cells) (d : Denotes m source image) → judgement m source ≡ Ok (judgement_as d.placed d.all image)
+pub denotes_again : (m : Map) (source : List ℕ) (image : Cells) (d : Denotes m source image)
+    → judgement m source ≡ Ok (judgement_as d.placed d.all image)
 unfolding judgement_of_lines
 denotes_again m source image d =
     small_source m source d.size
@@ -282,7 +304,8 @@ denotes_again m source image d =
 same_fault : (f : AsmFault) (n : ℕ) (k : AsmFaultKind) → f.line ≡ n → f.kind ≡ k → fault n k ≡ f
 same_fault f n k line kind = rw (← line, ← kind) refl
 
-pub fault_again : (m : Map) (source : List ℕ) (f : AsmFault) → HasFault m source f → judgement m source ≡ Err f
+pub fault_again : (m : Map) (source : List ℕ) (f : AsmFault) → HasFault m source f
+    → judgement m source ≡ Err f
 unfolding judgement_of_lines
 fault_again m source f (inl large) = large_source m source large.size ∙ ap (λ (x : AsmFault). Err x) (same_fault f 0 TooLarge large.line large.kind)
 fault_again m source f (inr (inl l)) =
@@ -297,7 +320,8 @@ fault_again m source f (inr (inr v)) =
 
 -- ---- the laws
 
-pub one_assignment : (lines : List (List ℕ)) (before : Context) (p q : List PlacedLine) (a b : Context) → IsLaidOut before lines p a → IsLaidOut before lines q b → (p ≡ q) × (a ≡ b)
+pub one_assignment : (lines : List (List ℕ)) (before : Context) (p q : List PlacedLine)
+    (a b : Context) → IsLaidOut before lines p a → IsLaidOut before lines q b → (p ≡ q) × (a ≡ b)
 one_assignment lines before p q a b h k =
     let same : (p, a) ≡ (q, b) = ok_same (p, a) (q, b) (sym (laid_again lines p 1 before a h) ∙ laid_again lines q 1 before b k) in
     (ap (λ (x : Laid). x.0) same, ap (λ (x : Laid). x.1) same)

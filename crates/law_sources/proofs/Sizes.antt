@@ -26,15 +26,19 @@ IsRight p = kind_in p ≡ None
 abbrev sized : BytesOrFault → ℕ
 sized p = length (bytes_in p)
 
-one_size : (f : ℤ → ℕ) (w : Result ℤ AsmFaultKind) → IsRight (w >>> λ v. Ok (f v ∷ [])) → sized (w >>> λ v. Ok (f v ∷ [])) ≡ 1
+one_size : (f : ℤ → ℕ) (w : Result ℤ AsmFaultKind) → IsRight (w >>> λ v. Ok (f v ∷ []))
+    → sized (w >>> λ v. Ok (f v ∷ [])) ≡ 1
 one_size f (Ok v) h = refl
 one_size f (Err k) h = cc
 
-two_size : (f : ℤ → ℕ) (w : Result ℤ AsmFaultKind) → IsRight (w >>> λ v. Ok (word_bytes (f v))) → sized (w >>> λ v. Ok (word_bytes (f v))) ≡ 2
+two_size : (f : ℤ → ℕ) (w : Result ℤ AsmFaultKind) → IsRight (w >>> λ v. Ok (word_bytes (f v)))
+    → sized (w >>> λ v. Ok (word_bytes (f v))) ≡ 2
 two_size f (Ok v) h = refl
 two_size f (Err k) h = cc
 
-two_size_high_first : (f : ℤ → ℕ) (w : Result ℤ AsmFaultKind) → IsRight (w >>> λ v. Ok (word_bytes_high_first (f v))) → sized (w >>> λ v. Ok (word_bytes_high_first (f v))) ≡ 2
+two_size_high_first : (f : ℤ → ℕ) (w : Result ℤ AsmFaultKind)
+    → IsRight (w >>> λ v. Ok (word_bytes_high_first (f v)))
+    → sized (w >>> λ v. Ok (word_bytes_high_first (f v))) ≡ 2
 two_size_high_first f (Ok v) h = refl
 two_size_high_first f (Err k) h = cc
 
@@ -42,7 +46,8 @@ byte_size : (r : Result ℤ ExprFault) → IsRight (byte_piece r) → sized (byt
 unfolding byte_piece
 byte_size r h = one_size (λ v. modulo v 256) _ h
 
-zero_page_size : (r : Result ℤ ExprFault) → IsRight (zero_page_piece r) → sized (zero_page_piece r) ≡ 1
+zero_page_size : (r : Result ℤ ExprFault) → IsRight (zero_page_piece r)
+    → sized (zero_page_piece r) ≡ 1
 unfolding zero_page_piece
 zero_page_size r h = one_size (λ v. modulo v 256) _ h
 
@@ -50,7 +55,8 @@ word_size : (r : Result ℤ ExprFault) → IsRight (word_piece r) → sized (wor
 unfolding word_piece
 word_size r h = two_size (λ v. modulo v 65536) _ h
 
-word_size_high_first : (r : Result ℤ ExprFault) → IsRight (word_piece_high_first r) → sized (word_piece_high_first r) ≡ 2
+word_size_high_first : (r : Result ℤ ExprFault) → IsRight (word_piece_high_first r)
+    → sized (word_piece_high_first r) ≡ 2
 unfolding word_piece_high_first
 word_size_high_first r h = two_size_high_first (λ v. modulo v 65536) _ h
 
@@ -65,15 +71,18 @@ distance_size d h = by (nat_le d 127 || nat_le 65408 d) h
     by true k = refl
     by false k = cc
 
-branch_by : (f : ℤ → ℕ) (w : Result ℤ AsmFaultKind) → IsRight (w >>> λ v. distance_piece (f v)) → sized (w >>> λ v. distance_piece (f v)) ≡ 1
+branch_by : (f : ℤ → ℕ) (w : Result ℤ AsmFaultKind) → IsRight (w >>> λ v. distance_piece (f v))
+    → sized (w >>> λ v. distance_piece (f v)) ≡ 1
 branch_by f (Ok v) h = distance_size (f v) h
 branch_by f (Err k) h = cc
 
-branch_size : (a : ℕ) (r : Result ℤ ExprFault) → IsRight (branch_piece a r) → sized (branch_piece a r) ≡ 1
+branch_size : (a : ℕ) (r : Result ℤ ExprFault) → IsRight (branch_piece a r)
+    → sized (branch_piece a r) ≡ 1
 unfolding branch_piece
 branch_size a r h = branch_by (λ v. modulo (v -ℤ pos (a + 2)) 65536) (within (pos 0) (pos 65535) WordRange r) h
 
-operand_size : (a : ℕ) (mode : Mode) (r : Result ℤ ExprFault) → IsRight (operand_piece a mode r) → 1 + sized (operand_piece a mode r) ≡ length_in mode
+operand_size : (a : ℕ) (mode : Mode) (r : Result ℤ ExprFault) → IsRight (operand_piece a mode r)
+    → 1 + sized (operand_piece a mode r) ≡ length_in mode
 unfolding operand_piece
 operand_size a Imp r h = refl
 operand_size a Acc r h = refl
@@ -105,19 +114,24 @@ IsWhole (word_list_high_first es) = ⊤
 IsWhole (code opcode mode None) = length_in mode ≡ 1
 IsWhole (code opcode mode (Some e)) = ⊤
 
-items_fill : (numbers : Numbers) (a : ℕ) (is : List Item) → AreRight (map (λ i. item_piece numbers a i) is) → length (flat_map bytes_in (map (λ i. item_piece numbers a i) is)) ≡ items_size is
+items_fill : (numbers : Numbers) (a : ℕ) (is : List Item)
+    → AreRight (map (λ i. item_piece numbers a i) is)
+    → length (flat_map bytes_in (map (λ i. item_piece numbers a i) is)) ≡ items_size is
 items_fill numbers a [] h = refl
 items_fill numbers a (value e ∷ is) h = rw length-append (omega (arith, byte_size (eval_of numbers (pos a) e) h.0, items_fill numbers a is h.1))
 items_fill numbers a (string text ∷ is) h = rw length-append (omega (arith, items_fill numbers a is h.1))
 
-words_fill : (f : Term → BytesOrFault) → ((e : Term) → IsRight (f e) → sized (f e) ≡ 2) → (es : List Term) → AreRight (map f es) → length (flat_map bytes_in (map f es)) ≡ 2 * length es
+words_fill : (f : Term → BytesOrFault) → ((e : Term) → IsRight (f e) → sized (f e) ≡ 2)
+    → (es : List Term) → AreRight (map f es) → length (flat_map bytes_in (map f es)) ≡ 2 * length es
 words_fill f two [] h = refl
 words_fill f two (e ∷ es) h = rw length-append (omega (arith, two e h.0, words_fill f two es h.1))
 
 code_size : (p : BytesOrFault) → suc (length (bytes_in p ++ [])) ≡ suc (sized p)
 code_size p = ap (λ (x : List ℕ). suc (length x)) (append-nil (bytes_in p))
 
-content_fills : (numbers : Numbers) (a : ℕ) (content : Content) → IsWhole content → AreRight (pieces_of numbers a content) → length (flat_map bytes_in (pieces_of numbers a content)) ≡ size_of content
+content_fills : (numbers : Numbers) (a : ℕ) (content : Content) → IsWhole content
+    → AreRight (pieces_of numbers a content)
+    → length (flat_map bytes_in (pieces_of numbers a content)) ≡ size_of content
 unfolding pieces_of size_of
 content_fills numbers a no_bytes w h = refl
 content_fills numbers a (byte_list is) w h = items_fill numbers a is h
@@ -143,7 +157,8 @@ neither None y h = (refl, h)
 neither (Some x) None h = cc
 neither (Some x) (Some y) h = absurd (chosen (nat_le (source_fault_number x) (source_fault_number y)) x y h)
 
-all_right : (pieces : List BytesOrFault) (others : List Kind) → lowest (kinds_in pieces ++ others) ≡ None → AreRight pieces
+all_right : (pieces : List BytesOrFault) (others : List Kind)
+    → lowest (kinds_in pieces ++ others) ≡ None → AreRight pieces
 unfolding lowest
 all_right [] others h = tt
 all_right (p ∷ pieces) others h = let parts = neither (kind_in p) (lowest (kinds_in pieces ++ others)) h in (parts.0, all_right pieces others parts.1)
@@ -153,7 +168,8 @@ all_right (p ∷ pieces) others h = let parts = neither (kind_in p) (lowest (kin
 abbrev right : (A : Type 0) → A → Result A AsmFaultKind
 right A a = Ok a
 
-bind_ok : {A B : Type 0} (r : Result A AsmFaultKind) (f : A → Result B AsmFaultKind) (b : B) → r >>> f ≡ Ok b → (a : A) × (r ≡ Ok a) × (f a ≡ Ok b)
+bind_ok : {A B : Type 0} (r : Result A AsmFaultKind) (f : A → Result B AsmFaultKind) (b : B)
+    → r >>> f ≡ Ok b → (a : A) × (r ≡ Ok a) × (f a ≡ Ok b)
 bind_ok (Ok a) f b h = (a, refl, h)
 bind_ok (Err e) f b h = cc
 
@@ -166,12 +182,15 @@ IsWholePlace place = IsWhole place.0.content
 of_place : (x y : PlacedAndNext) → right PlacedAndNext x ≡ Ok y → IsWholePlace x → IsWholePlace y
 of_place x y h w = subst IsWholePlace (ok_same x y h) w
 
-only_by : (numbers : Numbers) (address : ℕ) (opcode : Option ℕ) (mode : Mode) (c : Encoding) → length_in mode ≡ 1
+only_by : (numbers : Numbers) (address : ℕ) (opcode : Option ℕ) (mode : Mode) (c : Encoding)
+    → length_in mode ≡ 1
     → code_for numbers address None (option_map one (option_map (λ o. record { opcode = o; mode = mode }) opcode)) ≡ Ok c → length_in c.mode ≡ 1
 only_by numbers address (Some opcode) mode c short h = ap (λ (x : Encoding). length_in x.mode) (sym (ok_same (record { opcode = opcode; mode = mode }) c h)) ∙ short
 only_by numbers address None mode c short h = cc
 
-code_whole : (profile : Profile) (numbers : Numbers) (address : ℕ) (m : Mnemonic) (operand : Operand) (c : Encoding) → code_for numbers address (term_of operand) (form_of profile m operand) ≡ Ok c
+code_whole : (profile : Profile) (numbers : Numbers) (address : ℕ) (m : Mnemonic)
+    (operand : Operand) (c : Encoding) → code_for numbers address (term_of operand)
+    (form_of profile m operand) ≡ Ok c
     → IsWhole (code c.opcode c.mode (term_of operand))
 unfolding form_of
 code_whole profile numbers address m absent c h = only_by numbers address (opcode_of profile m Imp) Imp c refl h
@@ -182,7 +201,8 @@ code_whole profile numbers address m (pointer e) c h = tt
 code_whole profile numbers address m (pointer_by_x e) c h = tt
 code_whole profile numbers address m (pointer_by_y e) c h = tt
 
-laid_whole : (profile : Profile) (numbers : Numbers) (address : ℕ) (s : Statement) (place : PlacedAndNext) → statement_at profile numbers address s ≡ Ok place → IsWholePlace place
+laid_whole : (profile : Profile) (numbers : Numbers) (address : ℕ) (s : Statement)
+    (place : PlacedAndNext) → statement_at profile numbers address s ≡ Ok place → IsWholePlace place
 unfolding statement_at
 laid_whole profile numbers address nothing place h = of_place _ place h tt
 laid_whole profile numbers address (origin e) place h =
@@ -204,10 +224,12 @@ laid_whole profile numbers address (instruction m operand) place h =
 abbrev IsWholeStanding : PlacedAndContext → Type 0
 IsWholeStanding x = IsWhole x.0.content
 
-of_standing : (x y : PlacedAndContext) → right PlacedAndContext x ≡ Ok y → IsWholeStanding x → IsWholeStanding y
+of_standing : (x y : PlacedAndContext) → right PlacedAndContext x ≡ Ok y → IsWholeStanding x
+    → IsWholeStanding y
 of_standing x y h w = subst IsWholeStanding (ok_same x y h) w
 
-line_at_whole : (before : Context) (l : Line) (x : PlacedAndContext) → line_at before l ≡ Ok x → IsWholeStanding x
+line_at_whole : (before : Context) (l : Line) (x : PlacedAndContext) → line_at before l ≡ Ok x
+    → IsWholeStanding x
 line_at_whole before (labelled label s) x h =
     let numbers = number_in (before.names ++ label_at before.address label) in
     let place = bind_ok (statement_at before.profile numbers before.address s) _ x h in
@@ -216,20 +238,24 @@ line_at_whole before (definition name e) x h =
     let v = bind_ok (placing_value (eval_of (number_in before.names) (pos before.address) e)) _ x h in
     of_standing (placed_and_context before.profile (before.names ++ (name, v.0) ∷ []) (empty_and_next before.address before.address)) x v.2 tt
 
-unless_full_ok : (full : Bool) (r : Result PlacedAndContext AsmFaultKind) (x : PlacedAndContext) → unless_full full r ≡ Ok x → r ≡ Ok x
+unless_full_ok : (full : Bool) (r : Result PlacedAndContext AsmFaultKind) (x : PlacedAndContext)
+    → unless_full full r ≡ Ok x → r ≡ Ok x
 unless_full_ok false r x h = h
 unless_full_ok true (Ok a) x h = cc
 unless_full_ok true (Err k) x h = cc
 
-fixed_by : (defined full : Bool) (r : Result PlacedAndContext AsmFaultKind) (x : PlacedAndContext) → cond defined (Err DuplicateName) (unless_full full r) ≡ Ok x → r ≡ Ok x
+fixed_by : (defined full : Bool) (r : Result PlacedAndContext AsmFaultKind) (x : PlacedAndContext)
+    → cond defined (Err DuplicateName) (unless_full full r) ≡ Ok x → r ≡ Ok x
 fixed_by true full r x h = cc
 fixed_by false full r x h = unless_full_ok full r x h
 
-line_fixed_whole : (before : Context) (l : Line) (x : PlacedAndContext) → named_line_at before l ≡ Ok x → IsWholeStanding x
+line_fixed_whole : (before : Context) (l : Line) (x : PlacedAndContext)
+    → named_line_at before l ≡ Ok x → IsWholeStanding x
 unfolding named_line_at
 line_fixed_whole before l x h = line_at_whole before l x (fixed_by (is_defined before.names (name_of l)) (is_full before.names (name_of l)) (line_at before l) x h)
 
-layout_whole : (before : Context) (line : List ℕ) (x : PlacedAndContext) → layout_of before line ≡ Ok x → IsWholeStanding x
+layout_whole : (before : Context) (line : List ℕ) (x : PlacedAndContext)
+    → layout_of before line ≡ Ok x → IsWholeStanding x
 unfolding layout_of
 layout_whole before line x h = let l = bind_ok (read_line before.profile line) _ x h in line_fixed_whole before l.0 x l.2
 

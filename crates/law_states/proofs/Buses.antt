@@ -24,10 +24,12 @@ then a b c h k = record { bus = k.bus; map = k.map ∙ h.map }
 
 -- ---- memory
 
-elsewhere : (map : Map) (k address : ℕ) → is_port map k ≡ true → is_port map address ≡ false → k ≢ address
+elsewhere : (map : Map) (k address : ℕ) → is_port map k ≡ true → is_port map address ≡ false
+    → k ≢ address
 elsewhere map k address here away same = true≢false (sym here ∙ ap (is_port map) same ∙ away)
 
-pub becomes_stored : (bus : Bus) (address value : ℕ) → IsBus bus → value < 256 → is_port bus.map address ≡ false → Becomes bus (bus_with_byte bus address value)
+pub becomes_stored : (bus : Bus) (address value : ℕ) → IsBus bus → value < 256
+    → is_port bus.map address ≡ false → Becomes bus (bus_with_byte bus address value)
 becomes_stored bus address value h small away = record { bus = kept; map = refl } where
   kept : IsBus (bus_with_byte bus address value)
   kept = record {
@@ -47,7 +49,8 @@ port_high : (rom : Option (ℕ × ℕ)) (port : ℕ) → is_map rom port ≡ tru
 unfolding is_map
 port_high rom port e = grind (arith, nat_tests)
 
-below_port : (port s : ℕ) → 512 ≤ port → s < 256 → (nat_le port (256 + s) && nat_lt (256 + s) (port + 4)) ≡ false
+below_port : (port s : ℕ) → 512 ≤ port → s < 256
+    → (nat_le port (256 + s) && nat_lt (256 + s) (port + 4)) ≡ false
 below_port port s high small = grind (arith, nat_tests)
 
 -- the stack lies below $0200, where no port stands
@@ -134,7 +137,8 @@ one_or_none true = omega arith
 one_or_none false = omega arith
 
 read_small_by : (bus : Bus) (address : ℕ) (port first second third waits : Bool) → IsBus bus
-    → cond port (cond first (cond waits (slice_index bus.given bus.taken) 0) (cond second (cond waits 1 0) (cond third (cond bus.control 1 0) 0))) (slice_index bus.memory address) < 256
+    → cond port (cond first (cond waits (slice_index bus.given bus.taken) 0) (cond second (cond waits 1 0) (cond third (cond bus.control 1 0) 0)))
+    (slice_index bus.memory address) < 256
 read_small_by bus address false first second third waits h = byte_small bus.memory address h.memory
 read_small_by bus address true true second third true h = byte_small bus.given bus.taken h.given
 read_small_by bus address true true second third false h = omega arith
@@ -146,7 +150,8 @@ pub read_small : (bus : Bus) (address : ℕ) → IsBus bus → byte_read bus add
 unfolding byte_read
 read_small bus address h = read_small_by bus address (is_port bus.map address) (address == bus.map.port + 1) (address == bus.map.port + 2) (address == bus.map.port + 3) (input_waits bus) h
 
-write_by : (bus : Bus) (address value : ℕ) (port first third rom : Bool) → IsBus bus → value < 256 → is_port bus.map address ≡ port → (first && nat_le console_size (length bus.out)) ≡ false
+write_by : (bus : Bus) (address value : ℕ) (port first third rom : Bool) → IsBus bus → value < 256
+    → is_port bus.map address ≡ port → (first && nat_le console_size (length bus.out)) ≡ false
     → Becomes bus (cond port (cond first (record bus { out = bus.out ++ value ∷ [] }) (cond third (record bus { control = value % 2 == 1 }) bus)) (cond rom bus (bus_with_byte bus address value)))
 write_by bus address value true true third rom h small here room = let less : length bus.out < console_size = grind (arith, nat_tests) in appended bus value h small less
 write_by bus address value true false true rom h small here room = becomes_controlled bus (value % 2 == 1) h
@@ -154,7 +159,8 @@ write_by bus address value true false false rom h small here room = stays bus h
 write_by bus address value false first third true h small here room = stays bus h
 write_by bus address value false first third false h small here room = becomes_stored bus address value h small here
 
-pub becomes_written : (bus : Bus) (address value : ℕ) → IsBus bus → value < 256 → overflows bus address ≡ false → Becomes bus (after_write bus address value)
+pub becomes_written : (bus : Bus) (address value : ℕ) → IsBus bus → value < 256
+    → overflows bus address ≡ false → Becomes bus (after_write bus address value)
 unfolding after_write overflows
 becomes_written bus address value h small room = write_by bus address value (is_port bus.map address) (address == bus.map.port) (address == bus.map.port + 3) (is_rom bus.map address) h small refl room
 
@@ -164,7 +170,8 @@ unfolding overflows
 room_by bus address true = refl
 room_by bus address false = refl
 
-pub room_after_read : (bus : Bus) (address at' : ℕ) → overflows (after_read bus at') address ≡ overflows bus address
+pub room_after_read : (bus : Bus) (address at' : ℕ)
+    → overflows (after_read bus at') address ≡ overflows bus address
 unfolding after_read
 room_after_read bus address at' = room_by bus address ((at' == bus.map.port + 1) && input_waits bus)
 
@@ -174,7 +181,8 @@ neither : (a b : Bool) → (a || b) ≡ false → (a ≡ false) × (b ≡ false)
 neither true b h = absurd (true≢false h)
 neither false b h = (refl, h)
 
-pub becomes_patched : (bytes : List ℕ) (bus : Bus) (address : ℕ) → IsBus bus → AreBytes bytes → meets_port bus.map address bytes ≡ false → Becomes bus (bus_with_patch address bytes bus)
+pub becomes_patched : (bytes : List ℕ) (bus : Bus) (address : ℕ) → IsBus bus → AreBytes bytes
+    → meets_port bus.map address bytes ≡ false → Becomes bus (bus_with_patch address bytes bus)
 becomes_patched [] bus address h small away = stays bus h
 becomes_patched (byte ∷ bytes) bus address h small away =
     let split = neither (is_port bus.map address) (meets_port bus.map (address + 1) bytes) away in

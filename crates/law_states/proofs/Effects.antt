@@ -36,15 +36,18 @@ sound_after before after h = record { bus = h.bus.bus; regs = h.regs }
 
 -- ---- loads and stores
 
-operand_small : (immediate : Bool) (bus : Bus) (address : ℕ) → IsBus bus → cond immediate (slice_index bus.memory address) (byte_read bus address) < 256
+operand_small : (immediate : Bool) (bus : Bus) (address : ℕ) → IsBus bus
+    → cond immediate (slice_index bus.memory address) (byte_read bus address) < 256
 operand_small true bus address h = byte_small bus.memory address h.memory
 operand_small false bus address h = read_small bus address h
 
-after_operand_is : (immediate : Bool) (bus : Bus) (address : ℕ) → IsBus bus → Becomes bus (cond immediate bus (after_read bus address))
+after_operand_is : (immediate : Bool) (bus : Bus) (address : ℕ) → IsBus bus
+    → Becomes bus (cond immediate bus (after_read bus address))
 after_operand_is true bus address h = stays bus h
 after_operand_is false bus address h = becomes_read bus address h
 
-load_leads : (op : ReadOp) (mode : Mode) (place : EffectiveAddress) (s : State) → IsSound s → Leads s (load op mode place s)
+load_leads : (op : ReadOp) (mode : Mode) (place : EffectiveAddress) (s : State) → IsSound s
+    → Leads s (load op mode place s)
 unfolding load operand after_operand
 load_leads op mode place s h = record {
   bus = after_operand_is (is_immediate mode) s.bus place.address h.bus;
@@ -52,7 +55,8 @@ load_leads op mode place s h = record {
   cycles = omega arith;
 }
 
-store_leads : (op : StoreOp) (place : EffectiveAddress) (s : State) → IsSound s → overflows s.bus place.address ≡ false → Leads s (store op place s)
+store_leads : (op : StoreOp) (place : EffectiveAddress) (s : State) → IsSound s
+    → overflows s.bus place.address ≡ false → Leads s (store op place s)
 unfolding store
 store_leads op place s h room = record {
   bus = becomes_written s.bus place.address (store_value op s.regs) h.bus (stored_small op s.regs h.regs) room;
@@ -77,7 +81,8 @@ modify_a_leads op s h = record {
   cycles = omega arith;
 }
 
-modify_memory_leads : (op : ModifyOp) (place : EffectiveAddress) (s : State) → IsSound s → overflows s.bus place.address ≡ false → Leads s (modify_memory op place s)
+modify_memory_leads : (op : ModifyOp) (place : EffectiveAddress) (s : State) → IsSound s
+    → overflows s.bus place.address ≡ false → Leads s (modify_memory op place s)
 unfolding modify_memory
 modify_memory_leads op place s h room =
     let sum = modify_sum op (byte_read s.bus place.address) s.regs.flags.c in
@@ -90,14 +95,16 @@ modify_memory_leads op place s h room =
       cycles = omega arith;
     }
 
-modify_leads : (accumulator : Bool) (op : ModifyOp) (place : EffectiveAddress) (s : State) → IsSound s → (not accumulator && overflows s.bus place.address) ≡ false
+modify_leads : (accumulator : Bool) (op : ModifyOp) (place : EffectiveAddress) (s : State)
+    → IsSound s → (not accumulator && overflows s.bus place.address) ≡ false
     → Leads s (cond accumulator (modify_a op s) (modify_memory op place s))
 modify_leads true op place s h room = modify_a_leads op s h
 modify_leads false op place s h room = modify_memory_leads op place s h room
 
 -- ---- jumps
 
-pub jumped_leads : (before s : State) (address : ℕ) → Leads before s → address < 65536 → Leads before (with_pc s address)
+pub jumped_leads : (before s : State) (address : ℕ) → Leads before s → address < 65536
+    → Leads before (with_pc s address)
 jumped_leads before s address h k = record {
   bus = h.bus;
   regs = record { a = h.regs.a; x = h.regs.x; y = h.regs.y; s = h.regs.s; pc = k };
@@ -107,7 +114,8 @@ jumped_leads before s address h k = record {
 same_leads : (s : State) → IsSound s → Leads s s
 same_leads s h = record { bus = stays s.bus h.bus; regs = h.regs; cycles = omega arith }
 
-branch_by : (taken : Bool) (place : EffectiveAddress) (s : State) → IsSound s → place.address < 65536
+branch_by : (taken : Bool) (place : EffectiveAddress) (s : State) → IsSound s
+    → place.address < 65536
     → Leads s (cond taken (record s { regs = record s.regs { pc = place.address }; cycles = s.cycles + 1 + bit place.crossed }) s)
 branch_by true place s h k = record {
   bus = stays s.bus h.bus;
@@ -116,13 +124,15 @@ branch_by true place s h k = record {
 }
 branch_by false place s h k = same_leads s h
 
-branch_leads : (op : BranchOp) (place : EffectiveAddress) (s : State) → IsSound s → place.address < 65536 → Leads s (branch op place s)
+branch_leads : (op : BranchOp) (place : EffectiveAddress) (s : State) → IsSound s
+    → place.address < 65536 → Leads s (branch op place s)
 unfolding branch
 branch_leads op place s h k = branch_by (branches op s.regs.flags) place s h k
 
 -- ---- the stack
 
-pub pushed_leads : (before s : State) (value : ℕ) → Leads before s → value < 256 → Leads before (after_push s value)
+pub pushed_leads : (before s : State) (value : ℕ) → Leads before s → value < 256
+    → Leads before (after_push s value)
 unfolding after_push
 pushed_leads before s value h k =
     let one = becomes_stored s.bus (256 + s.regs.s) value h.bus.bus k (stack_is_plain s.bus s.regs.s h.bus.bus h.regs.s) in
@@ -198,7 +208,8 @@ return_from_interrupt_leads s h =
     jumped_leads s (after_pull (after_pull (pull_status s))) (stack_top_address (pull_status s))
     (after_pull_leads s (after_pull (pull_status s)) (after_pull_leads s (pull_status s) flags)) (pulled_word_small s (pull_status s) flags)
 
-pub interrupted_leads : (s : State) (return : ℕ) (b : Bool) (vector : ℕ) → IsSound s → return < 65536 → Leads s (interrupt_sequence s return b vector)
+pub interrupted_leads : (s : State) (return : ℕ) (b : Bool) (vector : ℕ) → IsSound s
+    → return < 65536 → Leads s (interrupt_sequence s return b vector)
 unfolding interrupt_sequence
 interrupted_leads s return b vector h k =
     let high = pushed_leads s s (return / 256) (same_leads s h) (omega arith) in
@@ -217,7 +228,8 @@ break_leads s h = interrupted_leads s ((s.regs.pc + 1) % 65536) true 0xFFFE h (o
 
 -- ---- all operations
 
-pub performed_leads : (op : Operation) (mode : Mode) (place : EffectiveAddress) (s : State) → IsSound s → place.address < 65536 → (stores op mode && overflows s.bus place.address) ≡ false
+pub performed_leads : (op : Operation) (mode : Mode) (place : EffectiveAddress) (s : State)
+    → IsSound s → place.address < 65536 → (stores op mode && overflows s.bus place.address) ≡ false
     → Leads s (after_operation op mode place s)
 unfolding after_operation stores
 performed_leads (operation.Read op) mode place s h k room = load_leads op mode place s h

@@ -31,22 +31,26 @@ cell_small : (cell : Option ℕ) → IsCell cell → unwrap_or cell 0 < 256
 cell_small None h = omega arith
 cell_small (Some b) h = h
 
-cells_small : (image : List (Option ℕ)) → All IsCell image → AreBytes (map (λ cell. unwrap_or cell 0) image)
+cells_small : (image : List (Option ℕ)) → All IsCell image
+    → AreBytes (map (λ cell. unwrap_or cell 0) image)
 cells_small image h = All-map IsByte (λ cell. unwrap_or cell 0) image (All-weaker IsCell (λ cell. IsByte (unwrap_or cell 0)) cell_small image h)
 
 nothing_is_zero : (cell : Option ℕ) → is_some cell ≡ false → unwrap_or cell 0 ≡ 0
 nothing_is_zero None h = refl
 nothing_is_zero (Some b) h = absurd (true≢false h)
 
-no_byte_is_zero : (image : List (Option ℕ)) (k : ℕ) → has_byte image k ≡ false → slice_index (map (λ cell. unwrap_or cell 0) image) k ≡ 0
+no_byte_is_zero : (image : List (Option ℕ)) (k : ℕ) → has_byte image k ≡ false
+    → slice_index (map (λ cell. unwrap_or cell 0) image) k ≡ 0
 unfolding has_byte
 no_byte_is_zero image k h = get_or-map (λ cell. unwrap_or cell 0) image k None ∙ nothing_is_zero (get_or image k None) h
 
-no_port_byte : (map : Map) (image : List (Option ℕ)) (k : ℕ) → has_port_byte map image ≡ false → is_port map k ≡ true → has_byte image k ≡ false
+no_port_byte : (map : Map) (image : List (Option ℕ)) (k : ℕ) → has_port_byte map image ≡ false
+    → is_port map k ≡ true → has_byte image k ≡ false
 unfolding has_port_byte is_port
 no_port_byte map image k none here = grind (arith, nat_tests)
 
-loaded_is : (bus_map : Map) (image : List (Option ℕ)) → is_map bus_map.rom bus_map.port ≡ true → IsImage image → has_port_byte bus_map image ≡ false → IsBus (loaded_bus bus_map image)
+loaded_is : (bus_map : Map) (image : List (Option ℕ)) → is_map bus_map.rom bus_map.port ≡ true
+    → IsImage image → has_port_byte bus_map image ≡ false → IsBus (loaded_bus bus_map image)
 unfolding loaded_bus memory_of
 loaded_is bus_map image is whole none = record {
   map = is;
@@ -60,7 +64,8 @@ loaded_is bus_map image is whole none = record {
   out_room = omega arith;
 }
 
-reset_follows : (s : State) → IsBus s.bus → AreRegs s.regs → s.cycles ≤ most_cycles → Follows s (reset_state s)
+reset_follows : (s : State) → IsBus s.bus → AreRegs s.regs → s.cycles ≤ most_cycles
+    → Follows s (reset_state s)
 unfolding reset_state
 reset_follows s bus regs room = record {
   state = record {
@@ -94,14 +99,16 @@ set_small (setting.S value) regs k h = record { a = h.a; x = h.x; y = h.y; s = k
 set_small (setting.P value) regs k h = with_flags regs (flags_of_byte value) h
 set_small (setting.Pc value) regs k h = record { a = h.a; x = h.x; y = h.y; s = h.s; pc = k }
 
-reset_by : (s after : State) (full : Bool) → IsState s → nat_lt most_cycles s.cycles ≡ full → cond full (Err CyclesFull) (Ok (reset_state s)) ≡ Ok after → Follows s after
+reset_by : (s after : State) (full : Bool) → IsState s → nat_lt most_cycles s.cycles ≡ full
+    → cond full (Err CyclesFull) (Ok (reset_state s)) ≡ Ok after → Follows s after
 reset_by s after true h full e = cc
 reset_by s after false h full e =
     let room : s.cycles ≤ most_cycles = grind (arith, nat_tests) in
     let same : reset_state s ≡ after = cc in
     rw same at (reset_follows s h.bus h.regs room)
 
-input_by : (byte : ℕ) (s after : State) (full : Bool) → IsState s → byte < 256 → nat_le console_size (length s.bus.given) ≡ full
+input_by : (byte : ℕ) (s after : State) (full : Bool) → IsState s → byte < 256
+    → nat_le console_size (length s.bus.given) ≡ full
     → cond full (Err InputFull) (Ok (record s { bus = record s.bus { given = s.bus.given ++ byte ∷ [] } })) ≡ Ok after → Follows s after
 input_by byte s after true h small full e = cc
 input_by byte s after false h small full e =
@@ -109,7 +116,8 @@ input_by byte s after false h small full e =
     let same : record s { bus = record s.bus { given = s.bus.given ++ byte ∷ [] } } ≡ after = cc in
     rw same at (with_bus s (record s.bus { given = s.bus.given ++ byte ∷ [] }) h (becomes_given s.bus byte h.bus small room))
 
-patch_by : (address : ℕ) (bytes : List ℕ) (s after : State) (length_wrong past port : Bool) → IsState s → AreBytes bytes → meets_port s.bus.map address bytes ≡ port
+patch_by : (address : ℕ) (bytes : List ℕ) (s after : State) (length_wrong past port : Bool)
+    → IsState s → AreBytes bytes → meets_port s.bus.map address bytes ≡ port
     → cond length_wrong (Err BadLength) (cond past (Err PastEnd) (cond port (Err PortAddress) (Ok (record s { bus = bus_with_patch address bytes s.bus })))) ≡ Ok after → Follows s after
 patch_by address bytes s after true past port h small away e = cc
 patch_by address bytes s after false true port h small away e = cc
@@ -118,16 +126,19 @@ patch_by address bytes s after false false false h small away e =
     let same : record s { bus = bus_with_patch address bytes s.bus } ≡ after = cc in
     rw same at (with_bus s (bus_with_patch address bytes s.bus) h (becomes_patched bytes s.bus address h.bus small away))
 
-patch_follows : (address : ℕ) (bytes : List ℕ) (s after : State) → IsState s → AreBytes bytes → patch_of address bytes s ≡ Ok after → Follows s after
+patch_follows : (address : ℕ) (bytes : List ℕ) (s after : State) → IsState s → AreBytes bytes
+    → patch_of address bytes s ≡ Ok after → Follows s after
 unfolding patch_of
 patch_follows address bytes s after h small e = patch_by address bytes s after _ _ (meets_port s.bus.map address bytes) h small refl e
 
-counted_by : (address : ℕ) (bytes : List ℕ) (count : ℕ) (s after : State) (many : Bool) → IsState s → AreBytes bytes
+counted_by : (address : ℕ) (bytes : List ℕ) (count : ℕ) (s after : State) (many : Bool) → IsState s
+    → AreBytes bytes
     → cond many (Err BadLength) (patch_of address (take count bytes) s) ≡ Ok after → Follows s after
 counted_by address bytes count s after true h small e = cc
 counted_by address bytes count s after false h small e = patch_follows address (take count bytes) s after h (All-take IsByte count bytes small) e
 
-followed : (s after : State) (x : Event) → IsState s → IsEvent x → event_of s x ≡ Ok after → Follows s after
+followed : (s after : State) (x : Event) → IsState s → IsEvent x → event_of s x ≡ Ok after
+    → Follows s after
 unfolding event_of reset_of input_of
 followed s after event.Step h k e = step_follows s after h e
 followed s after event.Reset h k e = reset_by s after (nat_lt most_cycles s.cycles) h refl e

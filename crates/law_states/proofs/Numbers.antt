@@ -50,12 +50,14 @@ word_in_page_small bus address h =
     let high = byte_small bus.memory ((256 * (address / 256) + (address + 1) % 256) % 65536) h.memory in
     omega arith
 
-jump_target_small : (profile : Profile) (bus : Bus) (pointer : ℕ) → IsBus bus → jump_target profile bus pointer < 65536
+jump_target_small : (profile : Profile) (bus : Bus) (pointer : ℕ) → IsBus bus
+    → jump_target profile bus pointer < 65536
 unfolding jump_target
 jump_target_small N bus pointer h = word_in_page_small bus pointer h
 jump_target_small C bus pointer h = word_small bus pointer h
 
-pub place_small : (bus : Bus) (regs : Regs) (mode : Mode) → IsBus bus → (effective_address bus regs mode).address < 65536
+pub place_small : (bus : Bus) (regs : Regs) (mode : Mode) → IsBus bus
+    → (effective_address bus regs mode).address < 65536
 unfolding effective_address
 place_small bus regs Imp h = omega arith
 place_small bus regs Acc h = omega arith
@@ -114,20 +116,24 @@ status_small b flags = omega (arith, bit_small flags.n, bit_small flags.v, bit_s
 -- ---- registers
 
 -- what has a new A, X, Y or S in range, and the same PC
-with_value_a : (regs after : Regs) → AreRegs regs → after.a < 256 → after.x ≡ regs.x → after.y ≡ regs.y → after.s ≡ regs.s → after.pc ≡ regs.pc → AreRegs after
+with_value_a : (regs after : Regs) → AreRegs regs → after.a < 256 → after.x ≡ regs.x
+    → after.y ≡ regs.y → after.s ≡ regs.s → after.pc ≡ regs.pc → AreRegs after
 with_value_a regs after h a x y s pc = record { a = a; x = omega (arith, h.x); y = omega (arith, h.y); s = omega (arith, h.s); pc = omega (arith, h.pc) }
 
-with_value_x : (regs after : Regs) → AreRegs regs → after.x < 256 → after.a ≡ regs.a → after.y ≡ regs.y → after.s ≡ regs.s → after.pc ≡ regs.pc → AreRegs after
+with_value_x : (regs after : Regs) → AreRegs regs → after.x < 256 → after.a ≡ regs.a
+    → after.y ≡ regs.y → after.s ≡ regs.s → after.pc ≡ regs.pc → AreRegs after
 with_value_x regs after h x a y s pc = record { a = omega (arith, h.a); x = x; y = omega (arith, h.y); s = omega (arith, h.s); pc = omega (arith, h.pc) }
 
-with_value_y : (regs after : Regs) → AreRegs regs → after.y < 256 → after.a ≡ regs.a → after.x ≡ regs.x → after.s ≡ regs.s → after.pc ≡ regs.pc → AreRegs after
+with_value_y : (regs after : Regs) → AreRegs regs → after.y < 256 → after.a ≡ regs.a
+    → after.x ≡ regs.x → after.s ≡ regs.s → after.pc ≡ regs.pc → AreRegs after
 with_value_y regs after h y a x s pc = record { a = omega (arith, h.a); x = omega (arith, h.x); y = y; s = omega (arith, h.s); pc = omega (arith, h.pc) }
 
 -- new flags alone
 pub with_flags : (regs : Regs) (flags : Flags) → AreRegs regs → AreRegs (record regs { flags = flags })
 with_flags regs flags h = record { a = h.a; x = h.x; y = h.y; s = h.s; pc = h.pc }
 
-pub loaded_small : (op : ReadOp) (m : ℕ) (regs : Regs) → m < 256 → AreRegs regs → AreRegs (regs_after_read op m regs)
+pub loaded_small : (op : ReadOp) (m : ℕ) (regs : Regs) → m < 256 → AreRegs regs
+    → AreRegs (regs_after_read op m regs)
 unfolding regs_after_read
 loaded_small read_op.Ora m regs k h = with_value_a regs _ h (or_lt 8 regs.a m h.a k) refl refl refl refl
 loaded_small read_op.And m regs k h = with_value_a regs _ h (and_lt 8 regs.a m h.a k) refl refl refl refl
@@ -176,7 +182,8 @@ abbrev is_quick : Option Row → Bool
 is_quick None = true
 is_quick (Some row) = nat_le row.cycles 7
 
-all_quick : (profile : Profile) → map (λ opcode. is_quick (row_at profile opcode)) (range_with_len 0 256) ≡ map (λ (opcode : ℕ). true) (range_with_len 0 256)
+all_quick : (profile : Profile) → map (λ opcode. is_quick (row_at profile opcode))
+    (range_with_len 0 256) ≡ map (λ (opcode : ℕ). true) (range_with_len 0 256)
 unfolding row_at find_row table documented_opcodes added_opcodes
 all_quick N = refl
 all_quick C = refl
@@ -187,5 +194,6 @@ quick profile opcode below =
     ∙ ap (λ rows. get_or rows opcode true) (all_quick profile)
     ∙ get_or-map-range_with_len (λ (opcode : ℕ). true) 0 256 opcode opcode true below (omega arith)
 
-pub cycles_small : (profile : Profile) (opcode : ℕ) (row : Row) → opcode < 256 → row_at profile opcode ≡ Some row → row.cycles ≤ 7
+pub cycles_small : (profile : Profile) (opcode : ℕ) (row : Row) → opcode < 256
+    → row_at profile opcode ≡ Some row → row.cycles ≤ 7
 cycles_small profile opcode row below e = let h : is_quick (Some row) ≡ true = rw e at (quick profile opcode below) in grind (arith, nat_tests)

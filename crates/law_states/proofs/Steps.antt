@@ -24,7 +24,8 @@ HasRoom s = s.cycles ≤ most_cycles
 
 -- ---- entries
 
-entered_follows : (s : State) (vector : ℕ) → IsState s → HasRoom s → Follows s (interrupt_entry s vector)
+entered_follows : (s : State) (vector : ℕ) → IsState s → HasRoom s
+    → Follows s (interrupt_entry s vector)
 unfolding interrupt_entry
 entered_follows s vector h room =
     let sound : IsSound s = record { bus = h.bus; regs = h.regs } in
@@ -34,23 +35,28 @@ entered_follows s vector h room =
 -- ---- instructions
 
 -- what is fetched is sound, and has at most eight cycles more
-fetched_sound : (row : Row) (place : EffectiveAddress) (s : State) → IsState s → IsSound (past_instruction row place s)
+fetched_sound : (row : Row) (place : EffectiveAddress) (s : State) → IsState s
+    → IsSound (past_instruction row place s)
 unfolding past_instruction
 fetched_sound row place s h = record {
   bus = h.bus;
   regs = record { a = h.regs.a; x = h.regs.x; y = h.regs.y; s = h.regs.s; pc = omega arith };
 }
 
-cycles-fetched : (row : Row) (place : EffectiveAddress) (s : State) → row.cycles ≤ 7 → (past_instruction row place s).cycles ≤ s.cycles + 8
+cycles-fetched : (row : Row) (place : EffectiveAddress) (s : State) → row.cycles ≤ 7
+    → (past_instruction row place s).cycles ≤ s.cycles + 8
 unfolding past_instruction
 cycles-fetched row place s few = omega (arith, bit_small (row.penalty && place.crossed))
 
-bus-fetched : (row : Row) (place : EffectiveAddress) (s : State) → (past_instruction row place s).bus ≡ s.bus
+bus-fetched : (row : Row) (place : EffectiveAddress) (s : State)
+    → (past_instruction row place s).bus ≡ s.bus
 unfolding past_instruction
 bus-fetched row place s = refl
 
-done_follows : (row : Row) (place : EffectiveAddress) (s : State) → IsState s → HasRoom s → row.cycles ≤ 7 → place.address < 65536
-    → (stores (operation_of row.mnemonic) row.mode && overflows s.bus place.address) ≡ false → Follows s (after_operation (operation_of row.mnemonic) row.mode place (past_instruction row place s))
+done_follows : (row : Row) (place : EffectiveAddress) (s : State) → IsState s → HasRoom s
+    → row.cycles ≤ 7 → place.address < 65536
+    → (stores (operation_of row.mnemonic) row.mode && overflows s.bus place.address) ≡ false
+    → Follows s (after_operation (operation_of row.mnemonic) row.mode place (past_instruction row place s))
 done_follows row place s h room few near fits =
     let before = past_instruction row place s in
     let same : (stores (operation_of row.mnemonic) row.mode && overflows before.bus place.address) ≡ false =
@@ -59,19 +65,25 @@ done_follows row place s h room few near fits =
     let few_more = cycles-fetched row place s few in
     record { state = record { bus = after.bus.bus; regs = after.regs; cycles = omega (arith, after.cycles) }; map = after.bus.map ∙ ap (λ (b : Rattle.model.specs.State.Bus). b.map) (bus-fetched row place s) }
 
-executed_by : (row : Row) (place : EffectiveAddress) (s after : State) (refused : Bool) → IsState s → HasRoom s → row.cycles ≤ 7 → place.address < 65536
+executed_by : (row : Row) (place : EffectiveAddress) (s after : State) (refused : Bool) → IsState s
+    → HasRoom s → row.cycles ≤ 7 → place.address < 65536
     → (stores (operation_of row.mnemonic) row.mode && overflows s.bus place.address) ≡ refused
-    → cond refused (Err ConsoleFull) (Ok (after_operation (operation_of row.mnemonic) row.mode place (past_instruction row place s))) ≡ Ok after → Follows s after
+    → cond refused (Err ConsoleFull)
+    (Ok (after_operation (operation_of row.mnemonic) row.mode place (past_instruction row place s)))
+    ≡ Ok after → Follows s after
 executed_by row place s after true h room few near fits e = cc
 executed_by row place s after false h room few near fits e =
     let same : after_operation (operation_of row.mnemonic) row.mode place (past_instruction row place s) ≡ after = cc in
     rw same at (done_follows row place s h room few near fits)
 
-executed_follows : (row : Row) (s after : State) → IsState s → HasRoom s → row.cycles ≤ 7 → execution row s ≡ Ok after → Follows s after
+executed_follows : (row : Row) (s after : State) → IsState s → HasRoom s → row.cycles ≤ 7
+    → execution row s ≡ Ok after → Follows s after
 unfolding execution
 executed_follows row s after h room few e = executed_by row (effective_address s.bus s.regs row.mode) s after _ h room few (place_small s.bus s.regs row.mode h.bus) refl e
 
-attempted_follows : (row : Option Row) (s after : State) → IsState s → HasRoom s → row_at s.bus.map.profile (slice_index s.bus.memory s.regs.pc) ≡ row → attempt row s ≡ Ok after → Follows s after
+attempted_follows : (row : Option Row) (s after : State) → IsState s → HasRoom s
+    → row_at s.bus.map.profile (slice_index s.bus.memory s.regs.pc) ≡ row → attempt row s ≡ Ok after
+    → Follows s after
 unfolding attempt
 attempted_follows None s after h room is e = cc
 attempted_follows (Some row) s after h room is e =
@@ -83,7 +95,9 @@ abbrev forgotten : State → State
 forgotten s = record s { nmi = false }
 
 step_by : (s after : State) (full nmi irq : Bool) → IsState s → nat_lt most_cycles s.cycles ≡ full
-    → cond full (Err CyclesFull) (cond nmi (Ok (interrupt_entry (forgotten s) 0xFFFA)) (cond irq (Ok (interrupt_entry s 0xFFFE)) (attempt (row_at s.bus.map.profile (slice_index s.bus.memory s.regs.pc)) s))) ≡ Ok after
+    → cond full (Err CyclesFull)
+    (cond nmi (Ok (interrupt_entry (forgotten s) 0xFFFA)) (cond irq (Ok (interrupt_entry s 0xFFFE)) (attempt (row_at s.bus.map.profile (slice_index s.bus.memory s.regs.pc)) s)))
+    ≡ Ok after
     → Follows s after
 step_by s after true nmi irq h full e = cc
 step_by s after false true irq h full e =

@@ -43,7 +43,8 @@ two_digits b below =
     in_word : (n : ℕ) → n < 2 ^ 31 → in_range n ≡ Some (pos n)
     in_word n small = rw (lt-ltb n (2 ^ 31) small) refl
 
-pub four_digits : (w : ℕ) → w < 65536 → in_range (number_of_text (36 ∷ hex_address w)) ≡ Some (pos w)
+pub four_digits : (w : ℕ) → w < 65536
+    → in_range (number_of_text (36 ∷ hex_address w)) ≡ Some (pos w)
 four_digits w below =
     let h = (digit (w / 256 / 16) (omega (arith, below))).value in
     let i = (digit (w / 256 % 16) (omega arith)).value in
