@@ -175,7 +175,7 @@ fn assemble_lines(alloc: Global, source: &[u8], map: &MapSpec) -> Result<Assembl
     }
     let mut symbols = Symbols::new(alloc);
     let lines = lay_out(alloc, map.profile(), &mut symbols, source)?;
-    let image = make_image(alloc, map, &symbols, lines.kept())?;
+    let image = make_image(alloc, map, &symbols, lines.lines())?;
     // For the proof: what `cells` says of each image.
     let _ = image.cells();
     let spans = lines.into_spans();

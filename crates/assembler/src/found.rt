@@ -46,7 +46,7 @@ impl<'a> Lines<'a> {
     }
 
     /// Returns the lines that denote bytes.
-    pub fn kept(&self) -> &[KeptLine<'a>]
+    pub fn lines(&self) -> &[KeptLine<'a>]
         ensures { numbered_lines result.now ≡ (found_of self.now).kept }
     {
         &self.kept

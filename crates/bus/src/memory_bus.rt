@@ -16,7 +16,7 @@ ghost use Rattle.bus.specs.Memory.{zeros};
 ghost use Rattle.bus.specs.Pages.{AreSameBelow, Stores};
 
 use crate::pages::{Stamps, copy_pages, stamp_page};
-use crate::saved::Saved;
+use crate::saved_bus::SavedBus;
 use circular_buffer::HeapCircularBuffer;
 use memory_map::{Image, MapSpec};
 use model::{BusFault, Change, Profile};
@@ -68,7 +68,7 @@ impl Bus {
         ensures map { IfOk result (λ bus. bus.map ≡ map) }
         ensures only { IfErr result (λ fault. fault ≡ BusFault.OutOfMemory) }
     {
-        let Ok(memory) = zeroed(alloc, 65536) else {
+        let Ok(memory) = zeros(alloc, 65536) else {
             return Err(BusFault::OutOfMemory);
         };
         let Ok(given) = HeapCircularBuffer::with_capacity(alloc, 65536) else {
@@ -427,7 +427,7 @@ impl Bus {
     }
 
     /// Saves what leads back to this bus. Does not allocate.
-    pub fn save(&self, into: &mut Saved)
+    pub fn save(&self, into: &mut SavedBus)
         ensures { into.new ≡ saved_of self.now }
     {
         into.memory.copy_from_slice(&self.memory);
@@ -437,7 +437,7 @@ impl Bus {
 
     /// Saves the same, but copies only the pages whose stamp is at least `since`. In all other
     /// pages memory has to be what `into` holds. Does not allocate.
-    pub fn save_pages(&self, into: &mut Saved, stamps: &Stamps, since: u32)
+    pub fn save_pages(&self, into: &mut SavedBus, stamps: &Stamps, since: u32)
         requires { AreSameBelow since stamps.now into.old.memory self.now.memory }
         ensures { into.new ≡ saved_of self.now }
     {
@@ -448,7 +448,7 @@ impl Bus {
 
     /// Saves the rest, once memory and map are saved.
     #[tactic(auto, unfolding(model::specs::Checkpoint::saved_of))]
-    fn save_counts(&self, into: &mut Saved)
+    fn save_counts(&self, into: &mut SavedBus)
         requires memory { into.old.memory ≡ self.now.memory }
         requires map { into.old.map ≡ Some self.now.map }
         ensures { into.new ≡ saved_of self.now }
@@ -462,7 +462,7 @@ impl Bus {
     /// Puts back what was saved, and cuts both lists of the console to their old lengths. Does not
     /// allocate.
     #[tactic(auto, unfolding(model::specs::Checkpoint::bus_at))]
-    pub fn restore_saved(&mut self, old: &Saved)
+    pub fn restore_saved(&mut self, old: &SavedBus)
         requires { CanPutBack old.now self.old }
         ensures { self.new ≡ bus_at old.now self.old }
     {
@@ -618,7 +618,7 @@ fn noting(change: Change, address: u16, old: u8) -> Change
 
 /// Makes a memory of this size that is all 0.
 #[tactic(auto, unfolding(crate::specs::Memory::zeros))]
-fn zeroed(alloc: Global, size: usize) -> Result<Vec<u8>, AllocError>
+fn zeros(alloc: Global, size: usize) -> Result<Vec<u8>, AllocError>
     ensures zeros { IfOk result (λ memory. memory.items ≡ zeros size) }
     ensures len { IfOk result (λ memory. length memory.items ≡ size) }
     ensures clear { IfOk result (λ memory. (k : ℕ) → slice_index memory.items k ≡ 0) }

@@ -44,7 +44,7 @@ fn checked<H: Files + AllocGlobal>(rt: &H, words: &CheckWords<'_>) -> Result<Che
 }
 
 /// Writes a text and flushes it.
-fn written<O: Write>(output: &mut O, text: &[u8]) -> Result<(), Refusal> {
+fn write_text<O: Write>(output: &mut O, text: &[u8]) -> Result<(), Refusal> {
     match output.write_all(text) {
         Ok(()) => output.flush().map_err(|_| Refusal::Write),
         Err(_) => Err(Refusal::Write),
@@ -52,7 +52,7 @@ fn written<O: Write>(output: &mut O, text: &[u8]) -> Result<(), Refusal> {
 }
 
 /// Writes the fault line, and gives the exit status, also where it cannot be written.
-fn refused<E: Write>(refusal: Refusal, errors: &mut E) -> u8
+fn refuse<E: Write>(refusal: Refusal, errors: &mut E) -> u8
     ensures least { 2 ≤ result }
     ensures most { result ≤ 4 }
 {
@@ -107,14 +107,14 @@ pub fn check<H: Files + AllocGlobal, O: Write, E: Write>(
 {
     match read_words(rt.alloc(), words) {
         Ok(words) => match checked(rt, &words) {
-            Ok(checked) => match written(output, &checked.text) {
+            Ok(checked) => match write_text(output, &checked.text) {
                 Ok(()) => checked.is_faulty as u8,
                 Err(_) => {
                     let _ = writeln!(errors, "mos65: {}", Refusal::Write);
                     4
                 }
             },
-            Err(refusal) => refused(refusal, errors),
+            Err(refusal) => refuse(refusal, errors),
         },
         Err(fault) => refused_words(fault, output, errors),
     }

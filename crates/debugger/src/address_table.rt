@@ -42,7 +42,7 @@ impl AddressTable {
         ensures ok { IfOk result (λ marks. marks ≡ []) }
         ensures only { IfErr result (λ fault. fault ≡ SessionFault.OutOfMemory) }
     {
-        match zeroed(alloc) {
+        match zeros(alloc) {
             Ok(map) => Ok(AddressTable {
                 set: IndexSet::new(alloc),
                 map,
@@ -135,7 +135,7 @@ impl AddressTable {
 }
 
 /// Makes a byte of 0 for each address.
-fn zeroed(alloc: Global) -> Result<Vec<u8>, AllocError>
+fn zeros(alloc: Global) -> Result<Vec<u8>, AllocError>
     ensures len { IfOk result (λ map. length map.items ≡ 65536) }
 {
     vec![in alloc; 0u8; 65536]

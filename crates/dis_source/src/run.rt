@@ -39,7 +39,7 @@ fn text_of<H: Files + AllocGlobal>(rt: &H, words: &SourceWords<'_>) -> Result<Ve
 }
 
 /// Writes a text and flushes it.
-fn written<O: Write>(output: &mut O, text: &[u8]) -> Result<(), Refusal>
+fn write_text<O: Write>(output: &mut O, text: &[u8]) -> Result<(), Refusal>
     ensures { OnErr result (result ≡ Err Refusal.Write) }
 {
     match output.write_all(text) {
@@ -52,7 +52,7 @@ fn written<O: Write>(output: &mut O, text: &[u8]) -> Result<(), Refusal>
 }
 
 /// Says why no source is written, and gives the exit status.
-fn refused<E: Write>(refusal: Refusal, errors: &mut E) -> u8
+fn refuse<E: Write>(refusal: Refusal, errors: &mut E) -> u8
     ensures { result ≡ status_of refusal }
 {
     let _ = writeln!(errors, "mos65: {refusal}");
@@ -68,29 +68,29 @@ fn refused_words<O: Write, E: Write>(fault: WordsFault, output: &mut O, errors: 
     match fault {
         WordsFault::Help(text) => match write!(output, "{text}") {
             Ok(()) => 0,
-            Err(_) => refused(Refusal::Write, errors),
+            Err(_) => refuse(Refusal::Write, errors),
         },
         WordsFault::Usage(text) => {
             let _ = write!(errors, "{text}");
             2
         }
-        WordsFault::Value => refused(Refusal::Words, errors),
-        WordsFault::OutOfMemory => refused(Refusal::OutOfMemory, errors),
+        WordsFault::Value => refuse(Refusal::Words, errors),
+        WordsFault::OutOfMemory => refuse(Refusal::OutOfMemory, errors),
     }
 }
 
 /// Writes what was made, or says why there is nothing, and gives the exit status.
-fn ended<O: Write, E: Write>(text: Result<Vec<u8>, Refusal>, output: &mut O, errors: &mut E) -> u8
+fn finish<O: Write, E: Write>(text: Result<Vec<u8>, Refusal>, output: &mut O, errors: &mut E) -> u8
     ensures status { result ≤ 4 }
     ensures untouched { 1 ≤ result → result ≤ 3 → output.new ≡ output.old }
     ensures quiet { result ≡ 0 → errors.new ≡ errors.old }
 {
     match text {
-        Ok(text) => match written(output, text.as_slice()) {
+        Ok(text) => match write_text(output, text.as_slice()) {
             Ok(()) => 0,
-            Err(_) => refused(Refusal::Write, errors),
+            Err(_) => refuse(Refusal::Write, errors),
         },
-        Err(refusal) => refused(refusal, errors),
+        Err(refusal) => refuse(refusal, errors),
     }
 }
 
@@ -113,7 +113,7 @@ pub fn dis_source<H: Files + AllocGlobal, O: Write, E: Write>(
     ensures untouched { 1 ≤ result → result ≤ 3 → output.new ≡ output.old }
 {
     match read_source_words(rt.alloc(), words) {
-        Ok(words) => ended(text_of(rt, &words), output, errors),
+        Ok(words) => finish(text_of(rt, &words), output, errors),
         Err(fault) => refused_words(fault, output, errors),
     }
 }

@@ -6,7 +6,7 @@ use Rattle.model.specs.Value.{Numbers}
 use Rattle.model.specs.declared.source_fault.AsmFault.{AsmFault}
 use Rattle.model.specs.declared.source_fault.AsmFaultKind.{AsmFaultKind}
 use Rattle.law_sources.specs.Judging.{image_with_line}
-use Rattle.line_parts.specs.declared.kept.KeptLine.{KeptLine}
+use Rattle.line_parts.specs.declared.kept_line.KeptLine.{KeptLine}
 use Rattle.line_parts.specs.declared.fault.LineError.{LineError}
 use Rattle.line_parts.specs.declared.fault.LineError.TheVariants as errors
 use Rattle.line_parts.specs.LineFaults.{out_of_memory}

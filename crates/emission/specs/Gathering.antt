@@ -11,8 +11,8 @@ use Rattle.model.specs.declared.source_fault.AsmFaultKind.{AsmFaultKind}
 use Rattle.model.specs.declared.source_fault.AsmFaultKind.TheVariants.{WordRange}
 use Rattle.emission.specs.declared.emit.ByteOrder.{ByteOrder}
 use Rattle.emission.specs.declared.emit.ByteOrder.TheVariants.{LowFirst, HighFirst}
-use Rattle.emission.specs.declared.emit.Encoded.{Encoded}
-use Rattle.emission.specs.declared.emit.Encoded.TheVariants.{Nothing, Byte, Word}
+use Rattle.emission.specs.declared.emit.ExprBytes.{ExprBytes}
+use Rattle.emission.specs.declared.emit.ExprBytes.TheVariants.{Nothing, Byte, Word}
 use Rattle.line_parts.specs.declared.fault.LineError.{LineError}
 use Rattle.line_parts.specs.declared.fault.LineError.TheVariants as errors
 
@@ -33,13 +33,13 @@ abbrev pub word_piece_in : ByteOrder → Result ℤ ExprFault → BytesOrFault
 word_piece_in order r =
     within (negsuc 32767) (pos 65535) WordRange r >>> λ v. Ok (word_bytes_in order (modulo v 65536))
 
-abbrev pub encoded_bytes : Encoded → List ℕ
-encoded_bytes Nothing = []
-encoded_bytes (Byte b) = b ∷ []
-encoded_bytes (Word first second) = first ∷ second ∷ []
+abbrev pub expr_bytes : ExprBytes → List ℕ
+expr_bytes Nothing = []
+expr_bytes (Byte b) = b ∷ []
+expr_bytes (Word first second) = first ∷ second ∷ []
 
-abbrev pub piece_view : Result Encoded AsmFaultKind → BytesOrFault
-piece_view (Ok encoded) = Ok (encoded_bytes encoded)
+abbrev pub piece_view : Result ExprBytes AsmFaultKind → BytesOrFault
+piece_view (Ok encoded) = Ok (expr_bytes encoded)
 piece_view (Err kind) = Err kind
 
 -- A line's bytes so far, and the lowest kind of its faults so far.

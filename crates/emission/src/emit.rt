@@ -5,7 +5,7 @@ ghost use Rattle.std.specs.Prelude.{map, IfErr, IfOk, OnErr, OnOk, Ok, Some, Err
 ghost use Rattle.line_parts.specs.TermViews.{term_view};
 ghost use Rattle.emission.specs.Gathering.{Stores, with_piece, with_pieces, item_pieces, line_gathering};
 ghost use Rattle.emission.specs.Gathering.{with_fault_if, with_faults, nothing_gathered, with_fault};
-ghost use Rattle.emission.specs.Gathering.{encoded_bytes, piece_view, value_pieces, word_bytes_in};
+ghost use Rattle.emission.specs.Gathering.{expr_bytes, piece_view, value_pieces, word_bytes_in};
 ghost use Rattle.emission.specs.Gathering.{word_piece_in};
 ghost use Rattle.line_parts.specs.KeptLines.{placed_line_of};
 ghost use Rattle.line_parts.specs.LineViews.{Gives, statement_view, item_view};
@@ -32,7 +32,7 @@ use symbols::Symbols;
 
 /// The bytes of one expression.
 #[derive(Clone, Copy, Debug, PartialEq, Eq)]
-pub enum Encoded {
+pub enum ExprBytes {
     Nothing,
     Byte(u8),
     /// The first byte and the second.
@@ -80,27 +80,27 @@ fn within(
 }
 
 /// Encodes a number modulo 256 as one byte.
-fn byte_of(number: i32) -> Encoded
-    ensures { encoded_bytes result ≡ modulo number 256 ∷ [] }
+fn byte_of(number: i32) -> ExprBytes
+    ensures { expr_bytes result ≡ modulo number 256 ∷ [] }
 {
-    Encoded::Byte(number.rem_euclid(256) as u8)
+    ExprBytes::Byte(number.rem_euclid(256) as u8)
 }
 
 /// Encodes a number modulo 65536, its bytes in this order.
-fn word_of(number: i32, order: ByteOrder) -> Encoded
-    ensures { encoded_bytes result ≡ word_bytes_in order (modulo number 65536) }
+fn word_of(number: i32, order: ByteOrder) -> ExprBytes
+    ensures { expr_bytes result ≡ word_bytes_in order (modulo number 65536) }
 {
     let word = number.rem_euclid(65536) as u16;
     let (low, high) = ((word % 256) as u8, (word / 256) as u8);
     match order {
-        ByteOrder::LowFirst => Encoded::Word(low, high),
-        ByteOrder::HighFirst => Encoded::Word(high, low),
+        ByteOrder::LowFirst => ExprBytes::Word(low, high),
+        ByteOrder::HighFirst => ExprBytes::Word(high, low),
     }
 }
 
 /// Encodes one byte: -128..255.
 #[tactic(auto, unfolding(model::specs::Bytes::byte_piece))]
-fn byte(value: Result<i32, ExprFault>) -> Result<Encoded, AsmFaultKind>
+fn byte(value: Result<i32, ExprFault>) -> Result<ExprBytes, AsmFaultKind>
     ensures { piece_view result ≡ byte_piece value }
 {
     let number = within(value, -128, 255, AsmFaultKind::ByteRange)?;
@@ -109,7 +109,7 @@ fn byte(value: Result<i32, ExprFault>) -> Result<Encoded, AsmFaultKind>
 
 /// Encodes an address in the zero page: 0..255.
 #[tactic(auto, unfolding(model::specs::Bytes::zero_page_piece))]
-fn zero_page(value: Result<i32, ExprFault>) -> Result<Encoded, AsmFaultKind>
+fn zero_page(value: Result<i32, ExprFault>) -> Result<ExprBytes, AsmFaultKind>
     ensures { piece_view result ≡ zero_page_piece value }
 {
     let number = within(value, 0, 255, AsmFaultKind::ByteRange)?;
@@ -117,7 +117,7 @@ fn zero_page(value: Result<i32, ExprFault>) -> Result<Encoded, AsmFaultKind>
 }
 
 /// Encodes two bytes in this order: -32768..65535.
-fn word(value: Result<i32, ExprFault>, order: ByteOrder) -> Result<Encoded, AsmFaultKind>
+fn word(value: Result<i32, ExprFault>, order: ByteOrder) -> Result<ExprBytes, AsmFaultKind>
     ensures { piece_view result ≡ word_piece_in order value }
 {
     let number = within(value, -32768, 65535, AsmFaultKind::WordRange)?;
@@ -126,7 +126,7 @@ fn word(value: Result<i32, ExprFault>, order: ByteOrder) -> Result<Encoded, AsmF
 
 /// Encodes an address: 0..65535.
 #[tactic(auto, unfolding(model::specs::Bytes::address_piece))]
-fn address(value: Result<i32, ExprFault>) -> Result<Encoded, AsmFaultKind>
+fn address(value: Result<i32, ExprFault>) -> Result<ExprBytes, AsmFaultKind>
     ensures { piece_view result ≡ address_piece value }
 {
     let number = within(value, 0, 65535, AsmFaultKind::WordRange)?;
@@ -134,11 +134,11 @@ fn address(value: Result<i32, ExprFault>) -> Result<Encoded, AsmFaultKind>
 }
 
 /// Encodes a branch's distance modulo 65536, if it is -128..127.
-fn distance(distance: u32) -> Result<Encoded, AsmFaultKind>
+fn distance(distance: u32) -> Result<ExprBytes, AsmFaultKind>
     ensures { piece_view result ≡ distance_piece distance }
 {
     if (distance <= 127) | (65408 <= distance) {
-        Ok(Encoded::Byte((distance % 256) as u8))
+        Ok(ExprBytes::Byte((distance % 256) as u8))
     } else {
         Err(AsmFaultKind::BranchRange)
     }
@@ -146,7 +146,7 @@ fn distance(distance: u32) -> Result<Encoded, AsmFaultKind>
 
 /// Encodes the distance of a branch at an address to its target.
 #[tactic(auto, unfolding(model::specs::Bytes::branch_piece))]
-fn branch(here: u32, value: Result<i32, ExprFault>) -> Result<Encoded, AsmFaultKind>
+fn branch(here: u32, value: Result<i32, ExprFault>) -> Result<ExprBytes, AsmFaultKind>
     requires { here < 2 ^ 31 - 510 }
     ensures { piece_view result ≡ branch_piece here value }
 {
@@ -157,13 +157,13 @@ fn branch(here: u32, value: Result<i32, ExprFault>) -> Result<Encoded, AsmFaultK
 
 /// Encodes what comes after an opcode at an address.
 #[tactic(auto, unfolding(model::specs::Bytes::operand_piece))]
-fn operand(here: u32, mode: Mode, value: Result<i32, ExprFault>) -> Result<Encoded, AsmFaultKind>
+fn operand(here: u32, mode: Mode, value: Result<i32, ExprFault>) -> Result<ExprBytes, AsmFaultKind>
     requires { here < 2 ^ 31 - 510 }
     ensures { piece_view result ≡ operand_piece here mode value }
 {
     match mode {
-        Mode::Imp => Ok(Encoded::Nothing),
-        Mode::Acc => Ok(Encoded::Nothing),
+        Mode::Imp => Ok(ExprBytes::Nothing),
+        Mode::Acc => Ok(ExprBytes::Nothing),
         Mode::Imm => byte(value),
         Mode::Zp => zero_page(value),
         Mode::ZpX => zero_page(value),
@@ -201,12 +201,12 @@ fn lower(first: Option<AsmFaultKind>, second: Option<AsmFaultKind>) -> Option<As
 
 /// A line's bytes so far, and the lowest kind of its faults so far.
 #[derive(Drop)]
-pub struct Gathered {
+pub struct LineBytes {
     bytes: Vec<u8>,
     kind: Option<AsmFaultKind>,
 }
 
-impl Model for Gathered {
+impl Model for LineBytes {
     ghost use Rattle.emission.specs.Gathering.{Gathering};
 
     ghost Value = { Gathering };
@@ -214,12 +214,12 @@ impl Model for Gathered {
     ghost view = { λ g. record { bytes = g.bytes.items; kind = g.kind } };
 }
 
-impl Gathered {
+impl LineBytes {
     /// Makes an empty one.
-    pub fn new(alloc: Global) -> Gathered
+    pub fn new(alloc: Global) -> LineBytes
         ensures { result ≡ nothing_gathered }
     {
-        Gathered {
+        LineBytes {
             bytes: Vec::new(alloc),
             kind: None,
         }
@@ -272,13 +272,13 @@ impl Gathered {
     }
 
     /// Appends bytes.
-    fn push(&mut self, encoded: Encoded) -> Result<(), AllocError>
-        ensures { OnOk result (self.new ≡ with_piece self.old (Ok (encoded_bytes encoded))) }
+    fn push(&mut self, encoded: ExprBytes) -> Result<(), AllocError>
+        ensures { OnOk result (self.new ≡ with_piece self.old (Ok (expr_bytes encoded))) }
     {
         match encoded {
-            Encoded::Nothing => {}
-            Encoded::Byte(byte) => self.bytes.push(byte)?,
-            Encoded::Word(first, second) => {
+            ExprBytes::Nothing => {}
+            ExprBytes::Byte(byte) => self.bytes.push(byte)?,
+            ExprBytes::Word(first, second) => {
                 self.bytes.push(first)?;
                 self.bytes.push(second)?;
             }
@@ -287,7 +287,7 @@ impl Gathered {
     }
 
     /// Appends bytes, or notes a fault.
-    fn add(&mut self, piece: Result<Encoded, AsmFaultKind>) -> Result<(), AllocError>
+    fn add(&mut self, piece: Result<ExprBytes, AsmFaultKind>) -> Result<(), AllocError>
         ensures { OnOk result (self.new ≡ with_piece self.old (piece_view piece)) }
     {
         match piece {
@@ -396,7 +396,7 @@ impl Gathered {
             }
             Statement::Instruction(_, operand) => match code {
                 Some(code) => {
-                    self.push(Encoded::Byte(code.opcode))?;
+                    self.push(ExprBytes::Byte(code.opcode))?;
                     self.add_operand(names, here, code.mode, term_of(operand))
                 }
                 None => Ok(()),
@@ -446,7 +446,7 @@ fn has_port(map: &MapSpec, address: u32, count: u32) -> bool
 
 /// Notes what is wrong with where bytes go, after what is wrong with the bytes.
 #[tactic(auto, unfolding(model::specs::Bytes::place_kinds))]
-fn judge_place(gathered: &mut Gathered, map: &MapSpec, image: &Image, address: u32, count: u32)
+fn judge_place(gathered: &mut LineBytes, map: &MapSpec, image: &Image, address: u32, count: u32)
     requires { address + count < 2 ^ 32 }
     ensures { gathered.new ≡ with_faults gathered.old
         (place_kinds map.now image.now address count) }
@@ -469,7 +469,7 @@ fn store(image: &mut Image, address: u32, bytes: &[u8])
 
 /// Gathers the bytes of a line, and the lowest kind of all its value faults.
 fn gather(
-    gathered: &mut Gathered,
+    gathered: &mut LineBytes,
     map: &MapSpec,
     image: &Image,
     names: &Symbols,
@@ -493,14 +493,14 @@ fn gather_alone(
     code: Option<Code>,
     count: u32,
     statement: &Statement<'_>,
-) -> Result<Gathered, AllocError>
+) -> Result<LineBytes, AllocError>
     requires near { address < 2 ^ 31 - 510 }
     requires small { count ≤ 510 }
     ensures { IfOk result (λ g. g ≡ with_fault_if (with_pieces nothing_gathered
         (pieces_of no_numbers address (content_by code (statement_view statement.now))))
         (kind_if (nat_lt 65536 (address + count)) PastEnd)) }
 {
-    let mut gathered = Gathered::new(alloc);
+    let mut gathered = LineBytes::new(alloc);
     gathered.add_statement(&Symbols::new(alloc), address, code, statement)?;
     gathered.refuse_if(65536 < address + count, AsmFaultKind::PastEnd);
     Ok(gathered)
@@ -537,7 +537,7 @@ pub fn bytes_alone(
 ///
 /// Errors: `AllocError` if an allocation fails.
 pub fn value_fault(
-    gathered: &mut Gathered,
+    gathered: &mut LineBytes,
     map: &MapSpec,
     image: &Image,
     names: &Symbols,
@@ -554,7 +554,7 @@ pub fn value_fault(
 /// Puts the bytes of a line into an image. If the line has a value fault, returns that fault and
 /// leaves the image as it was.
 pub fn put_line(
-    gathered: &mut Gathered,
+    gathered: &mut LineBytes,
     map: &MapSpec,
     image: &mut Image,
     names: &Symbols,

@@ -8,5 +8,5 @@
 mod emit;
 mod second_pass;
 
-pub use emit::{Gathered, bytes_alone, put_line, value_fault};
+pub use emit::{LineBytes, bytes_alone, put_line, value_fault};
 pub use second_pass::make_image;

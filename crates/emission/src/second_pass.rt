@@ -8,7 +8,7 @@ ghost use Rattle.model.specs.Names.{number_in};
 ghost use Rattle.model.specs.Image.{empty_image};
 ghost use Rattle.model.specs.State.{has_port_byte};
 
-use crate::emit::{Gathered, put_line};
+use crate::emit::{LineBytes, put_line};
 use line_parts::{KeptLine, OUT_OF_MEMORY, fault_on_line};
 use memory_map::{Image, MapSpec};
 use model::AsmFault;
@@ -38,7 +38,7 @@ pub fn make_image(
     ensures spared { IfOk result (λ image. has_port_byte map.now image ≡ false) }
 {
     let mut image = no_bytes(alloc)?;
-    let mut gathered = Gathered::new(alloc);
+    let mut gathered = LineBytes::new(alloc);
     for line in kept {
         match put_line(&mut gathered, map, &mut image, names, line) {
             Ok(()) => {}

@@ -2,7 +2,7 @@
 use Rattle.std.specs.Prelude.{ℕ, List, map}
 use Rattle.line_parts.specs.Contents.{content_by}
 use Rattle.line_parts.specs.LineViews.{statement_view}
-use Rattle.line_parts.specs.declared.kept.KeptLine.{KeptLine}
+use Rattle.line_parts.specs.declared.kept_line.KeptLine.{KeptLine}
 use Rattle.model.specs.Layout.{PlacedLine}
 
 -- A line in its place, with its number.

@@ -7,7 +7,7 @@
 
 mod code;
 mod fault;
-mod kept;
+mod kept_line;
 mod refusal;
 mod statement;
 mod token;
@@ -15,7 +15,7 @@ mod tree;
 
 pub use code::Code;
 pub use fault::LineError;
-pub use kept::KeptLine;
+pub use kept_line::KeptLine;
 pub use refusal::{OUT_OF_MEMORY, fault_on_line};
 pub use statement::{Item, Line, Operand, Statement, term_of};
 pub use token::Token;

@@ -93,14 +93,14 @@ fn sum<'a, 't>(
         let Some((op, right, after)) = next(alloc, rest, depth)? else {
             return Ok(Some((left, rest)));
         };
-        left = joined(alloc, op, left, right)?;
+        left = join(alloc, op, left, right)?;
         rest = after;
     }
     Ok(Some((left, rest)))
 }
 
 /// An operator between two expressions.
-fn joined<'a>(
+fn join<'a>(
     alloc: Global,
     op: Operator,
     left: Expr<'a>,

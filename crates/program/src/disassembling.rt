@@ -65,7 +65,7 @@ pub fn dis_text<T: Read>(
 }
 
 /// Writes a text and flushes it.
-fn written<O: Write>(output: &mut O, text: &[u8]) -> Result<(), Refusal>
+fn write_text<O: Write>(output: &mut O, text: &[u8]) -> Result<(), Refusal>
     ensures writes { Writes (O.contents output.old) (O.contents output.new) text.now result }
     ensures only { OnErr result (result ≡ Err Refusal.Write) }
 {
@@ -102,5 +102,5 @@ pub fn dis<H: Files + AllocGlobal, O: Write>(
         )?
     };
     let rows = text.as_slice();
-    written(output, rows)
+    write_text(output, rows)
 }

@@ -26,7 +26,7 @@ use std::io::{ErrorKind, Read, Write};
 use std::rt::Files;
 
 /// Writes the fault line, and returns the exit status, even if the line cannot be written.
-fn refused<E: Write>(refusal: Refusal, errors: &mut E) -> u8
+fn refuse<E: Write>(refusal: Refusal, errors: &mut E) -> u8
     ensures { result ≡ status_of refusal }
 {
     let _ = writeln!(errors, "mos65: {refusal}");
@@ -34,13 +34,13 @@ fn refused<E: Write>(refusal: Refusal, errors: &mut E) -> u8
 }
 
 /// Returns the exit status of what was tried: 0 if it is done; otherwise a fault line is written.
-fn ended<E: Write>(outcome: Result<(), Refusal>, errors: &mut E) -> u8
+fn finish<E: Write>(outcome: Result<(), Refusal>, errors: &mut E) -> u8
     ensures status { MatchResult outcome (λ _. result ≡ 0) (λ refusal. result ≡ status_of refusal) }
     ensures quiet { result ≡ 0 → errors.new ≡ errors.old }
 {
     match outcome {
         Ok(()) => 0,
-        Err(refusal) => refused(refusal, errors),
+        Err(refusal) => refuse(refusal, errors),
     }
 }
 
@@ -53,14 +53,14 @@ fn refused_words<O: Write, E: Write>(fault: WordsFault, output: &mut O, errors: 
     match fault {
         WordsFault::Help(text) => match write!(output, "{text}") {
             Ok(()) => 0,
-            Err(_) => refused(Refusal::Write, errors),
+            Err(_) => refuse(Refusal::Write, errors),
         },
         WordsFault::Usage(text) => {
             let _ = write!(errors, "{text}");
             2
         }
-        WordsFault::Value => refused(Refusal::Words, errors),
-        WordsFault::OutOfMemory => refused(Refusal::OutOfMemory, errors),
+        WordsFault::Value => refuse(Refusal::Words, errors),
+        WordsFault::OutOfMemory => refuse(Refusal::OutOfMemory, errors),
     }
 }
 
@@ -72,8 +72,8 @@ pub fn unreadable_words<E: Write>(error: &io::Error, errors: &mut E) -> u8
     ensures other { ¬ (error_kind error.now ≡ ErrorKind.OutOfMemory) → result ≡ 2 }
 {
     match error.kind() {
-        ErrorKind::OutOfMemory => refused(Refusal::OutOfMemory, errors),
-        _ => refused(Refusal::Words, errors),
+        ErrorKind::OutOfMemory => refuse(Refusal::OutOfMemory, errors),
+        _ => refuse(Refusal::Words, errors),
     }
 }
 
@@ -158,9 +158,9 @@ pub fn program<H: Files + AllocGlobal, R: Read, O: Write, E: Write>(
         given).written) }
 {
     match read_words(rt.alloc(), words) {
-        Ok(Words::Asm(words)) => ended(asm(rt, &words), errors),
-        Ok(Words::Dis(words)) => ended(dis(rt, &words, output), errors),
-        Ok(Words::Debug(words)) => ended(debug(rt, &words, input, output), errors),
+        Ok(Words::Asm(words)) => finish(asm(rt, &words), errors),
+        Ok(Words::Dis(words)) => finish(dis(rt, &words, output), errors),
+        Ok(Words::Debug(words)) => finish(debug(rt, &words, input, output), errors),
         Err(fault) => refused_words(fault, output, errors),
     }
 }

@@ -10,7 +10,7 @@ ghost use Rattle.source_faults.specs.Seen.{seen_made};
 
 use crate::found::Found;
 use bus::{Image, MapSpec};
-use emission::{Gathered, put_line, value_fault};
+use emission::{LineBytes, put_line, value_fault};
 use line_parts::{KeptLine, LineError};
 use model::AsmFaultKind;
 use std::alloc::{AllocError, Global};
@@ -52,7 +52,7 @@ pub fn but_of_place(kind: Option<AsmFaultKind>) -> Option<AsmFaultKind>
 /// The value fault of a line that denotes bytes; without one its bytes are put, unless it could be
 /// moved.
 fn judge_kept(
-    gathered: &mut Gathered,
+    gathered: &mut LineBytes,
     map: &MapSpec,
     names: &Symbols,
     image: &mut Image,
@@ -79,7 +79,7 @@ fn judge_kept(
 
 /// A line that was found, judged after the lines before it.
 fn judge_found(
-    gathered: &mut Gathered,
+    gathered: &mut LineBytes,
     map: &MapSpec,
     names: &Symbols,
     made: &mut Made,
@@ -151,7 +151,7 @@ pub fn judge(
     ensures few { IfOk result (λ judged. length judged.items ≡ length found.now) }
 {
     let mut made = nothing_made(alloc)?;
-    let mut gathered = Gathered::new(alloc);
+    let mut gathered = LineBytes::new(alloc);
     let mut judged = Vec::new(alloc);
     for line in found {
         let one = judge_found(&mut gathered, map, names, &mut made, line)?;

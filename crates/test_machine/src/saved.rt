@@ -1,7 +1,7 @@
 //! Tables that are full, and what a machine and a bus save.
 
 use crate::common::{empty_machine, empty_session, port_alone};
-use bus::{Bus, BusFault, Saved};
+use bus::{Bus, BusFault, SavedBus};
 use cpu::{Checkpoint, Machine, Setting};
 use debugger::{Session, SessionFault};
 use std::test::Fail;
@@ -72,7 +72,7 @@ fn restores_a_machine(rt: HostRuntime) -> Result<(), Fail> {
 
 /// What stands at an address where a byte was put, and where what was saved before is put back.
 #[tactic(auto, unfolding(model::specs::Checkpoint::saved_of, model::specs::State::bus_with_byte))]
-fn saved_bus(bus: &mut Bus, into: &mut Saved, address: u16) -> Result<(u8, u8), BusFault> {
+fn saved_bus(bus: &mut Bus, into: &mut SavedBus, address: u16) -> Result<(u8, u8), BusFault> {
     bus.save(into);
     bus.poke(address, 0x55)?;
     let put = bus.peek(address);
@@ -83,7 +83,7 @@ fn saved_bus(bus: &mut Bus, into: &mut Saved, address: u16) -> Result<(u8, u8), 
 #[test]
 fn restores_a_bus(rt: HostRuntime) -> Result<(), Fail> {
     let mut bus = Bus::new(rt.alloc(), port_alone()?)?;
-    let mut saved = Saved::new(rt.alloc())?;
+    let mut saved = SavedBus::new(rt.alloc())?;
     assert_eq!(rt; saved_bus(&mut bus, &mut saved, 0x0200), Ok((0x55, 0x00)));
     assert_eq!(rt;
         saved_bus(&mut bus, &mut saved, 0xf000),

@@ -19,11 +19,11 @@ returns-in_err-image-clause-exact c =
     let small : length c.args.source.now ≤ most_bytes = omega (arith, c.if-source-gt-SOURCE_SIZE.false) in
     let all : Context = record { profile = c.args.map.now.profile; address = c.in_ok-lines.ensures.0; names = c.lay_out.new.symbols } in
     passed_on _ c.from_residual-in_err-image.result c.in_err-image.field-0.0 c.from_residual-in_err-image.ensures.1
-    (value_answer c.args.map.now c.args.source.now (found_of c.in_ok-lines.lines) all c.in_err-image.field-0.0 small (rw c.profile.ensures at c.in_ok-lines.ensures.1) (rw c.kept.ensures at c.in_err-image.ensures.exact))
+    (value_answer c.args.map.now c.args.source.now (found_of c.in_ok-lines.lines) all c.in_err-image.field-0.0 small (rw c.profile.ensures at c.in_ok-lines.ensures.1) (rw c.lines.ensures at c.in_err-image.ensures.exact))
 
 pub returns-clause-exact : goal.returns-clause-exact
 returns-clause-exact c =
     let small : length c.args.source.now ≤ most_bytes = omega (arith, c.if-source-gt-SOURCE_SIZE.false) in
     let all : Context = record { profile = c.args.map.now.profile; address = c.in_ok-lines.ensures.0; names = c.lay_out.new.symbols } in
     rw c.into_spans-spans.ensures
-    (verdict_right c.args.map.now c.args.source.now (found_of c.in_ok-lines.lines) all c.in_ok-image.image small (rw c.profile.ensures at c.in_ok-lines.ensures.1) (rw c.kept.ensures at c.in_ok-image.ensures.exact))
+    (verdict_right c.args.map.now c.args.source.now (found_of c.in_ok-lines.lines) all c.in_ok-image.image small (rw c.profile.ensures at c.in_ok-lines.ensures.1) (rw c.lines.ensures at c.in_ok-image.ensures.exact))

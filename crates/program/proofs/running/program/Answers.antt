@@ -22,4 +22,4 @@ returns-in-Err-clause-listed g c d h taken =
 pub returns-in-Ok-Debug-clause-served : goal.returns-in-Ok-Debug-clause-served
 returns-in-Ok-Debug-clause-served g c zero d h taken =
     let same = one_debug _ (debug_view c.in-Ok-Debug.words) d (rw c.in-Ok-Debug.field-0-is at c.in-Ok-Debug.ensures.asked) h in
-    ended_served (debug_view c.in-Ok-Debug.words) d _ _ _ _ _ c.debug.result c.ended-in-Ok-Debug.result same c.debug.ensures.served c.ended-in-Ok-Debug.ensures.status zero
+    ended_served (debug_view c.in-Ok-Debug.words) d _ _ _ _ _ c.debug.result c.finish-in-Ok-Debug.result same c.debug.ensures.served c.finish-in-Ok-Debug.ensures.status zero

@@ -1,5 +1,5 @@
 use Rattle.emission.specs.Gathering.{with_pieces}
-use Rattle.emission.proofs.emit.Gathered.add_operand.Goals as goal
+use Rattle.emission.proofs.emit.LineBytes.add_operand.Goals as goal
 
 pub returns-in-Some : goal.returns-in-Some
 unfolding with_pieces

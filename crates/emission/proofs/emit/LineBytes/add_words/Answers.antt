@@ -6,7 +6,7 @@ use Rattle.model.specs.Value.{eval_of}
 use Rattle.model.specs.declared.expression.ExprFault.{ExprFault}
 use Rattle.emission.specs.Gathering.{piece_view, word_piece_in}
 use Rattle.emission.proofs.Gathers.{gathered_step, gathered_end}
-use Rattle.emission.proofs.emit.Gathered.add_words.Goals as goal
+use Rattle.emission.proofs.emit.LineBytes.add_words.Goals as goal
 
 pub loop-value-preserved : goal.loop-value-preserved
 loop-value-preserved c =

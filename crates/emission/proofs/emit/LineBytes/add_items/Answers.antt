@@ -4,7 +4,7 @@ use Rattle.model.specs.Bytes.{item_piece}
 use Rattle.model.specs.SourceLine.{Item}
 use Rattle.model.specs.Names.{number_in}
 use Rattle.emission.proofs.Gathers.{gathered_step, gathered_end}
-use Rattle.emission.proofs.emit.Gathered.add_items.Goals as goal
+use Rattle.emission.proofs.emit.LineBytes.add_items.Goals as goal
 
 pub loop-item-preserved : goal.loop-item-preserved
 loop-item-preserved c =
