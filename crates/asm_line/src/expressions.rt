@@ -4,7 +4,7 @@ ghost use Rattle.std.specs.Prelude.{◌≡◌, ◌<◌, ◌≤◌, ◌-◌, IfOk
 ghost use Rattle.std.specs.Prelude.{drop};
 ghost use Rattle.std.specs.Prelude.{length, map, take, true};
 ghost use Rattle.model.specs.Expression.{Term};
-ghost use Rattle.model.specs.SourceLine.{Item as SeenItem, item_of, list_within, whole_expression};
+ghost use Rattle.model.specs.SourceLine.{Item as ItemView, item_of, list_within, whole_expression};
 ghost use Rattle.model.specs.Token.{Lexeme};
 ghost use Rattle.model.specs.Reading.{expression_of};
 ghost use Rattle.line_parts.specs.Lexemes.{lexemes};
@@ -67,24 +67,24 @@ fn inside(text: &[u8]) -> &[u8]
 /// What stands between the commas of a list.
 pub trait Element<'a>: Sized + Drop {
     /// What clauses see of an element.
-    ghost Seen: { Type 0 };
+    ghost View: { Type 0 };
 
-    ghost seen_as: { Self → Seen };
+    ghost view_as: { Self → View };
     /// The element with which tokens begin, and the tokens after it.
-    ghost element_of: { List Lexeme → Option (Seen × List Lexeme) };
+    ghost element_of: { List Lexeme → Option (View × List Lexeme) };
 
     /// Returns the element with which some tokens begin, and its number of tokens.
     fn read(alloc: Global, tokens: &[Token<'a>]) -> Result<(Self, usize), LineFault>
         ensures found { IfOk result (λ p. element_of (lexemes tokens.now)
-            ≡ Some (seen_as p.0, drop p.1 (lexemes tokens.now))) }
+            ≡ Some (view_as p.0, drop p.1 (lexemes tokens.now))) }
         ensures within { IfOk result (λ p. p.1 ≤ length tokens.now) }
         ensures syntax { IfErr result (λ f. f ≡ Syntax → element_of (lexemes tokens.now) ≡ None) };
 }
 
 impl<'a> Element<'a> for Expr<'a> {
-    ghost Seen = { Term };
+    ghost View = { Term };
 
-    ghost seen_as = { term_view };
+    ghost view_as = { term_view };
 
     ghost element_of = { expression_of };
 
@@ -94,9 +94,9 @@ impl<'a> Element<'a> for Expr<'a> {
 }
 
 impl<'a> Element<'a> for Item<'a> {
-    ghost Seen = { SeenItem };
+    ghost View = { ItemView };
 
-    ghost seen_as = { item_view };
+    ghost view_as = { item_view };
 
     ghost element_of = { item_of };
 
@@ -120,7 +120,7 @@ impl<'a> Element<'a> for Item<'a> {
 
 /// Returns the elements, separated by commas, that some tokens are.
 pub fn list<'a, T: Element<'a>>(alloc: Global, tokens: &[Token<'a>]) -> Result<Vec<T>, LineFault>
-    ensures { Reads (λ found. map T.seen_as found.items) result
+    ensures { Reads (λ found. map T.view_as found.items) result
         (list_within T.element_of (length tokens.now) (lexemes tokens.now)) }
 {
     let mut found = Vec::new(alloc);

@@ -40,12 +40,12 @@ pub struct Session {
 
 impl Model for Session {
     ghost use Rattle.std.specs.Prelude.{◌<◌, ◌%◌, length};
-    ghost use Rattle.model.specs.Session.{Session as Seen};
+    ghost use Rattle.model.specs.Session.{Session as SessionView};
     ghost use Rattle.debugger.specs.Pages.{TellsPages};
     ghost use Rattle.debugger.specs.Replay.{IsHistory, held_states};
     ghost use Rattle.debugger.specs.Trail.{HasRoom};
 
-    ghost Value = { Seen };
+    ghost Value = { SessionView };
 
     ghost view = { λ s. record {
       earlier = held_states s.trail.held s.trail.kept.items s.trail.events.items s.machine;

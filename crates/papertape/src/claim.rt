@@ -37,6 +37,7 @@ impl Model for Claim {
     } };
 }
 
+/// Returns whether a byte is a hex digit, of either case.
 pub fn is_hex_digit(byte: u8) -> bool
     ensures { result ≡ is_hex_byte byte }
 {

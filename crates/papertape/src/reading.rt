@@ -21,6 +21,7 @@ pub enum Place {
     After,
 }
 
+/// Returns whether a byte is skipped between records: NUL, carriage return, line feed or X-OFF.
 pub fn is_skipped(byte: u8) -> bool
     ensures { result ≡ is_skipped byte }
 {
@@ -174,6 +175,7 @@ impl Reading {
         }
     }
 
+    /// Begins to read a tape into an image.
     pub fn new(image: Image) -> Reading
         ensures { result ≡ record start { cells = image } }
     {
@@ -187,6 +189,7 @@ impl Reading {
         }
     }
 
+    /// Returns the image, or the fault of a tape that ends here.
     #[tactic(auto, unfolding(crate::specs::Reading::result_at))]
     pub fn finish(self, offset: u64) -> Result<Image, TapeFault>
         ensures { result_at offset self ≡ result }

@@ -1,7 +1,7 @@
 //! A place for an assembly.
 
 ghost use Rattle.std.specs.Prelude.{Option};
-ghost use Rattle.assembler.specs.Assembly.{AssemblyView as Seen};
+ghost use Rattle.assembler.specs.Assembly.{AssemblyView};
 
 use std::alloc::Global;
 use std::marker::Model;
@@ -15,7 +15,7 @@ pub mod made;
 pub struct AssemblySlot {
     pub(crate) at: *mut u8,
     pub(crate) alloc: Global,
-    pub ghost assembly: { Option Seen },
+    pub ghost assembly: { Option AssemblyView },
 }
 
 impl Model for AssemblySlot {

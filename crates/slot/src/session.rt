@@ -1,7 +1,7 @@
 //! A place for a session.
 
 ghost use Rattle.std.specs.Prelude.{Option};
-ghost use Rattle.model.specs.Session.{Session as Seen};
+ghost use Rattle.model.specs.Session.{Session as SessionView};
 
 use std::alloc::Global;
 use std::marker::Model;
@@ -15,7 +15,7 @@ pub mod made;
 pub struct SessionSlot {
     pub(crate) at: *mut u8,
     pub(crate) alloc: Global,
-    pub ghost session: { Option Seen },
+    pub ghost session: { Option SessionView },
 }
 
 impl Model for SessionSlot {

@@ -10,7 +10,7 @@ use Rattle.model.specs.Layout.{Context, layout_of}
 use Rattle.model.specs.Names.{Definitions}
 use Rattle.model.specs.Source.{is_end, up_to_end, first_context, read_lines}
 use Rattle.source_faults.specs.declared.found.Found.{Found}
-use Rattle.source_faults.specs.Seen.{found_all, seen_found}
+use Rattle.source_faults.specs.Views.{found_all, found_view}
 
 -- the lines that are still to be read
 abbrev pub lines_left : Profile → List ℕ → List (List ℕ)
@@ -20,9 +20,9 @@ no_lines : (text : List ℕ) → length text ≡ 0 → lines_of text ≡ []
 unfolding lines_from
 no_lines text empty = rw (nil_from_length text empty) refl
 
-snoc : (fs : List Found) (f : Found) (rest : List all.Found) → found_all (fs ++ f ∷ []) ++ rest ≡ found_all fs ++ seen_found f ∷ rest
+snoc : (fs : List Found) (f : Found) (rest : List all.Found) → found_all (fs ++ f ∷ []) ++ rest ≡ found_all fs ++ found_view f ∷ rest
 snoc [] f rest = refl
-snoc (x ∷ xs) f rest = ap (λ (y : List all.Found). seen_found x ∷ y) (snoc xs f rest)
+snoc (x ∷ xs) f rest = ap (λ (y : List all.Found). found_view x ∷ y) (snoc xs f rest)
 
 nothing_after : (fs : List all.Found) → fs ++ [] ≡ fs
 nothing_after [] = refl
@@ -31,7 +31,7 @@ nothing_after (f ∷ fs) = ap (λ (y : List all.Found). f ∷ y) (nothing_after 
 -- a line that others follow
 pub goes_on : (m : all.Mending) (profile : Profile) (before next : Context) (fs : List Found) (f : Found) (rest text behind : List ℕ) (total : List all.Found)
     → lines_of rest ≡ text ∷ lines_of behind → is_end (read_line profile text) ≡ false
-    → seen_found f ≡ found_line before text (layout_of before text) → fixed_after m before text (layout_of before text) ≡ next
+    → found_view f ≡ found_line before text (layout_of before text) → fixed_after m before text (layout_of before text) ≡ next
     → found_all fs ++ found_lines m before (lines_left profile rest) ≡ total → found_all (fs ++ f ∷ []) ++ found_lines m next (lines_left profile behind) ≡ total
 goes_on m profile before next fs f rest text behind total cut more is after so_far =
     snoc fs f (found_lines m next (lines_left profile behind)) ∙ sym (rw (cut, more, after, ← is) refl) ∙ so_far
@@ -45,7 +45,7 @@ fixed_on m profile before next rest text behind total cut more after so_far =
 
 -- the line of `.END`
 pub ends : (m : all.Mending) (profile : Profile) (before : Context) (fs : List Found) (f : Found) (rest text behind : List ℕ) (total : List all.Found)
-    → lines_of rest ≡ text ∷ lines_of behind → is_end (read_line profile text) ≡ true → seen_found f ≡ found_line before text (layout_of before text)
+    → lines_of rest ≡ text ∷ lines_of behind → is_end (read_line profile text) ≡ true → found_view f ≡ found_line before text (layout_of before text)
     → found_all fs ++ found_lines m before (lines_left profile rest) ≡ total → found_all (fs ++ f ∷ []) ≡ total
 ends m profile before fs f rest text behind total cut closed is so_far =
     sym (nothing_after (found_all (fs ++ f ∷ []))) ∙ snoc fs f [] ∙ sym (rw (cut, closed, ← is) refl) ∙ so_far

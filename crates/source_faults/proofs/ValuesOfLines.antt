@@ -13,7 +13,7 @@ use Rattle.model.specs.declared.source_fault.AsmFaultKind.{AsmFaultKind}
 use Rattle.law_sources.specs.Judging.{image_with_line}
 use Rattle.source_faults.specs.declared.found.Found.{Found}
 use Rattle.source_faults.specs.declared.judging.Judged.{Judged}
-use Rattle.source_faults.specs.Seen.{found_all, made_of, refused_at, seen_all, seen_found, seen_judged}
+use Rattle.source_faults.specs.Views.{found_all, made_of, refused_at, judged_views, found_view, judged_view}
 
 abbrev Cells : Type 0
 Cells = List (Option ℕ)
@@ -82,9 +82,9 @@ plain_image numbers made address = by made.moved
 
 -- ---- all lines
 
-snoc : (js : List Judged) (j : Judged) (rest : List all.Judged) → seen_all (js ++ j ∷ []) ++ rest ≡ seen_all js ++ seen_judged j ∷ rest
+snoc : (js : List Judged) (j : Judged) (rest : List all.Judged) → judged_views (js ++ j ∷ []) ++ rest ≡ judged_views js ++ judged_view j ∷ rest
 snoc [] j rest = refl
-snoc (x ∷ xs) j rest = ap (λ (y : List all.Judged). seen_judged x ∷ y) (snoc xs j rest)
+snoc (x ∷ xs) j rest = ap (λ (y : List all.Judged). judged_view x ∷ y) (snoc xs j rest)
 
 nothing_after : (js : List all.Judged) → js ++ [] ≡ js
 nothing_after [] = refl
@@ -95,16 +95,16 @@ first_left fs i f within is = drop_more fs i f within ∙ ap (λ (y : Found). y 
 
 pub goes_on : (m : Map) (numbers : Numbers) (made next : all.Made) (js : List Judged) (j : Judged) (fs : List Found) (i : ℕ) (f : Found) (total : List all.Judged)
     → i < length fs → f ≡ get_or fs i f
-    → seen_judged j ≡ judged_line (seen_found f) (value_kind m numbers made (seen_found f).place)
-    → next ≡ made_after numbers made (seen_found f) (value_kind m numbers made (seen_found f).place)
-    → seen_all js ++ judged_found m numbers made (found_all (drop i fs)) ≡ total
-    → seen_all (js ++ j ∷ []) ++ judged_found m numbers next (found_all (drop (i + 1) fs)) ≡ total
+    → judged_view j ≡ judged_line (found_view f) (value_kind m numbers made (found_view f).place)
+    → next ≡ made_after numbers made (found_view f) (value_kind m numbers made (found_view f).place)
+    → judged_views js ++ judged_found m numbers made (found_all (drop i fs)) ≡ total
+    → judged_views (js ++ j ∷ []) ++ judged_found m numbers next (found_all (drop (i + 1) fs)) ≡ total
 goes_on m numbers made next js j fs i f total within is judged after so_far =
     snoc js j (judged_found m numbers next (found_all (drop (i + 1) fs))) ∙ sym (rw (first_left fs i f within is, after, ← judged) refl) ∙ so_far
 
 pub done : (m : Map) (numbers : Numbers) (made : all.Made) (js : List Judged) (fs : List Found) (i : ℕ) (total : List all.Judged) → length fs ≤ i
-    → seen_all js ++ judged_found m numbers made (found_all (drop i fs)) ≡ total → seen_all js ≡ total
-done m numbers made js fs i total past so_far = sym (nothing_after (seen_all js)) ∙ sym (rw (drop_all i fs past) refl) ∙ so_far
+    → judged_views js ++ judged_found m numbers made (found_all (drop i fs)) ≡ total → judged_views js ≡ total
+done m numbers made js fs i total past so_far = sym (nothing_after (judged_views js)) ∙ sym (rw (drop_all i fs past) refl) ∙ so_far
 
 -- ---- what a line leaves
 

@@ -1,1 +1,1 @@
-pub mod Seen
+pub mod Views

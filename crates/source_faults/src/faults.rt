@@ -5,7 +5,7 @@ ghost use Rattle.std.specs.Prelude.{IfOk};
 ghost use Rattle.model.specs.AllFaults.{faults_of, judged_lines};
 ghost use Rattle.model.specs.Source.{Denotes, HasFault, read_lines};
 ghost use Rattle.model.specs.declared.source_fault.AsmFault.{AsmFault};
-ghost use Rattle.source_faults.specs.Seen.{mending_of, seen_all};
+ghost use Rattle.source_faults.specs.Views.{mending_of, judged_views};
 ghost use Rattle.law_sources.specs.Judging.{too_large};
 
 use crate::judging::{Judged, judge};
@@ -30,7 +30,7 @@ fn judged(
     source: &[u8],
 ) -> Result<Vec<Judged>, AllocError>
     requires size { length source.now ≤ 1048576 }
-    ensures exact { IfOk result (λ judged. seen_all judged.items
+    ensures exact { IfOk result (λ judged. judged_views judged.items
         ≡ judged_lines map.now (mending_of mending) (read_lines map.now.profile source.now)) }
     ensures few { IfOk result (λ judged. length judged.items ≤ 1048576) }
 {

@@ -5,7 +5,7 @@ ghost use Rattle.line_parts.specs.Contents.{content_by, line_content};
 ghost use Rattle.line_parts.specs.LineViews.{statement_view, line_view};
 ghost use Rattle.model.specs.AllFaults.{begins_line, is_origin};
 ghost use Rattle.model.specs.Layout.{no_bytes, size_of};
-ghost use Rattle.source_faults.specs.Seen.{seen_found};
+ghost use Rattle.source_faults.specs.Views.{found_view};
 
 use layout::Placement;
 use line_parts::{Code, KeptLine, Line, Statement};
@@ -46,7 +46,7 @@ pub fn found_at<'a>(number: u32, address: u32, line: Line<'a>, placement: Placem
     requires near { address < 2 ^ 31 - 510 }
     requires small { placement.count ≤ 510 }
     requires sized { placement.count ≡ size_of (line_content placement.code (line_view line)) }
-    ensures { seen_found result ≡ record {
+    ensures { found_view result ≡ record {
       kind = None;
       place = record {
         address = address;

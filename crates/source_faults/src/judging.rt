@@ -5,8 +5,8 @@ ghost use Rattle.line_parts.specs.KeptLines.{placed_line_of};
 ghost use Rattle.model.specs.AllFaults.{but_of_place, image_after, is_of_place, judged_found};
 ghost use Rattle.model.specs.AllFaults.{judged_line, made_after, nothing_made, value_kind};
 ghost use Rattle.model.specs.Names.{number_in};
-ghost use Rattle.source_faults.specs.Seen.{made_of, found_all, seen_all, seen_found, seen_judged};
-ghost use Rattle.source_faults.specs.Seen.{seen_made};
+ghost use Rattle.source_faults.specs.Views.{made_of, found_all, judged_views, found_view, judged_view};
+ghost use Rattle.source_faults.specs.Views.{made_view};
 
 use crate::found::Found;
 use bus::{Image, MapSpec};
@@ -85,12 +85,12 @@ fn judge_found(
     made: &mut Made,
     found: &Found<'_>,
 ) -> Result<Judged, AllocError>
-    ensures judged { IfOk result (λ j. seen_judged j ≡ judged_line (seen_found found.now)
+    ensures judged { IfOk result (λ j. judged_view j ≡ judged_line (found_view found.now)
         (value_kind
-        map.now (number_in names.now) (seen_made made.old) (seen_found found.now).place)) }
-    ensures made { OnOk result (seen_made made.new
-        ≡ made_after (number_in names.now) (seen_made made.old) (seen_found found.now) (value_kind
-        map.now (number_in names.now) (seen_made made.old) (seen_found found.now).place)) }
+        map.now (number_in names.now) (made_view made.old) (found_view found.now).place)) }
+    ensures made { OnOk result (made_view made.new
+        ≡ made_after (number_in names.now) (made_view made.old) (found_view found.now) (value_kind
+        map.now (number_in names.now) (made_view made.old) (found_view found.now).place)) }
 {
     match found {
         Found::Refused { address, kind } => {
@@ -127,7 +127,7 @@ fn judge_found(
 
 /// The image without a byte.
 fn nothing_made(alloc: Global) -> Result<Made, AllocError>
-    ensures { IfOk result (λ made. seen_made made ≡ nothing_made) }
+    ensures { IfOk result (λ made. made_view made ≡ nothing_made) }
 {
     match Image::new(alloc) {
         Ok(image) => Ok(Made {
@@ -146,7 +146,7 @@ pub fn judge(
     names: &Symbols,
     found: &[Found<'_>],
 ) -> Result<Vec<Judged>, AllocError>
-    ensures exact { IfOk result (λ judged. seen_all judged.items
+    ensures exact { IfOk result (λ judged. judged_views judged.items
         ≡ judged_found map.now (number_in names.now) nothing_made (found_all found.now)) }
     ensures few { IfOk result (λ judged. length judged.items ≡ length found.now) }
 {

@@ -6,8 +6,8 @@ ghost use Rattle.line_parts.specs.LineViews.{line_view};
 ghost use Rattle.model.specs.AllFaults.{first_word, fixed_by, found_lines, with_word};
 ghost use Rattle.model.specs.SourceLine.{read_line};
 ghost use Rattle.model.specs.Source.{first_context, read_lines};
-ghost use Rattle.source_faults.specs.Seen.{Lays, ends_line, mending_of, refused_at, found_all};
-ghost use Rattle.source_faults.specs.Seen.{seen_found};
+ghost use Rattle.source_faults.specs.Views.{Lays, ends_line, mending_of, refused_at, found_all};
+ghost use Rattle.source_faults.specs.Views.{found_view};
 
 use crate::found::{Found, found_at};
 use crate::mending::{Mending, number_word};
@@ -48,7 +48,7 @@ fn mend<'a>(
     ended: bool,
 ) -> Result<Laid<'a>, AllocError>
     requires { address < 2 ^ 31 - 510 }
-    ensures found { IfOk result (λ laid. seen_found laid.found ≡ refused_at address kind) }
+    ensures found { IfOk result (λ laid. found_view laid.found ≡ refused_at address kind) }
     ensures names { OnOk result
         (symbols.new ≡ with_word (mending_of mending).numbered (first_word text.now) symbols.old) }
     ensures next { IfOk result (λ laid. laid.next ≡ address + (mending_of mending).bytes) }

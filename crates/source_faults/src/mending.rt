@@ -2,7 +2,7 @@
 
 ghost use Rattle.std.specs.Prelude.{◌≡◌, ◌≤◌, OnOk};
 ghost use Rattle.model.specs.AllFaults.{first_word, with_word};
-ghost use Rattle.source_faults.specs.Seen.{mending_of};
+ghost use Rattle.source_faults.specs.Views.{mending_of};
 
 use crate::first_word::first_word;
 use std::alloc::{AllocError, Global};

@@ -2,7 +2,7 @@
 
 ghost use Rattle.std.specs.Prelude.{◌≡◌, ◌++◌, ◌≤◌, [], length, IfOk, OnOk};
 ghost use Rattle.model.specs.AllFaults.{in_both, told, told_by, value_told};
-ghost use Rattle.source_faults.specs.Seen.{rule_of, seen_all, seen_judged};
+ghost use Rattle.source_faults.specs.Views.{rule_of, judged_views, judged_view};
 
 use crate::judging::{Judged, but_of_place};
 use model::{AsmFault, AsmFaultKind};
@@ -38,7 +38,7 @@ fn in_both(first: Option<AsmFaultKind>, second: Option<AsmFaultKind>) -> Option<
 impl Part {
     /// What is told of a line.
     fn told(self, first: &Judged, second: &Judged) -> Option<AsmFaultKind>
-        ensures { result ≡ rule_of self (seen_judged first.now) (seen_judged second.now) }
+        ensures { result ≡ rule_of self (judged_view first.now) (judged_view second.now) }
     {
         match self {
             Part::Layout => in_both(first.layout, second.layout),
@@ -62,7 +62,7 @@ impl Part {
     ) -> Result<(), AllocError>
         requires { length first.now ≤ 1048576 }
         ensures { OnOk result (faults.new.items ≡ faults.old.items
-            ++ told_by (rule_of self) 1 (seen_all first.now) (seen_all second.now)) }
+            ++ told_by (rule_of self) 1 (judged_views first.now) (judged_views second.now)) }
     {
         let mut number = 0u32;
         for one in first {
@@ -83,7 +83,7 @@ impl Part {
 pub fn told(alloc: Global, first: &[Judged], second: &[Judged]) -> Result<Vec<AsmFault>, AllocError>
     requires { length first.now ≤ 1048576 }
     ensures { IfOk result
-        (λ faults. faults.items ≡ told (seen_all first.now) (seen_all second.now)) }
+        (λ faults. faults.items ≡ told (judged_views first.now) (judged_views second.now)) }
 {
     let mut faults = Vec::new(alloc);
     Part::Layout.tell(&mut faults, first, second)?;

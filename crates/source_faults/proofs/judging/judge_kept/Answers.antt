@@ -1,7 +1,7 @@
 use Rattle.std.proofs.Common.{sym, ◌∙◌}
 use Rattle.line_parts.specs.KeptLines.{placed_line_of}
 use Rattle.model.specs.Names.{number_in}
-use Rattle.source_faults.specs.Seen.{made_of}
+use Rattle.source_faults.specs.Views.{made_of}
 use Rattle.source_faults.proofs.ValuesOfLines.{fault_image, moved_image, moved_kind, put_fault, put_image, put_kind}
 use Rattle.source_faults.proofs.judging.judge_kept.Goals as goal
 

@@ -1,6 +1,6 @@
 use Rattle.std.proofs.Common.{ap, arith, refl, sym, true-eqb, ◌∙◌}
 use Rattle.model.specs.Layout.{Context}
-use Rattle.source_faults.specs.Seen.{before_line, mending_of}
+use Rattle.source_faults.specs.Views.{before_line, mending_of}
 use Rattle.source_faults.proofs.LayoutOfLines.{counted, done, ends, fixed_done, fixed_end, fixed_on, fixed_starts, goes_on, starts}
 use Rattle.source_faults.proofs.laying.lay_out.Goals as goal
 

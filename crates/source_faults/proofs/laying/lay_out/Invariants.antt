@@ -2,7 +2,7 @@ use Rattle.std.proofs.Common.{◌≡◌, ◌+◌, ◌*◌, ◌≤◌, ◌++◌, 
 use Rattle.model.specs.AllFaults.{fixed_by, found_lines}
 use Rattle.model.specs.Source.{first_context, read_lines}
 use Rattle.source_faults.proofs.LayoutOfLines.{lines_left}
-use Rattle.source_faults.specs.Seen.{before_line, found_all, mending_of}
+use Rattle.source_faults.specs.Views.{before_line, found_all, mending_of}
 use Rattle.source_faults.proofs.laying.lay_out.Given as goal
 
 abbrev pub invariant-loop-rest : goal.invariant-loop-rest

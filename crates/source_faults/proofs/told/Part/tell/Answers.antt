@@ -1,5 +1,5 @@
 use Rattle.std.proofs.Common.{arith}
-use Rattle.source_faults.specs.Seen.{rule_of}
+use Rattle.source_faults.specs.Views.{rule_of}
 use Rattle.source_faults.proofs.Telling.{done_second}
 use Rattle.source_faults.proofs.told.Part.tell.Goals as goal
 

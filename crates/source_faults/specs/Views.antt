@@ -31,14 +31,14 @@ refused_at address kind = record {
   begins = false;
 }
 
-abbrev pub seen_found : Found → all.Found
-seen_found (Refused address kind) = refused_at address kind
-seen_found (Plain address begins) = record {
+abbrev pub found_view : Found → all.Found
+found_view (Refused address kind) = refused_at address kind
+found_view (Plain address begins) = record {
   kind = None;
   place = record { address = address; content = no_bytes };
   begins = begins;
 }
-seen_found (Bytes k) = record { kind = None; place = placed_line_of k; begins = false }
+found_view (Bytes k) = record { kind = None; place = placed_line_of k; begins = false }
 
 abbrev pub ends_line : Line → Bool
 ends_line (labelled label s) = is_finish s
@@ -50,7 +50,7 @@ before_line profile address names = record { profile = profile; address = addres
 -- A line is laid out or mended, which leaves these names.
 pub record LaysLine (m : all.Mending) (profile : Profile) (address : ℕ) (names : Definitions)
     (text : List ℕ) (laid : Laid) (left : Definitions) : Type 0 where
-  pub found : seen_found laid.found ≡ found_line (before_line profile address names) text
+  pub found : found_view laid.found ≡ found_line (before_line profile address names) text
       (layout_of (before_line profile address names) text)
   pub fixed : fixed_after m (before_line profile address names) text
       (layout_of (before_line profile address names) text) ≡ before_line profile laid.next left
@@ -62,19 +62,19 @@ Lays m profile address names text (Ok laid) left = LaysLine m profile address na
 Lays m profile address names text (Err e) left = ⊤
 
 abbrev pub found_all : List Found → List all.Found
-found_all found = map seen_found found
+found_all found = map found_view found
 
 abbrev pub made_of : List (Option ℕ) → Bool → all.Made
 made_of image moved = record { image = image; moved = moved }
 
-abbrev pub seen_made : Made → all.Made
-seen_made made = record { image = made.image; moved = made.moved }
+abbrev pub made_view : Made → all.Made
+made_view made = record { image = made.image; moved = made.moved }
 
-abbrev pub seen_judged : Judged → all.Judged
-seen_judged j = record { address = j.address; layout = j.layout; value = j.value }
+abbrev pub judged_view : Judged → all.Judged
+judged_view j = record { address = j.address; layout = j.layout; value = j.value }
 
-abbrev pub seen_all : List Judged → List all.Judged
-seen_all js = map seen_judged js
+abbrev pub judged_views : List Judged → List all.Judged
+judged_views js = map judged_view js
 
 abbrev pub rule_of : Part → all.Judged → all.Judged → Option AsmFaultKind
 rule_of parts.Layout = all.layout_told
