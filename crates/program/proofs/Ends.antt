@@ -1,6 +1,6 @@
 -- What a part's answer makes of the program's.
 use Rattle.std.proofs.Common.{◌≡◌, ◌∙◌, ℕ, Bool, true, List, Option, None, Some, IfSome, Result, Ok, Err, IfErr, MatchResult, ◌⊎◌, inl, inr, refl, sym, ap, subst}
-use Rattle.std.specs.Io.KnownBytes.{Appends}
+use Rattle.std.specs.Io.KnownBytes.{Appends, IsAtEnd}
 use Rattle.std.specs.Prelude.{OnErr}
 use Rattle.std.specs.Result.{IsErrAnd}
 use Rattle.assembler.specs.Assembly.{out_of_memory}
@@ -25,11 +25,12 @@ use Rattle.model.specs.declared.tape.TapeFaultKind.TheVariants as tape_fault
 use Rattle.model.specs.declared.source_fault.AsmFault.{AsmFault}
 use Rattle.model.specs.declared.source_fault.AsmFaultKind.{AsmFaultKind}
 use Rattle.model.specs.declared.source_fault.AsmFaultKind.TheVariants as source_fault
-use Rattle.papertape.specs.Streaming.{EndsReading, IsImageOf, IsRefusalOf}
+use Rattle.papertape.specs.Streaming.{EndsReading, IsImageOf, IsRefusalOf, Reads, Shows}
 use Rattle.papertape.specs.declared.stream.TapeReadFault.{TapeReadFault}
 use Rattle.papertape.specs.declared.stream.TapeReadFault.TheVariants as tape_read_fault
 use Rattle.program.specs.Refusals.{EndsAsm, EndsDebug, EndsDis, of_engine}
 use Rattle.program.specs.Streams.{IsListed, IsServed}
+use Rattle.program.specs.Texts.{ReadsText, ShowsText}
 use Rattle.program.specs.declared.refusal.Refusal.{Refusal}
 use Rattle.program.specs.declared.refusal.Refusal.TheVariants.{Write}
 
@@ -168,6 +169,24 @@ all_unread (Some text) = λ cells r. inr refl
 pub all_unrefused : (X : Type 0) (a : Option (List ℕ)) → IfSome a (λ text. (fault : TapeFault) → IsRefusedInPieces text fault → Is {X = X} (Err (tape_read_fault.Tape tape_out_of_memory)) (Err (tape_read_fault.Tape fault)))
 all_unrefused X None = tt
 all_unrefused X (Some text) = λ fault r. inr (inr refl)
+
+-- What was consumed where no image was read.
+shows_fault : (X : Type 0) (told : List ℕ) (AtEnd : Type 0) (f : TapeReadFault) → Shows told AtEnd (read_err f) → ShowsText told AtEnd (failed X TapeReadFault f)
+shows_fault X told AtEnd tape_read_fault.Read h = h
+shows_fault X told AtEnd (tape_read_fault.Tape g) (inl memory) = inl (memory.0, inr memory.1)
+shows_fault X told AtEnd (tape_read_fault.Tape g) (inr fault) = inr fault
+
+pub reads_fault : (X : Type 0) (result : Result X TapeReadFault) (f : TapeReadFault) (before now : Option (List ℕ)) → IsErrAnd result (λ e. e ≡ f) → Reads before now (read_err f) → ReadsText before now result
+reads_fault X (Ok x) f before now h reads = absurd h
+reads_fault X (Err e) f before now h (told, c, shows) = (told, c, subst (λ r. ShowsText told (IsAtEnd now) (failed X TapeReadFault r)) (sym h) (shows_fault X told (IsAtEnd now) f shows))
+
+-- What was consumed where an image was read.
+pub reads_text : (image : Image) (before now : Option (List ℕ)) → Reads before now (read_ok image) → ReadsText before now (read_ok image)
+reads_text image before now (told, c, shows) = (told, c, (shows.0, (image, shows.1)))
+
+-- What was consumed where memory ran out after that.
+pub reads_memory : (image : Image) (before now : Option (List ℕ)) → Reads before now (read_ok image) → ReadsText before now (read_err (tape_read_fault.Tape tape_out_of_memory))
+reads_memory image before now (told, c, shows) = (told, c, inl (refl, inl (shows.0, (image, shows.1))))
 
 dis_refusal : (a : Option (List ℕ)) (f : TapeReadFault) → EndsReading a f → EndsDis (of_engine (of_tape_read f))
 dis_refusal a tape_read_fault.Read h = tt

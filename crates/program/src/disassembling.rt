@@ -12,6 +12,7 @@ ghost use Rattle.papertape.specs.declared.stream.TapeReadFault.TheVariants.{Read
 ghost use Rattle.papertape.specs.declared.stream.TapeReadFault.TheVariants.{Tape};
 ghost use Rattle.program.specs.Refusals.{EndsDis};
 ghost use Rattle.program.specs.Streams.{IsListed};
+ghost use Rattle.program.specs.Texts.{ReadsText};
 
 use crate::refusal::Refusal;
 use disasm::disassembly;
@@ -56,6 +57,9 @@ pub fn dis_text<T: Read>(
         (λ told. (fault : TapeFault) → IsRefusedInPieces told fault → (result ≡ Err (Tape fault))
         ⊎ ((result ≡ Err ReadFailed) ⊎ (result ≡ Err (Tape out_of_memory)))) }
     ensures refused { IfErr result (EndsReading (T.remaining tape.old)) }
+    // What was consumed of the tape: all for a text, otherwise no more than the piece that shows
+    // its fault.
+    ensures reads { ReadsText (T.remaining tape.old) (T.remaining tape.new) result }
 {
     let image = read_tape_from(alloc, tape)?;
     match disassembly(alloc, profile, &image, first, last) {
