@@ -1,3 +1,4 @@
+pub mod FaultLines
 pub mod Refusals
 pub mod Statuses
 pub mod Streams

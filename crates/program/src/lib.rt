@@ -13,6 +13,7 @@ pub use running::{program, unreadable_words};
 mod assembling;
 mod debugging;
 mod disassembling;
+mod fault_line;
 mod map;
 mod refusal;
 mod running;

@@ -10,36 +10,27 @@ use model::{AsmFault, BusFault, SessionFault, TapeFault};
 use papertape::TapeReadFault;
 use std::io;
 use std::io::ErrorKind;
-use thiserror::Error;
 
 /// Why the program ends without having done what it was asked for.
 ///
 /// Each but `OutOfMemory`, `Read` and `Write` is found before anything is written.
-#[derive(Clone, Copy, Debug, PartialEq, Eq, Error)]
+#[derive(Clone, Copy, Debug, PartialEq, Eq)]
 pub enum Refusal {
     /// The program does not take one of the words.
-    #[error("WORDS")]
     Words,
     /// The port and the ROM do not make a map.
-    #[error("MAP {0}")]
     Map(BusFault),
     /// The source has a fault.
-    #[error("SOURCE line {} {}", .0.line, .0.kind)]
     Source(AsmFault),
     /// The tape has a fault.
-    #[error("TAPE {0}")]
     Tape(TapeFault),
     /// The image has bytes at the port's addresses. Only a tape can have them.
-    #[error("TAPE {0}")]
     Session(SessionFault),
     /// Memory ran out.
-    #[error("OutOfMemory")]
     OutOfMemory,
     /// A file or the standard input cannot be read.
-    #[error("READ")]
     Read,
     /// A file or the standard output cannot be written.
-    #[error("WRITE")]
     Write,
 }
 

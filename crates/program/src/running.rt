@@ -9,6 +9,8 @@ ghost use Rattle.model.specs.Event.{start};
 ghost use Rattle.model.specs.Session.{new_session};
 ghost use Rattle.model.specs.State.{is_map};
 ghost use Rattle.model.specs.Transcript.{transcript};
+ghost use Rattle.model.specs.Writers.{AppendsFront};
+ghost use Rattle.program.specs.FaultLines.{IsTold, IsToldOfWords, fault_line};
 ghost use Rattle.program.specs.Statuses.{IsStatusOf, status_of};
 ghost use Rattle.program.specs.Streams.{IsListed, IsServed, IsStatus};
 ghost use Rattle.program.specs.declared.refusal.Refusal.{Refusal};
@@ -19,6 +21,7 @@ ghost use Rattle.program_words.specs.Refused.{IsTaken};
 use crate::assembling::asm;
 use crate::debugging::debug;
 use crate::disassembling::dis;
+use crate::fault_line::put_fault_line;
 use crate::refusal::Refusal;
 use program_words::{Words, WordsFault, read_words};
 use std::io;
@@ -27,9 +30,11 @@ use std::rt::Files;
 
 /// Writes the fault line, and returns the exit status, even if the line cannot be written.
 fn refuse<E: Write>(refusal: Refusal, errors: &mut E) -> u8
-    ensures { result ≡ status_of refusal }
+    ensures status { result ≡ status_of refusal }
+    ensures told { AppendsFront (E.contents errors.old) (E.contents errors.new)
+        (fault_line refusal) }
 {
-    let _ = writeln!(errors, "mos65: {refusal}");
+    put_fault_line(refusal, errors);
     refusal.status()
 }
 
@@ -37,6 +42,7 @@ fn refuse<E: Write>(refusal: Refusal, errors: &mut E) -> u8
 fn finish<E: Write>(outcome: Result<(), Refusal>, errors: &mut E) -> u8
     ensures status { MatchResult outcome (λ _. result ≡ 0) (λ refusal. result ≡ status_of refusal) }
     ensures quiet { result ≡ 0 → errors.new ≡ errors.old }
+    ensures told { 1 ≤ result → IsTold result (E.contents errors.old) (E.contents errors.new) }
 {
     match outcome {
         Ok(()) => 0,
@@ -49,6 +55,7 @@ fn refused_words<O: Write, E: Write>(fault: WordsFault, output: &mut O, errors: 
     ensures status { IsStatusOf fault result }
     ensures untouched { 1 ≤ result → result ≤ 3 → output.new ≡ output.old }
     ensures quiet { result ≡ 0 → errors.new ≡ errors.old }
+    ensures told { IsToldOfWords fault result (E.contents errors.old) (E.contents errors.new) }
 {
     match fault {
         WordsFault::Help(text) => match write!(output, "{text}") {
@@ -70,6 +77,7 @@ fn refused_words<O: Write, E: Write>(fault: WordsFault, output: &mut O, errors: 
 pub fn unreadable_words<E: Write>(error: &io::Error, errors: &mut E) -> u8
     ensures memory { error_kind error.now ≡ ErrorKind.OutOfMemory → result ≡ 3 }
     ensures other { ¬ (error_kind error.now ≡ ErrorKind.OutOfMemory) → result ≡ 2 }
+    ensures told { IsTold result (E.contents errors.old) (E.contents errors.new) }
 {
     match error.kind() {
         ErrorKind::OutOfMemory => refuse(Refusal::OutOfMemory, errors),
@@ -99,6 +107,11 @@ pub fn program<H: Files + AllocGlobal, R: Read, O: Write, E: Write>(
     ensures status { result ≤ 4 }
     // If it is done, nothing is written on the error stream.
     ensures quiet { result ≡ 0 → errors.new ≡ errors.old }
+    // Otherwise the error stream gets the fault line of a refusal with that status, or a beginning
+    // of it if it cannot be written. Words that do not fit the command line get `clap`'s text, with
+    // the status 2.
+    ensures told { 1 ≤ result → IsTaken (map (λ s. s.now) words.entry.now) ⊎ (3 ≤ result)
+        → IsTold result (E.contents errors.old) (E.contents errors.new) }
     // A source, a tape, words or a map that are rejected leave the input and the output unchanged.
     ensures untouched { 1 ≤ result → result ≤ 2
         → (input.new ≡ input.old) × (output.new ≡ output.old) }

@@ -3,6 +3,7 @@ use Rattle.program.specs.Statuses.{IsStatusOf}
 use Rattle.program.specs.declared.refusal.Refusal.TheVariants.{OutOfMemory}
 use Rattle.program_words.specs.Asked.{debug, dis}
 use Rattle.program_words.specs.Views.{debug_view}
+use Rattle.program.proofs.Lines.{told_of_words}
 use Rattle.program.proofs.Transcripts.{ended_served, one_debug}
 use Rattle.program.proofs.running.program.Goals as goal
 
@@ -23,3 +24,8 @@ pub returns-in-Ok-Debug-clause-served : goal.returns-in-Ok-Debug-clause-served
 returns-in-Ok-Debug-clause-served g c zero d h taken =
     let same = one_debug _ (debug_view c.in-Ok-Debug.words) d (rw c.in-Ok-Debug.field-0-is at c.in-Ok-Debug.ensures.asked) h in
     ended_served (debug_view c.in-Ok-Debug.words) d _ _ _ _ _ c.debug.result c.finish-in-Ok-Debug.result same c.debug.ensures.served c.finish-in-Ok-Debug.ensures.status zero
+
+-- words that were rejected
+pub returns-in-Err-clause-told : goal.returns-in-Err-clause-told
+returns-in-Err-clause-told g c some which =
+    told_of_words _ _ c.refused_words.result _ _ c.in-Err.ensures.refused c.refused_words.ensures.status c.refused_words.ensures.told some which

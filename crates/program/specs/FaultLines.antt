@@ -1,0 +1,47 @@
+-- The fault lines of the program. Source: mos65.
+use Rattle.std.specs.Prelude.{◌≡◌, ◌≤◌, ⊤, ℕ, List, [], ◌∷◌, ◌++◌, codes, decimal, Option}
+use Rattle.model.specs.FaultNames.{bus_fault_name, bus_fault_number, session_fault_name, session_fault_number, source_fault_name, source_fault_number}
+use Rattle.model.specs.TapeFault.{tape_fault_name, tape_fault_number}
+use Rattle.model.specs.Writers.{AppendsFront}
+use Rattle.program.specs.Statuses.{status_of}
+use Rattle.program.specs.declared.refusal.Refusal.{Refusal}
+use Rattle.program.specs.declared.refusal.Refusal.TheVariants.{Words, Map, Source, Tape, Session, OutOfMemory, Read, Write}
+use Rattle.program_words.specs.declared.fault.WordsFault.{WordsFault}
+use Rattle.program_words.specs.declared.fault.WordsFault.TheVariants.{Usage}
+
+-- What is rejected, and where the fault is in it.
+unfoldable pub place_part : Refusal → List ℕ
+place_part Words = codes "WORDS"
+place_part (Map fault) = codes "MAP "
+place_part (Source fault) = codes "SOURCE line " ++ decimal fault.line ++ 32 ∷ []
+place_part (Tape fault) = codes "TAPE byte " ++ decimal fault.offset ++ 32 ∷ []
+place_part (Session fault) = codes "TAPE "
+place_part OutOfMemory = codes "OutOfMemory"
+place_part Read = codes "READ"
+place_part Write = codes "WRITE"
+
+-- The fault's name and number, if it has them.
+unfoldable pub name_part : Refusal → List ℕ
+name_part (Map fault) = bus_fault_name fault ++ 32 ∷ decimal (bus_fault_number fault)
+name_part (Source fault)
+    = source_fault_name fault.kind ++ 32 ∷ decimal (source_fault_number fault.kind)
+name_part (Tape fault) = tape_fault_name fault.kind ++ 32 ∷ decimal (tape_fault_number fault.kind)
+name_part (Session fault)
+    = session_fault_name fault ++ 32 ∷ decimal (session_fault_number fault)
+name_part refusal = []
+
+-- The line that says why the program ends, for example `mos65: SOURCE line 2 Syntax 4`.
+abbrev pub fault_line : Refusal → List ℕ
+fault_line refusal = codes "mos65: " ++ place_part refusal ++ name_part refusal ++ 10 ∷ []
+
+-- The error stream got the fault line of a refusal with this status, or a beginning of the line if
+-- it cannot be written.
+abbrev pub IsTold : ℕ → Option (List ℕ) → Option (List ℕ) → Type 0
+IsTold status held now = (refusal : Refusal) × (status ≡ status_of refusal)
+    × AppendsFront held now (fault_line refusal)
+
+-- What the error stream got of rejected words: a fault line, but for those that do not fit the
+-- command line, of which the text is `clap`'s.
+abbrev pub IsToldOfWords : WordsFault → ℕ → Option (List ℕ) → Option (List ℕ) → Type 0
+IsToldOfWords (Usage text) status held now = ⊤
+IsToldOfWords fault status held now = 1 ≤ status → IsTold status held now

@@ -1,0 +1,78 @@
+//! Fault lines: why the program ends, put together without allocating.
+ghost use Rattle.std.specs.Prelude.{◌≡◌, ◌+◌, ◌≤◌, ◌++◌, ◌∷◌, [], codes, decimal, length};
+ghost use Rattle.model.specs.Writers.{AppendsFront};
+ghost use Rattle.program.specs.FaultLines.{fault_line, name_part, place_part};
+
+use crate::refusal::Refusal;
+use formatting::{Text, push_bytes, push_decimal};
+use replies::put;
+use std::io::Write;
+
+/// Returns the beginning of a fault line: what is rejected, and where the fault is in it.
+#[tactic(auto, unfolding(crate::specs::FaultLines::place_part))]
+fn place_text(refusal: Refusal) -> Text
+    ensures { result.items ≡ codes "mos65: " ++ place_part refusal }
+{
+    let mut text = Text::new();
+    push_bytes(&mut text, b"mos65: ");
+    match refusal {
+        Refusal::Words => push_bytes(&mut text, b"WORDS"),
+        Refusal::Map(_) => push_bytes(&mut text, b"MAP "),
+        Refusal::Source(fault) => {
+            push_bytes(&mut text, b"SOURCE line ");
+            push_decimal(&mut text, fault.line as u64);
+            push_bytes(&mut text, b" ");
+        }
+        Refusal::Tape(fault) => {
+            push_bytes(&mut text, b"TAPE byte ");
+            push_decimal(&mut text, fault.offset);
+            push_bytes(&mut text, b" ");
+        }
+        Refusal::Session(_) => push_bytes(&mut text, b"TAPE "),
+        Refusal::OutOfMemory => push_bytes(&mut text, b"OutOfMemory"),
+        Refusal::Read => push_bytes(&mut text, b"READ"),
+        Refusal::Write => push_bytes(&mut text, b"WRITE"),
+    }
+    text
+}
+
+/// Appends a fault's name and number.
+fn push_name(text: &mut Text, name: &str, number: u8)
+    requires { length text.old.items + length name.now ≤ 43 }
+    ensures written { text.new.items ≡ text.old.items ++ name.now ++ 32 ∷ decimal number }
+    ensures short { length text.new.items ≤ 64 }
+{
+    push_bytes(text, name.as_bytes());
+    push_bytes(text, b" ");
+    push_decimal(text, number as u64);
+}
+
+/// Returns the rest of a fault line: the fault's name and number, if it has them, and the end of
+/// the line.
+#[tactic(auto, unfolding(crate::specs::FaultLines::name_part))]
+fn name_text(refusal: Refusal) -> Text
+    ensures { result.items ≡ name_part refusal ++ 10 ∷ [] }
+{
+    let mut text = Text::new();
+    match refusal {
+        Refusal::Map(fault) => push_name(&mut text, fault.name(), fault.number()),
+        Refusal::Source(fault) => push_name(&mut text, fault.kind.name(), fault.kind.number()),
+        Refusal::Tape(fault) => push_name(&mut text, fault.kind.name(), fault.kind.number()),
+        Refusal::Session(fault) => push_name(&mut text, fault.name(), fault.number()),
+        Refusal::Words | Refusal::OutOfMemory | Refusal::Read | Refusal::Write => {}
+    }
+    push_bytes(&mut text, b"\n");
+    text
+}
+
+/// Writes the fault line of a refusal, or a beginning of it if a write fails.
+pub fn put_fault_line<E: Write>(refusal: Refusal, errors: &mut E)
+    ensures { AppendsFront (E.contents errors.old) (E.contents errors.new) (fault_line refusal) }
+{
+    match put(errors, place_text(refusal).as_slice()) {
+        Ok(()) => {
+            let _ = put(errors, name_text(refusal).as_slice());
+        }
+        Err(_) => {}
+    }
+}
