@@ -1,6 +1,7 @@
 //! Why `check` ends without having looked at a source.
 
-ghost use Rattle.std.specs.Prelude.{◌≡◌, ◌≤◌};
+ghost use Rattle.std.specs.Prelude.{◌≡◌};
+ghost use Rattle.checking.specs.Statuses.{status_of};
 
 use std::io;
 use std::io::ErrorKind;
@@ -29,8 +30,7 @@ pub enum Refusal {
 impl Refusal {
     /// The exit status: 2 for the words or the map, 3 for memory, 4 for reading and writing.
     pub fn status(&self) -> u8
-        ensures least { 2 ≤ result }
-        ensures most { result ≤ 4 }
+        ensures { result ≡ status_of self.now }
     {
         match self {
             Refusal::Words | Refusal::Map => 2,

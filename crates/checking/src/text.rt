@@ -1,6 +1,7 @@
 //! The text of all faults of a source.
 
 ghost use Rattle.std.specs.Prelude.{◌≡◌, ◌==◌, ℕ, List, Option, IfOk, length, not, true, false};
+ghost use Rattle.explain.specs.Blocks.{IsToldText};
 ghost use Rattle.model.specs.AllFaults.{faults_of};
 ghost use Rattle.model.specs.Source.{Denotes};
 
@@ -16,14 +17,19 @@ pub struct CheckedText {
     pub is_faulty: bool,
 }
 
-/// What `check` writes of a source on a map: a block for each fault under the name of its file, or
-/// nothing if it has none. The only error is that a request for memory was refused.
+/// Returns what `check` writes of a source on a map: a block for each of the first 50 faults under
+/// the name of its file, in the order of their lines, or nothing if it has none.
+///
+/// Errors: `AllocError` if an allocation fails.
 pub fn checked_text(
     alloc: Global,
     file: &[u8],
     source: &[u8],
     map: &MapSpec,
 ) -> Result<CheckedText, AllocError>
+    // A block for each of the first 50 faults, with its line, its name and its number.
+    ensures told { IfOk result
+        (λ c. IsToldText file.now (faults_of map.now source.now) c.text.items) }
     // Whether a fault is told.
     ensures faulty { IfOk result (λ c. c.is_faulty
         ≡ not (length (faults_of map.now source.now) == 0)) }

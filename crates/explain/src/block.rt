@@ -1,12 +1,16 @@
 //! The blocks of all faults.
 
-ghost use Rattle.std.specs.Prelude.{◌≡◌, IfOk};
+ghost use Rattle.std.specs.Prelude.{◌≡◌, ◌++◌, IfOk, OnOk, take};
+ghost use Rattle.std.specs.List.Sorted.{IsNonDecreasingBy, IsPermutation};
+ghost use Rattle.explain.specs.Blocks.{AreBlocks, IsBlockAfter, IsToldText, end_of, head_of, kind_text};
+ghost use Rattle.explain.specs.Blocks.{place_of};
 
 use crate::lines::{lines_of, names_of};
 use crate::note::{Context, note_of};
 use crate::words::{Note, noted, push_count, said};
 use bus::MapSpec;
-use model::AsmFault;
+use itoa::Buffer;
+use model::{AsmFault, AsmFaultKind};
 use source_faults::{Mending, lay_out};
 use std::alloc::{AllocError, Global};
 use symbols::Symbols;
@@ -17,74 +21,133 @@ const SOURCE_SIZE: usize = 1_048_576;
 /// The most faults that are written.
 const MOST_TOLD: usize = 50;
 
-/// The head of a block: file, line, column, and the name and the number of the fault.
-fn push_head(
+/// Appends where a fault is: file, line and column.
+fn push_place(text: &mut Vec<u8>, file: &[u8], line: u32, column: u32) -> Result<(), AllocError>
+    ensures { OnOk result (text.new.items ≡ text.old.items ++ place_of file.now line column) }
+{
+    text.extend_from_slice(file)?;
+    text.push(b':')?;
+    push_count(text, line)?;
+    text.push(b':')?;
+    push_count(text, column)?;
+    text.extend_from_slice(b": ")?;
+    Ok(())
+}
+
+/// Appends the name and the number of a fault.
+fn push_kind(text: &mut Vec<u8>, kind: AsmFaultKind) -> Result<(), AllocError>
+    ensures { OnOk result (text.new.items ≡ text.old.items ++ kind_text kind) }
+{
+    text.extend_from_slice(kind.name().as_bytes())?;
+    text.push(b' ')?;
+    push_count(text, kind.number() as u32)?;
+    text.extend_from_slice(b": ")?;
+    Ok(())
+}
+
+/// Returns how a byte of a line is shown.
+fn shown(byte: u8) -> u8 {
+    match byte {
+        b' '..=b'~' | b'\t' => byte,
+        _ => b'?',
+    }
+}
+
+/// Returns the blank under a place of a line.
+fn blank_under(line: &[u8], at: usize) -> u8 {
+    match line.get(at).copied() {
+        Some(b'\t') => b'\t',
+        _ => b' ',
+    }
+}
+
+/// Appends a line as it is shown.
+fn push_shown(text: &mut Vec<u8>, line: &[u8]) -> Result<(), AllocError> {
+    for byte in line {
+        text.push(shown(*byte))?;
+    }
+    Ok(())
+}
+
+/// Appends the mark under what is meant.
+fn push_mark(
+    text: &mut Vec<u8>,
+    line: &[u8],
+    start: usize,
+    width: usize,
+) -> Result<(), AllocError> {
+    for at in 0..start {
+        text.push(blank_under(line, at))?;
+    }
+    text.push(b'^')?;
+    for _ in 1..width {
+        text.push(b'~')?;
+    }
+    Ok(())
+}
+
+/// Returns the line itself, and below it a mark under what is meant.
+fn marked_line(alloc: Global, line: &[u8], note: &Note) -> Result<Vec<u8>, AllocError> {
+    let mut text = Vec::new(alloc);
+    push_shown(&mut text, line)?;
+    text.push(b'\n')?;
+    push_mark(&mut text, line, note.start, note.width)?;
+    text.push(b'\n')?;
+    Ok(text)
+}
+
+/// Returns what follows a block's head: the words, and the line with a mark, if there is a line.
+fn after_head(alloc: Global, line: Option<&[u8]>, note: &Note) -> Result<Vec<u8>, AllocError> {
+    let mut text = Vec::from_slice(alloc, &note.words)?;
+    text.push(b'\n')?;
+    match line {
+        Some(line) => text.extend_from_slice(&marked_line(alloc, line, note)?)?,
+        None => {}
+    }
+    Ok(text)
+}
+
+/// Appends a block with this after its head.
+fn push_block_text(
     text: &mut Vec<u8>,
     file: &[u8],
     fault: AsmFault,
     column: u32,
-) -> Result<(), AllocError> {
-    text.extend_from_slice(file)?;
-    text.push(b':')?;
-    push_count(text, fault.line)?;
-    text.push(b':')?;
-    push_count(text, column)?;
-    text.extend_from_slice(b": ")?;
-    text.extend_from_slice(fault.kind.name().as_bytes())?;
-    text.push(b' ')?;
-    push_count(text, fault.kind.number() as u32)?;
-    text.extend_from_slice(b": ")
-}
-
-/// The line itself, and a mark under what is meant.
-fn push_line(text: &mut Vec<u8>, line: &[u8], note: &Note) -> Result<(), AllocError> {
-    for byte in line {
-        let shown = match *byte {
-            b' '..=b'~' | b'\t' => *byte,
-            _ => b'?',
-        };
-        text.push(shown)?;
-    }
-    text.push(b'\n')?;
-    for at in 0..note.start {
-        let blank = match line.get(at).copied() {
-            Some(b'\t') => b'\t',
-            _ => b' ',
-        };
-        text.push(blank)?;
-    }
-    text.push(b'^')?;
-    for _ in 1..note.width {
-        text.push(b'~')?;
-    }
-    text.push(b'\n')?;
+    rest: &[u8],
+) -> Result<(), AllocError>
+    ensures { OnOk result
+        (text.new.items ≡ text.old.items ++ (head_of file.now fault column ++ rest.now)) }
+{
+    push_place(text, file, fault.line, column)?;
+    push_kind(text, fault.kind)?;
+    text.extend_from_slice(rest)?;
     Ok(())
 }
 
-/// A block: where the fault is and what is said of it, and the line with a mark.
+/// Appends a block: where the fault is and what is said of it, and the line with a mark.
 fn push_block(
+    alloc: Global,
     text: &mut Vec<u8>,
     file: &[u8],
     fault: AsmFault,
     line: Option<&[u8]>,
     note: &Note,
-) -> Result<(), AllocError> {
+) -> Result<(), AllocError>
+    ensures { OnOk result (IsBlockAfter file.now fault text.old.items text.new.items) }
+{
     let column = (note.start % 65536) as u32 + 1;
-    push_head(text, file, fault, column)?;
-    text.extend_from_slice(&note.words)?;
-    text.push(b'\n')?;
-    match line {
-        Some(line) => push_line(text, line, note),
-        None => Ok(()),
-    }
+    let rest = after_head(alloc, line, note)?;
+    push_block_text(text, file, fault, column, &rest)
 }
 
-/// How many faults there are.
-fn push_end(text: &mut Vec<u8>, count: usize) -> Result<(), AllocError> {
+/// Appends how many faults there are.
+fn push_end(text: &mut Vec<u8>, count: usize) -> Result<(), AllocError>
+    ensures { OnOk result (text.new.items ≡ text.old.items ++ end_of count) }
+{
     if count > MOST_TOLD {
         text.extend_from_slice(b"and more\n")?;
     }
-    push_count(text, (count % 4294967296) as u32)?;
+    text.extend_from_slice(Buffer::new().format(count).as_bytes())?;
     if count == 1 {
         text.extend_from_slice(b" fault\n")
     } else {
@@ -92,71 +155,109 @@ fn push_end(text: &mut Vec<u8>, count: usize) -> Result<(), AllocError> {
     }
 }
 
-/// The first faults in the order in which they are told, put in the order of their lines.
-fn first_by_line(alloc: Global, faults: &[AsmFault]) -> Result<Vec<AsmFault>, AllocError> {
-    let most = faults.len().min(MOST_TOLD);
-    let mut first = Vec::from_slice(alloc, &faults[..most])?;
-    first.sort_by_key(|fault| fault.line)?;
-    Ok(first)
+/// Returns the first 50 of some faults.
+#[tactic(auto, using(std::proofs::lemmas::List::take_min))]
+fn first_told(faults: &[AsmFault]) -> &[AsmFault]
+    ensures { result.now ≡ take 50 faults.now }
+{
+    &faults[..MOST_TOLD.min(faults.len())]
 }
 
-/// The text of the fault of a source that is too long to be read.
-fn large_text(alloc: Global, file: &[u8], faults: &[AsmFault]) -> Result<Vec<u8>, AllocError> {
+/// Returns faults in the order of their lines.
+fn by_line(alloc: Global, faults: &[AsmFault]) -> Result<Vec<AsmFault>, AllocError>
+    ensures all { IfOk result (λ ordered. IsPermutation faults.now ordered.items) }
+    ensures ordered { IfOk result (λ ordered. IsNonDecreasingBy (λ f. f.line) ordered.items) }
+{
+    let mut ordered = Vec::from_slice(alloc, faults)?;
+    ordered.sort_by_key(|fault| fault.line)?;
+    Ok(ordered)
+}
+
+/// Returns the blocks of faults of a source that is too long to be read.
+fn large_blocks(alloc: Global, file: &[u8], faults: &[AsmFault]) -> Result<Vec<u8>, AllocError>
+    ensures { IfOk result (λ text. AreBlocks file.now faults.now text.items) }
+{
     let mut text = Vec::new(alloc);
     for fault in faults {
         let words = said(alloc, "a source has at most 1048576 bytes")?;
-        push_block(&mut text, file, *fault, None, &noted(0, 1, words))?;
+        push_block(alloc, &mut text, file, *fault, None, &noted(0, 1, words))?;
     }
-    push_end(&mut text, faults.len())?;
     Ok(text)
 }
 
-/// The text of faults of a source: for each of the first 50, by line,
+/// Returns the blocks of faults of a source whose lines are these.
+fn line_blocks(
+    alloc: Global,
+    file: &[u8],
+    lines: &[&[u8]],
+    context: &Context<'_, '_>,
+    faults: &[AsmFault],
+) -> Result<Vec<u8>, AllocError>
+    ensures { IfOk result (λ text. AreBlocks file.now faults.now text.items) }
+{
+    let mut text = Vec::new(alloc);
+    for fault in faults {
+        let line = lines.get((fault.line as usize).saturating_sub(1)).copied();
+        let shown = match line {
+            Some(line) => line,
+            None => &[],
+        };
+        let note = note_of(alloc, context, *fault, shown)?;
+        push_block(alloc, &mut text, file, *fault, line, &note)?;
+    }
+    Ok(text)
+}
+
+/// Returns the blocks of faults of a source.
+fn blocks_of(
+    alloc: Global,
+    file: &[u8],
+    source: &[u8],
+    map: &MapSpec,
+    faults: &[AsmFault],
+) -> Result<Vec<u8>, AllocError>
+    ensures { IfOk result (λ text. AreBlocks file.now faults.now text.items) }
+{
+    if source.len() > SOURCE_SIZE {
+        return large_blocks(alloc, file, faults);
+    }
+    let mut symbols = Symbols::new(alloc);
+    let profile = map.profile();
+    let found = lay_out(alloc, profile, Mending::Smallest, &mut symbols, source)?;
+    let lines = lines_of(alloc, source, found.len())?;
+    let names = names_of(alloc, &lines)?;
+    let context = Context {
+        profile,
+        port: map.port(),
+        names: &names,
+        symbols: &symbols,
+        found: &found,
+    };
+    line_blocks(alloc, file, &lines, &context, faults)
+}
+
+/// Returns the text of faults of a source: for each of the first 50, by line,
 /// `FILE:LINE:COLUMN: NAME NUMBER: ` and what a person needs, the line and a mark under what is
 /// meant; then how many faults there are. Without a fault the text is empty.
 ///
-/// The only error is that a request for memory was refused. Source: mos65.
+/// Columns are counted in bytes from 1; a tab is one.
+///
+/// Errors: `AllocError` if an allocation fails. Source: mos65.
 pub fn faults_text(
     alloc: Global,
     file: &[u8],
     source: &[u8],
     map: &MapSpec,
     faults: &[AsmFault],
-) -> Result<Vec<u8>, AllocError> {
-    let mut text = Vec::new(alloc);
+) -> Result<Vec<u8>, AllocError>
+    // A block for each of the first 50 faults, with its line, its name and its number.
+    ensures told { IfOk result (λ text. IsToldText file.now faults.now text.items) }
+{
     if faults.is_empty() {
-        return Ok(text);
+        return Ok(Vec::new(alloc));
     }
-    if source.len() > SOURCE_SIZE {
-        return large_text(alloc, file, faults);
-    }
-    let mut symbols = Symbols::new(alloc);
-    let found = lay_out(
-        alloc,
-        map.profile(),
-        Mending::Smallest,
-        &mut symbols,
-        source,
-    )?;
-    let lines = lines_of(alloc, source, found.len())?;
-    let names = names_of(alloc, &lines)?;
-    let context = Context {
-        profile: map.profile(),
-        port: map.port(),
-        names: &names,
-        symbols: &symbols,
-        found: &found,
-    };
-    let first = first_by_line(alloc, faults)?;
-    for fault in &first {
-        let line = lines.get((fault.line as usize).saturating_sub(1)).copied();
-        let shown = match line {
-            Some(line) => line,
-            None => &[],
-        };
-        let explained = note_of(alloc, &context, *fault, shown)?;
-        push_block(&mut text, file, *fault, line, &explained)?;
-    }
+    let first = by_line(alloc, first_told(faults))?;
+    let mut text = blocks_of(alloc, file, source, map, &first)?;
     push_end(&mut text, faults.len())?;
     Ok(text)
 }

@@ -26,12 +26,22 @@ pub struct Context<'s, 'a> {
     pub found: &'s [Found<'a>],
 }
 
+/// Returns the tokens after the first one of an operation, or after the `=` of a definition.
+fn operand_of<'t, 'a>(tokens: &'t [Token<'a>]) -> &'t [Token<'a>] {
+    match after_label(tokens) {
+        [_, equals, value @ ..] if is_symbol(equals, b'=') => value,
+        [_, operand @ ..] => operand,
+        [] => &[],
+    }
+}
+
 /// Words about the operand of a line, or about all of it where it has none.
 fn about_operand(line: &[u8], tokens: &[Token<'_>], words: Vec<u8>) -> Note {
-    let rest = after_label(tokens);
-    let meant = match rest {
-        [_, operand @ ..] if !operand.is_empty() => operand,
-        _ => rest,
+    let operand = operand_of(tokens);
+    let meant = if operand.is_empty() {
+        after_label(tokens)
+    } else {
+        operand
     };
     match (meant.first(), meant.last()) {
         (Some(first), Some(last)) => {
@@ -39,15 +49,6 @@ fn about_operand(line: &[u8], tokens: &[Token<'_>], words: Vec<u8>) -> Note {
             noted(first.start, end.saturating_sub(first.start), words)
         }
         _ => noted(blank_run(line), 1, words),
-    }
-}
-
-/// The tokens after the first one of an operation.
-fn operand_of<'t, 'a>(tokens: &'t [Token<'a>]) -> &'t [Token<'a>] {
-    let rest = after_label(tokens);
-    match rest {
-        [_, operand @ ..] => operand,
-        _ => rest,
     }
 }
 

@@ -1,5 +1,8 @@
 //! Words put together.
 
+ghost use Rattle.std.specs.Prelude.{◌≡◌, ◌++◌, OnOk};
+ghost use Rattle.std.specs.Fmt.{decimal};
+
 use formatting::digits_of_address;
 use itoa::Buffer;
 use std::alloc::{AllocError, Global};
@@ -48,8 +51,10 @@ pub fn push_decimal(words: &mut Vec<u8>, number: i32) -> Result<(), AllocError> 
     words.extend_from_slice(Buffer::new().format(number).as_bytes())
 }
 
-/// A count in decimal.
-pub fn push_count(words: &mut Vec<u8>, number: u32) -> Result<(), AllocError> {
+/// Appends a count in decimal.
+pub fn push_count(words: &mut Vec<u8>, number: u32) -> Result<(), AllocError>
+    ensures { OnOk result (words.new.items ≡ words.old.items ++ decimal number) }
+{
     words.extend_from_slice(Buffer::new().format(number).as_bytes())
 }
 
