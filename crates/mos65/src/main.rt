@@ -2,19 +2,24 @@
 //! to the crate that serves them.
 #![tactic(auto)]
 
+use asm_files::{asks_for_files, asm_files};
 use checking::check;
 use dis_source::dis_source;
 use program::{program, unreadable_words};
 use std::process::ExitCode;
 use std::{env, io};
 
-/// Does what words ask for, and returns the exit status. `check`, and `dis` with a word `--source`,
-/// are served by crates of their own; all other words are those of `program`.
+/// Does what words ask for, and returns the exit status. `check`, `dis` with a word `--source`, and
+/// `asm` with a word that asks for further files are served by crates of their own; all other words
+/// are those of `program`.
 fn serve(rt: &HostRuntime, words: &[&str]) -> u8 {
     match words {
         ["check", rest @ ..] => check(rt, rest, &mut io::writer(rt), &mut rt.stderr()),
         ["dis", rest @ ..] if rest.contains(&"--source") => {
             dis_source(rt, rest, &mut io::writer(rt), &mut rt.stderr())
+        }
+        ["asm", rest @ ..] if asks_for_files(rest) => {
+            asm_files(rt, rest, &mut io::writer(rt), &mut rt.stderr())
         }
         _ => program(
             rt,

@@ -1,0 +1,12 @@
+use Rattle.std.proofs.Common.{◌≡◌, ◌++◌}
+use Rattle.asm_files.specs.Found.{extents_found}
+use Rattle.asm_files.specs.Texts.{map_text}
+use Rattle.source_faults.specs.Seen.{found_all}
+use Rattle.asm_files.proofs.Rows.{places_left}
+use Rattle.asm_files.proofs.places.map_text.Given as goal
+
+abbrev pub invariant-loop-line : goal.invariant-loop-line
+invariant-loop-line l = record {
+  rows : l.out.items ++ places_left l.found l.line-index ≡ map_text 1 (extents_found (found_all l.found));
+  number : l.number ≡ l.line-index;
+}

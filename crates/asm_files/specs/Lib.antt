@@ -1,0 +1,4 @@
+pub mod Asked
+pub mod Found
+pub mod Texts
+pub mod Views

@@ -1,0 +1,188 @@
+//! What the words ask for.
+
+ghost use Rattle.std.specs.Prelude.{◌≡◌, option_map};
+ghost use Rattle.asm_files.specs.Asked.{files_asked, format_asked, is_used, is_wrong};
+ghost use Rattle.asm_files.specs.Views.{files_view};
+ghost use Rattle.clap.specs.Words.{first_value, found_of};
+ghost use Rattle.program_words.specs.Asked.{asm_asked, is_named, overwrites};
+ghost use Rattle.program_words.specs.Values.{port_asked, profile_asked};
+ghost use Rattle.program_words.specs.Views.{asm_view};
+
+use crate::command::command;
+use crate::format::SymbolsFormat;
+use clap::ArgMatches;
+use commands::address_of;
+use model::Profile;
+use program_words::{AsmWords, WordsFault};
+use std::alloc::Global;
+
+/// What the words of `asm` with `--symbols` or `--map` ask for.
+///
+/// No two of the files have the same name.
+#[derive(Clone, Copy)]
+pub struct FilesWords<'a> {
+    /// What `asm` does.
+    pub asm: AsmWords<'a>,
+    /// The file to write the names to, if one is asked for.
+    pub symbols: Option<&'a str>,
+    /// How they are written.
+    pub format: SymbolsFormat,
+    /// The file to write the places of the lines to, if one is asked for.
+    pub map: Option<&'a str>,
+}
+
+/// Returns the port that the word after `--port` asks for, or `None` if it is wrong.
+fn port_asked(word: Option<&str>) -> Option<u16>
+    ensures { result ≡ port_asked (option_map (λ w. w.now) word.entry) }
+{
+    match word {
+        None => Some(0xf000),
+        Some(word) => address_of(word.as_bytes()),
+    }
+}
+
+/// Returns the profile that the word after `--profile` asks for, or `None` if it is wrong.
+fn profile_asked(word: Option<&str>) -> Option<Profile>
+    ensures { result ≡ profile_asked (option_map (λ w. w.now) word.entry) }
+{
+    match word {
+        None => Some(Profile::N),
+        Some(word) => {
+            let word = word.as_bytes();
+            if word.len() != 1 {
+                return None;
+            }
+            match word[0] {
+                b'N' => Some(Profile::N),
+                b'C' => Some(Profile::C),
+                _ => None,
+            }
+        }
+    }
+}
+
+/// Returns the format that the word after `--symbols-format` asks for, or `None` if it is wrong.
+fn format_asked(word: Option<&str>) -> Option<SymbolsFormat>
+    ensures { result ≡ format_asked (option_map (λ w. w.now) word.entry) }
+{
+    match word {
+        None => Some(SymbolsFormat::Plain),
+        Some(word) => {
+            if word == "plain" {
+                Some(SymbolsFormat::Plain)
+            } else if word == "vice" {
+                Some(SymbolsFormat::Vice)
+            } else {
+                None
+            }
+        }
+    }
+}
+
+/// Returns whether a file that is asked for has a name.
+fn is_named(file: Option<&str>, name: &str) -> bool
+    ensures { result ≡ is_named (option_map (λ s. s.now) file.entry) name.now }
+{
+    match file {
+        None => false,
+        Some(file) => file == name,
+    }
+}
+
+/// Returns whether a file to write has the name of the source, or of the other file to write.
+fn overwrites(source: &str, tape: &str, listing: Option<&str>) -> bool
+    ensures { result ≡ overwrites source.now tape.now (option_map (λ s. s.now) listing.entry) }
+{
+    tape == source || is_named(listing, source) || is_named(listing, tape)
+}
+
+/// Returns what the values that were found ask `asm` for, or `None` if one is wrong.
+fn asm_words<'a>(matches: &ArgMatches<'a>) -> Option<AsmWords<'a>>
+    ensures { option_map asm_view result ≡ asm_asked (first_value (found_of matches.now)) }
+{
+    let source = matches.get_str("SOURCE")?;
+    let tape = matches.get_str("TAPE")?;
+    let listing = matches.get_str("listing");
+    let port = port_asked(matches.get_str("port"))?;
+    let profile = profile_asked(matches.get_str("profile"))?;
+    if overwrites(source, tape, listing) {
+        return None;
+    }
+    Some(AsmWords {
+        source,
+        tape,
+        listing,
+        port,
+        profile,
+    })
+}
+
+/// Returns whether a file to write has the name of another file of `asm`.
+fn is_used(asm: &AsmWords<'_>, file: Option<&str>) -> bool
+    ensures { result ≡ is_used (asm_view asm.now) (option_map (λ s. s.now) file.entry) }
+{
+    match file {
+        None => false,
+        Some(file) => file == asm.source || file == asm.tape || is_named(asm.listing, file),
+    }
+}
+
+/// Returns whether there is a format without a file of names, or a file to write has the name of
+/// another one.
+fn is_wrong(
+    asm: &AsmWords<'_>,
+    symbols: Option<&str>,
+    map: Option<&str>,
+    format: Option<&str>,
+) -> bool
+    ensures { result ≡ is_wrong (asm_view asm.now) (option_map (λ s. s.now) symbols.entry)
+        (option_map (λ s. s.now) map.entry) (option_map (λ s. s.now) format.entry) }
+{
+    let is_lone = format.is_some() && !symbols.is_some();
+    match map {
+        None => is_lone || is_used(asm, symbols),
+        Some(file) => {
+            is_lone || is_used(asm, symbols) || is_used(asm, map) || is_named(symbols, file)
+        }
+    }
+}
+
+/// Returns what the values that were found ask for, or `None` if one is wrong.
+fn files_words<'a>(matches: &ArgMatches<'a>) -> Option<FilesWords<'a>>
+    ensures { option_map files_view result ≡ files_asked (first_value (found_of matches.now)) }
+{
+    let asm = asm_words(matches)?;
+    let symbols = matches.get_str("symbols");
+    let map = matches.get_str("map");
+    let named = matches.get_str("symbols-format");
+    let format = format_asked(named)?;
+    if is_wrong(&asm, symbols, map, named) {
+        return None;
+    }
+    Some(FilesWords {
+        asm,
+        symbols,
+        format,
+        map,
+    })
+}
+
+/// Reads the words after `asm`.
+///
+/// # Errors
+///
+/// - `Help` if they ask for help, and `Usage` if they do not fit the command line, with `clap`'s
+///   text.
+/// - `Value`: they fit, and a value is wrong: one of those of `asm`, a format that is neither
+///   `plain` nor `vice` or has no file, or two files with one name.
+/// - `OutOfMemory`: an allocation failed.
+pub fn read_files_words<'a>(
+    alloc: Global,
+    words: &'a [&'a str],
+) -> Result<FilesWords<'a>, WordsFault> {
+    let matches = command(alloc)?.try_get_matches_from(words)?;
+    match files_words(&matches) {
+        Some(words) => Ok(words),
+        None => Err(WordsFault::Value),
+    }
+}

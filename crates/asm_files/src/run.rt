@@ -1,0 +1,160 @@
+//! The tape and the files of a source, written.
+
+ghost use Rattle.std.specs.Prelude.{◌≡◌, ◌≤◌, ◌⊎◌, None, Err, IfErr, IfOk, MatchResult, false};
+ghost use Rattle.model.specs.State.{is_map};
+ghost use Rattle.model.specs.declared.bus_fault.BusFault.TheVariants.{BadMap};
+ghost use Rattle.program.specs.Refusals.{EndsAsm};
+ghost use Rattle.program.specs.Statuses.{IsStatusOf, status_of};
+
+use crate::asked::{FilesWords, read_files_words};
+use crate::texts::{FileTexts, TextsAsked, file_texts};
+use bus::MapSpec;
+use model::{BusFault, Profile};
+use program::Refusal;
+use program_words::WordsFault;
+use std::fs::File;
+use std::io::{Read, Write};
+use std::rt::Files;
+use std::{fs, io};
+
+/// One byte more than the longest source.
+const MOST_READ: u64 = 1_048_577;
+
+/// Returns the bytes of a source's file, or the first of them if it is too long for a source.
+fn read_source<H: Files + AllocGlobal>(rt: &H, path: &str) -> io::Result<Vec<u8>> {
+    let mut source = Vec::new(rt.alloc());
+    File::open(rt, path)?
+        .take(MOST_READ)
+        .read_to_end(&mut source)?;
+    Ok(source)
+}
+
+/// Returns the map of a profile with this port.
+///
+/// Errors: `BadMap` if the port makes no map.
+fn map_of(profile: Profile, port: u16) -> Result<MapSpec, BusFault>
+    ensures map { IfOk result (λ map. map ≡ record { profile = profile; rom = None; port = port }) }
+    ensures bad { is_map None port ≡ false → result ≡ Err BadMap }
+    ensures only { IfErr result (λ fault. (fault ≡ BadMap) × (is_map None port ≡ false)) }
+{
+    let map = MapSpec::new(None, port)?;
+    match profile {
+        Profile::N => Ok(map),
+        Profile::C => Ok(map.profile_c()),
+    }
+}
+
+/// Writes a text to a file of that name, if both are there. A file that is there is replaced.
+fn write_file<H: Files>(rt: &H, file: Option<&str>, text: &Option<Vec<u8>>) -> Result<(), Refusal>
+    ensures only { IfErr result (λ e. (e ≡ Refusal.OutOfMemory) ⊎ (e ≡ Refusal.Write)) }
+{
+    match (file, text) {
+        (Some(file), Some(text)) => {
+            fs::write(rt, file, text.as_slice()).map_err(|error| Refusal::unwritable(&error))
+        }
+        _ => Ok(()),
+    }
+}
+
+/// Writes the tape's file, and then the listing's, that of the names and that of the places.
+fn write_texts<H: Files>(rt: &H, words: &FilesWords<'_>, texts: &FileTexts) -> Result<(), Refusal>
+    ensures only { IfErr result (λ e. (e ≡ Refusal.OutOfMemory) ⊎ (e ≡ Refusal.Write)) }
+{
+    fs::write(rt, words.asm.tape, texts.asm.tape.as_slice()).map_err(|error| Refusal::unwritable(
+        &error,
+    ))?;
+    write_file(rt, words.asm.listing, &texts.asm.listing)?;
+    write_file(rt, words.symbols, &texts.symbols)?;
+    write_file(rt, words.map, &texts.map)
+}
+
+/// Returns which texts the words ask for beside that of the tape.
+fn texts_asked(words: &FilesWords<'_>) -> TextsAsked {
+    TextsAsked {
+        is_listed: words.asm.listing.is_some(),
+        symbols: match words.symbols {
+            Some(_) => Some(words.format),
+            None => None,
+        },
+        is_mapped: words.map.is_some(),
+    }
+}
+
+/// Assembles a file, and writes its tape and the files that are asked for.
+///
+/// All texts are whole before a file is made.
+fn assembled<H: Files + AllocGlobal>(rt: &H, words: &FilesWords<'_>) -> Result<(), Refusal>
+    ensures bad_map { is_map None words.now.asm.port ≡ false → result ≡ Err (Refusal.Map BadMap) }
+    ensures refused { IfErr result (EndsAsm
+        (record { profile = words.now.asm.profile; rom = None; port = words.now.asm.port })) }
+{
+    let map = map_of(words.asm.profile, words.asm.port)?;
+    let source = read_source(rt, words.asm.source).map_err(|error| Refusal::unreadable(&error))?;
+    let texts = file_texts(rt.alloc(), source.as_slice(), &map, texts_asked(words))?;
+    write_texts(rt, words, &texts)
+}
+
+/// Writes the fault line, and returns the exit status, even if the line cannot be written.
+fn refused<E: Write>(refusal: Refusal, errors: &mut E) -> u8
+    ensures { result ≡ status_of refusal }
+{
+    let _ = writeln!(errors, "mos65: {refusal}");
+    refusal.status()
+}
+
+/// Writes why words are rejected, or the help that they ask for, and returns the exit status.
+fn refused_words<O: Write, E: Write>(fault: WordsFault, output: &mut O, errors: &mut E) -> u8
+    ensures status { IsStatusOf fault result }
+    ensures untouched { 1 ≤ result → result ≤ 3 → output.new ≡ output.old }
+    ensures quiet { result ≡ 0 → errors.new ≡ errors.old }
+{
+    match fault {
+        WordsFault::Help(text) => match write!(output, "{text}") {
+            Ok(()) => 0,
+            Err(_) => refused(Refusal::Write, errors),
+        },
+        WordsFault::Usage(text) => {
+            let _ = write!(errors, "{text}");
+            2
+        }
+        WordsFault::Value => refused(Refusal::Words, errors),
+        WordsFault::OutOfMemory => refused(Refusal::OutOfMemory, errors),
+    }
+}
+
+/// Returns the exit status of what was tried: 0 if it is done; otherwise a fault line is written.
+fn ended<E: Write>(outcome: Result<(), Refusal>, errors: &mut E) -> u8
+    ensures status { MatchResult outcome (λ _. result ≡ 0) (λ refusal. result ≡ status_of refusal) }
+    ensures quiet { result ≡ 0 → errors.new ≡ errors.old }
+{
+    match outcome {
+        Ok(()) => 0,
+        Err(refusal) => refused(refusal, errors),
+    }
+}
+
+/// Does what the words after `asm` ask for if `--symbols` or `--map` is among them, and returns the
+/// exit status.
+///
+/// The status and the fault line are those of `asm`: 0 if it is done, 1 if the source is rejected, 2
+/// if the words or the map are wrong, 3 if memory ran out, 4 if reading or writing failed. The tape
+/// is written first, then the listing, the names and the places of the lines; all texts are whole
+/// before the first file is made. The output gets nothing but help.
+pub fn asm_files<H: Files + AllocGlobal, O: Write, E: Write>(
+    rt: &H,
+    words: &[&str],
+    output: &mut O,
+    errors: &mut E,
+) -> u8
+    ensures status { result ≤ 4 }
+    // If it is done, nothing is written on the error stream.
+    ensures quiet { result ≡ 0 → errors.new ≡ errors.old }
+    // A source, words or a map that are rejected leave the output unchanged, and so does memory
+    // that runs out.
+    ensures untouched { 1 ≤ result → result ≤ 3 → output.new ≡ output.old }
+{
+    match read_files_words(rt.alloc(), words) {
+        Ok(words) => ended(assembled(rt, &words), errors),
+        Err(fault) => refused_words(fault, output, errors),
+    }
+}
