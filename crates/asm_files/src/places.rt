@@ -22,7 +22,7 @@ fn extent(found: &Found<'_>) -> (u32, u32)
     }
 }
 
-/// Appends a line's row, if the line has a byte: its address, how many bytes it has, and its number.
+/// Appends the row of a line with a byte: its address, how many bytes it has, and its number.
 fn push_place(out: &mut Vec<u8>, number: u32, address: u32, count: u32) -> Result<(), AllocError>
     ensures { OnOk result (out.new.items ≡ out.old.items ++ map_row number (address, count)) }
 {

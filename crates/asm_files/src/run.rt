@@ -136,10 +136,10 @@ fn ended<E: Write>(outcome: Result<(), Refusal>, errors: &mut E) -> u8
 /// Does what the words after `asm` ask for if `--symbols` or `--map` is among them, and returns the
 /// exit status.
 ///
-/// The status and the fault line are those of `asm`: 0 if it is done, 1 if the source is rejected, 2
-/// if the words or the map are wrong, 3 if memory ran out, 4 if reading or writing failed. The tape
-/// is written first, then the listing, the names and the places of the lines; all texts are whole
-/// before the first file is made. The output gets nothing but help.
+/// The status and the fault line are those of `asm`: 0 if it is done, 1 if the source is rejected,
+/// 2 if the words or the map are wrong, 3 if memory ran out, 4 if reading or writing failed. The
+/// tape is written first, then the listing, the names and the places of the lines; all texts are
+/// whole before the first file is made. The output gets nothing but help.
 pub fn asm_files<H: Files + AllocGlobal, O: Write, E: Write>(
     rt: &H,
     words: &[&str],

@@ -130,7 +130,7 @@ pub fn check<H: Files + AllocGlobal, O: Write, E: Write>(
     ensures told { result ≡ 1 → TellsFaults (O.contents output.old) (O.contents output.new) }
     // If a source was checked, nothing is written on the error stream.
     ensures quiet { result ≤ 1 → errors.new ≡ errors.old }
-    // Words or a map that are rejected leave the output unchanged, and so does memory that runs out.
+    // Words or a map that are rejected leave the output unchanged; so does memory that runs out.
     ensures untouched { 2 ≤ result → result ≤ 3 → output.new ≡ output.old }
 {
     match read_words(rt.alloc(), words) {

@@ -7,6 +7,7 @@ ghost use Rattle.explain.specs.Blocks.{place_of};
 
 use crate::lines::{lines_of, names_of};
 use crate::note::{Context, note_of};
+use crate::runs::Class;
 use crate::words::{Note, noted, push_count, said};
 use bus::MapSpec;
 use itoa::Buffer;
@@ -47,10 +48,7 @@ fn push_kind(text: &mut Vec<u8>, kind: AsmFaultKind) -> Result<(), AllocError>
 
 /// Returns how a byte of a line is shown.
 fn shown(byte: u8) -> u8 {
-    match byte {
-        b' '..=b'~' | b'\t' => byte,
-        _ => b'?',
-    }
+    if Class::Line.has(byte) { byte } else { b'?' }
 }
 
 /// Returns the blank under a place of a line.

@@ -1,8 +1,8 @@
 //! What a person needs of each fault of a source: where it stands, a reason in words, the nearest
 //! name, by how much a value misses.
 //!
-//! `faults_text` writes a block for each fault. It is safe and returns on all bytes; what the words
-//! say is tested and not proved.
+//! `faults_text` writes a block for each fault. It begins with the fault's line, name and number;
+//! what the words after these say is tested and not proved.
 #![tactic(auto)]
 
 mod block;
@@ -10,6 +10,7 @@ mod form;
 mod lines;
 mod near;
 mod note;
+mod runs;
 mod scan;
 mod values;
 mod words;

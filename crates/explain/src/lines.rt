@@ -1,5 +1,6 @@
 //! The lines of a source that are read, and the names that they begin with.
 
+use crate::runs::{Class, run_of};
 use source_lines::next_line;
 use std::alloc::{AllocError, Global};
 
@@ -21,18 +22,12 @@ pub fn after(bytes: &[u8], count: usize) -> &[u8] {
 
 /// How many spaces and tabs some bytes begin with.
 pub fn blank_run(bytes: &[u8]) -> usize {
-    bytes
-        .iter()
-        .take_while(|byte| matches!(**byte, b' ' | b'\t'))
-        .count()
+    run_of(Class::Blank, bytes)
 }
 
 /// How many letters, digits and `_` some bytes begin with.
 pub fn word_run(bytes: &[u8]) -> usize {
-    bytes
-        .iter()
-        .take_while(|byte| matches!(**byte, b'A'..=b'Z' | b'a'..=b'z' | b'0'..=b'9' | b'_'))
-        .count()
+    run_of(Class::Word, bytes)
 }
 
 /// The first lines of a text, so many at most.

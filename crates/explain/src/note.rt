@@ -3,6 +3,7 @@
 use crate::form::{after_label, form_note, is_symbol};
 use crate::lines::{Name, blank_run};
 use crate::near::is_near;
+use crate::runs::{Class, run_of};
 use crate::scan::first_stray;
 use crate::values::{Outside, branch_miss, first_outside};
 use crate::words::{Note, named, noted, push_address, push_count, push_decimal, said};
@@ -52,13 +53,41 @@ fn about_operand(line: &[u8], tokens: &[Token<'_>], words: Vec<u8>) -> Note {
     }
 }
 
-/// The token of a name that has no number, where a value is meant.
-fn unknown_token<'t, 'a>(symbols: &Symbols, tokens: &'t [Token<'a>]) -> Option<&'t Token<'a>> {
+/// Returns whether a name is the label of a line, or defined by a line before it.
+fn is_known_before(names: &[Name<'_>], number: u32, tokens: &[Token<'_>], name: &[u8]) -> bool {
+    if after_label(tokens).len() < tokens.len() && tokens[0].text == name {
+        return true;
+    }
+    for known in names {
+        if known.line < number && known.text == name {
+            return true;
+        }
+    }
+    false
+}
+
+/// Returns whether a token is a word that may be a name.
+fn may_be_name(token: &Token<'_>) -> bool {
+    let is_register = token.text.eq_ignore_ascii_case(b"X")
+        || token.text.eq_ignore_ascii_case(b"Y")
+        || token.text.eq_ignore_ascii_case(b"A");
+    token.kind == TokenKind::Word && !is_register
+}
+
+/// Returns the token of a name that has no number, or none before its line, where a value is meant.
+fn unknown_token<'t, 'a>(
+    context: &Context<'_, '_>,
+    number: u32,
+    tokens: &'t [Token<'a>],
+    is_early: bool,
+) -> Option<&'t Token<'a>> {
     for token in operand_of(tokens) {
-        let is_index = token.text.eq_ignore_ascii_case(b"X")
-            || token.text.eq_ignore_ascii_case(b"Y")
-            || token.text.eq_ignore_ascii_case(b"A");
-        if token.kind == TokenKind::Word && !is_index && symbols.value_of(token.text).is_none() {
+        let is_known = if is_early {
+            is_known_before(context.names, number, tokens, token.text)
+        } else {
+            context.symbols.value_of(token.text).is_some()
+        };
+        if may_be_name(token) && !is_known {
             return Some(token);
         }
     }
@@ -70,11 +99,12 @@ fn unknown_token<'t, 'a>(symbols: &Symbols, tokens: &'t [Token<'a>]) -> Option<&
 fn unknown_note(
     alloc: Global,
     context: &Context<'_, '_>,
+    number: u32,
     line: &[u8],
     tokens: &[Token<'_>],
     is_early: bool,
 ) -> Result<Note, AllocError> {
-    let Some(token) = unknown_token(context.symbols, tokens) else {
+    let Some(token) = unknown_token(context, number, tokens, is_early) else {
         let words = said(alloc, "a name has to be defined on an earlier line")?;
         return Ok(about_operand(line, tokens, words));
     };
@@ -316,8 +346,10 @@ fn tokens_note(
         AsmFaultKind::Syntax => form_note(alloc, context.profile, tokens),
         AsmFaultKind::ReservedName => reserved_note(alloc, context.profile, line, tokens),
         AsmFaultKind::DuplicateName => duplicate_words(alloc, context, tokens),
-        AsmFaultKind::UnknownHere => unknown_note(alloc, context, line, tokens, true),
-        AsmFaultKind::UndefinedName => unknown_note(alloc, context, line, tokens, false),
+        AsmFaultKind::UnknownHere => unknown_note(alloc, context, fault.line, line, tokens, true),
+        AsmFaultKind::UndefinedName => unknown_note(
+            alloc, context, fault.line, line, tokens, false,
+        ),
         AsmFaultKind::NoSuchForm => modes_note(alloc, context.profile, line, tokens),
         kind => {
             let index = (fault.line as usize).saturating_sub(1);
@@ -347,13 +379,6 @@ fn text_note(alloc: Global, line: &[u8]) -> Result<Note, AllocError> {
     }
 }
 
-/// Where the first byte stands that may not stand in a line.
-fn strange_byte(line: &[u8]) -> usize {
-    line.iter()
-        .take_while(|byte| matches!(**byte, b' '..=b'~' | b'\t'))
-        .count()
-}
-
 /// What is said of a fault.
 pub fn note_of(
     alloc: Global,
@@ -368,7 +393,7 @@ pub fn note_of(
         }
         AsmFaultKind::NotAscii => {
             let words = said(alloc, "a byte is neither printable ASCII nor a tab")?;
-            return Ok(noted(strange_byte(line), 1, words));
+            return Ok(noted(run_of(Class::Line, line), 1, words));
         }
         _ => {}
     }

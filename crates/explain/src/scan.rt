@@ -1,6 +1,7 @@
 //! Where a line is no longer made of tokens, and why.
 
 use crate::lines::{after, word_run};
+use crate::runs::{Class, run_of};
 
 /// Bytes of a line that are no token, and why.
 #[derive(Clone, Copy)]
@@ -8,15 +9,6 @@ pub struct Stray {
     pub start: usize,
     pub width: usize,
     pub reason: &'static str,
-}
-
-/// How many of the digits that a test finds some bytes begin with.
-fn digits(bytes: &[u8], is_hex: bool) -> usize {
-    bytes
-        .iter()
-        .take_while(|byte| matches!(**byte, b'0'..=b'9')
-            || is_hex && matches!(**byte, b'A'..=b'F' | b'a'..=b'f'))
-        .count()
 }
 
 /// Why a number after its mark is none, if it is none: so many of its bytes are digits.
@@ -45,10 +37,7 @@ fn length_or(reason: Option<&'static str>, count: usize) -> Result<usize, &'stat
 
 /// How many bytes a string has with its quotes, if it is one.
 fn string_length(bytes: &[u8]) -> Option<usize> {
-    let inside = after(bytes, 1)
-        .iter()
-        .take_while(|byte| **byte != b'"')
-        .count();
+    let inside = run_of(Class::Unquoted, after(bytes, 1));
     if inside > 255 || after(bytes, inside + 1).is_empty() {
         None
     } else {
@@ -72,15 +61,15 @@ fn token_length(bytes: &[u8]) -> Result<usize, &'static str> {
             }
         }
         b'0'..=b'9' => {
-            let count = digits(bytes, false);
+            let count = run_of(Class::Decimal, bytes);
             length_or(number_reason(bytes, count), count)
         }
         b'$' => {
-            let count = digits(rest, true);
+            let count = run_of(Class::Hex, rest);
             length_or(number_reason(rest, count), count.saturating_add(1))
         }
         b'%' => {
-            let count = digits(rest, false);
+            let count = run_of(Class::Decimal, rest);
             length_or(number_reason(rest, count), count.saturating_add(1))
         }
         b'\'' => match bytes {
