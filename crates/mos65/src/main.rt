@@ -8,13 +8,18 @@ use dis_source::dis_source;
 use program::{program, unreadable_words};
 use std::process::ExitCode;
 use std::{env, io};
+use tape_cmp::tape_cmp;
+use tape_info::tape_info;
+use tape_mend::tape_mend;
 
-/// Does what words ask for, and returns the exit status. `check`, `dis` with a word `--source`, and
-/// `asm` with a word that asks for further files are served by crates of their own; all other words
-/// are those of `program`.
+/// Does what words ask for, and returns the exit status. A word beside those of `program`, and one of
+/// them with a word that `program` does not know, is served by a crate of its own.
 fn serve(rt: &HostRuntime, words: &[&str]) -> u8 {
     match words {
         ["check", rest @ ..] => check(rt, rest, &mut io::writer(rt), &mut rt.stderr()),
+        ["info", rest @ ..] => tape_info(rt, rest, &mut io::writer(rt), &mut rt.stderr()),
+        ["cmp", rest @ ..] => tape_cmp(rt, rest, &mut io::writer(rt), &mut rt.stderr()),
+        ["mend", rest @ ..] => tape_mend(rt, rest, &mut io::writer(rt), &mut rt.stderr()),
         ["dis", rest @ ..] if rest.contains(&"--source") => {
             dis_source(rt, rest, &mut io::writer(rt), &mut rt.stderr())
         }

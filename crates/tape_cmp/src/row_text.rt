@@ -1,0 +1,165 @@
+//! The differences as rows of text.
+
+use memory_map::Image;
+use model::Profile;
+use std::alloc::{AllocError, Global};
+use tape_words::{instruction_len, push_count, push_instruction};
+
+/// An image with its file's name, and for each address the one at which its instruction begins.
+#[derive(Drop)]
+pub struct Side<'a> {
+    name: &'a str,
+    image: Image,
+    starts: Vec<u16>,
+    profile: Profile,
+}
+
+/// Returns for each address that at which the instruction begins that has its byte; each range is
+/// read as instructions from its first address on.
+fn starts_of(alloc: Global, profile: Profile, image: &Image) -> Result<Vec<u16>, AllocError> {
+    let mut starts = Vec::new(alloc);
+    let mut start = 0u16;
+    let mut left = 0u8;
+    for address in 0..65536u32 {
+        let address = address as u16;
+        if left == 0 {
+            start = address;
+            left = instruction_len(profile, image, address);
+        }
+        left = left.saturating_sub(1);
+        starts.push(start)?;
+    }
+    Ok(starts)
+}
+
+impl<'a> Side<'a> {
+    /// Makes a side of a comparison.
+    pub fn new(
+        alloc: Global,
+        name: &'a str,
+        image: Image,
+        profile: Profile,
+    ) -> Result<Side<'a>, AllocError> {
+        let starts = starts_of(alloc, profile, &image)?;
+        Ok(Side {
+            name,
+            image,
+            starts,
+            profile,
+        })
+    }
+
+    /// Returns the image.
+    pub fn image(&self) -> &Image {
+        &self.image
+    }
+
+    /// Returns whether there is a byte at an address.
+    fn has(&self, address: u16) -> bool {
+        self.image.get(address).is_some()
+    }
+
+    /// Appends the byte at an address.
+    fn push_byte(&self, words: &mut String, address: u16) -> Result<(), AllocError> {
+        match self.image.get(address) {
+            Some(byte) => write!(words, "{byte:02X}"),
+            None => words.push_str("--"),
+        }
+    }
+
+    /// Appends the instruction that has the byte at an address.
+    fn push_instruction(&self, words: &mut String, address: u16) -> Result<(), AllocError> {
+        let start = self
+            .starts
+            .get(address as usize)
+            .copied()
+            .unwrap_or(address);
+        push_instruction(words, self.profile, &self.image, start)
+    }
+}
+
+/// Appends the row of an address at which both sides have a byte.
+fn push_row(
+    words: &mut String,
+    one: &Side<'_>,
+    other: &Side<'_>,
+    address: u16,
+) -> Result<(), AllocError> {
+    write!(words, "{address:04X}  ")?;
+    one.push_byte(words, address)?;
+    words.push_str(" ")?;
+    other.push_byte(words, address)?;
+    words.push_str("  ")?;
+    one.push_instruction(words, address)?;
+    words.push_str(" | ")?;
+    other.push_instruction(words, address)?;
+    words.push_str("\n")
+}
+
+/// Appends the row of a range that one side alone has.
+fn push_range(
+    words: &mut String,
+    side: &Side<'_>,
+    first: u16,
+    last: u16,
+) -> Result<(), AllocError> {
+    write!(words, "{first:04X}-{last:04X}  ")?;
+    let count = last.saturating_sub(first) as u32 + 1;
+    push_count(words, count as u64, "byte", "bytes")?;
+    writeln!(words, " on {} only", side.name)
+}
+
+/// Returns how many of some addresses, from a place on, follow one another and are of the same
+/// kind: on one side, or not, and on the other, or not.
+fn alike(differences: &[u16], place: usize, one: &Side<'_>, other: &Side<'_>) -> usize {
+    let mut count = 0usize;
+    let mut wanted = None;
+    for address in differences.iter().skip(place) {
+        let kind = (one.has(*address), other.has(*address));
+        match wanted {
+            None => {}
+            Some((next, alike)) => {
+                if next != *address || alike != kind {
+                    break;
+                }
+            }
+        }
+        wanted = Some((address.wrapping_add(1), kind));
+        count = count.saturating_add(1);
+    }
+    count
+}
+
+/// Returns the rows of differences: for each range that one side alone has a row; for each address
+/// at which both have a byte a row with both bytes and both instructions.
+///
+/// What they say is tested, and not proved. Errors: `AllocError` if an allocation fails.
+pub fn rows(
+    alloc: Global,
+    one: &Side<'_>,
+    other: &Side<'_>,
+    differences: &[u16],
+) -> Result<String, AllocError> {
+    let mut words = String::new(alloc);
+    let mut until = 0usize;
+    for (place, first) in differences.iter().enumerate() {
+        if place < until {
+            continue;
+        }
+        if one.has(*first) && other.has(*first) {
+            push_row(&mut words, one, other, *first)?;
+            continue;
+        }
+        until = place.saturating_add(alike(differences, place, one, other));
+        let last = differences
+            .get(until.saturating_sub(1))
+            .copied()
+            .unwrap_or(*first);
+        if one.has(*first) {
+            push_range(&mut words, one, *first, last)?;
+        } else {
+            push_range(&mut words, other, *first, last)?;
+        }
+    }
+    Ok(words)
+}

@@ -1,0 +1,2 @@
+pub mod RangesByAddress
+pub mod Semicolons

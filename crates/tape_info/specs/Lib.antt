@@ -1,0 +1,3 @@
+pub mod Crc
+pub mod Facts
+pub mod Steps

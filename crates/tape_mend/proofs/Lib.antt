@@ -1,0 +1,3 @@
+pub mod Appended
+pub mod Read
+pub mod Stripped

@@ -1,0 +1,80 @@
+//! What a word answers, written.
+
+ghost use Rattle.std.specs.Prelude.{◌≡◌, ◌≤◌, Err, OnErr};
+ghost use Rattle.tape_words.specs.Statuses.{status_of};
+
+use crate::refusal::Refusal;
+use program_words::WordsFault;
+use std::io::Write;
+
+/// What a word writes, and whether its exit status is then 0, or 1.
+#[derive(Drop)]
+pub struct Answer {
+    pub text: String,
+    pub is_right: bool,
+}
+
+/// Writes a text and flushes it.
+fn written<O: Write>(output: &mut O, text: &[u8]) -> Result<(), Refusal>
+    ensures { OnErr result (result ≡ Err Refusal.Write) }
+{
+    match output.write_all(text) {
+        Ok(()) => match output.flush() {
+            Ok(()) => Ok(()),
+            Err(_) => Err(Refusal::Write),
+        },
+        Err(_) => Err(Refusal::Write),
+    }
+}
+
+/// Says on the error stream why there is no answer, and returns the exit status.
+///
+/// That the line cannot be written changes no status.
+pub fn refused<E: Write>(refusal: Refusal, errors: &mut E) -> u8
+    ensures { result ≡ status_of refusal }
+{
+    let _ = writeln!(errors, "mos65: {refusal}");
+    refusal.status()
+}
+
+/// Says why the words are refused, or writes the help that they ask for, and returns the exit
+/// status.
+pub fn refused_words<O: Write, E: Write>(fault: WordsFault, output: &mut O, errors: &mut E) -> u8
+    ensures status { result ≤ 4 }
+    ensures untouched { 1 ≤ result → result ≤ 3 → output.new ≡ output.old }
+    ensures quiet { result ≤ 1 → errors.new ≡ errors.old }
+{
+    match fault {
+        WordsFault::Help(text) => match write!(output, "{text}") {
+            Ok(()) => 0,
+            Err(_) => refused(Refusal::Write, errors),
+        },
+        WordsFault::Usage(text) => {
+            let _ = write!(errors, "{text}");
+            2
+        }
+        WordsFault::Value => refused(Refusal::Words, errors),
+        WordsFault::OutOfMemory => refused(Refusal::OutOfMemory, errors),
+    }
+}
+
+/// Writes an answer, or says why there is none, and returns the exit status.
+///
+/// It is 0 or 1 where the answer is written, by `is_right`; otherwise that of the refusal.
+pub fn answered<O: Write, E: Write>(
+    answer: Result<Answer, Refusal>,
+    output: &mut O,
+    errors: &mut E,
+) -> u8
+    ensures status { result ≤ 4 }
+    ensures untouched { 2 ≤ result → result ≤ 3 → output.new ≡ output.old }
+    ensures quiet { result ≡ 0 → errors.new ≡ errors.old }
+{
+    match answer {
+        Ok(answer) => match written(output, answer.text.as_bytes()) {
+            Ok(()) => { if answer.is_right { 0 } else { 1 } }
+            Err(_) => refused(Refusal::Write, errors),
+        },
+        Err(refusal) => refused(refusal, errors),
+    }
+}

@@ -1,0 +1,21 @@
+//! What the words `info`, `cmp` and `mend` share.
+//!
+//! Their words are read by `clap`, a tape's file is read, a fault of a tape is said in words, and
+//! what a word answers is written.
+#![tactic(auto)]
+
+mod answer;
+mod command;
+mod files;
+mod instruction;
+mod refusal;
+mod tape_faults;
+mod words;
+
+pub use answer::{Answer, answered, refused, refused_words};
+pub use files::{image_of, read_text, write_file};
+pub use instruction::{instruction_len, push_count, push_instruction};
+pub use program_words::WordsFault;
+pub use refusal::Refusal;
+pub use tape_faults::{EndRecord, end_record, fault_text};
+pub use words::{CmpWords, InfoWords, MendWords, read_cmp_words, read_info_words, read_mend_words};
