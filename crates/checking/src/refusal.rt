@@ -16,6 +16,9 @@ pub enum Refusal {
     /// The port makes no map.
     #[error("MAP BadMap 1")]
     Map,
+    /// The file begins with a record of a tape, which a source has as a comment.
+    #[error("looks like a tape: use --tape")]
+    LooksLikeTape,
     /// Memory ran out.
     #[error("OutOfMemory")]
     OutOfMemory,
@@ -28,12 +31,12 @@ pub enum Refusal {
 }
 
 impl Refusal {
-    /// The exit status: 2 for the words or the map, 3 for memory, 4 for reading and writing.
+    /// The exit status: 2 for words, map or tape, 3 for memory, 4 for reading and writing.
     pub fn status(&self) -> u8
         ensures { result ≡ status_of self.now }
     {
         match self {
-            Refusal::Words | Refusal::Map => 2,
+            Refusal::Words | Refusal::Map | Refusal::LooksLikeTape => 2,
             Refusal::OutOfMemory => 3,
             Refusal::Read | Refusal::Write => 4,
         }
