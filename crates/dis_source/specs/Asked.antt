@@ -1,8 +1,9 @@
 -- What the words of `dis` with `--source` ask for, by the values that clap's definition of a parse
 -- finds among them. Source: mos65.
-use Rattle.std.specs.Prelude.{ℕ, List, Option, Some, None, codes, length, take, drop, get_or, nat_le, ◌==◌, ◌&&◌, if◌then◌else◌, option_map}
+use Rattle.std.specs.Prelude.{ℕ, Bool, List, Option, Some, None, codes, length, take, drop, get_or, nat_le, ◌==◌, ◌&&◌, if◌then◌else◌, option_map}
 use Rattle.clap.specs.Words.{Text}
 use Rattle.model.specs.Commands.{address_of}
+use Rattle.program_words.specs.Asked.{is_flag}
 use Rattle.model.specs.declared.instruction.Profile.{Profile}
 use Rattle.model.specs.declared.instruction.Profile.TheVariants.{C, N}
 
@@ -12,6 +13,7 @@ pub record SourceAsked : Type 0 where
   pub last : ℕ
   pub numbers : Option (ℕ × ℕ)
   pub letters : Option (ℕ × ℕ)
+  pub labels : Bool
   pub profile : Profile
 
 -- Two addresses, the first at most the last.
@@ -46,21 +48,23 @@ profile_asked (Some word) =
     else None
 
 abbrev pub source_of_values : Option Text → Option (ℕ × ℕ) → Option (Option (ℕ × ℕ))
-    → Option (Option (ℕ × ℕ)) → Option Profile → Option SourceAsked
-source_of_values (Some tape) (Some bounds) (Some numbers) (Some letters) (Some profile) =
+    → Option (Option (ℕ × ℕ)) → Bool → Option Profile → Option SourceAsked
+source_of_values (Some tape) (Some bounds) (Some numbers) (Some letters) labels (Some profile) =
     Some (record {
       tape = tape;
       first = bounds.0;
       last = bounds.1;
       numbers = numbers;
       letters = letters;
+      labels = labels;
       profile = profile;
     })
-source_of_values tape bounds numbers letters profile = None
+source_of_values tape bounds numbers letters labels profile = None
 
 -- What the values of the names ask for, where each is one that its name can have.
 abbrev pub source_asked : (Text → Option Text) → Option SourceAsked
 source_asked value = source_of_values (value (codes "TAPE"))
     (bounds_asked (value (codes "LO")) (value (codes "HI")))
     (range_asked (value (codes "data"))) (range_asked (value (codes "text")))
+    (is_flag (value (codes "labels")))
     (profile_asked (value (codes "profile")))

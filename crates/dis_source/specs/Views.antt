@@ -9,5 +9,6 @@ source_view w = record {
   last = w.last;
   numbers = w.numbers;
   letters = w.letters;
+  labels = w.labels;
   profile = w.profile;
 }

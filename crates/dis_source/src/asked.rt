@@ -5,6 +5,7 @@ ghost use Rattle.dis_source.specs.Asked.{addresses_of, bounds_asked, profile_ask
 ghost use Rattle.dis_source.specs.Asked.{range_of, source_asked};
 ghost use Rattle.dis_source.specs.Views.{source_view};
 ghost use Rattle.model.specs.Commands.{address_of};
+ghost use Rattle.program_words.specs.Asked.{is_flag};
 
 use crate::command::command;
 use clap::ArgMatches;
@@ -13,8 +14,8 @@ use model::Profile;
 use program_words::WordsFault;
 use std::alloc::Global;
 
-/// What the words of `dis TAPE [LO HI] --source [--data LO-HI] [--text LO-HI] [--profile N|C]` ask
-/// for.
+/// What the words of `dis TAPE [LO HI] --source [--labels] [--data LO-HI] [--text LO-HI] [--profile
+/// N|C]` ask for.
 #[derive(Clone, Copy, Debug, PartialEq, Eq)]
 pub struct SourceWords<'a> {
     /// The file to read.
@@ -27,6 +28,8 @@ pub struct SourceWords<'a> {
     pub numbers: Option<(u16, u16)>,
     /// The addresses of letters, where there are any.
     pub letters: Option<(u16, u16)>,
+    /// Whether the source has labels.
+    pub labels: bool,
     /// The processor whose instructions are written.
     pub profile: Profile,
 }
@@ -109,6 +112,16 @@ fn profile_asked(word: Option<&str>) -> Option<Profile>
     }
 }
 
+/// Whether a flag is among the words.
+fn is_given(matches: &ArgMatches<'_>, name: &str) -> bool
+    ensures { result ≡ is_flag (first_value (found_of matches.now) name.now) }
+{
+    match matches.get_str(name) {
+        Some(value) => value == "true",
+        None => false,
+    }
+}
+
 /// What the values that were found ask for, or `None` where one is no value of its name.
 fn source_words<'a>(matches: &ArgMatches<'a>) -> Option<SourceWords<'a>>
     ensures { option_map source_view result ≡ source_asked (first_value (found_of matches.now)) }
@@ -117,6 +130,7 @@ fn source_words<'a>(matches: &ArgMatches<'a>) -> Option<SourceWords<'a>>
     let bounds = bounds_asked(matches.get_str("LO"), matches.get_str("HI"))?;
     let numbers = range_asked(matches.get_str("data"))?;
     let letters = range_asked(matches.get_str("text"))?;
+    let labels = is_given(matches, "labels");
     let profile = profile_asked(matches.get_str("profile"))?;
     Some(SourceWords {
         tape,
@@ -124,6 +138,7 @@ fn source_words<'a>(matches: &ArgMatches<'a>) -> Option<SourceWords<'a>>
         last: bounds.1,
         numbers,
         letters,
+        labels,
         profile,
     })
 }

@@ -20,12 +20,12 @@ fn option<'a>(alloc: Global, name: &'a str, value: &'a str, help: &'a str) -> Ar
         .help(help)
 }
 
-/// The option that chooses a source in place of a listing.
-fn source<'a>(alloc: Global) -> Arg<'a> {
-    Arg::new(alloc, "source")
-        .long("source")
+/// An option without a value.
+fn flag<'a>(alloc: Global, name: &'a str, help: &'a str) -> Arg<'a> {
+    Arg::new(alloc, name)
+        .long(name)
         .action(ArgAction::SetTrue)
-        .help("Writes a source that `asm` takes, and no listing")
+        .help(help)
 }
 
 /// The command line of `dis` with `--source`. The only error is that a request for memory was
@@ -39,7 +39,12 @@ pub fn command<'a>(alloc: Global) -> Result<Command<'a>, Error> {
         .arg(word(alloc, "TAPE", true, "The tape to read"))?
         .arg(word(alloc, "LO", false, "The first address [default: 0000]"))?
         .arg(word(alloc, "HI", false, "The last address [default: FFFF]"))?
-        .arg(source(alloc))?
+        .arg(flag(
+            alloc,
+            "source",
+            "Writes a source that `asm` takes, and no listing",
+        ))?
+        .arg(flag(alloc, "labels", "Labels where the tape refers to itself"))?
         .arg(option(
             alloc,
             "data",

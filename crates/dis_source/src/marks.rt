@@ -19,31 +19,38 @@ fn lies_in(range: Option<(u16, u16)>, address: u16) -> bool
 }
 
 /// What an address is marked as.
-fn mark_of(numbers: Option<(u16, u16)>, letters: Option<(u16, u16)>, address: u16) -> Mark
-    ensures { result ≡ mark_of numbers letters address }
+fn mark_of(
+    labels: bool,
+    numbers: Option<(u16, u16)>,
+    letters: Option<(u16, u16)>,
+    address: u16,
+) -> Mark
+    ensures { result ≡ mark_of labels numbers letters address }
 {
     if lies_in(letters, address) {
         Mark::Text
-    } else if lies_in(numbers, address) {
+    } else if lies_in(numbers, address) | (labels & (0xfffa <= address)) {
         Mark::Data
     } else {
         Mark::Code
     }
 }
 
-/// The marks of all addresses. The only error is that a request for memory was refused.
+/// The marks of all addresses: with labels the vectors are data. The only error is that a request
+/// for memory was refused.
 pub fn marks_of(
     alloc: Global,
+    labels: bool,
     numbers: Option<(u16, u16)>,
     letters: Option<(u16, u16)>,
 ) -> Result<Vec<Mark>, AllocError>
     ensures len { IfOk result (λ marks. vec_len marks ≡ 65536) }
     ensures each { IfOk result (λ marks. (a : ℕ) → a < 65536
-        → slice_index_or marks.items a Mark.Code ≡ mark_of numbers letters a) }
+        → slice_index_or marks.items a Mark.Code ≡ mark_of labels numbers letters a) }
 {
     let mut marks = Vec::new(alloc);
     for address in 0..65536u32 {
-        marks.push(mark_of(numbers, letters, address as u16))?;
+        marks.push(mark_of(labels, numbers, letters, address as u16))?;
     }
     Ok(marks)
 }

@@ -6,9 +6,11 @@ use crate::asked::{SourceWords, read_source_words};
 use crate::marks::{between, marks_of};
 use crate::refusal::Refusal;
 use bus::Image;
+use label_text::labelled_text;
 use papertape::read_tape_from;
 use program_words::WordsFault;
-use source_text::source_text;
+use source_text::{Mark, source_text};
+use std::alloc::AllocError;
 use std::fs::File;
 use std::io::Write;
 use std::rt::Files;
@@ -22,6 +24,20 @@ fn image_of<H: Files + AllocGlobal>(rt: &H, path: &str) -> Result<Image, Refusal
     }
 }
 
+/// The source of an image, with labels where the words ask for them.
+fn source_of<H: AllocGlobal>(
+    rt: &H,
+    words: &SourceWords<'_>,
+    image: &Image,
+    marks: &[Mark],
+) -> Result<Vec<u8>, AllocError> {
+    if words.labels {
+        labelled_text(rt.alloc(), words.profile, image, marks)
+    } else {
+        source_text(rt.alloc(), words.profile, image, marks)
+    }
+}
+
 /// The source of what a tape's file has between the addresses of the words, with the words' marks.
 fn text_of<H: Files + AllocGlobal>(rt: &H, words: &SourceWords<'_>) -> Result<Vec<u8>, Refusal> {
     let alloc = rt.alloc();
@@ -29,10 +45,10 @@ fn text_of<H: Files + AllocGlobal>(rt: &H, words: &SourceWords<'_>) -> Result<Ve
     let Ok(part) = between(alloc, &image, words.first, words.last) else {
         return Err(Refusal::OutOfMemory);
     };
-    let Ok(marks) = marks_of(alloc, words.numbers, words.letters) else {
+    let Ok(marks) = marks_of(alloc, words.labels, words.numbers, words.letters) else {
         return Err(Refusal::OutOfMemory);
     };
-    match source_text(alloc, words.profile, &part, marks.as_slice()) {
+    match source_of(rt, words, &part, marks.as_slice()) {
         Ok(text) => Ok(text),
         Err(_) => Err(Refusal::OutOfMemory),
     }

@@ -53,7 +53,7 @@ origin_line_of : (profile : Profile) (t : List ℕ)
 unfolding line_of statement_of whole_expression expression_of
 origin_line_of profile t = refl
 
-origin_said : (profile : Profile) (w : ℕ) → w < 65536
+pub origin_said : (profile : Profile) (w : ℕ) → w < 65536
     → read_line profile (origin_line w) ≡ Ok (labelled None (origin (of_number w)))
 unfolding read_line tokens_of
 origin_said profile w below =
@@ -106,22 +106,22 @@ few_before passes rest n h (Some b) = pick (passes b)
     pick false = omega arith
 
 module _ (cells : List (Option ℕ)) (marks : List Mark) where
-  shown : (kind : Mark) (n a : ℕ) → Shows cells a (stretch cells marks kind n a)
+  pub shown : (kind : Mark) (n a : ℕ) → Shows cells a (stretch cells marks kind n a)
   unfolding stretch
   shown kind zero a = tt
   shown kind (suc n) a = shown_before cells a (λ b. is_kind kind (kind_of (mark_at marks a) b)) (stretch cells marks kind n (a + 1)) (shown kind n (a + 1)) (cell_at cells a) refl
 
-  letters : (n a : ℕ) → AreLetters (stretch cells marks Text n a)
+  pub letters : (n a : ℕ) → AreLetters (stretch cells marks Text n a)
   unfolding stretch
   letters zero a = tt
   letters (suc n) a = letters_before (mark_at marks a) (stretch cells marks Text n (a + 1)) (letters n (a + 1)) (cell_at cells a)
 
-  few : (kind : Mark) (n a : ℕ) → length (stretch cells marks kind n a) ≤ n
+  pub few : (kind : Mark) (n a : ℕ) → length (stretch cells marks kind n a) ≤ n
   unfolding stretch
   few kind zero a = omega arith
   few kind (suc n) a = few_before (λ b. is_kind kind (kind_of (mark_at marks a) b)) (stretch cells marks kind n (a + 1)) n (few kind n (a + 1)) (cell_at cells a)
 
-  begins : (kind : Mark) (n a b : ℕ) → cell_at cells a ≡ Some b → kind_of (mark_at marks a) b ≡ kind → stretch cells marks kind (suc n) a ≡ b ∷ stretch cells marks kind n (a + 1)
+  pub begins : (kind : Mark) (n a b : ℕ) → cell_at cells a ≡ Some b → kind_of (mark_at marks a) b ≡ kind → stretch cells marks kind (suc n) a ≡ b ∷ stretch cells marks kind n (a + 1)
   unfolding stretch
   begins kind n a b here is = rw (here, is, same_kind kind) refl
 
@@ -129,7 +129,7 @@ small_here : (cells : List (Option ℕ)) (a b : ℕ) → IsImage cells → cell_
     → b < 256
 small_here cells a b image here = let cell : IsCell (cell_at cells a) = image.each a None (is_within a b cells here) in rw here at cell
 
-small_shown : (cells : List (Option ℕ)) (a : ℕ) (bs : List ℕ) → IsImage cells → Shows cells a bs
+pub small_shown : (cells : List (Option ℕ)) (a : ℕ) (bs : List ℕ) → IsImage cells → Shows cells a bs
     → AreSmall bs
 small_shown cells a [] image s = tt
 small_shown cells a (b ∷ bs) image s = (small_here cells a b image s.0, small_shown cells (a + 1) bs image s.1)
@@ -203,7 +203,7 @@ module _ (Near : Definitions → Type 0) (Final : Numbers → Type 0) (profile :
 
 -- ---- all lines
 
-lines_read : (profile : Profile) (lines : List (List ℕ)) → ArePlain lines → GoOn profile lines
+pub lines_read : (profile : Profile) (lines : List (List ℕ)) → ArePlain lines → GoOn profile lines
     → read_lines profile (flat_map ended lines) ≡ lines
 unfolding read_lines
 lines_read profile lines plain on = rw (text_cut lines plain) (all_read profile lines on)

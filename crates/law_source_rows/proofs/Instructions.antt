@@ -96,7 +96,7 @@ far_coded numbers a v e None c unknown large h = h
 far_coded numbers a v e (Some (one d)) c unknown large h = h
 far_coded numbers a v e (Some (by_size short long)) c unknown large h = let long_is = rw (lt-leb v 255 (omega (arith, large))) at h in rw unknown long_is
 
-same_form : (profile : Profile) (m : Mnemonic) (marked : Bool) (d e : Term) (by : Index)
+pub same_form : (profile : Profile) (m : Mnemonic) (marked : Bool) (d e : Term) (by : Index)
     → form_of profile m (direct marked d by) ≡ form_of profile m (direct marked e by)
 unfolding form_of
 same_form profile m true d e by = refl

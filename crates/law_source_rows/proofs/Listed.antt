@@ -30,17 +30,17 @@ use Rattle.law_source_rows.proofs.Stands.{Stands}
 use Rattle.law_source_rows.proofs.Data.{AreSmall, data_stands}
 use Rattle.law_source_rows.proofs.Instructions.{of_number_is, short_stands, long_stands, branch_stands, immediate_stands, by_x_stands, by_y_stands, near_pointer_stands, far_pointer_stands, implied_stands, accumulator_stands}
 
-word_number : (w : ℕ) → w < 65536 → written (word_text w) ≡ of_number w
+pub word_number : (w : ℕ) → w < 65536 → written (word_text w) ≡ of_number w
 word_number w below = ap literal (four_digits w below)
 
 with_number : (profile : Profile) (text : List ℕ) (m : Mnemonic) (shape : Term → Operand)
     (e f : Term) → e ≡ f → Read profile text m (shape e) → Read profile text m (shape f)
 with_number profile text m shape e f same read = rw same at read
 
-word_below : (b c : ℕ) → b < 256 → c < 256 → b + 256 * c < 65536
+pub word_below : (b c : ℕ) → b < 256 → c < 256 → b + 256 * c < 65536
 word_below b c l h = omega (arith, l, h)
 
-large_if : (w : ℕ) (short : Bool) → (nat_lt w 256 && short) ≡ false → short ≡ true → 256 ≤ w
+pub large_if : (w : ℕ) (short : Bool) → (nat_lt w 256 && short) ≡ false → short ≡ true → 256 ≤ w
 large_if w true e h = by (nat_lt w 256) refl e
   where
     by : (t : Bool) → nat_lt w 256 ≡ t → (t && true) ≡ false → 256 ≤ w
@@ -102,7 +102,7 @@ operand_size profile m Ind a b c = omega arith
 operand_size profile m Rel a b c = omega arith
 operand_size profile m IndZ a b c = omega arith
 
-text_size : (profile : Profile) (m : Mnemonic) (mode : Mode) (a b c : ℕ)
+pub text_size : (profile : Profile) (m : Mnemonic) (mode : Mode) (a b c : ℕ)
     → length (mnemonic_text m ++ operand_text profile m mode a b c) ≤ 12
 text_size profile m mode a b c = omega (arith, length-append (mnemonic_text m) (operand_text profile m mode a b c), length-mnemonic_text m, operand_size profile m mode a b c)
 
@@ -188,7 +188,7 @@ pub record IsRow (Near : Definitions → Type 0) (Final : Numbers → Type 0) (p
 abbrev front_of : List ℕ → List ℕ
 front_of bs = slice_index bs 0 ∷ slice_index bs 1 ∷ slice_index bs 2 ∷ []
 
-take_front : (mode : Mode) (bs : List ℕ) → length_in mode ≤ length bs → take (length_in mode)
+pub take_front : (mode : Mode) (bs : List ℕ) → length_in mode ≤ length bs → take (length_in mode)
     (front_of bs) ≡ take (length_in mode) bs
 take_front mode bs long = go (length_in mode) bs long (length_in_small mode)
   where
@@ -202,16 +202,16 @@ take_front mode bs long = go (length_in mode) bs long (length_in_small mode)
     go (suc (suc (suc zero))) (x ∷ y ∷ z ∷ bs) long small = refl
     go (suc (suc (suc (suc n)))) (x ∷ y ∷ z ∷ bs) long small = absurd (omega (arith, small))
 
-small_at : (bs : List ℕ) → AreSmall bs → (i : ℕ) → slice_index bs i < 256
+pub small_at : (bs : List ℕ) → AreSmall bs → (i : ℕ) → slice_index bs i < 256
 small_at [] small i = omega arith
 small_at (b ∷ bs) small zero = small.0
 small_at (b ∷ bs) small (suc i) = small_at bs small.1 i
 
-and_both : (s t : Bool) → (s && t) ≡ true → (s ≡ true) × (t ≡ true)
+pub and_both : (s t : Bool) → (s && t) ≡ true → (s ≡ true) × (t ≡ true)
 and_both true t h = (refl, h)
 and_both false t h = absurd cc
 
-length_some : (mode : Mode) → 0 < length_in mode
+pub length_some : (mode : Mode) → 0 < length_in mode
 length_some Imp = omega arith
 length_some Acc = omega arith
 length_some Imm = omega arith

@@ -66,7 +66,7 @@ place_right m cells a bytes size spared some shown =
     rw (lt-ltb 0 (length bytes) some, le-ltb 65536 (a + length bytes) within, free_from (length bytes) a a cells (omega arith), no_port m cells a bytes spared shown) refl
 
 module _ (Near : Definitions → Type 0) (Final : Numbers → Type 0) (m : Map) (cells : List (Option ℕ)) (size : length cells ≡ 65536) (spared : has_port_byte m cells ≡ false) where
-  row_right : (line : List ℕ) (a : ℕ) (bytes : List ℕ) (s : Stands Near Final m.profile line a bytes) → 0 < length bytes → Shows cells a bytes → (numbers : Numbers) → Final numbers
+  pub row_right : (line : List ℕ) (a : ℕ) (bytes : List ℕ) (s : Stands Near Final m.profile line a bytes) → 0 < length bytes → Shows cells a bytes → (numbers : Numbers) → Final numbers
       → value_fault m numbers (below a cells) (placed_at a s.content) ≡ None
   unfolding value_fault
   row_right line a bytes s some shown numbers final =
@@ -85,19 +85,19 @@ module _ (Near : Definitions → Type 0) (Final : Numbers → Type 0) (m : Map) 
 
 -- ---- `*=`
 
-origin_laid : (profile : Profile) (line : List ℕ) (a b : ℕ) (names : Definitions)
+pub origin_laid : (profile : Profile) (line : List ℕ) (a b : ℕ) (names : Definitions)
     → read_line profile line ≡ Ok (labelled None (origin (of_number a))) → a < 65536
     → layout_of (fixed_at profile b names) line
     ≡ Ok (placed_at b no_bytes, fixed_at profile a names)
 unfolding layout_of named_line_at statement_at eval_of
 origin_laid profile line a b names read small = rw (read, le-leb a 65535 (omega (arith, small)), append-nil names) refl
 
-nothing_wrong : (m : Map) (numbers : Numbers) (image : List (Option ℕ)) (b : ℕ)
+pub nothing_wrong : (m : Map) (numbers : Numbers) (image : List (Option ℕ)) (b : ℕ)
     → value_fault m numbers image (placed_at b no_bytes) ≡ None
 unfolding value_fault pieces_of size_of place_kinds has_bytes has_port lowest lower
 nothing_wrong m numbers image b = refl
 
-no_bytes_there : (numbers : Numbers) (b : ℕ) → line_bytes numbers (placed_at b no_bytes) ≡ []
+pub no_bytes_there : (numbers : Numbers) (b : ℕ) → line_bytes numbers (placed_at b no_bytes) ≡ []
 unfolding line_bytes pieces_of
 no_bytes_there numbers b = refl
 

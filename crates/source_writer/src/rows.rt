@@ -14,7 +14,7 @@ use model::Profile;
 use source_rows::Mark;
 use std::alloc::AllocError;
 
-/// `*=` and an address.
+/// Appends `*=` and an address as a line. The only error is that a request for memory was refused.
 pub fn push_origin(out: &mut Vec<u8>, address: u16) -> Result<(), AllocError>
     ensures { OnOk result (out.new.items ≡ out.old.items ++ ended (origin_line address)) }
 {
@@ -23,8 +23,8 @@ pub fn push_origin(out: &mut Vec<u8>, address: u16) -> Result<(), AllocError>
     Ok(())
 }
 
-/// A byte as a number.
-fn push_byte(out: &mut Vec<u8>, byte: u8) -> Result<(), AllocError>
+/// Appends a byte as a number. The only error is that a request for memory was refused.
+pub fn push_byte(out: &mut Vec<u8>, byte: u8) -> Result<(), AllocError>
     ensures { OnOk result (out.new.items ≡ out.old.items ++ byte_text byte) }
 {
     let [high, low] = digits_of(byte);
@@ -43,8 +43,9 @@ fn push_more(out: &mut Vec<u8>, bytes: &[u8]) -> Result<(), AllocError>
     Ok(())
 }
 
-/// Numbers with a comma between them.
-fn push_numbers(out: &mut Vec<u8>, bytes: &[u8]) -> Result<(), AllocError>
+/// Appends numbers with a comma between them. The only error is that a request for memory was
+/// refused.
+pub fn push_numbers(out: &mut Vec<u8>, bytes: &[u8]) -> Result<(), AllocError>
     ensures { OnOk result (out.new.items ≡ out.old.items ++ bytes_text bytes.now) }
 {
     if let Some((first, more)) = bytes.split_first() {

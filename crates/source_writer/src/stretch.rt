@@ -19,7 +19,7 @@ fn is_string_byte(byte: u8) -> bool
     (32 <= byte) & (byte <= 126) & (byte != 34)
 }
 
-/// What a byte is written as by its mark.
+/// Returns what a byte is written as by its mark.
 pub fn kind_of(mark: Mark, byte: u8) -> Mark
     ensures { result ≡ kind_of mark byte }
 {
@@ -36,7 +36,7 @@ pub fn kind_of(mark: Mark, byte: u8) -> Mark
     }
 }
 
-/// The mark of an address.
+/// Returns the mark of an address: code where none is given.
 pub fn mark_at(marks: &[Mark], address: usize) -> Mark
     ensures { result ≡ mark_at marks.now address }
 {
@@ -66,7 +66,7 @@ fn is_kind(kind: Mark, other: Mark) -> bool
     }
 }
 
-/// The byte at an address, if there is one.
+/// Returns the byte at an address, if there is one.
 pub fn cell_at(cells: &[Option<u8>], address: usize) -> Option<u8>
     ensures same { result ≡ cell_at cells.now address }
     ensures within { IfSome result (λ b. address < length cells.now) }
@@ -93,7 +93,7 @@ fn byte_of(cells: &[Option<u8>], marks: &[Mark], kind: Mark, address: usize) -> 
     }
 }
 
-/// The bytes of one kind from an address on, up to the first gap, at most so many.
+/// Returns the bytes of one kind from an address on, up to the first gap, at most so many.
 #[tactic(auto, using(crate::proofs::Stretches::more, crate::proofs::Stretches::ended, crate::proofs::Stretches::none))]
 pub fn stretch(
     cells: &[Option<u8>],

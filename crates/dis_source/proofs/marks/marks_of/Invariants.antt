@@ -6,5 +6,5 @@ use Rattle.dis_source.proofs.marks.marks_of.Given as goal
 abbrev pub invariant-loop-address : goal.invariant-loop-address
 invariant-loop-address l = record {
   len : vec_len l.marks ≡ l.address;
-  each : (a : ℕ) → a < l.address → get_or l.marks.items a Code ≡ mark_of l.numbers l.letters a;
+  each : (a : ℕ) → a < l.address → get_or l.marks.items a Code ≡ mark_of l.labels l.numbers l.letters a;
 }

@@ -1,0 +1,5 @@
+pub mod Places
+pub mod Referring
+pub mod Standing
+pub mod Numbered
+pub mod Filled

@@ -1,0 +1,9 @@
+//! The law.
+
+ghost use Rattle.law_label_rows.specs.Law.{LabelledSourceDenotes};
+
+/// The source of an image with labels denotes the image, whatever is marked. A law for proofs: it
+/// does nothing.
+pub fn labelled_source_denotes()
+    ensures { LabelledSourceDenotes }
+{}
