@@ -1,0 +1,89 @@
+//! What a session of `mon` has: the machine, its events, its stops, its places, and the text that
+//! is to be written.
+
+use crate::events::Events;
+use crate::stops::Stops;
+use mon_lines::{decimal_address, read_line};
+use mon_views::{push_fault, push_next, push_slip, push_state, push_text};
+use monitor::{Event, Session};
+use places::Places;
+use std::alloc::{AllocError, Global};
+
+/// A session with what a person needs of it.
+#[derive(Drop)]
+pub struct Desk {
+    pub session: Session,
+    pub events: Events,
+    pub stops: Stops,
+    pub places: Places,
+    pub text: Vec<u8>,
+}
+
+impl Desk {
+    /// Makes a desk for a session that holds so many events.
+    pub fn new(
+        alloc: Global,
+        session: Session,
+        places: Places,
+        history: u32,
+    ) -> Result<Desk, AllocError> {
+        Ok(Desk {
+            session,
+            events: Events::new(alloc, history)?,
+            stops: Stops::new(alloc),
+            places,
+            text: Vec::new(alloc),
+        })
+    }
+
+    /// Does what a line asks for, or says what is missing in it. Returns whether the session is to
+    /// end.
+    pub fn serve(&mut self, alloc: Global, line: &[u8]) -> Result<bool, AllocError> {
+        if line.len() > 255 {
+            self.say("a line has at most 255 bytes\n")?;
+            return Ok(false);
+        }
+        let pc = self.session.regs().pc;
+        let is_over = match read_line(line, &self.places, pc) {
+            Ok(command) => self.execute(alloc, command)?,
+            Err(slip) => {
+                push_slip(&mut self.text, slip)?;
+                false
+            }
+        };
+        if let Some(word) = decimal_address(line) {
+            self.text.extend_from_slice(word)?;
+            self.say(" is a decimal number; $")?;
+            self.text.extend_from_slice(word)?;
+            self.say(" is hex\n")?;
+        }
+        Ok(is_over)
+    }
+
+    /// Says something.
+    pub fn say(&mut self, words: &str) -> Result<(), AllocError> {
+        push_text(&mut self.text, words)
+    }
+
+    /// Shows the registers and what comes next.
+    pub fn show(&mut self, cycles_before: Option<u64>) -> Result<(), AllocError> {
+        push_state(&mut self.text, &self.session, &self.places, cycles_before)?;
+        push_next(&mut self.text, &self.session, &self.places)
+    }
+
+    /// Makes an event that is no step, and returns whether it was accepted. Otherwise it says why
+    /// not.
+    pub fn happen(&mut self, event: Event) -> Result<bool, AllocError> {
+        match self.session.event(event) {
+            Ok(()) => {
+                self.events.note(event);
+                Ok(true)
+            }
+            Err(fault) => {
+                push_fault(&mut self.text, &self.places, fault)?;
+                self.say("\n")?;
+                Ok(false)
+            }
+        }
+    }
+}

@@ -1,0 +1,120 @@
+//! What lines ask for.
+
+use crate::topic::Topic;
+use arrayvec::ArrayVec;
+use debugger::Setting;
+
+/// A register whose value a test may look at.
+#[derive(Clone, Copy)]
+pub enum Register {
+    A,
+    X,
+    Y,
+    S,
+    P,
+    Pc,
+}
+
+/// What stands on the left side of a test.
+#[derive(Clone, Copy)]
+pub enum Left {
+    Register(Register),
+    /// The byte of memory at an address.
+    Byte(u16),
+}
+
+/// How a test compares.
+#[derive(Clone, Copy)]
+pub enum Compare {
+    Equal,
+    Other,
+    Less,
+    LessOrEqual,
+    More,
+    MoreOrEqual,
+}
+
+/// A test that a break makes before it stops a run.
+#[derive(Clone, Copy)]
+pub struct Test {
+    pub left: Left,
+    pub compare: Compare,
+    pub right: u16,
+}
+
+impl Default for Test {
+    fn default() -> Test {
+        Test {
+            left: Left::Register(Register::A),
+            compare: Compare::Equal,
+            right: 0,
+        }
+    }
+}
+
+/// Addresses from the first to the last.
+#[derive(Clone, Copy)]
+pub struct Stretch {
+    pub first: u16,
+    pub last: u16,
+}
+
+/// What is to be undone.
+#[derive(Clone, Copy)]
+pub enum Undoing {
+    Events(u32),
+    /// A whole JSR, or one step.
+    Over,
+}
+
+/// What a line asks for.
+#[derive(Drop)]
+pub enum Command<'a> {
+    /// The line is empty.
+    Nothing,
+    Step(u32),
+    Over,
+    Out,
+    Until(u16),
+    /// As many steps at most, if a number is given.
+    Go(Option<u32>),
+    Back(Undoing),
+    Rback,
+    /// As many events at most, if a number is given.
+    Redo(Option<u32>),
+    Where,
+    History(u32),
+    Break {
+        address: u16,
+        tests: ArrayVec<Test, 4>,
+        times: u32,
+    },
+    Watch(Stretch),
+    List,
+    Delete(u16),
+    Regs,
+    Flags,
+    Mem(Stretch),
+    Dis {
+        address: u16,
+        count: u32,
+    },
+    Find(ArrayVec<u8, 256>),
+    Stack,
+    Set(Setting),
+    Put {
+        address: u16,
+        bytes: ArrayVec<u8, 256>,
+    },
+    Asm {
+        address: u16,
+        text: &'a [u8],
+    },
+    Type(ArrayVec<u8, 256>),
+    Screen,
+    Irq(bool),
+    Nmi,
+    Reset,
+    Help(Option<Topic>),
+    Quit,
+}

@@ -1,0 +1,31 @@
+//! What is missing or wrong in a line.
+
+use crate::topic::Topic;
+
+/// Why a line asks for nothing that can be done.
+#[derive(Clone, Copy)]
+pub enum Why<'a> {
+    /// No word begins so.
+    Unknown(&'a [u8]),
+    /// More than one word begins so.
+    Several(&'a [u8]),
+    /// Something is missing.
+    Missing(&'static str),
+    /// This cannot be read there.
+    Unreadable(&'a [u8]),
+    /// This is left over.
+    Behind(&'a [u8]),
+    /// The program has no such name.
+    NoName(&'a [u8]),
+    /// A number is not between these two.
+    Range { least: u32, most: u32 },
+    /// There are more than fit.
+    Many,
+}
+
+/// A slip in a line, and what the line is about.
+#[derive(Clone, Copy)]
+pub struct Slip<'a> {
+    pub topic: Option<Topic>,
+    pub why: Why<'a>,
+}

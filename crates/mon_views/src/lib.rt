@@ -1,0 +1,18 @@
+//! What `mon` shows of a session: instructions, registers, memory, and why a run has ended.
+//!
+//! Each call appends to a text, and changes no session. Names are put where addresses stand.
+#![tactic(auto)]
+
+pub use helping::{push_help, push_slip};
+pub use instructions::{push_instruction, push_next, push_row};
+pub use memory::{push_calls, push_memory, push_screen, push_stack};
+pub use reasons::{push_end, push_fault};
+pub use state::{push_flags, push_state};
+pub use words::{push_address, push_byte, push_count, push_place, push_text};
+
+mod helping;
+mod instructions;
+mod memory;
+mod reasons;
+mod state;
+mod words;

@@ -1,0 +1,5 @@
+pub mod Led
+pub mod Goals
+pub mod Rounds
+pub mod Recall
+pub mod Noted
