@@ -1,0 +1,3 @@
+mod Hex
+mod Items
+mod Rows

@@ -1,0 +1,116 @@
+//! What a row asks for and expects, as plain types.
+
+ghost use Rattle.std.specs.Prelude.{◌≡◌};
+
+/// A register of 8 bits. P is the status register: N V 1 B D I Z C from bit 7 down, B as 0.
+#[derive(Clone, Copy)]
+pub enum Register {
+    A,
+    X,
+    Y,
+    S,
+    P,
+}
+
+/// A flag of the status register.
+#[derive(Clone, Copy)]
+pub enum Flag {
+    N,
+    V,
+    D,
+    I,
+    Z,
+    C,
+}
+
+/// What a row sets before its call, or looks at after it.
+#[derive(Clone, Copy)]
+pub enum Place {
+    /// A register.
+    Register(Register),
+    /// A flag, 0 or 1.
+    Flag(Flag),
+    /// The byte of memory at an address.
+    Byte(u16),
+    /// One more byte of input; it is set, and not looked at.
+    Input,
+    /// The byte of output that the call wrote at an index, counted from 0.
+    Output(u16),
+    /// How many bytes of output the call wrote.
+    OutputCount,
+    /// The cycles that the call took, those of its RTS included.
+    Cycles,
+}
+
+/// How what came is compared with a value.
+#[derive(Clone, Copy)]
+pub enum Relation {
+    Equal,
+    Below,
+    Above,
+}
+
+/// What joins two numbers; each result is taken modulo 2^32.
+#[derive(Clone, Copy)]
+pub enum Operation {
+    Add,
+    Subtract,
+    Multiply,
+    /// The quotient without its rest; by 0 it is 0.
+    Divide,
+    /// The rest of a quotient; by 0 it is 0.
+    Remainder,
+    And,
+    Or,
+    ExclusiveOr,
+}
+
+/// A number, or the value of a row's first or second range.
+#[derive(Clone, Copy)]
+pub enum Atom {
+    Number(u32),
+    First,
+    Second,
+}
+
+/// An operation and its right side.
+#[derive(Clone, Copy)]
+pub struct Operator {
+    pub operation: Operation,
+    pub right: Atom,
+}
+
+/// A value of up to three parts, joined from left to right.
+#[derive(Clone, Copy)]
+pub struct Value {
+    pub first: Atom,
+    pub second: Option<Operator>,
+    pub third: Option<Operator>,
+}
+
+/// A place and the value that it is given, or with which it is compared.
+#[derive(Clone, Copy)]
+pub struct Item {
+    pub place: Place,
+    pub relation: Relation,
+    pub value: Value,
+}
+
+/// A range of values, from the first to the last, under a letter.
+#[derive(Clone, Copy)]
+pub struct Range {
+    pub letter: u8,
+    pub first: u16,
+    pub last: u16,
+}
+
+/// A row: a subroutine called for each value of its ranges, what is given before each call, and
+/// what is expected after it.
+#[derive(Drop)]
+pub struct Row {
+    pub first: Option<Range>,
+    pub second: Option<Range>,
+    pub address: u16,
+    pub given: Vec<Item>,
+    pub wanted: Vec<Item>,
+}

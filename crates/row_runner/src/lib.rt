@@ -1,0 +1,14 @@
+//! Rows of test files run on a machine.
+//!
+//! `first_failed` runs a row from a machine's start for each value of its ranges, and goes back
+//! after each. `specs/Passes.antt` says when a row passes, `specs/Start.antt` how a session stands
+//! to its start.
+#![tactic(auto)]
+
+pub use bench::{MOST_STEPS, first_failed, run_pair};
+pub use going_back::{HISTORY, restore};
+pub use passes::{CallStart, Pair, call_start, came, compares, given_all, number_of};
+
+mod bench;
+mod going_back;
+mod passes;
