@@ -31,7 +31,7 @@ pub enum Refusal {
 }
 
 impl Refusal {
-    /// The exit status: 2 for words, map or tape, 3 for memory, 4 for reading and writing.
+    /// Returns the exit status: 2 for words, map or tape, 3 for memory, 4 for reading and writing.
     pub fn status(&self) -> u8
         ensures { result ≡ status_of self.now }
     {
@@ -42,7 +42,7 @@ impl Refusal {
         }
     }
 
-    /// Why a file could not be read.
+    /// Returns why a file could not be read.
     pub fn unreadable(error: &io::Error) -> Refusal {
         match error.kind() {
             ErrorKind::OutOfMemory => Refusal::OutOfMemory,

@@ -17,7 +17,8 @@ pub struct Pages {
 }
 
 impl Pages {
-    /// No page has changed since the first checkpoint, and nothing is known of a spare one.
+    /// Makes the record of a new session: no page has changed since the first checkpoint, and
+    /// nothing is known of a spare one.
     pub fn new() -> Pages
         ensures now { result.now ≡ 1 }
         ensures spare { result.spare ≡ 0 }

@@ -28,8 +28,8 @@ fn flag<'a>(alloc: Global, name: &'a str, help: &'a str) -> Arg<'a> {
         .help(help)
 }
 
-/// The command line of `dis` with `--source`. The only error is that a request for memory was
-/// refused.
+/// Returns the command line of `dis` with `--source`. The only error is that a request for memory
+/// was refused.
 pub fn command<'a>(alloc: Global) -> Result<Command<'a>, Error> {
     let command = Command::new(alloc, "dis")
         .about("Writes what a tape has as a source that `asm` takes")

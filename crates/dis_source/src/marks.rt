@@ -36,8 +36,8 @@ fn mark_of(
     }
 }
 
-/// The marks of all addresses: with labels the vectors are data. The only error is that a request
-/// for memory was refused.
+/// Returns the marks of all addresses: with labels the vectors are data. The only error is that a
+/// request for memory was refused.
 pub fn marks_of(
     alloc: Global,
     labels: bool,
@@ -76,7 +76,8 @@ fn put_cell(part: &mut Image, address: u16, cell: Option<u8>)
     }
 }
 
-/// An image's bytes between two addresses. The only error is that a request for memory was refused.
+/// Returns an image's bytes between two addresses. The only error is that a request for memory was
+/// refused.
 #[tactic(auto, using(crate::proofs::Between::turn))]
 pub fn between(alloc: Global, image: &Image, first: u16, last: u16) -> Result<Image, BusFault>
     ensures { IfOk result

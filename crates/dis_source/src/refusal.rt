@@ -29,7 +29,8 @@ pub enum Refusal {
 }
 
 impl Refusal {
-    /// The exit status: 1 for a tape, 2 for the words, 3 for memory, 4 for reading and writing.
+    /// Returns the exit status: 1 for a tape, 2 for the words, 3 for memory, 4 for reading and
+    /// writing.
     pub fn status(&self) -> u8
         ensures { result ≡ status_of self.now }
     {
@@ -41,7 +42,7 @@ impl Refusal {
         }
     }
 
-    /// Why a file could not be opened.
+    /// Returns why a file could not be opened.
     pub fn unreadable(error: &io::Error) -> Refusal {
         match error.kind() {
             ErrorKind::OutOfMemory => Refusal::OutOfMemory,
@@ -49,7 +50,7 @@ impl Refusal {
         }
     }
 
-    /// Why a tape was not read.
+    /// Returns why a tape was not read.
     pub fn unread(fault: TapeReadFault) -> Refusal {
         match fault {
             TapeReadFault::Read => Refusal::Read,

@@ -18,7 +18,7 @@ const MNEMONICS: [&[u8]; 62] = [
     b"PLY", b"STZ",
 ];
 
-/// Whether a token is this symbol.
+/// Returns whether a token is this symbol.
 pub fn is_symbol(token: &Token<'_>, symbol: u8) -> bool {
     match (token.kind, token.text) {
         (TokenKind::Symbol, [byte]) => *byte == symbol,
@@ -26,7 +26,7 @@ pub fn is_symbol(token: &Token<'_>, symbol: u8) -> bool {
     }
 }
 
-/// The tokens after a label, all where there is none.
+/// Returns the tokens after a label, all where there is none.
 pub fn after_label<'t, 'a>(tokens: &'t [Token<'a>]) -> &'t [Token<'a>] {
     match tokens {
         [_, colon, rest @ ..] if is_symbol(colon, b':') => rest,
@@ -222,7 +222,7 @@ fn directive_note(
     Ok(about(directive, joined(alloc, &pieces)?))
 }
 
-/// Why the tokens of a line are none of the grammar.
+/// Returns why the tokens of a line are none of the grammar.
 pub fn form_note(
     alloc: Global,
     profile: Profile,

@@ -11,7 +11,7 @@ pub struct Name<'a> {
     pub line: u32,
 }
 
-/// The bytes after so many, if there are so many.
+/// Returns the bytes after so many, if there are so many.
 pub fn after(bytes: &[u8], count: usize) -> &[u8] {
     if count <= bytes.len() {
         &bytes[count..]
@@ -20,17 +20,17 @@ pub fn after(bytes: &[u8], count: usize) -> &[u8] {
     }
 }
 
-/// How many spaces and tabs some bytes begin with.
+/// Returns how many spaces and tabs some bytes begin with.
 pub fn blank_run(bytes: &[u8]) -> usize {
     run_of(Class::Blank, bytes)
 }
 
-/// How many letters, digits and `_` some bytes begin with.
+/// Returns how many letters, digits and `_` some bytes begin with.
 pub fn word_run(bytes: &[u8]) -> usize {
     run_of(Class::Word, bytes)
 }
 
-/// The first lines of a text, so many at most.
+/// Returns the first lines of a text, so many at most.
 pub fn lines_of<'a>(
     alloc: Global,
     source: &'a [u8],
@@ -63,7 +63,7 @@ fn name_of(line: &[u8]) -> Option<&[u8]> {
     }
 }
 
-/// The names that lines define, in their order.
+/// Returns the names that lines define, in their order.
 pub fn names_of<'a>(alloc: Global, lines: &[&'a [u8]]) -> Result<Vec<Name<'a>>, AllocError> {
     let mut names = Vec::new(alloc);
     let mut number = 0u32;

@@ -379,7 +379,7 @@ fn text_note(alloc: Global, line: &[u8]) -> Result<Note, AllocError> {
     }
 }
 
-/// What is said of a fault.
+/// Returns what is said of a fault.
 pub fn note_of(
     alloc: Global,
     context: &Context<'_, '_>,

@@ -116,7 +116,7 @@ fn stray_width(bytes: &[u8]) -> usize {
     count.min(bytes.len())
 }
 
-/// The first bytes of a line, up to its comment, that are no token.
+/// Returns the first bytes of a line, up to its comment, that are no token.
 pub fn first_stray(line: &[u8]) -> Option<Stray> {
     let mut rest = line;
     for _ in 0..line.len() {

@@ -89,7 +89,7 @@ fn range_of(mode: Mode) -> Range {
     }
 }
 
-/// The first value of a line that is outside its range.
+/// Returns the first value of a line that is outside its range.
 pub fn first_outside(line: &KeptLine<'_>, names: &Symbols) -> Option<Outside> {
     match &line.statement {
         Statement::Bytes(items) => item_outside(items, names, line.address),
@@ -109,7 +109,7 @@ pub fn first_outside(line: &KeptLine<'_>, names: &Symbols) -> Option<Outside> {
     }
 }
 
-/// How many bytes a branch misses its target by, and whether the target is ahead.
+/// Returns how many bytes a branch misses its target by, and whether the target is ahead.
 pub fn branch_miss(line: &KeptLine<'_>, names: &Symbols) -> Option<(u32, bool)> {
     let Statement::Instruction(_, operand) = &line.statement else {
         return None;

@@ -16,7 +16,7 @@ pub struct Note {
     pub words: Vec<u8>,
 }
 
-/// Words about some bytes of a line.
+/// Returns words about some bytes of a line.
 pub fn noted(start: usize, width: usize, words: Vec<u8>) -> Note {
     Note {
         start,
@@ -25,7 +25,7 @@ pub fn noted(start: usize, width: usize, words: Vec<u8>) -> Note {
     }
 }
 
-/// Pieces of text, one after another.
+/// Returns pieces of text, one after another.
 pub fn joined(alloc: Global, pieces: &[&[u8]]) -> Result<Vec<u8>, AllocError> {
     let mut words = Vec::new(alloc);
     for piece in pieces {
@@ -34,19 +34,19 @@ pub fn joined(alloc: Global, pieces: &[&[u8]]) -> Result<Vec<u8>, AllocError> {
     Ok(words)
 }
 
-/// Words that stand as they are.
+/// Returns words that stand as they are.
 pub fn said(alloc: Global, words: &str) -> Result<Vec<u8>, AllocError> {
     Vec::from_slice(alloc, words.as_bytes())
 }
 
-/// A name and what is said of it.
+/// Returns a name and what is said of it.
 pub fn named(alloc: Global, name: &[u8], words: &str) -> Result<Vec<u8>, AllocError> {
     let mut text = Vec::from_slice(alloc, name)?;
     text.extend_from_slice(words.as_bytes())?;
     Ok(text)
 }
 
-/// A number in decimal.
+/// Appends a number in decimal.
 pub fn push_decimal(words: &mut Vec<u8>, number: i32) -> Result<(), AllocError> {
     words.extend_from_slice(Buffer::new().format(number).as_bytes())
 }
@@ -58,7 +58,7 @@ pub fn push_count(words: &mut Vec<u8>, number: u32) -> Result<(), AllocError>
     words.extend_from_slice(Buffer::new().format(number).as_bytes())
 }
 
-/// An address in hex.
+/// Appends an address in hex.
 pub fn push_address(words: &mut Vec<u8>, address: u32) -> Result<(), AllocError> {
     words.push(b'$')?;
     words.extend_from_slice(&digits_of_address((address % 65536) as u16))

@@ -57,7 +57,8 @@ fn flag_at(
     address + piece.len()
 }
 
-/// The addresses that an image refers to. The only error is that a request for memory was refused.
+/// Returns the addresses that an image refers to. The only error is that a request for memory was
+/// refused.
 #[tactic(auto, unfolding(label_rows::specs::Labels::flags_of), using(crate::proofs::Going::flags_end))]
 pub fn flags_of(
     alloc: Global,

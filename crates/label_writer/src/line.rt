@@ -13,7 +13,7 @@ use model::Profile;
 use source_writer::{push_numbers, push_origin};
 use std::alloc::AllocError;
 
-/// `*=` and an address, where no line ends there.
+/// Appends `*=` and an address, where no line ends there.
 #[tactic(auto, using(crate::proofs::Going::one_line))]
 pub fn push_opening(out: &mut Vec<u8>, address: u16, ends: bool) -> Result<(), AllocError>
     ensures { OnOk result (out.new.items ≡ out.old.items ++ flat_map ended (opened ends address)) }
@@ -24,7 +24,7 @@ pub fn push_opening(out: &mut Vec<u8>, address: u16, ends: bool) -> Result<(), A
     push_origin(out, address)
 }
 
-/// The label before a piece, if it gets one.
+/// Appends the label before a piece, if it gets one.
 #[tactic(auto, using(crate::proofs::Going::one_line))]
 pub fn push_label_line(out: &mut Vec<u8>, named: bool, address: u16) -> Result<(), AllocError>
     ensures { OnOk result
@@ -70,7 +70,7 @@ fn push_text(
     }
 }
 
-/// The line of a piece at an address.
+/// Appends the line of a piece at an address.
 pub fn push_piece(
     out: &mut Vec<u8>,
     profile: Profile,

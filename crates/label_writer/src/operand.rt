@@ -13,7 +13,7 @@ use optable::{encode_in, letters_of};
 use source_writer::push_byte;
 use std::alloc::AllocError;
 
-/// The label of an address.
+/// Appends the label of an address.
 pub fn push_label(out: &mut Vec<u8>, address: u16) -> Result<(), AllocError>
     ensures { OnOk result (out.new.items ≡ out.old.items ++ label_text address) }
 {
@@ -50,7 +50,7 @@ fn push_label_and(out: &mut Vec<u8>, address: u16, added: &[u8]) -> Result<(), A
     Ok(())
 }
 
-/// An address by the label that reaches it, and as a number where none does.
+/// Appends an address by the label that reaches it, and as a number where none does.
 #[tactic(auto, unfolding(label_rows::specs::Pieces::place_text))]
 pub fn push_place(out: &mut Vec<u8>, table: &[u8], word: u16) -> Result<(), AllocError>
     ensures { OnOk result (out.new.items ≡ out.old.items ++ place_text table.now word) }
@@ -190,7 +190,7 @@ fn push_other(
     }
 }
 
-/// An instruction at an address, by its second byte and its third.
+/// Appends an instruction at an address, by its second byte and its third.
 pub fn push_instruction(
     out: &mut Vec<u8>,
     profile: Profile,

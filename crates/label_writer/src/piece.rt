@@ -32,7 +32,7 @@ fn is_vector(address: usize) -> bool
     (address == 0xfffa) | (address == 0xfffc) | (address == 0xfffe)
 }
 
-/// Whether an address is referred to.
+/// Returns whether an address is referred to.
 pub fn is_flagged(flags: &[bool], address: usize) -> bool
     ensures { result ≡ is_flagged flags.now address }
 {
@@ -180,7 +180,7 @@ fn text_at(
     Piece::Letters(stretch(cells, marks, Mark::Text, address as usize, most))
 }
 
-/// What stands at an address, where there is a byte.
+/// Returns what stands at an address, where there is a byte.
 #[tactic(auto, unfolding(label_rows::specs::Pieces::piece_at))]
 pub fn piece_at(
     profile: Profile,
@@ -203,7 +203,7 @@ pub fn piece_at(
     }
 }
 
-/// The target of a branch at an address, by its second byte.
+/// Returns the target of a branch at an address, by its second byte.
 pub fn target(address: u16, second: u8) -> u16
     ensures { result ≡ target_of address second }
 {
@@ -231,7 +231,7 @@ fn operand_refers(address: u16, mode: Mode, second: u8, third: u8) -> Option<u16
 }
 
 impl Piece {
-    /// How many bytes it has.
+    /// Returns how many bytes it has.
     #[tactic(auto, unfolding(label_rows::specs::Pieces::len_of))]
     pub fn len(&self) -> usize
         ensures { result ≡ len_of (piece_view self.now) }
@@ -244,7 +244,7 @@ impl Piece {
         }
     }
 
-    /// How many addresses its label stands for.
+    /// Returns how many addresses its label stands for.
     #[tactic(auto, unfolding(label_rows::specs::Pieces::reach_of))]
     pub fn reach(&self) -> u8
         ensures { result ≡ reach_of (piece_view self.now) }
@@ -257,7 +257,7 @@ impl Piece {
         }
     }
 
-    /// The address that it refers to, if it refers to one.
+    /// Returns the address that it refers to, if it refers to one.
     #[tactic(auto, unfolding(label_rows::specs::Pieces::refers))]
     pub fn refers(&self, address: u16) -> Option<u16>
         ensures { result ≡ refers address (piece_view self.now) }

@@ -31,14 +31,14 @@ fn flagged_within(flags: &[bool], reach: u8, address: usize) -> bool
     false
 }
 
-/// Whether a piece gets a label: it is referred to, and there are names left.
+/// Returns whether a piece gets a label: it is referred to, and there are names left.
 pub fn is_named(flags: &[bool], left: u32, address: u16, piece: &Piece) -> bool
     ensures { result ≡ is_named flags.now left address (piece_view piece.now) }
 {
     (0 < left) & flagged_within(flags, piece.reach(), address as usize)
 }
 
-/// How many names are left after a piece.
+/// Returns how many names are left after a piece.
 pub fn left_after(named: bool, left: u32) -> u32
     requires { named ≡ true → 0 < left }
     ensures exact { result ≡ left_after named left }
@@ -100,8 +100,8 @@ fn name_at(
     (left_after(named, left), address + piece.len())
 }
 
-/// How far the label of each address reaches. The only error is that a request for memory was
-/// refused.
+/// Returns how far the label of each address reaches. The only error is that a request for memory
+/// was refused.
 #[tactic(auto, unfolding(label_rows::specs::Labels::table_of), using(crate::proofs::Going::table_end))]
 pub fn table_of(
     alloc: Global,

@@ -12,8 +12,8 @@ use tape_cmp::tape_cmp;
 use tape_info::tape_info;
 use tape_mend::tape_mend;
 
-/// Does what words ask for, and returns the exit status. A word beside those of `program`, and one of
-/// them with a word that `program` does not know, is served by a crate of its own.
+/// Does what words ask for, and returns the exit status. A word beside those of `program`, and one
+/// of them with a word that `program` does not know, is served by a crate of its own.
 fn serve(rt: &HostRuntime, words: &[&str]) -> u8 {
     match words {
         ["check", rest @ ..] => check(rt, rest, &mut io::writer(rt), &mut rt.stderr()),

@@ -34,7 +34,7 @@ fn rom(config: &Config) -> Option<(u16, u16)>
     }
 }
 
-/// The map of a configuration, or the status that refuses it.
+/// Returns the map of a configuration, or the status that refuses it.
 #[tactic(auto, unfolding(crate::specs::Status::config_status))]
 pub fn map_of(config: &Config) -> Result<MapSpec, u32>
     ensures ok { IfOk result (λ map. (map ≡ config_map config.now) × (config_status config.now ≡ 0)

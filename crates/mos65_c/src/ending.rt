@@ -62,7 +62,7 @@ fn opcode_of(fault: EventFault) -> u8
     }
 }
 
-/// How a run ended, as C is told.
+/// Returns how a run ended, as C is told.
 pub fn ending_of(end: RunEnd) -> Ending
     ensures { result ≡ ending_of end }
 {

@@ -1,7 +1,7 @@
 //! Events: each accepted one is an entry of the history.
 
 ghost use Rattle.std.specs.Prelude.{◌≡◌, ◌<◌, ◌≤◌, length, None, Option, Some};
-ghost use Rattle.model.specs.Session.{Session as Seen};
+ghost use Rattle.model.specs.Session.{Session as SessionView};
 ghost use Rattle.mos65_c.specs.Answers.{AnswersEvent};
 ghost use Rattle.mos65_c.specs.Status.{setting_of, three_bytes};
 
@@ -13,7 +13,7 @@ const BAD_LENGTH: u32 = 106;
 
 #[inline(always)]
 fn happen(m: &mut Mos65, event: Event) -> u32
-    ensures live { (s : Seen) → m.old.slot.session ≡ Some s
+    ensures live { (s : SessionView) → m.old.slot.session ≡ Some s
         → AnswersEvent s event result m.new.slot.session }
     ensures gone { m.old.slot.session ≡ None → (result ≡ 1) × (m.new.slot.session ≡ None) }
 {
@@ -29,7 +29,7 @@ fn happen(m: &mut Mos65, event: Event) -> u32
 /// Makes one step.
 #[unsafe(no_mangle)]
 pub extern "C" fn mos65_step(m: &mut Mos65) -> u32
-    ensures live { (s : Seen) → m.old.slot.session ≡ Some s
+    ensures live { (s : SessionView) → m.old.slot.session ≡ Some s
         → AnswersEvent s Event.Step result m.new.slot.session }
     ensures gone { m.old.slot.session ≡ None → (result ≡ 1) × (m.new.slot.session ≡ None) }
 {
@@ -39,7 +39,7 @@ pub extern "C" fn mos65_step(m: &mut Mos65) -> u32
 /// Resets the machine.
 #[unsafe(no_mangle)]
 pub extern "C" fn mos65_reset(m: &mut Mos65) -> u32
-    ensures live { (s : Seen) → m.old.slot.session ≡ Some s
+    ensures live { (s : SessionView) → m.old.slot.session ≡ Some s
         → AnswersEvent s Event.Reset result m.new.slot.session }
     ensures gone { m.old.slot.session ≡ None → (result ≡ 1) × (m.new.slot.session ≡ None) }
 {
@@ -49,7 +49,7 @@ pub extern "C" fn mos65_reset(m: &mut Mos65) -> u32
 /// Sets the IRQ line, true for the level that asks for an interrupt.
 #[unsafe(no_mangle)]
 pub extern "C" fn mos65_irq(m: &mut Mos65, level: bool) -> u32
-    ensures live { (s : Seen) → m.old.slot.session ≡ Some s
+    ensures live { (s : SessionView) → m.old.slot.session ≡ Some s
         → AnswersEvent s (Event.Irq level) result m.new.slot.session }
     ensures gone { m.old.slot.session ≡ None → (result ≡ 1) × (m.new.slot.session ≡ None) }
 {
@@ -59,7 +59,7 @@ pub extern "C" fn mos65_irq(m: &mut Mos65, level: bool) -> u32
 /// Signals an NMI.
 #[unsafe(no_mangle)]
 pub extern "C" fn mos65_nmi(m: &mut Mos65) -> u32
-    ensures live { (s : Seen) → m.old.slot.session ≡ Some s
+    ensures live { (s : SessionView) → m.old.slot.session ≡ Some s
         → AnswersEvent s Event.Nmi result m.new.slot.session }
     ensures gone { m.old.slot.session ≡ None → (result ≡ 1) × (m.new.slot.session ≡ None) }
 {
@@ -69,7 +69,7 @@ pub extern "C" fn mos65_nmi(m: &mut Mos65) -> u32
 /// Hands in a byte of input.
 #[unsafe(no_mangle)]
 pub extern "C" fn mos65_input(m: &mut Mos65, byte: u8) -> u32
-    ensures live { (s : Seen) → m.old.slot.session ≡ Some s
+    ensures live { (s : SessionView) → m.old.slot.session ≡ Some s
         → AnswersEvent s (Event.Input byte) result m.new.slot.session }
     ensures gone { m.old.slot.session ≡ None → (result ≡ 1) × (m.new.slot.session ≡ None) }
 {
@@ -100,7 +100,7 @@ fn setting_of(register: u32, value: u16) -> Option<Setting>
 /// taken.
 #[unsafe(no_mangle)]
 pub extern "C" fn mos65_set(m: &mut Mos65, register: u32, value: u16) -> u32
-    ensures live { (s : Seen) (setting : Setting) → m.old.slot.session ≡ Some s
+    ensures live { (s : SessionView) (setting : Setting) → m.old.slot.session ≡ Some s
         → setting_of register value ≡ Some setting
         → AnswersEvent s (Event.Set setting) result m.new.slot.session }
     ensures misuse { setting_of register value ≡ None
@@ -127,8 +127,8 @@ fn three_bytes(bytes: &[u8]) -> [u8; 3]
 /// Changes one to three bytes of memory, in ROM too: one event.
 #[unsafe(no_mangle)]
 pub extern "C" fn mos65_patch(m: &mut Mos65, address: u16, bytes: &[u8]) -> u32
-    ensures live { (s : Seen) → m.old.slot.session ≡ Some s → length bytes.now ≤ 3 → AnswersEvent s
-        (Event.Patch address (three_bytes bytes.now) (length bytes.now)) result m.new.slot.session }
+    ensures live { (s : SessionView) → m.old.slot.session ≡ Some s → length bytes.now ≤ 3
+        → AnswersEvent s (Event.Patch address (three_bytes bytes.now) (length bytes.now)) result m.new.slot.session }
     ensures long { 3 < length bytes.now
         → (result ≡ 106) × (m.new.slot.session ≡ m.old.slot.session) }
 {

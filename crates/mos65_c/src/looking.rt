@@ -3,7 +3,7 @@
 ghost use Rattle.std.specs.Prelude.{◌≡◌, ◌+◌, ◌-◌, ◌<◌, ◌≤◌, drop, length, min, None, Some, take};
 ghost use Rattle.disasm.specs.Rows.{row_view};
 ghost use Rattle.model.specs.Disassembly.{row_in};
-ghost use Rattle.model.specs.Session.{Session as Seen};
+ghost use Rattle.model.specs.Session.{Session as SessionView};
 ghost use Rattle.mos65_c.specs.Status.{registers_of};
 
 use crate::ending::Registers;
@@ -16,7 +16,7 @@ const PAST_END: u32 = 104;
 /// Tells the registers and the cycle count.
 #[unsafe(no_mangle)]
 pub extern "C" fn mos65_registers(m: &mut Mos65, out: &mut Registers) -> u32
-    ensures live { (s : Seen) → m.old.slot.session ≡ Some s
+    ensures live { (s : SessionView) → m.old.slot.session ≡ Some s
         → (result ≡ 0) × (out.new ≡ registers_of s.current) }
     ensures gone { m.old.slot.session ≡ None → (result ≡ 1) × (out.new ≡ out.old) }
     ensures same { m.new.slot.session ≡ m.old.slot.session }
@@ -41,9 +41,11 @@ pub extern "C" fn mos65_registers(m: &mut Mos65, out: &mut Registers) -> u32
 /// Copies memory from an address on, as many bytes as `out` has. A port address reads 0.
 #[unsafe(no_mangle)]
 pub extern "C" fn mos65_read(m: &mut Mos65, address: u16, out: &mut [u8]) -> u32
-    ensures live { (s : Seen) → m.old.slot.session ≡ Some s → address + length out.old ≤ 65536
+    ensures live { (s : SessionView) → m.old.slot.session ≡ Some s
+        → address + length out.old ≤ 65536
         → (result ≡ 0) × (out.new ≡ take (length out.old) (drop address s.current.bus.memory)) }
-    ensures long { (s : Seen) → m.old.slot.session ≡ Some s → 65536 < address + length out.old
+    ensures long { (s : SessionView) → m.old.slot.session ≡ Some s
+        → 65536 < address + length out.old
         → (result ≡ 104) × (out.new ≡ out.old) }
     ensures gone { m.old.slot.session ≡ None → (result ≡ 1) × (out.new ≡ out.old) }
     ensures same { m.new.slot.session ≡ m.old.slot.session }
@@ -61,7 +63,7 @@ pub extern "C" fn mos65_read(m: &mut Mos65, address: u16, out: &mut [u8]) -> u32
 /// Tells how many bytes the console's output has.
 #[unsafe(no_mangle)]
 pub extern "C" fn mos65_output_length(m: &mut Mos65, count: &mut u32) -> u32
-    ensures live { (s : Seen) → m.old.slot.session ≡ Some s
+    ensures live { (s : SessionView) → m.old.slot.session ≡ Some s
         → (result ≡ 0) × (count.new ≡ length s.current.bus.out) }
     ensures gone { m.old.slot.session ≡ None → (result ≡ 1) × (count.new ≡ count.old) }
     ensures same { m.new.slot.session ≡ m.old.slot.session }
@@ -76,10 +78,10 @@ pub extern "C" fn mos65_output_length(m: &mut Mos65, count: &mut u32) -> u32
 /// Copies the console's output from an index on, as many bytes as `out` has.
 #[unsafe(no_mangle)]
 pub extern "C" fn mos65_output(m: &mut Mos65, from: u32, out: &mut [u8]) -> u32
-    ensures live { (s : Seen) → m.old.slot.session ≡ Some s
+    ensures live { (s : SessionView) → m.old.slot.session ≡ Some s
         → from + length out.old ≤ length s.current.bus.out
         → (result ≡ 0) × (out.new ≡ take (length out.old) (drop from s.current.bus.out)) }
-    ensures long { (s : Seen) → m.old.slot.session ≡ Some s
+    ensures long { (s : SessionView) → m.old.slot.session ≡ Some s
         → length s.current.bus.out < from + length out.old → (result ≡ 2) × (out.new ≡ out.old) }
     ensures gone { m.old.slot.session ≡ None → (result ≡ 1) × (out.new ≡ out.old) }
     ensures same { m.new.slot.session ≡ m.old.slot.session }
@@ -129,7 +131,8 @@ pub extern "C" fn mos65_disassemble(
     out: &mut [u8],
     count: &mut u32,
 ) -> u32
-    ensures live { (s : Seen) → m.old.slot.session ≡ Some s → 13 ≤ length out.old → (result ≡ 0)
+    ensures live { (s : SessionView) → m.old.slot.session ≡ Some s → 13 ≤ length out.old
+        → (result ≡ 0)
         × (count.new ≡ (row_in s.current.bus.map.profile s.current.bus.memory address).len)
         × (take (length (row_in s.current.bus.map.profile s.current.bus.memory address).text)
         out.new ≡ (row_in s.current.bus.map.profile s.current.bus.memory address).text) }

@@ -20,7 +20,7 @@ pub struct Fault {
 }
 
 impl Fault {
-    /// No fault.
+    /// Makes the fault of a call that was done.
     pub fn none() -> Fault
         ensures { result.status ≡ 0 }
     {

@@ -3,7 +3,7 @@
 ghost use Rattle.std.specs.Prelude.{◌≡◌, length, None, Some};
 ghost use Rattle.model.specs.Back.{back_of};
 ghost use Rattle.model.specs.Run.{after_run, run_end};
-ghost use Rattle.model.specs.Session.{Session as Seen};
+ghost use Rattle.model.specs.Session.{Session as SessionView};
 ghost use Rattle.mos65_c.specs.Answers.{AnswersChange, AnswersRun};
 ghost use Rattle.mos65_c.specs.Status.{ending_of};
 ghost use Rattle.rig.specs.Subroutine.{call_of, run_to_of};
@@ -15,7 +15,7 @@ use crate::machine::{CLOSED, Mos65};
 /// refused.
 #[unsafe(no_mangle)]
 pub extern "C" fn mos65_run(m: &mut Mos65, limit: u32, ending: &mut Ending) -> u32
-    ensures live { (s : Seen) → m.old.slot.session ≡ Some s
+    ensures live { (s : SessionView) → m.old.slot.session ≡ Some s
         → (result ≡ 0) × (ending.new ≡ ending_of (run_end limit s))
         × (m.new.slot.session ≡ Some (after_run limit s)) }
     ensures gone { m.old.slot.session ≡ None
@@ -32,7 +32,7 @@ pub extern "C" fn mos65_run(m: &mut Mos65, limit: u32, ending: &mut Ending) -> u
 /// Runs as `mos65_run` does, and stops at an address too.
 #[unsafe(no_mangle)]
 pub extern "C" fn mos65_run_to(m: &mut Mos65, address: u16, limit: u32, ending: &mut Ending) -> u32
-    ensures live { (s : Seen) → m.old.slot.session ≡ Some s
+    ensures live { (s : SessionView) → m.old.slot.session ≡ Some s
         → AnswersRun (run_to_of address limit s) s result ending.new m.new.slot.session }
     ensures gone { m.old.slot.session ≡ None
         → (result ≡ 1) × (m.new.slot.session ≡ None) × (ending.new ≡ ending.old) }
@@ -52,7 +52,7 @@ pub extern "C" fn mos65_run_to(m: &mut Mos65, address: u16, limit: u32, ending: 
 /// Calls a subroutine as a JSR at $FFFC would, and runs to its RTS.
 #[unsafe(no_mangle)]
 pub extern "C" fn mos65_call(m: &mut Mos65, address: u16, limit: u32, ending: &mut Ending) -> u32
-    ensures live { (s : Seen) → m.old.slot.session ≡ Some s
+    ensures live { (s : SessionView) → m.old.slot.session ≡ Some s
         → AnswersRun (call_of address limit s) s result ending.new m.new.slot.session }
     ensures gone { m.old.slot.session ≡ None
         → (result ≡ 1) × (m.new.slot.session ≡ None) × (ending.new ≡ ending.old) }
@@ -72,7 +72,7 @@ pub extern "C" fn mos65_call(m: &mut Mos65, address: u16, limit: u32, ending: &m
 /// Goes back over the last `count` events.
 #[unsafe(no_mangle)]
 pub extern "C" fn mos65_back(m: &mut Mos65, count: u32) -> u32
-    ensures live { (s : Seen) → m.old.slot.session ≡ Some s
+    ensures live { (s : SessionView) → m.old.slot.session ≡ Some s
         → AnswersChange (back_of count s) s result m.new.slot.session }
     ensures gone { m.old.slot.session ≡ None → (result ≡ 1) × (m.new.slot.session ≡ None) }
 {
@@ -88,7 +88,7 @@ pub extern "C" fn mos65_back(m: &mut Mos65, count: u32) -> u32
 /// Tells how many events can be gone back over.
 #[unsafe(no_mangle)]
 pub extern "C" fn mos65_held(m: &mut Mos65, count: &mut u32) -> u32
-    ensures live { (s : Seen) → m.old.slot.session ≡ Some s
+    ensures live { (s : SessionView) → m.old.slot.session ≡ Some s
         → (result ≡ 0) × (count.new ≡ length s.earlier) }
     ensures gone { m.old.slot.session ≡ None → (result ≡ 1) × (count.new ≡ count.old) }
     ensures same { m.new.slot.session ≡ m.old.slot.session }

@@ -1,7 +1,7 @@
 //! Breakpoints and watches.
 
 ghost use Rattle.std.specs.Prelude.{◌≡◌, None, Some};
-ghost use Rattle.model.specs.Session.{Session as Seen};
+ghost use Rattle.model.specs.Session.{Session as SessionView};
 ghost use Rattle.model.specs.Breakpoints.{break_cleared, break_set, watch_cleared, watch_set};
 ghost use Rattle.mos65_c.specs.Answers.{AnswersChange, AnswersSetting};
 
@@ -10,7 +10,7 @@ use crate::machine::{CLOSED, Mos65};
 /// Sets a breakpoint.
 #[unsafe(no_mangle)]
 pub extern "C" fn mos65_break(m: &mut Mos65, address: u16) -> u32
-    ensures live { (s : Seen) → m.old.slot.session ≡ Some s
+    ensures live { (s : SessionView) → m.old.slot.session ≡ Some s
         → AnswersSetting (break_set address s) s result m.new.slot.session }
     ensures gone { m.old.slot.session ≡ None → (result ≡ 1) × (m.new.slot.session ≡ None) }
 {
@@ -26,7 +26,7 @@ pub extern "C" fn mos65_break(m: &mut Mos65, address: u16) -> u32
 /// Clears a breakpoint.
 #[unsafe(no_mangle)]
 pub extern "C" fn mos65_unbreak(m: &mut Mos65, address: u16) -> u32
-    ensures live { (s : Seen) → m.old.slot.session ≡ Some s
+    ensures live { (s : SessionView) → m.old.slot.session ≡ Some s
         → AnswersChange (break_cleared address s) s result m.new.slot.session }
     ensures gone { m.old.slot.session ≡ None → (result ≡ 1) × (m.new.slot.session ≡ None) }
 {
@@ -42,7 +42,7 @@ pub extern "C" fn mos65_unbreak(m: &mut Mos65, address: u16) -> u32
 /// Sets a watch: a run stops after a step that changes this byte of memory.
 #[unsafe(no_mangle)]
 pub extern "C" fn mos65_watch(m: &mut Mos65, address: u16) -> u32
-    ensures live { (s : Seen) → m.old.slot.session ≡ Some s
+    ensures live { (s : SessionView) → m.old.slot.session ≡ Some s
         → AnswersSetting (watch_set address s) s result m.new.slot.session }
     ensures gone { m.old.slot.session ≡ None → (result ≡ 1) × (m.new.slot.session ≡ None) }
 {
@@ -58,7 +58,7 @@ pub extern "C" fn mos65_watch(m: &mut Mos65, address: u16) -> u32
 /// Clears a watch.
 #[unsafe(no_mangle)]
 pub extern "C" fn mos65_unwatch(m: &mut Mos65, address: u16) -> u32
-    ensures live { (s : Seen) → m.old.slot.session ≡ Some s
+    ensures live { (s : SessionView) → m.old.slot.session ≡ Some s
         → AnswersChange (watch_cleared address s) s result m.new.slot.session }
     ensures gone { m.old.slot.session ≡ None → (result ≡ 1) × (m.new.slot.session ≡ None) }
 {

@@ -22,7 +22,7 @@ pub enum Base {
     Decimal,
 }
 
-/// The fault that is seen where a text begins.
+/// Returns the fault that is seen where a text begins.
 pub fn fault_at(kind: RowFaultKind, text: &[u8]) -> RowFault
     ensures { result ≡ fault_at kind text.now }
 {
@@ -42,7 +42,7 @@ fn blank_run(text: &[u8]) -> usize
         .count()
 }
 
-/// A text without the blanks in front of it.
+/// Returns a text without the blanks in front of it.
 pub fn skip_blanks(text: &[u8]) -> &[u8]
     ensures { result.now ≡ skip_blanks text.now }
 {
@@ -59,14 +59,14 @@ fn word_run(text: &[u8]) -> usize
         .count()
 }
 
-/// The word at the front of a text; empty where none is.
+/// Returns the word at the front of a text; empty where none is.
 pub fn word_of(text: &[u8]) -> &[u8]
     ensures { result.now ≡ word_of text.now }
 {
     &text[..word_run(text)]
 }
 
-/// The text after its first word and the blanks behind it.
+/// Returns the text after its first word and the blanks behind it.
 pub fn after_word(text: &[u8]) -> &[u8]
     ensures { result.now ≡ after_word text.now }
 {
@@ -94,14 +94,14 @@ pub fn ends(text: &[u8]) -> bool
     }
 }
 
-/// The text after its first bytes and the blanks behind them.
+/// Returns the text after its first bytes and the blanks behind them.
 pub fn after(count: usize, text: &[u8]) -> &[u8]
     ensures { result.now ≡ skip_blanks (drop count text.now) }
 {
     skip_blanks(&text[count.min(text.len())..])
 }
 
-/// The text after a sign that has to come next.
+/// Returns the text after a sign that has to come next.
 pub fn after_sign(sign: u8, text: &[u8]) -> Result<&[u8], RowFault>
     ensures ok { IfOk result (λ rest. after_sign sign text.now ≡ Ok rest.now) }
     ensures err { IfErr result (λ fault. after_sign sign text.now ≡ Err fault) }

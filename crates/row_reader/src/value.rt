@@ -27,7 +27,7 @@ fn is_letter_of(letter: Option<u8>, word: &[u8]) -> bool
     }
 }
 
-/// The range whose letter a word is.
+/// Returns the range whose letter a word is.
 #[tactic(auto, unfolding(crate::specs::RowText::letter_in))]
 pub fn letter_in(letters: Letters, word: &[u8]) -> Option<Atom>
     ensures { result ≡ letter_in letters word.now }

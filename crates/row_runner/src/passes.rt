@@ -153,7 +153,7 @@ fn flag_of(flag: Flag, flags: Flags) -> bool
     }
 }
 
-/// What of a session a call is compared with.
+/// Returns what of a session a call is compared with.
 pub fn call_start(session: &Session) -> CallStart
     ensures count { result.output_count ≡ length session.now.current.bus.out }
     ensures cycles { result.cycles ≡ session.now.current.cycles }

@@ -51,9 +51,9 @@ fn too_large(alloc: Global) -> Result<Vec<AsmFault>, AllocError>
     Ok(faults)
 }
 
-/// All faults of a source in its map's profile that do not hang on how the others are mended. Those
-/// of the layout come first, then those of values, each by line; no line is named twice. A source
-/// that assembles has none.
+/// Returns all faults of a source in its map's profile that do not hang on how the others are
+/// mended. Those of the layout come first, then those of values, each by line; no line is named
+/// twice. A source that assembles has none.
 ///
 /// The first is the fault that `assembler::assemble` answers. For each next one the lines with a
 /// fault are mended. Nobody knows how, so that all lines are judged twice: with mended lines that

@@ -45,8 +45,8 @@ fn word_at(bytes: &[u8]) -> &[u8]
     &bytes[..word_run(bytes)]
 }
 
-/// The letters, digits and `_` that a line begins with after blanks: its label, or the name that it
-/// defines, if it has one.
+/// Returns the letters, digits and `_` that a line begins with after blanks: its label, or the name
+/// that it defines, if it has one.
 #[tactic(auto, unfolding(model::specs::AllFaults::first_word))]
 pub fn first_word(line: &[u8]) -> &[u8]
     ensures { result.now ≡ first_word line.now }

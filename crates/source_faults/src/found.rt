@@ -41,7 +41,7 @@ fn without_bytes(code: Option<Code>, statement: &Statement<'_>) -> Option<bool>
     }
 }
 
-/// What is found of a line that has no layout fault.
+/// Returns what is found of a line that has no layout fault.
 pub fn found_at<'a>(number: u32, address: u32, line: Line<'a>, placement: Placement) -> Found<'a>
     requires near { address < 2 ^ 31 - 510 }
     requires small { placement.count ≤ 510 }

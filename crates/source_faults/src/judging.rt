@@ -39,7 +39,7 @@ fn is_of_place(kind: AsmFaultKind) -> bool
     (24 <= number) & (number <= 26)
 }
 
-/// A kind, if it is not one of where bytes stand.
+/// Returns a kind, if it is not one of where bytes stand.
 pub fn but_of_place(kind: Option<AsmFaultKind>) -> Option<AsmFaultKind>
     ensures { result ≡ but_of_place kind }
 {
@@ -138,8 +138,8 @@ fn nothing_made(alloc: Global) -> Result<Made, AllocError>
     }
 }
 
-/// All lines that were found, judged under the numbers of all names. The only error is that a
-/// request for memory was refused.
+/// Returns all lines that were found, judged under the numbers of all names. The only error is that
+/// a request for memory was refused.
 pub fn judge(
     alloc: Global,
     map: &MapSpec,

@@ -126,8 +126,8 @@ fn lay_line<'a>(
     }
 }
 
-/// What is found of each line that is read, those with a layout fault mended, and all names with
-/// their numbers. The only error is that a request for memory was refused.
+/// Returns what is found of each line that is read, those with a layout fault mended, and all names
+/// with their numbers. The only error is that a request for memory was refused.
 pub fn lay_out<'a>(
     alloc: Global,
     profile: Profile,

@@ -18,7 +18,7 @@ pub enum Mending {
 }
 
 impl Mending {
-    /// How many bytes a mended line has.
+    /// Returns how many bytes a mended line has.
     pub fn bytes(self) -> u32
         ensures exact { result ≡ (mending_of self).bytes }
         ensures few { result ≤ 3 }
@@ -40,8 +40,8 @@ impl Mending {
     }
 }
 
-/// The name that a mended line begins with defined as 0, if it is numbered so and has no number
-/// yet. The only error is that a request for memory was refused.
+/// Returns the name that a mended line begins with defined as 0, if it is numbered so and has no
+/// number yet. The only error is that a request for memory was refused.
 #[tactic(auto, unfolding(model::specs::AllFaults::with_word))]
 pub fn number_word(
     alloc: Global,

@@ -79,7 +79,8 @@ impl Part {
     }
 }
 
-/// What two judgements of the same lines tell: the faults of the layout, and then those of values.
+/// Returns what two judgements of the same lines tell: the faults of the layout, and then those of
+/// values.
 pub fn told(alloc: Global, first: &[Judged], second: &[Judged]) -> Result<Vec<AsmFault>, AllocError>
     requires { length first.now ≤ 1048576 }
     ensures { IfOk result

@@ -125,7 +125,7 @@ fn push_string(
     Ok(bytes.len())
 }
 
-/// The row that begins at an address, where there is a byte, and how many bytes it has.
+/// Appends the row that begins at an address, where there is a byte, and how many bytes it has.
 #[tactic(auto, unfolding(source_rows::specs::Rows::row_at))]
 pub fn push_row(
     out: &mut Vec<u8>,
