@@ -6,6 +6,7 @@ use asm_files::{asks_for_files, asm_files};
 use checking::check;
 use dis_source::dis_source;
 use program::{program, unreadable_words};
+use running::run_program;
 use std::process::ExitCode;
 use std::{env, io};
 use tape_cmp::tape_cmp;
@@ -26,6 +27,13 @@ fn serve(rt: &HostRuntime, words: &[&str]) -> u8 {
         ["asm", rest @ ..] if asks_for_files(rest) => {
             asm_files(rt, rest, &mut io::writer(rt), &mut rt.stderr())
         }
+        ["run", rest @ ..] => run_program(
+            rt,
+            rest,
+            &mut rt.reader(),
+            &mut io::writer(rt),
+            &mut rt.stderr(),
+        ),
         _ => program(
             rt,
             words,

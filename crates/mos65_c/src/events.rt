@@ -128,7 +128,8 @@ fn three_bytes(bytes: &[u8]) -> [u8; 3]
 #[unsafe(no_mangle)]
 pub extern "C" fn mos65_patch(m: &mut Mos65, address: u16, bytes: &[u8]) -> u32
     ensures live { (s : SessionView) → m.old.slot.session ≡ Some s → length bytes.now ≤ 3
-        → AnswersEvent s (Event.Patch address (three_bytes bytes.now) (length bytes.now)) result m.new.slot.session }
+        → AnswersEvent s (Event.Patch address (three_bytes bytes.now) (length bytes.now)) result
+        m.new.slot.session }
     ensures long { 3 < length bytes.now
         → (result ≡ 106) × (m.new.slot.session ≡ m.old.slot.session) }
 {

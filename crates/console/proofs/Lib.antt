@@ -1,0 +1,5 @@
+pub mod Lines
+pub mod Outputs
+pub mod Port
+pub mod Steps
+pub mod Turning

@@ -1,0 +1,94 @@
+use Rattle.std.proofs.Common.{◌≡◌, ◌+◌, ◌<◌, ◌≤◌, ◌++◌, [], true, false, Some, None, List, ℕ, arith, refl, sym, ap, ◌∙◌, append-nil, append_assoc}
+use Rattle.std.proofs.KnownBytes.{Appends-nil, Appends-trans, Consumes-nil, Consumes-trans}
+use Rattle.model.proofs.Written.{front_after}
+use Rattle.console.specs.Playing.{begun, is_at, played}
+use Rattle.console.specs.Written.{RanAs}
+use Rattle.console.specs.declared.ending.Ending.TheVariants.{Limit, Until}
+use Rattle.console.proofs.Port.{waits_none}
+use Rattle.console.proofs.Turning.{runs_none, runs_on, ends_at, ends_with, ends_full, still_over, whole_input, ran_as}
+use Rattle.console.proofs.running.make_turns.Goals as goal
+
+pub loop-steps-init : goal.loop-steps-init
+loop-steps-init g c = (
+  [],
+  [],
+  record {
+    consumes = Consumes-nil _;
+    appends = Appends-nil _;
+    out = sym (append-nil _);
+    waits = waits_none c.args.session.now.current.bus c.requires c.is_state.ensures.bus.taken;
+    over = λ is. cc;
+    runs = runs_none c.args.until c.args.limit c.args.session.now false;
+  },
+)
+
+pub returns-in-Ok-Some-clause-ok : goal.returns-in-Ok-Some-clause-ok
+returns-in-Ok-Some-clause-ok g c =
+    let inv = c.loop-steps.invariant in
+    let l = c.loop-steps in
+    let s = c.args.session.now in
+    let turn = rw c.in-Ok-Some.field-0-is at c.in-Ok-Some.ensures.ok in
+    let u = c.turn.new.session in let p = c.turn.new.player in
+    whole_input _ _ (inv.0 ++ turn.0) p.is_over (λ input left. RanAs (played c.args.until c.args.limit (begun s input)) (record { steps = l.steps; ending = c.in-Ok-Some.ending }) u left)
+    (Consumes-trans _ _ _ inv.0 turn.0 inv.2.consumes turn.1) (still_over l.player.is_over p.is_over _ _ turn.2 inv.2.over)
+    (λ rest may. ran_as _ l.steps c.in-Ok-Some.ending u p.memo rest
+    (ends_with c.args.until c.args.limit s inv.0 l.player.is_over l.steps l.session l.player.memo inv.2.runs c.loop-steps-test.true turn.0 p.is_over (Some c.in-Ok-Some.ending) u p.memo turn.3 turn.4 c.in-Ok-Some.ending refl rest may))
+
+pub returns-in-Ok-Some-clause-output : goal.returns-in-Ok-Some-clause-output
+returns-in-Ok-Some-clause-output g c =
+    let inv = c.loop-steps.invariant in let more = c.in-Ok-Some.ensures.output in
+    (inv.1 ++ more.0, more.1 ∙ ap (λ out. out ++ more.0) inv.2.out ∙ append_assoc _ inv.1 more.0, Appends-trans _ _ _ inv.1 more.0 inv.2.appends more.2)
+
+pub returns-in-Err-clause-output : goal.returns-in-Err-clause-output
+returns-in-Err-clause-output g c =
+    let inv = c.loop-steps.invariant in let more = c.in-Err.ensures.output in
+    (inv.1 ++ more.0, more.1 ∙ ap (λ out. out ++ more.0) inv.2.out ∙ append_assoc _ inv.1 more.0, front_after _ _ _ inv.1 more.0 inv.2.appends more.2)
+
+pub returns-then-is_at-clause-ok : goal.returns-then-is_at-clause-ok
+returns-then-is_at-clause-ok g c =
+    let inv = c.loop-steps.invariant in
+    let l = c.loop-steps in
+    let s = c.args.session.now in
+    let turn = rw c.in-Ok-None.field-0-is at c.in-Ok-None.ensures.ok in
+    let u = c.turn.new.session in let p = c.turn.new.player in
+    let at' : is_at c.args.until u.current ≡ true = sym c.is_at.ensures ∙ c.if-is_at.true in
+    whole_input _ _ (inv.0 ++ turn.0) p.is_over (λ input left. RanAs (played c.args.until c.args.limit (begun s input)) (record { steps = l.steps + 1; ending = Until }) u left)
+    (Consumes-trans _ _ _ inv.0 turn.0 inv.2.consumes turn.1) (still_over l.player.is_over p.is_over _ _ turn.2 inv.2.over)
+    (λ rest may. ran_as _ (l.steps + 1) Until u p.memo rest
+    (ends_at c.args.until c.args.limit s inv.0 l.player.is_over l.steps l.session l.player.memo inv.2.runs c.loop-steps-test.true turn.0 p.is_over None u p.memo turn.3 turn.4 refl at' rest may))
+
+pub returns-then-is_at-clause-output : goal.returns-then-is_at-clause-output
+returns-then-is_at-clause-output g c =
+    let inv = c.loop-steps.invariant in let more = c.in-Ok-None.ensures.output in
+    (inv.1 ++ more.0, more.1 ∙ ap (λ out. out ++ more.0) inv.2.out ∙ append_assoc _ inv.1 more.0, Appends-trans _ _ _ inv.1 more.0 inv.2.appends more.2)
+
+pub loop-steps-preserved : goal.loop-steps-preserved
+loop-steps-preserved g c =
+    let inv = c.loop-steps.invariant in
+    let l = c.loop-steps in
+    let s = c.args.session.now in
+    let turn = rw c.in-Ok-None.field-0-is at c.in-Ok-None.ensures.ok in
+    let more = c.in-Ok-None.ensures.output in
+    let u = c.turn.new.session in let p = c.turn.new.player in
+    let off : is_at c.args.until u.current ≡ false = sym c.is_at.ensures ∙ c.if-is_at.false in (
+      inv.0 ++ turn.0,
+      inv.1 ++ more.0,
+      record {
+        consumes = Consumes-trans _ _ _ inv.0 turn.0 inv.2.consumes turn.1;
+        appends = Appends-trans _ _ _ inv.1 more.0 inv.2.appends more.2;
+        out = more.1 ∙ ap (λ out. out ++ more.0) inv.2.out ∙ append_assoc _ inv.1 more.0;
+        waits = c.in-Ok-None.ensures.waits;
+        over = still_over l.player.is_over p.is_over _ _ turn.2 inv.2.over;
+        runs = runs_on c.args.until c.args.limit s inv.0 l.player.is_over l.steps l.session l.player.memo inv.2.runs c.loop-steps-test.true turn.0 p.is_over None u p.memo turn.3 turn.4 refl off;
+      },
+    )
+
+pub returns-clause-ok : goal.returns-clause-ok
+returns-clause-ok g c =
+    let inv = c.loop-steps.invariant in
+    let l = c.loop-steps in
+    let s = c.args.session.now in
+    whole_input _ _ inv.0 l.player.is_over (λ input left. RanAs (played c.args.until c.args.limit (begun s input)) (record { steps = c.args.limit; ending = Limit }) l.session left)
+    inv.2.consumes inv.2.over
+    (λ rest may. ran_as _ c.args.limit Limit l.session l.player.memo rest
+    (ends_full c.args.until c.args.limit s inv.0 l.player.is_over l.steps l.session l.player.memo inv.2.runs (omega (arith, c.loop-steps-test.false)) (omega (arith, c.loop-steps.auto.steps-end)) rest may))

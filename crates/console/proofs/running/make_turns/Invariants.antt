@@ -1,0 +1,15 @@
+use Rattle.std.proofs.Common.{◌≡◌, ◌++◌, true, List, ℕ}
+use Rattle.std.specs.Io.KnownBytes.{Appends, Consumes, IsAtEnd}
+use Rattle.console.specs.Taking.{Waits}
+use Rattle.console.proofs.Turning.{RunsOn}
+use Rattle.console.proofs.running.make_turns.Given as goal
+
+abbrev pub invariant-loop-steps : goal.invariant-loop-steps
+invariant-loop-steps g l = (told : List ℕ) × (text : List ℕ) × record {
+  consumes : Consumes (g.R.Read.remaining l.fn.reader) (g.R.Read.remaining l.reader) told;
+  appends : Appends (g.W.Write.contents l.fn.writer) (g.W.Write.contents l.writer) text;
+  out : l.session.current.bus.out ≡ l.fn.session.current.bus.out ++ text;
+  waits : Waits l.session.current l.player.waiting;
+  over : l.player.is_over ≡ true → IsAtEnd (g.R.Read.remaining l.reader);
+  runs : RunsOn l.fn.until l.fn.limit l.fn.session told l.player.is_over l.steps l.session l.player.memo;
+}

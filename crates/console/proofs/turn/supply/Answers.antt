@@ -1,0 +1,36 @@
+use Rattle.std.proofs.Common.{◌≡◌, ◌+◌, [], true, false, arith, refl, sym, ap, ◌∙◌, length, length-append, inl, inr, cond}
+use Rattle.std.proofs.KnownBytes.{Consumes-nil}
+use Rattle.console.specs.Line.{room_of, line_at}
+use Rattle.console.proofs.Lines.{input-none, given-none, line-none}
+use Rattle.console.proofs.Turning.{line_over}
+use Rattle.console.proofs.turn.supply.Goals as goal
+
+pub returns-then-not-is_asked-clause-ok : goal.returns-then-not-is_asked-clause-ok
+returns-then-not-is_asked-clause-ok g c = (
+  [],
+  Consumes-nil _,
+  λ is. inl (is, refl),
+  λ is. (refl, is),
+  refl,
+  sym (input-none _),
+  sym (given-none _),
+  λ rest may. rw c.if-not-is_asked.true refl,
+)
+
+pub returns-then-player-clause-ok : goal.returns-then-player-clause-ok
+returns-then-player-clause-ok g c = (
+  [],
+  Consumes-nil _,
+  λ is. inl (is, refl),
+  λ is. (refl, is),
+  refl,
+  sym (input-none _),
+  sym (given-none _),
+  λ rest may. line_over c.args.is_asked (room_of c.args.session.now.current) rest (may c.if-player.true),
+)
+
+pub overflow_add-player : goal.overflow_add-player
+overflow_add-player g c =
+    let line = c.in-Ok-hand_in_line.ensures.line in
+    let given = ap (λ s. length s.bus.given) line.5 in
+    omega (arith, c.is_state.ensures.bus.given_room, given, line.3, length-append c.args.session.now.current.bus.given line.0)

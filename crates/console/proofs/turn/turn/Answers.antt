@@ -1,0 +1,44 @@
+use Rattle.std.proofs.Common.{◌≡◌, ◌++◌, true, Some, None, arith, ap, sym, ◌∙◌, subst}
+use Rattle.console.specs.Playing.{ending_before, unless_ended, stepped}
+use Rattle.console.specs.Turns.{EndsOnce, EndsWith, play_at, turn_to}
+use Rattle.model.specs.Step.{step}
+use Rattle.console.proofs.Turning.{turned}
+use Rattle.console.proofs.turn.turn.Goals as goal
+
+pub returns-in-Some-clause-ok : goal.returns-in-Some-clause-ok
+returns-in-Some-clause-ok g c =
+    let line = c.in-Ok.ensures.ok in
+    let s = c.args.session.now in let t = c.supply.new.session in let memo = c.args.player.now.memo in
+    let asked = c.asks-is_asked.result in
+    let ending : ending_before memo asked c.in-Ok.came t.current.regs ≡ Some c.in-Some.ending
+    = sym (ap (λ m. ending_before m asked c.in-Ok.came t.current.regs) c.in-Ok.ensures.memo) ∙ sym (ap (λ r. ending_before c.supply.new.player.memo asked c.in-Ok.came r) c.regs.ensures)
+    ∙ sym c.ending_before.ensures ∙ c.in-Some.is in (
+      line.0,
+      line.1,
+      line.2,
+      line.3,
+      λ rest may.
+          turned s t memo line.0 rest asked c.supply.new.player.is_over c.in-Ok.came c.asks-is_asked.ensures line.7 may line.5 line.4
+          ∙ ap (λ e. unless_ended e (play_at t memo rest) (stepped (play_at t memo rest) asked c.in-Ok.came (step t.current))) ending
+          ∙ ap (λ m. turn_to (Some c.in-Some.ending) t m rest) (sym c.in-Ok.ensures.memo),
+    )
+
+pub returns-in-Ok-make_step-clause-ok : goal.returns-in-Ok-make_step-clause-ok
+returns-in-Ok-make_step-clause-ok g c =
+    let line = c.in-Ok.ensures.ok in
+    let s = c.args.session.now in let t = c.supply.new.session in let memo = c.args.player.now.memo in
+    let asked = c.asks-is_asked.result in
+    let over = c.in-Ok-make_step.ensures.over in
+    let ending : ending_before memo asked c.in-Ok.came t.current.regs ≡ None
+    = sym (ap (λ m. ending_before m asked c.in-Ok.came t.current.regs) c.in-Ok.ensures.memo) ∙ sym (ap (λ r. ending_before c.supply.new.player.memo asked c.in-Ok.came r) c.regs.ensures)
+    ∙ sym c.ending_before.ensures ∙ c.in-None.is in (
+      line.0,
+      line.1,
+      (λ is. line.2 (sym over ∙ is)),
+      (λ is. let ends = line.3 is in (ends.0, over ∙ ends.1)),
+      λ rest may.
+          turned s t memo line.0 rest asked c.supply.new.player.is_over c.in-Ok.came c.asks-is_asked.ensures line.7 (λ is. may (over ∙ is)) line.5 line.4
+          ∙ ap (λ e. unless_ended e (play_at t memo rest) (stepped (play_at t memo rest) asked c.in-Ok.came (step t.current))) ending
+          ∙ ap (λ m. stepped (play_at t m rest) asked c.in-Ok.came (step t.current)) (sym c.in-Ok.ensures.memo)
+          ∙ c.in-Ok-make_step.ensures.ok rest,
+    )

@@ -1,0 +1,6 @@
+pub mod Given
+pub mod Line
+pub mod Playing
+pub mod Taking
+pub mod Turns
+pub mod Written

@@ -1,0 +1,36 @@
+-- What a turn has read and where it leads, if more of the input may come.
+use Rattle.std.specs.Io.KnownBytes.{IsAtEnd}
+use Rattle.std.specs.Prelude.{◌≡◌, ◌⊎◌, ℕ, Bool, true, if◌then◌else◌, List, [], ◌++◌, Option}
+use Rattle.model.specs.Session.{Session}
+use Rattle.console.specs.Line.{line_at}
+use Rattle.console.specs.Playing.{Play, Turn, turn_of}
+use Rattle.console.specs.declared.memo.Memo.{Memo}
+use Rattle.console.specs.declared.ending.Ending.{Ending}
+
+-- A reader that has ended gives nothing more.
+abbrev pub EndsOnce : Bool → Bool → List ℕ → Type 0
+EndsOnce before after told = before ≡ true → (told ≡ []) × (after ≡ true)
+
+-- A reader that is said to have ended gives nothing more: it was said before, or it shows.
+abbrev pub EndsWith : Bool → Bool → Option (List ℕ) → Option (List ℕ) → Type 0
+EndsWith before after old new = after ≡ true → ((before ≡ true) × (new ≡ old)) ⊎ IsAtEnd new
+
+-- What may still come of an input: nothing, if the reader has ended.
+abbrev pub MayCome : Bool → List ℕ → Type 0
+MayCome is_over rest = is_over ≡ true → rest ≡ []
+
+-- The line that is handed in, whatever comes after it.
+abbrev pub IsLine : Bool → Bool → ℕ → List ℕ → Type 0
+IsLine is_asked is_over room told = (rest : List ℕ) → MayCome is_over rest
+    → (if is_asked then line_at room (told ++ rest) else []) ≡ told
+
+abbrev pub play_at : Session → Memo → List ℕ → Play
+play_at s memo input = record { session = s; input = input; memo = memo }
+
+abbrev pub turn_to : Option Ending → Session → Memo → List ℕ → Turn
+turn_to ending s memo input = record { ending = ending; play = play_at s memo input }
+
+-- A turn leads from one place to another, whatever comes after what was read.
+abbrev pub TurnsTo : Session → Memo → List ℕ → Bool → Option Ending → Session → Memo → Type 0
+TurnsTo s memo told is_over ending t after = (rest : List ℕ) → MayCome is_over rest
+    → turn_of (play_at s memo (told ++ rest)) ≡ turn_to ending t after rest

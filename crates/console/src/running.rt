@@ -1,0 +1,116 @@
+//! A run with a reader and a writer.
+
+ghost use Rattle.std.specs.Prelude.{◌≡◌, ◌++◌, false, IfOk, ℕ, List};
+ghost use Rattle.model.specs.State.{input_waits};
+ghost use Rattle.model.specs.Writers.{Writes};
+ghost use Rattle.console.specs.Playing.{begun, is_at, played};
+ghost use Rattle.console.specs.Written.{AreBytesOf, RanAs};
+
+use crate::ending::{Ending, PlayFault, Played};
+use crate::memo::Memo;
+use crate::output::flush;
+use crate::turn::{Player, turn};
+use debugger::Session;
+use std::io::{Read, Write};
+
+/// Returns whether the program counter is at an address, if there is one.
+fn is_at(until: Option<u16>, session: &Session) -> bool
+    ensures { result ≡ is_at until session.now.current }
+{
+    match until {
+        None => false,
+        Some(address) => session.regs().pc == address,
+    }
+}
+
+/// Runs a program with a reader and a writer for its console.
+///
+/// At most `limit` steps are made. The run ends at the first of these: a step that leads to
+/// `until`, if it is given; a jump or a branch to itself, unless input is read that may interrupt
+/// it; a look for input that has ended, where the program would look again for ever; a rejected
+/// step; the limit. Breakpoints and watches do not end it.
+///
+/// A line is read, and handed in, where the program looks for input and none waits: at an
+/// instruction that reads base+1 or base+2, or at a jump to itself with I clear. No byte is read
+/// that is not handed in. Once the console has taken 65,536 bytes there is no room for more, and
+/// the program is run as if the input had ended. What the program writes is written byte by byte as
+/// it comes, and flushed before a line is read and at the end.
+///
+/// # Errors
+///
+/// - `Read`: a read failed. The output of the steps before it was written.
+/// - `Write`: a write or a flush failed, or a write took no byte. A beginning of the output was
+///   written.
+///
+/// Source: mos65.
+pub fn play<R: Read, W: Write>(
+    session: &mut Session,
+    until: Option<u16>,
+    limit: u64,
+    reader: &mut R,
+    writer: &mut W,
+) -> Result<Played, PlayFault>
+    requires { input_waits session.old.current.bus ≡ false }
+    // The run is the definition's over some input, which is the reader's if its bytes are known;
+    // what the run did not ask for is left.
+    ensures ok { IfOk result (λ end. (input : List ℕ) × (left : List ℕ)
+        × AreBytesOf (R.remaining reader.old) input × AreBytesOf (R.remaining reader.new) left
+        × RanAs (played until limit (begun session.old input)) end session.new left) }
+    // What was written is the console's output since: all of it, or at an error a beginning.
+    ensures output { (text : List ℕ)
+        × (session.new.current.bus.out ≡ session.old.current.bus.out ++ text)
+        × Writes (W.contents writer.old) (W.contents writer.new) text result }
+{
+    match make_turns(session, until, limit, reader, writer) {
+        Ok(end) => match flush(writer) {
+            Ok(()) => Ok(end),
+            Err(fault) => Err(fault),
+        },
+        Err(fault) => Err(fault),
+    }
+}
+
+/// Makes the turns of a run. What was written is not flushed at the end.
+fn make_turns<R: Read, W: Write>(
+    session: &mut Session,
+    until: Option<u16>,
+    limit: u64,
+    reader: &mut R,
+    writer: &mut W,
+) -> Result<Played, PlayFault>
+    requires { input_waits session.old.current.bus ≡ false }
+    ensures ok { IfOk result (λ end. (input : List ℕ) × (left : List ℕ)
+        × AreBytesOf (R.remaining reader.old) input × AreBytesOf (R.remaining reader.new) left
+        × RanAs (played until limit (begun session.old input)) end session.new left) }
+    ensures output { (text : List ℕ)
+        × (session.new.current.bus.out ≡ session.old.current.bus.out ++ text)
+        × Writes (W.contents writer.old) (W.contents writer.new) text result }
+{
+    // For the proof: that no more input was taken than handed in.
+    session.is_state();
+    let mut player = Player {
+        memo: Memo {
+            rests: false,
+            idle: None,
+        },
+        waiting: 0,
+        is_over: false,
+    };
+    for steps in 0..limit {
+        match turn(session, &mut player, reader, writer) {
+            Ok(None) => {}
+            Ok(Some(ending)) => return Ok(Played { steps, ending }),
+            Err(fault) => return Err(fault),
+        }
+        if is_at(until, session) {
+            return Ok(Played {
+                steps: steps + 1,
+                ending: Ending::Until,
+            });
+        }
+    }
+    Ok(Played {
+        steps: limit,
+        ending: Ending::Limit,
+    })
+}

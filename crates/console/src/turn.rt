@@ -1,0 +1,305 @@
+//! A turn: a line of input if one is asked for, and a step.
+
+ghost use Rattle.std.specs.Prelude.{◌≡◌, ◌==◌, ◌+◌, ◌≤◌, ◌++◌, ℕ, List, IfOk, OnOk};
+ghost use Rattle.std.specs.Io.KnownBytes.{Consumes, Keeps};
+ghost use Rattle.model.specs.Step.{step};
+ghost use Rattle.model.specs.State.{input_waits, State};
+ghost use Rattle.model.specs.Transcript.{after_input};
+ghost use Rattle.model.specs.Writers.{Writes};
+ghost use Rattle.operands.specs.Access.{access_here};
+ghost use Rattle.console.specs.Given.{given_to};
+ghost use Rattle.console.specs.Line.{room_of};
+ghost use Rattle.console.specs.Playing.{asks, came as is_some_line, ending_before, is_idle, looks};
+ghost use Rattle.console.specs.Playing.{memo_after, same_flags, same_regs, stays, stepped};
+ghost use Rattle.console.specs.Taking.{counted, take_count, Waits};
+ghost use Rattle.console.specs.Turns.{EndsOnce, EndsWith, IsLine, TurnsTo, play_at, turn_to};
+
+use crate::ending::{Ending, PlayFault};
+use crate::input::hand_in_line;
+use crate::memo::Memo;
+use crate::output::{flush, put_output};
+use debugger::Session;
+use model::{Event, Flags, Regs};
+use operands::{Access, access_here};
+use std::io::{Read, Write};
+
+/// What a run knows besides its session.
+#[derive(Drop)]
+pub struct Player {
+    /// What it remembers.
+    pub memo: Memo,
+    /// How many bytes of input wait.
+    pub waiting: u32,
+    /// Whether the reader has ended.
+    pub is_over: bool,
+}
+
+/// Returns whether an address is base+1, where a read takes a byte of input.
+fn is_data(session: &Session, address: u16) -> bool
+    ensures { result ≡ (address == session.now.current.bus.map.port + 1) }
+{
+    // For the proof: that the port's base is a multiple of four.
+    session.is_state();
+    session.is_port(address) & (address % 4 == 1)
+}
+
+/// Returns whether an address is base+2, where a read tells whether input waits.
+fn is_signal(session: &Session, address: u16) -> bool
+    ensures { result ≡ (address == session.now.current.bus.map.port + 2) }
+{
+    // For the proof: that the port's base is a multiple of four.
+    session.is_state();
+    session.is_port(address) & (address % 4 == 2)
+}
+
+/// Returns whether the instruction at PC reads base+1 or base+2.
+#[tactic(auto, unfolding(crate::specs::Playing::looks))]
+fn looks(session: &Session) -> bool
+    ensures { result ≡ looks session.now.current }
+{
+    match access_here(session).read {
+        None => false,
+        Some(address) => is_data(session, address) || is_signal(session, address),
+    }
+}
+
+/// Returns whether input waits.
+#[tactic(auto, using(crate::proofs::Port::waits_some))]
+fn input_waits(session: &Session, waiting: u32) -> bool
+    requires { Waits session.now.current waiting }
+    ensures { result ≡ input_waits session.now.current.bus }
+{
+    waiting > 0
+}
+
+/// Returns whether a line is asked for.
+#[tactic(auto, unfolding(crate::specs::Playing::asks))]
+fn asks(session: &Session, player: &Player) -> bool
+    requires { Waits session.now.current player.now.waiting }
+    ensures { result ≡ asks player.now.memo session.now.current }
+{
+    if input_waits(session, player.waiting) {
+        return false;
+    }
+    if player.memo.rests {
+        !session.regs().flags.i
+    } else {
+        looks(session)
+    }
+}
+
+fn same_flags(f: Flags, g: Flags) -> bool
+    ensures { result ≡ same_flags f g }
+{
+    f.n == g.n && f.v == g.v && f.d == g.d && f.i == g.i && f.z == g.z && f.c == g.c
+}
+
+fn same_regs(r: Regs, q: Regs) -> bool
+    ensures { result ≡ same_regs r q }
+{
+    r.a == q.a
+        && r.x == q.x
+        && r.y == q.y
+        && r.s == q.s
+        && r.pc == q.pc
+        && same_flags(r.flags, q.flags)
+}
+
+fn is_idle(last: Option<Regs>, regs: Regs) -> bool
+    ensures { result ≡ is_idle last regs }
+{
+    match last {
+        None => false,
+        Some(last) => same_regs(last, regs),
+    }
+}
+
+/// Returns why the run ends before its next step, if it does.
+#[tactic(auto, unfolding(crate::specs::Playing::ending_before))]
+fn ending_before(memo: Memo, is_asked: bool, came: bool, regs: Regs) -> Option<Ending>
+    ensures { result ≡ ending_before memo is_asked came regs }
+{
+    if memo.rests {
+        if came { None } else { Some(Ending::Rest) }
+    } else if is_asked && !came && is_idle(memo.idle, regs) {
+        Some(Ending::InputOver)
+    } else {
+        None
+    }
+}
+
+fn stays(before: Regs, after: Regs) -> bool
+    ensures { result ≡ stays before after }
+{
+    before.pc == after.pc && before.s == after.s
+}
+
+/// Returns what is remembered after a step, by the access of its instruction.
+#[tactic(auto, unfolding(crate::specs::Playing::memo_after))]
+fn memo_after(
+    memo: Memo,
+    is_asked: bool,
+    came: bool,
+    access: Access,
+    before: Regs,
+    after: Regs,
+) -> Memo
+    ensures { (state : State) → access_here state ≡ access → state.regs ≡ before
+        → result ≡ memo_after memo is_asked came state after }
+{
+    let idle = if access.puts_byte() {
+        None
+    } else if is_asked && !came {
+        Some(before)
+    } else {
+        memo.idle
+    };
+    Memo {
+        rests: stays(before, after),
+        idle,
+    }
+}
+
+/// Returns how many bytes of input a bus read takes.
+fn take_count(session: &Session, read: Option<u16>, waiting: u32) -> u32
+    requires { Waits session.now.current waiting }
+    ensures count { result ≡ take_count read session.now.current.bus }
+    ensures within { result ≤ waiting }
+{
+    match read {
+        None => 0,
+        Some(address) => {
+            if is_data(session, address) && input_waits(session, waiting) {
+                1
+            } else {
+                0
+            }
+        }
+    }
+}
+
+/// Returns a count if the stack pointer is what it was, and otherwise 0.
+fn counted(before: u8, after: u8, count: u32) -> u32
+    ensures value { result ≡ counted before after count }
+    ensures within { result ≤ count }
+{
+    if before == after { count } else { 0 }
+}
+
+/// Makes the step of a turn, and writes the output that it adds.
+fn make_step<W: Write>(
+    session: &mut Session,
+    player: &mut Player,
+    is_asked: bool,
+    came: bool,
+    writer: &mut W,
+) -> Result<Option<Ending>, PlayFault>
+    requires { Waits session.old.current player.old.waiting }
+    ensures ok { IfOk result (λ ending. (input : List ℕ)
+        → stepped (play_at session.old player.old.memo input) is_asked came
+        (step session.old.current) ≡ turn_to ending session.new player.new.memo input) }
+    ensures waits { OnOk result (Waits session.new.current player.new.waiting) }
+    ensures over { player.new.is_over ≡ player.old.is_over }
+    ensures output { (text : List ℕ)
+        × (session.new.current.bus.out ≡ session.old.current.bus.out ++ text)
+        × Writes (W.contents writer.old) (W.contents writer.new) text result }
+{
+    // For the proof: that the stack pointer has eight bits.
+    session.is_state();
+    let access = access_here(session);
+    let count = take_count(session, access.read, player.waiting);
+    let before = session.regs();
+    let shown = session.output_len();
+    match session.event(Event::Step) {
+        Err(fault) => Ok(Some(Ending::Refused(fault))),
+        Ok(()) => {
+            let after = session.regs();
+            player.waiting -= counted(before.s, after.s, count);
+            player.memo = memo_after(player.memo, is_asked, came, access, before, after);
+            match put_output(session, shown, writer) {
+                Ok(()) => Ok(None),
+                Err(fault) => Err(fault),
+            }
+        }
+    }
+}
+
+/// Reads a line and hands it in if one is asked for, after all output is flushed. Returns whether
+/// one came.
+fn supply<R: Read, W: Write>(
+    session: &mut Session,
+    player: &mut Player,
+    is_asked: bool,
+    reader: &mut R,
+    writer: &mut W,
+) -> Result<bool, PlayFault>
+    requires { Waits session.old.current player.old.waiting }
+    ensures ok { IfOk result (λ came. (told : List ℕ)
+        × Consumes (R.remaining reader.old) (R.remaining reader.new) told
+        × EndsWith player.old.is_over player.new.is_over (R.remaining reader.old)
+        (R.remaining reader.new)
+        × EndsOnce player.old.is_over player.new.is_over told
+        × (came ≡ is_some_line told)
+        × (session.new ≡ after_input session.old told)
+        × (session.new.current ≡ given_to session.old.current told)
+        × IsLine is_asked player.new.is_over (room_of session.old.current) told) }
+    ensures waits { OnOk result (Waits session.new.current player.new.waiting) }
+    ensures memo { player.new.memo ≡ player.old.memo }
+    ensures kept { Keeps (W.contents writer.old) (W.contents writer.new) }
+    ensures output { session.new.current.bus.out ≡ session.old.current.bus.out }
+{
+    if !is_asked {
+        return Ok(false);
+    }
+    match flush(writer) {
+        Ok(()) => {}
+        Err(fault) => return Err(fault),
+    }
+    if player.is_over {
+        return Ok(false);
+    }
+    match hand_in_line(session, reader) {
+        Ok(line) => {
+            // For the proof: that the input handed in has its room.
+            session.is_state();
+            player.waiting += line.len;
+            player.is_over = line.is_last;
+            Ok(line.len > 0)
+        }
+        Err(fault) => Err(fault),
+    }
+}
+
+/// Makes a turn. Returns why the run ends with it, if it does.
+pub fn turn<R: Read, W: Write>(
+    session: &mut Session,
+    player: &mut Player,
+    reader: &mut R,
+    writer: &mut W,
+) -> Result<Option<Ending>, PlayFault>
+    requires { Waits session.old.current player.old.waiting }
+    ensures ok { IfOk result (λ ending. (told : List ℕ)
+        × Consumes (R.remaining reader.old) (R.remaining reader.new) told
+        × EndsWith player.old.is_over player.new.is_over (R.remaining reader.old)
+        (R.remaining reader.new)
+        × EndsOnce player.old.is_over player.new.is_over told
+        × TurnsTo session.old player.old.memo told player.new.is_over ending
+        session.new player.new.memo) }
+    ensures waits { OnOk result (Waits session.new.current player.new.waiting) }
+    ensures output { (text : List ℕ)
+        × (session.new.current.bus.out ≡ session.old.current.bus.out ++ text)
+        × Writes (W.contents writer.old) (W.contents writer.new) text result }
+{
+    let is_asked = asks(session, player);
+    let came = match supply(session, player, is_asked, reader, writer) {
+        Ok(came) => came,
+        Err(fault) => return Err(fault),
+    };
+    match ending_before(player.memo, is_asked, came, session.regs()) {
+        Some(ending) => Ok(Some(ending)),
+        None => match make_step(session, player, is_asked, came, writer) {
+            Ok(ending) => Ok(ending),
+            Err(fault) => Err(fault),
+        },
+    }
+}

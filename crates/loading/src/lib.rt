@@ -1,0 +1,13 @@
+//! A file loaded into a session, and the words that say how: the file, its port, ROM and profile,
+//! and places in it by name or by number.
+#![tactic(auto)]
+
+mod loaded;
+mod options;
+mod place;
+mod value;
+
+pub use loaded::{Loaded, load};
+pub use options::{FileWords, file_words, option, with_file_options};
+pub use place::place_of;
+pub use value::steps_of;

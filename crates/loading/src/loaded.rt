@@ -1,0 +1,119 @@
+//! A file loaded into a session.
+
+ghost use Rattle.std.specs.Prelude.{◌≡◌, ℕ, List, Option, IfOk};
+ghost use Rattle.model.specs.Event.{start};
+ghost use Rattle.model.specs.Session.{new_session};
+
+use crate::options::FileWords;
+use assembler::{Assembly, assemble};
+use bus::MapSpec;
+use debugger::Session;
+use engine::EngineFault;
+use model::Profile;
+use papertape::read_tape_from;
+use program::Refusal;
+use std::fs::File;
+use std::io;
+use std::io::Read;
+use std::rt::Files;
+
+/// One byte more than the longest source.
+const MOST_READ: u64 = 1_048_577;
+
+/// A session on the image of a file, and what the file says of names if it is a source.
+#[derive(Drop)]
+pub struct Loaded {
+    pub session: Session,
+    pub assembly: Option<Assembly>,
+}
+
+/// Returns the bytes of a source's file, or the first of them if it is too long for a source.
+fn read_source<H: Files + AllocGlobal>(rt: &H, path: &str) -> io::Result<Vec<u8>> {
+    let mut source = Vec::new(rt.alloc());
+    File::open(rt, path)?
+        .take(MOST_READ)
+        .read_to_end(&mut source)?;
+    Ok(source)
+}
+
+/// Returns the map of the words.
+///
+/// Errors: `Map` if the port and the ROM do not make a map.
+fn map_of(words: &FileWords<'_>) -> Result<MapSpec, Refusal>
+    ensures { IfOk result (λ map. map ≡ record {
+      profile = words.now.profile;
+      rom = words.now.rom;
+      port = words.now.port;
+    }) }
+{
+    let map = MapSpec::new(words.rom, words.port)?;
+    match words.profile {
+        Profile::N => Ok(map),
+        Profile::C => Ok(map.profile_c()),
+    }
+}
+
+/// Returns a session that holds at most `history` earlier states, on the image of a source's file.
+fn load_source<H: Files + AllocGlobal>(
+    rt: &H,
+    words: &FileWords<'_>,
+    map: MapSpec,
+) -> Result<Loaded, Refusal>
+    ensures { IfOk result (λ loaded. (image : List (Option ℕ))
+        × (loaded.session ≡ new_session 0 (start map image))) }
+{
+    let source = read_source(rt, words.file).map_err(|error| Refusal::unreadable(&error))?;
+    let assembly = assemble(rt.alloc(), source.as_slice(), &map)?;
+    match Session::new(rt.alloc(), map, assembly.image(), 0) {
+        Ok(session) => Ok(Loaded {
+            session,
+            assembly: Some(assembly),
+        }),
+        Err(fault) => Err(Refusal::from(EngineFault::from(fault))),
+    }
+}
+
+/// Returns a session on the image of a tape's file, which is read in pieces.
+fn load_tape<H: Files + AllocGlobal>(
+    rt: &H,
+    words: &FileWords<'_>,
+    map: MapSpec,
+) -> Result<Loaded, Refusal>
+    ensures { IfOk result (λ loaded. (image : List (Option ℕ))
+        × (loaded.session ≡ new_session 0 (start map image))) }
+{
+    let mut tape = File::open(rt, words.file).map_err(|error| Refusal::unreadable(&error))?;
+    let image = read_tape_from(rt.alloc(), &mut tape)?;
+    match Session::new(rt.alloc(), map, &image, 0) {
+        Ok(session) => Ok(Loaded {
+            session,
+            assembly: None,
+        }),
+        Err(fault) => Err(Refusal::from(EngineFault::from(fault))),
+    }
+}
+
+/// Loads the file of the words: returns a session that starts with its image and holds no earlier
+/// state, with the assembly if the file is a source.
+///
+/// # Errors
+///
+/// In this order: `Map` if the port and the ROM do not make a map; `Read` if the file cannot be
+/// read; `Source` or `Tape` with its fault; `Session` if a tape has a byte at the port.
+/// `OutOfMemory` if an allocation fails.
+pub fn load<H: Files + AllocGlobal>(rt: &H, words: &FileWords<'_>) -> Result<Loaded, Refusal>
+    ensures { IfOk result (λ loaded. (image : List (Option ℕ)) × (loaded.session ≡ new_session 0
+        (start (record { profile = words.now.profile; rom = words.now.rom; port = words.now.port })
+        image))) }
+{
+    match map_of(words) {
+        Ok(map) => {
+            if words.is_tape {
+                load_tape(rt, words, map)
+            } else {
+                load_source(rt, words, map)
+            }
+        }
+        Err(refusal) => Err(refusal),
+    }
+}

@@ -1,0 +1,65 @@
+//! The words that name a file and its map.
+
+use crate::value::{port_of, profile_of, rom_of};
+use clap::{Arg, ArgAction, ArgMatches, Command, Error};
+use model::Profile;
+use std::alloc::Global;
+
+/// A file, and the map that it is loaded on.
+#[derive(Clone, Copy, Debug, PartialEq, Eq)]
+pub struct FileWords<'a> {
+    /// The file to load.
+    pub file: &'a str,
+    /// Whether it is a tape.
+    pub is_tape: bool,
+    /// The first of the port's four addresses.
+    pub port: u16,
+    /// The first and the last address of the ROM, if there is one.
+    pub rom: Option<(u16, u16)>,
+    /// The processor.
+    pub profile: Profile,
+}
+
+/// Returns an option with one value.
+pub fn option<'a>(alloc: Global, name: &'a str, value: &'a str, help: &'a str) -> Arg<'a> {
+    Arg::new(alloc, name)
+        .long(name)
+        .value_name(value)
+        .action(ArgAction::Set)
+        .help(help)
+}
+
+/// Returns a command with the words of a file and its map added.
+///
+/// The only error is that an allocation failed.
+pub fn with_file_options<'a>(alloc: Global, command: Command<'a>) -> Result<Command<'a>, Error> {
+    let port = "The first of the port's four addresses, four hex digits [default: F000]";
+    let rom = "The addresses that the program cannot write [default: none]";
+    let profile = "The processor, N or C: C has 19 opcodes more [default: N]";
+    let file = Arg::new(alloc, "FILE")
+        .required(true)
+        .action(ArgAction::Set)
+        .help("The source to assemble and load");
+    let tape = Arg::new(alloc, "tape")
+        .long("tape")
+        .action(ArgAction::SetTrue)
+        .help("FILE is a tape, not a source");
+    let command = command
+        .arg(file)?
+        .arg(tape)?
+        .arg(option(alloc, "port", "HHHH", port))?
+        .arg(option(alloc, "rom", "LO-HI", rom))?
+        .arg(option(alloc, "profile", "N|C", profile))?;
+    Ok(command)
+}
+
+/// Returns the file and the map that the values ask for, or `None` if one is wrong.
+pub fn file_words<'a>(matches: &ArgMatches<'a>) -> Option<FileWords<'a>> {
+    Some(FileWords {
+        file: matches.get_str("FILE")?,
+        is_tape: matches.get_str("tape") == Some("true"),
+        port: port_of(matches.get_str("port"))?,
+        rom: rom_of(matches.get_str("rom"))?,
+        profile: profile_of(matches.get_str("profile"))?,
+    })
+}

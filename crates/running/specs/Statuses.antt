@@ -1,0 +1,15 @@
+-- The exit status of a run. Source: mos65.
+use Rattle.std.specs.Prelude.{ℕ}
+use Rattle.model.specs.declared.event.EventFault.TheVariants.{ConsoleFull}
+use Rattle.console.specs.declared.ending.Ending.{Ending}
+use Rattle.console.specs.declared.ending.Ending.TheVariants.{Until, Rest, InputOver, Limit, Refused}
+
+-- 10 for the limit, 12 for a full console, 11 for any other fault; otherwise that of a run that came
+-- to its end.
+abbrev pub status_of_ending : Ending → ℕ → ℕ
+status_of_ending Until ended = ended
+status_of_ending Rest ended = ended
+status_of_ending InputOver ended = ended
+status_of_ending Limit ended = 10
+status_of_ending (Refused ConsoleFull) ended = 12
+status_of_ending (Refused fault) ended = 11

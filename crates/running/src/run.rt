@@ -1,0 +1,104 @@
+//! What the word `run` does.
+
+ghost use Rattle.std.specs.Prelude.{◌≡◌};
+ghost use Rattle.program.specs.Statuses.{status_of};
+
+use crate::ended::{status_of_ending, tell_cycles, tell_ending};
+use crate::words::{RunWords, read_words};
+use console::{PlayFault, Played, play};
+use debugger::Session;
+use loading::{load, place_of};
+use program::Refusal;
+use program_words::WordsFault;
+use std::io::{Read, Write};
+use std::rt::Files;
+
+/// Writes the fault line, and returns the exit status, even if the line cannot be written.
+fn refused<E: Write>(refusal: Refusal, errors: &mut E) -> u8
+    ensures { result ≡ status_of refusal }
+{
+    let _ = writeln!(errors, "mos65: {refusal}");
+    refusal.status()
+}
+
+/// Writes why words are rejected, or the help that they ask for, and returns the exit status.
+fn refused_words<O: Write, E: Write>(fault: WordsFault, output: &mut O, errors: &mut E) -> u8 {
+    match fault {
+        WordsFault::Help(text) => match write!(output, "{text}") {
+            Ok(()) => 0,
+            Err(_) => refused(Refusal::Write, errors),
+        },
+        WordsFault::Usage(text) => {
+            let _ = write!(errors, "{text}");
+            2
+        }
+        WordsFault::Value => refused(Refusal::Words, errors),
+        WordsFault::OutOfMemory => refused(Refusal::OutOfMemory, errors),
+    }
+}
+
+/// Tells how a run ended, and returns the exit status.
+fn ended<E: Write>(words: &RunWords<'_>, played: Played, session: &Session, errors: &mut E) -> u8 {
+    let regs = session.regs();
+    tell_ending(played, regs.pc, errors);
+    if words.tells_cycles {
+        tell_cycles(played, session, errors);
+    }
+    let status = if words.is_status_of_a { regs.a } else { 0 };
+    status_of_ending(played.ending, status)
+}
+
+/// Loads the file of the words and runs it, and returns the exit status.
+fn run_words<H: Files + AllocGlobal, R: Read, O: Write, E: Write>(
+    rt: &H,
+    words: &RunWords<'_>,
+    input: &mut R,
+    output: &mut O,
+    errors: &mut E,
+) -> u8 {
+    let mut loaded = match load(rt, &words.file) {
+        Ok(loaded) => loaded,
+        Err(refusal) => return refused(refusal, errors),
+    };
+    let until = match words.until {
+        None => None,
+        Some(word) => match place_of(loaded.assembly.as_ref(), word.as_bytes()) {
+            Some(address) => Some(address),
+            None => {
+                let _ = writeln!(
+                    errors,
+                    "mos65: {word} is no name of the source and no address"
+                );
+                return 2;
+            }
+        },
+    };
+    match play(&mut loaded.session, until, words.steps, input, output) {
+        Ok(played) => ended(words, played, &loaded.session, errors),
+        Err(PlayFault::Read) => refused(Refusal::Read, errors),
+        Err(PlayFault::Write) => refused(Refusal::Write, errors),
+    }
+}
+
+/// Does what the words of `run` ask for, its own name left out, and returns the exit status.
+///
+/// - 0, or with `--status A` the value of A: the run came to its end, at `--until`, at a jump to
+///   itself, or waiting for input that has ended.
+/// - 10: the limit of steps. 11: a fault of the program. 12: the console is full.
+/// - 1: the source or the tape is rejected. 2: the words, the place or the map are wrong. 3: memory
+///   ran out. 4: reading or writing failed.
+///
+/// The program's output goes to `output`. For each status but those of the first line a line on
+/// `errors` says why; that it cannot be written changes no status.
+pub fn run_program<H: Files + AllocGlobal, R: Read, O: Write, E: Write>(
+    rt: &H,
+    words: &[&str],
+    input: &mut R,
+    output: &mut O,
+    errors: &mut E,
+) -> u8 {
+    match read_words(rt.alloc(), words) {
+        Ok(words) => run_words(rt, &words, input, output, errors),
+        Err(fault) => refused_words(fault, output, errors),
+    }
+}

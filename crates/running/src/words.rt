@@ -1,0 +1,80 @@
+//! The words of `run`.
+
+use clap::{Arg, ArgAction, ArgMatches, Command, Error};
+use loading::{FileWords, file_words, option, steps_of, with_file_options};
+use program_words::WordsFault;
+use std::alloc::Global;
+
+/// What the words of `run` ask for.
+#[derive(Clone, Copy, Debug, PartialEq, Eq)]
+pub struct RunWords<'a> {
+    /// The file to run, and its map.
+    pub file: FileWords<'a>,
+    /// The place that ends the run, if one is named.
+    pub until: Option<&'a str>,
+    /// The most steps that are made.
+    pub steps: u64,
+    /// Whether the exit status is the value of A.
+    pub is_status_of_a: bool,
+    /// Whether cycles and steps are told at the end.
+    pub tells_cycles: bool,
+}
+
+/// What the help of `run` shows below its options.
+const STATUSES: &str = "Exit status: 0 the run came to its end (with --status A the value of A),
+10 the limit of steps, 11 a fault of the program, 12 the console is full,
+1 bad source or tape, 2 bad words or map, 3 out of memory, 4 I/O failed
+
+Example:
+  mos65 run guess.a65";
+
+/// Returns the command line of `run`.
+fn command<'a>(alloc: Global) -> Result<Command<'a>, Error> {
+    let until = "Where the run ends: a name, an address, or a sum of both [default: none]";
+    let steps = "The most steps to make [default: no limit]";
+    let status = "A: the exit status is the value of A [default: 0]";
+    let cycles = Arg::new(alloc, "cycles")
+        .long("cycles")
+        .action(ArgAction::SetTrue)
+        .help("Prints cycles and steps at the end, on the error stream");
+    let command = Command::new(alloc, "run")
+        .about("Runs a program: its console is the terminal")
+        .after_help(STATUSES)
+        .no_binary_name(true)
+        .bin_name("mos65 run")?;
+    let command = with_file_options(alloc, command)?
+        .arg(option(alloc, "until", "WHERE", until))?
+        .arg(option(alloc, "steps", "N", steps))?
+        .arg(option(alloc, "status", "A", status))?
+        .arg(cycles)?;
+    Ok(command)
+}
+
+/// Returns whether the word after `--status` asks for the value of A, or `None` if it is wrong.
+fn status_asked(word: Option<&str>) -> Option<bool> {
+    match word {
+        None => Some(false),
+        Some("A") => Some(true),
+        Some(_) => None,
+    }
+}
+
+/// Returns what the values that were found ask for, or `None` if one is wrong.
+fn asked<'a>(matches: &ArgMatches<'a>) -> Option<RunWords<'a>> {
+    Some(RunWords {
+        file: file_words(matches)?,
+        until: matches.get_str("until"),
+        steps: steps_of(matches.get_str("steps"))?,
+        is_status_of_a: status_asked(matches.get_str("status"))?,
+        tells_cycles: matches.get_str("cycles") == Some("true"),
+    })
+}
+
+/// Reads the words of `run`, its own name left out.
+pub fn read_words<'a>(alloc: Global, words: &'a [&'a str]) -> Result<RunWords<'a>, WordsFault> {
+    let matches = command(alloc)?.try_get_matches_from(words)?;
+    match asked(&matches) {
+        Some(words) => Ok(words),
+        None => Err(WordsFault::Value),
+    }
+}
