@@ -10,7 +10,7 @@ use crate::asked::{FilesWords, read_files_words};
 use crate::texts::{FileTexts, TextsAsked, file_texts};
 use bus::MapSpec;
 use model::{BusFault, Profile};
-use program::Refusal;
+use program::{Refusal, put_fault_line};
 use program_words::WordsFault;
 use std::fs::File;
 use std::io::{Read, Write};
@@ -98,7 +98,7 @@ fn assembled<H: Files + AllocGlobal>(rt: &H, words: &FilesWords<'_>) -> Result<(
 fn refused<E: Write>(refusal: Refusal, errors: &mut E) -> u8
     ensures { result ≡ status_of refusal }
 {
-    let _ = writeln!(errors, "mos65: {refusal}");
+    put_fault_line(refusal, errors);
     refusal.status()
 }
 

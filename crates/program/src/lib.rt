@@ -1,12 +1,13 @@
 //! The program `mos65` as a library: its files and streams, its fault lines and its exit status.
 //!
-//! `mos65` is its main. A caller may use `program`, which does everything, and `asm_texts` and
-//! `dis_text`, which make the texts that `asm` and `dis` write. No clause can say what is in a
-//! file, so the contracts speak of the words, the streams and the status.
+//! `mos65` is its main. A caller may use `program`, which does everything, `asm_texts` and
+//! `dis_text`, which make the texts that `asm` and `dis` write, and `put_fault_line`. No clause can
+//! say what is in a file, so the contracts speak of the words, the streams and the status.
 #![tactic(auto)]
 
 pub use assembling::{AsmTexts, asm_texts};
 pub use disassembling::dis_text;
+pub use fault_line::put_fault_line;
 pub use refusal::Refusal;
 pub use running::{program, unreadable_words};
 

@@ -8,7 +8,7 @@ use crate::words::{RunWords, read_words};
 use console::{PlayFault, Played, play};
 use debugger::Session;
 use loading::{load, place_of};
-use program::Refusal;
+use program::{Refusal, put_fault_line};
 use program_words::WordsFault;
 use std::io::{Read, Write};
 use std::rt::Files;
@@ -17,7 +17,7 @@ use std::rt::Files;
 fn refused<E: Write>(refusal: Refusal, errors: &mut E) -> u8
     ensures { result ≡ status_of refusal }
 {
-    let _ = writeln!(errors, "mos65: {refusal}");
+    put_fault_line(refusal, errors);
     refusal.status()
 }
 
