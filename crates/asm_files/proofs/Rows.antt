@@ -5,7 +5,7 @@ use Rattle.std.specs.List.{flat_map}
 use Rattle.std.proofs.lemmas.List.{drop_more, drop_all}
 use Rattle.std.proofs.lemmas.Option.{slice_get_within, slice_get_cases, get_or_from_slice_get}
 use Rattle.model.specs.Names.{Definitions}
-use Rattle.source_faults.specs.Seen.{found_all, seen_found}
+use Rattle.source_faults.specs.Views.{found_all, found_view}
 use Rattle.source_faults.specs.declared.found.Found.{Found}
 use Rattle.asm_files.specs.Found.{extent_found, extents_found}
 use Rattle.asm_files.specs.Texts.{map_row, map_text, row_in}
@@ -50,11 +50,11 @@ places_left found i = map_text (i + 1) (extents_found (found_all (drop i found))
 
 -- a line
 pub place_done : (out new : List ℕ) (found : List Found) (i : ℕ) (line : Found) (place : ℕ × ℕ) (number : ℕ) (total : List ℕ)
-    → i < length found → line ≡ get_or found i line → place ≡ extent_found (seen_found line) → number ≡ i + 1 → new ≡ out ++ map_row number place
+    → i < length found → line ≡ get_or found i line → place ≡ extent_found (found_view line) → number ≡ i + 1 → new ≡ out ++ map_row number place
     → out ++ places_left found i ≡ total → new ++ places_left found (i + 1) ≡ total
 place_done out new found i line place number total within is stands counted put so_far =
     let first : drop i found ≡ line ∷ drop (i + 1) found = drop_more found i line within ∙ ap (λ (x : Found). x ∷ drop (i + 1) found) (sym is) in
-    let row : List ℕ = map_row (i + 1) (extent_found (seen_found line)) in
+    let row : List ℕ = map_row (i + 1) (extent_found (found_view line)) in
     let next : places_left found i ≡ row ++ places_left found (i + 1) = rw first refl in
     rw (put, counted, stands) (append_assoc out row (places_left found (i + 1))) ∙ ap (λ (x : List ℕ). out ++ x) (sym next) ∙ so_far
 

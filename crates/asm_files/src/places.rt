@@ -3,7 +3,7 @@
 ghost use Rattle.std.specs.Prelude.{◌≡◌, ◌++◌, ◌≤◌, IfOk, OnOk, length, map};
 ghost use Rattle.asm_files.specs.Texts.{map_row, map_text};
 ghost use Rattle.asm_files.specs.Found.{extent_found, extents_found};
-ghost use Rattle.source_faults.specs.Seen.{found_all, seen_found};
+ghost use Rattle.source_faults.specs.Views.{found_all, found_view};
 
 use formatting::address_text;
 use itoa::Buffer;
@@ -13,7 +13,7 @@ use std::alloc::{AllocError, Global};
 /// Returns the address of a line and how many bytes it has.
 #[tactic(auto, unfolding(model::specs::Layout::size_of))]
 fn extent(found: &Found<'_>) -> (u32, u32)
-    ensures { result ≡ extent_found (seen_found found.now) }
+    ensures { result ≡ extent_found (found_view found.now) }
 {
     match found {
         Found::Refused { address, kind: _ } => (*address, 0),

@@ -1,7 +1,7 @@
 use Rattle.std.proofs.Common.{◌≡◌, ◌++◌}
 use Rattle.asm_files.specs.Found.{extents_found}
 use Rattle.asm_files.specs.Texts.{map_text}
-use Rattle.source_faults.specs.Seen.{found_all}
+use Rattle.source_faults.specs.Views.{found_all}
 use Rattle.asm_files.proofs.Rows.{places_left}
 use Rattle.asm_files.proofs.places.map_text.Given as goal
 
