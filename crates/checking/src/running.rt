@@ -1,6 +1,9 @@
 //! What the word `check` does.
 
-ghost use Rattle.std.specs.Prelude.{◌≡◌, ◌≤◌};
+ghost use Rattle.std.specs.Prelude.{◌≡◌, ◌≤◌, IfOk, OnOk};
+ghost use Rattle.std.specs.Io.KnownBytes.{Appends};
+ghost use Rattle.checking.specs.Found.{IsFound, TellsFaults};
+ghost use Rattle.checking.specs.Statuses.{status_of};
 
 use crate::refusal::Refusal;
 use crate::text::{CheckedText, checked_text};
@@ -26,7 +29,8 @@ fn read_source<H: Files + AllocGlobal>(rt: &H, path: &str) -> io::Result<Vec<u8>
     Ok(source)
 }
 
-/// Whether a text begins with a whole and right record of a tape, which a source has as a comment.
+/// Returns whether a text begins with a whole and right record of a tape, which a source has as a
+/// comment.
 ///
 /// The only error is that a request for memory was refused.
 fn looks_like_tape(alloc: Global, text: &[u8]) -> Result<bool, AllocError> {
@@ -59,7 +63,9 @@ fn map_of(words: &CheckWords<'_>) -> Result<MapSpec, Refusal> {
 }
 
 /// What is to be written of the source that the words name.
-fn checked<H: Files + AllocGlobal>(rt: &H, words: &CheckWords<'_>) -> Result<CheckedText, Refusal> {
+fn checked<H: Files + AllocGlobal>(rt: &H, words: &CheckWords<'_>) -> Result<CheckedText, Refusal>
+    ensures { IfOk result IsFound }
+{
     let map = map_of(words)?;
     let source = read_source(rt, words.source).map_err(|error| Refusal::unreadable(&error))?;
     let file = words.source.as_bytes();
@@ -68,60 +74,86 @@ fn checked<H: Files + AllocGlobal>(rt: &H, words: &CheckWords<'_>) -> Result<Che
         Ok(false) => {}
         Err(_) => return Err(Refusal::OutOfMemory),
     }
-    checked_text(rt.alloc(), file, &source, &map).map_err(|_| Refusal::OutOfMemory)
+    match checked_text(rt.alloc(), file, &source, &map) {
+        Ok(found) => Ok(found),
+        Err(_) => Err(Refusal::OutOfMemory),
+    }
 }
 
 /// Writes a text and flushes it.
-fn write_text<O: Write>(output: &mut O, text: &[u8]) -> Result<(), Refusal> {
+fn write_text<O: Write>(output: &mut O, text: &[u8]) -> Result<(), Refusal>
+    ensures { OnOk result (Appends (O.contents output.old) (O.contents output.new) text.now) }
+{
     match output.write_all(text) {
-        Ok(()) => output.flush().map_err(|_| Refusal::Write),
+        Ok(()) => match output.flush() {
+            Ok(()) => Ok(()),
+            Err(_) => Err(Refusal::Write),
+        },
         Err(_) => Err(Refusal::Write),
     }
 }
 
-/// Writes the fault line, and gives the exit status, also where it cannot be written.
+/// Writes the fault line, and returns the exit status, even if the line cannot be written.
 fn refuse<E: Write>(refusal: Refusal, errors: &mut E) -> u8
-    ensures least { 2 ≤ result }
-    ensures most { result ≤ 4 }
+    ensures { result ≡ status_of refusal }
 {
     let _ = writeln!(errors, "mos65: {refusal}");
     refusal.status()
 }
 
-/// Says why words are refused, or gives the help that they ask for, and gives the exit status.
+/// Writes why words are rejected, or the help that they ask for, and returns the exit status.
 fn refused_words<O: Write, E: Write>(fault: WordsFault, output: &mut O, errors: &mut E) -> u8
     ensures status { result ≤ 4 }
+    ensures told { result ≡ 1 → TellsFaults (O.contents output.old) (O.contents output.new) }
     ensures quiet { result ≤ 1 → errors.new ≡ errors.old }
-    ensures untouched { result ≡ 2 → output.new ≡ output.old }
+    ensures untouched { 2 ≤ result → result ≤ 3 → output.new ≡ output.old }
 {
     match fault {
         WordsFault::Help(text) => match write!(output, "{text}") {
             Ok(()) => 0,
-            Err(_) => {
-                let _ = writeln!(errors, "mos65: {}", Refusal::Write);
-                4
-            }
+            Err(_) => refuse(Refusal::Write, errors),
         },
         WordsFault::Usage(text) => {
             let _ = write!(errors, "{text}");
             2
         }
-        WordsFault::Value => {
-            let _ = writeln!(errors, "mos65: {}", Refusal::Words);
-            2
-        }
-        WordsFault::OutOfMemory => {
-            let _ = writeln!(errors, "mos65: {}", Refusal::OutOfMemory);
-            3
-        }
+        WordsFault::Value => refuse(Refusal::Words, errors),
+        WordsFault::OutOfMemory => refuse(Refusal::OutOfMemory, errors),
     }
 }
 
-/// Does what the words of `check` ask for, its own name left out, and returns the exit status: 0 if
-/// the source has no fault, 1 if it has one, 2 if the words or the map are wrong or the file looks
-/// like a tape, 3 if memory ran out, 4 if reading or writing failed. The blocks of the faults go to
-/// `output`. For 2 and above a line on `errors` says why; that it cannot be written changes no
-/// status.
+/// Writes what was found of a source, or why nothing was, and returns the exit status.
+fn finish<O: Write, E: Write>(
+    file: &str,
+    found: Result<CheckedText, Refusal>,
+    output: &mut O,
+    errors: &mut E,
+) -> u8
+    requires { IfOk found IsFound }
+    ensures status { result ≤ 4 }
+    ensures told { result ≡ 1 → TellsFaults (O.contents output.old) (O.contents output.new) }
+    ensures quiet { result ≤ 1 → errors.new ≡ errors.old }
+    ensures untouched { 2 ≤ result → result ≤ 3 → output.new ≡ output.old }
+{
+    match found {
+        Ok(found) => match write_text(output, &found.text) {
+            Ok(()) => { if found.is_faulty { 1 } else { 0 } }
+            Err(_) => refuse(Refusal::Write, errors),
+        },
+        Err(Refusal::LooksLikeTape) => {
+            let _ = writeln!(errors, "mos65: {file} {}", Refusal::LooksLikeTape);
+            2
+        }
+        Err(refusal) => refuse(refusal, errors),
+    }
+}
+
+/// Does what the words of `check` ask for, its own name left out, and returns the exit status.
+///
+/// It is 0 if the source has no fault, 1 if it has one, 2 if the words or the map are wrong or the
+/// file looks like a tape, 3 if memory ran out, 4 if reading or writing failed. The blocks of the
+/// faults go to `output`. For 2 and above a line on `errors` says why; the status is the same if it
+/// cannot be written.
 pub fn check<H: Files + AllocGlobal, O: Write, E: Write>(
     rt: &H,
     words: &[&str],
@@ -129,26 +161,16 @@ pub fn check<H: Files + AllocGlobal, O: Write, E: Write>(
     errors: &mut E,
 ) -> u8
     ensures status { result ≤ 4 }
-    // Where a source was checked nothing is said on the error stream.
+    // If the status is 1, the blocks of all faults of some source were written.
+    ensures told { result ≡ 1 → TellsFaults (O.contents output.old) (O.contents output.new) }
+    // If a source was checked, nothing is written on the error stream.
     ensures quiet { result ≤ 1 → errors.new ≡ errors.old }
-    // Words, a map or a tape that are refused leave the output as it was.
-    ensures untouched { result ≡ 2 → output.new ≡ output.old }
+    // Words, a map or a tape that are rejected leave the output unchanged; so does memory that
+    // runs out.
+    ensures untouched { 2 ≤ result → result ≤ 3 → output.new ≡ output.old }
 {
     match read_words(rt.alloc(), words) {
-        Ok(words) => match checked(rt, &words) {
-            Ok(checked) => match write_text(output, &checked.text) {
-                Ok(()) => checked.is_faulty as u8,
-                Err(_) => {
-                    let _ = writeln!(errors, "mos65: {}", Refusal::Write);
-                    4
-                }
-            },
-            Err(Refusal::LooksLikeTape) => {
-                let _ = writeln!(errors, "mos65: {} {}", words.source, Refusal::LooksLikeTape);
-                2
-            }
-            Err(refusal) => refuse(refusal, errors),
-        },
+        Ok(words) => finish(words.source, checked(rt, &words), output, errors),
         Err(fault) => refused_words(fault, output, errors),
     }
 }
