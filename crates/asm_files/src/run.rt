@@ -1,17 +1,15 @@
 //! The tape and the files of a source, written.
 
-ghost use Rattle.std.specs.Prelude.{◌≡◌, ◌≤◌, ◌⊎◌, None, Err, IfErr, IfOk, MatchResult, false};
+ghost use Rattle.std.specs.Prelude.{◌≡◌, ◌≤◌, ◌⊎◌, None, Err, IfErr, IfOk, false};
 ghost use Rattle.model.specs.State.{is_map};
 ghost use Rattle.model.specs.declared.bus_fault.BusFault.TheVariants.{BadMap};
 ghost use Rattle.program.specs.Refusals.{EndsAsm};
-ghost use Rattle.program.specs.Statuses.{IsStatusOf, status_of};
 
 use crate::asked::{FilesWords, read_files_words};
 use crate::texts::{FileTexts, TextsAsked, file_texts};
 use bus::MapSpec;
 use model::{BusFault, Profile};
-use program::{Refusal, put_fault_line};
-use program_words::WordsFault;
+use program::{Refusal, finish, refused_words};
 use std::fs::File;
 use std::io::{Read, Write};
 use std::rt::Files;
@@ -94,45 +92,6 @@ fn assembled<H: Files + AllocGlobal>(rt: &H, words: &FilesWords<'_>) -> Result<(
     write_texts(rt, words, &texts)
 }
 
-/// Writes the fault line, and returns the exit status, even if the line cannot be written.
-fn refused<E: Write>(refusal: Refusal, errors: &mut E) -> u8
-    ensures { result ≡ status_of refusal }
-{
-    put_fault_line(refusal, errors);
-    refusal.status()
-}
-
-/// Writes why words are rejected, or the help that they ask for, and returns the exit status.
-fn refused_words<O: Write, E: Write>(fault: WordsFault, output: &mut O, errors: &mut E) -> u8
-    ensures status { IsStatusOf fault result }
-    ensures untouched { 1 ≤ result → result ≤ 3 → output.new ≡ output.old }
-    ensures quiet { result ≡ 0 → errors.new ≡ errors.old }
-{
-    match fault {
-        WordsFault::Help(text) => match write!(output, "{text}") {
-            Ok(()) => 0,
-            Err(_) => refused(Refusal::Write, errors),
-        },
-        WordsFault::Usage(text) => {
-            let _ = write!(errors, "{text}");
-            2
-        }
-        WordsFault::Value => refused(Refusal::Words, errors),
-        WordsFault::OutOfMemory => refused(Refusal::OutOfMemory, errors),
-    }
-}
-
-/// Returns the exit status of what was tried: 0 if it is done; otherwise a fault line is written.
-fn ended<E: Write>(outcome: Result<(), Refusal>, errors: &mut E) -> u8
-    ensures status { MatchResult outcome (λ _. result ≡ 0) (λ refusal. result ≡ status_of refusal) }
-    ensures quiet { result ≡ 0 → errors.new ≡ errors.old }
-{
-    match outcome {
-        Ok(()) => 0,
-        Err(refusal) => refused(refusal, errors),
-    }
-}
-
 /// Does what the words after `asm` ask for if `--symbols` or `--map` is among them, and returns the
 /// exit status.
 ///
@@ -154,7 +113,7 @@ pub fn asm_files<H: Files + AllocGlobal, O: Write, E: Write>(
     ensures untouched { 1 ≤ result → result ≤ 3 → output.new ≡ output.old }
 {
     match read_files_words(rt.alloc(), words) {
-        Ok(words) => ended(assembled(rt, &words), errors),
+        Ok(words) => finish(assembled(rt, &words), errors),
         Err(fault) => refused_words(fault, output, errors),
     }
 }

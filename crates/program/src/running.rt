@@ -29,7 +29,7 @@ use std::io::{ErrorKind, Read, Write};
 use std::rt::Files;
 
 /// Writes the fault line, and returns the exit status, even if the line cannot be written.
-fn refuse<E: Write>(refusal: Refusal, errors: &mut E) -> u8
+pub fn refuse<E: Write>(refusal: Refusal, errors: &mut E) -> u8
     ensures status { result ≡ status_of refusal }
     ensures told { AppendsFront (E.contents errors.old) (E.contents errors.new)
         (fault_line refusal) }
@@ -39,7 +39,7 @@ fn refuse<E: Write>(refusal: Refusal, errors: &mut E) -> u8
 }
 
 /// Returns the exit status of what was tried: 0 if it is done; otherwise a fault line is written.
-fn finish<E: Write>(outcome: Result<(), Refusal>, errors: &mut E) -> u8
+pub fn finish<E: Write>(outcome: Result<(), Refusal>, errors: &mut E) -> u8
     ensures status { MatchResult outcome (λ _. result ≡ 0) (λ refusal. result ≡ status_of refusal) }
     ensures quiet { result ≡ 0 → errors.new ≡ errors.old }
     ensures told { 1 ≤ result → IsTold result (E.contents errors.old) (E.contents errors.new) }
@@ -51,7 +51,10 @@ fn finish<E: Write>(outcome: Result<(), Refusal>, errors: &mut E) -> u8
 }
 
 /// Writes why words are rejected, or the help that they ask for, and returns the exit status.
-fn refused_words<O: Write, E: Write>(fault: WordsFault, output: &mut O, errors: &mut E) -> u8
+///
+/// It is 0 if the help was written, 2 if the words are wrong, 3 if memory ran out, and 4 if the help
+/// could not be written. A line that cannot be written on `errors` changes no status.
+pub fn refused_words<O: Write, E: Write>(fault: WordsFault, output: &mut O, errors: &mut E) -> u8
     ensures status { IsStatusOf fault result }
     ensures untouched { 1 ≤ result → result ≤ 3 → output.new ≡ output.old }
     ensures quiet { result ≡ 0 → errors.new ≡ errors.old }

@@ -100,6 +100,8 @@ const COMMANDS: &str = "Commands:
   in HH ..  reset  irq 0  irq 1  nmi         input and signals
   quit
 
+With --strict the status is 5 where a reply began with ? or !, or a run ended in a fault.
+
 Example:
   mos65 debug hello.a65 --history 4096 --rom 8000-8FFF";
 
@@ -124,7 +126,14 @@ fn debug_command<'a>(alloc: Global) -> Result<Command<'a>, Error>
 
 /// What the program's help shows below its words.
 const STATUSES: &str = "Other words:
+  run SOURCE           runs a program: its console is the terminal
+  mon SOURCE           a monitor for people: names, breaks, steps and the way back
+  trace SOURCE         a row for each step, or how often each line was reached
   check SOURCE         tells all faults of a source, each with what a person needs
+  test FILE.t65        tests routines by rows: a call, and what it has to leave
+  info TAPE            tells what a tape holds
+  cmp TAPE TAPE        tells where two tapes differ
+  mend TAPE OUT        writes a tape whose line ends and end record are right
   dis TAPE --source    writes what a tape has as a source that `asm` takes
 
 Exit status: 0 done, 1 bad source or tape, 2 bad words or map, 3 out of memory, 4 I/O failed";

@@ -1,41 +1,13 @@
 //! What the word `run` does.
 
-ghost use Rattle.std.specs.Prelude.{◌≡◌};
-ghost use Rattle.program.specs.Statuses.{status_of};
-
 use crate::ended::{status_of_ending, tell_cycles, tell_ending};
 use crate::words::{RunWords, read_words};
 use console::{PlayFault, Played, play};
 use debugger::Session;
 use loading::{load, place_of};
-use program::{Refusal, put_fault_line};
-use program_words::WordsFault;
+use program::{Refusal, refuse, refused_words};
 use std::io::{Read, Write};
 use std::rt::Files;
-
-/// Writes the fault line, and returns the exit status, even if the line cannot be written.
-fn refused<E: Write>(refusal: Refusal, errors: &mut E) -> u8
-    ensures { result ≡ status_of refusal }
-{
-    put_fault_line(refusal, errors);
-    refusal.status()
-}
-
-/// Writes why words are rejected, or the help that they ask for, and returns the exit status.
-fn refused_words<O: Write, E: Write>(fault: WordsFault, output: &mut O, errors: &mut E) -> u8 {
-    match fault {
-        WordsFault::Help(text) => match write!(output, "{text}") {
-            Ok(()) => 0,
-            Err(_) => refused(Refusal::Write, errors),
-        },
-        WordsFault::Usage(text) => {
-            let _ = write!(errors, "{text}");
-            2
-        }
-        WordsFault::Value => refused(Refusal::Words, errors),
-        WordsFault::OutOfMemory => refused(Refusal::OutOfMemory, errors),
-    }
-}
 
 /// Tells how a run ended, and returns the exit status.
 fn ended<E: Write>(words: &RunWords<'_>, played: Played, session: &Session, errors: &mut E) -> u8 {
@@ -58,7 +30,7 @@ fn run_words<H: Files + AllocGlobal, R: Read, O: Write, E: Write>(
 ) -> u8 {
     let mut loaded = match load(rt, &words.file) {
         Ok(loaded) => loaded,
-        Err(refusal) => return refused(refusal, errors),
+        Err(refusal) => return refuse(refusal, errors),
     };
     let until = match words.until {
         None => None,
@@ -75,8 +47,8 @@ fn run_words<H: Files + AllocGlobal, R: Read, O: Write, E: Write>(
     };
     match play(&mut loaded.session, until, words.steps, input, output) {
         Ok(played) => ended(words, played, &loaded.session, errors),
-        Err(PlayFault::Read) => refused(Refusal::Read, errors),
-        Err(PlayFault::Write) => refused(Refusal::Write, errors),
+        Err(PlayFault::Read) => refuse(Refusal::Read, errors),
+        Err(PlayFault::Write) => refuse(Refusal::Write, errors),
     }
 }
 
