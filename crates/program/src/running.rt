@@ -52,8 +52,8 @@ pub fn finish<E: Write>(outcome: Result<(), Refusal>, errors: &mut E) -> u8
 
 /// Writes why words are rejected, or the help that they ask for, and returns the exit status.
 ///
-/// It is 0 if the help was written, 2 if the words are wrong, 3 if memory ran out, and 4 if the help
-/// could not be written. A line that cannot be written on `errors` changes no status.
+/// It is 0 if the help was written, 2 if the words are wrong, 3 if memory ran out, and 4 if the
+/// help could not be written. A line that cannot be written on `errors` changes no status.
 pub fn refused_words<O: Write, E: Write>(fault: WordsFault, output: &mut O, errors: &mut E) -> u8
     ensures status { IsStatusOf fault result }
     ensures untouched { 1 ≤ result → result ≤ 3 → output.new ≡ output.old }
