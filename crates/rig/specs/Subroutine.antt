@@ -1,6 +1,6 @@
 -- Runs to an address, and subroutines called from outside the program. Source: mos65; what JSR
 -- pushes, MCS6500 manual, chapter 8.
-use Rattle.std.specs.Prelude.{ℕ, ◌+◌, ◌%◌, List, [], ◌∷◌, Result, Ok, Err}
+use Rattle.std.specs.Prelude.{ℕ, ◌+◌, ◌%◌, List, [], ◌∷◌, Option, Some, None, Result, Ok, Err}
 use Rattle.model.specs.State.{State}
 use Rattle.model.specs.Event.{event_of}
 use Rattle.model.specs.Session.{Session, with_state}
@@ -9,10 +9,12 @@ use Rattle.model.specs.Breakpoints.{break_set, break_cleared}
 use Rattle.model.specs.declared.event.Event.{Event}
 use Rattle.model.specs.declared.event.Event.TheVariants.{Set, Patch}
 use Rattle.model.specs.declared.event.EventFault.{EventFault}
-use Rattle.model.specs.declared.event.Setting.TheVariants.{S, Pc}
+use Rattle.model.specs.declared.event.Setting.{Setting}
+use Rattle.model.specs.declared.event.Setting.TheVariants.{A, X, Y, S, Pc}
 use Rattle.model.specs.declared.run_end.RunEnd.{RunEnd}
 use Rattle.model.specs.declared.session_fault.SessionFault.{SessionFault}
 use Rattle.model.specs.declared.session_fault.SessionFault.TheVariants.{AlreadySet}
+use Rattle.rig.specs.declared.given.Given.{Given}
 
 -- ---- events
 
@@ -80,3 +82,22 @@ called address s = after_events s (jsr_events address s.current.regs.s)
 unfoldable pub call_of : ℕ → ℕ → Session → Result (RunEnd × Session) SessionFault
 call_of address limit s
     = run_by return_address limit (called address) s (break_set return_address s)
+
+-- ---- a subroutine called with registers
+
+-- A register set, where a value is given for it, and the events after that.
+abbrev pub set_first : (ℕ → Setting) → Option ℕ → List Event → List Event
+set_first to None events = events
+set_first to (Some value) events = Set (to value) ∷ events
+
+-- The registers that are given, set one after the other: A, X and then Y.
+abbrev pub given_events : Given → List Event
+given_events given = set_first A given.a (set_first X given.x (set_first Y given.y []))
+
+unfoldable pub given_to : Given → Session → Session
+given_to given s = after_events s (given_events given)
+
+-- A subroutine called with registers, and run to the return address.
+unfoldable pub call_with_of : Given → ℕ → ℕ → Session → Result (RunEnd × Session) SessionFault
+call_with_of given address limit s = run_by return_address limit
+    (λ t. called address (given_to given t)) s (break_set return_address s)

@@ -5,8 +5,10 @@
 //! does. The library for C and its like stand on this crate; a rig in Rattle may call it too.
 #![tactic(auto)]
 
+pub use given::{Called, Given};
 pub use ranges::{read, read_output};
-pub use subroutine::{call, run_to};
+pub use subroutine::{call, call_with, run_to};
 
+mod given;
 mod ranges;
 mod subroutine;

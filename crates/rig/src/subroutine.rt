@@ -1,10 +1,12 @@
 //! Runs to an address, and subroutine calls.
 
-ghost use Rattle.std.specs.Prelude.{◌≡◌, ◌≢◌, Ok, Err, IfOk, IfErr, IsErrOf, IsOk};
+ghost use Rattle.std.specs.Prelude.{◌≡◌, ◌≢◌, ◌-◌, Ok, Err, IfOk, IfErr, IsErrOf, IsOk};
 ghost use Rattle.model.specs.Breakpoints.{break_set};
-ghost use Rattle.rig.specs.Subroutine.{after_event, byte_patched, call_of, called, return_address};
-ghost use Rattle.rig.specs.Subroutine.{run_to_of, without_break};
+ghost use Rattle.rig.specs.Subroutine.{after_event, byte_patched, call_of};
+ghost use Rattle.rig.specs.Subroutine.{call_with_of, called, given_to, return_address, run_to_of};
+ghost use Rattle.rig.specs.Subroutine.{without_break};
 
+use crate::given::{Called, Given};
 use debugger::{Event, RunEnd, Session, SessionFault, Setting};
 
 /// Where a called subroutine returns to (`specs/Subroutine.antt`).
@@ -69,6 +71,65 @@ pub fn call(session: &mut Session, address: u16, limit: u32) -> Result<RunEnd, S
             Ok(session.run(limit))
         }
         Err(fault) => Err(fault),
+    }
+}
+
+/// Calls a subroutine as `call` does, with registers set before: each that is given is an event of
+/// its own before the call's four. Tells the cycles of the run too.
+///
+/// # Errors
+///
+/// - `TableFull`: 256 other breakpoints are set.
+/// - `OutOfMemory`: a request for memory was refused.
+///
+/// Nothing is changed then, and no register is set.
+#[tactic(auto, unfolding(crate::specs::Subroutine::call_with_of))]
+pub fn call_with(
+    session: &mut Session,
+    given: Given,
+    address: u16,
+    limit: u32,
+) -> Result<Called, SessionFault>
+    ensures ok { IfOk result (λ done. (call_with_of given address limit session.old
+        ≡ Ok (done.end, session.new))
+        × (done.cycles ≡ session.new.current.cycles - session.old.current.cycles)) }
+    ensures err { IfErr result (λ fault. (session.new ≡ session.old)
+        × (fault ≢ SessionFault.OutOfMemory
+        → call_with_of given address limit session.old ≡ Err fault)) }
+    ensures memory { IsErrOf result SessionFault.OutOfMemory
+        → IsOk (break_set return_address session.old) }
+{
+    let before = session.cycles();
+    let was_set = match session.set_break(RETURN_ADDRESS) {
+        Ok(()) => false,
+        Err(SessionFault::AlreadySet) => true,
+        Err(fault) => return Err(fault),
+    };
+    set_given(session, given);
+    push_return(session, address);
+    let end = session.run(limit);
+    if !was_set {
+        clear_break(session, RETURN_ADDRESS);
+    }
+    Ok(Called {
+        end,
+        cycles: session.cycles().saturating_sub(before),
+    })
+}
+
+/// Sets the registers that have a value.
+#[tactic(auto, unfolding(crate::specs::Subroutine::given_to))]
+fn set_given(session: &mut Session, given: Given)
+    ensures { session.new ≡ given_to given session.old }
+{
+    if let Some(a) = given.a {
+        happen(session, Event::Set(Setting::A(a)));
+    }
+    if let Some(x) = given.x {
+        happen(session, Event::Set(Setting::X(x)));
+    }
+    if let Some(y) = given.y {
+        happen(session, Event::Set(Setting::Y(y)));
     }
 }
 
