@@ -1,6 +1,8 @@
 /* mos65.h: an NMOS 6502 with a history of its whole states, for programs and test rigs in C and C++.
  *
- * A call answers a status: MOS65_OK, which is 0, or why it was refused. A refused call changes nothing.
+ * A call answers a status: MOS65_OK, which is 0, or why it was refused. A refused call changes nothing, and
+ * what it was to fill in stays as it was, but for *fault, which always tells. A call on what is not open answers
+ * MOS65_CLOSED before anything else.
  * A machine and an assembly are variables of the caller, MOS65_INIT before they are opened and again after
  * they are closed:
  *
@@ -108,6 +110,20 @@ typedef struct mos65_ending {
     uint8_t opcode;   /* the undocumented opcode; else 0 */
 } mos65_ending_t;
 
+/* The registers that a call sets first: those for which has_ is true. */
+typedef struct mos65_given {
+    uint8_t a, x, y;
+    bool has_a, has_x, has_y;
+} mos65_given_t;
+#define MOS65_GIVEN {0, 0, 0, false, false, false}
+
+/* What a call with registers did. */
+typedef struct mos65_called {
+    uint64_t cycles;              /* from the subroutine's first instruction to its end */
+    mos65_registers_t registers;  /* at its end */
+    mos65_ending_t ending;
+} mos65_called_t;
+
 /* The library's version as a number, to be compared with MOS65_VERSION_NUMBER. */
 uint32_t mos65_version_number(void);
 
@@ -136,9 +152,10 @@ int mos65_assembly_close(mos65_assembly_t *);
    assembly is not; MISUSE or BAD_MAP for the configuration; SESSION_PORT_ADDRESS where the image has a byte
    at the port. */
 int mos65_open(mos65_t *, const mos65_config_t *, mos65_assembly_t *);
-/* The same with the image of a tape of n bytes; 400 + the fault's number, with its offset in *fault. */
+/* The same with the image of a tape of n bytes. After the configuration, 400 + the fault's number, with its
+   offset in *fault. */
 int mos65_open_tape(mos65_t *, const mos65_config_t *, const uint8_t *tape, size_t n, mos65_fault_t *fault);
-/* The same with n bytes from an address on; MISUSE where they go past $FFFF. */
+/* The same with n bytes from an address on; MISUSE where they go past $FFFF, before the configuration. */
 int mos65_open_bytes(mos65_t *, const mos65_config_t *, uint16_t address, const uint8_t *bytes, size_t n);
 /* Frees a machine. CLOSED where none is open. */
 int mos65_close(mos65_t *);
@@ -169,6 +186,9 @@ int mos65_run_to(mos65_t *, uint16_t address, uint32_t limit, mos65_ending_t *);
 /* Calls a subroutine as a JSR at $FFFC would, and runs to its RTS: MOS65_BREAK at MOS65_RETURN, and the
    stack pointer is what it was. The JSR's own 6 cycles are not counted. did + MOS65_CALL_EVENTS events. */
 int mos65_call(mos65_t *, uint16_t address, uint32_t limit, mos65_ending_t *);
+/* The same with registers set before, and tells the registers and the cycles too: one call for all that a
+   test of a routine asks. did + MOS65_CALL_EVENTS events, and one for each register that is set. */
+int mos65_call_with(mos65_t *, uint16_t address, uint32_t limit, const mos65_given_t *, mos65_called_t *);
 /* Goes back over the last count events. NO_HISTORY where fewer are held. */
 int mos65_back(mos65_t *, uint32_t count);
 /* Puts into *count how many events can be gone back over. */

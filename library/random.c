@@ -49,9 +49,12 @@ static void open_one(mos65_t *m, mos65_assembly_t *a) {
 
 static void change_one(mos65_t *m) {
     mos65_ending_t end;
+    mos65_given_t given = {(uint8_t)draw(256), (uint8_t)draw(256), (uint8_t)draw(256), draw(2), draw(2), draw(2)};
+    mos65_called_t called;
     uint16_t at = (uint16_t)draw(65536);
     size_t n = fill(draw(50) ? 5 : 3000);
-    switch (draw(14)) {
+    switch (draw(15)) {
+    case 13: told(mos65_call_with(m, at, draw(500), &given, &called)); break;
     case 0: told(mos65_step(m)); break;
     case 1: told(mos65_reset(m)); break;
     case 2: told(mos65_irq(m, draw(2))); break;

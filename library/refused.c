@@ -52,6 +52,12 @@ static void session(mos65_t *m) {
     bool was_called = told(mos65_call(m, 0x0200, 100, &end)) == MOS65_OK;
     CHECK(mos65_registers(m, &after) == MOS65_OK);
     CHECK(was_called ? end.did > 0 : memcmp(&before, &after, sizeof before) == 0);
+    mos65_given_t given = {1, 2, 3, true, true, true};
+    mos65_called_t called;
+    before = after;
+    was_called = told(mos65_call_with(m, 0x0200, 100, &given, &called)) == MOS65_OK;
+    CHECK(mos65_registers(m, &after) == MOS65_OK);
+    CHECK(was_called ? called.ending.did > 0 : memcmp(&before, &after, sizeof before) == 0);
     CHECK(mos65_step(m) == MOS65_OK && mos65_back(m, 1) == MOS65_OK);
 }
 

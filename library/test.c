@@ -8,6 +8,8 @@ _Static_assert(sizeof(mos65_t) == 16 && sizeof(mos65_assembly_t) == 16, "variabl
 _Static_assert(sizeof(mos65_config_t) == 12 && sizeof(mos65_fault_t) == 16, "configuration and fault");
 _Static_assert(sizeof(mos65_registers_t) == 16 && sizeof(mos65_ending_t) == 16, "registers and ending");
 _Static_assert(offsetof(mos65_config_t, has_rom) == 10 && offsetof(mos65_config_t, profile) == 11, "fields");
+_Static_assert(sizeof(mos65_given_t) == 6 && sizeof(mos65_called_t) == 40, "calls with registers");
+_Static_assert(offsetof(mos65_called_t, registers) == 8 && offsetof(mos65_called_t, ending) == 24, "fields");
 _Static_assert(offsetof(mos65_ending_t, address) == 12 && offsetof(mos65_ending_t, opcode) == 14, "fields");
 
 static int passed, failed;
@@ -104,6 +106,31 @@ static void calls(mos65_t *m, mos65_assembly_t *a) {
     CHECK(mos65_unbreak(m, MOS65_RETURN) == MOS65_NOT_SET);
 }
 
+static void calls_with_registers(mos65_t *m, mos65_assembly_t *a) {
+    uint16_t times10 = (uint16_t)number_of(a, "times10");
+    mos65_registers_t before, after;
+    mos65_given_t given = MOS65_GIVEN;
+    mos65_called_t called;
+    CHECK(mos65_registers(m, &before) == MOS65_OK);
+    given.a = 7, given.has_a = true, given.y = 9, given.has_y = true;
+    CHECK(mos65_call_with(m, times10, 1000, &given, &called) == MOS65_OK && called.cycles == 20);
+    CHECK(called.registers.a == 70 && called.registers.y == 9 && called.registers.x == before.x && called.registers.s == before.s);
+    CHECK(called.ending.why == MOS65_BREAK && called.ending.address == MOS65_RETURN && called.ending.did == 7);
+    CHECK(mos65_registers(m, &after) == MOS65_OK && memcmp(&after, &called.registers, 15) == 0);
+    CHECK(mos65_back(m, called.ending.did + MOS65_CALL_EVENTS + 2) == MOS65_OK);
+    CHECK(mos65_registers(m, &after) == MOS65_OK && memcmp(&before, &after, 15) == 0);
+    given.has_a = given.has_y = false;
+    CHECK(mos65_set(m, MOS65_A, 3) == MOS65_OK && mos65_call_with(m, times10, 1000, &given, &called) == MOS65_OK);
+    CHECK(called.registers.a == 30 && called.registers.y == before.y && mos65_unbreak(m, MOS65_RETURN) == MOS65_NOT_SET);
+    /* Where 256 other breakpoints are set, nothing is changed and nothing is told. */
+    for (uint16_t at = 0; at < 256; at++) CHECK(mos65_break(m, 0x4000 + at) == MOS65_OK);
+    CHECK(mos65_registers(m, &before) == MOS65_OK);
+    given.has_x = true, called.cycles = 99;
+    CHECK(mos65_call_with(m, times10, 1000, &given, &called) == MOS65_TABLE_FULL && called.cycles == 99);
+    CHECK(mos65_registers(m, &after) == MOS65_OK && memcmp(&before, &after, 15) == 0);
+    for (uint16_t at = 0; at < 256; at++) CHECK(mos65_unbreak(m, 0x4000 + at) == MOS65_OK);
+}
+
 static void runs(mos65_t *m, mos65_assembly_t *a) {
     uint16_t hello = (uint16_t)number_of(a, "hello");
     mos65_registers_t r;
@@ -137,9 +164,15 @@ static void runs(mos65_t *m, mos65_assembly_t *a) {
 
 static void closed(mos65_t *m) {
     mos65_registers_t r;
-    mos65_ending_t end;
-    uint8_t out[13];
-    uint32_t n;
+    mos65_ending_t end = {7, 7, 7, 7, 7};
+    mos65_given_t given = MOS65_GIVEN;
+    mos65_called_t called;
+    uint8_t out[13] = "as before";
+    uint32_t n = 7;
+    CHECK(mos65_call_with(m, 1, 1, &given, &called) == MOS65_CLOSED);
+    /* Closed comes before every other refusal. */
+    CHECK(mos65_set(m, 6, 0) == MOS65_CLOSED && mos65_patch(m, 0xFFFF, out, 4) == MOS65_CLOSED);
+    CHECK(mos65_read(m, 0xFFFF, out, 2) == MOS65_CLOSED && mos65_disassemble(m, 0, out, 1, &n) == MOS65_CLOSED);
     CHECK(mos65_step(m) == MOS65_CLOSED && mos65_reset(m) == MOS65_CLOSED && mos65_irq(m, true) == MOS65_CLOSED);
     CHECK(mos65_nmi(m) == MOS65_CLOSED && mos65_set(m, MOS65_A, 1) == MOS65_CLOSED && mos65_input(m, 1) == MOS65_CLOSED);
     CHECK(mos65_patch(m, 0, out, 1) == MOS65_CLOSED && mos65_write(m, 0, out, 1) == MOS65_CLOSED);
@@ -150,6 +183,7 @@ static void closed(mos65_t *m) {
     CHECK(mos65_registers(m, &r) == MOS65_CLOSED && mos65_read(m, 0, out, 1) == MOS65_CLOSED);
     CHECK(mos65_output_length(m, &n) == MOS65_CLOSED && mos65_output(m, 0, out, 1) == MOS65_CLOSED);
     CHECK(mos65_disassemble(m, 0, out, sizeof out, &n) == MOS65_CLOSED && mos65_close(m) == MOS65_CLOSED);
+    CHECK(n == 7 && end.did == 7 && end.opcode == 7 && strcmp((char *)out, "as before") == 0);
 }
 
 int main(void) {
@@ -167,6 +201,7 @@ int main(void) {
     sources(&a, &config);
     CHECK(mos65_open(&m, &config, &a) == MOS65_OK && m.live && mos65_open(&m, &config, &a) == MOS65_MISUSE);
     calls(&m, &a);
+    calls_with_registers(&m, &a);
     runs(&m, &a);
     CHECK(mos65_open_bytes(&other, &rom, 0x8000, (const uint8_t *)"\x1A", 1) == MOS65_OK);
     /* $1A is INC A in profile C, and no opcode in profile N. */
@@ -175,6 +210,9 @@ int main(void) {
     CHECK(mos65_open_bytes(&other, &config, 0xF000, &byte, 1) == MOS65_SESSION_PORT_ADDRESS && !other.live);
     CHECK(mos65_open_bytes(&other, &config, 0xFFFF, (const uint8_t *)"ab", 2) == MOS65_MISUSE);
     CHECK(mos65_open_tape(&other, &config, (const uint8_t *)"x", 1, &fault) == MOS65_TAPE_JUNK_BETWEEN && fault.offset == 0);
+    config.port = 0xF001;
+    CHECK(mos65_open_tape(&other, &config, (const uint8_t *)"x", 1, &fault) == MOS65_BAD_MAP && fault.status == 0);
+    config.port = 0xF000;
     CHECK(mos65_open_tape(&other, &config, tape, 11, &fault) == MOS65_TAPE_BAD_COUNT && fault.status == MOS65_TAPE_BAD_COUNT);
     CHECK(mos65_open_tape(&other, &config, right, sizeof right - 1, &fault) == MOS65_OK && fault.status == 0);
     CHECK(mos65_read(&other, 0x0200, &byte, 1) == MOS65_OK && byte == 0xA9 && mos65_close(&other) == MOS65_OK);

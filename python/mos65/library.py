@@ -6,7 +6,8 @@ import ctypes
 import ctypes.util
 import os
 import shutil
-from typing import Dict, Optional, Tuple
+import struct
+from typing import Optional, Tuple
 
 from .faults import (
     AssemblyFault,
@@ -79,6 +80,18 @@ class _Ending(ctypes.Structure):
     ]
 
 
+class _Given(ctypes.Structure):
+    _fields_ = [(it, ctypes.c_uint8) for it in ("a", "x", "y", "has_a", "has_x", "has_y")]
+
+
+class _Called(ctypes.Structure):
+    _fields_ = [("cycles", ctypes.c_uint64), ("registers", _Registers), ("ending", _Ending)]
+
+
+# The two above as they stand in memory: writing and reading them whole takes less than by fields.
+_GIVEN_FORM = struct.Struct("=BBBBBB")
+_CALLED_FORM = struct.Struct("=QQHBBBBBxIIIHBx")
+
 _P = ctypes.POINTER
 _M, _BYTES, _N = _P(_Slot), ctypes.c_char_p, ctypes.c_size_t
 _U8, _U16, _U32 = ctypes.c_uint8, ctypes.c_uint16, ctypes.c_uint32
@@ -101,6 +114,7 @@ _CALLS = {
     "run": [_M, _U32, _P(_Ending)],
     "run_to": [_M, _U16, _U32, _P(_Ending)],
     "call": [_M, _U16, _U32, _P(_Ending)],
+    "call_with": [_M, _U16, _U32, _P(_Given), _P(_Called)],
     "back": [_M, _U32],
     "held": [_M, _P(_U32)],
     "break": [_M, _U16],
@@ -116,16 +130,16 @@ _CALLS = {
 
 
 def find_library(library: Optional[str] = None) -> Optional[str]:
-    """The library's file: the one that is given, that of MOS65_LIBRARY, the one in `lib` beside the program's folder, or the
-    system's. None where there is none."""
+    """The library's file: the one that is given, that of MOS65_LIBRARY, the one in `lib` beside the program's folder, the one in
+    ~/.local, or the system's. None where there is none."""
     found = library or os.environ.get("MOS65_LIBRARY")
     if found:
         return found
     program = shutil.which("mos65")
-    if program:
-        above = os.path.dirname(os.path.dirname(os.path.realpath(program)))
-        if os.path.isfile(f"{above}/lib/libmos65.so"):
-            return f"{above}/lib/libmos65.so"
+    folders = [os.path.dirname(os.path.dirname(os.path.realpath(program)))] if program else []
+    for folder in (*folders, os.path.expanduser("~/.local")):
+        if os.path.isfile(f"{folder}/lib/libmos65.so"):
+            return f"{folder}/lib/libmos65.so"
     return ctypes.util.find_library("mos65")
 
 
@@ -172,6 +186,7 @@ class Session:
         self._lib, self._slot = library, _Slot()
         self._m = ctypes.byref(self._slot)
         self._regs, self._ending, self._count = _Registers(), _Ending(), _U32()
+        self._given, self._called = _Given(), _Called()
         self.listing = ""
         told = _Fault()
         if is_tape:
@@ -245,17 +260,21 @@ class Session:
         self._check(self._lib.output(self._m, 0, out, count))
         return out.raw[:count]
 
+    @staticmethod
+    def _end_of(did: int, why_number: int, status: int, address: int, opcode: int) -> RunEnd:
+        why = _WHY[why_number]
+        if why is Why.LIMIT:
+            return RunEnd(did, why)
+        if why is not Why.REFUSED:
+            return RunEnd(did, why, address)
+        fault = fault_of(status).name
+        if fault == "Undocumented":
+            return RunEnd(did, why, address, opcode, fault)
+        return RunEnd(did, why, fault=fault)
+
     def _end(self) -> RunEnd:
         e = self._ending
-        why = _WHY[e.why]
-        if why is Why.LIMIT:
-            return RunEnd(e.did, why)
-        if why is not Why.REFUSED:
-            return RunEnd(e.did, why, e.address)
-        fault = fault_of(e.status).name
-        if fault == "Undocumented":
-            return RunEnd(e.did, why, e.address, e.opcode, fault)
-        return RunEnd(e.did, why, fault=fault)
+        return self._end_of(e.did, e.why, e.status, e.address, e.opcode)
 
     def run(self, limit: int) -> RunEnd:
         self._check(self._lib.run(self._m, limit, self._ending))
@@ -266,14 +285,16 @@ class Session:
         return self._end()
 
     def call(
-        self, address: int, limit: int, given: Dict[str, int]
-    ) -> Tuple[int, RunEnd, Registers]:
-        for register, value in given.items():
-            self.set(register, value)
-        self._check(self._lib.registers(self._m, self._regs))
-        before = self._regs.cycles
-        self._check(self._lib.call(self._m, address, limit, self._ending))
-        return before, self._end(), self.registers()
+        self, address: int, limit: int, a: Optional[int], x: Optional[int], y: Optional[int]
+    ) -> Tuple[RunEnd, int, Registers]:
+        has = (a is not None, x is not None, y is not None)
+        _GIVEN_FORM.pack_into(self._given, 0, a or 0, x or 0, y or 0, *has)
+        status = self._lib.call_with(self._m, address, limit, self._given, self._called)
+        if status:
+            raise fault_of(status)
+        told = _CALLED_FORM.unpack_from(self._called)
+        cycles, total, pc, ra, rx, ry, s, p = told[:8]
+        return self._end_of(*told[8:]), cycles, Registers(ra, rx, ry, s, p, pc, total)
 
     def back(self, count: int) -> None:
         self._check(self._lib.back(self._m, count))

@@ -250,14 +250,15 @@ class Machine:
         `limit` steps; the machine stands where it stopped.
         """
         address = self.address(place)
-        given = {k: v for k, v in (("A", a), ("X", x), ("Y", y)) if v is not None}
-        for register, value in given.items():
-            self._byte(register, value)
-        before, end, after = self._way.call(address, self._limit(limit), given)
+        given = 0
+        for register, value in (("A", a), ("X", x), ("Y", y)):
+            if value is not None:
+                self._byte(register, value)
+                given += 1
+        end, cycles, after = self._way.call(address, self._limit(limit), a, x, y)
         if end.why is not Why.BREAK or end.address != _RETURN:
             raise DidNotReturn(str(place), end)
-        events = len(given) + _CALL_EVENTS + end.steps
-        return Call(after, after.cycles - before, end.steps, events)
+        return Call(after, cycles, end.steps, given + _CALL_EVENTS + end.steps)
 
     @staticmethod
     def _limit(limit: int) -> int:

@@ -10,7 +10,7 @@ import subprocess
 import tempfile
 import time
 from dataclasses import replace
-from typing import Dict, List, Optional, Sequence, Set, Tuple
+from typing import List, Optional, Sequence, Set, Tuple
 
 from .faults import (
     AssemblyFault,
@@ -36,6 +36,8 @@ _RETURN = 0xFFFF
 _MOST = 1_000_000
 # The most breakpoints.
 _TABLE = 256
+# The commands that leave the registers as they are.
+_KEEPING = ("regs", "break", "unbreak", "watch", "unwatch", "patch", "in ", "irq", "nmi", "out", "dis", "mem")
 # So many lines go out at once: their replies fit in a pipe.
 _BATCH = 400
 
@@ -81,6 +83,8 @@ class Pipe:
     def __init__(self, program: str, words: Sequence[str], timeout: float) -> None:
         self._timeout, self._pending = timeout, b""
         self._breaks: Set[int] = set()
+        # The registers, where nothing has changed them since they were told.
+        self._known: Optional[Registers] = None
         self._errors = tempfile.TemporaryFile()
         self._engine: Optional[subprocess.Popen[bytes]] = subprocess.Popen(
             [program, "debug", *words],
@@ -148,6 +152,8 @@ class Pipe:
 
     def _ask_all(self, lines: Sequence[str], is_judged: bool = True) -> List[str]:
         """Sends lines with one reply line each, and returns the replies. The first refusal is raised once all have come."""
+        if any(not it.startswith(_KEEPING) for it in lines):
+            self._known = None
         replies: List[str] = []
         for at in range(0, len(lines), _BATCH):
             some = lines[at : at + _BATCH]
@@ -239,7 +245,9 @@ class Pipe:
         return found
 
     def registers(self) -> Registers:
-        return self._registers(self._ask("regs"))
+        if self._known is None or self._engine is None:
+            self._known = self._registers(self._ask("regs"))
+        return self._known
 
     def output(self) -> bytes:
         reply = self._ask("out")
@@ -263,31 +271,39 @@ class Pipe:
         return replace(end, steps=steps + end.steps)
 
     def run_to(self, address: int, limit: int) -> RunEnd:
+        self._has_room(address)
         return self._stopping(address, [], limit)[0]
 
     def call(
-        self, address: int, limit: int, given: Dict[str, int]
-    ) -> Tuple[int, RunEnd, Registers]:
-        lines = [self._setting(*it) for it in given.items()]
-        before = self._registers(self._ask_all([*lines, "regs"])[-1])
-        ready = [
+        self, address: int, limit: int, a: Optional[int], x: Optional[int], y: Optional[int]
+    ) -> Tuple[RunEnd, int, Registers]:
+        self._has_room(_RETURN)
+        before = self.registers()
+        given = (("A", a), ("X", x), ("Y", y))
+        ready = [self._setting(name, value) for name, value in given if value is not None]
+        ready += [
             f"patch {0x100 + before.s:04X} FF",
             f"patch {0x100 + (before.s - 1) % 256:04X} FE",
             self._setting("S", (before.s - 2) % 256),
             self._setting("PC", address),
         ]
-        return (before.cycles, *self._stopping(_RETURN, ready, limit))
+        end, after = self._stopping(_RETURN, ready, limit)
+        return end, after.cycles - before.cycles, after
+
+    def _has_room(self, address: int) -> None:
+        """Raises TableFull where no breakpoint can be set at an address, before anything is changed."""
+        if address not in self._breaks and len(self._breaks) == _TABLE:
+            raise SessionFault("TableFull", 2)
 
     def _stopping(self, address: int, ready: List[str], limit: int) -> Tuple[RunEnd, Registers]:
         """A run that also stops at an address, and the registers after it; a breakpoint that was set there before stays."""
         is_set = address in self._breaks
-        if not is_set and len(self._breaks) == _TABLE:
-            raise SessionFault("TableFull", 2)
         first = ready if is_set else [f"break {address:04X}", *ready]
         last = ["regs"] if is_set else [f"unbreak {address:04X}", "regs"]
         if 0 < limit <= _MOST:
             replies = self._ask_all([*first, f"run {limit}", *last])
-            return self._end(replies[len(first)]), self._registers(replies[-1])
+            end, self._known = self._end(replies[len(first)]), self._registers(replies[-1])
+            return end, self._known
         self._ask_all(first)
         end = self.run(limit)
         return end, self._registers(self._ask_all(last)[-1])

@@ -9,6 +9,7 @@ import sys
 import tempfile
 import types
 import unittest
+import unittest.mock
 
 HERE = os.path.dirname(os.path.abspath(__file__))
 sys.path.insert(0, os.path.dirname(HERE))
@@ -23,6 +24,7 @@ except ImportError:
 
 import mos65  # noqa: E402
 from mos65 import Machine, Why, pytest_plugin  # noqa: E402
+from mos65.library import find_library  # noqa: E402
 
 SOURCE = os.path.join(HERE, "routines.a65")
 PROGRAM = os.environ.get("MOS65_PROGRAM")
@@ -129,6 +131,40 @@ class Ways:
             m.call("forever", limit=100)
         self.assertEqual(raised.exception.end, mos65.RunEnd(100, Why.LIMIT))
 
+    def test_registers_that_a_call_is_given(self):
+        m = self.machine()
+        before = m.registers
+        call = m.call("times10", a=7, y=9)
+        after = call.registers
+        self.assertEqual((after.a, after.x, after.y, after.s), (70, before.x, 9, before.s))
+        self.assertEqual((call.events, m.held, m.registers), (2 + 4 + 7, 2 + 4 + 7, after))
+        m.back(call.events)
+        self.assertEqual((m.registers, m.held), (before, 0))
+
+    def test_no_room_for_the_breakpoint_of_a_call(self):
+        m = self.machine()
+        before = m.registers
+        for at in range(256):
+            m.break_at(0x4000 + at)
+        self.refused(mos65.SessionFault, "TableFull", 2, m.call, "times10", a=1, x=2, y=3)
+        self.refused(mos65.SessionFault, "TableFull", 2, m.run_to, "times10")
+        self.assertEqual((m.registers, m.held), (before, 0))
+        self.assertEqual(m.run_to(0x4007, 1).why, Why.LIMIT)
+        m.clear_break(0x4000)
+        self.assertEqual(m.call("times10", a=1).registers.a, 10)
+
+    def test_registers_are_those_of_now(self):
+        m = self.machine()
+        first = m.registers
+        m.write(0x10, b"abc")
+        m.watch(0x10)
+        self.assertEqual(m.registers, first)
+        m.set(pc="times10")
+        m.step()
+        self.assertEqual(m.registers.pc, m.symbols["times10"] + 2)
+        m.back(2)
+        self.assertEqual(m.registers, first)
+
     def test_the_last_steps(self):
         m = self.machine()
         m.call("times10", a=7)
@@ -195,6 +231,16 @@ class ByPipe(Ways, unittest.TestCase):
 @unittest.skipUnless(LIBRARY, "MOS65_LIBRARY is not named")
 class ByLibrary(Ways, unittest.TestCase):
     way = {"library": LIBRARY}
+
+    def test_the_library_is_found_in_the_home_folder(self):
+        with tempfile.TemporaryDirectory() as home:
+            os.makedirs(f"{home}/.local/lib")
+            found = f"{home}/.local/lib/libmos65.so"
+            os.symlink(os.path.abspath(LIBRARY), found)
+            with unittest.mock.patch.dict(os.environ, {"HOME": home, "PATH": home}):
+                del os.environ["MOS65_LIBRARY"]
+                self.assertEqual(find_library(), found)
+                self.assertTrue(Machine(SOURCE).is_library)
 
 
 if __name__ == "__main__":

@@ -1,6 +1,6 @@
 -- What C hands over and is answered: configurations, statuses, registers and how a run ended.
 -- Source: mos65.
-use Rattle.std.specs.Prelude.{ℕ, ◌+◌, Bool, true, false, not, ◌||◌, ◌==◌, nat_lt, if◌then◌else◌, List, [], ◌∷◌, ◌++◌, take, Option, Some, None}
+use Rattle.std.specs.Prelude.{ℕ, ◌+◌, Bool, false, not, ◌||◌, ◌==◌, nat_lt, if◌then◌else◌, List, [], ◌∷◌, ◌++◌, take, Option, Some, None}
 use Rattle.model.specs.State.{Map, State, is_map}
 use Rattle.model.specs.Effect.{status}
 use Rattle.model.specs.FaultNames.{event_fault_number}
@@ -15,7 +15,9 @@ use Rattle.model.specs.declared.run_end.Why.{Why}
 use Rattle.model.specs.declared.run_end.Why.TheVariants.{Limit, Break, Watch, Refused}
 use Rattle.mos65_c.specs.declared.config.Config.{Config}
 use Rattle.mos65_c.specs.declared.ending.Ending.{Ending}
+use Rattle.mos65_c.specs.declared.ending.Given.{Given}
 use Rattle.mos65_c.specs.declared.ending.Registers.{Registers}
+use Rattle.rig.specs.declared.given.Given as rig_given
 
 -- ---- configurations
 
@@ -60,6 +62,18 @@ setting_of register value =
 -- The bytes of a patch, with 0 after them up to three.
 abbrev pub three_bytes : List ℕ → List ℕ
 three_bytes bytes = take 3 (bytes ++ 0 ∷ 0 ∷ 0 ∷ [])
+
+-- ---- what a subroutine is called with
+
+abbrev pub value_of : Bool → ℕ → Option ℕ
+value_of has value = if has then Some value else None
+
+abbrev pub given_of : Given → rig_given.Given
+given_of given = record {
+  a = value_of given.has_a given.a;
+  x = value_of given.has_x given.x;
+  y = value_of given.has_y given.y;
+}
 
 -- ---- how a run ended
 

@@ -1,12 +1,8 @@
 //! Sources assembled.
 
-ghost use Rattle.std.specs.Prelude.{◌≡◌, ◌≢◌, ◌+◌, ◌⊎◌, ℕ, length, List, None, Option, Some, false};
-ghost use Rattle.std.specs.Prelude.{min, take, true};
+ghost use Rattle.std.specs.Prelude.{◌≡◌, ◌≢◌, length, None, Some, take};
 ghost use Rattle.assembler.specs.Assembly.{AssemblyView, listing_of};
-ghost use Rattle.model.specs.FaultNames.{source_fault_number};
-ghost use Rattle.model.specs.Source.{Denotes, HasFault};
-ghost use Rattle.model.specs.declared.source_fault.AsmFault.{AsmFault};
-ghost use Rattle.mos65_c.specs.Answers.{IsAssembly};
+ghost use Rattle.mos65_c.specs.Answers.{AnswersSource, no_fault, written};
 ghost use Rattle.mos65_c.specs.Status.{config_map, config_status};
 
 use crate::config::{Config, map_of};
@@ -26,20 +22,14 @@ pub extern "C" fn mos65_assemble(
     source: &[u8],
     fault: &mut Fault,
 ) -> u32
-    ensures assembled { result ≡ 0 → (x : AssemblyView) × (assembly.new.slot.assembly ≡ Some x)
-        × IsAssembly (config_map config.now) source.now x }
-    ensures same { result ≢ 0 → assembly.new.slot.assembly ≡ assembly.old.slot.assembly }
-    ensures busy { assembly.old.live ≡ true → result ≡ 2 }
-    ensures config { assembly.old.live ≡ false → config_status config.now ≢ 0
-        → result ≡ config_status config.now }
-    // A source that denotes an image is assembled, memory aside.
-    ensures right { (image : List (Option ℕ)) → assembly.old.live ≡ false
-        → config_status config.now ≡ 0 → Denotes (config_map config.now) source.now image
-        → (result ≡ 0) ⊎ ((result ≡ 3) ⊎ (result ≡ 399)) }
-    ensures faulty { (f : AsmFault) → assembly.old.live ≡ false → config_status config.now ≡ 0
-        → HasFault (config_map config.now) source.now f
-        → ((result ≡ 300 + source_fault_number f.kind) × (fault.new.line ≡ f.line))
-        ⊎ (result ≡ 399) }
+    ensures assembled { assembly.old.slot.assembly ≡ None → config_status config.now ≡ 0
+        → AnswersSource (config_map config.now) source.now result fault.new
+        assembly.new.slot.assembly }
+    ensures config { assembly.old.slot.assembly ≡ None → config_status config.now ≢ 0
+        → (result ≡ config_status config.now) × (assembly.new.slot.assembly ≡ None)
+        × (fault.new ≡ no_fault) }
+    ensures busy { (x : AssemblyView) → assembly.old.slot.assembly ≡ Some x
+        → (result ≡ 2) × (assembly.new.slot.assembly ≡ Some x) × (fault.new ≡ no_fault) }
 {
     *fault = Fault::none();
     if assembly.live {
@@ -81,10 +71,13 @@ pub extern "C" fn mos65_listing(
     out: &mut [u8],
     count: &mut usize,
 ) -> u32
-    ensures written { (x : AssemblyView) → assembly.old.slot.assembly ≡ Some x → result ≡ 0
-        → (count.new ≡ length (listing_of x)) × (take (min (length out.old) (length (listing_of x)))
-        out.new ≡ take (length out.old) (listing_of x)) }
-    ensures gone { assembly.old.slot.assembly ≡ None → result ≡ 1 }
+    ensures live { (x : AssemblyView) → assembly.old.slot.assembly ≡ Some x → result ≢ 3
+        → (result ≡ 0) × (count.new ≡ length (listing_of x))
+        × (out.new ≡ written (take (length out.old) (listing_of x)) out.old) }
+    ensures memory { (x : AssemblyView) → assembly.old.slot.assembly ≡ Some x → result ≡ 3
+        → (out.new ≡ out.old) × (count.new ≡ count.old) }
+    ensures gone { assembly.old.slot.assembly ≡ None
+        → (result ≡ 1) × (out.new ≡ out.old) × (count.new ≡ count.old) }
     ensures same { assembly.new.slot.assembly ≡ assembly.old.slot.assembly }
 {
     if !assembly.live {
@@ -103,8 +96,8 @@ pub extern "C" fn mos65_listing(
 #[unsafe(no_mangle)]
 pub extern "C" fn mos65_assembly_close(alloc: Global, assembly: &mut Mos65Assembly) -> u32
     ensures closed { assembly.new.slot.assembly ≡ None }
-    ensures live { assembly.old.live ≡ true → result ≡ 0 }
-    ensures gone { assembly.old.live ≡ false → result ≡ 1 }
+    ensures live { (x : AssemblyView) → assembly.old.slot.assembly ≡ Some x → result ≡ 0 }
+    ensures gone { assembly.old.slot.assembly ≡ None → result ≡ 1 }
 {
     let empty = Mos65Assembly {
         slot: AssemblySlot::empty(alloc),

@@ -103,9 +103,13 @@ pub extern "C" fn mos65_set(m: &mut Mos65, register: u32, value: u16) -> u32
     ensures live { (s : SessionView) (setting : Setting) → m.old.slot.session ≡ Some s
         → setting_of register value ≡ Some setting
         → AnswersEvent s (Event.Set setting) result m.new.slot.session }
-    ensures misuse { setting_of register value ≡ None
-        → (result ≡ 2) × (m.new.slot.session ≡ m.old.slot.session) }
+    ensures misuse { (s : SessionView) → m.old.slot.session ≡ Some s
+        → setting_of register value ≡ None → (result ≡ 2) × (m.new.slot.session ≡ Some s) }
+    ensures gone { m.old.slot.session ≡ None → (result ≡ 1) × (m.new.slot.session ≡ None) }
 {
+    if !m.live {
+        return CLOSED;
+    }
     match setting_of(register, value) {
         Some(setting) => happen(m, Event::Set(setting)),
         None => MISUSE,
@@ -130,9 +134,13 @@ pub extern "C" fn mos65_patch(m: &mut Mos65, address: u16, bytes: &[u8]) -> u32
     ensures live { (s : SessionView) → m.old.slot.session ≡ Some s → length bytes.now ≤ 3
         → AnswersEvent s (Event.Patch address (three_bytes bytes.now) (length bytes.now)) result
         m.new.slot.session }
-    ensures long { 3 < length bytes.now
-        → (result ≡ 106) × (m.new.slot.session ≡ m.old.slot.session) }
+    ensures long { (s : SessionView) → m.old.slot.session ≡ Some s → 3 < length bytes.now
+        → (result ≡ 106) × (m.new.slot.session ≡ Some s) }
+    ensures gone { m.old.slot.session ≡ None → (result ≡ 1) × (m.new.slot.session ≡ None) }
 {
+    if !m.live {
+        return CLOSED;
+    }
     if bytes.len() > 3 {
         return BAD_LENGTH;
     }

@@ -1,12 +1,14 @@
 //! What a machine shows: nothing here changes it.
 
-ghost use Rattle.std.specs.Prelude.{◌≡◌, ◌+◌, ◌-◌, ◌<◌, ◌≤◌, drop, length, min, None, Some, take};
+ghost use Rattle.std.specs.Prelude.{◌≡◌, ◌+◌, ◌-◌, ◌<◌, ◌≤◌, drop, length, min, None, replicate};
+ghost use Rattle.std.specs.Prelude.{Some, take};
 ghost use Rattle.disasm.specs.Rows.{row_view};
 ghost use Rattle.model.specs.Disassembly.{row_in};
 ghost use Rattle.model.specs.Session.{Session as SessionView};
+ghost use Rattle.mos65_c.specs.Answers.{written};
 ghost use Rattle.mos65_c.specs.Status.{registers_of};
 
-use crate::ending::Registers;
+use crate::ending::{Registers, registers_of};
 use crate::machine::{CLOSED, MISUSE, Mos65};
 use debugger::Session;
 
@@ -24,17 +26,7 @@ pub extern "C" fn mos65_registers(m: &mut Mos65, out: &mut Registers) -> u32
     if !m.live {
         return CLOSED;
     }
-    let session = m.slot.inside();
-    let regs = session.regs();
-    *out = Registers {
-        cycles: session.cycles(),
-        pc: regs.pc,
-        a: regs.a,
-        x: regs.x,
-        y: regs.y,
-        s: regs.s,
-        p: regs.flags.to_byte(false),
-    };
+    *out = registers_of(m.slot.inside());
     0
 }
 
@@ -134,9 +126,12 @@ pub extern "C" fn mos65_disassemble(
     ensures live { (s : SessionView) → m.old.slot.session ≡ Some s → 13 ≤ length out.old
         → (result ≡ 0)
         × (count.new ≡ (row_in s.current.bus.map.profile s.current.bus.memory address).len)
-        × (take (length (row_in s.current.bus.map.profile s.current.bus.memory address).text)
-        out.new ≡ (row_in s.current.bus.map.profile s.current.bus.memory address).text) }
-    ensures gone { m.old.slot.session ≡ None → result ≡ 1 }
+        × (out.new ≡ written (row_in s.current.bus.map.profile s.current.bus.memory address).text
+        (replicate (length out.old) 0)) }
+    ensures short { (s : SessionView) → m.old.slot.session ≡ Some s → length out.old < 13
+        → (result ≡ 2) × (out.new ≡ out.old) × (count.new ≡ count.old) }
+    ensures gone { m.old.slot.session ≡ None
+        → (result ≡ 1) × (out.new ≡ out.old) × (count.new ≡ count.old) }
     ensures same { m.new.slot.session ≡ m.old.slot.session }
 {
     if !m.live {

@@ -1,9 +1,9 @@
 //! The names of a source, and why a source or a tape is refused.
 
-ghost use Rattle.std.specs.Prelude.{◌≡◌, length, None, slice_get, Some, take};
+ghost use Rattle.std.specs.Prelude.{◌≡◌, length, None, slice_get, Some};
 ghost use Rattle.assembler.specs.Assembly.{AssemblyView};
 ghost use Rattle.model.specs.Names.{number_in};
-ghost use Rattle.mos65_c.specs.Answers.{AnswersName};
+ghost use Rattle.mos65_c.specs.Answers.{AnswersEntry, AnswersName, no_fault};
 
 use crate::machine::{CLOSED, MISUSE, Mos65Assembly, NO_SUCH_NAME};
 
@@ -22,7 +22,7 @@ pub struct Fault {
 impl Fault {
     /// Makes the fault of a call that was done.
     pub fn none() -> Fault
-        ensures { result.status ≡ 0 }
+        ensures { result ≡ no_fault }
     {
         Fault {
             status: 0,
@@ -77,11 +77,11 @@ pub extern "C" fn mos65_symbol_at(
     count: &mut usize,
     value: &mut i32,
 ) -> u32
-    ensures told { (x : AssemblyView) → assembly.old.slot.assembly ≡ Some x → result ≡ 0
-        → slice_get x.names index ≡ Some (take count.new name.new, value.new) }
-    ensures none { (x : AssemblyView) → assembly.old.slot.assembly ≡ Some x
-        → slice_get x.names index ≡ None → result ≡ 4 }
-    ensures gone { assembly.old.slot.assembly ≡ None → result ≡ 1 }
+    ensures live { (x : AssemblyView) → assembly.old.slot.assembly ≡ Some x
+        → AnswersEntry (slice_get x.names index) name.old count.old value.old result name.new
+        count.new value.new }
+    ensures gone { assembly.old.slot.assembly ≡ None → (result ≡ 1) × (name.new ≡ name.old)
+        × (count.new ≡ count.old) × (value.new ≡ value.old) }
     ensures same { assembly.new.slot.assembly ≡ assembly.old.slot.assembly }
 {
     if !assembly.live {

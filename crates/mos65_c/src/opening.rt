@@ -1,21 +1,16 @@
 //! Machines opened and closed.
 
-ghost use Rattle.std.specs.Prelude.{◌≡◌, ◌≢◌, ◌+◌, ◌≤◌, ◌⊎◌, ℕ, length, List, None, Option, Some};
-ghost use Rattle.std.specs.Prelude.{false, true};
+ghost use Rattle.std.specs.Prelude.{◌≡◌, ◌≢◌, ◌+◌, ◌<◌, ◌≤◌, length, None, Some};
 ghost use Rattle.assembler.specs.Assembly.{AssemblyView};
-ghost use Rattle.model.specs.Event.{start};
 ghost use Rattle.model.specs.Image.{empty_image, with_bytes};
-ghost use Rattle.model.specs.Session.{new_session};
-ghost use Rattle.model.specs.State.{has_port_byte};
-ghost use Rattle.model.specs.Tape.{FirstFault, TapeDenotes};
-ghost use Rattle.model.specs.TapeFault.{tape_fault_number};
-ghost use Rattle.model.specs.declared.tape.TapeFaultKind.{TapeFaultKind};
+ghost use Rattle.model.specs.Session.{Session as SessionView};
+ghost use Rattle.mos65_c.specs.Answers.{AnswersOpening, AnswersStart, AnswersTape, no_fault};
 ghost use Rattle.mos65_c.specs.Status.{config_map, config_status};
 
 use crate::config::{Config, map_of};
 use crate::machine::{CLOSED, MISUSE, Mos65, Mos65Assembly, OUT_OF_MEMORY};
 use crate::names::Fault;
-use bus::Image;
+use bus::{Image, MapSpec};
 use debugger::{Session, SessionFault};
 use papertape::read_tape;
 use slot::SessionSlot;
@@ -35,20 +30,12 @@ pub extern "C" fn mos65_version_number() -> u32
 }
 
 /// Starts a closed machine with an image.
-fn open_image(alloc: Global, m: &mut Mos65, config: &Config, image: &Image) -> u32
-    requires { m.old.live ≡ false }
-    ensures opened { result ≡ 0 → m.new.slot.session
-        ≡ Some (new_session config.now.history (start (config_map config.now) image.now)) }
-    ensures same { result ≢ 0 → m.new.slot.session ≡ m.old.slot.session }
-    ensures config { config_status config.now ≢ 0 → result ≡ config_status config.now }
-    ensures port { result ≡ 205 → has_port_byte (config_map config.now) image.now ≡ true }
-    ensures spared { result ≡ 0 → has_port_byte (config_map config.now) image.now ≡ false }
+fn start(alloc: Global, m: &mut Mos65, map: MapSpec, history: u32, image: &Image) -> u32
+    requires closed { m.old.slot.session ≡ None }
+    requires held { history ≤ 65536 }
+    ensures { AnswersStart map history image.now result m.new.slot.session }
 {
-    let map = match map_of(config) {
-        Ok(map) => map,
-        Err(status) => return status,
-    };
-    let session = match Session::new(alloc, map, image, config.history) {
+    let session = match Session::new(alloc, map, image, history) {
         Ok(session) => session,
         Err(SessionFault::PortAddress) => return SESSION_PORT_ADDRESS,
         Err(_) => return SESSION_OUT_OF_MEMORY,
@@ -73,15 +60,14 @@ pub extern "C" fn mos65_open(
     config: &Config,
     assembly: &mut Mos65Assembly,
 ) -> u32
-    ensures opened { result ≡ 0
-        → (x : AssemblyView) × (assembly.old.slot.assembly ≡ Some x) × (m.new.slot.session
-        ≡ Some (new_session config.now.history (start (config_map config.now) x.image))) }
-    ensures same { result ≢ 0 → m.new.slot.session ≡ m.old.slot.session }
-    ensures kept { assembly.new.slot.assembly ≡ assembly.old.slot.assembly }
-    ensures busy { m.old.live ≡ true → result ≡ 2 }
-    ensures closed { m.old.live ≡ false → assembly.old.live ≡ false → result ≡ 1 }
-    ensures config { m.old.live ≡ false → assembly.old.live ≡ true → config_status config.now ≢ 0
-        → result ≡ config_status config.now }
+    ensures opened { (x : AssemblyView) → m.old.slot.session ≡ None
+        → assembly.old.slot.assembly ≡ Some x
+        → AnswersOpening config.now x.image result m.new.slot.session }
+    ensures busy { (s : SessionView) → m.old.slot.session ≡ Some s
+        → (result ≡ 2) × (m.new.slot.session ≡ Some s) }
+    ensures gone { m.old.slot.session ≡ None → assembly.old.slot.assembly ≡ None
+        → (result ≡ 1) × (m.new.slot.session ≡ None) }
+    ensures same { assembly.new.slot.assembly ≡ assembly.old.slot.assembly }
 {
     if m.live {
         return MISUSE;
@@ -89,11 +75,20 @@ pub extern "C" fn mos65_open(
     if !assembly.live {
         return CLOSED;
     }
-    open_image(alloc, m, config, assembly.slot.inside().image())
+    match map_of(config) {
+        Ok(map) => start(
+            alloc,
+            m,
+            map,
+            config.history,
+            assembly.slot.inside().image(),
+        ),
+        Err(status) => status,
+    }
 }
 
 /// Opens a machine that starts with a tape's image; where the tape is refused, its fault and where
-/// it stands are told.
+/// it stands are told. The configuration is refused before the tape.
 #[unsafe(no_mangle)]
 pub extern "C" fn mos65_open_tape(
     alloc: Global,
@@ -102,24 +97,25 @@ pub extern "C" fn mos65_open_tape(
     tape: &[u8],
     fault: &mut Fault,
 ) -> u32
-    ensures opened { result ≡ 0
-        → (image : List (Option ℕ)) × TapeDenotes tape.now image × (m.new.slot.session
-        ≡ Some (new_session config.now.history (start (config_map config.now) image))) }
-    ensures same { result ≢ 0 → m.new.slot.session ≡ m.old.slot.session }
-    ensures busy { m.old.live ≡ true → result ≡ 2 }
-    // A text that is a tape is not told a fault, memory aside.
-    ensures right { (image : List (Option ℕ)) → m.old.live ≡ false → TapeDenotes tape.now image
-        → (fault.new.status ≡ 0) ⊎ (result ≡ 409) }
-    ensures faulty { (kind : TapeFaultKind) (offset : ℕ) → m.old.live ≡ false
-        → FirstFault tape.now kind offset
-        → ((result ≡ 400 + tape_fault_number kind) × (fault.new.offset ≡ offset)) ⊎ (result ≡ 409) }
+    ensures opened { m.old.slot.session ≡ None → config_status config.now ≡ 0
+        → AnswersTape (config_map config.now) config.now.history tape.now result fault.new
+        m.new.slot.session }
+    ensures config { m.old.slot.session ≡ None → config_status config.now ≢ 0
+        → (result ≡ config_status config.now) × (m.new.slot.session ≡ None)
+        × (fault.new ≡ no_fault) }
+    ensures busy { (s : SessionView) → m.old.slot.session ≡ Some s
+        → (result ≡ 2) × (m.new.slot.session ≡ Some s) × (fault.new ≡ no_fault) }
 {
     *fault = Fault::none();
     if m.live {
         return MISUSE;
     }
+    let map = match map_of(config) {
+        Ok(map) => map,
+        Err(status) => return status,
+    };
     match read_tape(alloc, tape) {
-        Ok(image) => open_image(alloc, m, config, &image),
+        Ok(image) => start(alloc, m, map, config.history, &image),
         Err(refusal) => {
             let status = 400 + refusal.kind.number() as u32;
             *fault = Fault {
@@ -141,27 +137,34 @@ pub extern "C" fn mos65_open_bytes(
     address: u16,
     bytes: &[u8],
 ) -> u32
-    ensures opened { result ≡ 0 → m.new.slot.session ≡ Some (new_session config.now.history
-        (start (config_map config.now) (with_bytes empty_image address bytes.now))) }
-    ensures same { result ≢ 0 → m.new.slot.session ≡ m.old.slot.session }
-    ensures busy { m.old.live ≡ true → result ≡ 2 }
+    ensures opened { m.old.slot.session ≡ None → address + length bytes.now ≤ 65536
+        → AnswersOpening config.now (with_bytes empty_image address bytes.now) result
+        m.new.slot.session }
+    ensures long { m.old.slot.session ≡ None → 65536 < address + length bytes.now
+        → (result ≡ 2) × (m.new.slot.session ≡ None) }
+    ensures busy { (s : SessionView) → m.old.slot.session ≡ Some s
+        → (result ≡ 2) × (m.new.slot.session ≡ Some s) }
 {
     if m.live || bytes.len() > 65536 - address as usize {
         return MISUSE;
     }
+    let map = match map_of(config) {
+        Ok(map) => map,
+        Err(status) => return status,
+    };
     let Ok(mut image) = Image::new(alloc) else {
         return OUT_OF_MEMORY;
     };
     image.store(address, bytes);
-    open_image(alloc, m, config, &image)
+    start(alloc, m, map, config.history, &image)
 }
 
 /// Closes a machine and frees what it held.
 #[unsafe(no_mangle)]
 pub extern "C" fn mos65_close(alloc: Global, m: &mut Mos65) -> u32
     ensures closed { m.new.slot.session ≡ None }
-    ensures live { m.old.live ≡ true → result ≡ 0 }
-    ensures gone { m.old.live ≡ false → result ≡ 1 }
+    ensures live { (s : SessionView) → m.old.slot.session ≡ Some s → result ≡ 0 }
+    ensures gone { m.old.slot.session ≡ None → result ≡ 1 }
 {
     let empty = Mos65 {
         slot: SessionSlot::empty(alloc),

@@ -2,13 +2,14 @@
 
 ghost use Rattle.std.specs.Prelude.{◌≡◌, length, None, Some};
 ghost use Rattle.model.specs.Back.{back_of};
+ghost use Rattle.model.specs.Breakpoints.{break_set};
 ghost use Rattle.model.specs.Run.{after_run, run_end};
 ghost use Rattle.model.specs.Session.{Session as SessionView};
-ghost use Rattle.mos65_c.specs.Answers.{AnswersChange, AnswersRun};
-ghost use Rattle.mos65_c.specs.Status.{ending_of};
-ghost use Rattle.rig.specs.Subroutine.{call_of, run_to_of};
+ghost use Rattle.mos65_c.specs.Answers.{AnswersCall, AnswersChange, AnswersRun};
+ghost use Rattle.mos65_c.specs.Status.{ending_of, given_of};
+ghost use Rattle.rig.specs.Subroutine.{call_of, call_with_of, return_address, run_to_of};
 
-use crate::ending::{Ending, ending_of};
+use crate::ending::{Called, Ending, Given, ending_of, given_of, registers_of};
 use crate::machine::{CLOSED, Mos65};
 
 /// Runs up to `limit` steps, to the first that changes a watched byte, leads to a breakpoint, or is
@@ -33,7 +34,8 @@ pub extern "C" fn mos65_run(m: &mut Mos65, limit: u32, ending: &mut Ending) -> u
 #[unsafe(no_mangle)]
 pub extern "C" fn mos65_run_to(m: &mut Mos65, address: u16, limit: u32, ending: &mut Ending) -> u32
     ensures live { (s : SessionView) → m.old.slot.session ≡ Some s
-        → AnswersRun (run_to_of address limit s) s result ending.new m.new.slot.session }
+        → AnswersRun (run_to_of address limit s) (break_set address s) s ending.old result
+        ending.new m.new.slot.session }
     ensures gone { m.old.slot.session ≡ None
         → (result ≡ 1) × (m.new.slot.session ≡ None) × (ending.new ≡ ending.old) }
 {
@@ -53,7 +55,8 @@ pub extern "C" fn mos65_run_to(m: &mut Mos65, address: u16, limit: u32, ending: 
 #[unsafe(no_mangle)]
 pub extern "C" fn mos65_call(m: &mut Mos65, address: u16, limit: u32, ending: &mut Ending) -> u32
     ensures live { (s : SessionView) → m.old.slot.session ≡ Some s
-        → AnswersRun (call_of address limit s) s result ending.new m.new.slot.session }
+        → AnswersRun (call_of address limit s) (break_set return_address s) s ending.old result
+        ending.new m.new.slot.session }
     ensures gone { m.old.slot.session ≡ None
         → (result ≡ 1) × (m.new.slot.session ≡ None) × (ending.new ≡ ending.old) }
 {
@@ -63,6 +66,39 @@ pub extern "C" fn mos65_call(m: &mut Mos65, address: u16, limit: u32, ending: &m
     match rig::call(m.slot.inside(), address, limit) {
         Ok(end) => {
             *ending = ending_of(end);
+            0
+        }
+        Err(fault) => 200 + fault.number() as u32,
+    }
+}
+
+/// Calls a subroutine as `mos65_call` does, with the registers that are given set before, and tells
+/// the registers and the cycles too. Each register that is set is one more event.
+#[unsafe(no_mangle)]
+pub extern "C" fn mos65_call_with(
+    m: &mut Mos65,
+    address: u16,
+    limit: u32,
+    given: &Given,
+    called: &mut Called,
+) -> u32
+    ensures live { (s : SessionView) → m.old.slot.session ≡ Some s
+        → AnswersCall (call_with_of (given_of given.now) address limit s)
+        (break_set return_address s) s called.old result called.new m.new.slot.session }
+    ensures gone { m.old.slot.session ≡ None
+        → (result ≡ 1) × (m.new.slot.session ≡ None) × (called.new ≡ called.old) }
+{
+    if !m.live {
+        return CLOSED;
+    }
+    let session = m.slot.inside();
+    match rig::call_with(session, given_of(given), address, limit) {
+        Ok(done) => {
+            *called = Called {
+                cycles: done.cycles,
+                registers: registers_of(session),
+                ending: ending_of(done.end),
+            };
             0
         }
         Err(fault) => 200 + fault.number() as u32,

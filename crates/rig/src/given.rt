@@ -11,8 +11,8 @@ pub struct Given {
     pub y: Option<u8>,
 }
 
-/// How the run of a called subroutine ended, and the cycles that it took from the subroutine's first
-/// instruction on.
+/// How the run of a called subroutine ended, and the cycles from the subroutine's first instruction
+/// on.
 #[derive(Clone, Copy, Debug, PartialEq, Eq)]
 pub struct Called {
     pub end: RunEnd,

@@ -1,30 +1,20 @@
-use Rattle.std.proofs.Common.{inl, inr, refl, subst, sym}
-use Rattle.model.specs.Source.{Denotes, HasFault}
-use Rattle.mos65_c.proofs.Refused.{not_refused, source_memory, source_told}
+use Rattle.std.proofs.Common.{Some, ap, ◌∙◌}
+use Rattle.mos65_c.proofs.Refused.{assembled, source_refused, unheld}
 use Rattle.mos65_c.proofs.assembly.mos65_assemble.Goals as goal
 
-pub returns-in-Ok-new-clause-faulty : goal.returns-in-Ok-new-clause-faulty
-returns-in-Ok-new-clause-faulty c f closed right h =
-    let own = subst (λ map. HasFault map c.args.source.now f) (sym c.in-Ok.ensures.ok.0) h in
-    absurd (not_refused c.in-Ok-assemble.made _ _ (c.in-Ok-assemble.ensures.faulty f own))
+pub returns-in-Ok-new-clause-assembled : goal.returns-in-Ok-new-clause-assembled
+returns-in-Ok-new-clause-assembled c closed right =
+    let all = c.in-Ok-assemble.ensures in
+    assembled _ _ c.in-Ok.ensures.ok.0 _ c.in-Ok-assemble.made _ c.none.ensures _
+    (c.of.ensures ∙ ap (λ x. Some x) c.in-Ok-new.ensures.ok) (record { image = all.denoted; listed = all.listed; names = all.names }) all.faulty all.large
 
-pub returns-in-Ok-assemble-clause-faulty : goal.returns-in-Ok-assemble-clause-faulty
-returns-in-Ok-assemble-clause-faulty c f closed right h =
-    let own = subst (λ map. HasFault map c.args.source.now f) (sym c.in-Ok.ensures.ok.0) h in
-    absurd (not_refused c.in-Ok-assemble.made _ _ (c.in-Ok-assemble.ensures.faulty f own))
+pub returns-in-Ok-assemble-clause-assembled : goal.returns-in-Ok-assemble-clause-assembled
+returns-in-Ok-assemble-clause-assembled c closed right =
+    let all = c.in-Ok-assemble.ensures in
+    unheld _ _ c.in-Ok.ensures.ok.0 _ c.in-Ok-assemble.made _ c.none.ensures _ closed all.faulty all.large
 
-pub returns-clause-faulty : goal.returns-clause-faulty
-returns-clause-faulty c f closed right h =
-    let own = subst (λ map. HasFault map c.args.source.now f) (sym c.in-Ok.ensures.ok.0) h in
-    source_told c.in-Err-assemble.refusal f c.number.result c.number.ensures (c.in-Err-assemble.ensures.faulty f own)
-
-pub returns-in-Ok-new-clause-right : goal.returns-in-Ok-new-clause-right
-returns-in-Ok-new-clause-right c image closed right h = inl refl
-
-pub returns-in-Ok-assemble-clause-right : goal.returns-in-Ok-assemble-clause-right
-returns-in-Ok-assemble-clause-right c image closed right h = inr (inl refl)
-
-pub returns-clause-right : goal.returns-clause-right
-returns-clause-right c image closed right h =
-    let own = subst (λ map. Denotes map c.args.source.now image) (sym c.in-Ok.ensures.ok.0) h in
-    inr (inr (source_memory c.in-Err-assemble.refusal c.number.result c.number.ensures (c.in-Err-assemble.ensures.only image own)))
+pub returns-clause-assembled : goal.returns-clause-assembled
+returns-clause-assembled c closed right =
+    let all = c.in-Err-assemble.ensures in
+    source_refused _ _ c.in-Ok.ensures.ok.0 _ c.in-Err-assemble.refusal _ closed c.number.result c.number.ensures
+    all.refused all.only all.faulty all.large
