@@ -20,7 +20,7 @@ from .faults import (
     SessionFault,
     TapeFault,
 )
-from .values import Registers, RunEnd, Why
+from .values import Registers, RunEnd, Why, made
 
 VERSION_NUMBER = 100
 
@@ -36,6 +36,7 @@ _NAMES = {
 }
 _CLASSES = {1: EventFault, 2: SessionFault, 3: AssemblyFault, 4: TapeFault, 5: MapFault}
 _WHY = (Why.LIMIT, Why.BREAK, Why.WATCH, Why.REFUSED)
+_BREAK, _RETURN = 1, 0xFFFF
 _REGISTERS = {"A": 0, "X": 1, "Y": 2, "S": 3, "P": 4, "PC": 5}
 
 
@@ -187,6 +188,7 @@ class Session:
         self._m = ctypes.byref(self._slot)
         self._regs, self._ending, self._count = _Registers(), _Ending(), _U32()
         self._given, self._called = _Given(), _Called()
+        self._given_ref, self._called_ref = ctypes.byref(self._given), ctypes.byref(self._called)
         self.listing = ""
         told = _Fault()
         if is_tape:
@@ -286,15 +288,21 @@ class Session:
 
     def call(
         self, address: int, limit: int, a: Optional[int], x: Optional[int], y: Optional[int]
-    ) -> Tuple[RunEnd, int, Registers]:
-        has = (a is not None, x is not None, y is not None)
-        _GIVEN_FORM.pack_into(self._given, 0, a or 0, x or 0, y or 0, *has)
-        status = self._lib.call_with(self._m, address, limit, self._given, self._called)
+    ) -> Tuple[Optional[RunEnd], int, int, Registers]:
+        _GIVEN_FORM.pack_into(
+            self._given, 0, a or 0, x or 0, y or 0, a is not None, x is not None, y is not None
+        )
+        status = self._lib.call_with(self._m, address, limit, self._given_ref, self._called_ref)
         if status:
             raise fault_of(status)
-        told = _CALLED_FORM.unpack_from(self._called)
-        cycles, total, pc, ra, rx, ry, s, p = told[:8]
-        return self._end_of(*told[8:]), cycles, Registers(ra, rx, ry, s, p, pc, total)
+        (cycles, total, pc, a, x, y, s, p, did, why, status, address, opcode) = (
+            _CALLED_FORM.unpack_from(self._called)
+        )
+        fields = {"a": a, "x": x, "y": y, "s": s, "p": p, "pc": pc, "cycles": total}
+        end = None
+        if why != _BREAK or address != _RETURN:
+            end = self._end_of(did, why, status, address, opcode)
+        return end, did, cycles, made(Registers, fields)
 
     def back(self, count: int) -> None:
         self._check(self._lib.back(self._m, count))

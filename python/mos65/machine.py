@@ -11,11 +11,10 @@ from typing import Dict, List, Optional, Tuple, Type, Union
 from . import library as by_library
 from . import listing, pipe
 from .faults import DidNotReturn, EventFault, MapFault, NoSuchName, Refused
-from .values import Call, Registers, RunEnd, Step, Why
+from .values import Call, Registers, RunEnd, Step, made
 
 Place = Union[int, str]
 
-_RETURN = 0xFFFF
 _CALL_EVENTS = 4
 _LIMIT = 1_000_000
 _MOST = 0xFFFF_FFFF
@@ -164,9 +163,11 @@ class Machine:
             self._way.set(register, value)
 
     @staticmethod
-    def _byte(register: str, value: int) -> None:
+    def _byte(register: str, value: int) -> int:
+        """One event, unless the value is no byte."""
         if not 0 <= value <= 0xFF:
             raise Refused("Value", text=f"{register}={value}")
+        return 1
 
     def read(self, place: Place, count: int = 1) -> bytes:
         """Bytes of memory, 0 at the port. Nothing is changed. Raises EventFault where they go past 0xFFFF."""
@@ -251,14 +252,17 @@ class Machine:
         """
         address = self.address(place)
         given = 0
-        for register, value in (("A", a), ("X", x), ("Y", y)):
-            if value is not None:
-                self._byte(register, value)
-                given += 1
-        end, cycles, after = self._way.call(address, self._limit(limit), a, x, y)
-        if end.why is not Why.BREAK or end.address != _RETURN:
+        if a is not None:
+            given += self._byte("A", a)
+        if x is not None:
+            given += self._byte("X", x)
+        if y is not None:
+            given += self._byte("Y", y)
+        end, steps, cycles, after = self._way.call(address, self._limit(limit), a, x, y)
+        if end is not None:
             raise DidNotReturn(str(place), end)
-        return Call(after, cycles, end.steps, given + _CALL_EVENTS + end.steps)
+        events = given + _CALL_EVENTS + steps
+        return made(Call, {"registers": after, "cycles": cycles, "steps": steps, "events": events})
 
     @staticmethod
     def _limit(limit: int) -> int:

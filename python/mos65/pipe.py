@@ -276,7 +276,7 @@ class Pipe:
 
     def call(
         self, address: int, limit: int, a: Optional[int], x: Optional[int], y: Optional[int]
-    ) -> Tuple[RunEnd, int, Registers]:
+    ) -> Tuple[Optional[RunEnd], int, int, Registers]:
         self._has_room(_RETURN)
         before = self.registers()
         given = (("A", a), ("X", x), ("Y", y))
@@ -288,7 +288,8 @@ class Pipe:
             self._setting("PC", address),
         ]
         end, after = self._stopping(_RETURN, ready, limit)
-        return end, after.cycles - before.cycles, after
+        is_back = end.why is Why.BREAK and end.address == _RETURN
+        return None if is_back else end, end.steps, after.cycles - before.cycles, after
 
     def _has_room(self, address: int) -> None:
         """Raises TableFull where no breakpoint can be set at an address, before anything is changed."""

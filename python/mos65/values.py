@@ -7,6 +7,13 @@ from dataclasses import dataclass
 from typing import Optional
 
 
+def made(kind, fields):
+    """A frozen value with these fields. A call of the class sets each by itself, which takes twice as long."""
+    it = object.__new__(kind)
+    object.__setattr__(it, "__dict__", fields)
+    return it
+
+
 class Why(enum.Enum):
     """Why a run ended."""
 
