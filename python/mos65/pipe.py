@@ -36,8 +36,9 @@ _RETURN = 0xFFFF
 _MOST = 1_000_000
 # The most breakpoints.
 _TABLE = 256
-# The commands that leave the registers as they are.
-_KEEPING = ("regs", "break", "unbreak", "watch", "unwatch", "patch", "in ", "irq", "nmi", "out", "dis", "mem")
+# The commands that are no events, and those that leave the registers as they are.
+_LOOKING = ("regs", "break", "unbreak", "watch", "unwatch", "out", "dis", "mem")
+_KEEPING = (*_LOOKING, "patch", "in ", "irq", "nmi")
 # So many lines go out at once: their replies fit in a pipe.
 _BATCH = 400
 
@@ -85,6 +86,8 @@ class Pipe:
         self._breaks: Set[int] = set()
         # The registers, where nothing has changed them since they were told.
         self._known: Optional[Registers] = None
+        # How many events the last call made and the registers before it, where no event came after it.
+        self._last: Optional[Tuple[int, Registers]] = None
         self._errors = tempfile.TemporaryFile()
         self._engine: Optional[subprocess.Popen[bytes]] = subprocess.Popen(
             [program, "debug", *words],
@@ -154,6 +157,8 @@ class Pipe:
         """Sends lines with one reply line each, and returns the replies. The first refusal is raised once all have come."""
         if any(not it.startswith(_KEEPING) for it in lines):
             self._known = None
+        if any(not it.startswith(_LOOKING) for it in lines):
+            self._last = None
         replies: List[str] = []
         for at in range(0, len(lines), _BATCH):
             some = lines[at : at + _BATCH]
@@ -288,6 +293,7 @@ class Pipe:
             self._setting("PC", address),
         ]
         end, after = self._stopping(_RETURN, ready, limit)
+        self._last = (len(ready) + end.steps, before)
         is_back = end.why is Why.BREAK and end.address == _RETURN
         return None if is_back else end, end.steps, after.cycles - before.cycles, after
 
@@ -310,7 +316,10 @@ class Pipe:
         return end, self._registers(self._ask_all(last)[-1])
 
     def back(self, count: int) -> None:
+        last = self._last
         self._ask(f"back {min(count, _MOST)}")
+        if last and last[0] == count:
+            self._known = last[1]
 
     def held(self) -> int:
         # More than can be held: the refusal tells how many are.

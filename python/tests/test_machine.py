@@ -140,6 +140,10 @@ class Ways:
         self.assertEqual((call.events, m.held, m.registers), (2 + 4 + 7, 2 + 4 + 7, after))
         m.back(call.events)
         self.assertEqual((m.registers, m.held), (before, 0))
+        m.call("times10", a=7)
+        m.write(0x10, b"a")
+        m.back(call.events - 1)
+        self.assertEqual((m.registers.a, m.held), (7, 1))
 
     def test_no_room_for_the_breakpoint_of_a_call(self):
         m = self.machine()
