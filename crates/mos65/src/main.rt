@@ -9,6 +9,7 @@ use program::{program, unreadable_words};
 use running::run_program;
 use std::process::ExitCode;
 use std::{env, io};
+use strict_debug::{is_strict, strict_debug};
 use tape_cmp::tape_cmp;
 use tape_info::tape_info;
 use tape_mend::tape_mend;
@@ -26,6 +27,16 @@ fn serve(rt: &HostRuntime, words: &[&str]) -> u8 {
         }
         ["asm", rest @ ..] if asks_for_files(rest) => {
             asm_files(rt, rest, &mut io::writer(rt), &mut rt.stderr())
+        }
+        ["debug", rest @ ..] if is_strict(rest) => {
+            strict_debug(
+                rt,
+                rest,
+                &mut rt.reader(),
+                io::writer(rt),
+                &mut rt.stderr(),
+            )
+            .0
         }
         ["run", rest @ ..] => run_program(
             rt,
