@@ -1,6 +1,7 @@
 //! A writer that watches what it passes on.
 
-ghost use Rattle.std.specs.Prelude.{◌≡◌, Some, []};
+ghost use Rattle.std.specs.Prelude.{◌≡◌, ℕ, List, Option, Some};
+ghost use Rattle.std.specs.Io.KnownBytes.{Appends};
 
 use crate::heard::Heard;
 use crate::log::Log;
@@ -9,8 +10,8 @@ use std::io::Write;
 
 /// A writer that passes bytes on to another one, and notes what is seen in them.
 ///
-/// What it holds, by its clauses, is what it was told. Its memory of the writer as it was at first
-/// exists only in proofs.
+/// By its clauses it holds what the other one held at first and the bytes that it was told, as
+/// `specs/Told.antt` says. The writer as it was at first exists only in proofs.
 #[derive(Drop)]
 pub struct Watch<W> {
     pub inner: W,
@@ -19,14 +20,14 @@ pub struct Watch<W> {
 }
 
 impl<W: Write> Watch<W> {
-    ghost use Rattle.reply_watch.specs.Told.{held_first, told_to};
+    ghost use Rattle.reply_watch.specs.Seen.{seen_in};
+    ghost use Rattle.reply_watch.specs.Told.{held_first, known_framed, told_to};
 
     /// Watches a writer from now on.
     pub fn over(inner: W) -> Watch<W>
         ensures told { told_to (held_first W.contents result.first.items) (W.contents result.inner)
-            result.heard.told.items ≡ Some [] }
+            result.heard.told.items ≡ Some (known_framed (W.contents inner)) }
         ensures inner { result.inner ≡ inner }
-        ensures first { held_first W.contents result.first.items ≡ W.contents inner }
     {
         let first = Log::new().and(&inner);
         Watch {
@@ -34,6 +35,23 @@ impl<W: Write> Watch<W> {
             heard: Heard::nothing(),
             first,
         }
+    }
+
+    /// Returns whether what was written tells of a fault, and the writer.
+    pub fn finish(self) -> (bool, W)
+        ensures inner { result.1 ≡ self.inner }
+        // The writer got what was written to the watch, and what is seen is seen in that.
+        ensures passed { (held : Option (List ℕ)) → (text : List ℕ)
+            → Appends (Some (known_framed held)) (told_to (held_first W.contents self.first.items)
+            (W.contents self.inner) self.heard.told.items) text
+            → (result.0 ≡ (seen_in text).has_fault) × Appends held (W.contents result.1) text }
+    {
+        let Watch {
+            inner,
+            heard,
+            first: _,
+        } = self;
+        (heard.seen.has_fault, inner)
     }
 }
 

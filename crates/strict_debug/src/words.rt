@@ -1,7 +1,7 @@
 //! The words of `debug` with `--strict`.
 
-ghost use Rattle.std.specs.Prelude.{◌≡◌, ◌∷◌, IfOk, codes, map};
-ghost use Rattle.strict_debug.specs.Strict.{is_strict, without_strict};
+ghost use Rattle.std.specs.Prelude.{◌≡◌, IfOk, map};
+ghost use Rattle.strict_debug.specs.Strict.{is_strict, plain_words};
 
 use std::alloc::{AllocError, Global};
 
@@ -23,7 +23,7 @@ pub fn is_strict(words: &[&str]) -> bool
 /// Returns `debug` and the words after it, but for `--strict` before a word `--`.
 pub fn plain_words<'a>(alloc: Global, words: &[&'a str]) -> Result<Vec<&'a str>, AllocError>
     ensures { IfOk result (λ plain. map (λ s. s.now) plain.items
-        ≡ codes "debug" ∷ without_strict (map (λ s. s.now) words.entry.now)) }
+        ≡ plain_words (map (λ s. s.now) words.entry.now)) }
 {
     let mut plain = Vec::new(alloc);
     plain.push("debug")?;

@@ -24,7 +24,6 @@ use denote.Param.{param, layouts}
 use denote.Signature.{plain, types_at}
 use denote.Steps.{nothing, owned}
 use denote.Struct.Laws.{makes}
-use denote.Struct.Tuple.{Tuple}
 use denote.Triple.Clauses.{Clauses, Ended, closing}
 use denote.Triple.Entry.{alive}
 use denote.Triple.Spec.{Meets, triple_of}
