@@ -29,14 +29,7 @@ fn serve(rt: &HostRuntime, words: &[&str]) -> u8 {
             asm_files(rt, rest, &mut io::writer(rt), &mut rt.stderr())
         }
         ["debug", rest @ ..] if is_strict(rest) => {
-            strict_debug(
-                rt,
-                rest,
-                &mut rt.reader(),
-                io::writer(rt),
-                &mut rt.stderr(),
-            )
-            .0
+            strict_debug(rt, rest, &mut rt.reader(), io::writer(rt), &mut rt.stderr()).0
         }
         ["run", rest @ ..] => run_program(
             rt,

@@ -27,9 +27,10 @@ tells_fault place byte = false
 
 -- What is seen after one byte more.
 abbrev pub next : Seen → ℕ → Seen
-next seen byte = record
-  { place = place_after seen.place byte
-  ; has_fault = seen.has_fault || tells_fault seen.place byte }
+next seen byte = record {
+  place = place_after seen.place byte;
+  has_fault = seen.has_fault || tells_fault seen.place byte;
+}
 
 -- What is seen after some bytes more.
 unfoldable pub after_all : Seen → List ℕ → Seen
