@@ -1,5 +1,5 @@
-//! The program `mos65` with the words `asm`, `dis` and `debug` alone. It stands on fewer crates than
-//! the whole program, so it is proved sooner.
+//! The program `mos65` with the words `asm`, `dis` and `debug` alone. It stands on fewer crates
+//! than the whole program, so it is proved sooner.
 #![tactic(auto)]
 
 use program::{program, unreadable_words};
