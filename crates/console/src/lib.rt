@@ -1,14 +1,15 @@
 //! A session with a reader and a writer for its console: a program that runs as its user meets it.
 //!
-//! `play` is the one call. A line is read only where the program looks for input and none waits;
-//! each byte of output is written as it comes. `specs/Playing.antt` says where a run leads, in
-//! words of `model`. `proofs/Steps.antt` has the proof's idea: what a step takes of the input shows
+//! `play` makes a whole run, and `take_turn` one turn of it. A line is read only where the program
+//! looks for input and none waits; each byte of output is written as it comes. `specs/Playing.antt`
+//! says where a run leads, and `specs/Turns.antt` where a turn does, in words of `model`. `proofs/Steps.antt` has the proof's idea: what a step takes of the input shows
 //! in the session's views.
 #![tactic(auto)]
 
 pub use ending::{Ending, PlayFault, Played};
 pub use memo::Memo;
 pub use running::play;
+pub use turn::{Player, begin, take_turn};
 
 mod ending;
 mod input;

@@ -7,9 +7,8 @@ ghost use Rattle.console.specs.Playing.{begun, is_at, played};
 ghost use Rattle.console.specs.Written.{AreBytesOf, RanAs};
 
 use crate::ending::{Ending, PlayFault, Played};
-use crate::memo::Memo;
 use crate::output::flush;
-use crate::turn::{Player, turn};
+use crate::turn::{begin, take_turn};
 use debugger::Session;
 use std::io::{Read, Write};
 
@@ -86,18 +85,9 @@ fn make_turns<R: Read, W: Write>(
         × (session.new.current.bus.out ≡ session.old.current.bus.out ++ text)
         × Writes (W.contents writer.old) (W.contents writer.new) text result }
 {
-    // For the proof: that no more input was taken than handed in.
-    session.is_state();
-    let mut player = Player {
-        memo: Memo {
-            rests: false,
-            idle: None,
-        },
-        waiting: 0,
-        is_over: false,
-    };
+    let mut player = begin(session);
     for steps in 0..limit {
-        match turn(session, &mut player, reader, writer) {
+        match take_turn(session, &mut player, reader, writer) {
             Ok(None) => {}
             Ok(Some(ending)) => return Ok(Played { steps, ending }),
             Err(fault) => return Err(fault),

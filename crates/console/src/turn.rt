@@ -1,6 +1,6 @@
 //! A turn: a line of input if one is asked for, and a step.
 
-ghost use Rattle.std.specs.Prelude.{◌≡◌, ◌==◌, ◌+◌, ◌≤◌, ◌++◌, ℕ, List, IfOk, OnOk};
+ghost use Rattle.std.specs.Prelude.{◌≡◌, ◌==◌, ◌+◌, ◌≤◌, ◌++◌, ℕ, List, IfOk, OnOk, false};
 ghost use Rattle.std.specs.Io.KnownBytes.{Consumes, Keeps};
 ghost use Rattle.model.specs.Step.{step};
 ghost use Rattle.model.specs.State.{input_waits, State};
@@ -10,7 +10,8 @@ ghost use Rattle.operands.specs.Access.{access_here};
 ghost use Rattle.console.specs.Given.{given_to};
 ghost use Rattle.console.specs.Line.{room_of};
 ghost use Rattle.console.specs.Playing.{asks, came as is_some_line, ending_before, is_idle, looks};
-ghost use Rattle.console.specs.Playing.{memo_after, same_flags, same_regs, stays, stepped};
+ghost use Rattle.console.specs.Playing.{memo_after, no_memo, same_flags, same_regs, stays};
+ghost use Rattle.console.specs.Playing.{stepped};
 ghost use Rattle.console.specs.Taking.{counted, take_count, Waits};
 ghost use Rattle.console.specs.Turns.{EndsOnce, EndsWith, IsLine, TurnsTo, play_at, turn_to};
 
@@ -270,8 +271,39 @@ fn supply<R: Read, W: Write>(
     }
 }
 
-/// Makes a turn. Returns why the run ends with it, if it does.
-pub fn turn<R: Read, W: Write>(
+/// Returns what a run knows before its first turn, in a session where no input waits.
+pub fn begin(session: &Session) -> Player
+    requires { input_waits session.now.current.bus ≡ false }
+    ensures waits { Waits session.now.current result.waiting }
+    ensures memo { result.memo ≡ no_memo }
+    ensures over { result.is_over ≡ false }
+{
+    // For the proof: that no more input was taken than handed in.
+    session.is_state();
+    Player {
+        memo: Memo {
+            rests: false,
+            idle: None,
+        },
+        waiting: 0,
+        is_over: false,
+    }
+}
+
+/// Makes a turn of a run: hands in a line of input if one is asked for, and makes a step. Returns
+/// why the run ends here, if it does; then no step is made.
+///
+/// `play` makes one turn after another. A caller that looks at the session between two turns makes
+/// them by itself, from `begin` on. The output of the step is written, and flushed only before a
+/// line is read.
+///
+/// # Errors
+///
+/// - `Read`: a read failed. The bytes of input before it were handed in, and no step is made.
+/// - `Write`: a write or a flush failed, or a write took no byte.
+///
+/// Source: mos65.
+pub fn take_turn<R: Read, W: Write>(
     session: &mut Session,
     player: &mut Player,
     reader: &mut R,

@@ -4,7 +4,6 @@ use Rattle.model.proofs.Written.{front_after}
 use Rattle.console.specs.Playing.{begun, is_at, played}
 use Rattle.console.specs.Written.{RanAs}
 use Rattle.console.specs.declared.ending.Ending.TheVariants.{Limit, Until}
-use Rattle.console.proofs.Port.{waits_none}
 use Rattle.console.proofs.Turning.{runs_none, runs_on, ends_at, ends_with, ends_full, still_over, whole_input, ran_as}
 use Rattle.console.proofs.running.make_turns.Goals as goal
 
@@ -16,9 +15,9 @@ loop-steps-init g c = (
     consumes = Consumes-nil _;
     appends = Appends-nil _;
     out = sym (append-nil _);
-    waits = waits_none c.args.session.now.current.bus c.requires c.is_state.ensures.bus.taken;
+    waits = c.begin-player.ensures.waits;
     over = λ is. cc;
-    runs = runs_none c.args.until c.args.limit c.args.session.now false;
+    runs = rw (c.begin-player.ensures.over, c.begin-player.ensures.memo) (runs_none c.args.until c.args.limit c.args.session.now false);
   },
 )
 
@@ -28,7 +27,7 @@ returns-in-Ok-Some-clause-ok g c =
     let l = c.loop-steps in
     let s = c.args.session.now in
     let turn = rw c.in-Ok-Some.field-0-is at c.in-Ok-Some.ensures.ok in
-    let u = c.turn.new.session in let p = c.turn.new.player in
+    let u = c.take_turn.new.session in let p = c.take_turn.new.player in
     whole_input _ _ (inv.0 ++ turn.0) p.is_over (λ input left. RanAs (played c.args.until c.args.limit (begun s input)) (record { steps = l.steps; ending = c.in-Ok-Some.ending }) u left)
     (Consumes-trans _ _ _ inv.0 turn.0 inv.2.consumes turn.1) (still_over l.player.is_over p.is_over _ _ turn.2 inv.2.over)
     (λ rest may. ran_as _ l.steps c.in-Ok-Some.ending u p.memo rest
@@ -50,7 +49,7 @@ returns-then-is_at-clause-ok g c =
     let l = c.loop-steps in
     let s = c.args.session.now in
     let turn = rw c.in-Ok-None.field-0-is at c.in-Ok-None.ensures.ok in
-    let u = c.turn.new.session in let p = c.turn.new.player in
+    let u = c.take_turn.new.session in let p = c.take_turn.new.player in
     let at' : is_at c.args.until u.current ≡ true = sym c.is_at.ensures ∙ c.if-is_at.true in
     whole_input _ _ (inv.0 ++ turn.0) p.is_over (λ input left. RanAs (played c.args.until c.args.limit (begun s input)) (record { steps = l.steps + 1; ending = Until }) u left)
     (Consumes-trans _ _ _ inv.0 turn.0 inv.2.consumes turn.1) (still_over l.player.is_over p.is_over _ _ turn.2 inv.2.over)
@@ -69,7 +68,7 @@ loop-steps-preserved g c =
     let s = c.args.session.now in
     let turn = rw c.in-Ok-None.field-0-is at c.in-Ok-None.ensures.ok in
     let more = c.in-Ok-None.ensures.output in
-    let u = c.turn.new.session in let p = c.turn.new.player in
+    let u = c.take_turn.new.session in let p = c.take_turn.new.player in
     let off : is_at c.args.until u.current ≡ false = sym c.is_at.ensures ∙ c.if-is_at.false in (
       inv.0 ++ turn.0,
       inv.1 ++ more.0,

@@ -3,7 +3,7 @@ use Rattle.console.specs.Playing.{ending_before, unless_ended, stepped}
 use Rattle.console.specs.Turns.{EndsOnce, EndsWith, play_at, turn_to}
 use Rattle.model.specs.Step.{step}
 use Rattle.console.proofs.Turning.{turned}
-use Rattle.console.proofs.turn.turn.Goals as goal
+use Rattle.console.proofs.turn.take_turn.Goals as goal
 
 pub returns-in-Some-clause-ok : goal.returns-in-Some-clause-ok
 returns-in-Some-clause-ok g c =

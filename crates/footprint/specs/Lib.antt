@@ -1,0 +1,4 @@
+pub mod Footprint
+pub mod Moments
+pub mod Tallies
+pub mod Writing
