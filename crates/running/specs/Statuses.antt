@@ -1,7 +1,11 @@
--- The exit status of a run. Source: mos65.
+-- The exit status of a run, and of a stream that failed. Source: mos65.
 use Rattle.std.specs.Prelude.{ℕ}
 use Rattle.model.specs.declared.event.EventFault.TheVariants.{ConsoleFull}
 use Rattle.console.specs.declared.ending.Ending.{Ending}
+use Rattle.console.specs.declared.ending.PlayFault.{PlayFault}
+use Rattle.console.specs.declared.ending.PlayFault.TheVariants as play_fault
+use Rattle.program.specs.declared.refusal.Refusal.{Refusal}
+use Rattle.program.specs.declared.refusal.Refusal.TheVariants as refusal
 use Rattle.console.specs.declared.ending.Ending.TheVariants.{Until, Rest, InputOver, Limit, Refused}
 
 -- 10 for the limit, 12 for a full console, 11 for any other fault; otherwise that of a run that came
@@ -13,3 +17,8 @@ status_of_ending InputOver ended = ended
 status_of_ending Limit ended = 10
 status_of_ending (Refused ConsoleFull) ended = 12
 status_of_ending (Refused fault) ended = 11
+
+-- A stream that failed, as the program's refusal.
+abbrev pub refusal_of : PlayFault → Refusal
+refusal_of play_fault.Read = refusal.Read
+refusal_of play_fault.Write = refusal.Write

@@ -21,13 +21,22 @@ pub fn status_of_ending(ending: Ending, ended: u8) -> u8
     }
 }
 
+/// Returns the word for so many steps.
+fn step_word(steps: u64) -> &'static str {
+    if steps == 1 { "step" } else { "steps" }
+}
+
 /// Writes a line that says why a run did not come to its end. A line that cannot be written is left
 /// out.
 pub fn tell_ending<E: Write>(played: Played, pc: u16, errors: &mut E) {
     let steps = played.steps;
     let _ = match played.ending {
         Ending::Until | Ending::Rest | Ending::InputOver => Ok(()),
-        Ending::Limit => writeln!(errors, "mos65: stopped at {pc:04X} after {steps} steps"),
+        Ending::Limit => writeln!(
+            errors,
+            "mos65: stopped at {pc:04X} after {steps} {}",
+            step_word(steps)
+        ),
         Ending::Refused(EventFault::ConsoleFull) => writeln!(
             errors,
             "mos65: stopped at {pc:04X}: the console is full, with 65536 bytes of output"
@@ -44,5 +53,9 @@ pub fn tell_ending<E: Write>(played: Played, pc: u16, errors: &mut E) {
 pub fn tell_cycles<E: Write>(played: Played, session: &Session, errors: &mut E) {
     let cycles = session.cycles();
     let steps = played.steps;
-    let _ = writeln!(errors, "mos65: {cycles} cycles, {steps} steps");
+    let _ = writeln!(
+        errors,
+        "mos65: {cycles} cycles, {steps} {}",
+        step_word(steps)
+    );
 }

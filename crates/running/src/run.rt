@@ -1,11 +1,12 @@
 //! What the word `run` does.
 
 use crate::ended::{status_of_ending, tell_cycles, tell_ending};
+use crate::started::{place_named, refusal_of};
 use crate::words::{RunWords, read_words};
-use console::{PlayFault, Played, play};
+use console::{Played, play};
 use debugger::Session;
-use loading::{load, place_of};
-use program::{Refusal, refuse, refused_words};
+use loading::load;
+use program::{refuse, refused_words};
 use std::io::{Read, Write};
 use std::rt::Files;
 
@@ -32,23 +33,13 @@ fn run_words<H: Files + AllocGlobal, R: Read, O: Write, E: Write>(
         Ok(loaded) => loaded,
         Err(refusal) => return refuse(refusal, errors),
     };
-    let until = match words.until {
-        None => None,
-        Some(word) => match place_of(loaded.assembly.as_ref(), word.as_bytes()) {
-            Some(address) => Some(address),
-            None => {
-                let _ = writeln!(
-                    errors,
-                    "mos65: {word} is no name of the source and no address"
-                );
-                return 2;
-            }
-        },
+    let until = match place_named(&loaded, words.until, errors) {
+        Ok(until) => until,
+        Err(status) => return status,
     };
     match play(&mut loaded.session, until, words.steps, input, output) {
         Ok(played) => ended(words, played, &loaded.session, errors),
-        Err(PlayFault::Read) => refuse(Refusal::Read, errors),
-        Err(PlayFault::Write) => refuse(Refusal::Write, errors),
+        Err(fault) => refuse(refusal_of(fault), errors),
     }
 }
 

@@ -1,0 +1,73 @@
+//! Numbers, columns and places in a text.
+
+use crate::sites::Sites;
+use formatting::{digits_of, digits_of_address};
+use itoa::Buffer;
+use std::alloc::AllocError;
+
+/// Appends a number in decimal, with blanks before it up to a width.
+pub fn push_count(text: &mut Vec<u8>, number: u64, width: usize) -> Result<(), AllocError> {
+    let mut buffer = Buffer::new();
+    let digits = buffer.format(number).as_bytes();
+    for _ in digits.len()..width {
+        text.push(b' ')?;
+    }
+    text.extend_from_slice(digits)
+}
+
+/// Appends a number in decimal.
+pub fn push_number(text: &mut Vec<u8>, number: u64) -> Result<(), AllocError> {
+    push_count(text, number, 0)
+}
+
+/// Appends a byte as two hex digits.
+pub fn push_byte(text: &mut Vec<u8>, byte: u8) -> Result<(), AllocError> {
+    text.extend_from_slice(&digits_of(byte))
+}
+
+/// Appends an address as four hex digits.
+pub fn push_address(text: &mut Vec<u8>, address: u16) -> Result<(), AllocError> {
+    text.extend_from_slice(&digits_of_address(address))
+}
+
+/// Appends blanks up to a column of the row that begins at `from`.
+///
+/// It is called only before something follows, so that no row ends in a blank.
+pub fn push_blanks(text: &mut Vec<u8>, from: usize, column: usize) -> Result<(), AllocError> {
+    let width = text.len().saturating_sub(from);
+    for _ in width..column {
+        text.push(b' ')?;
+    }
+    Ok(())
+}
+
+/// Appends the label of an address and the file's line, as far as the source has them, each after
+/// two blanks and no further left than its column.
+pub fn push_site(
+    text: &mut Vec<u8>,
+    from: usize,
+    column: usize,
+    sites: &Sites,
+    address: u16,
+) -> Result<(), AllocError> {
+    if let Some((label, distance)) = sites.label_near(address) {
+        text.extend_from_slice(b"  ")?;
+        push_blanks(text, from, column)?;
+        text.extend_from_slice(label)?;
+        if distance > 0 {
+            text.push(b'+')?;
+            push_number(text, distance as u64)?;
+        }
+    }
+    if let Some(line) = sites.line_at(address) {
+        text.extend_from_slice(b"  ")?;
+        push_blanks(text, from, column.saturating_add(LABEL_WIDTH))?;
+        text.extend_from_slice(sites.file())?;
+        text.push(b':')?;
+        push_number(text, line.number as u64)?;
+    }
+    Ok(())
+}
+
+/// The columns of a label and two blanks. A longer label moves the line of the source to the right.
+const LABEL_WIDTH: usize = 14;
