@@ -10,4 +10,4 @@ mod words;
 
 pub use ended::{status_of_ending, tell_ending};
 pub use run::run_program;
-pub use started::{place_named, refusal_of};
+pub use started::{load_at_start, place_named, refusal_of};

@@ -1,11 +1,10 @@
 //! What the word `run` does.
 
 use crate::ended::{status_of_ending, tell_cycles, tell_ending};
-use crate::started::{place_named, refusal_of};
+use crate::started::{load_at_start, place_named, refusal_of};
 use crate::words::{RunWords, read_words};
 use console::{Played, play};
 use debugger::Session;
-use loading::load;
 use program::{refuse, refused_words};
 use std::io::{Read, Write};
 use std::rt::Files;
@@ -29,7 +28,7 @@ fn run_words<H: Files + AllocGlobal, R: Read, O: Write, E: Write>(
     output: &mut O,
     errors: &mut E,
 ) -> u8 {
-    let mut loaded = match load(rt, &words.file) {
+    let mut loaded = match load_at_start(rt, &words.file) {
         Ok(loaded) => loaded,
         Err(refusal) => return refuse(refusal, errors),
     };

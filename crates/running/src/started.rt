@@ -1,13 +1,37 @@
-//! What a word that runs a program needs besides the run: a place that a word names, and what a
-//! stream that failed means.
+//! What a word that runs a program needs besides the run: the program at its start, a place that a
+//! word names, and what a stream that failed means.
 
-ghost use Rattle.std.specs.Prelude.{◌≡◌, IfErr};
+ghost use Rattle.std.specs.Prelude.{◌≡◌, ℕ, List, Option, IfErr, IfOk, false};
+ghost use Rattle.model.specs.Event.{start};
+ghost use Rattle.model.specs.Session.{new_session};
+ghost use Rattle.model.specs.State.{input_waits};
 ghost use Rattle.running.specs.Statuses.{refusal_of};
 
 use console::PlayFault;
-use loading::{Loaded, place_of};
+use loading::{FileWords, Loaded, load, place_of};
 use program::Refusal;
 use std::io::Write;
+use std::rt::Files;
+
+/// Loads the file of the words, as `load` does. No input waits in its session.
+///
+/// # Errors
+///
+/// Those of `load`.
+pub fn load_at_start<H: Files + AllocGlobal>(
+    rt: &H,
+    words: &FileWords<'_>,
+) -> Result<Loaded, Refusal>
+    ensures started { IfOk result (λ loaded. (image : List (Option ℕ)) × (loaded.session
+        ≡ new_session 0 (start (record { profile = words.now.profile; rom = words.now.rom;
+        port = words.now.port }) image))) }
+    ensures idle { IfOk result (λ loaded. input_waits loaded.session.current.bus ≡ false) }
+{
+    match load(rt, words) {
+        Ok(loaded) => Ok(loaded),
+        Err(refusal) => Err(refusal),
+    }
+}
 
 /// Returns the address of the place that a word names, or `None` if there is no word.
 ///

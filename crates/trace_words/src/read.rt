@@ -1,0 +1,60 @@
+//! From words to what they ask for.
+
+use crate::command::command;
+use clap::ArgMatches;
+use loading::{FileWords, file_words, steps_of};
+use program_words::WordsFault;
+use std::alloc::Global;
+
+/// What the words of `trace` ask for.
+#[derive(Clone, Copy, Debug, PartialEq, Eq)]
+pub struct TraceWords<'a> {
+    /// The file to run, and its map.
+    pub file: FileWords<'a>,
+    /// The place where the trace begins, if one is named.
+    pub from: Option<&'a str>,
+    /// The place where the trace ends, if one is named.
+    pub to: Option<&'a str>,
+    /// The most steps that are made from the beginning of the trace on.
+    pub steps: u64,
+    /// Whether a row shows what its step stored.
+    pub shows_stores: bool,
+    /// Whether visits and cycles are shown in place of rows.
+    pub counts: bool,
+    /// Whether reads of memory that was never written are shown in place of rows.
+    pub finds_unwritten: bool,
+}
+
+/// Returns whether a flag is among the words.
+fn is_given(matches: &ArgMatches<'_>, name: &str) -> bool {
+    matches.get_str(name) == Some("true")
+}
+
+/// Returns what the values that were found ask for, or `None` if one is wrong.
+fn asked<'a>(matches: &ArgMatches<'a>) -> Option<TraceWords<'a>> {
+    Some(TraceWords {
+        file: file_words(matches)?,
+        from: matches.get_str("from"),
+        to: matches.get_str("to"),
+        steps: steps_of(matches.get_str("steps"))?,
+        shows_stores: is_given(matches, "stores"),
+        counts: is_given(matches, "count"),
+        finds_unwritten: is_given(matches, "unwritten"),
+    })
+}
+
+/// Reads the words of `trace`, its own name left out.
+///
+/// # Errors
+///
+/// - `Help`: the words ask for help. The text is `clap`'s.
+/// - `Usage`: a word is missing or unknown, or there are too many. The text is `clap`'s.
+/// - `Value`: an option has a value that it cannot have. Places are not looked up here.
+/// - `OutOfMemory`: an allocation failed.
+pub fn read_words<'a>(alloc: Global, words: &'a [&'a str]) -> Result<TraceWords<'a>, WordsFault> {
+    let matches = command(alloc)?.try_get_matches_from(words)?;
+    match asked(&matches) {
+        Some(words) => Ok(words),
+        None => Err(WordsFault::Value),
+    }
+}
