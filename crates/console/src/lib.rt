@@ -2,8 +2,9 @@
 //!
 //! `play` makes a whole run, and `take_turn` one turn of it. A line is read only where the program
 //! looks for input and none waits; each byte of output is written as it comes. `specs/Playing.antt`
-//! says where a run leads, and `specs/Turns.antt` where a turn does, in words of `model`. `proofs/Steps.antt` has the proof's idea: what a step takes of the input shows
-//! in the session's views.
+//! says where a run leads, and `specs/Turns.antt` where a turn does, in words of `model`.
+//! `proofs/Steps.antt` has the proof's idea: what a step takes of the input shows in the session's
+//! views.
 #![tactic(auto)]
 
 pub use ending::{Ending, PlayFault, Played};

@@ -123,8 +123,8 @@ fn reads_by(
 /// pointer, of the operand, of what it pulls from the stack, of BRK's vector.
 ///
 /// The bytes of the instruction itself are not among them. An opcode that is not documented reads
-/// nothing. An interrupt entry may come in the instruction's place. Source: MCS6500 manual, chapters
-/// 5, 6, 8 and 9; mos65 for the port.
+/// nothing. An interrupt entry may come in the instruction's place. Source: MCS6500 manual,
+/// chapters 5, 6, 8 and 9; mos65 for the port.
 #[tactic(auto, unfolding(crate::specs::Footprint::reads_here))]
 pub fn reads_here(session: &Session) -> Addresses
     ensures { result.items ≡ reads_here session.now.current }
@@ -157,9 +157,9 @@ fn stores_by(access: Access, s: u8) -> Addresses
 /// Returns the addresses that the instruction at PC stores at, before its step is made: of its
 /// operand, or of what it pushes on the stack.
 ///
-/// A store at an address of the ROM leaves the byte there as it is. An opcode that is not documented
-/// stores nothing. An interrupt entry may come in the instruction's place. Source: MCS6500 manual,
-/// chapters 5 and 8.
+/// A store at an address of the ROM leaves the byte there as it is. An opcode that is not
+/// documented stores nothing. An interrupt entry may come in the instruction's place. Source:
+/// MCS6500 manual, chapters 5 and 8.
 #[tactic(auto, unfolding(crate::specs::Footprint::stores_here))]
 pub fn stores_here(session: &Session) -> Addresses
     ensures { result.items ≡ stores_here session.now.current }

@@ -2,8 +2,8 @@
 //! reads and stores at, how often each address was executed, and which were ever written.
 //!
 //! `moment_of`, `reads_here` and `stores_here` look at a session by its views alone, and change
-//! nothing. `Tally` counts by address, `Written` keeps which addresses have a byte that somebody put
-//! there. `specs/` says what each returns.
+//! nothing. `Tally` counts by address, `Written` keeps which addresses have a byte that somebody
+//! put there. `specs/` says what each returns.
 #![tactic(auto)]
 
 pub use here::{Addresses, reads_here, stores_here};

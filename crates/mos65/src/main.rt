@@ -13,7 +13,7 @@ use strict_debug::{is_strict, strict_debug};
 use tape_cmp::tape_cmp;
 use tape_info::tape_info;
 use tape_mend::tape_mend;
-use tracing::trace;
+use tracing::trace_program;
 
 /// Does what words ask for, and returns the exit status. A word beside those of `program`, and one
 /// of them with a word that `program` does not know, is served by a crate of its own.
@@ -39,7 +39,7 @@ fn serve(rt: &HostRuntime, words: &[&str]) -> u8 {
             &mut io::writer(rt),
             &mut rt.stderr(),
         ),
-        ["trace", rest @ ..] => trace(
+        ["trace", rest @ ..] => trace_program(
             rt,
             rest,
             &mut rt.reader(),

@@ -23,8 +23,11 @@ pub fn load_at_start<H: Files + AllocGlobal>(
     words: &FileWords<'_>,
 ) -> Result<Loaded, Refusal>
     ensures started { IfOk result (λ loaded. (image : List (Option ℕ)) × (loaded.session
-        ≡ new_session 0 (start (record { profile = words.now.profile; rom = words.now.rom;
-        port = words.now.port }) image))) }
+        ≡ new_session 0 (start (record {
+          profile = words.now.profile;
+          rom = words.now.rom;
+          port = words.now.port;
+        }) image))) }
     ensures idle { IfOk result (λ loaded. input_waits loaded.session.current.bus ≡ false) }
 {
     match load(rt, words) {
@@ -37,8 +40,8 @@ pub fn load_at_start<H: Files + AllocGlobal>(
 ///
 /// # Errors
 ///
-/// The exit status 2, if the word is neither a name of the source nor an address. A line on `errors`
-/// says so; that it cannot be written changes nothing.
+/// The exit status 2, if the word is neither a name of the source nor an address. A line on
+/// `errors` says so; that it cannot be written changes nothing.
 pub fn place_named<E: Write>(
     loaded: &Loaded,
     word: Option<&str>,

@@ -42,11 +42,7 @@ fn count_of_line(tally: &Tally, line: &SourceLine) -> Count {
 }
 
 /// Returns the visits of each label, and the cycles of all addresses that belong to it.
-fn counts_of_labels(
-    alloc: Global,
-    sites: &Sites,
-    tally: &Tally,
-) -> Result<Vec<Count>, AllocError> {
+fn counts_of_labels(alloc: Global, sites: &Sites, tally: &Tally) -> Result<Vec<Count>, AllocError> {
     let mut counts = Vec::new(alloc);
     for label in sites.labels() {
         let visits = tally.at(label.address).visits;

@@ -11,11 +11,9 @@ pub struct Label {
     pub address: u16,
 }
 
-/// The labels and lines of a program by address, and the name of its file. A program without a
-/// source has none.
+/// The labels and lines of a program by address. A program without a source has none.
 #[derive(Drop)]
 pub struct Sites {
-    file: Vec<u8>,
     labels: Vec<Label>,
     lines: Vec<SourceLine>,
     /// One more than the index of the label that an address belongs to, or 0.
@@ -81,7 +79,6 @@ impl Sites {
     /// Makes the sites of a program without a source.
     pub fn new(alloc: Global) -> Sites {
         Sites {
-            file: Vec::new(alloc),
             labels: Vec::new(alloc),
             lines: Vec::new(alloc),
             label_of: Vec::new(alloc),
@@ -89,14 +86,10 @@ impl Sites {
         }
     }
 
-    /// Makes the sites of an assembled source, which was read from the file of that name.
+    /// Makes the sites of an assembled source.
     ///
     /// Errors: `AllocError` if an allocation fails.
-    pub fn of_source(
-        alloc: Global,
-        file: &str,
-        assembly: &Assembly,
-    ) -> Result<Sites, AllocError> {
+    pub fn of_source(alloc: Global, assembly: &Assembly) -> Result<Sites, AllocError> {
         let listing = assembly.listing(alloc).map_err(|_| AllocError)?;
         let labels = labels_of(alloc, assembly)?;
         let lines = lines_of(alloc, listing.as_slice())?;
@@ -110,17 +103,11 @@ impl Sites {
             put_first(&mut line_of, line.address, index);
         }
         Ok(Sites {
-            file: Vec::from_slice(alloc, file.as_bytes())?,
             labels,
             lines,
             label_of,
             line_of,
         })
-    }
-
-    /// Returns the name of the source's file: no byte if there is none.
-    pub fn file(&self) -> &[u8] {
-        self.file.as_slice()
     }
 
     /// Returns the labels in the order of definition.

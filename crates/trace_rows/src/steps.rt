@@ -3,7 +3,7 @@
 ghost use Rattle.std.specs.Prelude.{◌≤◌};
 
 use crate::sites::Sites;
-use crate::words::{push_address, push_blanks, push_byte, push_count, push_site};
+use crate::words::{SiteColumns, push_address, push_blanks, push_byte, push_count, push_site};
 use debugger::Session;
 use disasm::{TextLine, line_in};
 use footprint::{Addresses, Moment};
@@ -23,10 +23,18 @@ pub struct Step {
 const TEXT_COLUMN: usize = 26;
 /// The column of the registers.
 const REGS_COLUMN: usize = 40;
-/// The column of what was stored, or of the label if that is not shown.
+/// The column of what was stored.
 const STORES_COLUMN: usize = 70;
-/// The column of the label behind what was stored, up to three times `01FD=02 `.
-const LABEL_COLUMN: usize = 95;
+/// The columns of the label and the line where nothing stands before them.
+const SITE: SiteColumns = SiteColumns {
+    label: 70,
+    line: 84,
+};
+/// Those behind what was stored, which mostly is `01FD=02 01FC=07` at most.
+const SITE_BEHIND: SiteColumns = SiteColumns {
+    label: 87,
+    line: 97,
+};
 
 /// Returns the instruction of a moment as text.
 fn instruction(session: &Session, moment: &Moment) -> TextLine
@@ -157,9 +165,9 @@ pub fn push_step(
     push_regs(text, session.regs())?;
     if shows_stores {
         push_stores(text, from, session, &step.stores)?;
-        push_site(text, from, LABEL_COLUMN, sites, moment.regs.pc)?;
+        push_site(text, from, SITE_BEHIND, sites, moment.regs.pc)?;
     } else {
-        push_site(text, from, STORES_COLUMN, sites, moment.regs.pc)?;
+        push_site(text, from, SITE, sites, moment.regs.pc)?;
     }
     text.push(b'\n')?;
     Ok(())

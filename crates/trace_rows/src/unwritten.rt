@@ -2,7 +2,7 @@
 
 use crate::sites::Sites;
 use crate::steps::{push_entry, push_instruction};
-use crate::words::{push_address, push_blanks, push_count, push_site};
+use crate::words::{SiteColumns, push_address, push_blanks, push_count, push_site};
 use debugger::Session;
 use footprint::Moment;
 use std::alloc::AllocError;
@@ -31,11 +31,14 @@ pub struct Finding {
 
 /// The column of what is read, behind 8 digits of the step, an address, bytes and text.
 const READ_COLUMN: usize = 40;
-/// The column of the label.
-const LABEL_COLUMN: usize = 72;
+/// The columns of the label and the line.
+const SITE: SiteColumns = SiteColumns {
+    label: 72,
+    line: 86,
+};
 
-/// Appends the row of a finding: the number of the step, address, bytes and text of its instruction,
-/// what it reads, and the label and the line of the source as far as there are any.
+/// Appends the row of a finding: the number of the step, address, bytes and text of its
+/// instruction, what it reads, and the label and the line of the source as far as there are any.
 ///
 /// Errors: `AllocError` if an allocation fails.
 pub fn push_finding(
@@ -64,7 +67,7 @@ pub fn push_finding(
     }
     push_address(text, finding.address)?;
     text.extend_from_slice(b", never written")?;
-    push_site(text, from, LABEL_COLUMN, sites, moment.regs.pc)?;
+    push_site(text, from, SITE, sites, moment.regs.pc)?;
     text.push(b'\n')?;
     Ok(())
 }

@@ -41,18 +41,25 @@ pub fn push_blanks(text: &mut Vec<u8>, from: usize, column: usize) -> Result<(),
     Ok(())
 }
 
-/// Appends the label of an address and the file's line, as far as the source has them, each after
-/// two blanks and no further left than its column.
+/// Where a row has the label of its address, and the number of its line.
+#[derive(Clone, Copy)]
+pub struct SiteColumns {
+    pub label: usize,
+    pub line: usize,
+}
+
+/// Appends the label of an address and the number of its line, as far as the source has them, each
+/// after two blanks and no further left than its column: `again+4  :6`.
 pub fn push_site(
     text: &mut Vec<u8>,
     from: usize,
-    column: usize,
+    columns: SiteColumns,
     sites: &Sites,
     address: u16,
 ) -> Result<(), AllocError> {
     if let Some((label, distance)) = sites.label_near(address) {
         text.extend_from_slice(b"  ")?;
-        push_blanks(text, from, column)?;
+        push_blanks(text, from, columns.label)?;
         text.extend_from_slice(label)?;
         if distance > 0 {
             text.push(b'+')?;
@@ -61,13 +68,9 @@ pub fn push_site(
     }
     if let Some(line) = sites.line_at(address) {
         text.extend_from_slice(b"  ")?;
-        push_blanks(text, from, column.saturating_add(LABEL_WIDTH))?;
-        text.extend_from_slice(sites.file())?;
+        push_blanks(text, from, columns.line)?;
         text.push(b':')?;
         push_number(text, line.number as u64)?;
     }
     Ok(())
 }
-
-/// The columns of a label and two blanks. A longer label moves the line of the source to the right.
-const LABEL_WIDTH: usize = 14;

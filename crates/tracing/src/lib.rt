@@ -10,4 +10,4 @@ mod sheet;
 mod trace;
 mod tracer;
 
-pub use trace::trace;
+pub use trace::trace_program;

@@ -100,8 +100,9 @@ fn written_of<H: Files + AllocGlobal>(
     let written = match &loaded.assembly {
         Some(assembly) => Written::of_image(rt.alloc(), assembly.image()),
         None => {
-            let mut tape = File::open(rt, words.file.file)
-                .map_err(|error| Refusal::unreadable(&error))?;
+            let mut tape = File::open(rt, words.file.file).map_err(|error| Refusal::unreadable(
+                &error,
+            ))?;
             let image = read_tape_from(rt.alloc(), &mut tape)?;
             Written::of_image(rt.alloc(), &image)
         }
@@ -121,7 +122,7 @@ fn make_tracer<'a, H: Files + AllocGlobal>(
     let alloc = rt.alloc();
     let sites = match &loaded.assembly {
         None => Ok(Sites::new(alloc)),
-        Some(assembly) => Sites::of_source(alloc, words.file.file, assembly),
+        Some(assembly) => Sites::of_source(alloc, assembly),
     };
     let written = written_of(rt, words, loaded)?;
     match sites {
@@ -206,7 +207,7 @@ fn trace_words<H: Files + AllocGlobal, R: Read, O: Write, E: Write>(
 ///
 /// The statuses are those of `run`, and 10 if `--steps` ended the trace. Rows, or what was counted
 /// or found, go to `output`, and the program's own output to `errors`.
-pub fn trace<H: Files + AllocGlobal, R: Read, O: Write, E: Write>(
+pub fn trace_program<H: Files + AllocGlobal, R: Read, O: Write, E: Write>(
     rt: &H,
     words: &[&str],
     input: &mut R,

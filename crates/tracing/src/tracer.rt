@@ -65,7 +65,7 @@ impl<'a> Tracer<'a> {
         look_ahead(session, self.words.shows_stores || self.written.is_some())
     }
 
-    /// Counts a step: an interrupt entry by itself, and any other at the address of its instruction.
+    /// Counts a step: an interrupt entry by itself, any other at the address of its instruction.
     fn count(&mut self, moment: &Moment, is_entry: bool, cycles: u64) {
         add(&mut self.all, cycles);
         if is_entry {
@@ -142,8 +142,8 @@ impl<'a> Tracer<'a> {
         }
     }
 
-    /// Notes a step that was made: writes its row, or counts it, or looks for what it has read where
-    /// nobody ever wrote, as the words ask for. The session is in the state after the step.
+    /// Notes a step that was made: writes its row, or counts it, or looks for what it has read
+    /// where nobody ever wrote, as the words ask for. The session is in the state after the step.
     ///
     /// Errors: `OutOfMemory` if an allocation fails, `Write` if a row cannot be written.
     pub fn note<O: Write>(
