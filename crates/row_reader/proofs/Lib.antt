@@ -1,3 +1,4 @@
+mod Heads
 mod Hex
 mod Items
 mod Rows

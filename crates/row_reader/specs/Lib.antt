@@ -1,1 +1,2 @@
+pub mod HeadText
 pub mod RowText

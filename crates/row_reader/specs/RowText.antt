@@ -92,8 +92,18 @@ number_of base text =
 
 -- ---- addresses
 
+abbrev pub hex_or_undefined : List ℕ → List ℕ → Option ℕ → Reads ℕ
+hex_or_undefined text after (Some number) = Ok (number, after)
+hex_or_undefined text after None = Err (fault_at UndefinedName text)
+
+-- Four hex digits are an address where the source defines no such name.
+unfoldable pub unnamed : List ℕ → Reads ℕ
+unnamed text = if length (word_of text) == 4
+    then hex_or_undefined text (after_word text) (number_in_word Hex (word_of text))
+    else Err (fault_at UndefinedName text)
+
 abbrev pub address_or_fault : List ℕ → List ℕ → Option ℤ → Reads ℕ
-address_or_fault text after None = Err (fault_at UndefinedName text)
+address_or_fault text after None = unnamed text
 address_or_fault text after (Some (pos n)) = if nat_le n 65535 then Ok (n, after)
     else Err (fault_at AddressRange text)
 address_or_fault text after (Some (negsuc n)) = Err (fault_at AddressRange text)
@@ -103,7 +113,7 @@ abbrev pub name_of : Definitions → List ℕ → Reads ℕ
 name_of names text = if length (word_of text) == 0 then Err (fault_at Syntax text)
     else address_or_fault text (after_word text) (number_in names (word_of text))
 
--- Hex digits that begin with a digit or with `$`, or a name.
+-- Hex digits that begin with a digit or with `$`, a name, or four hex digits that are no name.
 unfoldable pub base_address_of : Definitions → List ℕ → Reads ℕ
 base_address_of names text = if begins is_digit text || is_next (byte "$") text
     then number_of Hex text else name_of names text

@@ -17,6 +17,8 @@ pub enum RowFaultKind {
     EmptyRange,
     /// A row of a file names a second source.
     SecondSource,
+    /// The first line that is not blank names no source.
+    NoSource,
     /// A request for memory was refused.
     OutOfMemory,
 }
@@ -29,6 +31,7 @@ impl fmt::Display for RowFaultKind {
             RowFaultKind::AddressRange => "this is no address",
             RowFaultKind::EmptyRange => "the last value is below the first",
             RowFaultKind::SecondSource => "a file has one source",
+            RowFaultKind::NoSource => "a file names its source first",
             RowFaultKind::OutOfMemory => "out of memory",
         };
         write!(f, "{text}")

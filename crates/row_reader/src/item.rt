@@ -200,7 +200,7 @@ fn without_first(text: &[u8]) -> &[u8]
 }
 
 /// Reads the bytes between two `"`.
-fn string_of(text: &[u8]) -> Result<(&[u8], &[u8]), RowFault>
+pub fn string_of(text: &[u8]) -> Result<(&[u8], &[u8]), RowFault>
     ensures ok { IfOk result (λ p. string_of text.now ≡ Ok (p.0.now, p.1.now)) }
     ensures err { IfErr result (λ fault. string_of text.now ≡ Err fault) }
 {

@@ -1,7 +1,7 @@
 //! The rows of a test file: what a line of it asks for and expects.
 //!
-//! `read_row` reads one line, `read_rows` all lines of a text. The definition is
-//! `specs/RowText.antt`.
+//! `read_head` reads the line that names the source, `read_row` one line after it, and `read_rows`
+//! all of these. The definitions are `specs/HeadText.antt` and `specs/RowText.antt`.
 #![tactic(auto)]
 
 pub use assembler::Assembly;
@@ -11,6 +11,7 @@ pub use row::{
 };
 
 mod fault;
+mod head;
 mod item;
 mod line;
 mod row;
@@ -18,5 +19,6 @@ mod scan;
 mod text;
 mod value;
 
+pub use head::{Head, Opened, read_head};
 pub use line::read_row;
 pub use text::read_rows;

@@ -9,7 +9,7 @@ ghost use Rattle.model.specs.Token.{begins, is_blank, is_digit, is_word_byte};
 ghost use Rattle.row_reader.specs.RowText.{address_of, address_or_fault, after_sign, after_word};
 ghost use Rattle.row_reader.specs.RowText.{base_address_of, ends, fault_at, is_next, name_of};
 ghost use Rattle.row_reader.specs.RowText.{number_in_word, number_of, number_or_fault, skip_blanks};
-ghost use Rattle.row_reader.specs.RowText.{sum_or_fault, word_of};
+ghost use Rattle.row_reader.specs.RowText.{sum_or_fault, unnamed, word_of};
 
 use crate::fault::{RowFault, RowFaultKind};
 use assembler::Assembly;
@@ -232,6 +232,22 @@ fn is_digit_next(text: &[u8]) -> bool
     }
 }
 
+/// Reads four hex digits that are no name: an address.
+#[tactic(auto, unfolding(crate::specs::RowText::unnamed))]
+fn unnamed(text: &[u8]) -> Result<(u16, &[u8]), RowFault>
+    ensures ok { IfOk result (λ p. unnamed text.now ≡ Ok (p.0, p.1.now)) }
+    ensures err { IfErr result (λ fault. unnamed text.now ≡ Err fault) }
+{
+    let word = word_of(text);
+    if word.len() != 4 {
+        return Err(fault_at(RowFaultKind::UndefinedName, text));
+    }
+    match hex_in_word(word) {
+        Some(number) => Ok((number, after_word(text))),
+        None => Err(fault_at(RowFaultKind::UndefinedName, text)),
+    }
+}
+
 /// Reads a name that the source defines: its address.
 fn name_of<'a>(names: &Assembly, text: &'a [u8]) -> Result<(u16, &'a [u8]), RowFault>
     ensures ok { IfOk result (λ p. name_of names.now.names text.now ≡ Ok (p.0, p.1.now)) }
@@ -242,7 +258,7 @@ fn name_of<'a>(names: &Assembly, text: &'a [u8]) -> Result<(u16, &'a [u8]), RowF
         return Err(fault_at(RowFaultKind::Syntax, text));
     }
     match names.value_of(word) {
-        None => Err(fault_at(RowFaultKind::UndefinedName, text)),
+        None => unnamed(text),
         Some(number) => {
             if 0 <= number && number <= 65535 {
                 Ok((number as u16, after_word(text)))
@@ -286,8 +302,8 @@ fn sum_of<'a>(
     }
 }
 
-/// Reads an address: hex digits that begin with a digit or with `$`, or a name, and what is to be
-/// added.
+/// Reads an address: hex digits that begin with a digit or with `$`, a name, or four hex digits that
+/// are no name; and what is to be added.
 #[tactic(auto, unfolding(crate::specs::RowText::address_of))]
 pub fn address_of<'a>(names: &Assembly, text: &'a [u8]) -> Result<(u16, &'a [u8]), RowFault>
     ensures ok { IfOk result (λ p. address_of names.now.names text.now ≡ Ok (p.0, p.1.now)) }

@@ -12,7 +12,7 @@ use source_lines::next_line;
 use std::alloc::Global;
 
 /// The fault of a line, with its column.
-fn fault_of(number: u32, line: &[u8], fault: RowFault) -> TextFault
+pub fn fault_of(number: u32, line: &[u8], fault: RowFault) -> TextFault
     ensures { result
         ≡ record { line = number; column = length line.now - fault.left + 1; kind = fault.kind } }
 {
