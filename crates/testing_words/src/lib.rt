@@ -1,0 +1,7 @@
+//! The words of `test`: files of rows, and the file that a report goes to.
+#![tactic(auto)]
+
+mod words;
+
+pub use program_words::WordsFault;
+pub use words::{TestWords, asks_for_help, read_words};
