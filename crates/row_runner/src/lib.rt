@@ -7,7 +7,7 @@
 
 pub use bench::{MOST_STEPS, first_failed, run_pair};
 pub use going_back::{HISTORY, restore};
-pub use passes::{CallStart, Pair, call_start, came, compares, given_all, number_of};
+pub use passes::{CallStart, Pair, call_start, came, compares, given_all, given_one, number_of};
 
 mod bench;
 mod going_back;
