@@ -1,0 +1,75 @@
+//! Places, values and rows as text.
+
+use row_reader::{Flag, Place, Range, Register, Relation};
+use std::alloc::AllocError;
+
+/// Appends bytes, with a `?` for each that is no visible character of ASCII.
+pub fn push_bytes(text: &mut String, bytes: &[u8]) -> Result<(), AllocError> {
+    for byte in bytes {
+        match *byte {
+            b' '..=b'~' => text.push(*byte as char)?,
+            b'\t' => text.push(' ')?,
+            _ => text.push('?')?,
+        }
+    }
+    Ok(())
+}
+
+fn register_name(register: Register) -> &'static str {
+    match register {
+        Register::A => "A",
+        Register::X => "X",
+        Register::Y => "Y",
+        Register::S => "S",
+        Register::P => "P",
+    }
+}
+
+fn flag_name(flag: Flag) -> &'static str {
+    match flag {
+        Flag::N => "N",
+        Flag::V => "V",
+        Flag::D => "D",
+        Flag::I => "I",
+        Flag::Z => "Z",
+        Flag::C => "C",
+    }
+}
+
+/// Appends a place as a row names it.
+pub fn push_place(text: &mut String, place: Place) -> Result<(), AllocError> {
+    match place {
+        Place::Register(register) => text.push_str(register_name(register)),
+        Place::Flag(flag) => text.push_str(flag_name(flag)),
+        Place::Byte(address) => write!(text, "[{address:04X}]"),
+        Place::Input => text.push_str("in"),
+        Place::Output(index) => write!(text, "out byte {index}"),
+        Place::OutputCount => text.push_str("bytes of out"),
+        Place::Cycles => text.push_str("cycles"),
+    }
+}
+
+/// Appends a relation as a row writes it.
+pub fn push_relation(text: &mut String, relation: Relation) -> Result<(), AllocError> {
+    text.push(match relation {
+        Relation::Equal => '=',
+        Relation::Below => '<',
+        Relation::Above => '>',
+    })
+}
+
+/// Appends a number as a row would write it for a place.
+pub fn push_number(text: &mut String, place: Place, number: u64) -> Result<(), AllocError> {
+    match place {
+        Place::Cycles | Place::OutputCount | Place::Flag(_) => write!(text, "{number}"),
+        Place::Register(_) | Place::Byte(_) | Place::Input | Place::Output(_) => {
+            write!(text, "{number:02X}")
+        }
+    }
+}
+
+/// Appends the value of a range's letter.
+pub fn push_value(text: &mut String, range: Range, value: u32) -> Result<(), AllocError> {
+    text.push(range.letter as char)?;
+    write!(text, "={value:02X}")
+}
