@@ -14,6 +14,7 @@ use tape_cmp::tape_cmp;
 use tape_info::tape_info;
 use tape_mend::tape_mend;
 use tracing::trace_program;
+use testing::test;
 
 /// Does what words ask for, and returns the exit status. A word beside those of `program`, and one
 /// of them with a word that `program` does not know, is served by a crate of its own.
@@ -23,6 +24,7 @@ fn serve(rt: &HostRuntime, words: &[&str]) -> u8 {
         ["info", rest @ ..] => tape_info(rt, rest, &mut io::writer(rt), &mut rt.stderr()),
         ["cmp", rest @ ..] => tape_cmp(rt, rest, &mut io::writer(rt), &mut rt.stderr()),
         ["mend", rest @ ..] => tape_mend(rt, rest, &mut io::writer(rt), &mut rt.stderr()),
+        ["test", rest @ ..] => test(rt, rest, &mut io::writer(rt), &mut rt.stderr()),
         ["dis", rest @ ..] if rest.contains(&"--source") => {
             dis_source(rt, rest, &mut io::writer(rt), &mut rt.stderr())
         }

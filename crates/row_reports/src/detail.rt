@@ -57,11 +57,19 @@ fn push_ending(
             if regs.s == before.stack {
                 return Ok(true);
             }
-            writeln!(text, "returned with S={:02X}, called with S={:02X}", regs.s, before.stack)?;
+            writeln!(
+                text,
+                "returned with S={:02X}, called with S={:02X}",
+                regs.s, before.stack
+            )?;
         }
         Why::Refused(fault) => writeln!(text, "stopped at {:04X}: {fault}", regs.pc)?,
         Why::Limit | Why::Break(_) | Why::Watch(_) => {
-            writeln!(text, "no return in {} steps; then at {:04X}", end.did, regs.pc)?
+            writeln!(
+                text,
+                "no return in {} steps; then at {:04X}",
+                end.did, regs.pc
+            )?
         }
     }
     Ok(false)

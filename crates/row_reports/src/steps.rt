@@ -47,11 +47,7 @@ fn push_source_line(text: &mut String, places: &Places, address: u16) -> Result<
 }
 
 /// Appends a line for the step that comes next, with the registers after it, and makes the step.
-fn push_step(
-    text: &mut String,
-    session: &mut Session,
-    places: &Places,
-) -> Result<(), AllocError> {
+fn push_step(text: &mut String, session: &mut Session, places: &Places) -> Result<(), AllocError> {
     let address = session.regs().pc;
     text.push_str("  ")?;
     let from = text.len();
