@@ -180,7 +180,8 @@ pub fn read_head(text: &[u8]) -> Result<Opened<'_>, TextFault>
     ensures ok { IfOk result (λ opened. head_from 1 (lines_of text.now)
         ≡ Ok (head_view opened.head, opened.next, lines_of opened.rest.now)) }
     ensures err { IfErr result (λ fault. head_from 1 (lines_of text.now) ≡ Err fault) }
-    ensures room { IfOk result (λ opened. opened.next + length opened.rest.now ≤ 1 + length text.now) }
+    ensures room { IfOk result
+        (λ opened. opened.next + length opened.rest.now ≤ 1 + length text.now) }
 {
     let mut rest = text;
     let mut number = 1u32;

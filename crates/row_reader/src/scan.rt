@@ -302,8 +302,8 @@ fn sum_of<'a>(
     }
 }
 
-/// Reads an address: hex digits that begin with a digit or with `$`, a name, or four hex digits that
-/// are no name; and what is to be added.
+/// Reads an address: hex digits that begin with a digit or with `$`, a name, or four hex digits
+/// that are no name; and what is to be added.
 #[tactic(auto, unfolding(crate::specs::RowText::address_of))]
 pub fn address_of<'a>(names: &Assembly, text: &'a [u8]) -> Result<(u16, &'a [u8]), RowFault>
     ensures ok { IfOk result (λ p. address_of names.now.names text.now ≡ Ok (p.0, p.1.now)) }
