@@ -5,6 +5,7 @@
 use asm_files::{asks_for_files, asm_files};
 use checking::check;
 use dis_source::dis_source;
+use mon::mon;
 use program::{program, unreadable_words};
 use running::run_program;
 use std::process::ExitCode;
@@ -34,6 +35,13 @@ fn serve(rt: &HostRuntime, words: &[&str]) -> u8 {
         ["debug", rest @ ..] if is_strict(rest) => {
             strict_debug(rt, rest, &mut rt.reader(), io::writer(rt), &mut rt.stderr()).0
         }
+        ["mon", rest @ ..] => mon(
+            rt,
+            rest,
+            &mut rt.reader(),
+            &mut io::writer(rt),
+            &mut rt.stderr(),
+        ),
         ["run", rest @ ..] => run_program(
             rt,
             rest,
