@@ -2,6 +2,6 @@
 #![tactic(auto)]
 
 mod lines;
-mod mon;
+mod serving;
 
-pub use mon::mon;
+pub use serving::mon;

@@ -3,16 +3,17 @@
 ghost use Rattle.std.specs.Prelude.{◌≤◌, length};
 
 use crate::desk::Desk;
+use crate::stops::Stop;
+use arrayvec::ArrayVec;
 use assembler::assemble_line_in;
 use formatting::{digits_of, digits_of_address};
 use model::{AsmFaultKind, Setting};
-use mon_lines::{Stretch, WatchKind};
-use mon_stops::{Break, Watch};
-use mon_views::{push_break, push_count, push_place, push_row, push_watch};
+use mon_lines::{Stretch, Test};
+use mon_views::{push_count, push_place, push_row};
 use monitor::{Event, SessionFault};
 use std::alloc::{AllocError, Global};
 
-/// The most bytes that are watched for changes.
+/// The most bytes that one watch has.
 const MOST_WATCHED: usize = 256;
 
 /// Counts the letters, digits and `_` at the front.
@@ -26,79 +27,64 @@ fn word_bytes(bytes: &[u8]) -> usize
 }
 
 impl Desk {
-    /// Sets a break, in place of one that stands there.
-    pub fn set_break(&mut self, stop: Break) -> Result<(), AllocError> {
-        let address = stop.address;
+    /// Sets a break, and keeps its tests.
+    pub fn set_break(
+        &mut self,
+        address: u16,
+        tests: ArrayVec<Test, 4>,
+        times: u32,
+    ) -> Result<(), AllocError> {
         match self.session.set_break(address) {
             Ok(()) | Err(SessionFault::AlreadySet) => {
-                push_break(
-                    &mut self.text,
-                    &self.places,
-                    address,
-                    stop.tests.as_slice(),
-                    stop.times,
-                )?;
-                self.stops.note_break(stop)?;
+                let _ = self.stops.forget_break(address);
+                self.stops.breaks.push(Stop::new(address, tests, times))?;
+                self.say("break at ")?;
+                push_place(&mut self.text, &self.places, address)?;
                 if self.places.has_lines() && self.places.line_at(address).is_none() {
-                    self.say("no line of the source begins there\n")?;
+                    self.say("; no line of the source begins there")?;
                 }
-                Ok(())
+                self.say("\n")
             }
             Err(SessionFault::OutOfMemory) => Err(AllocError),
             Err(_) => self.say("256 breaks are set; delete one first\n"),
         }
     }
 
-    /// Watches the changes of a stretch in the session, at most 256 bytes of it. Returns why it
-    /// cannot, if it cannot; some bytes are watched then.
-    fn watch_changes(&mut self, stretch: Stretch) -> Result<Option<&'static str>, AllocError> {
-        let size = (stretch.last.saturating_sub(stretch.first)) as usize;
-        if self.stops.changes.len().saturating_add(size) >= MOST_WATCHED {
-            return Ok(Some("at most 256 bytes are watched for changes\n"));
+    /// Sets a watch at each address of a stretch.
+    pub fn set_watch(&mut self, watch: Stretch) -> Result<(), AllocError> {
+        let size = (watch.last.saturating_sub(watch.first)) as usize + 1;
+        if self.stops.watched.len().saturating_add(size) > MOST_WATCHED {
+            return self.say("at most 256 bytes are watched\n");
         }
-        for address in stretch.first..=stretch.last {
+        for address in watch.first..=watch.last {
             match self.session.set_watch(address) {
                 Ok(()) | Err(SessionFault::AlreadySet) => {}
                 Err(SessionFault::OutOfMemory) => return Err(AllocError),
                 Err(SessionFault::PortAddress) => {
-                    return Ok(Some(
-                        "no byte of memory stands at the console's port; watch it with read or write\n",
-                    ));
+                    return self.say("an address of the console's port cannot be watched\n");
                 }
-                Err(_) => return Ok(Some("256 bytes are watched; delete a watch first\n")),
-            }
-        }
-        Ok(None)
-    }
-
-    /// Ends the watch of changes in the session at each address of a stretch that no watch has.
-    fn unwatch(&mut self, stretch: Stretch) {
-        for address in stretch.first..=stretch.last {
-            if !self.stops.has_access(WatchKind::Change, address) {
-                let _ = self.session.clear_watch(address);
-            }
-        }
-    }
-
-    /// Sets a watch.
-    pub fn set_watch(&mut self, watch: Watch) -> Result<(), AllocError> {
-        if watch.is_change() {
-            if let Some(words) = self.watch_changes(watch.stretch)? {
-                self.unwatch(watch.stretch);
-                return self.say(words);
+                Err(_) => return self.say("256 bytes are watched; delete a watch first\n"),
             }
         }
         self.stops.note_watch(watch)?;
-        push_watch(&mut self.text, &self.places, watch.stretch, watch.kind)
+        self.say("watch at ")?;
+        push_place(&mut self.text, &self.places, watch.first)?;
+        if watch.last > watch.first {
+            self.say(" to ")?;
+            push_place(&mut self.text, &self.places, watch.last)?;
+        }
+        self.say("\n")
     }
 
-    /// Clears the break and the first watch at an address.
+    /// Clears the break or the watch at an address.
     pub fn delete(&mut self, address: u16) -> Result<(), AllocError> {
         let is_break = self.session.clear_break(address).is_ok();
         let _ = self.stops.forget_break(address);
         let watch = self.stops.forget_watch(address);
         if let Some(watch) = watch {
-            self.unwatch(watch.stretch);
+            for at in watch.first..=watch.last {
+                let _ = self.session.clear_watch(at);
+            }
         }
         if !is_break && watch.is_none() {
             self.say("there is no break and no watch at ")?;
@@ -115,16 +101,26 @@ impl Desk {
             return self.say("no break and no watch is set\n");
         }
         for stop in &self.stops.breaks {
-            push_break(
-                &mut self.text,
-                &self.places,
-                stop.address,
-                stop.tests.as_slice(),
-                stop.times,
-            )?;
+            self.text.extend_from_slice(b"break at ")?;
+            push_place(&mut self.text, &self.places, stop.address)?;
+            if !stop.tests.is_empty() {
+                self.text.extend_from_slice(b", tests: ")?;
+                push_count(&mut self.text, stop.tests.len() as u64)?;
+            }
+            if stop.times > 1 {
+                self.text.extend_from_slice(b", times ")?;
+                push_count(&mut self.text, stop.times as u64)?;
+            }
+            self.text.push(b'\n')?;
         }
         for watch in &self.stops.watches {
-            push_watch(&mut self.text, &self.places, watch.stretch, watch.kind)?;
+            self.text.extend_from_slice(b"watch at ")?;
+            push_place(&mut self.text, &self.places, watch.first)?;
+            if watch.last > watch.first {
+                self.text.extend_from_slice(b" to ")?;
+                push_place(&mut self.text, &self.places, watch.last)?;
+            }
+            self.text.push(b'\n')?;
         }
         Ok(())
     }

@@ -2,7 +2,6 @@
 
 use crate::desk::Desk;
 use mon_lines::Command;
-use mon_stops::{Break, Watch};
 use mon_views::{
     push_calls, push_flags, push_help, push_memory, push_place, push_row, push_screen, push_stack,
     push_state,
@@ -78,12 +77,8 @@ impl Desk {
                 address,
                 tests,
                 times,
-            } => self.set_break(Break {
-                address,
-                tests,
-                times,
-            })?,
-            Command::Watch { stretch, kind } => self.set_watch(Watch { stretch, kind })?,
+            } => self.set_break(address, tests, times)?,
+            Command::Watch(watch) => self.set_watch(watch)?,
             Command::List => self.list()?,
             Command::Delete(address) => self.delete(address)?,
             Command::Set(setting) => self.set(setting)?,

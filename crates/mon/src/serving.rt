@@ -1,5 +1,7 @@
 //! What the word `mon` does.
 
+ghost use Rattle.std.specs.Prelude.{◌≡◌};
+
 use crate::lines::attend;
 use loading::{load_names, load_with_history};
 use mon_desk::Desk;
@@ -63,7 +65,9 @@ pub fn mon<H: Files + AllocGlobal, R: Read + IsTerminal, O: Write, E: Write>(
     input: &mut R,
     output: &mut O,
     errors: &mut E,
-) -> u8 {
+) -> u8
+    ensures quiet { result ≡ 0 → errors.new ≡ errors.old }
+{
     match read_words(rt.alloc(), words) {
         Ok(words) => {
             let prompts = words.prompts || input.is_terminal();
