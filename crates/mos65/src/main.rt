@@ -14,8 +14,20 @@ use strict_debug::{is_strict, strict_debug};
 use tape_cmp::tape_cmp;
 use tape_info::tape_info;
 use tape_mend::tape_mend;
-use tracing::trace_program;
 use testing::test;
+use tracing::trace_program;
+
+/// Serves `debug --strict`, and returns the exit status.
+fn debug_strictly(rt: &HostRuntime, words: &[&str]) -> u8 {
+    let (status, _) = strict_debug(
+        rt,
+        words,
+        &mut rt.reader(),
+        io::writer(rt),
+        &mut rt.stderr(),
+    );
+    status
+}
 
 /// Does what words ask for, and returns the exit status. A word beside those of `program`, and one
 /// of them with a word that `program` does not know, is served by a crate of its own.
@@ -32,9 +44,7 @@ fn serve(rt: &HostRuntime, words: &[&str]) -> u8 {
         ["asm", rest @ ..] if asks_for_files(rest) => {
             asm_files(rt, rest, &mut io::writer(rt), &mut rt.stderr())
         }
-        ["debug", rest @ ..] if is_strict(rest) => {
-            strict_debug(rt, rest, &mut rt.reader(), io::writer(rt), &mut rt.stderr()).0
-        }
+        ["debug", rest @ ..] if is_strict(rest) => debug_strictly(rt, rest),
         ["mon", rest @ ..] => mon(
             rt,
             rest,
