@@ -61,14 +61,20 @@ tested prepared found all p is same =
 pub none_tested : AreTested 0 true
 none_tested = record { files = []; count_is = refl; all_is = refl }
 
-pub one_more : (count : ℕ) (all one : Bool) → IsTested one → AreTested count all → AreTested (count + 1) (one && all)
-one_more count all one t a = record {
+pub one_more : (count : ℕ) (all one both : Bool) → both ≡ (one && all) → IsTested one → AreTested count all → AreTested (count + 1) both
+one_more count all one both e t a = record {
   files = t.file ∷ a.files;
   count_is = omega (arith, a.count_is);
-  all_is = ap (λ (b : Bool). b && list_all passes a.files) t.all_is ∙ ap (λ (b : Bool). one && b) a.all_is;
+  all_is = ap (λ (b : Bool). b && list_all passes a.files) t.all_is ∙ (ap (λ (b : Bool). one && b) a.all_is ∙ sym e);
 }
 
-pub some_tested : (count : ℕ) (all : Bool) → 1 ≤ count → AreTested count all → SomeTested all
-some_tested count all h a =
+pub all_tested : (count n : ℕ) (all : Bool) → count ≡ n → AreTested count all → AreTested n all
+all_tested count n all e a =
     let A : ℕ → Type 0 = λ k. AreTested k all in
-    record { more = count - 1; tested = subst A (omega arith) a }
+    subst A e a
+
+pub some_tested : (count : ℕ) (all one : Bool) → all ≡ one → 1 ≤ count → AreTested count all → SomeTested one
+some_tested count all one e h a =
+    let A : ℕ → Type 0 = λ k. AreTested k all in
+    let S : Bool → Type 0 = λ b. SomeTested b in
+    subst S e (record { more = count - 1; tested = subst A (omega arith) a })

@@ -31,7 +31,6 @@ fn judged(alloc: Global, file: &Prepared) -> Result<Vec<Option<Pair>>, TestFault
 }
 
 /// Runs a file and tells of its rows. Returns whether all of them pass.
-#[tactic(auto, using(crate::proofs::Facts::tested))]
 fn run_file<H: Files + AllocGlobal>(
     rt: &H,
     file: &str,
@@ -60,7 +59,7 @@ fn both(first: bool, second: bool) -> bool
 /// # Errors
 ///
 /// The index of the first file that cannot be tested, and why.
-#[tactic(auto, using(crate::proofs::Facts::none_tested, crate::proofs::Facts::one_more))]
+#[tactic(auto, using(crate::proofs::Facts::none_tested, crate::proofs::Facts::one_more, crate::proofs::Facts::all_tested))]
 pub fn run_files<H: Files + AllocGlobal>(
     rt: &H,
     files: &[&str],
@@ -69,8 +68,8 @@ pub fn run_files<H: Files + AllocGlobal>(
     ensures { IfOk result (λ all. AreTested (length files.entry.now) all) }
 {
     let mut all = true;
-    for (index, file) in files.iter().enumerate() {
-        match run_file(rt, file, reports) {
+    for index in 0..files.len() {
+        match run_file(rt, files[index], reports) {
             Ok(passes) => all = both(passes, all),
             Err(fault) => return Err((index, fault)),
         }

@@ -131,8 +131,8 @@ fn refused_plainly<E: Write>(fault: WordsFault, errors: &mut E) -> u8
 /// - 2: the words or a map are wrong. 3: memory ran out. 4: reading or writing failed.
 ///
 /// TAP goes to `output`, when all files were run; and before it the report for JUnit to its file,
-/// if one is asked for. Where a file cannot be tested, a line on `errors` says why, and nothing goes
-/// to `output`. That a line cannot be written changes no status.
+/// if one is asked for. Where a file cannot be tested, a line on `errors` says why, and `output` is
+/// left alone. That a line cannot be written changes no status.
 pub fn test<H: Files + AllocGlobal, O: Write, E: Write>(
     rt: &H,
     words: &[&str],

@@ -2,4 +2,4 @@ use Rattle.testing.specs.Tested.{AreTested}
 use Rattle.testing.proofs.files.run_files.Given as goal
 
 abbrev pub invariant-loop-index : goal.invariant-loop-index
-invariant-loop-index l = AreTested l.index l.all
+invariant-loop-index g l = AreTested l.index l.all
