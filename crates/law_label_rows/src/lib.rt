@@ -1,5 +1,6 @@
-//! The law that the source of an image with labels denotes the image: `labelled_source_denotes`,
-//! over the definitions alone.
+//! The law that the source of an image with labels denotes the image, over the definitions alone:
+//! `flagged_source_denotes` wherever labels are asked for, and `labelled_source_denotes` where the
+//! image refers to itself.
 //!
 //! `proofs` reads a label and an operand by label (`Places`, `Referring`), says what each line
 //! stands for (`Standing`), which number each label has (`Numbered`), and how the lines fill the
@@ -9,4 +10,4 @@
 
 mod law;
 
-pub use law::labelled_source_denotes;
+pub use law::{flagged_source_denotes, labelled_source_denotes};

@@ -1,0 +1,17 @@
+//! What control can reach in an image by branches, jumps and calls.
+//!
+//! `reached` is the search, whose contract says that it finds exactly what control can reach.
+//! `followed_marks` marks what was found as code and the rest as data. `specs/Reached.antt` has the
+//! definition: `ways` says where control goes from an instruction, `search` goes along, `marking`
+//! marks, `entries` says where control comes in.
+#![tactic(auto)]
+
+mod entries;
+mod marking;
+mod search;
+mod ways;
+
+pub use entries::vectors;
+pub use marking::followed_marks;
+pub use search::reached;
+pub use source_rows::Mark;

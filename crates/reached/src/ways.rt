@@ -1,0 +1,144 @@
+//! Where control goes from an instruction.
+
+ghost use Rattle.std.specs.Prelude.{◌≡◌, length, slice_index};
+ghost use Rattle.model.specs.InstructionText.{target_of};
+ghost use Rattle.source_rows.specs.Rows.{stretch};
+ghost use Rattle.reached.specs.Reached.{comes_after, fits, instruction_len, jumps};
+ghost use Rattle.reached.specs.Reached.{target_by, ways_at, ways_from};
+
+use model::{Mnemonic, Mode, Profile, Row};
+use optable::decode_in;
+use source_rows::Mark;
+use source_writer::stretch::{Bytes, stretch};
+
+/// The addresses to which control can go from an instruction: that which it names, and the one
+/// after it.
+#[derive(Clone, Copy, Debug, PartialEq, Eq)]
+pub struct Ways {
+    /// The target of a branch, a jump or a call.
+    pub target: Option<u16>,
+    /// The next instruction, if control can come there.
+    pub next: Option<u16>,
+}
+
+/// Whether control can come from an instruction to the one after it.
+fn comes_after(mnemonic: Mnemonic) -> bool
+    ensures { result ≡ comes_after mnemonic }
+{
+    match mnemonic {
+        Mnemonic::Jmp | Mnemonic::Bra | Mnemonic::Brk | Mnemonic::Rti | Mnemonic::Rts => false,
+        _ => true,
+    }
+}
+
+/// Whether an instruction jumps or calls.
+fn jumps(mnemonic: Mnemonic) -> bool
+    ensures { result ≡ jumps mnemonic }
+{
+    match mnemonic {
+        Mnemonic::Jmp | Mnemonic::Jsr => true,
+        _ => false,
+    }
+}
+
+/// The target of a branch at an address, by its second byte.
+fn branch_target(address: u16, second: u8) -> u16
+    ensures { result ≡ target_of address second }
+{
+    let next = address as u32 + 2;
+    let distance = if second < 128 {
+        second as u32
+    } else {
+        second as u32 + 65280
+    };
+    ((next + distance) % 65536) as u16
+}
+
+/// The address that an instruction names and to which it can take control.
+fn target_by(mnemonic: Mnemonic, mode: Mode, address: u16, second: u8, third: u8) -> Option<u16>
+    ensures { result ≡ target_by mnemonic mode address second third }
+{
+    match mode {
+        Mode::Abs => {
+            if jumps(mnemonic) {
+                Some(second as u16 + 256 * third as u16)
+            } else {
+                None
+            }
+        }
+        Mode::Rel => Some(branch_target(address, second)),
+        Mode::Imp | Mode::Acc | Mode::Imm | Mode::Zp | Mode::ZpX | Mode::ZpY => None,
+        Mode::AbsX | Mode::AbsY | Mode::IndX | Mode::IndY | Mode::Ind | Mode::IndZ => None,
+    }
+}
+
+/// The ways from an instruction, by its second byte and its third.
+fn ways_from(address: u16, row: Row, second: u8, third: u8) -> Ways
+    ensures { result ≡ ways_from address row second third }
+{
+    let next = (address as u32 + row.len as u32) % 65536;
+    Ways {
+        target: target_by(row.mnemonic, row.mode, address, second, third),
+        next: if comes_after(row.mnemonic) {
+            Some(next as u16)
+        } else {
+            None
+        },
+    }
+}
+
+/// The byte at an index, or 0 after the last.
+fn byte_or_0(bytes: &[u8], place: usize) -> u8
+    ensures { result ≡ slice_index bytes.now place }
+{
+    match bytes.get(place) {
+        Some(byte) => *byte,
+        None => 0,
+    }
+}
+
+/// Whether so many bytes are there, and none of them past the last address.
+fn fits(address: u16, len: u8, count: usize) -> bool
+    ensures { result ≡ fits address len count }
+{
+    (len as usize <= count) & (address as u32 + len as u32 <= 65536)
+}
+
+/// The bytes that are code from an address on, at most three.
+fn code_bytes(cells: &[Option<u8>], marks: &[Mark], address: u16) -> Bytes
+    requires { length cells.now ≡ 65536 }
+    ensures { result.items ≡ stretch cells.now marks.now Mark.Code 3 address }
+{
+    stretch(cells, marks, Mark::Code, address as usize, 3)
+}
+
+/// Returns the ways from an address: none where no instruction is.
+#[tactic(auto, unfolding(crate::specs::Reached::ways_at))]
+pub fn ways_at(profile: Profile, cells: &[Option<u8>], marks: &[Mark], address: u16) -> Ways
+    requires { length cells.now ≡ 65536 }
+    ensures { result ≡ ways_at profile cells.now marks.now address }
+{
+    let bytes = code_bytes(cells, marks, address);
+    match decode_in(profile, byte_or_0(&bytes, 0)) {
+        Some(row) if fits(address, row.len, bytes.len()) => {
+            ways_from(address, row, byte_or_0(&bytes, 1), byte_or_0(&bytes, 2))
+        }
+        _ => Ways {
+            target: None,
+            next: None,
+        },
+    }
+}
+
+/// Returns how many bytes the instruction at an address has, 1 where no instruction is.
+#[tactic(auto, unfolding(crate::specs::Reached::instruction_len))]
+pub fn instruction_len(profile: Profile, cells: &[Option<u8>], marks: &[Mark], address: u16) -> u8
+    requires { length cells.now ≡ 65536 }
+    ensures { result ≡ instruction_len profile cells.now marks.now address }
+{
+    let bytes = code_bytes(cells, marks, address);
+    match decode_in(profile, byte_or_0(&bytes, 0)) {
+        Some(row) if fits(address, row.len, bytes.len()) => row.len,
+        _ => 1,
+    }
+}
