@@ -4,12 +4,12 @@ ghost use Rattle.std.specs.Prelude.{◌≡◌, IfErr, IfOk, false};
 ghost use Rattle.assembler.specs.Assembly.{out_of_memory};
 ghost use Rattle.model.specs.Source.{Denotes};
 ghost use Rattle.model.specs.State.{Map, has_port_byte};
-ghost use Rattle.label_rows.specs.Labels.{labelled_source};
+ghost use Rattle.label_rows.specs.Labels.{flagged_source, labelled_source};
 
 use assembler::{AsmFault, AsmFaultKind, Assembly, assemble};
 use bus::{Image, MapSpec};
-use label_writer::{Mark, write_labelled_source};
-use law_label_rows::labelled_source_denotes;
+use label_writer::{Mark, write_flagged_source, write_labelled_source};
+use law_label_rows::{flagged_source_denotes, labelled_source_denotes};
 use model::Profile;
 use std::alloc::{AllocError, Global};
 
@@ -35,6 +35,30 @@ pub fn labelled_text(
     labelled_source_denotes();
     let _ = image.cells();
     write_labelled_source(alloc, profile, image, marks)
+}
+
+/// Writes the source of an image in a profile as `labelled_text` does, with labels at the lines of
+/// the flagged addresses and at no other.
+///
+/// The text is a source, and under each map of the profile at whose port the image has no byte it
+/// denotes exactly the image, whatever is flagged. The only error is that a request for memory was
+/// refused. Source: mos65.
+pub fn flagged_text(
+    alloc: Global,
+    profile: Profile,
+    image: &Image,
+    marks: &[Mark],
+    flags: &[bool],
+) -> Result<Vec<u8>, AllocError>
+    ensures text { IfOk result
+        (λ text. text.items ≡ flagged_source profile image.now marks.now flags.now) }
+    ensures denotes { IfOk result (λ text. (bus_map : Map) → bus_map.profile ≡ profile
+        → has_port_byte bus_map image.now ≡ false → Denotes bus_map text.items image.now) }
+{
+    // For the proof: the law, and what `cells` says of each image.
+    flagged_source_denotes();
+    let _ = image.cells();
+    write_flagged_source(alloc, profile, image, marks, flags)
 }
 
 /// Writes the source of an image with labels in a map's profile, and assembles it: the answer's

@@ -67,7 +67,8 @@ pub fn flags_of(
     marks: &[Mark],
 ) -> Result<Vec<bool>, AllocError>
     requires { length cells.now ≡ 65536 }
-    ensures { IfOk result (λ flags. flags.items ≡ flags_of profile cells.now marks.now) }
+    ensures exact { IfOk result (λ flags. flags.items ≡ flags_of profile cells.now marks.now) }
+    ensures len { IfOk result (λ flags. length flags.items ≡ 65536) }
 {
     let mut flags = no_flags(alloc)?;
     let mut address = 0usize;

@@ -3,7 +3,8 @@
 ghost use Rattle.std.specs.Prelude.{◌≡◌, ℕ, suc, ◌+◌, ◌≤◌, ◌++◌, length, max, false, IfOk, OnOk};
 ghost use Rattle.std.specs.List.{flat_map};
 ghost use Rattle.source_rows.specs.Rows.{ended};
-ghost use Rattle.label_rows.specs.Labels.{flags_of, labelled_lines, labelled_source, table_of};
+ghost use Rattle.label_rows.specs.Labels.{flagged_source, flags_of, labelled_lines};
+ghost use Rattle.label_rows.specs.Labels.{labelled_source, table_of};
 ghost use Rattle.model.specs.Layout.{most_names};
 
 use crate::flags::flags_of;
@@ -91,13 +92,35 @@ fn push_lines(
     Ok(())
 }
 
-/// Writes the source of an image in a profile with labels: `L_` and an address where an operand of
-/// two bytes, a branch or a vector refers to a line, and operands by label. Otherwise the lines are
+/// Writes the source of an image in a profile with labels at the lines that are flagged: `L_` and
+/// an address, and operands of two bytes, branches and vectors by label. Otherwise the lines are
 /// those of `source_writer::write_source`, but a line of data ends before a label and before a
 /// vector, and a vector that is marked as data is `.WORD`. An address without a mark is code.
 ///
 /// The only error is that a request for memory was refused. Source: mos65.
-#[tactic(auto, unfolding(label_rows::specs::Labels::labelled_source, label_rows::specs::Labels::flagged_source))]
+#[tactic(auto, unfolding(label_rows::specs::Labels::flagged_source))]
+pub fn write_flagged_source(
+    alloc: Global,
+    profile: Profile,
+    image: &Image,
+    marks: &[Mark],
+    flags: &[bool],
+) -> Result<Vec<u8>, AllocError>
+    ensures { IfOk result
+        (λ text. text.items ≡ flagged_source profile image.now marks.now flags.now) }
+{
+    let cells = image.cells();
+    let table = table_of(alloc, profile, cells, marks, flags)?;
+    let mut out = Vec::new(alloc);
+    push_lines(&mut out, profile, cells, marks, flags, table.as_slice())?;
+    Ok(out)
+}
+
+/// Writes the source of an image in a profile with labels at the lines that an operand of two bytes,
+/// a branch or a vector refers to, as `write_flagged_source` writes it.
+///
+/// The only error is that a request for memory was refused. Source: mos65.
+#[tactic(auto, unfolding(label_rows::specs::Labels::labelled_source))]
 pub fn write_labelled_source(
     alloc: Global,
     profile: Profile,
@@ -106,17 +129,6 @@ pub fn write_labelled_source(
 ) -> Result<Vec<u8>, AllocError>
     ensures { IfOk result (λ text. text.items ≡ labelled_source profile image.now marks.now) }
 {
-    let cells = image.cells();
-    let flags = flags_of(alloc, profile, cells, marks)?;
-    let table = table_of(alloc, profile, cells, marks, flags.as_slice())?;
-    let mut out = Vec::new(alloc);
-    push_lines(
-        &mut out,
-        profile,
-        cells,
-        marks,
-        flags.as_slice(),
-        table.as_slice(),
-    )?;
-    Ok(out)
+    let flags = flags_of(alloc, profile, image.cells(), marks)?;
+    write_flagged_source(alloc, profile, image, marks, flags.as_slice())
 }

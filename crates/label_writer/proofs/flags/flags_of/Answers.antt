@@ -13,8 +13,8 @@ loop-left-preserved c =
       few = omega arith;
     }
 
-pub returns : goal.returns
+pub returns-clause-exact : goal.returns-clause-exact
 unfolding flags_of
-returns c =
+returns-clause-exact c =
     let none : c.loop-left.left ≡ 0 = omega arith in
     sym (flags_end c.args.profile c.args.cells.now c.args.marks.now c.loop-left.address c.loop-left.flags.items) ∙ rw none at c.loop-left.invariant.found
