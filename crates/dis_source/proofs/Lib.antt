@@ -1,2 +1,4 @@
 pub mod Between
 pub mod Marked
+pub mod Words
+pub mod Parts

@@ -1,7 +1,9 @@
 -- What the words of `dis` with `--source` ask for, by the values that clap's definition of a parse
 -- finds among them. Source: mos65.
-use Rattle.std.specs.Prelude.{ℕ, Bool, List, Option, Some, None, codes, length, take, drop, get_or, nat_le, ◌==◌, ◌&&◌, if◌then◌else◌, option_map}
+use Rattle.std.specs.Prelude.{ℕ, Bool, List, [], ◌∷◌, Option, Some, None, codes, length, take, drop, get_or, nat_le, ◌==◌, ◌&&◌, if◌then◌else◌, option_map}
 use Rattle.clap.specs.Words.{Text}
+use Rattle.clap.specs.declared.parser.matches.Found.{Found}
+use Rattle.clap.specs.Matches.{matched_of, raw_values}
 use Rattle.model.specs.Commands.{address_of}
 use Rattle.program_words.specs.Asked.{is_flag}
 use Rattle.model.specs.declared.instruction.Profile.{Profile}
@@ -11,9 +13,11 @@ pub record SourceAsked : Type 0 where
   pub tape : Text
   pub first : ℕ
   pub last : ℕ
-  pub numbers : Option (ℕ × ℕ)
-  pub letters : Option (ℕ × ℕ)
+  pub numbers : List (ℕ × ℕ)
+  pub letters : List (ℕ × ℕ)
+  pub follow : Option (List ℕ)
   pub labels : Bool
+  pub symbols : Option Text
   pub profile : Profile
 
 -- Two addresses, the first at most the last.
@@ -28,10 +32,25 @@ range_of word =
     then addresses_of (address_of (take 4 word)) (address_of (drop 5 word))
     else None
 
--- The range that an option asks for: none where it is not there.
-abbrev pub range_asked : Option (List ℕ) → Option (Option (ℕ × ℕ))
-range_asked None = Some None
-range_asked (Some word) = option_map Some (range_of word)
+-- What each of some words is, where each is one that it can be.
+abbrev pub before_all : {A : Type 0} → Option A → Option (List A) → Option (List A)
+before_all None rest = None
+before_all (Some first) rest = option_map (λ others. first ∷ others) rest
+
+abbrev pub all_of : {A : Type 0} → (List ℕ → Option A) → List (List ℕ) → Option (List A)
+all_of read [] = Some []
+all_of read (word ∷ words) = before_all (read word) (all_of read words)
+
+-- The ranges that an option asks for: none where it is not there.
+abbrev pub ranges_asked : Option (List (List ℕ)) → Option (List (ℕ × ℕ))
+ranges_asked None = Some []
+ranges_asked (Some words) = all_of range_of words
+
+-- The addresses from which control is followed: it is followed where the option is there, and then
+-- from the vectors where no address is said.
+abbrev pub follow_asked : Option (List (List ℕ)) → Option (Option (List ℕ))
+follow_asked None = Some None
+follow_asked (Some words) = option_map Some (all_of address_of words)
 
 -- The addresses to write: all where neither is said.
 abbrev pub bounds_asked : Option (List ℕ) → Option (List ℕ) → Option (ℕ × ℕ)
@@ -47,24 +66,34 @@ profile_asked (Some word) =
     else if length word == 1 && get_or word 0 0 == 67 then Some C
     else None
 
-abbrev pub source_of_values : Option Text → Option (ℕ × ℕ) → Option (Option (ℕ × ℕ))
-    → Option (Option (ℕ × ℕ)) → Bool → Option Profile → Option SourceAsked
-source_of_values (Some tape) (Some bounds) (Some numbers) (Some letters) labels (Some profile) =
+abbrev pub source_of_values : Option Text → Option (ℕ × ℕ) → Option (List (ℕ × ℕ))
+    → Option (List (ℕ × ℕ)) → Option (Option (List ℕ)) → Bool → Option Text → Option Profile
+    → Option SourceAsked
+source_of_values (Some tape) (Some bounds) (Some numbers) (Some letters) (Some follow) labels
+    symbols (Some profile) =
     Some (record {
       tape = tape;
       first = bounds.0;
       last = bounds.1;
       numbers = numbers;
       letters = letters;
+      follow = follow;
       labels = labels;
+      symbols = symbols;
       profile = profile;
     })
-source_of_values tape bounds numbers letters labels profile = None
+source_of_values tape bounds numbers letters follow labels symbols profile = None
 
--- What the values of the names ask for, where each is one that its name can have.
-abbrev pub source_asked : (Text → Option Text) → Option SourceAsked
-source_asked value = source_of_values (value (codes "TAPE"))
+-- What the first values and all values of the names ask for, where each is one that its name can
+-- have.
+abbrev pub source_asked : (Text → Option Text) → (Text → Option (List Text)) → Option SourceAsked
+source_asked value values = source_of_values (value (codes "TAPE"))
     (bounds_asked (value (codes "LO")) (value (codes "HI")))
-    (range_asked (value (codes "data"))) (range_asked (value (codes "text")))
-    (is_flag (value (codes "labels")))
+    (ranges_asked (values (codes "data"))) (ranges_asked (values (codes "text")))
+    (follow_asked (values (codes "follow")))
+    (is_flag (value (codes "labels"))) (value (codes "symbols"))
     (profile_asked (value (codes "profile")))
+
+-- All values of a name, where clap finds the name.
+abbrev pub all_values : Found → Text → Option (List Text)
+all_values found name = option_map raw_values (matched_of found name)

@@ -1,17 +1,21 @@
 -- What is marked, and the part of an image that is written. Source: mos65.
-use Rattle.std.specs.Prelude.{ℕ, nat_le, ◌&&◌, ◌||◌, Bool, false, if◌then◌else◌, List, Option, Some, None, slice_set}
+use Rattle.std.specs.Prelude.{ℕ, nat_le, ◌&&◌, ◌||◌, Bool, false, if◌then◌else◌, List, [], ◌∷◌, Option, Some, None, slice_set}
 use Rattle.model.specs.Image.{cell_at}
 use Rattle.source_rows.specs.declared.mark.Mark.{Mark}
 use Rattle.source_rows.specs.declared.mark.Mark.TheVariants.{Code, Data, Text}
 
-abbrev pub lies_in : Option (ℕ × ℕ) → ℕ → Bool
-lies_in None address = false
-lies_in (Some range) address = nat_le range.0 address && nat_le address range.1
+abbrev pub lies_in : ℕ × ℕ → ℕ → Bool
+lies_in range address = nat_le range.0 address && nat_le address range.1
+
+-- Whether an address lies in one of some ranges.
+abbrev pub lies_in_one : List (ℕ × ℕ) → ℕ → Bool
+lies_in_one [] address = false
+lies_in_one (range ∷ ranges) address = lies_in range address || lies_in_one ranges address
 
 -- Text comes before data, and that before code. With labels the vectors, from $FFFA on, are data.
-abbrev pub mark_of : Bool → Option (ℕ × ℕ) → Option (ℕ × ℕ) → ℕ → Mark
-mark_of labels numbers letters address = if lies_in letters address then Text
-    else if lies_in numbers address || (labels && nat_le 65530 address) then Data else Code
+abbrev pub mark_of : Bool → List (ℕ × ℕ) → List (ℕ × ℕ) → ℕ → Mark
+mark_of labels numbers letters address = if lies_in_one letters address then Text
+    else if lies_in_one numbers address || (labels && nat_le 65530 address) then Data else Code
 
 -- A cell between two addresses, and nothing elsewhere.
 abbrev pub cell_between : List (Option ℕ) → ℕ → ℕ → ℕ → Option ℕ

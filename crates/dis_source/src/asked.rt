@@ -1,8 +1,9 @@
 //! What the words ask for.
-ghost use Rattle.std.specs.Prelude.{◌≡◌, option_map};
+ghost use Rattle.std.specs.Prelude.{◌≡◌, IfOk, map, option_map};
 ghost use Rattle.clap.specs.Words.{first_value, found_of};
-ghost use Rattle.dis_source.specs.Asked.{addresses_of, bounds_asked, profile_asked, range_asked};
-ghost use Rattle.dis_source.specs.Asked.{range_of, source_asked};
+ghost use Rattle.dis_source.specs.Asked.{addresses_of, all_of, all_values, bounds_asked};
+ghost use Rattle.dis_source.specs.Asked.{follow_asked, profile_asked, range_of, ranges_asked};
+ghost use Rattle.dis_source.specs.Asked.{source_asked};
 ghost use Rattle.dis_source.specs.Views.{source_view};
 ghost use Rattle.model.specs.Commands.{address_of};
 ghost use Rattle.program_words.specs.Asked.{is_flag};
@@ -12,11 +13,10 @@ use clap::ArgMatches;
 use commands::address_of;
 use model::Profile;
 use program_words::WordsFault;
-use std::alloc::Global;
+use std::alloc::{AllocError, Global};
 
-/// What the words of `dis TAPE [LO HI] --source [--labels] [--data LO-HI] [--text LO-HI] [--profile
-/// N|C]` ask for.
-#[derive(Clone, Copy, Debug, PartialEq, Eq)]
+/// What the words of `dis TAPE [LO HI] --source` and its options ask for.
+#[derive(Drop)]
 pub struct SourceWords<'a> {
     /// The file to read.
     pub tape: &'a str,
@@ -24,12 +24,16 @@ pub struct SourceWords<'a> {
     pub first: u16,
     /// The last address to write.
     pub last: u16,
-    /// The addresses of numbers, where there are any.
-    pub numbers: Option<(u16, u16)>,
-    /// The addresses of letters, where there are any.
-    pub letters: Option<(u16, u16)>,
+    /// The ranges of numbers.
+    pub numbers: Vec<(u16, u16)>,
+    /// The ranges of letters.
+    pub letters: Vec<(u16, u16)>,
+    /// Where control is followed from, if it is: from the vectors where the list is empty.
+    pub follow: Option<Vec<u16>>,
     /// Whether the source has labels.
     pub labels: bool,
+    /// The file with names for addresses, if there is one.
+    pub symbols: Option<&'a str>,
     /// The processor whose instructions are written.
     pub profile: Profile,
 }
@@ -60,15 +64,63 @@ fn range(word: &[u8]) -> Option<(u16, u16)>
     addresses(&word[..4], &word[5..])
 }
 
-/// The addresses that an option asks for, if any, or `None` where its value is wrong.
-fn range_asked(word: Option<&str>) -> Option<Option<(u16, u16)>>
-    ensures { result ≡ range_asked (option_map (λ w. w.now) word.entry) }
+/// The ranges that words write, or `None` where one is wrong.
+fn ranges(alloc: Global, words: &[&str]) -> Result<Option<Vec<(u16, u16)>>, AllocError>
+    ensures { IfOk result (λ r. option_map (λ v. v.items) r
+        ≡ all_of range_of (map (λ w. w.now) words.now)) }
 {
-    match word {
-        None => Some(None),
-        Some(word) => match range(word.as_bytes()) {
-            None => None,
-            Some(range) => Some(Some(range)),
+    let mut ranges = Vec::new(alloc);
+    for word in words {
+        match range(word.as_bytes()) {
+            Some(range) => ranges.push(range)?,
+            None => return Ok(None),
+        }
+    }
+    Ok(Some(ranges))
+}
+
+/// The ranges that an option asks for, none where it is not there, or `None` where one is wrong.
+fn ranges_asked(
+    alloc: Global,
+    words: Option<&[&str]>,
+) -> Result<Option<Vec<(u16, u16)>>, AllocError>
+    ensures { IfOk result (λ r. option_map (λ v. v.items) r
+        ≡ ranges_asked (option_map (λ s. map (λ w. w.now) s.now) words.entry)) }
+{
+    match words {
+        None => Ok(Some(Vec::new(alloc))),
+        Some(words) => ranges(alloc, words),
+    }
+}
+
+/// The addresses that words write, or `None` where one is wrong.
+fn address_list(alloc: Global, words: &[&str]) -> Result<Option<Vec<u16>>, AllocError>
+    ensures { IfOk result (λ r. option_map (λ v. v.items) r
+        ≡ all_of address_of (map (λ w. w.now) words.now)) }
+{
+    let mut addresses = Vec::new(alloc);
+    for word in words {
+        match address_of(word.as_bytes()) {
+            Some(address) => addresses.push(address)?,
+            None => return Ok(None),
+        }
+    }
+    Ok(Some(addresses))
+}
+
+/// Where control is followed from, if an option asks for it, or `None` where an address is wrong.
+fn follow_asked(
+    alloc: Global,
+    words: Option<&[&str]>,
+) -> Result<Option<Option<Vec<u16>>>, AllocError>
+    ensures { IfOk result (λ r. option_map (option_map (λ v. v.items)) r
+        ≡ follow_asked (option_map (λ s. map (λ w. w.now) s.now) words.entry)) }
+{
+    match words {
+        None => Ok(Some(None)),
+        Some(words) => match address_list(alloc, words)? {
+            None => Ok(None),
+            Some(addresses) => Ok(Some(Some(addresses))),
         },
     }
 }
@@ -122,25 +174,43 @@ fn is_given(matches: &ArgMatches<'_>, name: &str) -> bool
     }
 }
 
-/// What the values that were found ask for, or `None` where one is no value of its name.
-fn source_words<'a>(matches: &ArgMatches<'a>) -> Option<SourceWords<'a>>
-    ensures { option_map source_view result ≡ source_asked (first_value (found_of matches.now)) }
+/// What the values that were found ask for, or `None` where one is wrong.
+fn source_words<'a>(
+    alloc: Global,
+    matches: &ArgMatches<'a>,
+) -> Result<Option<SourceWords<'a>>, AllocError>
+    ensures { IfOk result (λ r. option_map source_view r
+        ≡ source_asked (first_value (found_of matches.now)) (all_values (found_of matches.now))) }
 {
-    let tape = matches.get_str("TAPE")?;
-    let bounds = bounds_asked(matches.get_str("LO"), matches.get_str("HI"))?;
-    let numbers = range_asked(matches.get_str("data"))?;
-    let letters = range_asked(matches.get_str("text"))?;
-    let labels = is_given(matches, "labels");
-    let profile = profile_asked(matches.get_str("profile"))?;
-    Some(SourceWords {
+    let Some(tape) = matches.get_str("TAPE") else {
+        return Ok(None);
+    };
+    let Some(bounds) = bounds_asked(matches.get_str("LO"), matches.get_str("HI")) else {
+        return Ok(None);
+    };
+    let Some(numbers) = ranges_asked(alloc, matches.get_strs("data"))? else {
+        return Ok(None);
+    };
+    let Some(letters) = ranges_asked(alloc, matches.get_strs("text"))? else {
+        return Ok(None);
+    };
+    let Some(follow) = follow_asked(alloc, matches.get_strs("follow"))? else {
+        return Ok(None);
+    };
+    let Some(profile) = profile_asked(matches.get_str("profile")) else {
+        return Ok(None);
+    };
+    Ok(Some(SourceWords {
         tape,
         first: bounds.0,
         last: bounds.1,
         numbers,
         letters,
-        labels,
+        follow,
+        labels: is_given(matches, "labels"),
+        symbols: matches.get_str("symbols"),
         profile,
-    })
+    }))
 }
 
 /// Reads the words after `dis`.
@@ -149,16 +219,17 @@ fn source_words<'a>(matches: &ArgMatches<'a>) -> Option<SourceWords<'a>>
 ///
 /// - `Help` where they ask for help, and `Usage` where they do not fit the command line, with
 ///   `clap`'s text.
-/// - `Value`: they fit, and a value is wrong: an address that is none, LO without HI, or a first
-///   address above the last.
+/// - `Value`: they fit, and a value is wrong: an address or a range that is none, LO without HI, or
+///   a first address above the last.
 /// - `OutOfMemory`: a request for memory was refused.
 pub fn read_source_words<'a>(
     alloc: Global,
     words: &'a [&'a str],
 ) -> Result<SourceWords<'a>, WordsFault> {
     let matches = command(alloc)?.try_get_matches_from(words)?;
-    match source_words(&matches) {
-        Some(words) => Ok(words),
-        None => Err(WordsFault::Value),
+    match source_words(alloc, &matches) {
+        Ok(Some(words)) => Ok(words),
+        Ok(None) => Err(WordsFault::Value),
+        Err(_) => Err(WordsFault::OutOfMemory),
     }
 }

@@ -20,6 +20,16 @@ fn option<'a>(alloc: Global, name: &'a str, value: &'a str, help: &'a str) -> Ar
         .help(help)
 }
 
+/// An option with several values, which can be said more than once.
+fn list<'a>(alloc: Global, name: &'a str, value: &'a str, least: usize, help: &'a str) -> Arg<'a> {
+    Arg::new(alloc, name)
+        .long(name)
+        .value_name(value)
+        .action(ArgAction::Append)
+        .num_args(least..)
+        .help(help)
+}
+
 /// An option without a value.
 fn flag<'a>(alloc: Global, name: &'a str, help: &'a str) -> Arg<'a> {
     Arg::new(alloc, name)
@@ -31,6 +41,10 @@ fn flag<'a>(alloc: Global, name: &'a str, help: &'a str) -> Arg<'a> {
 /// Returns the command line of `dis` with `--source`. The only error is that a request for memory
 /// was refused.
 pub fn command<'a>(alloc: Global) -> Result<Command<'a>, Error> {
+    let data = "Addresses of numbers [default: none]";
+    let text = "Addresses of letters [default: none]";
+    let follow = "Code is what control reaches from here, or from the vectors; the rest is data";
+    let symbols = "Labels, and names for addresses: lines NAME = $HHHH, as asm --symbols writes";
     let command = Command::new(alloc, "dis")
         .about("Writes what a tape has as a source that `asm` takes")
         .after_help("Example:\n  mos65 dis hello.tape --source --text 0210-021C > hello.a65")
@@ -45,18 +59,10 @@ pub fn command<'a>(alloc: Global) -> Result<Command<'a>, Error> {
             "Writes a source that `asm` takes, and no listing",
         ))?
         .arg(flag(alloc, "labels", "Labels where the tape refers to itself"))?
-        .arg(option(
-            alloc,
-            "data",
-            "LO-HI",
-            "Addresses of numbers [default: none]",
-        ))?
-        .arg(option(
-            alloc,
-            "text",
-            "LO-HI",
-            "Addresses of letters [default: none]",
-        ))?
+        .arg(list(alloc, "data", "LO-HI", 1, data))?
+        .arg(list(alloc, "text", "LO-HI", 1, text))?
+        .arg(list(alloc, "follow", "ADDRESS", 0, follow))?
+        .arg(option(alloc, "symbols", "FILE", symbols))?
         .arg(option(
             alloc,
             "profile",

@@ -1,35 +1,40 @@
 //! What is marked, and the part of an image that is written.
 ghost use Rattle.std.specs.Prelude.{◌≡◌, ℕ, ◌<◌, IfOk, slice_index_or, vec_len};
 ghost use Rattle.model.specs.Image.{cell_at};
-ghost use Rattle.dis_source.specs.Marks.{cell_between, lies_in, mark_of, with_cell};
+ghost use Rattle.dis_source.specs.Marks.{cell_between, lies_in, lies_in_one, mark_of};
+ghost use Rattle.dis_source.specs.Marks.{with_cell};
 
 use bus::Image;
 use model::BusFault;
 use source_text::Mark;
 use std::alloc::{AllocError, Global};
 
-/// Whether an address lies in a range, if there is one.
-fn lies_in(range: Option<(u16, u16)>, address: u16) -> bool
+/// Whether an address lies in a range.
+fn lies_in(range: (u16, u16), address: u16) -> bool
     ensures { result ≡ lies_in range address }
 {
-    match range {
-        None => false,
-        Some(range) => (range.0 <= address) & (address <= range.1),
+    (range.0 <= address) & (address <= range.1)
+}
+
+/// Whether an address lies in one of some ranges.
+fn lies_in_one(ranges: &[(u16, u16)], address: u16) -> bool
+    ensures { result ≡ lies_in_one ranges.now address }
+{
+    for range in ranges {
+        if lies_in(*range, address) {
+            return true;
+        }
     }
+    false
 }
 
 /// What an address is marked as.
-fn mark_of(
-    labels: bool,
-    numbers: Option<(u16, u16)>,
-    letters: Option<(u16, u16)>,
-    address: u16,
-) -> Mark
-    ensures { result ≡ mark_of labels numbers letters address }
+fn mark_of(labels: bool, numbers: &[(u16, u16)], letters: &[(u16, u16)], address: u16) -> Mark
+    ensures { result ≡ mark_of labels numbers.now letters.now address }
 {
-    if lies_in(letters, address) {
+    if lies_in_one(letters, address) {
         Mark::Text
-    } else if lies_in(numbers, address) | (labels & (0xfffa <= address)) {
+    } else if lies_in_one(numbers, address) | (labels & (0xfffa <= address)) {
         Mark::Data
     } else {
         Mark::Code
@@ -41,12 +46,12 @@ fn mark_of(
 pub fn marks_of(
     alloc: Global,
     labels: bool,
-    numbers: Option<(u16, u16)>,
-    letters: Option<(u16, u16)>,
+    numbers: &[(u16, u16)],
+    letters: &[(u16, u16)],
 ) -> Result<Vec<Mark>, AllocError>
     ensures len { IfOk result (λ marks. vec_len marks ≡ 65536) }
     ensures each { IfOk result (λ marks. (a : ℕ) → a < 65536
-        → slice_index_or marks.items a Mark.Code ≡ mark_of labels numbers letters a) }
+        → slice_index_or marks.items a Mark.Code ≡ mark_of labels numbers.now letters.now a) }
 {
     let mut marks = Vec::new(alloc);
     for address in 0..65536u32 {

@@ -2,7 +2,7 @@
 ghost use Rattle.std.specs.Prelude.{◌≡◌};
 ghost use Rattle.dis_source.specs.Statuses.{status_of};
 
-use model::{TapeFault, TapeFaultKind};
+use model::{AsmFault, TapeFault, TapeFaultKind};
 use papertape::TapeReadFault;
 use std::io;
 use std::io::ErrorKind;
@@ -17,6 +17,9 @@ pub enum Refusal {
     /// The tape has a fault.
     #[error("TAPE {0}")]
     Tape(TapeFault),
+    /// The source of names has a fault.
+    #[error("SYMBOLS {0}")]
+    Symbols(AsmFault),
     /// A request for memory was refused.
     #[error("OutOfMemory")]
     OutOfMemory,
@@ -29,13 +32,13 @@ pub enum Refusal {
 }
 
 impl Refusal {
-    /// Returns the exit status: 1 for a tape, 2 for the words, 3 for memory, 4 for reading and
-    /// writing.
+    /// Returns the exit status: 1 for a tape or a source of names, 2 for the words, 3 for memory, 4
+    /// for reading and writing.
     pub fn status(&self) -> u8
         ensures { result ≡ status_of self.now }
     {
         match self {
-            Refusal::Tape(_) => 1,
+            Refusal::Tape(_) | Refusal::Symbols(_) => 1,
             Refusal::Words => 2,
             Refusal::OutOfMemory => 3,
             Refusal::Read | Refusal::Write => 4,

@@ -3,17 +3,29 @@ ghost use Rattle.std.specs.Prelude.{◌≡◌, ◌≤◌, Err, OnErr};
 ghost use Rattle.dis_source.specs.Statuses.{status_of};
 
 use crate::asked::{SourceWords, read_source_words};
-use crate::marks::{between, marks_of};
 use crate::refusal::Refusal;
+use crate::written::{defined, written};
+use assembler::Assembly;
 use bus::Image;
-use label_text::labelled_text;
+use model::Profile;
 use papertape::read_tape_from;
 use program_words::WordsFault;
-use source_text::{Mark, source_text};
-use std::alloc::AllocError;
 use std::fs::File;
-use std::io::Write;
+use std::io;
+use std::io::{Read, Write};
 use std::rt::Files;
+
+/// One byte more than the longest source.
+const MOST_READ: u64 = 1_048_577;
+
+/// The bytes of a source's file, or the first of them where it is too long for a source.
+fn read_source<H: Files + AllocGlobal>(rt: &H, path: &str) -> io::Result<Vec<u8>> {
+    let mut source = Vec::new(rt.alloc());
+    File::open(rt, path)?
+        .take(MOST_READ)
+        .read_to_end(&mut source)?;
+    Ok(source)
+}
 
 /// The image of a tape's file. The tape is read in pieces.
 fn image_of<H: Files + AllocGlobal>(rt: &H, path: &str) -> Result<Image, Refusal> {
@@ -24,31 +36,24 @@ fn image_of<H: Files + AllocGlobal>(rt: &H, path: &str) -> Result<Image, Refusal
     }
 }
 
-/// The source of an image, with labels where the words ask for them.
-fn source_of<H: AllocGlobal>(
+/// What the source defines that has the names for addresses.
+fn names_of<H: Files + AllocGlobal>(
     rt: &H,
-    words: &SourceWords<'_>,
-    image: &Image,
-    marks: &[Mark],
-) -> Result<Vec<u8>, AllocError> {
-    if words.labels {
-        labelled_text(rt.alloc(), words.profile, image, marks)
-    } else {
-        source_text(rt.alloc(), words.profile, image, marks)
-    }
+    profile: Profile,
+    path: &str,
+) -> Result<Assembly, Refusal> {
+    let source = read_source(rt, path).map_err(|error| Refusal::unreadable(&error))?;
+    defined(rt.alloc(), profile, source.as_slice())
 }
 
 /// The source of what a tape's file has between the addresses of the words, with the words' marks.
 fn text_of<H: Files + AllocGlobal>(rt: &H, words: &SourceWords<'_>) -> Result<Vec<u8>, Refusal> {
-    let alloc = rt.alloc();
     let image = image_of(rt, words.tape)?;
-    let Ok(part) = between(alloc, &image, words.first, words.last) else {
-        return Err(Refusal::OutOfMemory);
+    let names = match words.symbols {
+        None => None,
+        Some(path) => Some(names_of(rt, words.profile, path)?),
     };
-    let Ok(marks) = marks_of(alloc, words.labels, words.numbers, words.letters) else {
-        return Err(Refusal::OutOfMemory);
-    };
-    match source_of(rt, words, &part, marks.as_slice()) {
+    match written(rt.alloc(), words, &image, names.as_ref()) {
         Ok(text) => Ok(text),
         Err(_) => Err(Refusal::OutOfMemory),
     }
@@ -111,10 +116,10 @@ fn finish<O: Write, E: Write>(text: Result<Vec<u8>, Refusal>, output: &mut O, er
 }
 
 /// Does what the words after `dis` ask for where `--source` is among them, and returns the exit
-/// status: 0 where the source was written, 1 where the tape is refused, 2 where the words are
-/// wrong, 3 where memory ran out, 4 where reading or writing failed. For each but 0 a line on
-/// `errors` says why; that it cannot be written changes no status. The text is whole, and the
-/// tape's file closed, before any of it is written.
+/// status: 0 where the source was written, 1 where the tape or the source of names is refused, 2
+/// where the words are wrong, 3 where memory ran out, 4 where reading or writing failed. For each
+/// but 0 a line on `errors` says why; that it cannot be written changes no status. The text is
+/// whole, and each file closed, before any of it is written.
 pub fn dis_source<H: Files + AllocGlobal, O: Write, E: Write>(
     rt: &H,
     words: &[&str],

@@ -1,0 +1,101 @@
+//! The source that the words ask for.
+
+ghost use Rattle.std.specs.Prelude.{◌≡◌, IfOk, false};
+ghost use Rattle.dis_source.specs.Written.{IsSourceOfPart};
+ghost use Rattle.model.specs.Source.{Denotes};
+ghost use Rattle.model.specs.State.{Map, has_port_byte};
+
+use crate::asked::SourceWords;
+use crate::marks::{between, marks_of};
+use crate::refusal::Refusal;
+use assembler::{AsmFaultKind, Assembly, assemble};
+use bus::{Image, MapSpec};
+use label_text::labelled_text;
+use model::Profile;
+use named_text::named_text;
+use reached::{followed_marks, vectors};
+use source_text::{Mark, source_text};
+use std::alloc::{AllocError, Global};
+
+/// Returns what a source with names for addresses defines. Its fault, or that memory ran out, is
+/// why not.
+pub fn defined(alloc: Global, profile: Profile, source: &[u8]) -> Result<Assembly, Refusal> {
+    let Ok(map) = MapSpec::new(None, 0xf000) else {
+        return Err(Refusal::Words);
+    };
+    let map = match profile {
+        Profile::N => map,
+        Profile::C => map.profile_c(),
+    };
+    match assemble(alloc, source, &map) {
+        Ok(names) => Ok(names),
+        Err(fault) => match fault.kind {
+            AsmFaultKind::OutOfMemory => Err(Refusal::OutOfMemory),
+            _ => Err(Refusal::Symbols(fault)),
+        },
+    }
+}
+
+/// The marks that the words ask for.
+fn marked(alloc: Global, words: &SourceWords<'_>, part: &Image) -> Result<Vec<Mark>, AllocError> {
+    let marks = marks_of(
+        alloc,
+        words.labels | words.symbols.is_some(),
+        words.numbers.as_slice(),
+        words.letters.as_slice(),
+    )?;
+    match &words.follow {
+        None => Ok(marks),
+        Some(starts) => {
+            let entries = vectors(part);
+            let starts = if starts.is_empty() {
+                entries.as_slice()
+            } else {
+                starts.as_slice()
+            };
+            followed_marks(alloc, words.profile, part, marks.as_slice(), starts)
+        }
+    }
+}
+
+/// The source of an image with the marks and the names that are given.
+fn source_of(
+    alloc: Global,
+    words: &SourceWords<'_>,
+    image: &Image,
+    marks: &[Mark],
+    names: Option<&Assembly>,
+) -> Result<Vec<u8>, AllocError>
+    ensures { IfOk result (λ text. (bus_map : Map) → bus_map.profile ≡ words.now.profile
+        → has_port_byte bus_map image.now ≡ false → Denotes bus_map text.items image.now) }
+{
+    match names {
+        Some(names) => named_text(alloc, words.profile, image, marks, names),
+        None => {
+            if words.labels {
+                labelled_text(alloc, words.profile, image, marks)
+            } else {
+                source_text(alloc, words.profile, image, marks)
+            }
+        }
+    }
+}
+
+/// Returns the source of what an image has between the addresses of the words, as the words ask for
+/// it: whatever they mark and name, it denotes exactly this. The only error is that a request for
+/// memory was refused.
+pub fn written(
+    alloc: Global,
+    words: &SourceWords<'_>,
+    image: &Image,
+    names: Option<&Assembly>,
+) -> Result<Vec<u8>, AllocError>
+    ensures { IfOk result (λ text. IsSourceOfPart words.now.profile image.now words.now.first
+        words.now.last text.items) }
+{
+    let Ok(part) = between(alloc, image, words.first, words.last) else {
+        return Err(AllocError);
+    };
+    let marks = marked(alloc, words, &part)?;
+    source_of(alloc, words, &part, marks.as_slice(), names)
+}
