@@ -116,8 +116,8 @@ pub fn write_flagged_source(
     Ok(out)
 }
 
-/// Writes the source of an image in a profile with labels at the lines that an operand of two bytes,
-/// a branch or a vector refers to, as `write_flagged_source` writes it.
+/// Writes the source of an image in a profile with labels at the lines that an operand of two
+/// bytes, a branch or a vector refers to, as `write_flagged_source` writes it.
 ///
 /// The only error is that a request for memory was refused. Source: mos65.
 #[tactic(auto, unfolding(label_rows::specs::Labels::labelled_source))]

@@ -31,7 +31,8 @@ fn has_port_byte(map: &MapSpec, image: &Image) -> bool
         || has_byte(image, port + 3)
 }
 
-/// The map of a profile with its port at a base, if the base is one and the image has no byte there.
+/// The map of a profile with its port at a base, if the base is one and the image has no byte
+/// there.
 fn map_at(profile: Profile, image: &Image, port: u16) -> Option<MapSpec>
     ensures profile { IfSome result (λ map. map.profile ≡ profile) }
     ensures spared { IfSome result (λ map. has_port_byte map image.now ≡ false) }
@@ -91,8 +92,8 @@ fn is_same(image: &Image, other: &Image) -> bool
     true
 }
 
-/// Returns whether a source denotes an image under a map of a profile at whose port the image has no
-/// byte, if there is such a map. The only error is that a request for memory was refused.
+/// Returns whether a source denotes an image under a map of a profile at whose port the image has
+/// no byte, if there is such a map. The only error is that a request for memory was refused.
 pub fn is_right(
     alloc: Global,
     profile: Profile,

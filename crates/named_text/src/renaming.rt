@@ -31,8 +31,8 @@ impl<'a> Naming<'a> {
     }
 }
 
-/// What stands at a place of a line: how many bytes it has after the first, and the name to write in
-/// their place.
+/// What stands at a place of a line: how many bytes it has after the first, and the name to write
+/// in their place.
 type Found<'a> = Option<(usize, &'a [u8])>;
 
 /// A label, `L_HHHH`.

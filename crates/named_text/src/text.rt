@@ -21,12 +21,12 @@ use std::alloc::{AllocError, Global};
 /// all lines, and operands are written with it, those of one byte too.
 ///
 /// A number that is no address has no name, the first name of an address stands for it, and a name
-/// of the form `L_HHHH` is left out. If the source with names is no source of the image, as where it
-/// is longer than a source may be, or has more than 8,192 names, it is written without them.
+/// of the form `L_HHHH` is left out. If the source with names is no source of the image, as where
+/// it is longer than a source may be, or has more than 8,192 names, it is written without them.
 ///
-/// Whatever the names are, the text is a source, and under each map of the profile at whose port the
-/// image has no byte it denotes exactly the image. The only error is that a request for memory was
-/// refused. Source: mos65.
+/// Whatever the names are, the text is a source, and under each map of the profile at whose port
+/// the image has no byte it denotes exactly the image. The only error is that a request for memory
+/// was refused. Source: mos65.
 pub fn named_text(
     alloc: Global,
     profile: Profile,
