@@ -3,7 +3,7 @@ use Rattle.std.specs.Prelude.{ℕ, List, [], ◌∷◌}
 use Rattle.explain.specs.Blocks.{IsTold}
 use Rattle.model.specs.declared.source_fault.AsmFault.{AsmFault}
 use Rattle.warning_notes.specs.Blocks.{IsWarnedText}
-use Rattle.warnings.specs.declared.warning.Warning.{Warning}
+use Rattle.warnings.specs.declared.kinds.Warning.{Warning}
 
 -- The faults are written, or the warnings if there is no fault.
 abbrev pub IsCheckedText : List ℕ → List AsmFault → List Warning → List ℕ → Type 0

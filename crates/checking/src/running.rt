@@ -1,6 +1,6 @@
 //! What the word `check` does.
 
-ghost use Rattle.std.specs.Prelude.{◌≡◌, ◌≤◌, Bool, IfOk, OnOk};
+ghost use Rattle.std.specs.Prelude.{◌≡◌, ◌≤◌, Bool, IfOk, OnOk, true};
 ghost use Rattle.std.specs.Io.KnownBytes.{Appends};
 ghost use Rattle.checking.specs.Found.{IsFound, TellsSlips};
 ghost use Rattle.checking.specs.Statuses.{status_of};

@@ -97,7 +97,9 @@ fn line_blocks(
 {
     let mut text = Vec::new(alloc);
     for warning in warnings {
-        let line = lines.get((warning.line as usize).saturating_sub(1)).copied();
+        let line = lines
+            .get((warning.line as usize).saturating_sub(1))
+            .copied();
         let shown = match line {
             Some(line) => line,
             None => &[],

@@ -2,8 +2,10 @@
 
 use lexer::tokens;
 use model::LineFault;
-use notes::{Name, Note, about_operand, blank_run, joined, named, noted, operand_of, push_count, said};
-use notes::word_run;
+use notes::{
+    Name, Note, about_operand, blank_run, joined, named, noted, operand_of, push_count, said,
+    word_run,
+};
 use std::alloc::{AllocError, Global};
 use warnings::WarningKind;
 
@@ -93,7 +95,10 @@ pub fn note_of(
         }
         WarningKind::LetterCase => case_note(alloc, names, number, line),
         WarningKind::NoBytes => {
-            let words = said(alloc, "the source has names, but neither an instruction nor a byte")?;
+            let words = said(
+                alloc,
+                "the source has names, but neither an instruction nor a byte",
+            )?;
             Ok(about_word(line, words))
         }
         WarningKind::AfterEnd => {
