@@ -58,13 +58,15 @@ fn load_source<H: Files + AllocGlobal>(
     rt: &H,
     words: &FileWords<'_>,
     map: MapSpec,
+    history: u32,
 ) -> Result<Loaded, Refusal>
+    requires { history ≤ 65536 }
     ensures { IfOk result (λ loaded. (image : List (Option ℕ))
-        × (loaded.session ≡ new_session 0 (start map image))) }
+        × (loaded.session ≡ new_session history (start map image))) }
 {
     let source = read_source(rt, words.file).map_err(|error| Refusal::unreadable(&error))?;
     let assembly = assemble(rt.alloc(), source.as_slice(), &map)?;
-    match Session::new(rt.alloc(), map, assembly.image(), 0) {
+    match Session::new(rt.alloc(), map, assembly.image(), history) {
         Ok(session) => Ok(Loaded {
             session,
             assembly: Some(assembly),
@@ -73,18 +75,21 @@ fn load_source<H: Files + AllocGlobal>(
     }
 }
 
-/// Returns a session on the image of a tape's file, which is read in pieces.
+/// Returns a session that holds at most `history` earlier states, on the image of a tape's file,
+/// which is read in pieces.
 fn load_tape<H: Files + AllocGlobal>(
     rt: &H,
     words: &FileWords<'_>,
     map: MapSpec,
+    history: u32,
 ) -> Result<Loaded, Refusal>
+    requires { history ≤ 65536 }
     ensures { IfOk result (λ loaded. (image : List (Option ℕ))
-        × (loaded.session ≡ new_session 0 (start map image))) }
+        × (loaded.session ≡ new_session history (start map image))) }
 {
     let mut tape = File::open(rt, words.file).map_err(|error| Refusal::unreadable(&error))?;
     let image = read_tape_from(rt.alloc(), &mut tape)?;
-    match Session::new(rt.alloc(), map, &image, 0) {
+    match Session::new(rt.alloc(), map, &image, history) {
         Ok(session) => Ok(Loaded {
             session,
             assembly: None,
@@ -106,14 +111,50 @@ pub fn load<H: Files + AllocGlobal>(rt: &H, words: &FileWords<'_>) -> Result<Loa
         (start (record { profile = words.now.profile; rom = words.now.rom; port = words.now.port })
         image))) }
 {
+    load_with_history(rt, words, 0)
+}
+
+/// Loads the file of the words as `load` does, into a session that holds up to `history` earlier
+/// states, at most 65,536.
+///
+/// # Errors
+///
+/// Those of `load`.
+pub fn load_with_history<H: Files + AllocGlobal>(
+    rt: &H,
+    words: &FileWords<'_>,
+    history: u32,
+) -> Result<Loaded, Refusal>
+    requires { history ≤ 65536 }
+    ensures { IfOk result (λ loaded. (image : List (Option ℕ))
+        × (loaded.session ≡ new_session history (start
+        (record { profile = words.now.profile; rom = words.now.rom; port = words.now.port })
+        image))) }
+{
     match map_of(words) {
         Ok(map) => {
             if words.is_tape {
-                load_tape(rt, words, map)
+                load_tape(rt, words, map, history)
             } else {
-                load_source(rt, words, map)
+                load_source(rt, words, map, history)
             }
         }
         Err(refusal) => Err(refusal),
     }
+}
+
+/// Assembles a file of names, as `asm --symbols` writes it, on the map of the words. Bytes that it
+/// has are loaded nowhere.
+///
+/// # Errors
+///
+/// In this order: `Map`, `Read`, `Source`, as `load` says. `OutOfMemory` if an allocation fails.
+pub fn load_names<H: Files + AllocGlobal>(
+    rt: &H,
+    words: &FileWords<'_>,
+    path: &str,
+) -> Result<Assembly, Refusal> {
+    let map = map_of(words)?;
+    let source = read_source(rt, path).map_err(|error| Refusal::unreadable(&error))?;
+    Ok(assemble(rt.alloc(), source.as_slice(), &map)?)
 }

@@ -1,5 +1,7 @@
 //! The values of options.
 
+ghost use Rattle.std.specs.Prelude.{◌≤◌, IfSome};
+
 use commands::address_of;
 use model::Profile;
 
@@ -62,5 +64,21 @@ pub fn steps_of(word: Option<&str>) -> Option<u64> {
     match word {
         None => Some(u64::MAX),
         Some(word) => number_of(word.as_bytes()),
+    }
+}
+
+/// Returns how many events the word after `--history` asks for, at most 65,536, or `None` if it is
+/// wrong.
+///
+/// Without the word, 65,536 are held.
+pub fn history_of(word: Option<&str>) -> Option<u32>
+    ensures { IfSome result (λ history. history ≤ 65536) }
+{
+    match word {
+        None => Some(65536),
+        Some(word) => match number_of(word.as_bytes()) {
+            Some(number) if number <= 65536 => Some(number as u32),
+            _ => None,
+        },
     }
 }

@@ -1,6 +1,6 @@
 //! From a line to what it asks for.
 
-use crate::command::{Command, Compare, Left, Register, Stretch, Test, Undoing};
+use crate::command::{Command, Compare, Left, Register, Stretch, Test, Undoing, WatchKind};
 use crate::cursor::Cursor;
 use crate::numbers::number_in;
 use crate::slip::{Slip, Why};
@@ -122,6 +122,20 @@ fn stretch<'a>(cursor: &mut Cursor<'a>, known: Known<'_>) -> Result<Stretch, Why
         return Err(Why::Missing("a last address that is not below the first"));
     }
     Ok(Stretch { first, last })
+}
+
+/// Reads `WHERE` or `WHERE..WHERE`, and `read`, `write` or `change` behind it.
+fn watched<'a>(cursor: &mut Cursor<'a>, known: Known<'_>) -> Result<Command<'a>, Why<'a>> {
+    let stretch = stretch(cursor, known)?;
+    let kind = if cursor.takes_word(b"read") {
+        WatchKind::Read
+    } else if cursor.takes_word(b"write") {
+        WatchKind::Write
+    } else {
+        let _ = cursor.takes_word(b"change");
+        WatchKind::Change
+    };
+    Ok(Command::Watch { stretch, kind })
 }
 
 /// Reads `WHERE`, `WHERE N`, `WHERE..WHERE`, or two addresses of four hex digits.
@@ -257,7 +271,7 @@ fn seeing<'a>(
         Topic::Where => Ok(Command::Where),
         Topic::History => Ok(Command::History(count(cursor, known)?.unwrap_or(10))),
         Topic::Break => break_at(cursor, known),
-        Topic::Watch => Ok(Command::Watch(stretch(cursor, known)?)),
+        Topic::Watch => watched(cursor, known),
         Topic::List => Ok(Command::List),
         Topic::Delete => Ok(Command::Delete(address(cursor, known)?)),
         Topic::Regs => Ok(Command::Regs),

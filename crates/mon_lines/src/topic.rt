@@ -137,8 +137,8 @@ impl Topic {
             Topic::History => ("history [N]", "shows the last N steps, or 10"),
             Topic::Break => ("break WHERE [if TESTS] [times N]", "stops a run there"),
             Topic::Watch => (
-                "watch WHERE[..WHERE]",
-                "stops a run when a byte there changes",
+                "watch WHERE[..WHERE] [read|write]",
+                "stops a run when a byte there changes, is read or written",
             ),
             Topic::List => ("list", "shows breaks and watches"),
             Topic::Delete => ("delete WHERE", "clears the break or the watch there"),
@@ -176,7 +176,7 @@ impl Topic {
             Topic::Where => "where",
             Topic::History => "history 5",
             Topic::Break => "break main, break $0200, break $0200 if A=$41 and X>3",
-            Topic::Watch => "watch $0010, watch $0010..$001F",
+            Topic::Watch => "watch $0010, watch $0010..$001F write",
             Topic::List => "list",
             Topic::Delete => "delete $0200",
             Topic::Regs => "regs",
@@ -207,10 +207,13 @@ fn begins_with(word: &[u8], text: &[u8]) -> bool {
 
 /// Returns the topic of a first word: of the word that it is, otherwise of the words that it
 /// begins, if they have one topic. `None` and `false` if it begins none, `None` and `true` if they
-/// have more than one topic.
+/// have more than one topic. A text without a byte begins none.
 pub fn topic_of(text: &[u8]) -> (Option<Topic>, bool) {
     if text == b"?".as_slice() {
         return (Some(Topic::Help), false);
+    }
+    if text.is_empty() {
+        return (None, false);
     }
     for (word, topic) in &WORDS {
         if word.eq_ignore_ascii_case(text) {

@@ -5,6 +5,7 @@
 use asm_files::{asks_for_files, asm_files};
 use checking::check;
 use dis_source::dis_source;
+use mon::mon;
 use program::{program, unreadable_words};
 use running::run_program;
 use std::process::ExitCode;
@@ -27,6 +28,13 @@ fn serve(rt: &HostRuntime, words: &[&str]) -> u8 {
         ["asm", rest @ ..] if asks_for_files(rest) => {
             asm_files(rt, rest, &mut io::writer(rt), &mut rt.stderr())
         }
+        ["mon", rest @ ..] => mon(
+            rt,
+            rest,
+            &mut rt.reader(),
+            &mut io::writer(rt),
+            &mut rt.stderr(),
+        ),
         ["run", rest @ ..] => run_program(
             rt,
             rest,
