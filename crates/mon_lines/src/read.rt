@@ -313,8 +313,8 @@ fn putting<'a>(
     }
 }
 
-/// Returns the decimal digits that stand where a line has an address, if there are two, three or
-/// five: a reader may mean a hex number.
+/// Returns the decimal digits that stand where a line has an address, if there are two or three: a
+/// reader may mean a hex number.
 pub fn decimal_address<'a>(line: &'a [u8]) -> Option<&'a [u8]> {
     let mut cursor = Cursor::new(line);
     let (topic, _) = topic_of(cursor.word());
@@ -324,7 +324,7 @@ pub fn decimal_address<'a>(line: &'a [u8]) -> Option<&'a [u8]> {
         _ => false,
     };
     let word = cursor.word();
-    let is_decimal = matches!(word.len(), 2 | 3 | 5) && number_in(10, word).is_some();
+    let is_decimal = matches!(word.len(), 2 | 3) && number_in(10, word).is_some();
     if has_address && is_decimal {
         Some(word)
     } else {

@@ -36,9 +36,9 @@ pub enum Topic {
     Trace,
 }
 
-/// The first words, each with its topic. A word of one letter is an abbreviation that two words
-/// would have in common.
-const WORDS: [(&[u8], Topic); 46] = [
+/// The first words, each with its topic, but for `exit`, which is not to be shortened. A word of one
+/// letter is an abbreviation that two words would have in common.
+const WORDS: [(&[u8], Topic); 45] = [
     (b"step", Topic::Step),
     (b"s", Topic::Step),
     (b"over", Topic::Over),
@@ -83,7 +83,6 @@ const WORDS: [(&[u8], Topic); 46] = [
     (b"h", Topic::Help),
     (b"quit", Topic::Quit),
     (b"q", Topic::Quit),
-    (b"exit", Topic::Quit),
     (b"trace", Topic::Trace),
 ];
 
@@ -214,6 +213,9 @@ pub fn topic_of(text: &[u8]) -> (Option<Topic>, bool) {
     }
     if text.is_empty() {
         return (None, false);
+    }
+    if text.eq_ignore_ascii_case(b"exit") {
+        return (Some(Topic::Quit), false);
     }
     for (word, topic) in &WORDS {
         if word.eq_ignore_ascii_case(text) {

@@ -1,6 +1,7 @@
 //! Back over a subroutine.
 
-ghost use Rattle.std.specs.Prelude.{◌≡◌};
+ghost use Rattle.std.specs.Prelude.{◌≡◌, ◌<◌, length};
+ghost use Rattle.model.specs.Back.{without_last};
 ghost use Rattle.mon_runs.specs.Runs.{gone_back};
 
 use debugger::Session;
@@ -19,6 +20,14 @@ fn is_start(session: &Session, undone: u32, stack: u8) -> bool {
     (undone == 1 && opcode != RTS) || (regs.s == stack && opcode == JSR)
 }
 
+/// Undoes one event.
+fn back_by_one(session: &mut Session)
+    requires { 0 < length session.old.earlier }
+    ensures { session.new ≡ without_last 1 session.old }
+{
+    let _ = session.back(1);
+}
+
 /// Undoes one event, or a whole subroutine if that event was its RTS; at most all events that are
 /// held. Returns how many it has undone. Does not allocate.
 pub fn back_over(session: &mut Session) -> u32
@@ -27,7 +36,7 @@ pub fn back_over(session: &mut Session) -> u32
     let stack = session.regs().s;
     let held = session.held();
     for undone in 0..held {
-        let _ = session.back(1);
+        back_by_one(session);
         if is_start(session, undone + 1, stack) {
             return undone + 1;
         }

@@ -1,31 +1,29 @@
 //! The runs.
 
-ghost use Rattle.std.specs.Prelude.{◌≡◌, true, IfErr, IfOk};
+ghost use Rattle.std.specs.Prelude.{◌≡◌, false, true, IfErr, IfOk};
 ghost use Rattle.model.specs.Run.{after_steps};
-ghost use Rattle.monitor.specs.Goals.{go_of, out_of, over_of};
+ghost use Rattle.model.specs.Back.{states};
+ghost use Rattle.monitor.specs.Goals.{go_of, out_of, over_of, until_of};
 ghost use Rattle.mon_stops.specs.Stops.{is_plain};
-ghost use Rattle.mon_runs.specs.Runs.{HasMade, IsLed};
+ghost use Rattle.mon_runs.specs.Runs.{HasMade, HasMadeStates, IsLed, IsLedTo};
 
 use crate::ended::{EndWhy, Ended};
 use crate::led::{Goal, lead};
-use crate::pieces::{MOST_ROUNDS, go_on, run_on};
+use crate::pieces::{MOST_LED, go_on, go_once, out_once, over_once, run_on, until_once};
 use debugger::{Session, SessionFault, Why};
 use mon_stops::Stops;
 use monitor::LedWhy;
 
-/// The most steps of `over` and of `out`, and of a run of single steps.
-const MOST_LED: u32 = 100_000_000;
-
 /// The opcode of JSR.
 const JSR: u8 = 0x20;
 
-/// Makes a JSR as one, or one step: as `monitor::over` does, for up to 100,000,000 steps.
+/// Makes a JSR as one, or one step: as `monitor::over` does, for up to 10,000,000 steps.
 pub fn over(session: &mut Session, stops: &mut Stops) -> Ended
     ensures steps { session.new ≡ after_steps result.did session.old }
-    ensures plain { is_plain stops.old ≡ true → IsLed (over_of 100000000 session.old) result session.new }
+    ensures plain { is_plain stops.old ≡ true → IsLed (over_of 10000000 session.old) result session.new }
 {
     if stops.is_plain() {
-        return Ended::of(monitor::over(session, MOST_LED));
+        return Ended::of(over_once(session));
     }
     let regs = session.regs();
     if session.peek(regs.pc) == JSR {
@@ -38,26 +36,26 @@ pub fn over(session: &mut Session, stops: &mut Stops) -> Ended
 }
 
 /// Steps until the subroutine that is running has returned: as `monitor::out` does, for up to
-/// 100,000,000 steps.
+/// 10,000,000 steps.
 pub fn out(session: &mut Session, stops: &mut Stops) -> Ended
     ensures steps { session.new ≡ after_steps result.did session.old }
-    ensures plain { is_plain stops.old ≡ true → IsLed (out_of 100000000 session.old) result session.new }
+    ensures plain { is_plain stops.old ≡ true → IsLed (out_of 10000000 session.old) result session.new }
 {
     if stops.is_plain() {
-        return Ended::of(monitor::out(session, MOST_LED));
+        return Ended::of(out_once(session));
     }
     let stack = session.regs().s;
     lead(session, stops, Goal::Left { stack }, None, MOST_LED)
 }
 
 /// Runs to a stop or until nothing is left to do: as `monitor::go` does, for up to 4,096 and then
-/// 262,144 times 4,096 steps. Where reads or writes are watched it makes at most 100,000,000.
+/// 262,144 times 4,096 steps. Where reads or writes are watched it makes at most 10,000,000.
 pub fn go(session: &mut Session, stops: &mut Stops) -> Ended
     ensures steps { HasMade result.did session.old session.new }
     ensures plain { is_plain stops.old ≡ true → IsLed (go_of 262144 session.old) result session.new }
 {
     if stops.is_plain() {
-        return Ended::of(monitor::go(session, MOST_ROUNDS));
+        return Ended::of(go_once(session));
     }
     go_to(session, stops, None)
 }
@@ -104,11 +102,14 @@ pub fn until(
     stops: &mut Stops,
     address: u16,
 ) -> Result<Ended, SessionFault>
-    ensures steps { IfOk result (λ end. HasMade end.did session.old session.new) }
-    ensures err { IfErr result (λ fault. session.new ≡ session.old) }
+    ensures plain { is_plain stops.old ≡ true → IfOk result
+        (λ end. IsLedTo (until_of address 262144 session.old) end session.new) }
+    ensures steps { IfOk result (λ end. is_plain stops.old ≡ false
+        → HasMadeStates end.did session.old session.new) }
+    ensures err { IfErr result (λ _. session.new ≡ session.old) }
 {
     if stops.is_plain() {
-        return match monitor::until(session, address, MOST_ROUNDS) {
+        return match until_once(session, address) {
             Ok(end) => Ok(Ended::of(end)),
             Err(fault) => Err(fault),
         };
@@ -116,10 +117,17 @@ pub fn until(
     match session.set_break(address) {
         Ok(()) => {
             let end = go_to(session, stops, Some(address));
-            let _ = session.clear_break(address);
+            clear_break(session, address);
             Ok(end)
         }
         Err(SessionFault::AlreadySet) => Ok(go_to(session, stops, Some(address))),
         Err(fault) => Err(fault),
     }
+}
+
+/// Clears a breakpoint, if it is set.
+fn clear_break(session: &mut Session, address: u16)
+    ensures { states session.new ≡ states session.old }
+{
+    let _ = session.clear_break(address);
 }

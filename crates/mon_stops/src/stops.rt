@@ -1,8 +1,10 @@
 //! Breaks and watches that lines have set.
 
-ghost use Rattle.std.specs.Prelude.{◌≡◌, true};
+ghost use Rattle.std.specs.Prelude.{◌≡◌, true, IfNone, IfSome};
 ghost use Rattle.std.specs.List.{list_all};
-ghost use Rattle.mon_stops.specs.Stops.{has_changes_only, is_plain, is_plain_break, stops_at};
+ghost use Rattle.mon_stops.specs.Stops.{all_hold, has_changes_only, is_plain, is_plain_break};
+ghost use Rattle.mon_stops.specs.Stops.{stops_at};
+ghost use Rattle.model.specs.State.{State};
 
 use crate::breaks::Break;
 use crate::tests::all_hold;
@@ -31,12 +33,23 @@ fn index_of(breaks: &[Break], address: u16) -> Option<usize> {
 fn has_plain_breaks(breaks: &[Break]) -> bool
     ensures { result ≡ list_all is_plain_break breaks.now }
 {
+    breaks.iter().all(|stop| stop.is_plain())
+}
+
+/// Returns the first break at an address, and its index.
+fn break_at(breaks: &[Break], address: u16) -> Option<(usize, &Break)>
+    ensures none { IfNone result ((s : State) → stops_at address breaks.now s ≡ true) }
+    ensures some { IfSome result (λ found. (s : State)
+        → stops_at address breaks.now s ≡ all_hold s found.1.now.tests.items) }
+{
+    let mut index = 0usize;
     for stop in breaks {
-        if !stop.is_plain() {
-            return false;
+        if stop.address == address {
+            return Some((index, stop));
         }
+        index = index.saturating_add(1);
     }
-    true
+    None
 }
 
 impl Stops {
@@ -62,12 +75,8 @@ impl Stops {
     pub fn has_changes_only(&self) -> bool
         ensures { result ≡ has_changes_only self.now }
     {
-        for watch in self.watches.as_slice() {
-            if !watch.is_change() {
-                return false;
-            }
-        }
-        true
+        let watches = self.watches.as_slice();
+        watches.iter().all(|watch| watch.is_change())
     }
 
     /// Counts a visit at a breakpoint, and returns whether it stops the run: whether the tests of
@@ -77,15 +86,13 @@ impl Stops {
             → stops_at address self.old.breaks.items session.now.current ≡ true }
         ensures same { self.new.breaks ≡ self.old.breaks }
     {
-        let mut index = 0usize;
-        for stop in self.breaks.as_slice() {
-            if stop.address == address {
-                return all_hold(session, stop.tests.as_slice())
-                    && count_visit(&mut self.visits, index, stop.times);
+        match break_at(self.breaks.as_slice(), address) {
+            None => true,
+            Some((index, stop)) => {
+                all_hold(session, stop.tests.as_slice())
+                    && count_visit(&mut self.visits, index, stop.times)
             }
-            index = index.saturating_add(1);
         }
-        true
     }
 
     /// Notes a break, in place of the one at its address.

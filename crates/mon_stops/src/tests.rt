@@ -58,10 +58,5 @@ pub fn holds(session: &Session, test: Test) -> bool
 pub fn all_hold(session: &Session, tests: &[Test]) -> bool
     ensures { result ≡ all_hold session.now.current tests.now }
 {
-    for test in tests {
-        if !holds(session, *test) {
-            return false;
-        }
-    }
-    true
+    tests.iter().all(|test| holds(session, *test))
 }
