@@ -1,4 +1,4 @@
-//! Visits and cycles by label, by line and elsewhere.
+//! Counts visits and cycles for each label and each line, and for what belongs to none.
 
 use crate::lines::SourceLine;
 use crate::sites::Sites;
