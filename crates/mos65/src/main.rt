@@ -14,6 +14,7 @@ use strict_debug::{is_strict, strict_debug};
 use tape_cmp::tape_cmp;
 use tape_info::tape_info;
 use tape_mend::tape_mend;
+use tracing::trace_program;
 
 /// Serves `debug --strict`, and returns the exit status.
 fn debug_strictly(rt: &HostRuntime, words: &[&str]) -> u8 {
@@ -50,6 +51,13 @@ fn serve(rt: &HostRuntime, words: &[&str]) -> u8 {
             &mut rt.stderr(),
         ),
         ["run", rest @ ..] => run_program(
+            rt,
+            rest,
+            &mut rt.reader(),
+            &mut io::writer(rt),
+            &mut rt.stderr(),
+        ),
+        ["trace", rest @ ..] => trace_program(
             rt,
             rest,
             &mut rt.reader(),

@@ -128,6 +128,7 @@ fn debug_command<'a>(alloc: Global) -> Result<Command<'a>, Error>
 const STATUSES: &str = "Other words:
   run SOURCE           runs a program: its console is the terminal
   mon SOURCE           a monitor for people: names, breaks, steps and the way back
+  trace SOURCE         a row for each step, or how often each line was reached
   check SOURCE         tells all faults of a source, each with what a person needs
   info TAPE            tells what a tape holds
   cmp TAPE TAPE        tells where two tapes differ

@@ -1,0 +1,13 @@
+//! The word `trace`: a program that runs with the process's streams for its console, and what each
+//! of its steps did.
+//!
+//! The program is run turn by turn, as the word `run` runs it. `trace_rows` writes the rows,
+//! `footprint` says what a step is about to touch and keeps what was counted.
+#![tactic(auto)]
+
+mod notes;
+mod sheet;
+mod trace;
+mod tracer;
+
+pub use trace::trace_program;
