@@ -14,6 +14,7 @@ use strict_debug::{is_strict, strict_debug};
 use tape_cmp::tape_cmp;
 use tape_info::tape_info;
 use tape_mend::tape_mend;
+use testing::test;
 use tracing::trace_program;
 
 /// Serves `debug --strict`, and returns the exit status.
@@ -36,6 +37,7 @@ fn serve(rt: &HostRuntime, words: &[&str]) -> u8 {
         ["info", rest @ ..] => tape_info(rt, rest, &mut io::writer(rt), &mut rt.stderr()),
         ["cmp", rest @ ..] => tape_cmp(rt, rest, &mut io::writer(rt), &mut rt.stderr()),
         ["mend", rest @ ..] => tape_mend(rt, rest, &mut io::writer(rt), &mut rt.stderr()),
+        ["test", rest @ ..] => test(rt, rest, &mut io::writer(rt), &mut rt.stderr()),
         ["dis", rest @ ..] if rest.contains(&"--source") => {
             dis_source(rt, rest, &mut io::writer(rt), &mut rt.stderr())
         }

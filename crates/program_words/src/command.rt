@@ -130,6 +130,7 @@ const STATUSES: &str = "Other words:
   mon SOURCE           a monitor for people: names, breaks, steps and the way back
   trace SOURCE         a row for each step, or how often each line was reached
   check SOURCE         tells all faults of a source, each with what a person needs
+  test FILE.t65        tests routines by rows: a call, and what it has to leave
   info TAPE            tells what a tape holds
   cmp TAPE TAPE        tells where two tapes differ
   mend TAPE OUT        writes a tape whose line ends and end record are right

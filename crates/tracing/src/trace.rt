@@ -45,7 +45,7 @@ fn run_to_start<R: Read, E: Write>(
         }
         let ahead = tracer.look_ahead(session);
         match take_turn(session, player, input, errors) {
-            Ok(None) => tracer.pass(session, &ahead),
+            Ok(None) => tracer.pass(session, ahead),
             Ok(Some(ending)) => return Ok(Some(ending)),
             Err(fault) => return Err(fault),
         }

@@ -133,13 +133,15 @@ impl<'a> Tracer<'a> {
 
     /// Notes a step that was made before the trace began: where it stored, and nothing else. The
     /// session is in the state after the step.
-    pub fn pass(&mut self, session: &Session, ahead: &Ahead) {
-        if ahead.moment.was_entered(session) {
-            let stores = entry_stores(ahead.moment.regs.s);
-            self.note_stores(&kept(session, &self.words.file, &stores));
+    pub fn pass(&mut self, session: &Session, ahead: Ahead) {
+        let moment = ahead.moment;
+        let stores = if moment.was_entered(session) {
+            entry_stores(moment.regs.s)
         } else {
-            self.note_stores(&kept(session, &self.words.file, &ahead.stores));
-        }
+            ahead.stores
+        };
+        let stores = kept(session, &self.words.file, &stores);
+        self.note_stores(&stores);
     }
 
     /// Notes a step that was made: writes its row, or counts it, or looks for what it has read
