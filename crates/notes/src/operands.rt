@@ -1,0 +1,48 @@
+//! The tokens of a line's operation.
+
+use crate::runs::blank_run;
+use crate::words::{Note, noted};
+use line_parts::Token;
+use model::TokenKind;
+
+/// Returns whether a token is this symbol.
+pub fn is_symbol(token: &Token<'_>, symbol: u8) -> bool {
+    match (token.kind, token.text) {
+        (TokenKind::Symbol, [byte]) => *byte == symbol,
+        _ => false,
+    }
+}
+
+/// Returns the tokens after a label, all where there is none.
+pub fn after_label<'t, 'a>(tokens: &'t [Token<'a>]) -> &'t [Token<'a>] {
+    match tokens {
+        [_, colon, rest @ ..] if is_symbol(colon, b':') => rest,
+        _ => tokens,
+    }
+}
+
+/// Returns the tokens after the first one of an operation, or after the `=` of a definition.
+pub fn operand_of<'t, 'a>(tokens: &'t [Token<'a>]) -> &'t [Token<'a>] {
+    match after_label(tokens) {
+        [_, equals, value @ ..] if is_symbol(equals, b'=') => value,
+        [_, operand @ ..] => operand,
+        [] => &[],
+    }
+}
+
+/// Words about the operand of a line, or about all of it where it has none.
+pub fn about_operand(line: &[u8], tokens: &[Token<'_>], words: Vec<u8>) -> Note {
+    let operand = operand_of(tokens);
+    let meant = if operand.is_empty() {
+        after_label(tokens)
+    } else {
+        operand
+    };
+    match (meant.first(), meant.last()) {
+        (Some(first), Some(last)) => {
+            let end = last.start.saturating_add(last.text.len());
+            noted(first.start, end.saturating_sub(first.start), words)
+        }
+        _ => noted(blank_run(line), 1, words),
+    }
+}
