@@ -80,7 +80,8 @@ fn placed<'a>(
     text: &'a [u8],
     found: &Found<'_>,
 ) -> Result<PlacedLine<'a>, AllocError>
-    ensures { IfOk result (λ line. placed_view line ≡ placed profile text.now (found_view found.now)) }
+    ensures { IfOk result
+        (λ line. placed_view line ≡ placed profile text.now (found_view found.now)) }
 {
     let line = said(alloc, profile, room, text)?;
     let extent = extent_of(found);
