@@ -1,8 +1,8 @@
 //! What the word `check` does.
 
-ghost use Rattle.std.specs.Prelude.{◌≡◌, ◌≤◌, IfOk, OnOk};
+ghost use Rattle.std.specs.Prelude.{◌≡◌, ◌≤◌, Bool, IfOk, OnOk, true};
 ghost use Rattle.std.specs.Io.KnownBytes.{Appends};
-ghost use Rattle.checking.specs.Found.{IsFound, TellsFaults};
+ghost use Rattle.checking.specs.Found.{IsFound, TellsSlips};
 ghost use Rattle.checking.specs.Statuses.{status_of};
 
 use crate::refusal::Refusal;
@@ -104,7 +104,7 @@ fn refuse<E: Write>(refusal: Refusal, errors: &mut E) -> u8
 /// Writes why words are rejected, or the help that they ask for, and returns the exit status.
 fn refused_words<O: Write, E: Write>(fault: WordsFault, output: &mut O, errors: &mut E) -> u8
     ensures status { result ≤ 4 }
-    ensures told { result ≡ 1 → TellsFaults (O.contents output.old) (O.contents output.new) }
+    ensures told { result ≡ 1 → TellsSlips true (O.contents output.old) (O.contents output.new) }
     ensures quiet { result ≤ 1 → errors.new ≡ errors.old }
     ensures untouched { 2 ≤ result → result ≤ 3 → output.new ≡ output.old }
 {
@@ -125,19 +125,27 @@ fn refused_words<O: Write, E: Write>(fault: WordsFault, output: &mut O, errors: 
 /// Writes what was found of a source, or why nothing was, and returns the exit status.
 fn finish<O: Write, E: Write>(
     file: &str,
+    strict: bool,
     found: Result<CheckedText, Refusal>,
     output: &mut O,
     errors: &mut E,
 ) -> u8
     requires { IfOk found IsFound }
     ensures status { result ≤ 4 }
-    ensures told { result ≡ 1 → TellsFaults (O.contents output.old) (O.contents output.new) }
+    ensures told { result ≡ 1
+        → TellsSlips strict (O.contents output.old) (O.contents output.new) }
     ensures quiet { result ≤ 1 → errors.new ≡ errors.old }
     ensures untouched { 2 ≤ result → result ≤ 3 → output.new ≡ output.old }
 {
     match found {
         Ok(found) => match write_text(output, &found.text) {
-            Ok(()) => { if found.is_faulty { 1 } else { 0 } }
+            Ok(()) => {
+                if found.is_faulty || (strict && found.is_warned) {
+                    1
+                } else {
+                    0
+                }
+            }
             Err(_) => refuse(Refusal::Write, errors),
         },
         Err(Refusal::LooksLikeTape) => {
@@ -151,9 +159,10 @@ fn finish<O: Write, E: Write>(
 /// Does what the words of `check` ask for, its own name left out, and returns the exit status.
 ///
 /// It is 0 if the source has no fault, 1 if it has one, 2 if the words or the map are wrong or the
-/// file looks like a tape, 3 if memory ran out, 4 if reading or writing failed. The blocks of the
-/// faults go to `output`. For 2 and above a line on `errors` says why; the status is the same if it
-/// cannot be written.
+/// file looks like a tape, 3 if memory ran out, 4 if reading or writing failed. With `--strict` it
+/// is also 1 if the source has a warning. The blocks of the faults go to `output`, or those of the
+/// warnings if the source has no fault. For 2 and above a line on `errors` says why; the status is
+/// the same if it cannot be written.
 pub fn check<H: Files + AllocGlobal, O: Write, E: Write>(
     rt: &H,
     words: &[&str],
@@ -161,8 +170,10 @@ pub fn check<H: Files + AllocGlobal, O: Write, E: Write>(
     errors: &mut E,
 ) -> u8
     ensures status { result ≤ 4 }
-    // If the status is 1, the blocks of all faults of some source were written.
-    ensures told { result ≡ 1 → TellsFaults (O.contents output.old) (O.contents output.new) }
+    // If the status is 1, the blocks of all faults of some source were written, or those of its
+    // warnings where these count.
+    ensures told { result ≡ 1 → (strict : Bool)
+        × TellsSlips strict (O.contents output.old) (O.contents output.new) }
     // If a source was checked, nothing is written on the error stream.
     ensures quiet { result ≤ 1 → errors.new ≡ errors.old }
     // Words, a map or a tape that are rejected leave the output unchanged; so does memory that
@@ -170,7 +181,13 @@ pub fn check<H: Files + AllocGlobal, O: Write, E: Write>(
     ensures untouched { 2 ≤ result → result ≤ 3 → output.new ≡ output.old }
 {
     match read_words(rt.alloc(), words) {
-        Ok(words) => finish(words.source, checked(rt, &words), output, errors),
+        Ok(words) => finish(
+            words.source,
+            words.strict,
+            checked(rt, &words),
+            output,
+            errors,
+        ),
         Err(fault) => refused_words(fault, output, errors),
     }
 }

@@ -6,7 +6,7 @@ use commands::address_of;
 use model::Profile;
 use std::alloc::Global;
 
-/// What the words of `check SOURCE [--port HHHH] [--profile N|C]` ask for.
+/// What the words of `check SOURCE [--strict] [--port HHHH] [--profile N|C]` ask for.
 #[derive(Clone, Copy, Debug, PartialEq, Eq)]
 pub struct CheckWords<'a> {
     /// The file to read.
@@ -15,6 +15,8 @@ pub struct CheckWords<'a> {
     pub port: u16,
     /// The processor whose instructions the source is written in.
     pub profile: Profile,
+    /// Whether a warning counts as a fault does for the exit status.
+    pub strict: bool,
 }
 
 /// Why the words ask for nothing that can be done.
@@ -57,14 +59,19 @@ fn command<'a>(alloc: Global) -> Result<Command<'a>, Error> {
         .required(true)
         .action(ArgAction::Set)
         .help("The source to check");
+    let strict = Arg::new(alloc, "strict")
+        .long("strict")
+        .action(ArgAction::SetTrue)
+        .help("End with 1 if there is a warning");
     let command = Command::new(alloc, "check")
-        .about("Tells all faults of a source")
+        .about("Tells all faults of a source, or its warnings if it has no fault")
         .after_help(
-            "Exit status: 0 no fault, 1 a fault, 2 words or map wrong, 3 memory, 4 reading or writing\n\nExample:\n  mos65 check hello.a65",
+            "Exit status: 0 no fault, 1 a fault (with --strict also a warning), 2 words or map wrong, 3 memory, 4 reading or writing\n\nExample:\n  mos65 check hello.a65",
         )
         .no_binary_name(true)
         .bin_name("mos65 check")?
         .arg(source)?
+        .arg(strict)?
         .arg(option(alloc, "port", "HHHH", port))?
         .arg(option(alloc, "profile", "N|C", profile))?;
     Ok(command)
@@ -94,6 +101,7 @@ fn asked<'a>(matches: &ArgMatches<'a>) -> Option<CheckWords<'a>> {
         source: matches.get_str("SOURCE")?,
         port: port_of(matches.get_str("port"))?,
         profile: profile_of(matches.get_str("profile"))?,
+        strict: matches.get_str("strict") == Some("true"),
     })
 }
 

@@ -77,11 +77,7 @@ fn note_items(alloc: Global, names: &mut Symbols, items: &[Item<'_>]) -> Result<
 }
 
 /// Notes the names of an operand.
-fn note_operand(
-    alloc: Global,
-    names: &mut Symbols,
-    operand: &Operand<'_>,
-) -> Result<(), AllocError>
+fn note_operand(alloc: Global, names: &mut Symbols, operand: &Operand<'_>) -> Result<(), AllocError>
     ensures { OnOk result
         (names.new ≡ used_in_operand (term_of (operand_view operand.now)) names.old) }
 {
@@ -112,11 +108,7 @@ fn note_statement(
 }
 
 /// Notes the names of a line.
-fn note_line(
-    alloc: Global,
-    names: &mut Symbols,
-    line: &Option<Line<'_>>,
-) -> Result<(), AllocError>
+fn note_line(alloc: Global, names: &mut Symbols, line: &Option<Line<'_>>) -> Result<(), AllocError>
     ensures { OnOk result (names.new ≡ used_in_line (map_option line_view line.now) names.old) }
 {
     match line {

@@ -3,11 +3,11 @@
 //! `line` judges one line, `looked` all lines and those after `.END`, `warnings` a whole source.
 #![tactic(auto)]
 
+mod kinds;
 mod line;
 mod looked;
-mod kinds;
 mod warnings;
 
-pub use line::{is_silenced, name_in};
 pub use kinds::{Warning, WarningKind};
+pub use line::{is_silenced, name_in};
 pub use warnings::source_warnings;

@@ -55,7 +55,9 @@ pub fn is_unused(used: &Symbols, name: Option<&[u8]>) -> bool
 fn in_capitals(alloc: Global, name: &[u8]) -> Result<Vec<u8>, AllocError>
     ensures { IfOk result (λ text. text.items ≡ str_to_ascii_uppercase name.now) }
 {
-    name.iter().map(|byte| byte.to_ascii_uppercase()).collect(alloc)
+    name.iter()
+        .map(|byte| byte.to_ascii_uppercase())
+        .collect(alloc)
 }
 
 /// Returns whether a name has the same letters as one that is noted in capitals, and notes it. The
@@ -174,12 +176,7 @@ fn is_short_statement(
 }
 
 /// Whether a line is an instruction whose operand fits its zero page mode.
-fn is_short_line(
-    profile: Profile,
-    names: &Symbols,
-    address: u32,
-    line: &Option<Line<'_>>,
-) -> bool
+fn is_short_line(profile: Profile, names: &Symbols, address: u32, line: &Option<Line<'_>>) -> bool
     requires { address < 2 ^ 31 }
     ensures { result ≡ is_short_line profile (number_in names.now) address
         (map_option line_view line.now) }

@@ -9,8 +9,8 @@ ghost use Rattle.warnings.specs.Warnings.{begins_silenced, cut_off, denotes_byte
 ghost use Rattle.warnings.specs.Warnings.{known, lines_warnings, one_if, says_bytes};
 ghost use Rattle.warnings.specs.Warnings.{warnings_with};
 
-use crate::line::{is_long, is_silenced, is_unused, name_in, note_capitals};
 use crate::kinds::{Warning, WarningKind};
+use crate::line::{is_long, is_silenced, is_unused, name_in, note_capitals};
 use line_parts::{Line, Statement};
 use model::Profile;
 use plain_numbers::{Reach, is_plain};
@@ -83,9 +83,7 @@ pub fn push_lines(
     for one in lines {
         number += 1;
         let alike = note_capitals(alloc, &mut capitals, name_in(&one.line))?;
-        push_line(
-            warnings, profile, names, used, reaches, number, alike, one,
-        )?;
+        push_line(warnings, profile, names, used, reaches, number, alike, one)?;
     }
     Ok(())
 }

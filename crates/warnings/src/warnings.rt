@@ -7,8 +7,8 @@ ghost use Rattle.warned_lines.specs.Views.{placed_views};
 ghost use Rattle.warnings.specs.Warnings.{is_empty, warnings_found, warnings_in};
 ghost use Rattle.warnings.specs.Warnings.{warnings_of};
 
-use crate::looked::{begins_silenced, has_bytes, push_cut_off, push_if, push_lines};
 use crate::kinds::{Warning, WarningKind};
+use crate::looked::{begins_silenced, has_bytes, push_cut_off, push_if, push_lines};
 use bus::MapSpec;
 use model::Profile;
 use names_used::used_by;
@@ -47,7 +47,13 @@ fn warnings_in(
     let mut warnings = Vec::new(alloc);
     push_if(&mut warnings, empty, 1, WarningKind::NoBytes)?;
     push_lines(
-        alloc, &mut warnings, profile, names, &used, &reached, &placed.lines,
+        alloc,
+        &mut warnings,
+        profile,
+        names,
+        &used,
+        &reached,
+        &placed.lines,
     )?;
     push_cut_off(alloc, &mut warnings, profile, next, placed.behind)?;
     Ok(warnings)

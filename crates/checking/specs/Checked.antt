@@ -1,0 +1,11 @@
+-- What is written of the faults of a source, or of its warnings. Source: mos65.
+use Rattle.std.specs.Prelude.{ℕ, List, [], ◌∷◌}
+use Rattle.explain.specs.Blocks.{IsTold}
+use Rattle.model.specs.declared.source_fault.AsmFault.{AsmFault}
+use Rattle.warning_notes.specs.Blocks.{IsWarnedText}
+use Rattle.warnings.specs.declared.kinds.Warning.{Warning}
+
+-- The faults are written, or the warnings if there is no fault.
+abbrev pub IsCheckedText : List ℕ → List AsmFault → List Warning → List ℕ → Type 0
+IsCheckedText file [] warnings text = IsWarnedText file warnings text
+IsCheckedText file (fault ∷ faults) warnings text = IsTold file (fault ∷ faults) text
