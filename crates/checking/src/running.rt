@@ -10,12 +10,11 @@ use crate::text::{CheckedText, checked_text};
 use crate::words::{CheckWords, WordsFault, read_words};
 use bus::MapSpec;
 use model::Profile;
-use papertape::TapeReader;
-use std::alloc::{AllocError, Global};
 use std::fs::File;
 use std::io;
 use std::io::{Read, Write};
 use std::rt::Files;
+use tape_hint::looks_like_tape;
 
 /// One byte more than the longest source.
 const MOST_READ: u64 = 1_048_577;
@@ -27,28 +26,6 @@ fn read_source<H: Files + AllocGlobal>(rt: &H, path: &str) -> io::Result<Vec<u8>
         .take(MOST_READ)
         .read_to_end(&mut source)?;
     Ok(source)
-}
-
-/// Returns whether a text begins with a whole and right record of a tape, which a source has as a
-/// comment.
-///
-/// The only error is that a request for memory was refused.
-fn looks_like_tape(alloc: Global, text: &[u8]) -> Result<bool, AllocError> {
-    let Ok(mut reader) = TapeReader::new(alloc) else {
-        return Err(AllocError);
-    };
-    let mut is_begun = false;
-    for byte in text {
-        if is_begun && (*byte == b'\r' || *byte == b'\n') {
-            // A record that was not whole has a fault at the next `;`.
-            return Ok(reader.feed(b";").is_ok());
-        }
-        if reader.feed(&[*byte]).is_err() {
-            return Ok(false);
-        }
-        is_begun |= *byte == b';';
-    }
-    Ok(is_begun && reader.feed(b";").is_ok())
 }
 
 /// The map of the words.

@@ -9,13 +9,14 @@ use assembler::{Assembly, assemble};
 use bus::MapSpec;
 use debugger::Session;
 use engine::EngineFault;
-use model::Profile;
-use papertape::read_tape_from;
-use program::Refusal;
+use model::{AsmFault, Profile};
+use papertape::{TapeReadFault, read_tape_from};
+use program::{Refusal, refuse};
 use std::fs::File;
 use std::io;
-use std::io::Read;
+use std::io::{Read, Write};
 use std::rt::Files;
+use tape_hint::looks_like_tape;
 
 /// One byte more than the longest source.
 const MOST_READ: u64 = 1_048_577;
@@ -25,6 +26,38 @@ const MOST_READ: u64 = 1_048_577;
 pub struct Loaded {
     pub session: Session,
     pub assembly: Option<Assembly>,
+}
+
+/// Why a file is not loaded.
+#[derive(Clone, Copy, Debug, PartialEq, Eq)]
+pub enum LoadFault {
+    /// The file is given as a source, and begins with a record of a tape. As a source it would be
+    /// comments.
+    LooksLikeTape,
+    /// What the word itself is refused for.
+    Refused(Refusal),
+}
+
+impl From<Refusal> for LoadFault {
+    fn from(refusal: Refusal) -> LoadFault {
+        LoadFault::Refused(refusal)
+    }
+}
+
+impl LoadFault {
+    /// Writes why the file was not loaded, and returns the exit status, even if the line cannot be
+    /// written. It is 2 for a tape that is given as a source.
+    pub fn tell<E: Write>(self, file: &str, errors: &mut E) -> u8
+        ensures { 1 ≤ result × result ≤ 4 }
+    {
+        match self {
+            LoadFault::LooksLikeTape => {
+                let _ = writeln!(errors, "mos65: {file} looks like a tape: use --tape");
+                2
+            }
+            LoadFault::Refused(refusal) => refuse(refusal, errors),
+        }
+    }
 }
 
 /// Returns the bytes of a source's file, or the first of them if it is too long for a source.
@@ -53,25 +86,40 @@ fn map_of(words: &FileWords<'_>) -> Result<MapSpec, Refusal>
     }
 }
 
+/// Returns why a source is not loaded.
+fn of_source(fault: AsmFault) -> LoadFault {
+    LoadFault::Refused(Refusal::from(fault))
+}
+
+/// Returns why a tape is not loaded.
+fn of_tape(fault: TapeReadFault) -> LoadFault {
+    LoadFault::Refused(Refusal::from(fault))
+}
+
 /// Returns a session that holds at most `history` earlier states, on the image of a source's file.
 fn load_source<H: Files + AllocGlobal>(
     rt: &H,
     words: &FileWords<'_>,
     map: MapSpec,
     history: u32,
-) -> Result<Loaded, Refusal>
+) -> Result<Loaded, LoadFault>
     requires { history ≤ 65536 }
     ensures { IfOk result (λ loaded. (image : List (Option ℕ))
         × (loaded.session ≡ new_session history (start map image))) }
 {
     let source = read_source(rt, words.file).map_err(|error| Refusal::unreadable(&error))?;
-    let assembly = assemble(rt.alloc(), source.as_slice(), &map)?;
+    match looks_like_tape(rt.alloc(), source.as_slice()) {
+        Ok(false) => {}
+        Ok(true) => return Err(LoadFault::LooksLikeTape),
+        Err(_) => return Err(LoadFault::Refused(Refusal::OutOfMemory)),
+    }
+    let assembly = assemble(rt.alloc(), source.as_slice(), &map).map_err(of_source)?;
     match Session::new(rt.alloc(), map, assembly.image(), history) {
         Ok(session) => Ok(Loaded {
             session,
             assembly: Some(assembly),
         }),
-        Err(fault) => Err(Refusal::from(EngineFault::from(fault))),
+        Err(fault) => Err(LoadFault::Refused(Refusal::from(EngineFault::from(fault)))),
     }
 }
 
@@ -82,19 +130,19 @@ fn load_tape<H: Files + AllocGlobal>(
     words: &FileWords<'_>,
     map: MapSpec,
     history: u32,
-) -> Result<Loaded, Refusal>
+) -> Result<Loaded, LoadFault>
     requires { history ≤ 65536 }
     ensures { IfOk result (λ loaded. (image : List (Option ℕ))
         × (loaded.session ≡ new_session history (start map image))) }
 {
     let mut tape = File::open(rt, words.file).map_err(|error| Refusal::unreadable(&error))?;
-    let image = read_tape_from(rt.alloc(), &mut tape)?;
+    let image = read_tape_from(rt.alloc(), &mut tape).map_err(of_tape)?;
     match Session::new(rt.alloc(), map, &image, history) {
         Ok(session) => Ok(Loaded {
             session,
             assembly: None,
         }),
-        Err(fault) => Err(Refusal::from(EngineFault::from(fault))),
+        Err(fault) => Err(LoadFault::Refused(Refusal::from(EngineFault::from(fault)))),
     }
 }
 
@@ -104,9 +152,10 @@ fn load_tape<H: Files + AllocGlobal>(
 /// # Errors
 ///
 /// In this order: `Map` if the port and the ROM do not make a map; `Read` if the file cannot be
-/// read; `Source` or `Tape` with its fault; `Session` if a tape has a byte at the port.
-/// `OutOfMemory` if an allocation fails.
-pub fn load<H: Files + AllocGlobal>(rt: &H, words: &FileWords<'_>) -> Result<Loaded, Refusal>
+/// read; `LooksLikeTape` if the file is given as a source and begins with a record of a tape;
+/// `Source` or `Tape` with its fault; `Session` if a tape has a byte at the port. `OutOfMemory` if
+/// an allocation fails.
+pub fn load<H: Files + AllocGlobal>(rt: &H, words: &FileWords<'_>) -> Result<Loaded, LoadFault>
     ensures { IfOk result (λ loaded. (image : List (Option ℕ)) × (loaded.session ≡ new_session 0
         (start (record { profile = words.now.profile; rom = words.now.rom; port = words.now.port })
         image))) }
@@ -124,7 +173,7 @@ pub fn load_with_history<H: Files + AllocGlobal>(
     rt: &H,
     words: &FileWords<'_>,
     history: u32,
-) -> Result<Loaded, Refusal>
+) -> Result<Loaded, LoadFault>
     requires { history ≤ 65536 }
     ensures { IfOk result (λ loaded. (image : List (Option ℕ))
         × (loaded.session ≡ new_session history (start
@@ -139,7 +188,7 @@ pub fn load_with_history<H: Files + AllocGlobal>(
                 load_source(rt, words, map, history)
             }
         }
-        Err(refusal) => Err(refusal),
+        Err(refusal) => Err(LoadFault::Refused(refusal)),
     }
 }
 

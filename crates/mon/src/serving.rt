@@ -3,11 +3,11 @@
 ghost use Rattle.std.specs.Prelude.{◌≡◌};
 
 use crate::lines::attend;
-use loading::{load_names, load_with_history};
+use loading::{LoadFault, load_names, load_with_history};
 use mon_desk::Desk;
 use mon_words::{MonWords, read_words};
 use places::Places;
-use program::{Refusal, finish, refused_words};
+use program::{Refusal, refused_words};
 use std::alloc::AllocError;
 use std::io::{IsTerminal, Read, Write};
 use std::rt::Files;
@@ -18,7 +18,7 @@ fn of_memory(_: AllocError) -> Refusal {
 }
 
 /// Loads what the words name, and returns the desk of its session.
-fn desk_of<H: Files + AllocGlobal>(rt: &H, words: &MonWords<'_>) -> Result<Desk, Refusal> {
+fn desk_of<H: Files + AllocGlobal>(rt: &H, words: &MonWords<'_>) -> Result<Desk, LoadFault> {
     let alloc = rt.alloc();
     let loaded = load_with_history(rt, &words.file, words.history)?;
     let file = words.file.file.as_bytes();
@@ -30,7 +30,7 @@ fn desk_of<H: Files + AllocGlobal>(rt: &H, words: &MonWords<'_>) -> Result<Desk,
         let names = load_names(rt, &words.file, path)?;
         places.add_names(alloc, &names).map_err(of_memory)?;
     }
-    Desk::new(alloc, loaded.session, places, words.history).map_err(of_memory)
+    Ok(Desk::new(alloc, loaded.session, places, words.history).map_err(of_memory)?)
 }
 
 /// Serves a session on the file of the words.
@@ -40,14 +40,14 @@ fn serve<H: Files + AllocGlobal, R: Read, O: Write>(
     prompts: bool,
     input: &mut R,
     output: &mut O,
-) -> Result<(), Refusal> {
+) -> Result<(), LoadFault> {
     let mut desk = desk_of(rt, words)?;
     if prompts {
         desk.say("mos65 mon: help lists the words, an empty line steps, quit ends\n")
             .map_err(of_memory)?;
     }
     desk.show(None).map_err(of_memory)?;
-    attend(rt.alloc(), &mut desk, prompts, input, output)
+    Ok(attend(rt.alloc(), &mut desk, prompts, input, output)?)
 }
 
 /// Does what the words of `mon` ask for, its own name left out, and returns the exit status.
@@ -71,7 +71,10 @@ pub fn mon<H: Files + AllocGlobal, R: Read + IsTerminal, O: Write, E: Write>(
     match read_words(rt.alloc(), words) {
         Ok(words) => {
             let prompts = words.prompts || input.is_terminal();
-            finish(serve(rt, &words, prompts, input, output), errors)
+            match serve(rt, &words, prompts, input, output) {
+                Ok(()) => 0,
+                Err(fault) => fault.tell(words.file.file, errors),
+            }
         }
         Err(fault) => refused_words(fault, output, errors),
     }

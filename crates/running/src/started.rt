@@ -8,7 +8,7 @@ ghost use Rattle.model.specs.State.{input_waits};
 ghost use Rattle.running.specs.Statuses.{refusal_of};
 
 use console::PlayFault;
-use loading::{FileWords, Loaded, load, place_of};
+use loading::{FileWords, LoadFault, Loaded, load, place_of};
 use program::Refusal;
 use std::io::Write;
 use std::rt::Files;
@@ -21,7 +21,7 @@ use std::rt::Files;
 pub fn load_at_start<H: Files + AllocGlobal>(
     rt: &H,
     words: &FileWords<'_>,
-) -> Result<Loaded, Refusal>
+) -> Result<Loaded, LoadFault>
     ensures started { IfOk result (λ loaded. (image : List (Option ℕ)) × (loaded.session
         ≡ new_session 0 (start (record {
           profile = words.now.profile;
@@ -32,7 +32,7 @@ pub fn load_at_start<H: Files + AllocGlobal>(
 {
     match load(rt, words) {
         Ok(loaded) => Ok(loaded),
-        Err(refusal) => Err(refusal),
+        Err(fault) => Err(fault),
     }
 }
 

@@ -184,7 +184,7 @@ fn trace_words<H: Files + AllocGlobal, R: Read, O: Write, E: Write>(
 ) -> u8 {
     let mut loaded = match load_at_start(rt, &words.file) {
         Ok(loaded) => loaded,
-        Err(refusal) => return refuse(refusal, errors),
+        Err(fault) => return fault.tell(words.file.file, errors),
     };
     let from = match place_named(&loaded, words.from, errors) {
         Ok(from) => from,
