@@ -8,11 +8,21 @@ ghost use Rattle.testing_words.specs.Help.{asks_for_help};
 use crate::fault::{FileFault, TestFault};
 use crate::files::run_files;
 use program::{Refusal, refuse, refused_words};
+use row_reader::RowFaultKind;
 use row_reports::Reports;
 use std::fs;
 use std::io::{ErrorKind, Write};
 use std::rt::Files;
 use testing_words::{TestWords, WordsFault, asks_for_help, read_words};
+
+/// Returns an example of what has to stand there, for the faults that a first file has.
+fn example_of(kind: RowFaultKind) -> &'static str {
+    match kind {
+        RowFaultKind::Syntax => ", as in: call NAME A=07 [10]=FF -> A=46 C=0 cycles<900",
+        RowFaultKind::NoSource => ", as in: source NAME.a65",
+        _ => "",
+    }
+}
 
 /// Writes why a file cannot be tested, and returns the exit status, even if the line cannot be
 /// written.
@@ -24,8 +34,11 @@ fn refuse_at<E: Write>(path: &str, fault: TestFault, errors: &mut E) -> u8
     let _ = match fault {
         TestFault::Rows(fault) => writeln!(
             errors,
-            "mos65: {path}:{}:{}: {}",
-            fault.line, fault.column, fault.kind
+            "mos65: {path}:{}:{}: {}{}",
+            fault.line,
+            fault.column,
+            fault.kind,
+            example_of(fault.kind)
         ),
         TestFault::Source(fault) => writeln!(errors, "mos65: {path}: SOURCE {fault}"),
         TestFault::TooLarge => writeln!(errors, "mos65: {path}: more than 1048576 bytes"),
