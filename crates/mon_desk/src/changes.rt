@@ -3,18 +3,17 @@
 ghost use Rattle.std.specs.Prelude.{◌≤◌, length};
 
 use crate::desk::Desk;
-use crate::stops::Stop;
-use arrayvec::ArrayVec;
 use assembler::assemble_line_in;
 use formatting::{digits_of, digits_of_address};
 use model::{AsmFaultKind, Setting};
-use mon_lines::{Stretch, Test};
-use mon_views::{push_count, push_place, push_row};
+use mon_lines::{Stretch, WatchKind};
+use mon_stops::{Break, Watch};
+use mon_views::{push_break, push_count, push_place, push_row, push_watch};
 use monitor::{Event, SessionFault};
 use std::alloc::{AllocError, Global};
 
-/// The most bytes that one watch has.
-const MOST_WATCHED: usize = 256;
+/// The most bytes that are watched for changes.
+const MOST_WATCHED: u16 = 256;
 
 /// Counts the letters, digits and `_` at the front.
 fn word_bytes(bytes: &[u8]) -> usize
@@ -27,64 +26,78 @@ fn word_bytes(bytes: &[u8]) -> usize
 }
 
 impl Desk {
-    /// Sets a break, and keeps its tests.
-    pub fn set_break(
-        &mut self,
-        address: u16,
-        tests: ArrayVec<Test, 4>,
-        times: u32,
-    ) -> Result<(), AllocError> {
+    /// Sets a break, in place of one that stands there.
+    pub fn set_break(&mut self, stop: Break) -> Result<(), AllocError> {
+        let address = stop.address;
         match self.session.set_break(address) {
             Ok(()) | Err(SessionFault::AlreadySet) => {
-                let _ = self.stops.forget_break(address);
-                self.stops.breaks.push(Stop::new(address, tests, times))?;
-                self.say("break at ")?;
-                push_place(&mut self.text, &self.places, address)?;
+                push_break(
+                    &mut self.text,
+                    &self.places,
+                    address,
+                    stop.tests.as_slice(),
+                    stop.times,
+                )?;
+                self.stops.note_break(stop)?;
                 if self.places.has_lines() && self.places.line_at(address).is_none() {
-                    self.say("; no line of the source begins there")?;
+                    self.say("no line of the source begins there\n")?;
                 }
-                self.say("\n")
+                Ok(())
             }
             Err(SessionFault::OutOfMemory) => Err(AllocError),
             Err(_) => self.say("256 breaks are set; delete one first\n"),
         }
     }
 
-    /// Sets a watch at each address of a stretch.
-    pub fn set_watch(&mut self, watch: Stretch) -> Result<(), AllocError> {
-        let size = (watch.last.saturating_sub(watch.first)) as usize + 1;
-        if self.stops.watched.len().saturating_add(size) > MOST_WATCHED {
-            return self.say("at most 256 bytes are watched\n");
+    /// Watches the changes of a stretch in the session, at most 256 bytes of it. Returns why it
+    /// cannot, if it cannot; some bytes are watched then.
+    fn watch_changes(&mut self, stretch: Stretch) -> Result<Option<&'static str>, AllocError> {
+        if stretch.last.saturating_sub(stretch.first) >= MOST_WATCHED {
+            return Ok(Some("at most 256 bytes are watched for changes\n"));
         }
-        for address in watch.first..=watch.last {
+        for address in stretch.first..=stretch.last {
             match self.session.set_watch(address) {
                 Ok(()) | Err(SessionFault::AlreadySet) => {}
                 Err(SessionFault::OutOfMemory) => return Err(AllocError),
                 Err(SessionFault::PortAddress) => {
-                    return self.say("an address of the console's port cannot be watched\n");
+                    return Ok(Some(
+                        "no byte of memory stands at the console's port; watch it with read or write\n",
+                    ));
                 }
-                Err(_) => return self.say("256 bytes are watched; delete a watch first\n"),
+                Err(_) => return Ok(Some("256 bytes are watched; delete a watch first\n")),
+            }
+        }
+        Ok(None)
+    }
+
+    /// Ends the watch of changes in the session at each address of a stretch that no watch has.
+    fn unwatch(&mut self, stretch: Stretch) {
+        for address in stretch.first..=stretch.last {
+            if !self.stops.has_access(WatchKind::Change, address) {
+                let _ = self.session.clear_watch(address);
+            }
+        }
+    }
+
+    /// Sets a watch.
+    pub fn set_watch(&mut self, watch: Watch) -> Result<(), AllocError> {
+        if watch.is_change() {
+            if let Some(words) = self.watch_changes(watch.stretch)? {
+                self.unwatch(watch.stretch);
+                return self.say(words);
             }
         }
         self.stops.note_watch(watch)?;
-        self.say("watch at ")?;
-        push_place(&mut self.text, &self.places, watch.first)?;
-        if watch.last > watch.first {
-            self.say(" to ")?;
-            push_place(&mut self.text, &self.places, watch.last)?;
-        }
-        self.say("\n")
+        push_watch(&mut self.text, &self.places, watch.stretch, watch.kind)
     }
 
-    /// Clears the break or the watch at an address.
+    /// Clears the break and the first watch at an address.
     pub fn delete(&mut self, address: u16) -> Result<(), AllocError> {
         let is_break = self.session.clear_break(address).is_ok();
         let _ = self.stops.forget_break(address);
         let watch = self.stops.forget_watch(address);
         if let Some(watch) = watch {
-            for at in watch.first..=watch.last {
-                let _ = self.session.clear_watch(at);
-            }
+            self.unwatch(watch.stretch);
         }
         if !is_break && watch.is_none() {
             self.say("there is no break and no watch at ")?;
@@ -101,26 +114,16 @@ impl Desk {
             return self.say("no break and no watch is set\n");
         }
         for stop in &self.stops.breaks {
-            self.text.extend_from_slice(b"break at ")?;
-            push_place(&mut self.text, &self.places, stop.address)?;
-            if !stop.tests.is_empty() {
-                self.text.extend_from_slice(b", tests: ")?;
-                push_count(&mut self.text, stop.tests.len() as u64)?;
-            }
-            if stop.times > 1 {
-                self.text.extend_from_slice(b", times ")?;
-                push_count(&mut self.text, stop.times as u64)?;
-            }
-            self.text.push(b'\n')?;
+            push_break(
+                &mut self.text,
+                &self.places,
+                stop.address,
+                stop.tests.as_slice(),
+                stop.times,
+            )?;
         }
         for watch in &self.stops.watches {
-            self.text.extend_from_slice(b"watch at ")?;
-            push_place(&mut self.text, &self.places, watch.first)?;
-            if watch.last > watch.first {
-                self.text.extend_from_slice(b" to ")?;
-                push_place(&mut self.text, &self.places, watch.last)?;
-            }
-            self.text.push(b'\n')?;
+            push_watch(&mut self.text, &self.places, watch.stretch, watch.kind)?;
         }
         Ok(())
     }

@@ -2,8 +2,8 @@
 //! is to be written.
 
 use crate::events::Events;
-use crate::stops::Stops;
 use mon_lines::{decimal_address, read_line};
+use mon_stops::Stops;
 use mon_views::{push_fault, push_next, push_slip, push_state, push_text};
 use monitor::{Event, Session};
 use places::Places;

@@ -1,7 +1,8 @@
 //! A session of `mon`: what each line does to the machine, and the text that it writes.
 //!
-//! It stands on the calls of `monitor`, which say what a line does to the session, on `mon_lines`,
-//! which reads lines, and on `mon_views`, which writes texts. What it writes is tested.
+//! It stands on the calls of `mon_runs` and `monitor`, which say what a line does to the session,
+//! on `mon_lines`, which reads lines, and on `mon_views`, which writes texts. What it writes is
+//! tested.
 #![tactic(auto)]
 
 pub use desk::Desk;
@@ -12,4 +13,5 @@ mod desk;
 mod events;
 mod looks;
 mod moves;
-mod stops;
+mod past;
+mod told;

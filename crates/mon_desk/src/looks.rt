@@ -2,6 +2,7 @@
 
 use crate::desk::Desk;
 use mon_lines::Command;
+use mon_stops::{Break, Watch};
 use mon_views::{
     push_calls, push_flags, push_help, push_memory, push_place, push_row, push_screen, push_stack,
     push_state,
@@ -77,8 +78,12 @@ impl Desk {
                 address,
                 tests,
                 times,
-            } => self.set_break(address, tests, times)?,
-            Command::Watch(watch) => self.set_watch(watch)?,
+            } => self.set_break(Break {
+                address,
+                tests,
+                times,
+            })?,
+            Command::Watch { stretch, kind } => self.set_watch(Watch { stretch, kind })?,
             Command::List => self.list()?,
             Command::Delete(address) => self.delete(address)?,
             Command::Set(setting) => self.set(setting)?,

@@ -59,6 +59,17 @@ pub struct Stretch {
     pub last: u16,
 }
 
+/// What stops a run at a watch.
+#[derive(Clone, Copy)]
+pub enum WatchKind {
+    /// A step that changes the byte.
+    Change,
+    /// An instruction that reads the byte.
+    Read,
+    /// An instruction that stores a byte there, also one that is there already.
+    Write,
+}
+
 /// What is to be undone.
 #[derive(Clone, Copy)]
 pub enum Undoing {
@@ -89,7 +100,10 @@ pub enum Command<'a> {
         tests: ArrayVec<Test, 4>,
         times: u32,
     },
-    Watch(Stretch),
+    Watch {
+        stretch: Stretch,
+        kind: WatchKind,
+    },
     List,
     Delete(u16),
     Regs,

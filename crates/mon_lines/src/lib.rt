@@ -1,7 +1,7 @@
 //! What a line of `mon` asks for: its words, names and numbers, or what is missing in it.
 #![tactic(auto)]
 
-pub use command::{Command, Compare, Left, Register, Stretch, Test, Undoing};
+pub use command::{Command, Compare, Left, Register, Stretch, Test, Undoing, WatchKind};
 pub use numbers::number_in;
 pub use read::{decimal_address, read_line};
 pub use slip::{Slip, Why};

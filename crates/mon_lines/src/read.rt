@@ -1,6 +1,6 @@
 //! From a line to what it asks for.
 
-use crate::command::{Command, Compare, Left, Register, Stretch, Test, Undoing};
+use crate::command::{Command, Compare, Left, Register, Stretch, Test, Undoing, WatchKind};
 use crate::cursor::Cursor;
 use crate::numbers::number_in;
 use crate::slip::{Slip, Why};
@@ -122,6 +122,20 @@ fn stretch<'a>(cursor: &mut Cursor<'a>, known: Known<'_>) -> Result<Stretch, Why
         return Err(Why::Missing("a last address that is not below the first"));
     }
     Ok(Stretch { first, last })
+}
+
+/// Reads `WHERE` or `WHERE..WHERE`, and `read`, `write` or `change` behind it.
+fn watched<'a>(cursor: &mut Cursor<'a>, known: Known<'_>) -> Result<Command<'a>, Why<'a>> {
+    let stretch = stretch(cursor, known)?;
+    let kind = if cursor.takes_word(b"read") {
+        WatchKind::Read
+    } else if cursor.takes_word(b"write") {
+        WatchKind::Write
+    } else {
+        let _ = cursor.takes_word(b"change");
+        WatchKind::Change
+    };
+    Ok(Command::Watch { stretch, kind })
 }
 
 /// Reads `WHERE`, `WHERE N`, `WHERE..WHERE`, or two addresses of four hex digits.
@@ -257,7 +271,7 @@ fn seeing<'a>(
         Topic::Where => Ok(Command::Where),
         Topic::History => Ok(Command::History(count(cursor, known)?.unwrap_or(10))),
         Topic::Break => break_at(cursor, known),
-        Topic::Watch => Ok(Command::Watch(stretch(cursor, known)?)),
+        Topic::Watch => watched(cursor, known),
         Topic::List => Ok(Command::List),
         Topic::Delete => Ok(Command::Delete(address(cursor, known)?)),
         Topic::Regs => Ok(Command::Regs),
@@ -299,8 +313,8 @@ fn putting<'a>(
     }
 }
 
-/// Returns the decimal digits that stand where a line has an address, if there are two, three or
-/// five: a reader may mean a hex number.
+/// Returns the decimal digits that stand where a line has an address, if there are two or three: a
+/// reader may mean a hex number.
 pub fn decimal_address<'a>(line: &'a [u8]) -> Option<&'a [u8]> {
     let mut cursor = Cursor::new(line);
     let (topic, _) = topic_of(cursor.word());
@@ -310,7 +324,7 @@ pub fn decimal_address<'a>(line: &'a [u8]) -> Option<&'a [u8]> {
         _ => false,
     };
     let word = cursor.word();
-    let is_decimal = matches!(word.len(), 2 | 3 | 5) && number_in(10, word).is_some();
+    let is_decimal = matches!(word.len(), 2 | 3) && number_in(10, word).is_some();
     if has_address && is_decimal {
         Some(word)
     } else {

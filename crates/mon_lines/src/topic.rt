@@ -36,9 +36,9 @@ pub enum Topic {
     Trace,
 }
 
-/// The first words, each with its topic. A word of one letter is an abbreviation that two words
-/// would have in common.
-const WORDS: [(&[u8], Topic); 46] = [
+/// The first words, each with its topic, but for `exit`, which is not to be shortened. A word of
+/// one letter is an abbreviation that two words would have in common.
+const WORDS: [(&[u8], Topic); 45] = [
     (b"step", Topic::Step),
     (b"s", Topic::Step),
     (b"over", Topic::Over),
@@ -83,7 +83,6 @@ const WORDS: [(&[u8], Topic); 46] = [
     (b"h", Topic::Help),
     (b"quit", Topic::Quit),
     (b"q", Topic::Quit),
-    (b"exit", Topic::Quit),
     (b"trace", Topic::Trace),
 ];
 
@@ -137,8 +136,8 @@ impl Topic {
             Topic::History => ("history [N]", "shows the last N steps, or 10"),
             Topic::Break => ("break WHERE [if TESTS] [times N]", "stops a run there"),
             Topic::Watch => (
-                "watch WHERE[..WHERE]",
-                "stops a run when a byte there changes",
+                "watch WHERE[..WHERE] [read|write]",
+                "stops a run when a byte there changes, is read or written",
             ),
             Topic::List => ("list", "shows breaks and watches"),
             Topic::Delete => ("delete WHERE", "clears the break or the watch there"),
@@ -176,7 +175,7 @@ impl Topic {
             Topic::Where => "where",
             Topic::History => "history 5",
             Topic::Break => "break main, break $0200, break $0200 if A=$41 and X>3",
-            Topic::Watch => "watch $0010, watch $0010..$001F",
+            Topic::Watch => "watch $0010, watch $0010..$001F write",
             Topic::List => "list",
             Topic::Delete => "delete $0200",
             Topic::Regs => "regs",
@@ -207,10 +206,16 @@ fn begins_with(word: &[u8], text: &[u8]) -> bool {
 
 /// Returns the topic of a first word: of the word that it is, otherwise of the words that it
 /// begins, if they have one topic. `None` and `false` if it begins none, `None` and `true` if they
-/// have more than one topic.
+/// have more than one topic. A text without a byte begins none.
 pub fn topic_of(text: &[u8]) -> (Option<Topic>, bool) {
     if text == b"?".as_slice() {
         return (Some(Topic::Help), false);
+    }
+    if text.is_empty() {
+        return (None, false);
+    }
+    if text.eq_ignore_ascii_case(b"exit") {
+        return (Some(Topic::Quit), false);
     }
     for (word, topic) in &WORDS {
         if word.eq_ignore_ascii_case(text) {

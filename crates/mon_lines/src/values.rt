@@ -149,8 +149,11 @@ pub fn bytes<'a>(cursor: &mut Cursor<'a>, known: Known<'_>) -> Result<ArrayVec<u
         }
         let _ = cursor.takes(b',');
         if cursor.is_at_end() {
-            return Ok(found);
+            break;
         }
+    }
+    if found.is_empty() {
+        return Err(Why::Missing("text between the quotes"));
     }
     Ok(found)
 }

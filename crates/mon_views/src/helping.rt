@@ -61,8 +61,8 @@ fn push_why(text: &mut Vec<u8>, why: Why<'_>) -> Result<(), AllocError> {
             push_text(text, " begins more than one word; help lists them")
         }
         Why::Missing(what) => {
-            push_text(text, what)?;
-            push_text(text, " is missing")
+            push_text(text, "missing: ")?;
+            push_text(text, what)
         }
         Why::Unreadable(piece) => {
             push_quoted(text, piece)?;

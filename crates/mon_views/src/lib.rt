@@ -8,6 +8,7 @@ pub use instructions::{push_instruction, push_next, push_row};
 pub use memory::{push_calls, push_memory, push_screen, push_stack};
 pub use reasons::{push_end, push_fault};
 pub use state::{push_flags, push_state};
+pub use stops::{push_break, push_watch};
 pub use words::{push_address, push_byte, push_count, push_place, push_text};
 
 mod helping;
@@ -15,4 +16,5 @@ mod instructions;
 mod memory;
 mod reasons;
 mod state;
+mod stops;
 mod words;

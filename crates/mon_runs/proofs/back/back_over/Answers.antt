@@ -1,0 +1,27 @@
+use Rattle.std.proofs.Common.{◌≡◌, ◌+◌, ◌-◌, length, suc, ap, ◌∙◌, arith}
+use Rattle.monitor.proofs.Found.{length-back_one}
+use Rattle.mon_runs.specs.Runs.{gone_back}
+use Rattle.mon_runs.proofs.Counts.{gone-none, gone-more}
+use Rattle.mon_runs.proofs.back.back_over.Goals as goal
+
+pub loop-undone-init : goal.loop-undone-init
+loop-undone-init c = record {
+  held = omega (arith, c.held-held.ensures.held);
+  gone = gone-none c.args.session.now;
+}
+
+pub returns-then-is_start : goal.returns-then-is_start
+returns-then-is_start c =
+    let more : suc c.loop-undone.undone ≡ c.loop-undone.undone + 1 = omega arith in
+    gone-more c.loop-undone.undone c.args.session.now c.loop-undone.session c.back_by_one.new.session c.loop-undone.invariant.gone c.back_by_one.ensures
+    ∙ ap (λ k. gone_back k c.args.session.now) more
+
+pub loop-undone-preserved : goal.loop-undone-preserved
+loop-undone-preserved c =
+    let more : suc c.loop-undone.undone ≡ c.loop-undone.undone + 1 = omega arith in
+    let fewer : length c.back_by_one.new.session.earlier ≡ length c.loop-undone.session.earlier - 1 = length-back_one c.loop-undone.session c.back_by_one.new.session c.back_by_one.ensures in
+    record {
+      held = omega (arith, fewer, c.loop-undone.invariant.held);
+      gone = gone-more c.loop-undone.undone c.args.session.now c.loop-undone.session c.back_by_one.new.session c.loop-undone.invariant.gone c.back_by_one.ensures
+          ∙ ap (λ k. gone_back k c.args.session.now) more;
+    }

@@ -1,0 +1,132 @@
+//! The runs.
+
+ghost use Rattle.std.specs.Prelude.{◌≡◌, false, true, IfErr, IfOk};
+ghost use Rattle.model.specs.Run.{after_steps};
+ghost use Rattle.model.specs.Back.{states};
+ghost use Rattle.monitor.specs.Goals.{go_of, out_of, over_of, until_of};
+ghost use Rattle.mon_stops.specs.Stops.{is_plain};
+ghost use Rattle.mon_runs.specs.Runs.{HasMade, HasMadeStates, IsLed, IsLedTo};
+
+use crate::ended::{EndWhy, Ended};
+use crate::led::{Goal, lead};
+use crate::pieces::{MOST_LED, go_on, go_once, out_once, over_once, run_on, until_once};
+use debugger::{Session, SessionFault, Why};
+use mon_stops::Stops;
+use monitor::LedWhy;
+
+/// The opcode of JSR.
+const JSR: u8 = 0x20;
+
+/// Makes a JSR as one, or one step: as `monitor::over` does, for up to 10,000,000 steps.
+pub fn over(session: &mut Session, stops: &mut Stops) -> Ended
+    ensures steps { session.new ≡ after_steps result.did session.old }
+    ensures plain { is_plain stops.old ≡ true
+        → IsLed (over_of 10000000 session.old) result session.new }
+{
+    if stops.is_plain() {
+        return Ended::of(over_once(session));
+    }
+    let regs = session.regs();
+    if session.peek(regs.pc) == JSR {
+        let pc = regs.pc.wrapping_add(3);
+        let stack = regs.s;
+        lead(session, stops, Goal::Behind { pc, stack }, None, MOST_LED)
+    } else {
+        lead(session, stops, Goal::Never, None, 1)
+    }
+}
+
+/// Steps until the subroutine that is running has returned: as `monitor::out` does, for up to
+/// 10,000,000 steps.
+pub fn out(session: &mut Session, stops: &mut Stops) -> Ended
+    ensures steps { session.new ≡ after_steps result.did session.old }
+    ensures plain { is_plain stops.old ≡ true
+        → IsLed (out_of 10000000 session.old) result session.new }
+{
+    if stops.is_plain() {
+        return Ended::of(out_once(session));
+    }
+    let stack = session.regs().s;
+    lead(session, stops, Goal::Left { stack }, None, MOST_LED)
+}
+
+/// Runs to a stop or until nothing is left to do: as `monitor::go` does, for up to 4,096 and then
+/// 262,144 times 4,096 steps. Where reads or writes are watched it makes at most 10,000,000.
+pub fn go(session: &mut Session, stops: &mut Stops) -> Ended
+    ensures steps { HasMade result.did session.old session.new }
+    ensures plain { is_plain stops.old ≡ true
+        → IsLed (go_of 262144 session.old) result session.new }
+{
+    if stops.is_plain() {
+        return Ended::of(go_once(session));
+    }
+    go_to(session, stops, None)
+}
+
+/// Runs on past breaks whose tests do not hold, to an address too if there is one.
+fn go_to(session: &mut Session, stops: &mut Stops, until: Option<u16>) -> Ended
+    ensures { HasMade result.did session.old session.new }
+{
+    if stops.has_changes_only() {
+        go_on(session, stops, until)
+    } else {
+        lead(session, stops, Goal::Stuck, until, MOST_LED)
+    }
+}
+
+/// Runs so many steps, or to a stop before.
+pub fn run(session: &mut Session, stops: &mut Stops, count: u32) -> Ended
+    ensures { session.new ≡ after_steps result.did session.old }
+{
+    if stops.has_changes_only() {
+        run_on(session, stops, count)
+    } else {
+        let end = lead(session, stops, Goal::Never, None, count.min(MOST_LED));
+        match end.why {
+            EndWhy::Led(LedWhy::Many) if end.did == count as u64 => Ended {
+                did: end.did,
+                why: EndWhy::Led(LedWhy::Stopped(Why::Limit)),
+            },
+            _ => end,
+        }
+    }
+}
+
+/// Runs as `go` does, and stops at an address too.
+///
+/// # Errors
+///
+/// - `TableFull`: 256 other breakpoints are set.
+/// - `OutOfMemory`: an allocation failed.
+///
+/// Nothing is changed then.
+pub fn until(session: &mut Session, stops: &mut Stops, address: u16) -> Result<Ended, SessionFault>
+    ensures plain { is_plain stops.old ≡ true → IfOk result
+        (λ end. IsLedTo (until_of address 262144 session.old) end session.new) }
+    ensures steps { IfOk result (λ end. is_plain stops.old ≡ false
+        → HasMadeStates end.did session.old session.new) }
+    ensures err { IfErr result (λ _. session.new ≡ session.old) }
+{
+    if stops.is_plain() {
+        return match until_once(session, address) {
+            Ok(end) => Ok(Ended::of(end)),
+            Err(fault) => Err(fault),
+        };
+    }
+    match session.set_break(address) {
+        Ok(()) => {
+            let end = go_to(session, stops, Some(address));
+            clear_break(session, address);
+            Ok(end)
+        }
+        Err(SessionFault::AlreadySet) => Ok(go_to(session, stops, Some(address))),
+        Err(fault) => Err(fault),
+    }
+}
+
+/// Clears a breakpoint, if it is set.
+fn clear_break(session: &mut Session, address: u16)
+    ensures { states session.new ≡ states session.old }
+{
+    let _ = session.clear_break(address);
+}

@@ -1,0 +1,15 @@
+//! What stops a run of `mon` beyond the session's own breakpoints: tests and times of breaks, and
+//! watches for reads and writes.
+//!
+//! `specs/Stops.antt` says when the tests of a break hold.
+#![tactic(auto)]
+
+pub use breaks::Break;
+pub use stops::Stops;
+pub use tests::holds;
+pub use watches::Watch;
+
+mod breaks;
+mod stops;
+mod tests;
+mod watches;
