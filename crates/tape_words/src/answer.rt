@@ -1,6 +1,8 @@
 //! What a word answers, written.
 
-ghost use Rattle.std.specs.Prelude.{◌≡◌, ◌≤◌, Err, OnErr};
+ghost use Rattle.std.specs.Prelude.{◌≡◌, ◌≤◌, ◌⊎◌, Err, MatchResult, OnErr, OnOk};
+ghost use Rattle.std.specs.Io.KnownBytes.{Appends};
+ghost use Rattle.tape_words.specs.Answers.{IsAnswered, is_of_words};
 ghost use Rattle.tape_words.specs.Statuses.{status_of};
 
 use crate::refusal::Refusal;
@@ -16,7 +18,8 @@ pub struct Answer {
 
 /// Writes a text and flushes it.
 fn written<O: Write>(output: &mut O, text: &[u8]) -> Result<(), Refusal>
-    ensures { OnErr result (result ≡ Err Refusal.Write) }
+    ensures err { OnErr result (result ≡ Err Refusal.Write) }
+    ensures ok { OnOk result (Appends (O.contents output.old) (O.contents output.new) text.now) }
 {
     match output.write_all(text) {
         Ok(()) => match output.flush() {
@@ -41,6 +44,7 @@ pub fn refused<E: Write>(refusal: Refusal, errors: &mut E) -> u8
 /// status.
 pub fn refused_words<O: Write, E: Write>(fault: WordsFault, output: &mut O, errors: &mut E) -> u8
     ensures status { result ≤ 4 }
+    ensures why { is_of_words fault result }
     ensures untouched { 1 ≤ result → result ≤ 3 → output.new ≡ output.old }
     ensures quiet { result ≤ 1 → errors.new ≡ errors.old }
 {
@@ -67,6 +71,9 @@ pub fn answered<O: Write, E: Write>(
     errors: &mut E,
 ) -> u8
     ensures status { result ≤ 4 }
+    ensures said { MatchResult answer
+        (λ answer. IsAnswered answer result (O.contents output.old) (O.contents output.new))
+        (λ refusal. result ≡ status_of refusal) }
     ensures untouched { 2 ≤ result → result ≤ 3 → output.new ≡ output.old }
     ensures quiet { result ≡ 0 → errors.new ≡ errors.old }
 {
