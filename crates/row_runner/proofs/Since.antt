@@ -236,7 +236,6 @@ back_all now = rw (le-leb (length now.earlier) (length now.earlier) (omega arith
 back_held : (k : ℕ) (now next : Session) → k ≡ length now.earlier → back_of k now ≡ Ok next → next ≡ without_last (length now.earlier) now
 back_held k now next same h = ap (next_in now) (sym h ∙ (ap (λ n. back_of n now) same ∙ back_all now))
 
-pub restored : (map : Map) (image : List (Option ℕ)) (now next : Session) (k : ℕ) (result : Result ⊤ SessionFault) → IsSince (start map image) now → now.breaks ≡ []
-    → k ≡ length now.earlier → k < 65536 → OnOk result (back_of k now ≡ Ok next) → OnOk result (next ≡ fresh map image)
-restored map image now next k (Ok done) since none same few ok = back_held k now next same ok ∙ back_to_start map image now since none (omega arith)
-restored map image now next k (Err fault) since none same few ok = ok
+pub restored : (map : Map) (image : List (Option ℕ)) (now next : Session) (k : ℕ) → IsSince (start map image) now → now.breaks ≡ []
+    → k ≡ length now.earlier → k < 65536 → back_of k now ≡ Ok next → next ≡ fresh map image
+restored map image now next k since none same few ok = back_held k now next same ok ∙ back_to_start map image now since none (omega arith)

@@ -12,10 +12,10 @@ ghost use Rattle.row_runner.specs.Start.{fresh, IsSince};
 use crate::going_back::restore;
 use crate::passes::{Pair, all_hold, call_start, given_all};
 use bus::{Image, MapSpec};
-use debugger::{RunEnd, Session, SessionFault, Why};
+use debugger::{RunEnd, Session, Why};
 use rig::call;
 use row_reader::{Range, Row};
-use std::alloc::Global;
+use std::alloc::{AllocError, Global};
 
 /// The most steps of a call.
 pub const MOST_STEPS: u32 = 10_000_000;
@@ -24,7 +24,7 @@ pub const MOST_STEPS: u32 = 10_000_000;
 const RETURN_ADDRESS: u16 = 0xffff;
 
 /// Calls a row's subroutine in a session with no breakpoint.
-fn called(session: &mut Session, address: u16) -> Result<RunEnd, SessionFault>
+fn called(session: &mut Session, address: u16) -> Result<RunEnd, AllocError>
     requires stops { session.old.breaks ≡ [] }
     ensures ok { IfOk result
         (λ end. call_of address most_steps session.old ≡ Ok (end, session.new)) }
@@ -33,14 +33,18 @@ fn called(session: &mut Session, address: u16) -> Result<RunEnd, SessionFault>
 {
     match call(session, address, MOST_STEPS) {
         Ok(end) => Ok(end),
-        Err(fault) => Err(fault),
+        Err(_) => Err(AllocError),
     }
 }
 
 /// Runs a row for one value of each range, and returns whether it passes. The session is then where
 /// the call has ended.
+///
+/// # Errors
+///
+/// `AllocError` if an allocation failed.
 #[tactic(auto, unfolding(crate::specs::Passes::pair_passes))]
-pub fn run_pair(session: &mut Session, row: &Row, pair: Pair) -> Result<bool, SessionFault>
+pub fn run_pair(session: &mut Session, row: &Row, pair: Pair) -> Result<bool, AllocError>
     requires stops { session.old.breaks ≡ [] }
     ensures passes { IfOk result
         (λ passes. passes ≡ pair_passes (row_view row.now) session.old (pair_of pair)) }
@@ -68,7 +72,7 @@ fn failed_pair(
     image: &Image,
     row: &Row,
     pair: Pair,
-) -> Result<Option<Pair>, SessionFault>
+) -> Result<Option<Pair>, AllocError>
     requires { session.old ≡ fresh map image.now }
     ensures failed { IfOk result (λ failed. option_map pair_of failed
         ≡ failed_pair (row_view row.now) (fresh map image.now) (pair_of pair)) }
@@ -87,7 +91,7 @@ fn first_failed_under(
     image: &Image,
     row: &Row,
     first: u32,
-) -> Result<Option<Pair>, SessionFault>
+) -> Result<Option<Pair>, AllocError>
     requires { session.old ≡ fresh map image.now }
     ensures failed { IfOk result (λ failed. option_map pair_of failed ≡ first_in row.now.second
         (λ b. failed_pair (row_view row.now) (fresh map image.now) (first, b))) }
@@ -110,7 +114,7 @@ fn first_failed_under(
 ///
 /// # Errors
 ///
-/// `OutOfMemory`: a request for memory was refused.
+/// `AllocError` if an allocation failed.
 #[tactic(auto, unfolding(crate::specs::Passes::first_failed))]
 pub fn first_failed(
     alloc: Global,
@@ -118,7 +122,7 @@ pub fn first_failed(
     map: MapSpec,
     image: &Image,
     row: &Row,
-) -> Result<Option<Pair>, SessionFault>
+) -> Result<Option<Pair>, AllocError>
     requires { session.old ≡ fresh map image.now }
     ensures failed { IfOk result (λ failed. option_map pair_of failed
         ≡ first_failed (row_view row.now) (fresh map image.now)) }

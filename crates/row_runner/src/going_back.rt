@@ -5,8 +5,8 @@ ghost use Rattle.model.specs.Event.{start};
 ghost use Rattle.row_runner.specs.Start.{fresh, IsSince};
 
 use bus::{Image, MapSpec};
-use debugger::{Session, SessionFault};
-use std::alloc::Global;
+use debugger::Session;
+use std::alloc::{AllocError, Global};
 
 /// The most events that a bench can undo, and so hold.
 pub const HISTORY: u32 = 65536;
@@ -16,22 +16,31 @@ pub const HISTORY: u32 = 65536;
 ///
 /// # Errors
 ///
-/// `OutOfMemory`: a new session was needed, and a request for memory was refused.
+/// `AllocError` if a new session was needed and an allocation failed. A new session is refused for
+/// no other reason: a caller's image has no byte at the port, since the session stands on it.
 pub fn restore(
     alloc: Global,
     session: &mut Session,
     map: MapSpec,
     image: &Image,
-) -> Result<(), SessionFault>
+) -> Result<(), AllocError>
     requires since { IsSince (start map image.now) session.old }
     requires stops { session.old.breaks ≡ [] }
     ensures ok { OnOk result (session.new ≡ fresh map image.now) }
 {
     let held = session.held();
     if held == HISTORY {
-        *session = Session::new(alloc, map, image, HISTORY)?;
-        Ok(())
+        match Session::new(alloc, map, image, HISTORY) {
+            Ok(made) => {
+                *session = made;
+                Ok(())
+            }
+            Err(_) => Err(AllocError),
+        }
     } else {
-        session.back(held)
+        match session.back(held) {
+            Ok(()) => Ok(()),
+            Err(_) => Err(AllocError),
+        }
     }
 }

@@ -6,10 +6,10 @@ ghost use Rattle.row_runner.specs.Start.{fresh};
 ghost use Rattle.row_verdicts.specs.Verdicts.{failures, failures_view, rows_view};
 
 use bus::{Image, MapSpec};
-use debugger::{Session, SessionFault};
+use debugger::Session;
 use row_reader::Row;
 use row_runner::{Pair, first_failed};
-use std::alloc::Global;
+use std::alloc::{AllocError, Global};
 
 /// Runs rows on a machine, each from its start and for each value of its ranges. Returns for each
 /// row the first values for which it fails, or `None` where it passes. The session is at the
@@ -17,14 +17,14 @@ use std::alloc::Global;
 ///
 /// # Errors
 ///
-/// `OutOfMemory`: a request for memory was refused.
+/// `AllocError` if an allocation failed.
 pub fn judge(
     alloc: Global,
     session: &mut Session,
     map: MapSpec,
     image: &Image,
     rows: &[(u32, Row)],
-) -> Result<Vec<Option<Pair>>, SessionFault>
+) -> Result<Vec<Option<Pair>>, AllocError>
     requires { session.old ≡ fresh map image.now }
     ensures failed { IfOk result (λ found. failures_view found.items
         ≡ failures (fresh map image.now) (rows_view rows.now)) }
@@ -33,9 +33,7 @@ pub fn judge(
     let mut found = Vec::new(alloc);
     for row in rows {
         let failed = first_failed(alloc, session, map, image, &row.1)?;
-        if found.push(failed).is_err() {
-            return Err(SessionFault::OutOfMemory);
-        }
+        found.push(failed)?;
     }
     Ok(found)
 }
