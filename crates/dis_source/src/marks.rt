@@ -5,7 +5,6 @@ ghost use Rattle.dis_source.specs.Marks.{cell_between, lies_in, lies_in_one, mar
 ghost use Rattle.dis_source.specs.Marks.{with_cell};
 
 use bus::Image;
-use model::BusFault;
 use source_text::Mark;
 use std::alloc::{AllocError, Global};
 
@@ -81,14 +80,15 @@ fn put_cell(part: &mut Image, address: u16, cell: Option<u8>)
     }
 }
 
-/// Returns an image's bytes between two addresses. The only error is that a request for memory was
-/// refused.
+/// Returns an image's bytes between two addresses. The only error is that an allocation failed.
 #[tactic(auto, using(crate::proofs::Between::turn))]
-pub fn between(alloc: Global, image: &Image, first: u16, last: u16) -> Result<Image, BusFault>
+pub fn between(alloc: Global, image: &Image, first: u16, last: u16) -> Result<Image, AllocError>
     ensures { IfOk result
         (λ part. (a : ℕ) → a < 65536 → cell_at part a ≡ cell_between image.now first last a) }
 {
-    let mut part = Image::new(alloc)?;
+    let Ok(mut part) = Image::new(alloc) else {
+        return Err(AllocError);
+    };
     // For the proof: that every image has 65,536 cells.
     let _ = part.cells();
     for address in 0..65536u32 {

@@ -3,6 +3,7 @@
 ghost use Rattle.std.specs.Prelude.{◌≡◌, ◌≤◌, ℕ, List, Option, IfOk};
 ghost use Rattle.model.specs.Event.{start};
 ghost use Rattle.model.specs.Session.{new_session};
+ghost use Rattle.loading.specs.Statuses.{status_of_load};
 
 use crate::options::FileWords;
 use assembler::{Assembly, assemble};
@@ -48,7 +49,7 @@ impl LoadFault {
     /// Writes why the file was not loaded, and returns the exit status, even if the line cannot be
     /// written. It is 2 for a tape that is given as a source.
     pub fn tell<E: Write>(self, file: &str, errors: &mut E) -> u8
-        ensures { 1 ≤ result × result ≤ 4 }
+        ensures { result ≡ status_of_load self }
     {
         match self {
             LoadFault::LooksLikeTape => {
