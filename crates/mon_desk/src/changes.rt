@@ -1,15 +1,18 @@
 //! Lines that set stops, or change registers, memory or the console's input.
 
-ghost use Rattle.std.specs.Prelude.{◌≤◌, length};
+ghost use Rattle.std.specs.Prelude.{◌≡◌, ◌≤◌, length};
+ghost use Rattle.model.specs.declared.event.Event.TheVariants.{Irq, Nmi, Reset, Set};
+ghost use Rattle.mon_desk.specs.Served.{KeepsStops, ShowsOnly, course_of, happened};
 
 use crate::desk::Desk;
 use assembler::assemble_line_in;
 use formatting::{digits_of, digits_of_address};
 use model::{AsmFaultKind, Setting};
 use mon_lines::{Stretch, WatchKind};
-use mon_stops::{Break, Watch};
+use mon_stops::{Break, Stops, Watch};
 use mon_views::{push_break, push_count, push_place, push_row, push_watch};
 use monitor::{Event, SessionFault};
+use places::Places;
 use std::alloc::{AllocError, Global};
 
 /// The most bytes that are watched for changes.
@@ -25,9 +28,29 @@ fn word_bytes(bytes: &[u8]) -> usize
         .count()
 }
 
+/// Appends breaks and watches, each on a line.
+fn push_stops(text: &mut Vec<u8>, stops: &Stops, places: &Places) -> Result<(), AllocError> {
+    for stop in &stops.breaks {
+        push_break(
+            text,
+            places,
+            stop.address,
+            stop.tests.as_slice(),
+            stop.times,
+        )?;
+    }
+    for watch in &stops.watches {
+        push_watch(text, places, watch.stretch, watch.kind)?;
+    }
+    Ok(())
+}
+
 impl Desk {
     /// Sets a break, in place of one that stands there.
-    pub fn set_break(&mut self, stop: Break) -> Result<(), AllocError> {
+    pub fn set_break(&mut self, stop: Break) -> Result<(), AllocError>
+        ensures events { self.new.events ≡ self.old.events }
+        ensures places { self.new.places ≡ self.old.places }
+    {
         let address = stop.address;
         match self.session.set_break(address) {
             Ok(()) | Err(SessionFault::AlreadySet) => {
@@ -51,7 +74,10 @@ impl Desk {
 
     /// Watches the changes of a stretch in the session, at most 256 bytes of it. Returns why it
     /// cannot, if it cannot; some bytes are watched then.
-    fn watch_changes(&mut self, stretch: Stretch) -> Result<Option<&'static str>, AllocError> {
+    fn watch_changes(&mut self, stretch: Stretch) -> Result<Option<&'static str>, AllocError>
+        ensures events { self.new.events ≡ self.old.events }
+        ensures stops { KeepsStops self.old self.new }
+    {
         if stretch.last.saturating_sub(stretch.first) >= MOST_WATCHED {
             return Ok(Some("at most 256 bytes are watched for changes\n"));
         }
@@ -71,7 +97,10 @@ impl Desk {
     }
 
     /// Ends the watch of changes in the session at each address of a stretch that no watch has.
-    fn unwatch(&mut self, stretch: Stretch) {
+    fn unwatch(&mut self, stretch: Stretch)
+        ensures events { self.new.events ≡ self.old.events }
+        ensures stops { KeepsStops self.old self.new }
+    {
         for address in stretch.first..=stretch.last {
             if !self.stops.has_access(WatchKind::Change, address) {
                 let _ = self.session.clear_watch(address);
@@ -80,7 +109,10 @@ impl Desk {
     }
 
     /// Sets a watch.
-    pub fn set_watch(&mut self, watch: Watch) -> Result<(), AllocError> {
+    pub fn set_watch(&mut self, watch: Watch) -> Result<(), AllocError>
+        ensures events { self.new.events ≡ self.old.events }
+        ensures places { self.new.places ≡ self.old.places }
+    {
         if watch.is_change() {
             if let Some(words) = self.watch_changes(watch.stretch)? {
                 self.unwatch(watch.stretch);
@@ -92,7 +124,10 @@ impl Desk {
     }
 
     /// Clears the break and the first watch at an address.
-    pub fn delete(&mut self, address: u16) -> Result<(), AllocError> {
+    pub fn delete(&mut self, address: u16) -> Result<(), AllocError>
+        ensures events { self.new.events ≡ self.old.events }
+        ensures places { self.new.places ≡ self.old.places }
+    {
         let is_break = self.session.clear_break(address).is_ok();
         let _ = self.stops.forget_break(address);
         let watch = self.stops.forget_watch(address);
@@ -109,27 +144,20 @@ impl Desk {
     }
 
     /// Shows breaks and watches.
-    pub fn list(&mut self) -> Result<(), AllocError> {
+    pub fn list(&mut self) -> Result<(), AllocError>
+        ensures { ShowsOnly self.old self.new }
+    {
         if self.stops.breaks.is_empty() && self.stops.watches.is_empty() {
             return self.say("no break and no watch is set\n");
         }
-        for stop in &self.stops.breaks {
-            push_break(
-                &mut self.text,
-                &self.places,
-                stop.address,
-                stop.tests.as_slice(),
-                stop.times,
-            )?;
-        }
-        for watch in &self.stops.watches {
-            push_watch(&mut self.text, &self.places, watch.stretch, watch.kind)?;
-        }
-        Ok(())
+        push_stops(&mut self.text, &self.stops, &self.places)
     }
 
     /// Sets a register.
-    pub fn set(&mut self, setting: Setting) -> Result<(), AllocError> {
+    pub fn set(&mut self, setting: Setting) -> Result<(), AllocError>
+        ensures course { course_of self.new ≡ happened (Set setting) (course_of self.old) }
+        ensures stops { KeepsStops self.old self.new }
+    {
         if self.happen(Event::Set(setting))? {
             self.show(None)?;
         }
@@ -235,7 +263,10 @@ impl Desk {
     }
 
     /// Sets the interrupt line.
-    pub fn set_irq(&mut self, level: bool) -> Result<(), AllocError> {
+    pub fn set_irq(&mut self, level: bool) -> Result<(), AllocError>
+        ensures course { course_of self.new ≡ happened (Irq level) (course_of self.old) }
+        ensures stops { KeepsStops self.old self.new }
+    {
         if self.happen(Event::Irq(level))? {
             if !level {
                 return self.say("IRQ is not asked for\n");
@@ -249,7 +280,10 @@ impl Desk {
     }
 
     /// Asks for an NMI.
-    pub fn ask_nmi(&mut self) -> Result<(), AllocError> {
+    pub fn ask_nmi(&mut self) -> Result<(), AllocError>
+        ensures course { course_of self.new ≡ happened Nmi (course_of self.old) }
+        ensures stops { KeepsStops self.old self.new }
+    {
         if self.happen(Event::Nmi)? {
             self.say("NMI is asked for: the next step enters it\n")?;
         }
@@ -257,7 +291,10 @@ impl Desk {
     }
 
     /// Resets the processor.
-    pub fn reset(&mut self) -> Result<(), AllocError> {
+    pub fn reset(&mut self) -> Result<(), AllocError>
+        ensures course { course_of self.new ≡ happened Reset (course_of self.old) }
+        ensures stops { KeepsStops self.old self.new }
+    {
         if self.happen(Event::Reset)? {
             self.show(None)?;
         }

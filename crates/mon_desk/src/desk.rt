@@ -1,11 +1,16 @@
 //! What a session of `mon` has: the machine, its events, its stops, its places, and the text that
 //! is to be written.
 
-use crate::events::Events;
+ghost use Rattle.std.specs.Prelude.{◌≡◌, IfOk, OnOk, is_ok};
+ghost use Rattle.model.specs.Event.{event_of};
+ghost use Rattle.mon_desk.specs.Served.{KeepsStops, ShowsOnly, course_of, happened};
+
+use model::EventFault;
 use mon_lines::{decimal_address, read_line};
 use mon_stops::Stops;
 use mon_views::{push_fault, push_next, push_slip, push_state, push_text};
 use monitor::{Event, Session};
+use past_events::Events;
 use places::Places;
 use std::alloc::{AllocError, Global};
 
@@ -61,24 +66,45 @@ impl Desk {
     }
 
     /// Says something.
-    pub fn say(&mut self, words: &str) -> Result<(), AllocError> {
+    pub fn say(&mut self, words: &str) -> Result<(), AllocError>
+        ensures { ShowsOnly self.old self.new }
+    {
         push_text(&mut self.text, words)
     }
 
     /// Shows the registers and what comes next.
-    pub fn show(&mut self, cycles_before: Option<u64>) -> Result<(), AllocError> {
+    pub fn show(&mut self, cycles_before: Option<u64>) -> Result<(), AllocError>
+        ensures { ShowsOnly self.old self.new }
+    {
         push_state(&mut self.text, &self.session, &self.places, cycles_before)?;
         push_next(&mut self.text, &self.session, &self.places)
     }
 
-    /// Makes an event that is no step, and returns whether it was accepted. Otherwise it says why
-    /// not.
-    pub fn happen(&mut self, event: Event) -> Result<bool, AllocError> {
+    /// Makes an event that is no step. Errors: those of the session; nothing is changed then.
+    fn make(&mut self, event: Event) -> Result<(), EventFault>
+        ensures course { course_of self.new ≡ happened event (course_of self.old) }
+        ensures accepted { is_ok result ≡ is_ok (event_of self.old.session.current event) }
+        ensures stops { KeepsStops self.old self.new }
+    {
         match self.session.event(event) {
             Ok(()) => {
                 self.events.note(event);
-                Ok(true)
+                Ok(())
             }
+            Err(fault) => Err(fault),
+        }
+    }
+
+    /// Makes an event that is no step, and returns whether it was accepted. Otherwise it says why
+    /// not.
+    pub fn happen(&mut self, event: Event) -> Result<bool, AllocError>
+        ensures course { course_of self.new ≡ happened event (course_of self.old) }
+        ensures accepted { IfOk result
+            (λ is_accepted. is_accepted ≡ is_ok (event_of self.old.session.current event)) }
+        ensures stops { KeepsStops self.old self.new }
+    {
+        match self.make(event) {
+            Ok(()) => Ok(true),
             Err(fault) => {
                 push_fault(&mut self.text, &self.places, fault)?;
                 self.say("\n")?;

@@ -10,7 +10,6 @@ pub use monitor::Session;
 
 mod changes;
 mod desk;
-mod events;
 mod looks;
 mod moves;
 mod past;

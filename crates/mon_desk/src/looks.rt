@@ -1,5 +1,7 @@
 //! What a line does, and lines that only look.
 
+ghost use Rattle.mon_desk.specs.Served.{ShowsOnly};
+
 use crate::desk::Desk;
 use mon_lines::Command;
 use mon_stops::{Break, Watch};
@@ -17,7 +19,9 @@ const MOST_FOUND: u32 = 16;
 
 impl Desk {
     /// Shows instructions from an address on.
-    fn show_instructions(&mut self, address: u16, count: u32) -> Result<(), AllocError> {
+    fn show_instructions(&mut self, address: u16, count: u32) -> Result<(), AllocError>
+        ensures { ShowsOnly self.old self.new }
+    {
         let mut at = address;
         for _ in 0..count.min(MOST_ROWS) {
             let length = push_row(&mut self.text, &self.session, &self.places, at)?;
@@ -42,7 +46,9 @@ impl Desk {
     }
 
     /// Shows where bytes stand.
-    fn find(&mut self, bytes: &[u8]) -> Result<(), AllocError> {
+    fn find(&mut self, bytes: &[u8]) -> Result<(), AllocError>
+        ensures { ShowsOnly self.old self.new }
+    {
         let mut count = 0u32;
         for address in 0..=65535u16 {
             if self.stands_at(bytes, address) {
@@ -99,7 +105,9 @@ impl Desk {
     }
 
     /// Shows what a line asks for that changes nothing.
-    fn look(&mut self, command: Command<'_>) -> Result<(), AllocError> {
+    fn look(&mut self, command: Command<'_>) -> Result<(), AllocError>
+        ensures { ShowsOnly self.old self.new }
+    {
         match command {
             Command::Where => push_calls(&mut self.text, &self.session, &self.places),
             Command::Regs => push_state(&mut self.text, &self.session, &self.places, None),

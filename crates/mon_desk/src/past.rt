@@ -1,10 +1,16 @@
 //! Lines that move the session backwards, and make undone events again.
 
+ghost use Rattle.std.specs.Prelude.{◌≡◌, ◌∷◌, [], ℕ, OnOk};
+ghost use Rattle.monitor.specs.Recall.{last_stop, made_again};
+ghost use Rattle.past_events.specs.Past.{with_undone};
+ghost use Rattle.mon_desk.specs.Served.{KeepsStops, ShowsOnly, course_of, most_remade, remade, remade_one};
+ghost use Rattle.mon_desk.specs.Served.{undone};
+
 use crate::desk::Desk;
 use mon_lines::Undoing;
 use mon_runs::back_over;
 use mon_views::{push_place, push_row};
-use monitor::{Event, back_to_stop, make_again};
+use monitor::{Event, SessionFault, back_to_stop, make_again};
 use std::alloc::AllocError;
 use std::slice;
 
@@ -39,13 +45,27 @@ impl Desk {
         }
     }
 
-    /// Undoes so many events.
-    fn undo_events(&mut self, count: u32) -> Result<(), AllocError> {
+    /// Undoes so many events. Errors: those of the session; nothing is changed then.
+    fn go_back(&mut self, count: u32) -> Result<(), SessionFault>
+        ensures course { course_of self.new ≡ undone count (course_of self.old) }
+        ensures stops { KeepsStops self.old self.new }
+    {
         match self.session.back(count) {
             Ok(()) => {
                 self.events.note_undone(count);
-                self.show(None)
+                Ok(())
             }
+            Err(fault) => Err(fault),
+        }
+    }
+
+    /// Undoes so many events, or says how many can be.
+    fn undo_events(&mut self, count: u32) -> Result<(), AllocError>
+        ensures course { course_of self.new ≡ undone count (course_of self.old) }
+        ensures stops { KeepsStops self.old self.new }
+    {
+        match self.go_back(count) {
+            Ok(()) => self.show(None),
             Err(_) => {
                 let held = self.session.held() as u64;
                 self.say("only ")?;
@@ -55,7 +75,11 @@ impl Desk {
     }
 
     /// Notes undone events, and shows the state before them.
-    fn undone(&mut self, count: u32) -> Result<(), AllocError> {
+    fn undone(&mut self, count: u32) -> Result<(), AllocError>
+        ensures session { self.new.session ≡ self.old.session }
+        ensures events { self.new.events ≡ with_undone count self.old.events }
+        ensures stops { KeepsStops self.old self.new }
+    {
         self.events.note_undone(count);
         self.count(count as u64, " event undone\n", " events undone\n")?;
         self.show(None)
@@ -95,24 +119,49 @@ impl Desk {
         self.undone(count)
     }
 
+    /// Makes the next event that was undone again, if there is one.
+    fn redo_one(&mut self)
+        ensures course { course_of self.new ≡ remade_one (course_of self.old) }
+        ensures stops { KeepsStops self.old self.new }
+    {
+        if let Some(event) = self.events.next() {
+            let _ = make_again(&mut self.session, slice::from_ref(&event));
+        }
+    }
+
+    /// Makes so many of the events that were undone again.
+    fn redo_some(&mut self, count: u32)
+        ensures course { course_of self.new ≡ remade count (course_of self.old) }
+        ensures stops { KeepsStops self.old self.new }
+    {
+        for _ in 0..count {
+            self.redo_one();
+        }
+    }
+
     /// Makes undone events again.
-    pub fn redo(&mut self, count: Option<u32>) -> Result<(), AllocError> {
+    pub fn redo(&mut self, count: Option<u32>) -> Result<(), AllocError>
+        ensures course { course_of self.new ≡ remade (most_remade count self.old.events.undone)
+            (course_of self.old) }
+        ensures stops { KeepsStops self.old self.new }
+    {
         let most = count.unwrap_or(u32::MAX).min(self.events.undone());
+        let cycles = self.session.cycles();
+        self.redo_some(most);
         if most == 0 {
             return self.say("there is nothing to make again\n");
-        }
-        let cycles = self.session.cycles();
-        for _ in 0..most {
-            if let Some(event) = self.events.next() {
-                let _ = make_again(&mut self.session, slice::from_ref(&event));
-            }
         }
         self.count(most as u64, " event made again\n", " events made again\n")?;
         self.show(Some(cycles))
     }
 
     /// Makes an undone event again, and shows it.
-    fn redo_shown(&mut self, event: Event) -> Result<(), AllocError> {
+    fn redo_shown(&mut self, event: Event) -> Result<(), AllocError>
+        ensures session { OnOk result
+            (self.new.session ≡ (made_again (event ∷ []) self.old.session).1) }
+        ensures events { self.new.events ≡ self.old.events }
+        ensures stops { KeepsStops self.old self.new }
+    {
         let regs = self.session.regs();
         let cycles = self.session.cycles();
         let length = self.text.len();

@@ -1,5 +1,7 @@
 //! How a run has ended, in words.
 
+ghost use Rattle.mon_desk.specs.Served.{ShowsOnly};
+
 use crate::desk::Desk;
 use mon_runs::{EndWhy, Ended};
 use mon_views::{push_count, push_end, push_place};
@@ -14,13 +16,17 @@ pub const RETURNED: &str = "the subroutine has returned";
 
 impl Desk {
     /// Says a number of things, each of which has a name for one and for more.
-    pub fn count(&mut self, number: u64, one: &str, more: &str) -> Result<(), AllocError> {
+    pub fn count(&mut self, number: u64, one: &str, more: &str) -> Result<(), AllocError>
+        ensures { ShowsOnly self.old self.new }
+    {
         push_count(&mut self.text, number)?;
         self.say(if number == 1 { one } else { more })
     }
 
     /// Says how a run has ended. Where it met its goal, `met` says what that means.
-    pub fn told(&mut self, end: Ended, met: &str) -> Result<(), AllocError> {
+    pub fn told(&mut self, end: Ended, met: &str) -> Result<(), AllocError>
+        ensures { ShowsOnly self.old self.new }
+    {
         match end.why {
             EndWhy::Led(why) => {
                 let end = LedEnd { did: end.did, why };
