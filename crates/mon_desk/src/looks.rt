@@ -84,11 +84,7 @@ impl Desk {
                 address,
                 tests,
                 times,
-            } => self.set_break(Break {
-                address,
-                tests,
-                times,
-            })?,
+            } => self.set_break(Break::new(address, tests, times))?,
             Command::Watch { stretch, kind } => self.set_watch(Watch { stretch, kind })?,
             Command::List => self.list()?,
             Command::Delete(address) => self.delete(address)?,

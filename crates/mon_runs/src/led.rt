@@ -2,6 +2,7 @@
 
 ghost use Rattle.std.specs.Prelude.{◌≡◌, ◌≤◌, ◌^◌};
 ghost use Rattle.model.specs.Run.{after_steps};
+ghost use Rattle.mon_runs.specs.Ends.{breaks_after, is_end, is_entry, is_to};
 
 use crate::ended::{EndWhy, Ended};
 use debugger::{Regs, Session, Why};
@@ -53,7 +54,9 @@ fn look(session: &Session) -> Sight {
 /// Returns whether a step was the entry of an interrupt, where the stack pointer and the cycles
 /// before it were these. Such a step takes 7 cycles and pushes three bytes, as BRK alone does
 /// otherwise; but BRK pushes P with its bit 4 set.
-pub fn is_entry(session: &Session, stack: u8, cycles: u64) -> bool {
+pub fn is_entry(session: &Session, stack: u8, cycles: u64) -> bool
+    ensures { result ≡ is_entry stack cycles session.now.current }
+{
     let is_long = session.cycles().saturating_sub(cycles) == 7;
     let is_pushed = session.regs().s == stack.wrapping_sub(3);
     let pushed = session.peek(0x0100 + stack.wrapping_sub(2) as u16);
@@ -103,12 +106,28 @@ fn is_met(goal: Goal, before: Sight, after: Regs, cycles: u64) -> bool {
     }
 }
 
+/// Returns whether an address is the one that is run to.
+fn is_to(until: Option<u16>, at: u16) -> bool
+    ensures { result ≡ is_to until at }
+{
+    match until {
+        None => false,
+        Some(address) => address == at,
+    }
+}
+
 /// Returns whether a run ends for this reason: it goes on past a break whose tests do not hold, but
 /// not past the address that it runs to.
-pub fn is_end(session: &Session, stops: &mut Stops, until: Option<u16>, why: Why) -> bool {
+pub fn is_end(session: &Session, stops: &mut Stops, until: Option<u16>, why: Why) -> bool
+    ensures end { result ≡ is_end until why session.now.current stops.old.breaks.items }
+    ensures breaks { stops.new.breaks.items
+        ≡ breaks_after until why session.now.current stops.old.breaks.items }
+    ensures watches { stops.new.watches ≡ stops.old.watches }
+    ensures changes { stops.new.changes ≡ stops.old.changes }
+{
     match why {
         Why::Limit => false,
-        Why::Break(at) => until == Some(at) || stops.is_met(session, at),
+        Why::Break(at) => is_to(until, at) || stops.is_met(session, at),
         Why::Watch(_) | Why::Refused(_) => true,
     }
 }

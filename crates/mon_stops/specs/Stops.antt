@@ -1,6 +1,7 @@
--- When a break stops a run. Source: mos65.
-use Rattle.std.specs.Prelude.{ℕ, ◌==◌, ◌&&◌, Bool, true, false, not, nat_eq, nat_lt, nat_le, if◌then◌else◌, List, [], ◌∷◌, length, slice_index}
-use Rattle.std.specs.List.{list_all}
+-- When a break or a watch stops a run. Source: mos65.
+use Rattle.std.specs.Prelude.{ℕ, ◌+◌, ◌-◌, ◌==◌, ◌&&◌, Bool, true, false, not, nat_eq, nat_lt, nat_le, if◌then◌else◌, List, [], ◌∷◌, ◌++◌, zero, suc, length, slice_index, find, filter, Option}
+use Rattle.std.specs.List.{list_all, list_any}
+use Rattle.std.specs.Set.{remove_key}
 use Rattle.model.specs.State.{State}
 use Rattle.model.specs.Effect.{status}
 use Rattle.mon_lines.specs.declared.command.Register.{Register}
@@ -44,15 +45,79 @@ holds state test = compares test.compare (value_of test.left state) test.right
 abbrev pub all_hold : State → List Test → Bool
 all_hold state tests = list_all (holds state) tests
 
--- Whether the tests of the first break at an address hold. They do if no break stands there.
+-- ---- visits
+
+-- Whether a break stands at an address.
+abbrev pub is_at : ℕ → Break → Bool
+is_at address b = nat_eq b.address address
+
+-- Whether the next visit that counts is the last of as many as the break says.
+abbrev pub is_last_visit : Break → Bool
+is_last_visit b = nat_le b.times (b.visits + 1)
+
+-- A break after a visit that counts. After the last of them it counts from 0 again.
+abbrev pub counted : Break → Break
+counted b = record b { visits = if is_last_visit b then 0 else b.visits + 1 }
+
+-- Whether a visit stops a run: the tests hold, and it is the last of as many as the break says.
+abbrev pub is_stop : State → Break → Bool
+is_stop state b = all_hold state b.tests.items && is_last_visit b
+
+-- A break after a visit, which counts where the tests hold.
+abbrev pub visited : State → Break → Break
+visited state b = if all_hold state b.tests.items then counted b else b
+
+-- Whether a visit at an address stops a run: the first break there says so. Where none stands there
+-- it does, as the session's own breakpoint.
 unfoldable pub stops_at : ℕ → List Break → State → Bool
 stops_at address [] state = true
-stops_at address (b ∷ rest) state = if nat_eq b.address address
-    then all_hold state b.tests.items else stops_at address rest state
+stops_at address (b ∷ rest) state = if is_at address b then is_stop state b
+    else stops_at address rest state
+
+-- The breaks after a visit at an address: the first one there was visited.
+unfoldable pub after_visit : ℕ → List Break → State → List Break
+after_visit address [] state = []
+after_visit address (b ∷ rest) state = if is_at address b then visited state b ∷ rest
+    else b ∷ after_visit address rest state
+
+-- The breaks without the first one at an address.
+abbrev pub without : ℕ → List Break → List Break
+without address breaks = remove_key (is_at address) breaks
 
 -- A break that stops a run at each visit.
 abbrev pub is_plain_break : Break → Bool
 is_plain_break b = nat_eq (length b.tests.items) 0 && nat_le b.times 1
+
+-- ---- watches
+
+-- Whether an address is one of those watched.
+abbrev pub has : Watch → ℕ → Bool
+has w address = nat_le w.stretch.first address && nat_le address w.stretch.last
+
+abbrev pub is_same_kind : WatchKind → WatchKind → Bool
+is_same_kind Change Change = true
+is_same_kind Read Read = true
+is_same_kind Write Write = true
+is_same_kind kind other = false
+
+-- Whether a watch is for an access of a kind at an address.
+abbrev pub is_for : WatchKind → ℕ → Watch → Bool
+is_for kind address w = is_same_kind w.kind kind && has w address
+
+-- Whether an access of a kind at an address stops a run.
+unfoldable pub has_access : WatchKind → ℕ → List Watch → Bool
+has_access kind address watches = list_any (is_for kind address) watches
+
+-- The first watch that has an address, and the watches without it.
+abbrev pub first_with : ℕ → List Watch → Option Watch
+first_with address watches = find (λ w. has w address) watches
+
+abbrev pub without_first_with : ℕ → List Watch → List Watch
+without_first_with address watches = remove_key (λ w. has w address) watches
+
+-- Of some addresses those at which a change stops a run.
+abbrev pub changes_of : List Watch → List ℕ → List ℕ
+changes_of watches addresses = filter (λ a. has_access Change a watches) addresses
 
 -- A watch for changes, which the session itself makes.
 abbrev pub is_change_kind : WatchKind → Bool
@@ -62,6 +127,21 @@ is_change_kind Write = false
 
 abbrev pub is_change : Watch → Bool
 is_change w = is_change_kind w.kind
+
+-- The first n addresses from one on.
+unfoldable pub addresses : ℕ → ℕ → List ℕ
+addresses first zero = []
+addresses first (suc n) = addresses first n ++ (first + n) ∷ []
+
+-- Of some addresses those at which a change stops no run yet.
+abbrev pub new_among : List Watch → List ℕ → List ℕ
+new_among watches addresses = filter (λ a. not (has_access Change a watches)) addresses
+
+-- The addresses at which a change stops a run once a watch is set, and did not before.
+abbrev pub new_changes : List Watch → Watch → List ℕ
+new_changes watches w = if is_change w
+    then new_among watches (addresses w.stretch.first ((w.stretch.last + 1) - w.stretch.first))
+    else []
 
 abbrev pub has_changes_only : Stops → Bool
 has_changes_only stops = list_all is_change stops.watches.items

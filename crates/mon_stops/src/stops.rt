@@ -1,14 +1,15 @@
 //! Breaks and watches that lines have set.
 
-ghost use Rattle.std.specs.Prelude.{◌≡◌, true, IfNone, IfSome};
-ghost use Rattle.std.specs.List.{list_all};
-ghost use Rattle.mon_stops.specs.Stops.{all_hold, has_changes_only, is_plain, is_plain_break};
-ghost use Rattle.mon_stops.specs.Stops.{stops_at};
-ghost use Rattle.model.specs.State.{State};
+ghost use Rattle.std.specs.Prelude.{◌≡◌, ◌<◌, ◌++◌, ◌∷◌, [], IfNone, IfSome, OnErr, OnOk, OnSome};
+ghost use Rattle.std.specs.Prelude.{◌+◌, ◌≤◌, length, remove, position};
+ghost use Rattle.std.specs.List.{list_all, list_any};
+ghost use Rattle.mon_stops.specs.Stops.{addresses, after_visit, changes_of, first_with, has, has_access};
+ghost use Rattle.mon_stops.specs.Stops.{has_changes_only, is_at, is_plain, is_plain_break, new_among};
+ghost use Rattle.mon_stops.specs.Stops.{new_changes, stops_at, without};
+ghost use Rattle.mon_stops.specs.Stops.{without_first_with};
 
 use crate::breaks::Break;
-use crate::tests::all_hold;
-use crate::watches::Watch;
+use crate::watches::{Watch, has_access};
 use debugger::Session;
 use mon_lines::WatchKind;
 use std::alloc::{AllocError, Global};
@@ -17,16 +18,87 @@ use std::alloc::{AllocError, Global};
 #[derive(Drop)]
 pub struct Stops {
     pub breaks: Vec<Break>,
-    /// How often each break was visited with its tests met, since it last stopped a run.
-    visits: Vec<u32>,
     pub watches: Vec<Watch>,
     /// The addresses at which a change stops a run, each once.
     pub changes: Vec<u16>,
 }
 
 /// Returns the index of the first break at an address.
-fn index_of(breaks: &[Break], address: u16) -> Option<usize> {
+fn index_of(breaks: &[Break], address: u16) -> Option<usize>
+    ensures first { result ≡ position (is_at address) breaks.now }
+    ensures within { IfSome result (λ index. index < length breaks.now) }
+{
     breaks.iter().position(|stop| stop.address == address)
+}
+
+/// Returns the index of the first watch that has an address.
+fn index_with(watches: &[Watch], address: u16) -> Option<usize>
+    ensures first { result ≡ position (λ w. has w address) watches.now }
+    ensures within { IfSome result (λ index. index < length watches.now) }
+{
+    watches.iter().position(|watch| watch.has(address))
+}
+
+/// Keeps of some addresses those at which a change stops a run.
+fn keep_watched(changes: &mut Vec<u16>, watches: &[Watch])
+    ensures { changes.new.items ≡ changes_of watches.now changes.old.items }
+{
+    changes.retain(|at| has_access(watches, WatchKind::Change, *at));
+}
+
+/// Adds an address to others if no change there stops a run yet. Nothing is changed if memory ran
+/// out.
+fn add_change(changes: &mut Vec<u16>, watches: &[Watch], address: u16) -> Result<(), AllocError>
+    ensures ok { OnOk result
+        (changes.new.items ≡ changes.old.items ++ new_among watches.now (address ∷ [])) }
+    ensures err { OnErr result (changes.new.items ≡ changes.old.items) }
+{
+    if has_access(watches, WatchKind::Change, address) {
+        return Ok(());
+    }
+    changes.push(address)?;
+    Ok(())
+}
+
+/// Adds so many addresses from one on to others, those at which no change stops a run yet. Nothing
+/// is changed if memory ran out.
+fn add_stretch(
+    changes: &mut Vec<u16>,
+    watches: &[Watch],
+    first: u16,
+    count: u32,
+) -> Result<(), AllocError>
+    requires { first + count ≤ 65536 }
+    ensures ok { OnOk result (changes.new.items
+        ≡ changes.old.items ++ new_among watches.now (addresses first count)) }
+    ensures err { OnErr result (changes.new.items ≡ changes.old.items) }
+{
+    let length = changes.len();
+    for offset in 0..count {
+        match add_change(changes, watches, (first as u32 + offset) as u16) {
+            Ok(()) => {}
+            Err(fault) => {
+                changes.truncate(length);
+                return Err(fault);
+            }
+        }
+    }
+    Ok(())
+}
+
+/// Adds the addresses of a watch for changes to others, those at which no change stops a run yet.
+/// Nothing is changed if memory ran out.
+fn add_changes(changes: &mut Vec<u16>, watches: &[Watch], watch: Watch) -> Result<(), AllocError>
+    ensures ok { OnOk result
+        (changes.new.items ≡ changes.old.items ++ new_changes watches.now watch) }
+    ensures err { OnErr result (changes.new.items ≡ changes.old.items) }
+{
+    if !watch.is_change() {
+        return Ok(());
+    }
+    let first = watch.stretch.first;
+    let count = (watch.stretch.last as u32 + 1).saturating_sub(first as u32);
+    add_stretch(changes, watches, first, count)
 }
 
 /// Returns whether no break has tests or times.
@@ -36,38 +108,23 @@ fn has_plain_breaks(breaks: &[Break]) -> bool
     breaks.iter().all(|stop| stop.is_plain())
 }
 
-/// Returns the first break at an address, and its index.
-fn break_at(breaks: &[Break], address: u16) -> Option<(usize, &Break)>
-    ensures none { IfNone result ((s : State) → stops_at address breaks.now s ≡ true) }
-    ensures some { IfSome result (λ found. (s : State)
-        → stops_at address breaks.now s ≡ all_hold s found.1.now.tests.items) }
+/// Removes the break at an index.
+fn remove_at(breaks: &mut Vec<Break>, index: usize)
+    requires { index < length breaks.old.items }
+    ensures { breaks.new.items ≡ remove breaks.old.items index }
 {
-    let mut index = 0usize;
-    for stop in breaks {
-        if stop.address == address {
-            return Some((index, stop));
-        }
-        index = index.saturating_add(1);
-    }
-    None
-}
-
-/// Returns whether one of some watches has an access of a kind at an address.
-fn has_access(watches: &[Watch], kind: WatchKind, address: u16) -> bool {
-    for watch in watches {
-        if watch.kind as u8 == kind as u8 && watch.has(address) {
-            return true;
-        }
-    }
-    false
+    let _ = breaks.remove(index);
 }
 
 impl Stops {
     /// Makes a table without breaks and watches.
-    pub fn new(alloc: Global) -> Stops {
+    pub fn new(alloc: Global) -> Stops
+        ensures breaks { result.breaks.items ≡ [] }
+        ensures watches { result.watches.items ≡ [] }
+        ensures changes { result.changes.items ≡ [] }
+    {
         Stops {
             breaks: Vec::new(alloc),
-            visits: Vec::new(alloc),
             watches: Vec::new(alloc),
             changes: Vec::new(alloc),
         }
@@ -89,90 +146,103 @@ impl Stops {
         watches.iter().all(|watch| watch.is_change())
     }
 
-    /// Counts a visit at a breakpoint, and returns whether it stops the run: whether the tests of
-    /// the first break there hold, and did so as often as it says.
+    /// Visits the first break at an address, and returns whether that stops a run: whether its
+    /// tests hold, and did so as often as it says. Where no break stands there it does.
     pub fn is_met(&mut self, session: &Session, address: u16) -> bool
-        ensures tests { result ≡ true
-            → stops_at address self.old.breaks.items session.now.current ≡ true }
-        ensures same { self.new.breaks ≡ self.old.breaks }
+        ensures stop { result ≡ stops_at address self.old.breaks.items session.now.current }
+        ensures after { self.new.breaks.items
+            ≡ after_visit address self.old.breaks.items session.now.current }
+        ensures watches { self.new.watches ≡ self.old.watches }
+        ensures changes { self.new.changes ≡ self.old.changes }
     {
-        match break_at(self.breaks.as_slice(), address) {
+        match index_of(self.breaks.as_slice(), address) {
             None => true,
-            Some((index, stop)) => {
-                all_hold(session, stop.tests.as_slice())
-                    && count_visit(&mut self.visits, index, stop.times)
-            }
+            Some(index) => match self.breaks.get_mut(index) {
+                None => true,
+                Some(stop) => stop.visit(session),
+            },
         }
     }
 
-    /// Notes a break, in place of the one at its address.
-    pub fn note_break(&mut self, stop: Break) -> Result<(), AllocError> {
-        let _ = self.forget_break(stop.address);
-        self.visits.push(0)?;
+    /// Notes a break, in place of the one at its address. Nothing is changed if memory ran out.
+    pub fn note_break(&mut self, stop: Break) -> Result<(), AllocError>
+        ensures ok { OnOk result (self.new.breaks.items
+            ≡ without stop.address self.old.breaks.items ++ stop ∷ []) }
+        ensures err { OnErr result (self.new.breaks.items ≡ self.old.breaks.items) }
+        ensures watches { self.new.watches ≡ self.old.watches }
+        ensures changes { self.new.changes ≡ self.old.changes }
+    {
+        let index = index_of(self.breaks.as_slice(), stop.address);
         self.breaks.push(stop)?;
+        match index {
+            Some(index) => remove_at(&mut self.breaks, index),
+            None => {}
+        }
         Ok(())
     }
 
-    /// Forgets the break at an address, and returns whether there was one.
-    pub fn forget_break(&mut self, address: u16) -> bool {
+    /// Forgets the first break at an address, and returns whether there was one.
+    pub fn forget_break(&mut self, address: u16) -> bool
+        ensures found { result ≡ list_any (is_at address) self.old.breaks.items }
+        ensures after { self.new.breaks.items ≡ without address self.old.breaks.items }
+        ensures watches { self.new.watches ≡ self.old.watches }
+        ensures changes { self.new.changes ≡ self.old.changes }
+    {
         match index_of(self.breaks.as_slice(), address) {
-            Some(index) if index < self.breaks.len() => {
-                let _ = self.breaks.remove(index);
-                if index < self.visits.len() {
-                    let _ = self.visits.remove(index);
-                }
+            Some(index) => {
+                remove_at(&mut self.breaks, index);
                 true
             }
-            _ => false,
+            None => false,
         }
     }
 
-    /// Notes a watch.
-    pub fn note_watch(&mut self, watch: Watch) -> Result<(), AllocError> {
-        if let WatchKind::Change = watch.kind {
-            for address in watch.stretch.first..=watch.stretch.last {
-                if !self.has_access(WatchKind::Change, address) {
-                    self.changes.push(address)?;
-                }
+    /// Notes a watch. Nothing is changed if memory ran out.
+    pub fn note_watch(&mut self, watch: Watch) -> Result<(), AllocError>
+        ensures ok { OnOk result
+            (self.new.watches.items ≡ self.old.watches.items ++ watch ∷ []) }
+        ensures changes { OnOk result (self.new.changes.items
+            ≡ self.old.changes.items ++ new_changes self.old.watches.items watch) }
+        ensures err { OnErr result ((self.new.watches.items ≡ self.old.watches.items)
+            × (self.new.changes.items ≡ self.old.changes.items)) }
+        ensures breaks { self.new.breaks ≡ self.old.breaks }
+    {
+        let length = self.changes.len();
+        add_changes(&mut self.changes, self.watches.as_slice(), watch)?;
+        match self.watches.push(watch) {
+            Ok(()) => Ok(()),
+            Err(_) => {
+                self.changes.truncate(length);
+                Err(AllocError)
             }
         }
-        self.watches.push(watch)?;
-        Ok(())
     }
 
-    /// Forgets the first watch that has an address, and returns it.
-    pub fn forget_watch(&mut self, address: u16) -> Option<Watch> {
-        let index = self.watches.iter().position(|watch| watch.has(address))?;
-        if index >= self.watches.len() {
-            return None;
+    /// Forgets the first watch that has an address, and returns it. A change at an address that no
+    /// other watch has stops a run no more.
+    pub fn forget_watch(&mut self, address: u16) -> Option<Watch>
+        ensures found { result ≡ first_with address self.old.watches.items }
+        ensures after { self.new.watches.items
+            ≡ without_first_with address self.old.watches.items }
+        ensures some { OnSome result (self.new.changes.items
+            ≡ changes_of self.new.watches.items self.old.changes.items) }
+        ensures none { IfNone result (self.new.changes ≡ self.old.changes) }
+        ensures breaks { self.new.breaks ≡ self.old.breaks }
+    {
+        match index_with(self.watches.as_slice(), address) {
+            Some(index) => {
+                let watch = self.watches.remove(index);
+                keep_watched(&mut self.changes, self.watches.as_slice());
+                Some(watch)
+            }
+            None => None,
         }
-        let watch = self.watches.remove(index);
-        if let WatchKind::Change = watch.kind {
-            let watches = self.watches.as_slice();
-            self.changes
-                .retain(|at| has_access(watches, WatchKind::Change, *at));
-        }
-        Some(watch)
     }
 
     /// Returns whether an access of a kind at an address stops a run.
-    pub fn has_access(&self, kind: WatchKind, address: u16) -> bool {
+    pub fn has_access(&self, kind: WatchKind, address: u16) -> bool
+        ensures { result ≡ has_access kind address self.now.watches.items }
+    {
         has_access(self.watches.as_slice(), kind, address)
-    }
-}
-
-/// Counts a visit of the break at an index, and returns whether it is the last of so many.
-fn count_visit(visits: &mut Vec<u32>, index: usize, times: u32) -> bool {
-    match visits.get_mut(index) {
-        None => true,
-        Some(count) => {
-            *count = count.saturating_add(1);
-            if *count >= times {
-                *count = 0;
-                true
-            } else {
-                false
-            }
-        }
     }
 }
