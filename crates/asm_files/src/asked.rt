@@ -5,15 +5,12 @@ ghost use Rattle.asm_files.specs.Asked.{files_asked, format_asked, is_used, is_w
 ghost use Rattle.asm_files.specs.Views.{files_view};
 ghost use Rattle.clap.specs.Words.{first_value, found_of};
 ghost use Rattle.program_words.specs.Asked.{asm_asked, is_named, overwrites};
-ghost use Rattle.program_words.specs.Values.{port_asked, profile_asked};
 ghost use Rattle.program_words.specs.Views.{asm_view};
 
 use crate::command::command;
 use crate::format::SymbolsFormat;
 use clap::ArgMatches;
-use commands::address_of;
-use model::Profile;
-use program_words::{AsmWords, WordsFault};
+use program_words::{AsmWords, WordsFault, port_asked, profile_asked};
 use std::alloc::Global;
 
 /// What the words of `asm` with `--symbols` or `--map` ask for.
@@ -29,36 +26,6 @@ pub struct FilesWords<'a> {
     pub format: SymbolsFormat,
     /// The file to write the places of the lines to, if one is asked for.
     pub map: Option<&'a str>,
-}
-
-/// Returns the port that the word after `--port` asks for, or `None` if it is wrong.
-fn port_asked(word: Option<&str>) -> Option<u16>
-    ensures { result ≡ port_asked (option_map (λ w. w.now) word.entry) }
-{
-    match word {
-        None => Some(0xf000),
-        Some(word) => address_of(word.as_bytes()),
-    }
-}
-
-/// Returns the profile that the word after `--profile` asks for, or `None` if it is wrong.
-fn profile_asked(word: Option<&str>) -> Option<Profile>
-    ensures { result ≡ profile_asked (option_map (λ w. w.now) word.entry) }
-{
-    match word {
-        None => Some(Profile::N),
-        Some(word) => {
-            let word = word.as_bytes();
-            if word.len() != 1 {
-                return None;
-            }
-            match word[0] {
-                b'N' => Some(Profile::N),
-                b'C' => Some(Profile::C),
-                _ => None,
-            }
-        }
-    }
 }
 
 /// Returns the format that the word after `--symbols-format` asks for, or `None` if it is wrong.

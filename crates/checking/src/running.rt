@@ -7,9 +7,10 @@ ghost use Rattle.checking.specs.Statuses.{status_of};
 
 use crate::refusal::Refusal;
 use crate::text::{CheckedText, checked_text};
-use crate::words::{CheckWords, WordsFault, read_words};
+use crate::words::{CheckWords, read_words};
 use bus::MapSpec;
 use model::Profile;
+use program_words::WordsFault;
 use std::fs::File;
 use std::io;
 use std::io::{Read, Write};

@@ -1,9 +1,8 @@
 //! The words of `check`.
 
-use clap::error::ErrorKind;
 use clap::{Arg, ArgAction, ArgMatches, Command, Error};
-use commands::address_of;
 use model::Profile;
+use program_words::{WordsFault, is_given, port_asked, profile_asked};
 use std::alloc::Global;
 
 /// What the words of `check SOURCE [--strict] [--port HHHH] [--profile N|C]` ask for.
@@ -17,29 +16,6 @@ pub struct CheckWords<'a> {
     pub profile: Profile,
     /// Whether a warning counts as a fault does for the exit status.
     pub strict: bool,
-}
-
-/// Why the words ask for nothing that can be done.
-#[derive(Debug, Drop)]
-pub enum WordsFault {
-    /// The words ask for help: its text.
-    Help(Error),
-    /// The words are none that `check` takes: the text that says so.
-    Usage(Error),
-    /// The value of an option is none that it can have.
-    Value,
-    /// Memory ran out.
-    OutOfMemory,
-}
-
-impl From<Error> for WordsFault {
-    fn from(error: Error) -> WordsFault {
-        match error.kind() {
-            ErrorKind::OutOfMemory => WordsFault::OutOfMemory,
-            ErrorKind::DisplayHelp => WordsFault::Help(error),
-            _ => WordsFault::Usage(error),
-        }
-    }
 }
 
 /// An option with one value.
@@ -77,31 +53,13 @@ fn command<'a>(alloc: Global) -> Result<Command<'a>, Error> {
     Ok(command)
 }
 
-/// The port that the word after `--port` asks for.
-fn port_of(word: Option<&str>) -> Option<u16> {
-    match word {
-        None => Some(0xf000),
-        Some(word) => address_of(word.as_bytes()),
-    }
-}
-
-/// The profile that the word after `--profile` asks for.
-fn profile_of(word: Option<&str>) -> Option<Profile> {
-    match word {
-        None => Some(Profile::N),
-        Some("N") => Some(Profile::N),
-        Some("C") => Some(Profile::C),
-        Some(_) => None,
-    }
-}
-
 /// What the values that were found ask for, or `None` where one is no value of its option.
 fn asked<'a>(matches: &ArgMatches<'a>) -> Option<CheckWords<'a>> {
     Some(CheckWords {
         source: matches.get_str("SOURCE")?,
-        port: port_of(matches.get_str("port"))?,
-        profile: profile_of(matches.get_str("profile"))?,
-        strict: matches.get_str("strict") == Some("true"),
+        port: port_asked(matches.get_str("port"))?,
+        profile: profile_asked(matches.get_str("profile"))?,
+        strict: is_given(matches, "strict"),
     })
 }
 

@@ -7,7 +7,7 @@ use Rattle.clap.specs.Matches.{matched_of, raw_values}
 use Rattle.model.specs.Commands.{address_of}
 use Rattle.program_words.specs.Asked.{is_flag}
 use Rattle.model.specs.declared.instruction.Profile.{Profile}
-use Rattle.model.specs.declared.instruction.Profile.TheVariants.{C, N}
+use Rattle.program_words.specs.Values.{profile_asked}
 
 pub record SourceAsked : Type 0 where
   pub tape : Text
@@ -57,14 +57,6 @@ abbrev pub bounds_asked : Option (List ℕ) → Option (List ℕ) → Option (�
 bounds_asked None None = Some (0, 65535)
 bounds_asked (Some low) (Some high) = addresses_of (address_of low) (address_of high)
 bounds_asked low high = None
-
--- A profile is written by its letter, 78 for N and 67 for C; N where none is said.
-abbrev pub profile_asked : Option (List ℕ) → Option Profile
-profile_asked None = Some N
-profile_asked (Some word) =
-    if length word == 1 && get_or word 0 0 == 78 then Some N
-    else if length word == 1 && get_or word 0 0 == 67 then Some C
-    else None
 
 abbrev pub source_of_values : Option Text → Option (ℕ × ℕ) → Option (List (ℕ × ℕ))
     → Option (List (ℕ × ℕ)) → Option (Option (List ℕ)) → Bool → Option Text → Option Profile

@@ -2,17 +2,16 @@
 ghost use Rattle.std.specs.Prelude.{◌≡◌, IfOk, map, option_map};
 ghost use Rattle.clap.specs.Words.{first_value, found_of};
 ghost use Rattle.dis_source.specs.Asked.{addresses_of, all_of, all_values, bounds_asked};
-ghost use Rattle.dis_source.specs.Asked.{follow_asked, profile_asked, range_of, ranges_asked};
+ghost use Rattle.dis_source.specs.Asked.{follow_asked, range_of, ranges_asked};
 ghost use Rattle.dis_source.specs.Asked.{source_asked};
 ghost use Rattle.dis_source.specs.Views.{source_view};
 ghost use Rattle.model.specs.Commands.{address_of};
-ghost use Rattle.program_words.specs.Asked.{is_flag};
 
 use crate::command::command;
 use clap::ArgMatches;
 use commands::address_of;
 use model::Profile;
-use program_words::WordsFault;
+use program_words::{WordsFault, is_given, profile_asked};
 use std::alloc::{AllocError, Global};
 
 /// What the words of `dis TAPE [LO HI] --source` and its options ask for.
@@ -140,37 +139,6 @@ fn bounds_asked(low: Option<&str>, high: Option<&str>) -> Option<(u16, u16)>
             None => None,
             Some(high) => addresses(low.as_bytes(), high.as_bytes()),
         },
-    }
-}
-
-/// The profile that an option asks for, N where it is not there, or `None` where its value is
-/// wrong.
-fn profile_asked(word: Option<&str>) -> Option<Profile>
-    ensures { result ≡ profile_asked (option_map (λ w. w.now) word.entry) }
-{
-    match word {
-        None => Some(Profile::N),
-        Some(word) => {
-            let word = word.as_bytes();
-            if word.len() != 1 {
-                return None;
-            }
-            match word[0] {
-                b'N' => Some(Profile::N),
-                b'C' => Some(Profile::C),
-                _ => None,
-            }
-        }
-    }
-}
-
-/// Whether a flag is among the words.
-fn is_given(matches: &ArgMatches<'_>, name: &str) -> bool
-    ensures { result ≡ is_flag (first_value (found_of matches.now) name.now) }
-{
-    match matches.get_str(name) {
-        Some(value) => value == "true",
-        None => false,
     }
 }
 

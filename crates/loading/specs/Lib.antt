@@ -1,1 +1,5 @@
+pub mod Asked
+pub mod Place
 pub mod Statuses
+pub mod Values
+pub mod Views

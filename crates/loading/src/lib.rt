@@ -2,6 +2,7 @@
 //! and places in it by name or by number.
 #![tactic(auto)]
 
+mod digits;
 mod loaded;
 mod options;
 mod place;

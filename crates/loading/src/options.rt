@@ -1,8 +1,13 @@
 //! The words that name a file and its map.
 
-use crate::value::{port_of, profile_of, rom_of};
+ghost use Rattle.std.specs.Prelude.{◌≡◌, option_map};
+ghost use Rattle.clap.specs.Words.{first_value, found_of};
+ghost use Rattle.loading.specs.Asked.{file_asked};
+ghost use Rattle.loading.specs.Views.{file_view};
+
 use clap::{Arg, ArgAction, ArgMatches, Command, Error};
 use model::Profile;
+use program_words::{is_given, port_asked, profile_asked, rom_asked};
 use std::alloc::Global;
 
 /// A file, and the map that it is loaded on.
@@ -54,12 +59,18 @@ pub fn with_file_options<'a>(alloc: Global, command: Command<'a>) -> Result<Comm
 }
 
 /// Returns the file and the map that the values ask for, or `None` if one is wrong.
-pub fn file_words<'a>(matches: &ArgMatches<'a>) -> Option<FileWords<'a>> {
+pub fn file_words<'a>(matches: &ArgMatches<'a>) -> Option<FileWords<'a>>
+    ensures { option_map file_view result ≡ file_asked (first_value (found_of matches.now)) }
+{
+    let file = matches.get_str("FILE")?;
+    let port = port_asked(matches.get_str("port"))?;
+    let rom = rom_asked(matches.get_str("rom"))?;
+    let profile = profile_asked(matches.get_str("profile"))?;
     Some(FileWords {
-        file: matches.get_str("FILE")?,
-        is_tape: matches.get_str("tape") == Some("true"),
-        port: port_of(matches.get_str("port"))?,
-        rom: rom_of(matches.get_str("rom"))?,
-        profile: profile_of(matches.get_str("profile"))?,
+        file,
+        is_tape: is_given(matches, "tape"),
+        port,
+        rom,
+        profile,
     })
 }

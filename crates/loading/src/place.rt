@@ -1,62 +1,116 @@
 //! A place by name or by number.
 
+ghost use Rattle.std.specs.Prelude.{◌≡◌, option_map, position};
+ghost use Rattle.loading.specs.Place.{base_of, decimal_of, hex_of, is_sign, moved, named_address};
+ghost use Rattle.loading.specs.Place.{names_of, number_of, place_of, written_address};
+ghost use Rattle.model.specs.Names.{number_in};
+
+use crate::digits::{decimal_address, hex_address};
 use assembler::Assembly;
 use commands::address_of;
 
-/// Returns the number of a name of the source, if it is an address.
-fn named(assembly: Option<&Assembly>, name: &[u8]) -> Option<u16> {
-    let value = assembly?.value_of(name)?;
-    u16::try_from(value).ok()
-}
-
-/// Returns the value of a hex digit, or `None` for any other byte.
-fn digit_value(byte: u8, base: u32) -> Option<u32> {
-    let value = match byte {
-        b'0'..=b'9' => byte - b'0',
-        b'A'..=b'F' => byte - b'A' + 10,
-        b'a'..=b'f' => byte - b'a' + 10,
-        _ => return None,
-    };
-    if (value as u32) < base {
-        Some(value as u32)
-    } else {
-        None
+/// Returns the number of a name, if it is an address.
+fn named_address(value: Option<i32>) -> Option<u16>
+    ensures { result ≡ named_address value }
+{
+    match value {
+        Some(value) if 0 <= value && value <= 65535 => Some(value as u16),
+        _ => None,
     }
 }
 
-/// Returns the number up to 65535 that digits of a base up to 16 write.
-fn digits(word: &[u8], base: u32) -> Option<u16> {
-    if word.is_empty() {
+/// Returns the number that one hex digit or more write.
+fn hex_of(digits: &[u8]) -> Option<u16>
+    ensures { result ≡ hex_of digits.now }
+{
+    if digits.is_empty() {
         return None;
     }
-    let mut number = 0u32;
-    for byte in word {
-        let digit = digit_value(*byte, base)?;
-        number = number.checked_mul(base)?.checked_add(digit)?;
-        if number > 65535 {
-            return None;
-        }
+    hex_address(digits)
+}
+
+/// Returns the number that one decimal digit or more write.
+fn decimal_of(digits: &[u8]) -> Option<u16>
+    ensures { result ≡ decimal_of digits.now }
+{
+    if digits.is_empty() {
+        return None;
     }
-    u16::try_from(number).ok()
+    decimal_address(digits)
 }
 
 /// Returns the number that a word writes as a source does: `$` and hex digits, or decimal digits.
-fn number(word: &[u8]) -> Option<u16> {
+fn number_of(word: &[u8]) -> Option<u16>
+    ensures { result ≡ number_of word.now }
+{
     match word {
-        [b'$', hex @ ..] => digits(hex, 16),
-        decimal => digits(decimal, 10),
+        [] => None,
+        [b'$', hex @ ..] => hex_of(hex),
+        decimal => decimal_of(decimal),
     }
 }
 
-/// Returns the address of a name, of four hex digits, or of `$` and hex digits. A name that the
-/// source defines comes first.
-fn base(assembly: Option<&Assembly>, word: &[u8]) -> Option<u16> {
-    if let Some(address) = named(assembly, word) {
-        return Some(address);
-    }
+/// Returns the address that `$` and hex digits write, or four hex digits.
+fn written_address(word: &[u8]) -> Option<u16>
+    ensures { result ≡ written_address word.now }
+{
     match word {
-        [b'$', hex @ ..] => digits(hex, 16),
+        [] => None,
+        [b'$', hex @ ..] => hex_of(hex),
         word => address_of(word),
+    }
+}
+
+/// Returns the address of a word, which may have a number as a name. The name comes first.
+fn base_of(value: Option<i32>, word: &[u8]) -> Option<u16>
+    ensures { result ≡ base_of value word.now }
+{
+    match named_address(value) {
+        Some(address) => Some(address),
+        None => written_address(word),
+    }
+}
+
+/// Returns an address with the number added or subtracted that is written after its sign.
+fn moved(address: Option<u16>, text: &[u8]) -> Option<u16>
+    ensures { result ≡ moved address text.now }
+{
+    let [sign, digits @ ..] = text else {
+        return address;
+    };
+    match (address, number_of(digits)) {
+        (Some(address), Some(number)) => {
+            if *sign == b'+' {
+                Some(address.wrapping_add(number))
+            } else {
+                Some(address.wrapping_sub(number))
+            }
+        }
+        _ => None,
+    }
+}
+
+/// Returns whether a byte is `+` or `-`.
+fn is_sign(byte: u8) -> bool
+    ensures { result ≡ is_sign byte }
+{
+    byte == b'+' || byte == b'-'
+}
+
+/// Returns the index of the first sign of a word, if it has one.
+fn sign_at(word: &[u8]) -> Option<usize>
+    ensures { result ≡ position is_sign word.now }
+{
+    word.iter().position(|byte| is_sign(*byte))
+}
+
+/// Returns the number of a name, if there is a source that defines it.
+fn value_of(assembly: Option<&Assembly>, name: &[u8]) -> Option<i32>
+    ensures { result ≡ number_in (names_of (option_map (λ a. a.now) assembly.entry)) name.now }
+{
+    match assembly {
+        None => None,
+        Some(assembly) => assembly.value_of(name),
     }
 }
 
@@ -64,18 +118,14 @@ fn base(assembly: Option<&Assembly>, word: &[u8]) -> Option<u16> {
 ///
 /// A place is a name that the source defines, four hex digits, or `$` and hex digits; a number may
 /// be added or subtracted, as in `loop+3` or `loop-$10`. Addresses wrap.
-pub fn place_of(assembly: Option<&Assembly>, word: &[u8]) -> Option<u16> {
-    let sign = word.iter().position(|byte| *byte == b'+' || *byte == b'-');
-    match sign {
-        None => base(assembly, word),
+pub fn place_of(assembly: Option<&Assembly>, word: &[u8]) -> Option<u16>
+    ensures { result ≡ place_of (names_of (option_map (λ a. a.now) assembly.entry)) word.now }
+{
+    match sign_at(word) {
+        None => base_of(value_of(assembly, word), word),
         Some(at) => {
             let (left, right) = word.split_at(at);
-            let address = base(assembly, left)?;
-            match right {
-                [b'+', digits @ ..] => Some(address.wrapping_add(number(digits)?)),
-                [_, digits @ ..] => Some(address.wrapping_sub(number(digits)?)),
-                [] => None,
-            }
+            moved(base_of(value_of(assembly, left), left), right)
         }
     }
 }

@@ -4,7 +4,7 @@ ghost use Rattle.std.specs.Prelude.{◌≤◌};
 
 use clap::{Arg, ArgAction, ArgMatches, Command, Error};
 use loading::{FileWords, file_words, history_of, option, with_file_options};
-use program_words::WordsFault;
+use program_words::{WordsFault, is_given};
 use std::alloc::Global;
 
 /// What the words of `mon` ask for.
@@ -57,7 +57,7 @@ fn asked<'a>(matches: &ArgMatches<'a>) -> Option<MonWords<'a>> {
         file: file_words(matches)?,
         history: history_of(matches.get_str("history"))?,
         symbols: matches.get_str("symbols"),
-        prompts: matches.get_str("prompt") == Some("true"),
+        prompts: is_given(matches, "prompt"),
     })
 }
 

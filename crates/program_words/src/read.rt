@@ -15,7 +15,7 @@ use clap::ArgMatches;
 use std::alloc::Global;
 
 /// Returns whether a flag is among the words.
-fn is_given(matches: &ArgMatches<'_>, name: &str) -> bool
+pub fn is_given(matches: &ArgMatches<'_>, name: &str) -> bool
     ensures { result ≡ is_flag (first_value (found_of matches.now) name.now) }
 {
     match matches.get_str(name) {

@@ -1,10 +1,12 @@
 //! What a word that runs a program needs besides the run: the program at its start, a place that a
 //! word names, and what a stream that failed means.
 
-ghost use Rattle.std.specs.Prelude.{◌≡◌, ℕ, List, Option, IfErr, IfOk, false};
+ghost use Rattle.std.specs.Prelude.{◌≡◌, ℕ, List, Option, IfOk, false, option_map};
+ghost use Rattle.loading.specs.Place.{names_of};
 ghost use Rattle.model.specs.Event.{start};
 ghost use Rattle.model.specs.Session.{new_session};
 ghost use Rattle.model.specs.State.{input_waits};
+ghost use Rattle.running.specs.Places.{place_asked};
 ghost use Rattle.running.specs.Statuses.{refusal_of};
 
 use console::PlayFault;
@@ -47,7 +49,8 @@ pub fn place_named<E: Write>(
     word: Option<&str>,
     errors: &mut E,
 ) -> Result<Option<u16>, u8>
-    ensures { IfErr result (λ status. status ≡ 2) }
+    ensures { result
+        ≡ place_asked (names_of loaded.now.assembly) (option_map (λ w. w.now) word.entry) }
 {
     match word {
         None => Ok(None),

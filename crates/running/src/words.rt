@@ -2,7 +2,7 @@
 
 use clap::{Arg, ArgAction, ArgMatches, Command, Error};
 use loading::{FileWords, file_words, option, steps_of, with_file_options};
-use program_words::WordsFault;
+use program_words::{WordsFault, is_given};
 use std::alloc::Global;
 
 /// What the words of `run` ask for.
@@ -66,7 +66,7 @@ fn asked<'a>(matches: &ArgMatches<'a>) -> Option<RunWords<'a>> {
         until: matches.get_str("until"),
         steps: steps_of(matches.get_str("steps"))?,
         is_status_of_a: status_asked(matches.get_str("status"))?,
-        tells_cycles: matches.get_str("cycles") == Some("true"),
+        tells_cycles: is_given(matches, "cycles"),
     })
 }
 

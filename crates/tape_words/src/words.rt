@@ -2,9 +2,8 @@
 
 use crate::command;
 use clap::ArgMatches;
-use commands::address_of;
 use model::Profile;
-use program_words::WordsFault;
+use program_words::{WordsFault, port_asked, profile_asked};
 use std::alloc::Global;
 
 /// What the words of `info TAPE [--port HHHH] [--profile N|C]` ask for.
@@ -38,30 +37,12 @@ pub struct MendWords<'a> {
     pub out: &'a str,
 }
 
-/// Returns the port that the word after `--port` asks for.
-fn port_of(word: Option<&str>) -> Option<u16> {
-    match word {
-        None => Some(0xf000),
-        Some(word) => address_of(word.as_bytes()),
-    }
-}
-
-/// Returns the profile that the word after `--profile` asks for.
-fn profile_of(word: Option<&str>) -> Option<Profile> {
-    match word {
-        None => Some(Profile::N),
-        Some("N") => Some(Profile::N),
-        Some("C") => Some(Profile::C),
-        Some(_) => None,
-    }
-}
-
 /// Returns what the values that were found ask for, or `None` where one is wrong.
 fn info_words<'a>(matches: &ArgMatches<'a>) -> Option<InfoWords<'a>> {
     Some(InfoWords {
         tape: matches.get_str("TAPE")?,
-        port: port_of(matches.get_str("port"))?,
-        profile: profile_of(matches.get_str("profile"))?,
+        port: port_asked(matches.get_str("port"))?,
+        profile: profile_asked(matches.get_str("profile"))?,
     })
 }
 
@@ -70,7 +51,7 @@ fn cmp_words<'a>(matches: &ArgMatches<'a>) -> Option<CmpWords<'a>> {
     Some(CmpWords {
         tape: matches.get_str("TAPE")?,
         other: matches.get_str("OTHER")?,
-        profile: profile_of(matches.get_str("profile"))?,
+        profile: profile_asked(matches.get_str("profile"))?,
     })
 }
 

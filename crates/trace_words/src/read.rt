@@ -3,7 +3,7 @@
 use crate::command::command;
 use clap::ArgMatches;
 use loading::{FileWords, file_words, steps_of};
-use program_words::WordsFault;
+use program_words::{WordsFault, is_given};
 use std::alloc::Global;
 
 /// What the words of `trace` ask for.
@@ -23,11 +23,6 @@ pub struct TraceWords<'a> {
     pub counts: bool,
     /// Whether reads of memory that was never written are shown in place of rows.
     pub finds_unwritten: bool,
-}
-
-/// Returns whether a flag is among the words.
-fn is_given(matches: &ArgMatches<'_>, name: &str) -> bool {
-    matches.get_str(name) == Some("true")
 }
 
 /// Returns what the values that were found ask for, or `None` if one is wrong.
