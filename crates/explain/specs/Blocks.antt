@@ -2,14 +2,10 @@
 use Rattle.std.specs.Prelude.{◌≡◌, ℕ, nat_lt, ◌==◌, if◌then◌else◌, List, [], ◌∷◌, ◌++◌, length, take, codes}
 use Rattle.std.specs.Fmt.{decimal}
 use Rattle.std.specs.List.Sorted.{IsNonDecreasingBy, IsPermutation}
+use Rattle.notes.specs.Places.{place_of}
 use Rattle.model.specs.FaultNames.{source_fault_name, source_fault_number}
 use Rattle.model.specs.declared.source_fault.AsmFault.{AsmFault}
 use Rattle.model.specs.declared.source_fault.AsmFaultKind.{AsmFaultKind}
-
--- `FILE:LINE:COLUMN: `.
-abbrev pub place_of : List ℕ → ℕ → ℕ → List ℕ
-place_of file line column
-    = file ++ 58 ∷ (decimal line ++ 58 ∷ (decimal column ++ codes ": "))
 
 -- `NAME NUMBER: `.
 abbrev pub kind_text : AsmFaultKind → List ℕ

@@ -3,15 +3,12 @@
 ghost use Rattle.std.specs.Prelude.{◌≡◌, ◌++◌, IfOk, OnOk, take};
 ghost use Rattle.std.specs.List.Sorted.{IsNonDecreasingBy, IsPermutation};
 ghost use Rattle.explain.specs.Blocks.{AreBlocks, IsBlockAfter, IsToldText, end_of, head_of, kind_text};
-ghost use Rattle.explain.specs.Blocks.{place_of};
 
-use crate::lines::{lines_of, names_of};
 use crate::note::{Context, note_of};
-use crate::runs::Class;
-use crate::words::{Note, noted, push_count, said};
 use bus::MapSpec;
 use itoa::Buffer;
 use model::{AsmFault, AsmFaultKind};
+use notes::{Note, after_head, lines_of, names_of, noted, push_count, push_place, said};
 use source_faults::{Mending, lay_out};
 use std::alloc::{AllocError, Global};
 use symbols::Symbols;
@@ -22,19 +19,6 @@ const SOURCE_SIZE: usize = 1_048_576;
 /// The most faults that are written.
 const MOST_TOLD: usize = 50;
 
-/// Appends where a fault is: file, line and column.
-fn push_place(text: &mut Vec<u8>, file: &[u8], line: u32, column: u32) -> Result<(), AllocError>
-    ensures { OnOk result (text.new.items ≡ text.old.items ++ place_of file.now line column) }
-{
-    text.extend_from_slice(file)?;
-    text.push(b':')?;
-    push_count(text, line)?;
-    text.push(b':')?;
-    push_count(text, column)?;
-    text.extend_from_slice(b": ")?;
-    Ok(())
-}
-
 /// Appends the name and the number of a fault.
 fn push_kind(text: &mut Vec<u8>, kind: AsmFaultKind) -> Result<(), AllocError>
     ensures { OnOk result (text.new.items ≡ text.old.items ++ kind_text kind) }
@@ -44,65 +28,6 @@ fn push_kind(text: &mut Vec<u8>, kind: AsmFaultKind) -> Result<(), AllocError>
     push_count(text, kind.number() as u32)?;
     text.extend_from_slice(b": ")?;
     Ok(())
-}
-
-/// Returns how a byte of a line is shown.
-fn shown(byte: u8) -> u8 {
-    if Class::Line.has(byte) { byte } else { b'?' }
-}
-
-/// Returns the blank under a place of a line.
-fn blank_under(line: &[u8], at: usize) -> u8 {
-    match line.get(at).copied() {
-        Some(b'\t') => b'\t',
-        _ => b' ',
-    }
-}
-
-/// Appends a line as it is shown.
-fn push_shown(text: &mut Vec<u8>, line: &[u8]) -> Result<(), AllocError> {
-    for byte in line {
-        text.push(shown(*byte))?;
-    }
-    Ok(())
-}
-
-/// Appends the mark under what is meant.
-fn push_mark(
-    text: &mut Vec<u8>,
-    line: &[u8],
-    start: usize,
-    width: usize,
-) -> Result<(), AllocError> {
-    for at in 0..start {
-        text.push(blank_under(line, at))?;
-    }
-    text.push(b'^')?;
-    for _ in 1..width {
-        text.push(b'~')?;
-    }
-    Ok(())
-}
-
-/// Returns the line itself, and below it a mark under what is meant.
-fn marked_line(alloc: Global, line: &[u8], note: &Note) -> Result<Vec<u8>, AllocError> {
-    let mut text = Vec::new(alloc);
-    push_shown(&mut text, line)?;
-    text.push(b'\n')?;
-    push_mark(&mut text, line, note.start, note.width)?;
-    text.push(b'\n')?;
-    Ok(text)
-}
-
-/// Returns what follows a block's head: the words, and the line with a mark, if there is a line.
-fn after_head(alloc: Global, line: Option<&[u8]>, note: &Note) -> Result<Vec<u8>, AllocError> {
-    let mut text = Vec::from_slice(alloc, &note.words)?;
-    text.push(b'\n')?;
-    match line {
-        Some(line) => text.extend_from_slice(&marked_line(alloc, line, note)?)?,
-        None => {}
-    }
-    Ok(text)
 }
 
 /// Appends a block with this after its head.

@@ -1,9 +1,9 @@
 //! Why the tokens of a line are none of the grammar.
 
 use crate::near::is_near;
-use crate::words::{Note, joined, named, noted, said};
 use line_parts::Token;
 use model::{LineFault, Profile, TokenKind};
+use notes::{Note, after_label, is_symbol, joined, named, noted, said};
 use optable::mnemonic_in;
 use parser::parse_expr;
 use std::alloc::{AllocError, Global};
@@ -17,22 +17,6 @@ const MNEMONICS: [&[u8]; 62] = [
     b"STX", b"STY", b"TAX", b"TAY", b"TSX", b"TXA", b"TXS", b"TYA", b"BRA", b"PHX", b"PHY", b"PLX",
     b"PLY", b"STZ",
 ];
-
-/// Returns whether a token is this symbol.
-pub fn is_symbol(token: &Token<'_>, symbol: u8) -> bool {
-    match (token.kind, token.text) {
-        (TokenKind::Symbol, [byte]) => *byte == symbol,
-        _ => false,
-    }
-}
-
-/// Returns the tokens after a label, all where there is none.
-pub fn after_label<'t, 'a>(tokens: &'t [Token<'a>]) -> &'t [Token<'a>] {
-    match tokens {
-        [_, colon, rest @ ..] if is_symbol(colon, b':') => rest,
-        _ => tokens,
-    }
-}
 
 /// Words about one token.
 fn about(token: &Token<'_>, words: Vec<u8>) -> Note {

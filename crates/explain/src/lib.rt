@@ -7,12 +7,9 @@
 
 mod block;
 mod form;
-mod lines;
 mod near;
 mod note;
-mod runs;
 mod scan;
 mod values;
-mod words;
 
 pub use block::faults_text;

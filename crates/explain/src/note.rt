@@ -1,15 +1,16 @@
 //! What is said of each kind of fault.
 
-use crate::form::{after_label, form_note, is_symbol};
-use crate::lines::{Name, blank_run};
+use crate::form::form_note;
 use crate::near::is_near;
-use crate::runs::{Class, run_of};
 use crate::scan::first_stray;
 use crate::values::{Outside, branch_miss, first_outside};
-use crate::words::{Note, named, noted, push_address, push_count, push_decimal, said};
 use lexer::tokens;
 use line_parts::{KeptLine, Token};
 use model::{AsmFault, AsmFaultKind, LineFault, Mode, Profile, TokenKind};
+use notes::{
+    Class, Name, Note, about_operand, after_label, blank_run, is_symbol, named, noted, operand_of,
+    push_address, push_count, push_decimal, run_of, said,
+};
 use optable::{encode_in, mnemonic_in};
 use source_faults::Found;
 use std::alloc::{AllocError, Global};
@@ -25,32 +26,6 @@ pub struct Context<'s, 'a> {
     pub symbols: &'s Symbols,
     /// What the layout found of each line.
     pub found: &'s [Found<'a>],
-}
-
-/// Returns the tokens after the first one of an operation, or after the `=` of a definition.
-fn operand_of<'t, 'a>(tokens: &'t [Token<'a>]) -> &'t [Token<'a>] {
-    match after_label(tokens) {
-        [_, equals, value @ ..] if is_symbol(equals, b'=') => value,
-        [_, operand @ ..] => operand,
-        [] => &[],
-    }
-}
-
-/// Words about the operand of a line, or about all of it where it has none.
-fn about_operand(line: &[u8], tokens: &[Token<'_>], words: Vec<u8>) -> Note {
-    let operand = operand_of(tokens);
-    let meant = if operand.is_empty() {
-        after_label(tokens)
-    } else {
-        operand
-    };
-    match (meant.first(), meant.last()) {
-        (Some(first), Some(last)) => {
-            let end = last.start.saturating_add(last.text.len());
-            noted(first.start, end.saturating_sub(first.start), words)
-        }
-        _ => noted(blank_run(line), 1, words),
-    }
 }
 
 /// Returns whether a name is the label of a line, or defined by a line before it.

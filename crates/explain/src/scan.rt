@@ -1,7 +1,6 @@
 //! Where a line is no longer made of tokens, and why.
 
-use crate::lines::{after, word_run};
-use crate::runs::{Class, run_of};
+use notes::{Class, after, run_of, word_run};
 
 /// Bytes of a line that are no token, and why.
 #[derive(Clone, Copy)]
