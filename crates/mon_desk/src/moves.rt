@@ -1,7 +1,11 @@
 //! Lines that move the session forwards.
 
-ghost use Rattle.std.specs.Prelude.{◌≡◌};
+ghost use Rattle.std.specs.Prelude.{◌≡◌, ◌≢◌, IfErr, IfOk, OnOk};
 ghost use Rattle.mon_desk.specs.Served.{HasRun, ShowsOnly, course_of};
+ghost use Rattle.mon_desk.specs.Steps.{KeepsWatches, called, goes_on, is_limit, ran, ran_by, ran_on};
+ghost use Rattle.mon_desk.specs.Steps.{ran_until, returned, some_steps, stand_of, start_of, stepped};
+ghost use Rattle.mon_desk.specs.Steps.{stepped_over, watches_of};
+ghost use Rattle.mon_runs.specs.Past.{count_run, go_run, out_run, over_run};
 
 use crate::desk::Desk;
 use crate::told::{RETURNED, STUCK};
@@ -34,7 +38,9 @@ impl Desk {
     /// Makes so many steps, or those up to a stop, and notes them.
     fn make_steps(&mut self, count: u32) -> Ended
         ensures course { HasRun (course_of self.old) (course_of self.new) }
-        ensures places { self.new.places ≡ self.old.places }
+        ensures stand { stand_of self.new ≡ ran count (watches_of self.old) (stand_of self.old) }
+        ensures end { result ≡ (count_run count (watches_of self.old) (start_of (stand_of self.old))).0 }
+        ensures watches { KeepsWatches self.old self.new }
     {
         let end = run(&mut self.session, &mut self.stops, count);
         self.events.note_steps(end.did);
@@ -44,7 +50,9 @@ impl Desk {
     /// Runs to a stop, and notes the steps.
     fn make_run(&mut self) -> Ended
         ensures course { HasRun (course_of self.old) (course_of self.new) }
-        ensures places { self.new.places ≡ self.old.places }
+        ensures stand { stand_of self.new ≡ ran_on (watches_of self.old) (stand_of self.old) }
+        ensures end { result ≡ (go_run (watches_of self.old) (start_of (stand_of self.old))).0 }
+        ensures watches { KeepsWatches self.old self.new }
     {
         let end = go(&mut self.session, &mut self.stops);
         self.events.note_steps(end.did);
@@ -54,7 +62,9 @@ impl Desk {
     /// Makes a JSR as one step, and notes its steps.
     fn make_call(&mut self) -> Ended
         ensures course { HasRun (course_of self.old) (course_of self.new) }
-        ensures places { self.new.places ≡ self.old.places }
+        ensures stand { stand_of self.new ≡ called (watches_of self.old) (stand_of self.old) }
+        ensures end { result ≡ (over_run (watches_of self.old) (start_of (stand_of self.old))).0 }
+        ensures watches { KeepsWatches self.old self.new }
     {
         let end = over(&mut self.session, &mut self.stops);
         self.events.note_steps(end.did);
@@ -64,30 +74,34 @@ impl Desk {
     /// Runs until this subroutine has returned, and notes the steps.
     fn make_return(&mut self) -> Ended
         ensures course { HasRun (course_of self.old) (course_of self.new) }
-        ensures places { self.new.places ≡ self.old.places }
+        ensures stand { stand_of self.new ≡ returned (watches_of self.old) (stand_of self.old) }
+        ensures end { result ≡ (out_run (watches_of self.old) (start_of (stand_of self.old))).0 }
+        ensures watches { KeepsWatches self.old self.new }
     {
         let end = out(&mut self.session, &mut self.stops);
         self.events.note_steps(end.did);
         end
     }
 
-    /// Makes one step and shows it. Returns whether the steps go on.
-    fn shown_step(&mut self) -> Result<bool, AllocError>
-        ensures course { HasRun (course_of self.old) (course_of self.new) }
-        ensures places { self.new.places ≡ self.old.places }
+    /// Says what a step did that is shown as a row from `length` on, where the stack pointer and the
+    /// cycles before it were these. Returns whether the steps go on.
+    fn told_step(
+        &mut self,
+        end: Ended,
+        length: usize,
+        stack: u8,
+        cycles: u64,
+    ) -> Result<bool, AllocError>
+        ensures shows { ShowsOnly self.old self.new }
+        ensures on { IfOk result (λ is_on. is_on ≡ is_limit end.why) }
     {
-        let before = self.session.regs();
-        let cycles = self.session.cycles();
-        let length = self.text.len();
-        let _ = push_row(&mut self.text, &self.session, &self.places, before.pc)?;
-        let end = self.make_steps(1);
         if let EndWhy::Led(LedWhy::Stopped(Why::Refused(fault))) = end.why {
             self.text.truncate(length);
             push_fault(&mut self.text, &self.places, fault)?;
             self.say("\n")?;
             return Ok(false);
         }
-        self.tell_entry(length, before.s, cycles)?;
+        self.tell_entry(length, stack, cycles)?;
         match end.why {
             EndWhy::Led(LedWhy::Stopped(Why::Limit)) => Ok(true),
             _ => {
@@ -97,10 +111,29 @@ impl Desk {
         }
     }
 
+    /// Makes one step and shows it. Returns whether the steps go on.
+    fn shown_step(&mut self) -> Result<bool, AllocError>
+        ensures course { HasRun (course_of self.old) (course_of self.new) }
+        ensures stand { OnOk result
+            (stand_of self.new ≡ ran 1 (watches_of self.old) (stand_of self.old)) }
+        ensures on { IfOk result
+            (λ is_on. is_on ≡ goes_on (watches_of self.old) (stand_of self.old)) }
+        ensures watches { KeepsWatches self.old self.new }
+    {
+        let before = self.session.regs();
+        let cycles = self.session.cycles();
+        let length = self.text.len();
+        let _ = push_row(&mut self.text, &self.session, &self.places, before.pc)?;
+        let end = self.make_steps(1);
+        self.told_step(end, length, before.s, cycles)
+    }
+
     /// Makes so many steps, or those up to a stop, and shows each.
     fn shown_steps(&mut self, count: u32) -> Result<(), AllocError>
         ensures course { HasRun (course_of self.old) (course_of self.new) }
-        ensures places { self.new.places ≡ self.old.places }
+        ensures stand { OnOk result
+            (stand_of self.new ≡ stepped count (watches_of self.old) (stand_of self.old)) }
+        ensures watches { KeepsWatches self.old self.new }
     {
         for _ in 0..count {
             if !self.shown_step()? {
@@ -113,7 +146,9 @@ impl Desk {
     /// Makes steps, and shows each if they are few.
     pub fn steps(&mut self, count: u32) -> Result<(), AllocError>
         ensures course { HasRun (course_of self.old) (course_of self.new) }
-        ensures places { self.new.places ≡ self.old.places }
+        ensures stand { OnOk result
+            (stand_of self.new ≡ some_steps count (watches_of self.old) (stand_of self.old)) }
+        ensures watches { KeepsWatches self.old self.new }
     {
         if count > MOST_SHOWN {
             return self.run(Some(count));
@@ -134,7 +169,9 @@ impl Desk {
     /// Makes a JSR as one step.
     pub fn step_over(&mut self) -> Result<(), AllocError>
         ensures course { HasRun (course_of self.old) (course_of self.new) }
-        ensures places { self.new.places ≡ self.old.places }
+        ensures stand { OnOk result
+            (stand_of self.new ≡ stepped_over (watches_of self.old) (stand_of self.old)) }
+        ensures watches { KeepsWatches self.old self.new }
     {
         let cycles = self.session.cycles();
         let pc = self.session.regs().pc;
@@ -149,7 +186,8 @@ impl Desk {
     /// Steps until this subroutine has returned.
     pub fn step_out(&mut self) -> Result<(), AllocError>
         ensures course { HasRun (course_of self.old) (course_of self.new) }
-        ensures places { self.new.places ≡ self.old.places }
+        ensures stand { stand_of self.new ≡ returned (watches_of self.old) (stand_of self.old) }
+        ensures watches { KeepsWatches self.old self.new }
     {
         let cycles = self.session.cycles();
         let end = self.make_return();
@@ -159,7 +197,8 @@ impl Desk {
     /// Runs to a stop, or so many steps.
     pub fn run(&mut self, count: Option<u32>) -> Result<(), AllocError>
         ensures course { HasRun (course_of self.old) (course_of self.new) }
-        ensures places { self.new.places ≡ self.old.places }
+        ensures stand { stand_of self.new ≡ ran_by count (watches_of self.old) (stand_of self.old) }
+        ensures watches { KeepsWatches self.old self.new }
     {
         let cycles = self.session.cycles();
         match count {
@@ -185,21 +224,46 @@ impl Desk {
         self.show(Some(cycles))
     }
 
-    /// Runs to an address.
-    pub fn run_until(&mut self, address: u16) -> Result<(), AllocError>
-        ensures { self.new.places ≡ self.old.places }
+    /// Runs to an address, and notes the steps. Errors: those of the session; nothing is changed
+    /// then.
+    fn make_until(&mut self, address: u16) -> Result<Ended, SessionFault>
+        ensures ok { OnOk result
+            (stand_of self.new ≡ ran_until address (watches_of self.old) (stand_of self.old)) }
+        ensures err { IfErr result (λ fault. (stand_of self.new ≡ stand_of self.old)
+            × (fault ≢ SessionFault.OutOfMemory
+            → ran_until address (watches_of self.old) (stand_of self.old) ≡ stand_of self.old)) }
+        ensures watches { KeepsWatches self.old self.new }
     {
-        let cycles = self.session.cycles();
         match until(&mut self.session, &mut self.stops, address) {
             Ok(end) => {
                 self.events.note_steps(end.did);
-                match end.why {
-                    EndWhy::Led(LedWhy::Stopped(Why::Break(at))) if at == address => {
-                        self.arrived(at, end.did, cycles)
-                    }
-                    _ => self.ended(end, STUCK, cycles),
-                }
+                Ok(end)
             }
+            Err(fault) => Err(fault),
+        }
+    }
+
+    /// Says how a run to an address has ended, and shows where.
+    fn ended_at(&mut self, end: Ended, address: u16, cycles: u64) -> Result<(), AllocError>
+        ensures { ShowsOnly self.old self.new }
+    {
+        match end.why {
+            EndWhy::Led(LedWhy::Stopped(Why::Break(at))) if at == address => {
+                self.arrived(at, end.did, cycles)
+            }
+            _ => self.ended(end, STUCK, cycles),
+        }
+    }
+
+    /// Runs to an address.
+    pub fn run_until(&mut self, address: u16) -> Result<(), AllocError>
+        ensures stand { OnOk result
+            (stand_of self.new ≡ ran_until address (watches_of self.old) (stand_of self.old)) }
+        ensures watches { KeepsWatches self.old self.new }
+    {
+        let cycles = self.session.cycles();
+        match self.make_until(address) {
+            Ok(end) => self.ended_at(end, address, cycles),
             Err(SessionFault::OutOfMemory) => Err(AllocError),
             Err(_) => self.say("256 breaks are set; delete one first\n"),
         }

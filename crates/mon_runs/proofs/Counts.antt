@@ -26,6 +26,15 @@ made_more a b c s t u sum made h less =
     let p = sum less in
     steps_more a b s t u (made p.1) h ∙ ap (λ m. after_steps m s) (sym p.0)
 
+-- one piece more, where the sum is no full one
+pub made_on : (a c : ℕ) (s t u : Session)
+    → (c < 18446744073709551615 → (a < 18446744073709551615)
+    × (u ≡ after_steps (go_of 262144 t).0.did t) × (c ≡ a + (go_of 262144 t).0.did))
+    → HasMade a s t → HasMade c s u
+made_on a c s t u more made less =
+    let p = more less in
+    steps_more a (go_of 262144 t).0.did s t u (made p.0) p.1 ∙ ap (λ m. after_steps m s) (sym p.2)
+
 -- ---- outcomes
 
 abbrev LeadsFrom : Session → Outcome → Type 0

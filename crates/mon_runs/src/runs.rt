@@ -1,10 +1,13 @@
 //! The runs.
 
-ghost use Rattle.std.specs.Prelude.{◌≡◌, false, true, IfErr, IfOk};
+ghost use Rattle.std.specs.Prelude.{◌≡◌, ◌≢◌, ◌==◌, false, true, Err, IfErr, IfOk, IsErrOf, IsOk, Ok};
+ghost use Rattle.model.specs.Breakpoints.{break_set};
 ghost use Rattle.model.specs.Run.{after_steps};
 ghost use Rattle.model.specs.Back.{states};
-ghost use Rattle.monitor.specs.Goals.{go_of, out_of, over_of, until_of};
+ghost use Rattle.monitor.specs.Goals.{go_of, out_of, over_of, until_of, without_break};
 ghost use Rattle.mon_stops.specs.Stops.{is_plain};
+ghost use Rattle.mon_runs.specs.Past.{all_made, count_run, go_run, if_all, out_run, over_looked};
+ghost use Rattle.mon_runs.specs.Past.{over_run, run_to, until_run};
 ghost use Rattle.mon_runs.specs.Runs.{HasMade, HasMadeStates, IsLed, IsLedTo};
 
 use crate::ended::{EndWhy, Ended};
@@ -17,15 +20,15 @@ use monitor::LedWhy;
 /// The opcode of JSR.
 const JSR: u8 = 0x20;
 
-/// Makes a JSR as one, or one step: as `monitor::over` does, for up to 10,000,000 steps.
-pub fn over(session: &mut Session, stops: &mut Stops) -> Ended
+/// Makes a JSR as one, or one step, each step looked at.
+#[tactic(auto, unfolding(crate::specs::Past::over_looked))]
+fn over_looked(session: &mut Session, stops: &mut Stops) -> Ended
     ensures steps { session.new ≡ after_steps result.did session.old }
-    ensures plain { is_plain stops.old ≡ true
-        → IsLed (over_of 10000000 session.old) result session.new }
+    ensures run { over_looked stops.old.watches.items (session.old, stops.old.breaks.items)
+        ≡ (result, (session.new, stops.new.breaks.items)) }
+    ensures watches { stops.new.watches ≡ stops.old.watches }
+    ensures changes { stops.new.changes ≡ stops.old.changes }
 {
-    if stops.is_plain() {
-        return Ended::of(over_once(session));
-    }
     let regs = session.regs();
     if session.peek(regs.pc) == JSR {
         let pc = regs.pc.wrapping_add(3);
@@ -36,12 +39,34 @@ pub fn over(session: &mut Session, stops: &mut Stops) -> Ended
     }
 }
 
+/// Makes a JSR as one, or one step: as `monitor::over` does, for up to 10,000,000 steps.
+#[tactic(auto, unfolding(crate::specs::Past::over_run))]
+pub fn over(session: &mut Session, stops: &mut Stops) -> Ended
+    ensures steps { session.new ≡ after_steps result.did session.old }
+    ensures plain { is_plain stops.old ≡ true
+        → IsLed (over_of 10000000 session.old) result session.new }
+    ensures run { over_run stops.old.watches.items (session.old, stops.old.breaks.items)
+        ≡ (result, (session.new, stops.new.breaks.items)) }
+    ensures watches { stops.new.watches ≡ stops.old.watches }
+    ensures changes { stops.new.changes ≡ stops.old.changes }
+{
+    if stops.is_plain() {
+        return Ended::of(over_once(session));
+    }
+    over_looked(session, stops)
+}
+
 /// Steps until the subroutine that is running has returned: as `monitor::out` does, for up to
 /// 10,000,000 steps.
+#[tactic(auto, unfolding(crate::specs::Past::out_run))]
 pub fn out(session: &mut Session, stops: &mut Stops) -> Ended
     ensures steps { session.new ≡ after_steps result.did session.old }
     ensures plain { is_plain stops.old ≡ true
         → IsLed (out_of 10000000 session.old) result session.new }
+    ensures run { out_run stops.old.watches.items (session.old, stops.old.breaks.items)
+        ≡ (result, (session.new, stops.new.breaks.items)) }
+    ensures watches { stops.new.watches ≡ stops.old.watches }
+    ensures changes { stops.new.changes ≡ stops.old.changes }
 {
     if stops.is_plain() {
         return Ended::of(out_once(session));
@@ -52,10 +77,15 @@ pub fn out(session: &mut Session, stops: &mut Stops) -> Ended
 
 /// Runs to a stop or until nothing is left to do: as `monitor::go` does, for up to 4,096 and then
 /// 262,144 times 4,096 steps. Where reads or writes are watched it makes at most 10,000,000.
+#[tactic(auto, unfolding(crate::specs::Past::go_run))]
 pub fn go(session: &mut Session, stops: &mut Stops) -> Ended
     ensures steps { HasMade result.did session.old session.new }
     ensures plain { is_plain stops.old ≡ true
         → IsLed (go_of 262144 session.old) result session.new }
+    ensures run { go_run stops.old.watches.items (session.old, stops.old.breaks.items)
+        ≡ (result, (session.new, stops.new.breaks.items)) }
+    ensures watches { stops.new.watches ≡ stops.old.watches }
+    ensures changes { stops.new.changes ≡ stops.old.changes }
 {
     if stops.is_plain() {
         return Ended::of(go_once(session));
@@ -64,8 +94,13 @@ pub fn go(session: &mut Session, stops: &mut Stops) -> Ended
 }
 
 /// Runs on past breaks whose tests do not hold, to an address too if there is one.
+#[tactic(auto, unfolding(crate::specs::Past::run_to))]
 fn go_to(session: &mut Session, stops: &mut Stops, until: Option<u16>) -> Ended
-    ensures { HasMade result.did session.old session.new }
+    ensures steps { HasMade result.did session.old session.new }
+    ensures run { run_to until stops.old.watches.items (session.old, stops.old.breaks.items)
+        ≡ (result, (session.new, stops.new.breaks.items)) }
+    ensures watches { stops.new.watches ≡ stops.old.watches }
+    ensures changes { stops.new.changes ≡ stops.old.changes }
 {
     if stops.has_changes_only() {
         go_on(session, stops, until)
@@ -74,20 +109,35 @@ fn go_to(session: &mut Session, stops: &mut Stops, until: Option<u16>) -> Ended
     }
 }
 
+/// Returns why a run ends that made so many steps of those asked for.
+fn why_of_all(end: Ended, count: u32) -> EndWhy
+    ensures { result ≡ if_all (end.did == count) end.why }
+{
+    match end.why {
+        EndWhy::Led(LedWhy::Many) if end.did == count as u64 => {
+            EndWhy::Led(LedWhy::Stopped(Why::Limit))
+        }
+        why => why,
+    }
+}
+
 /// Runs so many steps, or to a stop before.
+#[tactic(auto, unfolding(crate::specs::Past::count_run))]
 pub fn run(session: &mut Session, stops: &mut Stops, count: u32) -> Ended
-    ensures { session.new ≡ after_steps result.did session.old }
+    ensures steps { session.new ≡ after_steps result.did session.old }
+    ensures run { count_run count stops.old.watches.items
+        (session.old, stops.old.breaks.items)
+        ≡ (result, (session.new, stops.new.breaks.items)) }
+    ensures watches { stops.new.watches ≡ stops.old.watches }
+    ensures changes { stops.new.changes ≡ stops.old.changes }
 {
     if stops.has_changes_only() {
         run_on(session, stops, count)
     } else {
         let end = lead(session, stops, Goal::Never, None, count.min(MOST_LED));
-        match end.why {
-            EndWhy::Led(LedWhy::Many) if end.did == count as u64 => Ended {
-                did: end.did,
-                why: EndWhy::Led(LedWhy::Stopped(Why::Limit)),
-            },
-            _ => end,
+        Ended {
+            did: end.did,
+            why: why_of_all(end, count),
         }
     }
 }
@@ -100,12 +150,24 @@ pub fn run(session: &mut Session, stops: &mut Stops, count: u32) -> Ended
 /// - `OutOfMemory`: an allocation failed.
 ///
 /// Nothing is changed then.
+#[tactic(auto, unfolding(crate::specs::Past::until_run))]
 pub fn until(session: &mut Session, stops: &mut Stops, address: u16) -> Result<Ended, SessionFault>
     ensures plain { is_plain stops.old ≡ true → IfOk result
         (λ end. IsLedTo (until_of address 262144 session.old) end session.new) }
     ensures steps { IfOk result (λ end. is_plain stops.old ≡ false
         → HasMadeStates end.did session.old session.new) }
-    ensures err { IfErr result (λ _. session.new ≡ session.old) }
+    ensures ok { IfOk result (λ end. until_run address stops.old.watches.items
+        (session.old, stops.old.breaks.items)
+        ≡ Ok (end, (session.new, stops.new.breaks.items))) }
+    ensures err { IfErr result (λ fault. (session.new ≡ session.old)
+        × (stops.new.breaks ≡ stops.old.breaks)
+        × (fault ≢ SessionFault.OutOfMemory
+        → until_run address stops.old.watches.items
+        (session.old, stops.old.breaks.items) ≡ Err fault)) }
+    ensures memory { IsErrOf result SessionFault.OutOfMemory
+        → IsOk (break_set address session.old) }
+    ensures watches { stops.new.watches ≡ stops.old.watches }
+    ensures changes { stops.new.changes ≡ stops.old.changes }
 {
     if stops.is_plain() {
         return match until_once(session, address) {
@@ -125,8 +187,10 @@ pub fn until(session: &mut Session, stops: &mut Stops, address: u16) -> Result<E
 }
 
 /// Clears a breakpoint, if it is set.
+#[tactic(auto, unfolding(monitor::specs::Goals::without_break))]
 fn clear_break(session: &mut Session, address: u16)
-    ensures { states session.new ≡ states session.old }
+    ensures states { states session.new ≡ states session.old }
+    ensures cleared { session.new ≡ without_break address session.old }
 {
     let _ = session.clear_break(address);
 }

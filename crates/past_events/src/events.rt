@@ -34,7 +34,7 @@ impl Model for Events {
         × (e.undone.capacity ≡ e.made.capacity) × (e.made.capacity < 2 ^ 32) };
 }
 
-/// Appends so many steps. Those that have no room any more are left out.
+/// Appends so many steps. Where there is no room, the oldest events go.
 fn push_steps(made: &mut HeapCircularBuffer<Event>, count: u64)
     requires { length made.old.items ≤ made.old.capacity }
     ensures { made.new ≡ buffer

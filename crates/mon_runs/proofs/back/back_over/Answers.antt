@@ -2,16 +2,18 @@ use Rattle.std.proofs.Common.{◌≡◌, ◌+◌, ◌-◌, length, suc, ap, ◌�
 use Rattle.monitor.proofs.Found.{length-back_one}
 use Rattle.mon_runs.specs.Runs.{gone_back}
 use Rattle.mon_runs.proofs.Counts.{gone-none, gone-more}
+use Rattle.mon_runs.proofs.Way.{over-begin, over-ends, over-goes, over-over, over-whole}
 use Rattle.mon_runs.proofs.back.back_over.Goals as goal
 
 pub loop-undone-init : goal.loop-undone-init
 loop-undone-init c = record {
   held = omega (arith, c.held-held.ensures.held);
   gone = gone-none c.args.session.now;
+  over = over-begin _ _ _;
 }
 
-pub returns-then-is_start : goal.returns-then-is_start
-returns-then-is_start c =
+pub returns-then-is_start-clause-undone : goal.returns-then-is_start-clause-undone
+returns-then-is_start-clause-undone c =
     let more : suc c.loop-undone.undone ≡ c.loop-undone.undone + 1 = omega arith in
     gone-more c.loop-undone.undone c.args.session.now c.loop-undone.session c.back_by_one.new.session c.loop-undone.invariant.gone c.back_by_one.ensures
     ∙ ap (λ k. gone_back k c.args.session.now) more
@@ -24,4 +26,18 @@ loop-undone-preserved c =
       held = omega (arith, fewer, c.loop-undone.invariant.held);
       gone = gone-more c.loop-undone.undone c.args.session.now c.loop-undone.session c.back_by_one.new.session c.loop-undone.invariant.gone c.back_by_one.ensures
           ∙ ap (λ k. gone_back k c.args.session.now) more;
+      over = over-goes _ c.loop-undone.undone _ (c.held-held.result - (c.loop-undone.undone + 1)) c.loop-undone.session c.back_by_one.new.session _ _
+          c.loop-undone.invariant.over (omega (arith, c.loop-undone-test.true)) c.back_by_one.ensures c.is_start.ensures c.if-is_start.false;
     }
+
+pub returns-then-is_start-clause-over : goal.returns-then-is_start-clause-over
+returns-then-is_start-clause-over c =
+    over-whole _ _ _ _ (ap (λ r. r.s) c.regs-stack.ensures) c.held-held.ensures.held
+    (over-ends _ c.loop-undone.undone _ (c.held-held.result - (c.loop-undone.undone + 1)) c.loop-undone.session c.back_by_one.new.session _ _
+    c.loop-undone.invariant.over (omega (arith, c.loop-undone-test.true)) c.back_by_one.ensures c.is_start.ensures c.if-is_start.true)
+
+pub returns-clause-over : goal.returns-clause-over
+returns-clause-over c =
+    over-whole _ _ _ _ (ap (λ r. r.s) c.regs-stack.ensures) c.held-held.ensures.held
+    (over-over _ c.loop-undone.undone _ c.loop-undone.session _ c.loop-undone.invariant.over (omega (arith, c.loop-undone-test.false))
+    ∙ ap (λ k. (k, c.loop-undone.session)) (omega (arith, c.loop-undone-test.false, c.loop-undone.auto.undone-end)))
