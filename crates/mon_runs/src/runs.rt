@@ -1,12 +1,13 @@
 //! The runs.
 
-ghost use Rattle.std.specs.Prelude.{◌≡◌, ◌≢◌, ◌==◌, false, true, Err, IfErr, IfOk, IsErrOf, IsOk, Ok};
+ghost use Rattle.std.specs.Prelude.{◌≡◌, ◌≢◌, ◌==◌, false, true, Err, IfErr, IfOk, IsErrOf};
+ghost use Rattle.std.specs.Prelude.{IsOk, Ok};
 ghost use Rattle.model.specs.Breakpoints.{break_set};
 ghost use Rattle.model.specs.Run.{after_steps};
 ghost use Rattle.model.specs.Back.{states};
 ghost use Rattle.monitor.specs.Goals.{go_of, out_of, over_of, until_of, without_break};
 ghost use Rattle.mon_stops.specs.Stops.{is_plain};
-ghost use Rattle.mon_runs.specs.Past.{all_made, count_run, go_run, if_all, out_run, over_looked};
+ghost use Rattle.mon_runs.specs.Past.{count_run, go_run, if_all, out_run, over_looked};
 ghost use Rattle.mon_runs.specs.Past.{over_run, run_to, until_run};
 ghost use Rattle.mon_runs.specs.Runs.{HasMade, HasMadeStates, IsLed, IsLedTo};
 

@@ -3,4 +3,4 @@ use Rattle.mon_desk.proofs.Runs.{run_one}
 use Rattle.mon_desk.proofs.desk.Desk.make_steps.Goals as goal
 
 pub returns-clause-course : goal.returns-clause-course
-returns-clause-course c = run_one c.run-end.result.did _ _ ((λ _. c.run-end.ensures), c.note_steps.ensures)
+returns-clause-course c = run_one c.run-end.result.did _ _ ((λ _. c.run-end.ensures.steps), c.note_steps.ensures)
