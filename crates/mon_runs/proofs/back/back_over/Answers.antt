@@ -2,42 +2,42 @@ use Rattle.std.proofs.Common.{◌≡◌, ◌+◌, ◌-◌, length, suc, ap, ◌�
 use Rattle.monitor.proofs.Found.{length-back_one}
 use Rattle.mon_runs.specs.Runs.{gone_back}
 use Rattle.mon_runs.proofs.Counts.{gone-none, gone-more}
-use Rattle.mon_runs.proofs.Way.{over-begin, over-ends, over-goes, over-over, over-whole}
+use Rattle.mon_runs.proofs.Way.{gone-first, way-none, way-on, way-one}
 use Rattle.mon_runs.proofs.back.back_over.Goals as goal
 
-pub loop-undone-init : goal.loop-undone-init
-loop-undone-init c = record {
-  held = omega (arith, c.held-held.ensures.held);
-  gone = gone-none c.args.session.now;
-  over = over-begin _ _ _;
-}
+pub returns-then-held-eq0-clause-undone : goal.returns-then-held-eq0-clause-undone
+returns-then-held-eq0-clause-undone c = gone-none c.args.session.now
 
-pub returns-then-is_start-clause-undone : goal.returns-then-is_start-clause-undone
-returns-then-is_start-clause-undone c =
-    let more : suc c.loop-undone.undone ≡ c.loop-undone.undone + 1 = omega arith in
-    gone-more c.loop-undone.undone c.args.session.now c.loop-undone.session c.back_by_one.new.session c.loop-undone.invariant.gone c.back_by_one.ensures
-    ∙ ap (λ k. gone_back k c.args.session.now) more
+pub returns-then-held-eq0-clause-over : goal.returns-then-held-eq0-clause-over
+returns-then-held-eq0-clause-over c =
+    way-none c.args.session.now c.held-held.result c.held-held.ensures.held c.if-held-eq0.true
 
-pub loop-undone-preserved : goal.loop-undone-preserved
-loop-undone-preserved c =
-    let more : suc c.loop-undone.undone ≡ c.loop-undone.undone + 1 = omega arith in
-    let fewer : length c.back_by_one.new.session.earlier ≡ length c.loop-undone.session.earlier - 1 = length-back_one c.loop-undone.session c.back_by_one.new.session c.back_by_one.ensures in
-    record {
-      held = omega (arith, fewer, c.loop-undone.invariant.held);
-      gone = gone-more c.loop-undone.undone c.args.session.now c.loop-undone.session c.back_by_one.new.session c.loop-undone.invariant.gone c.back_by_one.ensures
-          ∙ ap (λ k. gone_back k c.args.session.now) more;
-      over = over-goes _ c.loop-undone.undone _ (c.held-held.result - (c.loop-undone.undone + 1)) c.loop-undone.session c.back_by_one.new.session _ _
-          c.loop-undone.invariant.over (omega (arith, c.loop-undone-test.true)) c.back_by_one.ensures c.is_start.ensures c.if-is_start.false;
-    }
+pub returns-then-not-was_return-clause-undone : goal.returns-then-not-was_return-clause-undone
+returns-then-not-was_return-clause-undone c =
+    gone-more 0 c.args.session.now c.args.session.now c.back_by_one.new.session (gone-none c.args.session.now) c.back_by_one.ensures
 
-pub returns-then-is_start-clause-over : goal.returns-then-is_start-clause-over
-returns-then-is_start-clause-over c =
-    over-whole _ _ _ _ (ap (λ r. r.s) c.regs-stack.ensures) c.held-held.ensures.held
-    (over-ends _ c.loop-undone.undone _ (c.held-held.result - (c.loop-undone.undone + 1)) c.loop-undone.session c.back_by_one.new.session _ _
-    c.loop-undone.invariant.over (omega (arith, c.loop-undone-test.true)) c.back_by_one.ensures c.is_start.ensures c.if-is_start.true)
+pub returns-then-not-was_return-clause-over : goal.returns-then-not-was_return-clause-over
+returns-then-not-was_return-clause-over c =
+    let some : c.held-held.result ≡ suc (c.held-held.result - 1) = omega (arith, c.if-held-eq0.false) in
+    way-one c.regs-stack.result.s c.held-held.result (c.held-held.result - 1) c.args.session.now c.back_by_one.new.session c.was_return.result
+    (ap (λ r. r.s) c.regs-stack.ensures) c.held-held.ensures.held some c.back_by_one.ensures
+    (c.was_return.ensures c.args.session.now.current c.cycles-cycles.ensures) c.if-not-was_return.true
+
+pub back_to_call-requires : goal.back_to_call-requires
+back_to_call-requires c =
+    let fewer : length c.back_by_one.new.session.earlier ≡ length c.args.session.now.earlier - 1 = length-back_one c.args.session.now c.back_by_one.new.session c.back_by_one.ensures in
+    omega (arith, fewer, c.held-held.ensures.held)
+
+pub returns-clause-undone : goal.returns-clause-undone
+returns-clause-undone c =
+    let k = c.back_to_call.result in
+    let more : suc k ≡ k + 1 = omega arith in
+    c.back_to_call.ensures.undone ∙ ap (gone_back k) c.back_by_one.ensures
+    ∙ gone-first k c.args.session.now ∙ ap (λ j. gone_back j c.args.session.now) more
 
 pub returns-clause-over : goal.returns-clause-over
 returns-clause-over c =
-    over-whole _ _ _ _ (ap (λ r. r.s) c.regs-stack.ensures) c.held-held.ensures.held
-    (over-over _ c.loop-undone.undone _ c.loop-undone.session _ c.loop-undone.invariant.over (omega (arith, c.loop-undone-test.false))
-    ∙ ap (λ k. (k, c.loop-undone.session)) (omega (arith, c.loop-undone-test.false, c.loop-undone.auto.undone-end)))
+    let some : c.held-held.result ≡ suc (c.held-held.result - 1) = omega (arith, c.if-held-eq0.false) in
+    way-on c.regs-stack.result.s c.held-held.result (c.held-held.result - 1) c.back_to_call.result c.args.session.now c.back_by_one.new.session c.back_to_call.new.session c.was_return.result
+    (ap (λ r. r.s) c.regs-stack.ensures) c.held-held.ensures.held some c.back_by_one.ensures
+    (c.was_return.ensures c.args.session.now.current c.cycles-cycles.ensures) c.if-not-was_return.false c.back_to_call.ensures.over
