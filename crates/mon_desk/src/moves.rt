@@ -173,13 +173,17 @@ impl Desk {
             (stand_of self.new ≡ stepped_over (watches_of self.old) (stand_of self.old)) }
         ensures watches { KeepsWatches self.old self.new }
     {
+        let before = self.session.regs();
         let cycles = self.session.cycles();
-        let pc = self.session.regs().pc;
-        if self.session.peek(pc) != JSR {
+        if self.session.peek(before.pc) != JSR {
             return self.steps(1);
         }
-        let _ = push_row(&mut self.text, &self.session, &self.places, pc)?;
+        let length = self.text.len();
+        let _ = push_row(&mut self.text, &self.session, &self.places, before.pc)?;
         let end = self.make_call();
+        if end.did == 1 {
+            self.tell_entry(length, before.s, cycles)?;
+        }
         self.ended(end, RETURNED, cycles)
     }
 
