@@ -1,1 +1,4 @@
 mod Runs
+mod Stopped
+mod Bytes
+mod Back

@@ -1,1 +1,5 @@
 pub mod Served
+pub mod StopLines
+pub mod ByteLines
+pub mod BackLines
+pub mod Lines
