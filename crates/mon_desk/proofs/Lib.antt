@@ -1,2 +1,5 @@
 mod Runs
 pub mod Stepped
+mod Stopped
+mod Bytes
+mod Back

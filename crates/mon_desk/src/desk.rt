@@ -1,8 +1,9 @@
 //! What a session of `mon` has: the machine, its events, its stops, its places, and the text that
 //! is to be written.
 
-ghost use Rattle.std.specs.Prelude.{◌≡◌, IfOk, OnOk, is_ok};
+ghost use Rattle.std.specs.Prelude.{◌≡◌, [], IfOk, OnErr, false, is_ok};
 ghost use Rattle.model.specs.Event.{event_of};
+ghost use Rattle.mon_desk.specs.Lines.{Follows, Serves};
 ghost use Rattle.mon_desk.specs.Served.{KeepsStops, ShowsOnly, course_of, happened};
 
 use model::EventFault;
@@ -31,7 +32,16 @@ impl Desk {
         session: Session,
         places: Places,
         history: u32,
-    ) -> Result<Desk, AllocError> {
+    ) -> Result<Desk, AllocError>
+        ensures session { IfOk result (λ desk. desk.session ≡ session) }
+        ensures events { IfOk result
+            (λ desk. desk.events ≡ record { made = []; undone = []; room = history }) }
+        ensures breaks { IfOk result (λ desk. desk.stops.breaks.items ≡ []) }
+        ensures watches { IfOk result (λ desk. desk.stops.watches.items ≡ []) }
+        ensures changes { IfOk result (λ desk. desk.stops.changes.items ≡ []) }
+        ensures places { IfOk result (λ desk. desk.places ≡ places) }
+        ensures text { IfOk result (λ desk. desk.text.items ≡ []) }
+    {
         Ok(Desk {
             session,
             events: Events::new(alloc, history)?,
@@ -43,25 +53,43 @@ impl Desk {
 
     /// Does what a line asks for, or says what is missing in it. Returns whether the session is to
     /// end.
-    pub fn serve(&mut self, alloc: Global, line: &[u8]) -> Result<bool, AllocError> {
-        if line.len() > 255 {
-            self.say("a line has at most 255 bytes\n")?;
-            return Ok(false);
-        }
+    fn follow(&mut self, alloc: Global, line: &[u8]) -> Result<bool, AllocError>
+        ensures { IfOk result (λ is_over. Follows is_over self.old self.new) }
+    {
         let pc = self.session.regs().pc;
-        let is_over = match read_line(line, &self.places, pc) {
-            Ok(command) => self.execute(alloc, command)?,
+        match read_line(line, &self.places, pc) {
+            Ok(command) => self.execute(alloc, command),
             Err(slip) => {
                 push_slip(&mut self.text, slip)?;
-                false
+                Ok(false)
             }
-        };
+        }
+    }
+
+    /// Says so if a line has a decimal number where an address is wanted.
+    fn tell_decimal(&mut self, line: &[u8]) -> Result<(), AllocError>
+        ensures { ShowsOnly self.old self.new }
+    {
         if let Some(word) = decimal_address(line) {
             self.text.extend_from_slice(word)?;
             self.say(" is a decimal number; $")?;
             self.text.extend_from_slice(word)?;
             self.say(" is hex\n")?;
         }
+        Ok(())
+    }
+
+    /// Does what a line asks for, or says what is missing in it. Returns whether the session is to
+    /// end.
+    pub fn serve(&mut self, alloc: Global, line: &[u8]) -> Result<bool, AllocError>
+        ensures { IfOk result (λ is_over. Serves is_over self.old self.new) }
+    {
+        if line.len() > 255 {
+            self.say("a line has at most 255 bytes\n")?;
+            return Ok(false);
+        }
+        let is_over = self.follow(alloc, line)?;
+        self.tell_decimal(line)?;
         Ok(is_over)
     }
 
@@ -96,11 +124,12 @@ impl Desk {
     }
 
     /// Makes an event that is no step, and returns whether it was accepted. Otherwise it says why
-    /// not.
+    /// not. Nothing is changed if memory runs out for that.
     pub fn happen(&mut self, event: Event) -> Result<bool, AllocError>
         ensures course { course_of self.new ≡ happened event (course_of self.old) }
         ensures accepted { IfOk result
             (λ is_accepted. is_accepted ≡ is_ok (event_of self.old.session.current event)) }
+        ensures memory { OnErr result (is_ok (event_of self.old.session.current event) ≡ false) }
         ensures stops { KeepsStops self.old self.new }
     {
         match self.make(event) {

@@ -1,5 +1,7 @@
 //! What a line does, and lines that only look.
 
+ghost use Rattle.std.specs.Prelude.{◌≡◌, IfOk, OnOk};
+ghost use Rattle.mon_desk.specs.Lines.{Does, is_quit};
 ghost use Rattle.mon_desk.specs.Served.{ShowsOnly};
 
 use crate::desk::Desk;
@@ -66,38 +68,48 @@ impl Desk {
         Ok(())
     }
 
-    /// Does what a line asks for, and returns whether the session is to end.
-    pub fn execute(&mut self, alloc: Global, command: Command<'_>) -> Result<bool, AllocError> {
+    /// Does what a line asks for.
+    fn obey(&mut self, alloc: Global, command: Command<'_>) -> Result<(), AllocError>
+        ensures { OnOk result (Does command.entry self.old self.new) }
+    {
         match command {
-            Command::Quit => return Ok(true),
-            Command::Nothing => self.steps(1)?,
-            Command::Step(count) => self.steps(count)?,
-            Command::Over => self.step_over()?,
-            Command::Out => self.step_out()?,
-            Command::Until(address) => self.run_until(address)?,
-            Command::Go(count) => self.run(count)?,
-            Command::Back(undoing) => self.undo(undoing)?,
-            Command::Rback => self.undo_to_stop()?,
-            Command::Redo(count) => self.redo(count)?,
-            Command::History(count) => self.show_history(count)?,
+            Command::Nothing => self.steps(1),
+            Command::Step(count) => self.steps(count),
+            Command::Over => self.step_over(),
+            Command::Out => self.step_out(),
+            Command::Until(address) => self.run_until(address),
+            Command::Go(count) => self.run(count),
+            Command::Back(undoing) => self.undo(undoing),
+            Command::Rback => self.undo_to_stop(),
+            Command::Redo(count) => self.redo(count),
+            Command::History(count) => self.show_history(count),
             Command::Break {
                 address,
                 tests,
                 times,
-            } => self.set_break(Break::new(address, tests, times))?,
-            Command::Watch { stretch, kind } => self.set_watch(Watch { stretch, kind })?,
-            Command::List => self.list()?,
-            Command::Delete(address) => self.delete(address)?,
-            Command::Set(setting) => self.set(setting)?,
-            Command::Put { address, bytes } => self.put(address, bytes.as_slice())?,
-            Command::Asm { address, text } => self.assemble(alloc, address, text)?,
-            Command::Type(bytes) => self.hand_in(bytes.as_slice())?,
-            Command::Irq(level) => self.set_irq(level)?,
-            Command::Nmi => self.ask_nmi()?,
-            Command::Reset => self.reset()?,
-            command => self.look(command)?,
+            } => self.set_break(Break::new(address, tests, times)),
+            Command::Watch { stretch, kind } => self.set_watch(Watch { stretch, kind }),
+            Command::List => self.list(),
+            Command::Delete(address) => self.delete(address),
+            Command::Set(setting) => self.set(setting),
+            Command::Put { address, bytes } => self.put(address, bytes.as_slice()),
+            Command::Asm { address, text } => self.assemble(alloc, address, text),
+            Command::Type(bytes) => self.hand_in(bytes.as_slice()),
+            Command::Irq(level) => self.set_irq(level),
+            Command::Nmi => self.ask_nmi(),
+            Command::Reset => self.reset(),
+            command => self.look(command),
         }
-        Ok(false)
+    }
+
+    /// Does what a line asks for, and returns whether the session is to end.
+    pub fn execute(&mut self, alloc: Global, command: Command<'_>) -> Result<bool, AllocError>
+        ensures does { OnOk result (Does command.entry self.old self.new) }
+        ensures over { IfOk result (λ is_over. is_over ≡ is_quit command.entry) }
+    {
+        let is_over = matches!(command, Command::Quit);
+        self.obey(alloc, command)?;
+        Ok(is_over)
     }
 
     /// Shows what a line asks for that changes nothing.

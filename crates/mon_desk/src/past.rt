@@ -1,10 +1,11 @@
 //! Lines that move the session backwards, and make undone events again.
 
-ghost use Rattle.std.specs.Prelude.{◌≡◌, ◌∷◌, [], ℕ, OnOk};
-ghost use Rattle.monitor.specs.Recall.{last_stop, made_again};
-ghost use Rattle.past_events.specs.Past.{with_undone};
+ghost use Rattle.std.specs.Prelude.{◌≡◌, ◌≤◌, ℕ, OnErr, OnOk, length};
+ghost use Rattle.mon_desk.specs.BackLines.{IsPartlyShown, undone_by, undone_over, history_shown};
+ghost use Rattle.mon_desk.specs.BackLines.{undone_by_watches, undone_to_stop};
 ghost use Rattle.mon_desk.specs.Served.{KeepsStops, ShowsOnly, course_of, most_remade, remade, remade_one};
 ghost use Rattle.mon_desk.specs.Served.{undone};
+ghost use Rattle.mon_desk.specs.StopLines.{IsEither};
 
 use crate::desk::Desk;
 use mon_lines::Undoing;
@@ -31,17 +32,27 @@ fn words_of(event: Event) -> &'static str {
 }
 
 impl Desk {
+    /// Undoes a whole subroutine if the last event was its RTS, otherwise one event.
+    fn undo_over(&mut self) -> Result<(), AllocError>
+        ensures course { course_of self.new ≡ undone_over (course_of self.old) }
+        ensures stops { KeepsStops self.old self.new }
+    {
+        let count = back_over(&mut self.session);
+        self.events.note_undone(count);
+        self.tell_undone(count)
+    }
+
     /// Undoes events.
-    pub fn undo(&mut self, undoing: Undoing) -> Result<(), AllocError> {
+    pub fn undo(&mut self, undoing: Undoing) -> Result<(), AllocError>
+        ensures course { course_of self.new ≡ undone_by undoing (course_of self.old) }
+        ensures stops { KeepsStops self.old self.new }
+    {
         if self.session.held() == 0 {
             return self.say(NONE_HELD);
         }
         match undoing {
             Undoing::Events(count) => self.undo_events(count),
-            Undoing::Over => {
-                let count = back_over(&mut self.session);
-                self.undone(count)
-            }
+            Undoing::Over => self.undo_over(),
         }
     }
 
@@ -74,13 +85,10 @@ impl Desk {
         }
     }
 
-    /// Notes undone events, and shows the state before them.
-    fn undone(&mut self, count: u32) -> Result<(), AllocError>
-        ensures session { self.new.session ≡ self.old.session }
-        ensures events { self.new.events ≡ with_undone count self.old.events }
-        ensures stops { KeepsStops self.old self.new }
+    /// Says how many events were undone, and shows the state before them.
+    fn tell_undone(&mut self, count: u32) -> Result<(), AllocError>
+        ensures { ShowsOnly self.old self.new }
     {
-        self.events.note_undone(count);
         self.count(count as u64, " event undone\n", " events undone\n")?;
         self.show(None)
     }
@@ -96,17 +104,10 @@ impl Desk {
         false
     }
 
-    /// Goes back to the last stop, or to the oldest state held.
-    pub fn undo_to_stop(&mut self) -> Result<(), AllocError> {
-        let watched = self.stops.changes.as_slice();
-        if watched.len() > 256 {
-            return self.say("more than 256 bytes are watched\n");
-        }
-        let held = self.session.held();
-        if held == 0 {
-            return self.say(NONE_HELD);
-        }
-        let count = back_to_stop(&mut self.session, watched);
+    /// Says where the way back over so many events has ended, of so many that were held.
+    fn tell_way_back(&mut self, count: u32, held: u32) -> Result<(), AllocError>
+        ensures { ShowsOnly self.old self.new }
+    {
         if self.is_at_break() {
             self.say("back at the break at ")?;
             push_place(&mut self.text, &self.places, self.session.regs().pc)?;
@@ -115,18 +116,48 @@ impl Desk {
         } else {
             self.say("back before a change at a watch")?;
         }
-        self.say(", ")?;
-        self.undone(count)
+        self.say(", ")
     }
 
-    /// Makes the next event that was undone again, if there is one.
-    fn redo_one(&mut self)
+    /// Goes back to the last stop, or to the oldest state held. Notes the events that it undoes.
+    fn go_to_stop(&mut self) -> u32
+        requires { length self.old.stops.changes.items ≤ 256 }
+        ensures course { course_of self.new
+            ≡ undone_to_stop self.old.stops.changes.items (course_of self.old) }
+        ensures stops { KeepsStops self.old self.new }
+    {
+        let count = back_to_stop(&mut self.session, self.stops.changes.as_slice());
+        self.events.note_undone(count);
+        count
+    }
+
+    /// Goes back to the last stop, or to the oldest state held. Does nothing if more than 256
+    /// bytes are watched for changes.
+    pub fn undo_to_stop(&mut self) -> Result<(), AllocError>
+        ensures course { course_of self.new
+            ≡ undone_by_watches self.old.stops.changes.items (course_of self.old) }
+        ensures stops { KeepsStops self.old self.new }
+    {
+        if self.stops.changes.len() > 256 {
+            return self.say("more than 256 bytes are watched\n");
+        }
+        let held = self.session.held();
+        if held == 0 {
+            return self.say(NONE_HELD);
+        }
+        let count = self.go_to_stop();
+        self.tell_way_back(count, held)?;
+        self.tell_undone(count)
+    }
+
+    /// Makes the next event that was undone again, if there is one, and returns it.
+    fn redo_one(&mut self) -> Option<Event>
         ensures course { course_of self.new ≡ remade_one (course_of self.old) }
         ensures stops { KeepsStops self.old self.new }
     {
-        if let Some(event) = self.events.next() {
-            let _ = make_again(&mut self.session, slice::from_ref(&event));
-        }
+        let event = self.events.next()?;
+        let _ = make_again(&mut self.session, slice::from_ref(&event));
+        Some(event)
     }
 
     /// Makes so many of the events that were undone again.
@@ -135,7 +166,7 @@ impl Desk {
         ensures stops { KeepsStops self.old self.new }
     {
         for _ in 0..count {
-            self.redo_one();
+            let _ = self.redo_one();
         }
     }
 
@@ -155,42 +186,59 @@ impl Desk {
         self.show(Some(cycles))
     }
 
-    /// Makes an undone event again, and shows it.
-    fn redo_shown(&mut self, event: Event) -> Result<(), AllocError>
-        ensures session { OnOk result
-            (self.new.session ≡ (made_again (event ∷ []) self.old.session).1) }
-        ensures events { self.new.events ≡ self.old.events }
+    /// Makes the next event that was undone again, if there is one, and shows it. If memory ran
+    /// out, it may be made or not.
+    fn redo_shown(&mut self) -> Result<(), AllocError>
+        ensures course { OnOk result (course_of self.new ≡ remade_one (course_of self.old)) }
+        ensures memory { OnErr result (IsEither (course_of self.new) (course_of self.old)
+            (remade_one (course_of self.old))) }
         ensures stops { KeepsStops self.old self.new }
     {
         let regs = self.session.regs();
         let cycles = self.session.cycles();
         let length = self.text.len();
-        match event {
-            Event::Step => {
-                let _ = push_row(&mut self.text, &self.session, &self.places, regs.pc)?;
+        let _ = push_row(&mut self.text, &self.session, &self.places, regs.pc)?;
+        match self.redo_one() {
+            Some(Event::Step) => self.tell_entry(length, regs.s, cycles),
+            Some(event) => {
+                self.text.truncate(length);
+                self.say(words_of(event))
             }
-            event => self.say(words_of(event))?,
-        }
-        let _ = make_again(&mut self.session, slice::from_ref(&event));
-        match event {
-            Event::Step => self.tell_entry(length, regs.s, cycles),
-            _ => Ok(()),
+            None => {
+                self.text.truncate(length);
+                Ok(())
+            }
         }
     }
 
-    /// Shows the last steps: goes back over them, and makes them again.
-    pub fn show_history(&mut self, count: u32) -> Result<(), AllocError> {
+    /// Makes so many of the events that were undone again, and shows each.
+    fn redo_each_shown(&mut self, count: u32) -> Result<(), AllocError>
+        ensures course { OnOk result (course_of self.new ≡ remade count (course_of self.old)) }
+        ensures memory { OnErr result ((n : ℕ)
+            × (course_of self.new ≡ remade n (course_of self.old))) }
+        ensures stops { KeepsStops self.old self.new }
+    {
+        for _ in 0..count {
+            self.redo_shown()?;
+        }
+        Ok(())
+    }
+
+    /// Shows the last steps: goes back over them, and makes them again. If memory ran out, only
+    /// some of them may be made again.
+    pub fn show_history(&mut self, count: u32) -> Result<(), AllocError>
+        ensures course { OnOk result
+            (course_of self.new ≡ history_shown count (course_of self.old)) }
+        ensures memory { OnErr result
+            (IsPartlyShown count (course_of self.old) (course_of self.new)) }
+        ensures stops { KeepsStops self.old self.new }
+    {
         let count = count.min(self.session.held());
-        if count == 0 || self.session.back(count).is_err() {
+        if count == 0 {
             return self.say(NONE_HELD);
         }
-        self.events.note_undone(count);
-        for _ in 0..count {
-            match self.events.next() {
-                Some(event) => self.redo_shown(event)?,
-                None => break,
-            }
-        }
+        let _ = self.go_back(count);
+        self.redo_each_shown(count)?;
         self.show(None)
     }
 }

@@ -1,0 +1,60 @@
+use Rattle.std.proofs.Common.{◌≡◌, ◌+◌, true, false, [], ◌∷◌, drop, get_or, sym, ap, ◌∙◌, arith}
+use Rattle.std.specs.Prelude.{is_ok}
+use Rattle.std.proofs.lemmas.Grind.{common_steps}
+use Rattle.model.specs.Event.{event_of}
+use Rattle.model.specs.declared.event.Event.TheVariants.{Patch}
+use Rattle.mon_desk.specs.Served.{course_of}
+use Rattle.mon_desk.specs.ByteLines.{all_happened, patches}
+use Rattle.mon_desk.proofs.Bytes.{made, none_left, patches-end, patches-from, rejected}
+use Rattle.mon_desk.proofs.desk.Desk.patch_each.Goals as goal
+
+pub returns-in_err-happen-clause-course : goal.returns-in_err-happen-clause-course
+returns-in_err-happen-clause-course c =
+    let a = c.args.address in
+    let bytes = c.args.bytes.now in
+    let i = c.loop-index.index in
+    let before = course_of c.loop-index.self in
+    let rest = patches (a + (i + 1)) (drop (i + 1) bytes) in
+    c.happen.ensures.course
+    ∙ sym (c.loop-index.invariant.course
+    ∙ ap (λ es. all_happened es before) (patches-from a bytes i (omega (arith, c.loop-index-test.true)))
+    ∙ rejected (Patch (a + i) (get_or bytes i 0 ∷ 0 ∷ 0 ∷ []) 1) rest before c.in_err-happen.ensures.memory)
+
+pub returns-then-not-branch-clause-course : goal.returns-then-not-branch-clause-course
+returns-then-not-branch-clause-course c =
+    let a = c.args.address in
+    let bytes = c.args.bytes.now in
+    let i = c.loop-index.index in
+    let before = course_of c.loop-index.self in
+    let rest = patches (a + (i + 1)) (drop (i + 1) bytes) in
+    let fails : is_ok (event_of before.0.current (Patch (a + i) (get_or bytes i 0 ∷ 0 ∷ 0 ∷ []) 1)) ≡ false = grind (arith, common_steps, c.in_ok-happen.ensures.accepted, c.if-not-branch.true) in
+    c.happen.ensures.course
+    ∙ sym (c.loop-index.invariant.course
+    ∙ ap (λ es. all_happened es before) (patches-from a bytes i (omega (arith, c.loop-index-test.true)))
+    ∙ rejected (Patch (a + i) (get_or bytes i 0 ∷ 0 ∷ 0 ∷ []) 1) rest before fails)
+
+pub loop-index-preserved : goal.loop-index-preserved
+loop-index-preserved c =
+    let a = c.args.address in
+    let bytes = c.args.bytes.now in
+    let i = c.loop-index.index in
+    let before = course_of c.loop-index.self in
+    let rest = patches (a + (i + 1)) (drop (i + 1) bytes) in
+    let holds : is_ok (event_of before.0.current (Patch (a + i) (get_or bytes i 0 ∷ 0 ∷ 0 ∷ []) 1)) ≡ true = grind (arith, common_steps, c.in_ok-happen.ensures.accepted, c.if-not-branch.false) in
+    record {
+      course = c.loop-index.invariant.course
+          ∙ ap (λ es. all_happened es before) (patches-from a bytes i (omega (arith, c.loop-index-test.true)))
+          ∙ made (Patch (a + i) (get_or bytes i 0 ∷ 0 ∷ 0 ∷ []) 1) rest before holds
+          ∙ ap (all_happened rest) (sym c.happen.ensures.course);
+      stops = (c.happen.ensures.stops.0 ∙ c.loop-index.invariant.stops.0, c.happen.ensures.stops.1 ∙ c.loop-index.invariant.stops.1);
+    }
+
+pub returns-clause-course : goal.returns-clause-course
+returns-clause-course c =
+    let a = c.args.address in
+    let bytes = c.args.bytes.now in
+    let i = c.loop-index.index in
+    let after = course_of c.loop-index.self in
+    sym (c.loop-index.invariant.course
+    ∙ ap (λ es. all_happened es after) (patches-end a bytes i (omega (arith, c.loop-index-test.false)))
+    ∙ none_left after)
