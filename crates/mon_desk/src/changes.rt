@@ -515,7 +515,9 @@ impl Desk {
             if self.session.regs().flags.i {
                 return self.say("IRQ is asked for, but I is 1: it waits until a CLI\n");
             }
-            self.say("IRQ is asked for: the next step enters it, or an NMI that is asked for too\n")?;
+            self.say(
+                "IRQ is asked for: the next step enters it, or an NMI that is asked for too\n",
+            )?;
         }
         Ok(())
     }
