@@ -1,3 +1,4 @@
 pub mod Crc
 pub mod Facts
 pub mod Steps
+pub mod Told

@@ -1,6 +1,13 @@
 //! What the word `info` does.
 
-ghost use Rattle.std.specs.Prelude.{◌≡◌, ◌≤◌};
+ghost use Rattle.std.specs.Prelude.{◌≡◌, ◌≤◌, ◌⊎◌, ℕ, IfErr, IfOk, MatchResult, false, map};
+ghost use Rattle.std.specs.Prelude.{string_bytes};
+ghost use Rattle.model.specs.State.{is_map};
+ghost use Rattle.tape_info.specs.Facts.{data_records};
+ghost use Rattle.tape_info.specs.Told.{AreRows};
+ghost use Rattle.tape_info.specs.Word.{EndsInfo, IsAbout, IsBegun, IsRefused, TellsRight, TellsWrong};
+ghost use Rattle.tape_words.specs.Answers.{TellsFault};
+ghost use Rattle.tape_words.specs.Asked.{info_view};
 
 use crate::fact_list::{data_records, facts_of};
 use crate::fact_text::image_text;
