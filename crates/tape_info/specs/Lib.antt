@@ -2,3 +2,4 @@ pub mod Crc
 pub mod Facts
 pub mod Steps
 pub mod Told
+pub mod Word
