@@ -1,0 +1,25 @@
+use Rattle.std.proofs.Common.{inl, inr, map}
+use Rattle.dis_source.specs.CommandLine.{dis, part_view}
+use Rattle.word_streams.proofs.Parsed.{says_of_words}
+use Rattle.dis_source.proofs.run.dis_source.Goals as goal
+
+pub returns-in-Ok-clause-done : goal.returns-in-Ok-clause-done
+returns-in-Ok-clause-done g c = λ zero. inr (part_view c.in-Ok.words, c.in-Ok.ensures.taken, c.in-Ok.ensures.asked, c.done.ensures.done zero)
+
+pub returns-in-Ok-clause-refused : goal.returns-in-Ok-clause-refused
+returns-in-Ok-clause-refused g c = λ two. inr c.in-Ok.ensures.taken
+
+pub returns-in-Ok-clause-begun : goal.returns-in-Ok-clause-begun
+returns-in-Ok-clause-begun g c = λ four. inr (part_view c.in-Ok.words, c.in-Ok.ensures.taken, c.in-Ok.ensures.asked, c.done.ensures.begun four)
+
+pub returns-in-Err-clause-done : goal.returns-in-Err-clause-done
+returns-in-Err-clause-done g c = λ zero. inl ((says_of_words dis (map (λ s. s.now) c.args.words.now) _ _ _ c.in-Err.ensures.refused c.refused_words.ensures.why).help (inl zero))
+
+pub returns-in-Err-clause-taken : goal.returns-in-Err-clause-taken
+returns-in-Err-clause-taken g c = λ one. absurd ((says_of_words dis (map (λ s. s.now) c.args.words.now) _ _ _ c.in-Err.ensures.refused c.refused_words.ensures.why).never one)
+
+pub returns-in-Err-clause-refused : goal.returns-in-Err-clause-refused
+returns-in-Err-clause-refused g c = λ two. elim ((says_of_words dis (map (λ s. s.now) c.args.words.now) _ _ _ c.in-Err.ensures.refused c.refused_words.ensures.why).wrong two) [ inl m ↦ inl m | inr w ↦ inr w.0 ]
+
+pub returns-in-Err-clause-begun : goal.returns-in-Err-clause-begun
+returns-in-Err-clause-begun g c = λ four. inl ((says_of_words dis (map (λ s. s.now) c.args.words.now) _ _ _ c.in-Err.ensures.refused c.refused_words.ensures.why).help (inr four))
