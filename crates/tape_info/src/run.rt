@@ -38,7 +38,19 @@ fn right_tape(
 {
     let facts = facts_of(alloc, image, map)?;
     let records = data_records(text);
-    image_text(alloc, words.profile, image, words.port, &facts, records)
+    let said = image_text(alloc, words.profile, image, words.port, &facts, records)?;
+    Ok(said)
+}
+
+/// Returns what is to be said of `mend`: that it mends a text, or nothing.
+fn mend_hint(alloc: Global, text: &[u8]) -> Result<&'static str, AllocError> {
+    match mend_text(alloc, text) {
+        Ok(_) => Ok("`mend` mends it\n"),
+        Err(fault) => match fault.kind {
+            TapeFaultKind::OutOfMemory => Err(AllocError),
+            _ => Ok(""),
+        },
+    }
 }
 
 /// Returns what is wrong with a tape, and whether `mend` mends it.
@@ -51,14 +63,8 @@ fn wrong_tape(
     ensures { IfOk result (λ said. TellsFault words.now.tape.now fault.kind (string_bytes said)) }
 {
     let mut said = fault_text(alloc, words.tape, text, fault)?;
-    match mend_text(alloc, text) {
-        Ok(_) => said.push_str("`mend` mends it\n")?,
-        Err(fault) => {
-            if fault.kind == TapeFaultKind::OutOfMemory {
-                return Err(AllocError);
-            }
-        }
-    }
+    let hint = mend_hint(alloc, text)?;
+    said.push_str(hint)?;
     Ok(said)
 }
 
