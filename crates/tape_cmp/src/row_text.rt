@@ -142,6 +142,35 @@ fn alike(differences: &[u16], place: usize, one: &Side<'_>, other: &Side<'_>) ->
     count
 }
 
+/// Appends the row of the differences from a place on, and returns the place after those that it
+/// tells.
+fn push_next(
+    words: &mut String,
+    one: &Side<'_>,
+    other: &Side<'_>,
+    differences: &[u16],
+    place: usize,
+    first: u16,
+) -> Result<usize, AllocError>
+    ensures { IfOk result (λ _. EndsLine (string_bytes words.new)) }
+{
+    if one.has(first) && other.has(first) {
+        push_row(words, one, other, first)?;
+        return Ok(place);
+    }
+    let until = place.saturating_add(alike(differences, place, one, other));
+    let last = differences
+        .get(until.saturating_sub(1))
+        .copied()
+        .unwrap_or(first);
+    if one.has(first) {
+        push_range(words, one, first, last)?;
+        return Ok(until);
+    }
+    push_range(words, other, first, last)?;
+    Ok(until)
+}
+
 /// Returns the rows of differences: for each range that one side alone has a row; for each address
 /// at which both have a byte a row with both bytes and both instructions.
 ///
@@ -159,22 +188,8 @@ pub fn rows(
     let mut words = String::new(alloc);
     let mut until = 0usize;
     for (place, first) in differences.iter().enumerate() {
-        if place < until {
-            continue;
-        }
-        if one.has(*first) && other.has(*first) {
-            push_row(&mut words, one, other, *first)?;
-            continue;
-        }
-        until = place.saturating_add(alike(differences, place, one, other));
-        let last = differences
-            .get(until.saturating_sub(1))
-            .copied()
-            .unwrap_or(*first);
-        if one.has(*first) {
-            push_range(&mut words, one, *first, last)?;
-        } else {
-            push_range(&mut words, other, *first, last)?;
+        if until <= place {
+            until = push_next(&mut words, one, other, differences, place, *first)?;
         }
     }
     Ok(words)
