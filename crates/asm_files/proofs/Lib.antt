@@ -1,5 +1,3 @@
 pub mod Ends
 pub mod Laid
 pub mod Rows
-pub mod Read
-pub mod Said

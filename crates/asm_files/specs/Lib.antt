@@ -1,5 +1,4 @@
 pub mod Asked
-pub mod CommandLine
 pub mod Found
 pub mod Texts
 pub mod Views

@@ -1,7 +1,6 @@
 //! Why no source is written.
-ghost use Rattle.std.specs.Prelude.{◌≡◌, ◌⊎◌};
+ghost use Rattle.std.specs.Prelude.{◌≡◌};
 ghost use Rattle.dis_source.specs.Statuses.{status_of};
-ghost use Rattle.dis_source.specs.Word.{unread_of};
 
 use model::{AsmFault, TapeFault, TapeFaultKind};
 use papertape::TapeReadFault;
@@ -47,9 +46,7 @@ impl Refusal {
     }
 
     /// Returns why a file could not be opened.
-    pub fn unreadable(error: &io::Error) -> Refusal
-        ensures { (result ≡ Refusal.OutOfMemory) ⊎ (result ≡ Refusal.Read) }
-    {
+    pub fn unreadable(error: &io::Error) -> Refusal {
         match error.kind() {
             ErrorKind::OutOfMemory => Refusal::OutOfMemory,
             _ => Refusal::Read,
@@ -57,9 +54,7 @@ impl Refusal {
     }
 
     /// Returns why a tape was not read.
-    pub fn unread(fault: TapeReadFault) -> Refusal
-        ensures { result ≡ unread_of fault }
-    {
+    pub fn unread(fault: TapeReadFault) -> Refusal {
         match fault {
             TapeReadFault::Read => Refusal::Read,
             TapeReadFault::Tape(fault) => match fault.kind {
