@@ -1,4 +1,3 @@
 pub mod Checked
-pub mod CommandLine
 pub mod Found
 pub mod Statuses

@@ -1,6 +1,6 @@
 //! Why `check` ends without having looked at a source.
 
-ghost use Rattle.std.specs.Prelude.{◌≡◌, ◌⊎◌};
+ghost use Rattle.std.specs.Prelude.{◌≡◌};
 ghost use Rattle.checking.specs.Statuses.{status_of};
 
 use std::io;
@@ -43,9 +43,7 @@ impl Refusal {
     }
 
     /// Returns why a file could not be read.
-    pub fn unreadable(error: &io::Error) -> Refusal
-        ensures { (result ≡ Refusal.OutOfMemory) ⊎ (result ≡ Refusal.Read) }
-    {
+    pub fn unreadable(error: &io::Error) -> Refusal {
         match error.kind() {
             ErrorKind::OutOfMemory => Refusal::OutOfMemory,
             _ => Refusal::Read,
