@@ -106,12 +106,7 @@ fn push_row(
 }
 
 /// Appends the row of a range that one side alone has.
-fn push_range(
-    words: &mut String,
-    side: &Side<'_>,
-    first: u16,
-    last: u16,
-) -> Result<(), AllocError>
+fn push_range(words: &mut String, side: &Side<'_>, first: u16, last: u16) -> Result<(), AllocError>
     ensures { OnOk result (EndsLine (string_bytes words.new)) }
 {
     write!(words, "{first:04X}-{last:04X}  ")?;

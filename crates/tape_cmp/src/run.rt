@@ -123,8 +123,8 @@ pub fn tape_cmp<H: Files + AllocGlobal, O: Write, E: Write>(
     ensures quiet { result ≡ 0 → errors.new ≡ errors.old }
     // Words or tapes that are refused leave the output as it was.
     ensures untouched { 2 ≤ result → result ≤ 3 → output.new ≡ output.old }
-    // 0 means that two tapes were found equal, with nothing to write, or that the help that is asked
-    // for was written.
+    // 0 means that two tapes were found equal, with nothing to write, or that the help that is
+    // asked for was written.
     ensures right { result ≡ 0 → AsksForHelp cmp (map (λ s. s.now) words.entry.now)
         ⊎ (Asks (map (λ s. s.now) words.entry.now)
         × Tells IsSaid true (O.contents output.old) (O.contents output.new)) }

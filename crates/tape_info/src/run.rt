@@ -1,6 +1,7 @@
 //! What the word `info` does.
 
-ghost use Rattle.std.specs.Prelude.{◌≡◌, ◌≤◌, ◌⊎◌, IfErr, IfOk, None, false, map, string_bytes, true};
+ghost use Rattle.std.specs.Prelude.{◌≡◌, ◌≤◌, ◌⊎◌, IfErr, IfOk, None, false, map, string_bytes};
+ghost use Rattle.std.specs.Prelude.{true};
 ghost use Rattle.model.specs.State.{is_map};
 ghost use Rattle.model.specs.Tape.{FirstFault, TapeDenotes};
 ghost use Rattle.tape_info.specs.Facts.{data_records};

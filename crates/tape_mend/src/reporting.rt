@@ -76,7 +76,8 @@ fn push_end(words: &mut String, end: EndRecord, records: usize) -> Result<(), Al
 
 /// Returns what was mended of a text, a line for each thing, or that nothing was wrong.
 ///
-/// What it says of something wrong is tested, and not proved. Errors: `AllocError` if an allocation fails.
+/// What it says of something wrong is tested, and not proved. Errors: `AllocError` if an allocation
+/// fails.
 pub fn report(alloc: Global, text: &[u8], mended: &Mended) -> Result<String, AllocError>
     ensures { IfOk result (λ said. IsReport mended.now.fault (string_bytes said)) }
 {

@@ -7,8 +7,8 @@ use Rattle.model.specs.Writers.{AppendsFront}
 use Rattle.model.specs.declared.tape.TapeFaultKind.{TapeFaultKind}
 use Rattle.tape_words.specs.declared.answer.Answer.{Answer}
 
--- An answer is written, and the status is 0 where it is right and 1 where it is not; or it could not
--- be written, and a beginning of it was.
+-- An answer is written, and the status is 0 where it is right and 1 where it is not; or it could
+-- not be written, and a beginning of it was.
 abbrev pub IsAnswered : Answer → ℕ → Option (List ℕ) → Option (List ℕ) → Type 0
 IsAnswered answer status held now =
     ((status ≡ 4) × AppendsFront held now (string_bytes answer.text))

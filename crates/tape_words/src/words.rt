@@ -82,10 +82,7 @@ fn mend_words<'a>(matches: &ArgMatches<'a>) -> Option<MendWords<'a>>
 ///
 /// Errors: `Help` and `Usage` with `clap`'s text; `Value` if an option has a wrong value;
 /// `OutOfMemory` if an allocation fails.
-pub fn read_info_words<'a>(
-    alloc: Global,
-    words: &'a [&'a str],
-) -> Result<InfoWords<'a>, WordsFault>
+pub fn read_info_words<'a>(alloc: Global, words: &'a [&'a str]) -> Result<InfoWords<'a>, WordsFault>
     ensures asked { IfOk result
         (λ w. info_asked (map (λ s. s.now) words.entry.now) ≡ Some (info_view w)) }
     ensures taken { IfOk result (λ w. Fits info (map (λ s. s.now) words.entry.now)) }
@@ -119,10 +116,7 @@ pub fn read_cmp_words<'a>(alloc: Global, words: &'a [&'a str]) -> Result<CmpWord
 /// Reads the words after `mend`.
 ///
 /// Errors: as those of `read_info_words`; `Value` if both files have one name.
-pub fn read_mend_words<'a>(
-    alloc: Global,
-    words: &'a [&'a str],
-) -> Result<MendWords<'a>, WordsFault>
+pub fn read_mend_words<'a>(alloc: Global, words: &'a [&'a str]) -> Result<MendWords<'a>, WordsFault>
     ensures asked { IfOk result
         (λ w. mend_asked (map (λ s. s.now) words.entry.now) ≡ Some (mend_view w)) }
     ensures taken { IfOk result (λ w. Fits mend (map (λ s. s.now) words.entry.now)) }

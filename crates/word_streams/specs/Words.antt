@@ -45,7 +45,8 @@ IsStatusOf Value status = status ≡ 2
 IsStatusOf OutOfMemory status = status ≡ 3
 
 -- What the exit status says of words that are refused.
-pub record SaysOfWords (app : App) (words : List Text) (IsWrong : Type 0) (status : ℕ) : Type 0 where
+pub record SaysOfWords (app : App) (words : List Text) (IsWrong : Type 0) (status : ℕ)
+    : Type 0 where
   pub help : (status ≡ 0) ⊎ (status ≡ 4) → AsksForHelp app words
   pub never : status ≢ 1
   pub wrong : status ≡ 2 → Misfits app words ⊎ (Fits app words × IsWrong)

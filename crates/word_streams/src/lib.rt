@@ -2,8 +2,8 @@
 //! help.
 //!
 //! `write_text` writes a text, and its clause says what was written where that fails. The
-//! definitions in `specs/Words.antt` say by `clap`'s own definition of a parse what the words of one
-//! command line ask for, and which ask for help.
+//! definitions in `specs/Words.antt` say what the words of one command line ask for, and which ask
+//! for help, by `clap`'s own definition of a parse.
 #![tactic(auto)]
 
 mod output;

@@ -8,20 +8,32 @@ use Rattle.word_streams.proofs.Parsed.{says_of_words}
 use Rattle.tape_mend.proofs.run.tape_mend.Goals as goal
 
 pub returns-in-Ok-clause-right : goal.returns-in-Ok-clause-right
-returns-in-Ok-clause-right g c = λ zero. inr (mend_view c.in-Ok.words, c.in-Ok.ensures.taken, c.in-Ok.ensures.asked,
-    said_right (IsSaid (mend_view c.in-Ok.words)) c.done.result c.answered.result _ _ c.done.ensures.about c.answered.ensures.said zero)
+returns-in-Ok-clause-right g c = λ zero. inr (
+  mend_view c.in-Ok.words,
+  c.in-Ok.ensures.taken,
+  c.in-Ok.ensures.asked,
+  said_right (IsSaid (mend_view c.in-Ok.words)) c.done.result c.answered.result _ _ c.done.ensures.about c.answered.ensures.said zero,
+)
 
 pub returns-in-Ok-clause-wrong : goal.returns-in-Ok-clause-wrong
-returns-in-Ok-clause-wrong g c = λ one. (mend_view c.in-Ok.words, c.in-Ok.ensures.taken, c.in-Ok.ensures.asked,
-    said_wrong (IsSaid (mend_view c.in-Ok.words)) c.done.result c.answered.result _ _ _ c.done.ensures.about c.answered.ensures.said c.answered.ensures.alone one)
+returns-in-Ok-clause-wrong g c = λ one. (
+  mend_view c.in-Ok.words,
+  c.in-Ok.ensures.taken,
+  c.in-Ok.ensures.asked,
+  said_wrong (IsSaid (mend_view c.in-Ok.words)) c.done.result c.answered.result _ _ _ c.done.ensures.about c.answered.ensures.said c.answered.ensures.alone one,
+)
 
 pub returns-in-Ok-clause-refused : goal.returns-in-Ok-clause-refused
 returns-in-Ok-clause-refused g c = λ two. absurd
     (no_two (said_two (IsSaid (mend_view c.in-Ok.words)) c.done.result c.answered.result _ _ EndsMend c.done.ensures.about c.answered.ensures.said c.done.ensures.refused two))
 
 pub returns-in-Ok-clause-begun : goal.returns-in-Ok-clause-begun
-returns-in-Ok-clause-begun g c = λ four. inr (mend_view c.in-Ok.words, c.in-Ok.ensures.taken, c.in-Ok.ensures.asked,
-    said_front (IsSaid (mend_view c.in-Ok.words)) c.done.result c.answered.result _ _ _ c.done.ensures.about c.answered.ensures.said c.answered.ensures.alone four)
+returns-in-Ok-clause-begun g c = λ four. inr (
+  mend_view c.in-Ok.words,
+  c.in-Ok.ensures.taken,
+  c.in-Ok.ensures.asked,
+  said_front (IsSaid (mend_view c.in-Ok.words)) c.done.result c.answered.result _ _ _ c.done.ensures.about c.answered.ensures.said c.answered.ensures.alone four,
+)
 
 pub returns-in-Err-clause-right : goal.returns-in-Err-clause-right
 returns-in-Err-clause-right g c = λ zero. inl ((says_of_words mend (map (λ s. s.now) c.args.words.now) _ _ _ c.in-Err.ensures.refused c.refused_words.ensures.why).help (inl zero))
