@@ -1,5 +1,5 @@
 -- Why no image was read.
-use Rattle.std.proofs.Common.{◌≡◌, ℕ, List, Option, inl, inr, subst, sym}
+use Rattle.std.proofs.Common.{ℕ, List, Option, inl, inr, subst, sym}
 use Rattle.model.specs.TapePieces.{IsRefusedInPieces}
 use Rattle.model.specs.declared.tape.TapeFault.{TapeFault}
 use Rattle.model.specs.declared.tape.TapeFaultKind.{TapeFaultKind}

@@ -1,10 +1,9 @@
 -- What clap's contract says of words, at a command line that is known.
-use Rattle.std.proofs.Common.{◌≡◌, ◌∙◌, ◌⊎◌, ℕ, arith, inl, inr, List, Option, Result, Ok, Err, IfErr, true, [], ap, sym, subst}
+use Rattle.std.proofs.Common.{◌≡◌, ◌∙◌, ◌⊎◌, ℕ, arith, inl, inr, List, Result, Ok, Err, IfErr, true, [], ap, sym, subst}
 use Rattle.std.specs.Result.{IsErrAnd}
 use Rattle.clap.specs.Faults.{is_simple_and_free}
-use Rattle.clap.specs.Words.{App, HasKind, HasMatchesOf, IsAmong, Text, fault_of, first_of, first_value, found_of, is_simple, kind_of, matches_of, rows_of}
+use Rattle.clap.specs.Words.{App, HasKind, HasMatchesOf, IsAmong, Text, fault_of, first_of, first_value, found_of, is_simple, kind_of, matches_of}
 use Rattle.clap.specs.declared.error.Error.{Error}
-use Rattle.clap.specs.declared.error.kind.ErrorKind.TheVariants as kind
 use Rattle.clap.specs.declared.parser.matches.ArgMatches.{ArgMatches}
 use Rattle.clap.proofs.WalkLemmas.{first_value-rows}
 use Rattle.program_words.specs.Refused.{AnswersWords}

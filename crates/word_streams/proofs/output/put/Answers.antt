@@ -1,5 +1,4 @@
-use Rattle.std.proofs.Common.{◌+◌, ◌≤◌, arith, length, take}
-use Rattle.std.specs.Io.KnownBytes.{Appends}
+use Rattle.std.proofs.Common.{◌+◌, arith}
 use Rattle.std.proofs.KnownBytes.{Appends-kept}
 use Rattle.word_streams.proofs.Writing.{Appends-step, front_at}
 use Rattle.word_streams.proofs.output.put.Goals as goal
