@@ -1,7 +1,7 @@
-use Rattle.std.proofs.Common.{inl, inr, map, refl, sym, subst, ◌≡◌, rules}
+use Rattle.std.proofs.Common.{inl, inr, map}
 use Rattle.tape_mend.specs.Word.{EndsMend, IsSaid}
 use Rattle.tape_mend.proofs.Word.{no_two}
-use Rattle.tape_words.specs.Asked.{mend_asked, mend_view}
+use Rattle.tape_words.specs.Asked.{mend_view}
 use Rattle.tape_words.specs.CommandLines.{mend}
 use Rattle.tape_words.proofs.Said.{said_right, said_wrong, said_front, said_two}
 use Rattle.word_streams.proofs.Parsed.{says_of_words}
