@@ -1,6 +1,6 @@
 -- What `info` has done, for words and by what its output held before and now. Source: mos65. No
 -- clause can say which tape a file has.
-use Rattle.std.specs.Prelude.{◌≡◌, ⊤, ℕ, Bool, true, false, List, Option, Some, None, string_bytes}
+use Rattle.std.specs.Prelude.{◌≡◌, ⊤, ℕ, Bool, true, false, List, Some, None, string_bytes}
 use Rattle.clap.specs.Words.{Text}
 use Rattle.model.specs.State.{is_map}
 use Rattle.tape_info.specs.Told.{IsRightTape, IsWrongTape}

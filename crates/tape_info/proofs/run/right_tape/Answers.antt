@@ -1,6 +1,6 @@
 use Rattle.std.proofs.Common.{ℕ, subst}
 use Rattle.std.specs.Prelude.{string_bytes}
-use Rattle.tape_info.specs.Told.{AreFacts, tape_row}
+use Rattle.tape_info.specs.Told.{tape_row}
 use Rattle.tape_words.specs.Answers.{Begins}
 use Rattle.tape_info.proofs.run.right_tape.Goals as goal
 

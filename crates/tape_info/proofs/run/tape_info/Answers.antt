@@ -1,7 +1,7 @@
-use Rattle.std.proofs.Common.{inl, inr, map, refl, sym, subst, ◌≡◌, rules}
+use Rattle.std.proofs.Common.{inl, inr, map}
 use Rattle.tape_info.specs.Word.{EndsInfo, IsSaid}
 use Rattle.tape_info.proofs.Word.{no_map}
-use Rattle.tape_words.specs.Asked.{info_asked, info_view}
+use Rattle.tape_words.specs.Asked.{info_view}
 use Rattle.tape_words.specs.CommandLines.{info}
 use Rattle.tape_words.proofs.Said.{said_right, said_wrong, said_front, said_two}
 use Rattle.word_streams.proofs.Parsed.{says_of_words}
