@@ -1,4 +1,3 @@
-use Rattle.std.proofs.Common.{◌≡◌}
 use Rattle.tape_cmp.specs.Word.{IsSaid}
 use Rattle.tape_cmp.proofs.Word.{about_of, memory, the_first}
 use Rattle.tape_words.proofs.Said.{said_front, said_wrong}
