@@ -1,5 +1,8 @@
 //! The differences as rows of text.
 
+ghost use Rattle.std.specs.Prelude.{◌≡◌, ◌<◌, IfOk, OnOk, length, string_bytes};
+ghost use Rattle.tape_words.specs.Answers.{EndsLine};
+
 use memory_map::Image;
 use model::Profile;
 use std::alloc::{AllocError, Global};
@@ -39,7 +42,9 @@ impl<'a> Side<'a> {
         name: &'a str,
         image: Image,
         profile: Profile,
-    ) -> Result<Side<'a>, AllocError> {
+    ) -> Result<Side<'a>, AllocError>
+        ensures { IfOk result (λ side. side.image ≡ image) }
+    {
         let starts = starts_of(alloc, profile, &image)?;
         Ok(Side {
             name,
@@ -50,7 +55,9 @@ impl<'a> Side<'a> {
     }
 
     /// Returns the image.
-    pub fn image(&self) -> &Image {
+    pub fn image(&self) -> &Image
+        ensures { result.now ≡ self.now.image }
+    {
         &self.image
     }
 
@@ -84,7 +91,9 @@ fn push_row(
     one: &Side<'_>,
     other: &Side<'_>,
     address: u16,
-) -> Result<(), AllocError> {
+) -> Result<(), AllocError>
+    ensures { OnOk result (EndsLine (string_bytes words.new)) }
+{
     write!(words, "{address:04X}  ")?;
     one.push_byte(words, address)?;
     words.push_str(" ")?;
@@ -97,16 +106,14 @@ fn push_row(
 }
 
 /// Appends the row of a range that one side alone has.
-fn push_range(
-    words: &mut String,
-    side: &Side<'_>,
-    first: u16,
-    last: u16,
-) -> Result<(), AllocError> {
+fn push_range(words: &mut String, side: &Side<'_>, first: u16, last: u16) -> Result<(), AllocError>
+    ensures { OnOk result (EndsLine (string_bytes words.new)) }
+{
     write!(words, "{first:04X}-{last:04X}  ")?;
     let count = last.saturating_sub(first) as u32 + 1;
     push_count(words, count as u64, "byte", "bytes")?;
-    writeln!(words, " on {} only", side.name)
+    write!(words, " on {} only", side.name)?;
+    words.push_str("\n")
 }
 
 /// Returns how many of some addresses, from a place on, follow one another and are of the same
@@ -130,35 +137,54 @@ fn alike(differences: &[u16], place: usize, one: &Side<'_>, other: &Side<'_>) ->
     count
 }
 
+/// Appends the row of the differences from a place on, and returns the place after those that it
+/// tells.
+fn push_next(
+    words: &mut String,
+    one: &Side<'_>,
+    other: &Side<'_>,
+    differences: &[u16],
+    place: usize,
+    first: u16,
+) -> Result<usize, AllocError>
+    ensures { IfOk result (λ _. EndsLine (string_bytes words.new)) }
+{
+    if one.has(first) && other.has(first) {
+        push_row(words, one, other, first)?;
+        return Ok(place);
+    }
+    let until = place.saturating_add(alike(differences, place, one, other));
+    let last = differences
+        .get(until.saturating_sub(1))
+        .copied()
+        .unwrap_or(first);
+    if one.has(first) {
+        push_range(words, one, first, last)?;
+        return Ok(until);
+    }
+    push_range(words, other, first, last)?;
+    Ok(until)
+}
+
 /// Returns the rows of differences: for each range that one side alone has a row; for each address
 /// at which both have a byte a row with both bytes and both instructions.
 ///
-/// What they say is tested, and not proved. Errors: `AllocError` if an allocation fails.
+/// That they are rows is proved, and what they say is tested. Errors: `AllocError` if an allocation
+/// fails.
 pub fn rows(
     alloc: Global,
     one: &Side<'_>,
     other: &Side<'_>,
     differences: &[u16],
-) -> Result<String, AllocError> {
+) -> Result<String, AllocError>
+    requires { 0 < length differences.now }
+    ensures { IfOk result (λ words. EndsLine (string_bytes words)) }
+{
     let mut words = String::new(alloc);
     let mut until = 0usize;
     for (place, first) in differences.iter().enumerate() {
-        if place < until {
-            continue;
-        }
-        if one.has(*first) && other.has(*first) {
-            push_row(&mut words, one, other, *first)?;
-            continue;
-        }
-        until = place.saturating_add(alike(differences, place, one, other));
-        let last = differences
-            .get(until.saturating_sub(1))
-            .copied()
-            .unwrap_or(*first);
-        if one.has(*first) {
-            push_range(&mut words, one, *first, last)?;
-        } else {
-            push_range(&mut words, other, *first, last)?;
+        if until <= place {
+            until = push_next(&mut words, one, other, differences, place, *first)?;
         }
     }
     Ok(words)

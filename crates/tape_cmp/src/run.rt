@@ -1,6 +1,12 @@
 //! What the word `cmp` does.
 
-ghost use Rattle.std.specs.Prelude.{◌≡◌, ◌≤◌};
+ghost use Rattle.std.specs.Prelude.{◌≡◌, ◌≤◌, ◌⊎◌, IfErr, IfOk, None, false, map, true};
+ghost use Rattle.tape_cmp.specs.Word.{Asks, HasTapeFault, IsAnswerOf, IsOfTape, IsSaid};
+ghost use Rattle.tape_words.specs.Asked.{cmp_asked};
+ghost use Rattle.tape_words.specs.CommandLines.{cmp};
+ghost use Rattle.tape_words.specs.Unread.{EndsReading};
+ghost use Rattle.word_streams.specs.Streams.{Tells, TellsFront};
+ghost use Rattle.word_streams.specs.Words.{AsksForHelp, Fits, Misfits};
 
 use crate::comparing::differences;
 use crate::row_text::{Side, rows};
@@ -13,7 +19,10 @@ fn side_of<'a, H: Files + AllocGlobal>(
     rt: &H,
     words: &CmpWords<'a>,
     name: &'a str,
-) -> Result<Side<'a>, (&'a str, Refusal)> {
+) -> Result<Side<'a>, (&'a str, Refusal)>
+    ensures tape { IfOk result (λ side. IsOfTape side.image) }
+    ensures refused { IfErr result (λ why. EndsReading why.1) }
+{
     match image_of(rt, name) {
         Ok(image) => match Side::new(rt.alloc(), name, image, words.profile) {
             Ok(side) => Ok(side),
@@ -24,15 +33,24 @@ fn side_of<'a, H: Files + AllocGlobal>(
 }
 
 /// Returns the rows of the differences between two sides.
-fn compared<H: AllocGlobal>(rt: &H, one: &Side<'_>, other: &Side<'_>) -> Result<Answer, Refusal> {
+fn compared<H: AllocGlobal>(rt: &H, one: &Side<'_>, other: &Side<'_>) -> Result<Answer, Refusal>
+    ensures rows { IfOk result (IsAnswerOf one.now.image other.now.image) }
+    ensures only { IfErr result (λ r. r ≡ Refusal.OutOfMemory) }
+{
     let alloc = rt.alloc();
     let Ok(found) = differences(alloc, one.image(), other.image()) else {
         return Err(Refusal::OutOfMemory);
     };
+    if found.is_empty() {
+        return Ok(Answer {
+            text: String::new(alloc),
+            is_right: true,
+        });
+    }
     match rows(alloc, one, other, &found) {
         Ok(text) => Ok(Answer {
             text,
-            is_right: found.is_empty(),
+            is_right: false,
         }),
         Err(_) => Err(Refusal::OutOfMemory),
     }
@@ -40,8 +58,10 @@ fn compared<H: AllocGlobal>(rt: &H, one: &Side<'_>, other: &Side<'_>) -> Result<
 
 /// Says which tape is not compared, and why, and returns the exit status.
 fn not_compared<E: Write>(name: &str, refusal: Refusal, errors: &mut E) -> u8
+    requires { EndsReading refusal }
     ensures least { 2 ≤ result }
     ensures most { result ≤ 4 }
+    ensures fault { result ≡ 2 → HasTapeFault }
 {
     match refusal {
         Refusal::OutOfMemory => {
@@ -69,6 +89,13 @@ fn done<H: Files + AllocGlobal, O: Write, E: Write>(
     ensures status { result ≤ 4 }
     ensures quiet { result ≡ 0 → errors.new ≡ errors.old }
     ensures untouched { 2 ≤ result → result ≤ 3 → output.new ≡ output.old }
+    ensures right { result ≡ 0 → Tells IsSaid true (O.contents output.old) (O.contents output.new) }
+    ensures wrong { result ≡ 1
+        → Tells IsSaid false (O.contents output.old) (O.contents output.new) }
+    ensures fault { result ≡ 2 → HasTapeFault }
+    ensures begun { result ≡ 4
+        → TellsFront IsSaid (O.contents output.old) (O.contents output.new)
+        ⊎ (output.new ≡ output.old) }
 {
     let one = match side_of(rt, words, words.tape) {
         Ok(side) => side,
@@ -96,6 +123,23 @@ pub fn tape_cmp<H: Files + AllocGlobal, O: Write, E: Write>(
     ensures quiet { result ≡ 0 → errors.new ≡ errors.old }
     // Words or tapes that are refused leave the output as it was.
     ensures untouched { 2 ≤ result → result ≤ 3 → output.new ≡ output.old }
+    // 0 means that two tapes were found equal, with nothing to write, or that the help that is
+    // asked for was written.
+    ensures right { result ≡ 0 → AsksForHelp cmp (map (λ s. s.now) words.entry.now)
+        ⊎ (Asks (map (λ s. s.now) words.entry.now)
+        × Tells IsSaid true (O.contents output.old) (O.contents output.new)) }
+    // 1 means that two tapes differ, and rows were written.
+    ensures wrong { result ≡ 1 → Asks (map (λ s. s.now) words.entry.now)
+        × Tells IsSaid false (O.contents output.old) (O.contents output.new) }
+    // 2 means that the words do not fit, that a value is wrong, or that a tape has a fault.
+    ensures refused { result ≡ 2 → Misfits cmp (map (λ s. s.now) words.entry.now)
+        ⊎ ((Fits cmp (map (λ s. s.now) words.entry.now)
+        × (cmp_asked (map (λ s. s.now) words.entry.now) ≡ None))
+        ⊎ (Asks (map (λ s. s.now) words.entry.now) × HasTapeFault)) }
+    // 4 means that a beginning of the rows was written, or nothing; or help is asked for.
+    ensures begun { result ≡ 4 → AsksForHelp cmp (map (λ s. s.now) words.entry.now)
+        ⊎ (Asks (map (λ s. s.now) words.entry.now) × (TellsFront IsSaid
+        (O.contents output.old) (O.contents output.new) ⊎ (output.new ≡ output.old))) }
 {
     match read_cmp_words(rt.alloc(), words) {
         Ok(words) => done(rt, &words, output, errors),

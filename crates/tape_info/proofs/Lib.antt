@@ -1,2 +1,3 @@
 pub mod RangesByAddress
 pub mod Semicolons
+pub mod Word

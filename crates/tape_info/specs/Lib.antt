@@ -1,3 +1,5 @@
 pub mod Crc
 pub mod Facts
 pub mod Steps
+pub mod Told
+pub mod Word

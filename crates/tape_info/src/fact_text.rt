@@ -1,5 +1,9 @@
 //! The facts of an image as text.
 
+ghost use Rattle.std.specs.Prelude.{◌≡◌, ◌++◌, IfOk, OnOk, string_bytes};
+ghost use Rattle.tape_info.specs.Told.{tape_row};
+ghost use Rattle.tape_words.specs.Answers.{Begins};
+
 use crate::fact_list::Facts;
 use memory_map::Image;
 use model::Profile;
@@ -7,7 +11,10 @@ use std::alloc::{AllocError, Global};
 use tape_words::{push_count, push_instruction};
 
 /// Appends the row of the whole tape: how many bytes, ranges and records it has.
-fn push_tape(words: &mut String, facts: &Facts, records: usize) -> Result<(), AllocError> {
+fn push_tape(words: &mut String, facts: &Facts, records: usize) -> Result<(), AllocError>
+    ensures { OnOk result
+        (string_bytes words.new ≡ string_bytes words.old ++ tape_row facts.now records) }
+{
     words.push_str("tape    ")?;
     push_count(words, facts.bytes as u64, "byte", "bytes")?;
     words.push_str(" in ")?;
@@ -71,21 +78,16 @@ fn push_part(words: &mut String, name: &str, bytes: u32) -> Result<(), AllocErro
     }
 }
 
-/// Returns the rows of `info`: the tape, its ranges, the largest gap, the vectors, and what stands
-/// in pages 0 and 1 and at the port.
-///
-/// What they say of the facts is tested, and not proved. Errors: `AllocError` if an allocation
-/// fails.
-pub fn image_text(
+/// Returns the rows after the first: the ranges, the largest gap, the vectors, and what stands in
+/// pages 0 and 1 and at the port.
+fn more_rows(
     alloc: Global,
     profile: Profile,
     image: &Image,
     port: u16,
     facts: &Facts,
-    records: usize,
 ) -> Result<String, AllocError> {
     let mut words = String::new(alloc);
-    push_tape(&mut words, facts, records)?;
     push_ranges(&mut words, facts)?;
     push_gap(&mut words, facts)?;
     push_vector(&mut words, "NMI     FFFA  ", facts.nmi, profile, image)?;
@@ -96,5 +98,27 @@ pub fn image_text(
     let last = port.saturating_add(3);
     write!(words, "port    {port:04X}-{last:04X}  ")?;
     push_part(&mut words, "", facts.at_port)?;
+    Ok(words)
+}
+
+/// Returns the rows of `info`: the tape, its ranges, the largest gap, the vectors, and what stands
+/// in pages 0 and 1 and at the port.
+///
+/// What the rows after the first say is tested, and not proved. Errors: `AllocError` if an
+/// allocation fails.
+pub fn image_text(
+    alloc: Global,
+    profile: Profile,
+    image: &Image,
+    port: u16,
+    facts: &Facts,
+    records: usize,
+) -> Result<String, AllocError>
+    ensures { IfOk result (λ words. Begins (tape_row facts.now records) (string_bytes words)) }
+{
+    let mut words = String::new(alloc);
+    push_tape(&mut words, facts, records)?;
+    let more = more_rows(alloc, profile, image, port, facts)?;
+    words.push_str(more.as_str())?;
     Ok(words)
 }

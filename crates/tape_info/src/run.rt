@@ -1,6 +1,17 @@
 //! What the word `info` does.
 
-ghost use Rattle.std.specs.Prelude.{◌≡◌, ◌≤◌};
+ghost use Rattle.std.specs.Prelude.{◌≡◌, ◌≤◌, ◌⊎◌, IfErr, IfOk, None, false, map, string_bytes};
+ghost use Rattle.std.specs.Prelude.{true};
+ghost use Rattle.model.specs.State.{is_map};
+ghost use Rattle.model.specs.Tape.{FirstFault, TapeDenotes};
+ghost use Rattle.tape_info.specs.Facts.{data_records};
+ghost use Rattle.tape_info.specs.Told.{AreRows};
+ghost use Rattle.tape_info.specs.Word.{Asks, EndsInfo, IsAbout, IsSaid};
+ghost use Rattle.tape_words.specs.Answers.{TellsFault};
+ghost use Rattle.tape_words.specs.Asked.{info_asked, info_view};
+ghost use Rattle.tape_words.specs.CommandLines.{info};
+ghost use Rattle.word_streams.specs.Streams.{Tells, TellsFront};
+ghost use Rattle.word_streams.specs.Words.{AsksForHelp, Fits, Misfits};
 
 use crate::fact_list::{data_records, facts_of};
 use crate::fact_text::image_text;
@@ -22,10 +33,25 @@ fn right_tape(
     map: &MapSpec,
     text: &[u8],
     image: &Image,
-) -> Result<String, AllocError> {
+) -> Result<String, AllocError>
+    ensures { IfOk result (λ said. AreRows image.now map.now.port (data_records text.now)
+        (string_bytes said)) }
+{
     let facts = facts_of(alloc, image, map)?;
     let records = data_records(text);
-    image_text(alloc, words.profile, image, words.port, &facts, records)
+    let said = image_text(alloc, words.profile, image, words.port, &facts, records)?;
+    Ok(said)
+}
+
+/// Returns what is to be said of `mend`: that it mends a text, or nothing.
+fn mend_hint(alloc: Global, text: &[u8]) -> Result<&'static str, AllocError> {
+    match mend_text(alloc, text) {
+        Ok(_) => Ok("`mend` mends it\n"),
+        Err(fault) => match fault.kind {
+            TapeFaultKind::OutOfMemory => Err(AllocError),
+            _ => Ok(""),
+        },
+    }
 }
 
 /// Returns what is wrong with a tape, and whether `mend` mends it.
@@ -34,40 +60,88 @@ fn wrong_tape(
     words: &InfoWords<'_>,
     text: &[u8],
     fault: TapeFault,
-) -> Result<String, AllocError> {
+) -> Result<String, AllocError>
+    ensures { IfOk result (λ said. TellsFault words.now.tape.now fault.kind (string_bytes said)) }
+{
     let mut said = fault_text(alloc, words.tape, text, fault)?;
-    match mend_text(alloc, text) {
-        Ok(_) => said.push_str("`mend` mends it\n")?,
-        Err(fault) => {
-            if fault.kind == TapeFaultKind::OutOfMemory {
-                return Err(AllocError);
-            }
-        }
-    }
+    let hint = mend_hint(alloc, text)?;
+    said.push_str(hint)?;
     Ok(said)
 }
 
-/// Returns an answer of a text, or that an allocation failed.
-fn answer(text: Result<String, AllocError>, is_right: bool) -> Result<Answer, Refusal> {
-    match text {
-        Ok(text) => Ok(Answer { text, is_right }),
+/// Returns what is to be said of a right tape.
+fn right_answer(
+    alloc: Global,
+    words: &InfoWords<'_>,
+    map: &MapSpec,
+    text: &[u8],
+    image: &Image,
+) -> Result<Answer, Refusal>
+    requires port { map.now.port ≡ words.now.port }
+    requires denotes { TapeDenotes text.now image.now }
+    ensures about { IfOk result (IsAbout (info_view words.now)) }
+    ensures only { IfErr result (λ r. r ≡ Refusal.OutOfMemory) }
+{
+    match right_tape(alloc, words, map, text, image) {
+        Ok(text) => Ok(Answer {
+            text,
+            is_right: true,
+        }),
         Err(_) => Err(Refusal::OutOfMemory),
     }
 }
 
+/// Returns what is to be said of a tape with a fault.
+fn wrong_answer(
+    alloc: Global,
+    words: &InfoWords<'_>,
+    text: &[u8],
+    fault: TapeFault,
+) -> Result<Answer, Refusal>
+    requires { FirstFault text.now fault.kind fault.offset }
+    ensures about { IfOk result (IsAbout (info_view words.now)) }
+    ensures only { IfErr result (λ r. r ≡ Refusal.OutOfMemory) }
+{
+    match wrong_tape(alloc, words, text, fault) {
+        Ok(text) => Ok(Answer {
+            text,
+            is_right: false,
+        }),
+        Err(_) => Err(Refusal::OutOfMemory),
+    }
+}
+
+/// Returns what is to be said of the text of a tape.
+fn answer_of(
+    alloc: Global,
+    words: &InfoWords<'_>,
+    map: &MapSpec,
+    text: &[u8],
+) -> Result<Answer, Refusal>
+    requires { map.now.port ≡ words.now.port }
+    ensures about { IfOk result (IsAbout (info_view words.now)) }
+    ensures only { IfErr result (λ r. r ≡ Refusal.OutOfMemory) }
+{
+    match read_tape(alloc, text) {
+        Ok(image) => right_answer(alloc, words, map, text, &image),
+        Err(fault) => match fault.kind {
+            TapeFaultKind::OutOfMemory => Err(Refusal::OutOfMemory),
+            _ => wrong_answer(alloc, words, text, fault),
+        },
+    }
+}
+
 /// Returns what is to be said of the tape that the words name.
-fn done<H: Files + AllocGlobal>(rt: &H, words: &InfoWords<'_>) -> Result<Answer, Refusal> {
-    let alloc = rt.alloc();
+fn done<H: Files + AllocGlobal>(rt: &H, words: &InfoWords<'_>) -> Result<Answer, Refusal>
+    ensures about { IfOk result (IsAbout (info_view words.now)) }
+    ensures refused { IfErr result (EndsInfo (info_view words.now)) }
+{
     let Ok(map) = MapSpec::new(None, words.port) else {
         return Err(Refusal::Map);
     };
-    let text = read_text(rt, words.tape)?;
-    match read_tape(alloc, &text) {
-        Ok(image) => answer(right_tape(alloc, words, &map, &text, &image), true),
-        Err(fault) => match fault.kind {
-            TapeFaultKind::OutOfMemory => Err(Refusal::OutOfMemory),
-            _ => answer(wrong_tape(alloc, words, &text, fault), false),
-        },
+    match read_text(rt, words.tape) {
+        Ok(text) => answer_of(rt.alloc(), words, &map, &text),
+        Err(refusal) => Err(refusal),
     }
 }
 
@@ -86,6 +160,24 @@ pub fn tape_info<H: Files + AllocGlobal, O: Write, E: Write>(
     ensures quiet { result ≡ 0 → errors.new ≡ errors.old }
     // Words or a map that are refused leave the output as it was.
     ensures untouched { 2 ≤ result → result ≤ 3 → output.new ≡ output.old }
+    // 0 means that the rows of some right tape were written, or the help that is asked for.
+    ensures right { result ≡ 0 → AsksForHelp info (map (λ s. s.now) words.entry.now)
+        ⊎ Asks (map (λ s. s.now) words.entry.now) (λ asked. Tells (IsSaid asked) true
+        (O.contents output.old) (O.contents output.new)) }
+    // 1 means that the first fault of some tape was written, or that the file is too long.
+    ensures wrong { result ≡ 1 → Asks (map (λ s. s.now) words.entry.now)
+        (λ asked. Tells (IsSaid asked) false (O.contents output.old) (O.contents output.new)
+        ⊎ (output.new ≡ output.old)) }
+    // 2 means that the words do not fit, that a value is wrong, or that the port makes no map.
+    ensures refused { result ≡ 2 → Misfits info (map (λ s. s.now) words.entry.now)
+        ⊎ ((Fits info (map (λ s. s.now) words.entry.now)
+        × (info_asked (map (λ s. s.now) words.entry.now) ≡ None))
+        ⊎ Asks (map (λ s. s.now) words.entry.now) (λ asked. is_map None asked.port ≡ false)) }
+    // 4 means that a beginning was written of what is said of some tape, or nothing; or help is
+    // asked for.
+    ensures begun { result ≡ 4 → AsksForHelp info (map (λ s. s.now) words.entry.now)
+        ⊎ Asks (map (λ s. s.now) words.entry.now) (λ asked. TellsFront (IsSaid asked)
+        (O.contents output.old) (O.contents output.new) ⊎ (output.new ≡ output.old)) }
 {
     match read_info_words(rt.alloc(), words) {
         Ok(words) => answered(done(rt, &words), output, errors),

@@ -1,3 +1,4 @@
 pub mod Appended
 pub mod Read
 pub mod Stripped
+pub mod Word

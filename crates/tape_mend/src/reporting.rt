@@ -1,5 +1,8 @@
 //! What was mended, in words.
 
+ghost use Rattle.std.specs.Prelude.{IfOk, string_bytes};
+ghost use Rattle.tape_mend.specs.Word.{IsReport};
+
 use crate::mending::Mended;
 use model::TapeFaultKind;
 use std::alloc::{AllocError, Global};
@@ -73,13 +76,24 @@ fn push_end(words: &mut String, end: EndRecord, records: usize) -> Result<(), Al
 
 /// Returns what was mended of a text, a line for each thing, or that nothing was wrong.
 ///
-/// What it says is tested, and not proved. Errors: `AllocError` if an allocation fails.
-pub fn report(alloc: Global, text: &[u8], mended: &Mended) -> Result<String, AllocError> {
-    let mut words = String::new(alloc);
-    if mended.fault.is_none() {
-        words.push_str("nothing was wrong\n")?;
-        return Ok(words);
+/// What it says of something wrong is tested, and not proved. Errors: `AllocError` if an allocation
+/// fails.
+pub fn report(alloc: Global, text: &[u8], mended: &Mended) -> Result<String, AllocError>
+    ensures { IfOk result (λ said. IsReport mended.now.fault (string_bytes said)) }
+{
+    match mended.fault {
+        None => {
+            let mut words = String::new(alloc);
+            words.push_str("nothing was wrong\n")?;
+            Ok(words)
+        }
+        Some(_) => faults_text(alloc, text),
     }
+}
+
+/// Returns a line for each thing that was mended of a text.
+fn faults_text(alloc: Global, text: &[u8]) -> Result<String, AllocError> {
+    let mut words = String::new(alloc);
     let seen = seen_in(text);
     if seen.within > 0 {
         push_count(

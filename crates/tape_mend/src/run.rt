@@ -1,8 +1,17 @@
 //! What the word `mend` does.
 
-ghost use Rattle.std.specs.Prelude.{◌≡◌, ◌≤◌};
+ghost use Rattle.std.specs.Prelude.{◌≡◌, ◌≤◌, ◌⊎◌, IfErr, IfOk, None, false, map, true};
+ghost use Rattle.model.specs.Tape.{FirstFault, TapeDenotes};
+ghost use Rattle.model.specs.TapeFault.{out_of_memory};
+ghost use Rattle.model.specs.declared.tape.TapeFaultKind.TheVariants.{Truncated};
+ghost use Rattle.tape_mend.specs.Mending.{HasRecords, IsMendedText, mended_text};
+ghost use Rattle.tape_mend.specs.Word.{Asks, EndsMend, IsAbout, IsSaid};
+ghost use Rattle.tape_words.specs.Asked.{mend_asked, mend_view};
+ghost use Rattle.tape_words.specs.CommandLines.{mend};
+ghost use Rattle.word_streams.specs.Streams.{Tells, TellsFront};
+ghost use Rattle.word_streams.specs.Words.{AsksForHelp, Fits, Misfits};
 
-use crate::mending::mend_text;
+use crate::mending::{Mended, mend_text};
 use crate::reporting::report;
 use model::{TapeFault, TapeFaultKind};
 use std::alloc::Global;
@@ -37,7 +46,9 @@ fn place_of(text: &[u8], made: u64) -> u64 {
 
 /// Returns a fault of a mended text as one of the text that it was made of: where that ends, a
 /// record is cut short.
-fn moved(text: &[u8], made: TapeFault) -> TapeFault {
+fn moved(text: &[u8], made: TapeFault) -> TapeFault
+    ensures { (result.kind ≡ made.kind) ⊎ (result.kind ≡ Truncated) }
+{
     let offset = place_of(text, made.offset);
     let kind = if offset == text.len() as u64 {
         TapeFaultKind::Truncated
@@ -48,16 +59,18 @@ fn moved(text: &[u8], made: TapeFault) -> TapeFault {
 }
 
 /// Returns the answer for a tape of which more is wrong.
-fn not_mended(
+fn still_wrong(
     alloc: Global,
     words: &MendWords<'_>,
     text: &[u8],
     fault: TapeFault,
-) -> Result<Answer, Refusal> {
-    if fault.kind == TapeFaultKind::OutOfMemory {
-        return Err(Refusal::OutOfMemory);
-    }
-    match fault_text(alloc, words.tape, text, moved(text, fault)) {
+) -> Result<Answer, Refusal>
+    requires { FirstFault (mended_text text.now) fault.kind fault.offset }
+    ensures about { IfOk result (IsAbout (mend_view words.now)) }
+    ensures only { IfErr result (λ r. r ≡ Refusal.OutOfMemory) }
+{
+    let shown = moved(text, fault);
+    match fault_text(alloc, words.tape, text, shown) {
         Ok(text) => Ok(Answer {
             text,
             is_right: false,
@@ -66,22 +79,72 @@ fn not_mended(
     }
 }
 
-/// Mends a tape's file: what is said of it. OUT is written only if the tape is mended.
-fn done<H: Files + AllocGlobal>(rt: &H, words: &MendWords<'_>) -> Result<Answer, Refusal> {
-    let alloc = rt.alloc();
-    let text = read_text(rt, words.tape)?;
-    let mended = match mend_text(alloc, &text) {
-        Ok(mended) => mended,
-        Err(fault) => return not_mended(alloc, words, &text, fault),
-    };
-    let Ok(said) = report(alloc, &text, &mended) else {
+/// Returns the answer for a tape that is not mended, or that memory ran out.
+fn not_mended(
+    alloc: Global,
+    words: &MendWords<'_>,
+    text: &[u8],
+    fault: TapeFault,
+) -> Result<Answer, Refusal>
+    requires { (fault ≡ out_of_memory) ⊎ FirstFault (mended_text text.now) fault.kind fault.offset }
+    ensures about { IfOk result (IsAbout (mend_view words.now)) }
+    ensures only { IfErr result (λ r. r ≡ Refusal.OutOfMemory) }
+{
+    match fault.kind {
+        TapeFaultKind::OutOfMemory => Err(Refusal::OutOfMemory),
+        _ => still_wrong(alloc, words, text, fault),
+    }
+}
+
+/// Writes OUT, and returns what is said of a tape that is mended.
+fn put_out<H: Files + AllocGlobal>(
+    rt: &H,
+    words: &MendWords<'_>,
+    text: &[u8],
+    mended: &Mended,
+) -> Result<Answer, Refusal>
+    requires text { IsMendedText text.now mended.now.text.items mended.now.fault }
+    requires denotes { TapeDenotes mended.now.text.items mended.now.image }
+    requires records { HasRecords text.now mended.now.image }
+    ensures about { IfOk result (IsAbout (mend_view words.now)) }
+    ensures only { IfErr result (λ r. (r ≡ Refusal.OutOfMemory) ⊎ (r ≡ Refusal.Write)) }
+{
+    let Ok(said) = report(rt.alloc(), text, mended) else {
         return Err(Refusal::OutOfMemory);
     };
-    write_file(rt, words.out, &mended.text)?;
-    Ok(Answer {
-        text: said,
-        is_right: true,
-    })
+    match write_file(rt, words.out, &mended.text) {
+        Ok(()) => Ok(Answer {
+            text: said,
+            is_right: true,
+        }),
+        Err(refusal) => Err(refusal),
+    }
+}
+
+/// Mends the text of a tape: what is said of it. OUT is written only if the tape is mended.
+fn mended<H: Files + AllocGlobal>(
+    rt: &H,
+    words: &MendWords<'_>,
+    text: &[u8],
+) -> Result<Answer, Refusal>
+    ensures about { IfOk result (IsAbout (mend_view words.now)) }
+    ensures only { IfErr result (λ r. (r ≡ Refusal.OutOfMemory) ⊎ (r ≡ Refusal.Write)) }
+{
+    match mend_text(rt.alloc(), text) {
+        Ok(mended) => put_out(rt, words, text, &mended),
+        Err(fault) => not_mended(rt.alloc(), words, text, fault),
+    }
+}
+
+/// Mends a tape's file: what is said of it.
+fn done<H: Files + AllocGlobal>(rt: &H, words: &MendWords<'_>) -> Result<Answer, Refusal>
+    ensures about { IfOk result (IsAbout (mend_view words.now)) }
+    ensures refused { IfErr result EndsMend }
+{
+    match read_text(rt, words.tape) {
+        Ok(text) => mended(rt, words, &text),
+        Err(refusal) => Err(refusal),
+    }
 }
 
 /// Does what the words after `mend` ask for, and returns the exit status: 0 if OUT was written, 1
@@ -99,6 +162,24 @@ pub fn tape_mend<H: Files + AllocGlobal, O: Write, E: Write>(
     ensures quiet { result ≡ 0 → errors.new ≡ errors.old }
     // Words that are refused leave the output as it was, and so it is where memory ran out.
     ensures untouched { 2 ≤ result → result ≤ 3 → output.new ≡ output.old }
+    // 0 means that some tape was mended and what was wrong with it was written, or the help that is
+    // asked for.
+    ensures right { result ≡ 0 → AsksForHelp mend (map (λ s. s.now) words.entry.now)
+        ⊎ Asks (map (λ s. s.now) words.entry.now) (λ asked. Tells (IsSaid asked) true
+        (O.contents output.old) (O.contents output.new)) }
+    // 1 means that a fault was written that some tape still has, or that the file is too long.
+    ensures wrong { result ≡ 1 → Asks (map (λ s. s.now) words.entry.now)
+        (λ asked. Tells (IsSaid asked) false (O.contents output.old) (O.contents output.new)
+        ⊎ (output.new ≡ output.old)) }
+    // 2 means that the words do not fit, or that both files have one name.
+    ensures refused { result ≡ 2 → Misfits mend (map (λ s. s.now) words.entry.now)
+        ⊎ (Fits mend (map (λ s. s.now) words.entry.now)
+        × (mend_asked (map (λ s. s.now) words.entry.now) ≡ None)) }
+    // 4 means that a beginning was written of what is said of some tape, or nothing; or help is
+    // asked for.
+    ensures begun { result ≡ 4 → AsksForHelp mend (map (λ s. s.now) words.entry.now)
+        ⊎ Asks (map (λ s. s.now) words.entry.now) (λ asked. TellsFront (IsSaid asked)
+        (O.contents output.old) (O.contents output.new) ⊎ (output.new ≡ output.old)) }
 {
     match read_mend_words(rt.alloc(), words) {
         Ok(words) => answered(done(rt, &words), output, errors),

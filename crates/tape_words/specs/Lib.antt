@@ -1,2 +1,5 @@
-pub mod Statuses
 pub mod Answers
+pub mod Asked
+pub mod CommandLines
+pub mod Statuses
+pub mod Unread

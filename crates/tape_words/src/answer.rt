@@ -1,33 +1,20 @@
 //! What a word answers, written.
 
-ghost use Rattle.std.specs.Prelude.{◌≡◌, ◌≤◌, ◌⊎◌, Err, MatchResult, OnErr, OnOk};
-ghost use Rattle.std.specs.Io.KnownBytes.{Appends};
-ghost use Rattle.tape_words.specs.Answers.{IsAnswered, is_of_words};
+ghost use Rattle.std.specs.Prelude.{◌≡◌, ◌≤◌, IfErr, MatchResult};
+ghost use Rattle.tape_words.specs.Answers.{IsAnswered};
 ghost use Rattle.tape_words.specs.Statuses.{status_of};
+ghost use Rattle.word_streams.specs.Words.{IsStatusOf};
 
 use crate::refusal::Refusal;
 use program_words::WordsFault;
 use std::io::Write;
+use word_streams::write_text;
 
 /// What a word writes, and whether its exit status is then 0, or 1.
 #[derive(Drop)]
 pub struct Answer {
     pub text: String,
     pub is_right: bool,
-}
-
-/// Writes a text and flushes it.
-fn written<O: Write>(output: &mut O, text: &[u8]) -> Result<(), Refusal>
-    ensures err { OnErr result (result ≡ Err Refusal.Write) }
-    ensures ok { OnOk result (Appends (O.contents output.old) (O.contents output.new) text.now) }
-{
-    match output.write_all(text) {
-        Ok(()) => match output.flush() {
-            Ok(()) => Ok(()),
-            Err(_) => Err(Refusal::Write),
-        },
-        Err(_) => Err(Refusal::Write),
-    }
 }
 
 /// Says on the error stream why there is no answer, and returns the exit status.
@@ -44,7 +31,7 @@ pub fn refused<E: Write>(refusal: Refusal, errors: &mut E) -> u8
 /// status.
 pub fn refused_words<O: Write, E: Write>(fault: WordsFault, output: &mut O, errors: &mut E) -> u8
     ensures status { result ≤ 4 }
-    ensures why { is_of_words fault result }
+    ensures why { IsStatusOf fault result }
     ensures untouched { 1 ≤ result → result ≤ 3 → output.new ≡ output.old }
     ensures quiet { result ≤ 1 → errors.new ≡ errors.old }
 {
@@ -74,11 +61,12 @@ pub fn answered<O: Write, E: Write>(
     ensures said { MatchResult answer
         (λ answer. IsAnswered answer result (O.contents output.old) (O.contents output.new))
         (λ refusal. result ≡ status_of refusal) }
+    ensures alone { IfErr answer (λ _. output.new ≡ output.old) }
     ensures untouched { 2 ≤ result → result ≤ 3 → output.new ≡ output.old }
     ensures quiet { result ≡ 0 → errors.new ≡ errors.old }
 {
     match answer {
-        Ok(answer) => match written(output, answer.text.as_bytes()) {
+        Ok(answer) => match write_text(output, answer.text.as_bytes()) {
             Ok(()) => { if answer.is_right { 0 } else { 1 } }
             Err(_) => refused(Refusal::Write, errors),
         },

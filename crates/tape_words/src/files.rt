@@ -1,5 +1,9 @@
 //! Files that are read and written.
 
+ghost use Rattle.std.specs.Prelude.{◌≡◌, ◌⊎◌, ℕ, List, IfErr, IfOk};
+ghost use Rattle.model.specs.TapePieces.{IsReadInPieces};
+ghost use Rattle.tape_words.specs.Unread.{EndsReading, too_long_file};
+
 use crate::refusal::Refusal;
 use memory_map::Image;
 use model::{TapeFault, TapeFaultKind};
@@ -24,7 +28,11 @@ fn read_most<H: Files + AllocGlobal>(rt: &H, path: &str) -> io::Result<Vec<u8>> 
 /// Returns the bytes of a tape's file.
 ///
 /// Errors: `Tape` with `TooLong` if it has more than 16,777,216 bytes; `Read`; `OutOfMemory`.
-pub fn read_text<H: Files + AllocGlobal>(rt: &H, path: &str) -> Result<Vec<u8>, Refusal> {
+pub fn read_text<H: Files + AllocGlobal>(rt: &H, path: &str) -> Result<Vec<u8>, Refusal>
+    // No clause can say what a file has, or whether it can be read.
+    ensures refused { IfErr result (λ r. (r ≡ Refusal.Tape too_long_file)
+        ⊎ ((r ≡ Refusal.OutOfMemory) ⊎ (r ≡ Refusal.Read))) }
+{
     let text = read_most(rt, path).map_err(|error| Refusal::unreadable(&error))?;
     if text.len() as u64 > LONGEST {
         return Err(Refusal::Tape(TapeFault {
@@ -38,7 +46,11 @@ pub fn read_text<H: Files + AllocGlobal>(rt: &H, path: &str) -> Result<Vec<u8>, 
 /// Returns the image of a tape's file, which is read in pieces.
 ///
 /// Errors: `Tape` with the tape's fault; `Read`; `OutOfMemory`.
-pub fn image_of<H: Files + AllocGlobal>(rt: &H, path: &str) -> Result<Image, Refusal> {
+pub fn image_of<H: Files + AllocGlobal>(rt: &H, path: &str) -> Result<Image, Refusal>
+    // The image is that of some text, and so is the fault. No clause can say which a file has.
+    ensures found { IfOk result (λ image. (text : List ℕ) × IsReadInPieces text image) }
+    ensures refused { IfErr result EndsReading }
+{
     let mut tape = File::open(rt, path).map_err(|error| Refusal::unreadable(&error))?;
     match read_tape_from(rt.alloc(), &mut tape) {
         Ok(image) => Ok(image),
@@ -49,6 +61,9 @@ pub fn image_of<H: Files + AllocGlobal>(rt: &H, path: &str) -> Result<Image, Ref
 /// Writes a text to a file of that name. A file that is there is replaced.
 ///
 /// Errors: `Write`; `OutOfMemory`.
-pub fn write_file<H: Files>(rt: &H, path: &str, text: &[u8]) -> Result<(), Refusal> {
+pub fn write_file<H: Files>(rt: &H, path: &str, text: &[u8]) -> Result<(), Refusal>
+    ensures refused { IfErr result
+        (λ r. (r ≡ Refusal.OutOfMemory) ⊎ (r ≡ Refusal.Write)) }
+{
     fs::write(rt, path, text).map_err(|error| Refusal::unwritable(&error))
 }

@@ -1,5 +1,8 @@
 //! Instructions of an image, and numbers of things, as text.
 
+ghost use Rattle.std.specs.Prelude.{◌≡◌, ◌++◌, OnOk, string_bytes};
+ghost use Rattle.tape_words.specs.Answers.{counted};
+
 use disasm::{TextLine, line_in};
 use memory_map::Image;
 use model::Profile;
@@ -54,7 +57,10 @@ pub fn push_instruction(
 /// Appends how many things there are: their number, and the word for one or for more.
 ///
 /// Errors: `AllocError` if an allocation fails.
-pub fn push_count(words: &mut String, count: u64, one: &str, more: &str) -> Result<(), AllocError> {
+pub fn push_count(words: &mut String, count: u64, one: &str, more: &str) -> Result<(), AllocError>
+    ensures { OnOk result (string_bytes words.new
+        ≡ string_bytes words.old ++ counted count one.now more.now) }
+{
     write!(words, "{count} ")?;
     words.push_str(if count == 1 { one } else { more })
 }

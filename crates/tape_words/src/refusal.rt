@@ -1,7 +1,8 @@
 //! Why a word ends without an answer.
 
-ghost use Rattle.std.specs.Prelude.{◌≡◌};
+ghost use Rattle.std.specs.Prelude.{◌≡◌, ◌⊎◌};
 ghost use Rattle.tape_words.specs.Statuses.{status_of};
+ghost use Rattle.tape_words.specs.Unread.{unread_of};
 
 use model::{TapeFault, TapeFaultKind};
 use papertape::TapeReadFault;
@@ -47,7 +48,9 @@ impl Refusal {
     }
 
     /// Returns why a file could not be read.
-    pub fn unreadable(error: &io::Error) -> Refusal {
+    pub fn unreadable(error: &io::Error) -> Refusal
+        ensures { (result ≡ Refusal.OutOfMemory) ⊎ (result ≡ Refusal.Read) }
+    {
         match error.kind() {
             ErrorKind::OutOfMemory => Refusal::OutOfMemory,
             _ => Refusal::Read,
@@ -55,7 +58,9 @@ impl Refusal {
     }
 
     /// Returns why a file could not be written.
-    pub fn unwritable(error: &io::Error) -> Refusal {
+    pub fn unwritable(error: &io::Error) -> Refusal
+        ensures { (result ≡ Refusal.OutOfMemory) ⊎ (result ≡ Refusal.Write) }
+    {
         match error.kind() {
             ErrorKind::OutOfMemory => Refusal::OutOfMemory,
             _ => Refusal::Write,
@@ -63,7 +68,9 @@ impl Refusal {
     }
 
     /// Returns why a tape was not read.
-    pub fn unread(fault: TapeReadFault) -> Refusal {
+    pub fn unread(fault: TapeReadFault) -> Refusal
+        ensures { result ≡ unread_of fault }
+    {
         match fault {
             TapeReadFault::Read => Refusal::Read,
             TapeReadFault::Tape(fault) => match fault.kind {

@@ -1,5 +1,8 @@
 //! A fault of a tape in words.
 
+ghost use Rattle.std.specs.Prelude.{◌≡◌, ◌++◌, IfOk, OnOk, string_bytes};
+ghost use Rattle.tape_words.specs.Answers.{TellsFault, fault_front};
+
 use crate::instruction::push_count;
 use model::{TapeFault, TapeFaultKind};
 use std::alloc::{AllocError, Global};
@@ -216,19 +219,37 @@ fn push_words(words: &mut String, text: &[u8], fault: TapeFault) -> Result<(), A
     }
 }
 
+/// Appends how the line that says a fault begins: `FILE:LINE: NAME NUMBER: `.
+fn push_front(
+    words: &mut String,
+    file: &str,
+    line: u64,
+    kind: TapeFaultKind,
+) -> Result<(), AllocError>
+    ensures { OnOk result (string_bytes words.new
+        ≡ string_bytes words.old ++ fault_front file.now line kind) }
+{
+    let (name, number) = (kind.name(), kind.number());
+    write!(words, "{file}:{line}: {name} {number}: ")
+}
+
 /// Returns the line that says a tape's fault: `FILE:LINE: NAME NUMBER: ` and what it means there.
 ///
-/// What it says is tested, and not proved. Errors: `AllocError` if an allocation fails.
+/// Which line it names, and what it says of the fault, is tested, and not proved. Errors:
+/// `AllocError` if an allocation fails.
 pub fn fault_text(
     alloc: Global,
     file: &str,
     text: &[u8],
     fault: TapeFault,
-) -> Result<String, AllocError> {
+) -> Result<String, AllocError>
+    ensures { IfOk result (λ words. TellsFault file.now fault.kind (string_bytes words)) }
+{
     let mut words = String::new(alloc);
-    let line = line_of(text, fault.offset);
-    write!(words, "{file}:{line}: {}: ", fault.kind)?;
-    push_words(&mut words, text, fault)?;
-    words.push_str("\n")?;
+    push_front(&mut words, file, line_of(text, fault.offset), fault.kind)?;
+    let mut meaning = String::new(alloc);
+    push_words(&mut meaning, text, fault)?;
+    meaning.push_str("\n")?;
+    words.push_str(meaning.as_str())?;
     Ok(words)
 }

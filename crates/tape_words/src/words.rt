@@ -1,5 +1,12 @@
 //! What the words ask for.
 
+ghost use Rattle.std.specs.Prelude.{◌≡◌, IfErr, IfOk, None, Some, map, option_map};
+ghost use Rattle.clap.specs.Words.{first_value, found_of};
+ghost use Rattle.tape_words.specs.Asked.{cmp_asked, cmp_by, cmp_view, info_asked, info_by};
+ghost use Rattle.tape_words.specs.Asked.{info_view, mend_asked, mend_by, mend_view};
+ghost use Rattle.tape_words.specs.CommandLines.{cmp, info, mend};
+ghost use Rattle.word_streams.specs.Words.{Fits, IsRefusalOf};
+
 use crate::command;
 use clap::ArgMatches;
 use model::Profile;
@@ -38,7 +45,9 @@ pub struct MendWords<'a> {
 }
 
 /// Returns what the values that were found ask for, or `None` where one is wrong.
-fn info_words<'a>(matches: &ArgMatches<'a>) -> Option<InfoWords<'a>> {
+fn info_words<'a>(matches: &ArgMatches<'a>) -> Option<InfoWords<'a>>
+    ensures { option_map info_view result ≡ info_by (first_value (found_of matches.now)) }
+{
     Some(InfoWords {
         tape: matches.get_str("TAPE")?,
         port: port_asked(matches.get_str("port"))?,
@@ -47,7 +56,9 @@ fn info_words<'a>(matches: &ArgMatches<'a>) -> Option<InfoWords<'a>> {
 }
 
 /// Returns what the values that were found ask for, or `None` where one is wrong.
-fn cmp_words<'a>(matches: &ArgMatches<'a>) -> Option<CmpWords<'a>> {
+fn cmp_words<'a>(matches: &ArgMatches<'a>) -> Option<CmpWords<'a>>
+    ensures { option_map cmp_view result ≡ cmp_by (first_value (found_of matches.now)) }
+{
     Some(CmpWords {
         tape: matches.get_str("TAPE")?,
         other: matches.get_str("OTHER")?,
@@ -56,7 +67,9 @@ fn cmp_words<'a>(matches: &ArgMatches<'a>) -> Option<CmpWords<'a>> {
 }
 
 /// Returns what the values that were found ask for, or `None` where both files have one name.
-fn mend_words<'a>(matches: &ArgMatches<'a>) -> Option<MendWords<'a>> {
+fn mend_words<'a>(matches: &ArgMatches<'a>) -> Option<MendWords<'a>>
+    ensures { option_map mend_view result ≡ mend_by (first_value (found_of matches.now)) }
+{
     let tape = matches.get_str("TAPE")?;
     let out = matches.get_str("OUT")?;
     if tape == out {
@@ -65,41 +78,54 @@ fn mend_words<'a>(matches: &ArgMatches<'a>) -> Option<MendWords<'a>> {
     Some(MendWords { tape, out })
 }
 
-/// Returns what was asked for, or the fault of a wrong value.
-fn or_value<T>(words: Option<T>) -> Result<T, WordsFault> {
-    match words {
+/// Reads the words after `info`.
+///
+/// Errors: `Help` and `Usage` with `clap`'s text; `Value` if an option has a wrong value;
+/// `OutOfMemory` if an allocation fails.
+pub fn read_info_words<'a>(alloc: Global, words: &'a [&'a str]) -> Result<InfoWords<'a>, WordsFault>
+    ensures asked { IfOk result
+        (λ w. info_asked (map (λ s. s.now) words.entry.now) ≡ Some (info_view w)) }
+    ensures taken { IfOk result (λ w. Fits info (map (λ s. s.now) words.entry.now)) }
+    ensures refused { IfErr result (IsRefusalOf info (map (λ s. s.now) words.entry.now)
+        (info_asked (map (λ s. s.now) words.entry.now) ≡ None)) }
+{
+    let matches = command::info(alloc)?.try_get_matches_from(words)?;
+    match info_words(&matches) {
         Some(words) => Ok(words),
         None => Err(WordsFault::Value),
     }
 }
 
-/// Reads the words after `info`.
-///
-/// Errors: `Help` and `Usage` with `clap`'s text; `Value` if an option has a wrong value;
-/// `OutOfMemory` if an allocation fails.
-pub fn read_info_words<'a>(
-    alloc: Global,
-    words: &'a [&'a str],
-) -> Result<InfoWords<'a>, WordsFault> {
-    let matches = command::info(alloc)?.try_get_matches_from(words)?;
-    or_value(info_words(&matches))
-}
-
 /// Reads the words after `cmp`.
 ///
 /// Errors: as those of `read_info_words`.
-pub fn read_cmp_words<'a>(alloc: Global, words: &'a [&'a str]) -> Result<CmpWords<'a>, WordsFault> {
+pub fn read_cmp_words<'a>(alloc: Global, words: &'a [&'a str]) -> Result<CmpWords<'a>, WordsFault>
+    ensures asked { IfOk result
+        (λ w. cmp_asked (map (λ s. s.now) words.entry.now) ≡ Some (cmp_view w)) }
+    ensures taken { IfOk result (λ w. Fits cmp (map (λ s. s.now) words.entry.now)) }
+    ensures refused { IfErr result (IsRefusalOf cmp (map (λ s. s.now) words.entry.now)
+        (cmp_asked (map (λ s. s.now) words.entry.now) ≡ None)) }
+{
     let matches = command::cmp(alloc)?.try_get_matches_from(words)?;
-    or_value(cmp_words(&matches))
+    match cmp_words(&matches) {
+        Some(words) => Ok(words),
+        None => Err(WordsFault::Value),
+    }
 }
 
 /// Reads the words after `mend`.
 ///
 /// Errors: as those of `read_info_words`; `Value` if both files have one name.
-pub fn read_mend_words<'a>(
-    alloc: Global,
-    words: &'a [&'a str],
-) -> Result<MendWords<'a>, WordsFault> {
+pub fn read_mend_words<'a>(alloc: Global, words: &'a [&'a str]) -> Result<MendWords<'a>, WordsFault>
+    ensures asked { IfOk result
+        (λ w. mend_asked (map (λ s. s.now) words.entry.now) ≡ Some (mend_view w)) }
+    ensures taken { IfOk result (λ w. Fits mend (map (λ s. s.now) words.entry.now)) }
+    ensures refused { IfErr result (IsRefusalOf mend (map (λ s. s.now) words.entry.now)
+        (mend_asked (map (λ s. s.now) words.entry.now) ≡ None)) }
+{
     let matches = command::mend(alloc)?.try_get_matches_from(words)?;
-    or_value(mend_words(&matches))
+    match mend_words(&matches) {
+        Some(words) => Ok(words),
+        None => Err(WordsFault::Value),
+    }
 }

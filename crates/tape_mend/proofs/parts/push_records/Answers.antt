@@ -1,5 +1,5 @@
 use Rattle.tape_mend.proofs.Appended.{at_end, within, all_put}
-use Rattle.std.proofs.Common.{◌≡◌, ◌++◌, drop, sym, ◌∙◌, ap, true, false, ◌+◌}
+use Rattle.std.proofs.Common.{◌≡◌, ◌++◌, drop, sym, ◌∙◌, ap, ◌+◌}
 use Rattle.tape_mend.specs.Mending.{is_at_end, with_line_ends}
 use Rattle.tape_mend.proofs.parts.push_records.Goals as goal
 use Rattle.tape_mend.proofs.parts.push_records.Goals.{then-is_at_end+in_ok-extend_from_slice, else-is_at_end}

@@ -1,0 +1,22 @@
+-- What the exit status says of two tapes that were compared.
+use Rattle.std.proofs.Common.{◌≡◌, ◌⊎◌, ℕ, List, Option, Result, Ok, Err, IfErr, IfOk, MatchResult, inl, inr, ap, arith}
+use Rattle.std.specs.Prelude.{string_bytes}
+use Rattle.tape_cmp.specs.Word.{IsAnswerOf, IsOfTape, IsSaid}
+use Rattle.tape_words.specs.Answers.{IsAnswered}
+use Rattle.tape_words.specs.Statuses.{status_of}
+use Rattle.tape_words.specs.declared.answer.Answer.{Answer}
+use Rattle.tape_words.specs.declared.refusal.Refusal.{Refusal}
+use Rattle.tape_words.specs.declared.refusal.Refusal.TheVariants.{OutOfMemory}
+
+pub about_of : (one other : List (Option ℕ)) (r : Result Answer Refusal) → IsOfTape one → IsOfTape other → IfOk r (IsAnswerOf one other) → IfOk r (λ a. IsSaid a.is_right (string_bytes a.text))
+about_of one other (Ok a) one_is other_is about = record { one = one; other = other; one_is = one_is; other_is = other_is; about = about }
+about_of one other (Err f) one_is other_is about = about
+
+-- memory that ran out is not the status 1
+pub memory : (r : Result Answer Refusal) (status : ℕ) (held now : Option (List ℕ)) → IfErr r (λ f. f ≡ OutOfMemory) → MatchResult r (λ a. IsAnswered a status held now) (λ f. status ≡ status_of f) → status ≡ 1 → MatchResult r (λ a. Unit {0}) (λ f. ⊥)
+memory (Ok a) status held now ends says h = tt
+memory (Err f) status held now ends says h = omega (arith, says, ap status_of ends, h)
+
+pub the_first : {A : Type 0} → A ⊎ ⊥ → A
+the_first (inl a) = a
+the_first (inr never) = absurd never

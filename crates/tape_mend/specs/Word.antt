@@ -1,0 +1,64 @@
+-- What `mend` has done. Source: mos65. No clause can say which tape a file has, nor that OUT has
+-- the mended text.
+use Rattle.std.specs.Prelude.{◌≡◌, ◌⊎◌, ⊤, ℕ, Bool, true, false, List, Option, Some, None, codes, string_bytes}
+use Rattle.clap.specs.Words.{Text}
+use Rattle.model.specs.Tape.{FirstFault, TapeDenotes}
+use Rattle.model.specs.declared.tape.TapeFault.{TapeFault}
+use Rattle.model.specs.declared.tape.TapeFaultKind.{TapeFaultKind}
+use Rattle.model.specs.declared.tape.TapeFaultKind.TheVariants.{Truncated}
+use Rattle.tape_mend.specs.Mending.{HasRecords, IsMendedText, mended_text}
+use Rattle.tape_words.specs.Answers.{TellsFault}
+use Rattle.tape_words.specs.Asked.{MendAsked, mend_asked}
+use Rattle.tape_words.specs.CommandLines.{mend}
+use Rattle.tape_words.specs.Unread.{too_long_file}
+use Rattle.tape_words.specs.declared.answer.Answer.{Answer}
+use Rattle.tape_words.specs.declared.refusal.Refusal.{Refusal}
+use Rattle.tape_words.specs.declared.refusal.Refusal.TheVariants.{Words, Map, Tape, OutOfMemory, Read, Write}
+use Rattle.word_streams.specs.Words.{Fits}
+
+-- Where nothing was wrong, this is said.
+abbrev pub IsReport : Option TapeFault → List ℕ → Type 0
+IsReport None said = said ≡ codes "nothing was wrong\n"
+IsReport (Some fault) said = ⊤
+
+-- What is said of a tape that is mended.
+pub record IsMended (said : List ℕ) : Type 0 where
+  pub text : List ℕ
+  pub out : List ℕ
+  pub image : List (Option ℕ)
+  pub fault : Option TapeFault
+  pub mended : IsMendedText text out fault
+  pub denotes : TapeDenotes out image
+  pub records : HasRecords text image
+  pub report : IsReport fault said
+
+-- What is said of a tape that is not: the first fault that its mended text still has, or that the
+-- tape is cut short there.
+pub record IsNotMended (asked : MendAsked) (said : List ℕ) : Type 0 where
+  pub text : List ℕ
+  pub kind : TapeFaultKind
+  pub offset : ℕ
+  pub first : FirstFault (mended_text text) kind offset
+  pub shown : TapeFaultKind
+  pub is : (shown ≡ kind) ⊎ (shown ≡ Truncated)
+  pub told : TellsFault asked.tape shown said
+
+abbrev pub IsSaid : MendAsked → Bool → List ℕ → Type 0
+IsSaid asked true said = IsMended said
+IsSaid asked false said = IsNotMended asked said
+
+abbrev pub IsAbout : MendAsked → Answer → Type 0
+IsAbout asked answer = IsSaid asked answer.is_right (string_bytes answer.text)
+
+-- Why there is no answer: the file is too long.
+abbrev pub EndsMend : Refusal → Type 0
+EndsMend Words = ⊥
+EndsMend Map = ⊥
+EndsMend (Tape fault) = fault ≡ too_long_file
+EndsMend OutOfMemory = ⊤
+EndsMend Read = ⊤
+EndsMend Write = ⊤
+
+-- The words fit, the files have two names, and a fact holds of what is asked for.
+abbrev pub Asks : List Text → (MendAsked → Type 0) → Type 0
+Asks words P = (asked : MendAsked) × Fits mend words × (mend_asked words ≡ Some asked) × P asked

@@ -1,0 +1,75 @@
+-- What the words of `info`, `cmp` and `mend` ask for, by the values that clap's definition of a
+-- parse finds among them. Source: mos65.
+use Rattle.std.specs.Prelude.{ℕ, List, Option, Some, None, codes, if◌then◌else◌}
+use Rattle.std.specs.Str.{bytes_eq}
+use Rattle.clap.specs.Words.{Text}
+use Rattle.model.specs.declared.instruction.Profile.{Profile}
+use Rattle.program_words.specs.Values.{port_asked, profile_asked}
+use Rattle.tape_words.specs.CommandLines.{cmp, info, mend}
+use Rattle.tape_words.specs.declared.words.CmpWords.{CmpWords}
+use Rattle.tape_words.specs.declared.words.InfoWords.{InfoWords}
+use Rattle.tape_words.specs.declared.words.MendWords.{MendWords}
+use Rattle.word_streams.specs.Words.{value_in}
+
+pub record InfoAsked : Type 0 where
+  pub tape : Text
+  pub port : ℕ
+  pub profile : Profile
+
+pub record CmpAsked : Type 0 where
+  pub tape : Text
+  pub other : Text
+  pub profile : Profile
+
+pub record MendAsked : Type 0 where
+  pub tape : Text
+  pub out : Text
+
+abbrev pub info_of : Option Text → Option ℕ → Option Profile → Option InfoAsked
+info_of (Some tape) (Some port) (Some profile)
+    = Some (record { tape = tape; port = port; profile = profile })
+info_of tape port profile = None
+
+abbrev pub cmp_of : Option Text → Option Text → Option Profile → Option CmpAsked
+cmp_of (Some tape) (Some other) (Some profile)
+    = Some (record { tape = tape; other = other; profile = profile })
+cmp_of tape other profile = None
+
+-- The file to write has another name than the tape.
+abbrev pub mend_of : Option Text → Option Text → Option MendAsked
+mend_of (Some tape) (Some out)
+    = if bytes_eq tape out then None else Some (record { tape = tape; out = out })
+mend_of tape out = None
+
+-- What the values of the names ask for, where each is one that its name can have.
+abbrev pub info_by : (Text → Option Text) → Option InfoAsked
+info_by value = info_of (value (codes "TAPE")) (port_asked (value (codes "port")))
+    (profile_asked (value (codes "profile")))
+
+abbrev pub cmp_by : (Text → Option Text) → Option CmpAsked
+cmp_by value = cmp_of (value (codes "TAPE")) (value (codes "OTHER"))
+    (profile_asked (value (codes "profile")))
+
+abbrev pub mend_by : (Text → Option Text) → Option MendAsked
+mend_by value = mend_of (value (codes "TAPE")) (value (codes "OUT"))
+
+-- What words ask for, where the values that clap finds are right.
+abbrev pub info_asked : List Text → Option InfoAsked
+info_asked words = info_by (value_in info words)
+
+abbrev pub cmp_asked : List Text → Option CmpAsked
+cmp_asked words = cmp_by (value_in cmp words)
+
+abbrev pub mend_asked : List Text → Option MendAsked
+mend_asked words = mend_by (value_in mend words)
+
+-- ---- what was read, as what is asked for
+
+abbrev pub info_view : InfoWords → InfoAsked
+info_view w = record { tape = w.tape.now; port = w.port; profile = w.profile }
+
+abbrev pub cmp_view : CmpWords → CmpAsked
+cmp_view w = record { tape = w.tape.now; other = w.other.now; profile = w.profile }
+
+abbrev pub mend_view : MendWords → MendAsked
+mend_view w = record { tape = w.tape.now; out = w.out.now }

@@ -1,0 +1,19 @@
+-- The command lines of `info TAPE [--port HHHH] [--profile N|C]`, `cmp TAPE OTHER [--profile N|C]`
+-- and `mend TAPE OUT`, as clap's definitions describe one. How words are matched with it is clap's
+-- to say. Source: mos65.
+use Rattle.std.specs.Prelude.{codes}
+use Rattle.clap.specs.Words.{App, with_rule}
+use Rattle.program_words.specs.CommandLine.{file_rule, option_rule}
+use Rattle.word_streams.specs.Words.{unnamed}
+
+abbrev pub info : App
+info = with_rule (with_rule (with_rule (unnamed (codes "info")) (file_rule (codes "TAPE")))
+    (option_rule (codes "port"))) (option_rule (codes "profile"))
+
+abbrev pub cmp : App
+cmp = with_rule (with_rule (with_rule (unnamed (codes "cmp")) (file_rule (codes "TAPE")))
+    (file_rule (codes "OTHER"))) (option_rule (codes "profile"))
+
+abbrev pub mend : App
+mend = with_rule (with_rule (unnamed (codes "mend")) (file_rule (codes "TAPE")))
+    (file_rule (codes "OUT"))
