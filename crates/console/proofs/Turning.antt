@@ -12,7 +12,7 @@ use Rattle.model.specs.Transcript.{after_input}
 use Rattle.model.specs.declared.event.Event.TheVariants as event
 use Rattle.model.specs.declared.event.EventFault.{EventFault}
 use Rattle.console.specs.Line.{line_at, room_of}
-use Rattle.console.specs.Playing.{Play, Turn, asks, ending_before, memo_after, line_for, with_line, came, turn_with, unless_ended, stepped, turn_of, Outcome, is_at, later, after_turn, played, begun, no_memo}
+use Rattle.console.specs.Playing.{Play, Turn, asks, ending_before, memo_after, line_for, with_line, came, turn_with, unless_ended, stepped, turn_of, Outcome, is_at, later, after_turn, played}
 use Rattle.console.specs.Taking.{Waits}
 use Rattle.console.specs.Turns.{EndsOnce, EndsWith, IsLine, MayCome, TurnsTo, play_at, turn_to}
 use Rattle.console.specs.Written.{AreBytesOf, RanAs}
@@ -79,13 +79,13 @@ line_over false room rest e = refl
 -- ---- one turn after another
 
 -- the run so far: whatever comes after what was told, it is so many steps and then the rest
-pub record RunsOn (until : Option ℕ) (limit : ℕ) (s : Session) (told : List ℕ) (over : Bool) (steps : ℕ) (t : Session) (memo : Memo) : Type 0 where
-  pub runs : (rest : List ℕ) → MayCome over rest → played until limit (begun s (told ++ rest)) ≡ later steps (played until (limit - steps) (play_at t memo rest))
+pub record RunsOn (until : Option ℕ) (limit : ℕ) (s : Session) (first : Memo) (told : List ℕ) (over : Bool) (steps : ℕ) (t : Session) (memo : Memo) : Type 0 where
+  pub runs : (rest : List ℕ) → MayCome over rest → played until limit (play_at s first (told ++ rest)) ≡ later steps (played until (limit - steps) (play_at t memo rest))
 
-pub runs_none : (until : Option ℕ) (limit : ℕ) (s : Session) (over : Bool) → RunsOn until limit s [] over 0 s no_memo
-runs_none until limit s over = record {
+pub runs_none : (until : Option ℕ) (limit : ℕ) (s : Session) (first : Memo) (over : Bool) → RunsOn until limit s first [] over 0 s first
+runs_none until limit s first over = record {
   runs = λ rest may.
-      ap (λ n. played until n (begun s rest)) (sym (sub-zero limit)) ∙ sym (later_none (played until (limit - 0) (begun s rest)));
+      ap (λ n. played until n (play_at s first rest)) (sym (sub-zero limit)) ∙ sym (later_none (played until (limit - 0) (play_at s first rest)));
 }
   where
     later_none : (o : Outcome) → later 0 o ≡ o
@@ -110,17 +110,17 @@ abbrev next : Option ℕ → ℕ → Turn → Outcome
 next until m turn = after_turn until turn (λ q. played until m q)
 
 -- a run with one turn more
-module _ (until : Option ℕ) (limit : ℕ) (s : Session) (told : List ℕ) (over : Bool) (steps : ℕ) (t : Session) (memo : Memo) (h : RunsOn until limit s told over steps t memo) (room : steps < limit)
+module _ (until : Option ℕ) (limit : ℕ) (s : Session) (first : Memo) (told : List ℕ) (over : Bool) (steps : ℕ) (t : Session) (memo : Memo) (h : RunsOn until limit s first told over steps t memo) (room : steps < limit)
     (told2 : List ℕ) (over2 : Bool) (ending : Option Ending) (u : Session) (memo2 : Memo) (once : EndsOnce over over2 told2) (turn : TurnsTo t memo told2 over2 ending u memo2) where
   one_turn : (rest : List ℕ) → MayCome over2 rest
-      → played until limit (begun s ((told ++ told2) ++ rest)) ≡ later steps (next until (limit - (steps + 1)) (turn_to ending u memo2 rest))
+      → played until limit (play_at s first ((told ++ told2) ++ rest)) ≡ later steps (next until (limit - (steps + 1)) (turn_to ending u memo2 rest))
   one_turn rest may =
       let less : limit - steps ≡ suc (limit - (steps + 1)) = omega arith in
-      ap (λ l. played until limit (begun s l)) (append_assoc told told2 rest) ∙ h.runs (told2 ++ rest) (may_all over over2 told2 rest once may)
+      ap (λ l. played until limit (play_at s first l)) (append_assoc told told2 rest) ∙ h.runs (told2 ++ rest) (may_all over over2 told2 rest once may)
       ∙ ap (later steps) (played_turn until (limit - steps) (limit - (steps + 1)) (play_at t memo (told2 ++ rest)) less)
       ∙ ap (λ x. later steps (next until (limit - (steps + 1)) x)) (turn rest may)
 
-  pub runs_on : ending ≡ None → is_at until u.current ≡ false → RunsOn until limit s (told ++ told2) over2 (steps + 1) u memo2
+  pub runs_on : ending ≡ None → is_at until u.current ≡ false → RunsOn until limit s first (told ++ told2) over2 (steps + 1) u memo2
   runs_on none off = record {
     runs = λ rest may.
         one_turn rest may ∙ ap (λ e. later steps (next until (limit - (steps + 1)) (turn_to e u memo2 rest))) none
@@ -129,20 +129,20 @@ module _ (until : Option ℕ) (limit : ℕ) (s : Session) (told : List ℕ) (ove
   }
 
   pub ends_at : ending ≡ None → is_at until u.current ≡ true → (rest : List ℕ) → MayCome over2 rest
-      → played until limit (begun s ((told ++ told2) ++ rest)) ≡ record { steps = steps + 1; ending = Until; play = play_at u memo2 rest }
+      → played until limit (play_at s first ((told ++ told2) ++ rest)) ≡ record { steps = steps + 1; ending = Until; play = play_at u memo2 rest }
   ends_at none on rest may =
       one_turn rest may ∙ ap (λ e. later steps (next until (limit - (steps + 1)) (turn_to e u memo2 rest))) none
       ∙ ap (λ b. later steps (cond b (record { steps = 1; ending = Until; play = play_at u memo2 rest }) (later 1 (played until (limit - (steps + 1)) (play_at u memo2 rest))))) on
 
   pub ends_with : (why : Ending) → ending ≡ Some why → (rest : List ℕ) → MayCome over2 rest
-      → played until limit (begun s ((told ++ told2) ++ rest)) ≡ record { steps = steps; ending = why; play = play_at u memo2 rest }
+      → played until limit (play_at s first ((told ++ told2) ++ rest)) ≡ record { steps = steps; ending = why; play = play_at u memo2 rest }
   ends_with why some rest may =
       one_turn rest may ∙ ap (λ e. later steps (next until (limit - (steps + 1)) (turn_to e u memo2 rest))) some
       ∙ ap (λ n. record { steps = n; ending = why; play = play_at u memo2 rest }) (add-zero steps)
 
-pub ends_full : (until : Option ℕ) (limit : ℕ) (s : Session) (told : List ℕ) (over : Bool) (steps : ℕ) (t : Session) (memo : Memo) → RunsOn until limit s told over steps t memo → limit ≤ steps → steps ≤ limit
-    → (rest : List ℕ) → MayCome over rest → played until limit (begun s (told ++ rest)) ≡ record { steps = limit; ending = Limit; play = play_at t memo rest }
-ends_full until limit s told over steps t memo h full within rest may =
+pub ends_full : (until : Option ℕ) (limit : ℕ) (s : Session) (first : Memo) (told : List ℕ) (over : Bool) (steps : ℕ) (t : Session) (memo : Memo) → RunsOn until limit s first told over steps t memo → limit ≤ steps → steps ≤ limit
+    → (rest : List ℕ) → MayCome over rest → played until limit (play_at s first (told ++ rest)) ≡ record { steps = limit; ending = Limit; play = play_at t memo rest }
+ends_full until limit s first told over steps t memo h full within rest may =
     let none : limit - steps ≡ 0 = omega arith in
     let all : steps + 0 ≡ limit = omega arith in
     h.runs rest may ∙ ap (later steps) (played_none until (limit - steps) (play_at t memo rest) none)

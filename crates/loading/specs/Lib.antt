@@ -1,5 +1,7 @@
 pub mod Asked
+pub mod CommandLine
 pub mod Place
+pub mod Refused
 pub mod Statuses
 pub mod Values
 pub mod Views

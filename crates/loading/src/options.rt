@@ -1,10 +1,13 @@
 //! The words that name a file and its map.
 
-ghost use Rattle.std.specs.Prelude.{◌≡◌, option_map};
-ghost use Rattle.clap.specs.Words.{first_value, found_of};
+ghost use Rattle.std.specs.Prelude.{◌≡◌, IfErr, IfOk, codes, false, option_map};
+ghost use Rattle.clap.specs.Words.{app_of, first_value, found_of, kind_of, rule_of};
 ghost use Rattle.loading.specs.Asked.{file_asked};
+ghost use Rattle.loading.specs.CommandLine.{with_file};
 ghost use Rattle.loading.specs.Views.{file_view};
+ghost use Rattle.program_words.specs.CommandLine.{file_rule, flag_rule, option_rule};
 
+use clap::error::ErrorKind;
 use clap::{Arg, ArgAction, ArgMatches, Command, Error};
 use model::Profile;
 use program_words::{is_given, port_asked, profile_asked, rom_asked};
@@ -25,8 +28,33 @@ pub struct FileWords<'a> {
     pub profile: Profile,
 }
 
+/// Returns the word that names the file.
+fn file_word<'a>(alloc: Global) -> Arg<'a>
+    ensures rule { rule_of result ≡ file_rule (codes "FILE") }
+    ensures local { result.global ≡ false }
+{
+    Arg::new(alloc, "FILE")
+        .required(true)
+        .action(ArgAction::Set)
+        .help("The source to assemble and load")
+}
+
+/// Returns the option that says that the file is a tape.
+fn tape_flag<'a>(alloc: Global) -> Arg<'a>
+    ensures rule { rule_of result ≡ flag_rule (codes "tape") }
+    ensures local { result.global ≡ false }
+{
+    Arg::new(alloc, "tape")
+        .long("tape")
+        .action(ArgAction::SetTrue)
+        .help("FILE is a tape, not a source")
+}
+
 /// Returns an option with one value.
-pub fn option<'a>(alloc: Global, name: &'a str, value: &'a str, help: &'a str) -> Arg<'a> {
+pub fn option<'a>(alloc: Global, name: &'a str, value: &'a str, help: &'a str) -> Arg<'a>
+    ensures rule { rule_of result ≡ option_rule name.entry.now }
+    ensures local { result.global ≡ false }
+{
     Arg::new(alloc, name)
         .long(name)
         .value_name(value)
@@ -37,21 +65,16 @@ pub fn option<'a>(alloc: Global, name: &'a str, value: &'a str, help: &'a str) -
 /// Returns a command with the words of a file and its map added.
 ///
 /// The only error is that an allocation failed.
-pub fn with_file_options<'a>(alloc: Global, command: Command<'a>) -> Result<Command<'a>, Error> {
+pub fn with_file_options<'a>(alloc: Global, command: Command<'a>) -> Result<Command<'a>, Error>
+    ensures shape { IfOk result (λ c. app_of c ≡ with_file (app_of command.entry)) }
+    ensures memory { IfErr result (λ e. kind_of e ≡ ErrorKind.OutOfMemory) }
+{
     let port = "The first of the port's four addresses, four hex digits [default: F000]";
     let rom = "The addresses that the program cannot write [default: none]";
     let profile = "The processor, N or C: C has 19 opcodes more [default: N]";
-    let file = Arg::new(alloc, "FILE")
-        .required(true)
-        .action(ArgAction::Set)
-        .help("The source to assemble and load");
-    let tape = Arg::new(alloc, "tape")
-        .long("tape")
-        .action(ArgAction::SetTrue)
-        .help("FILE is a tape, not a source");
     let command = command
-        .arg(file)?
-        .arg(tape)?
+        .arg(file_word(alloc))?
+        .arg(tape_flag(alloc))?
         .arg(option(alloc, "port", "HHHH", port))?
         .arg(option(alloc, "rom", "LO-HI", rom))?
         .arg(option(alloc, "profile", "N|C", profile))?;

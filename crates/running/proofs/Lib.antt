@@ -1,1 +1,3 @@
 pub mod Starts
+mod Found
+mod Ran

@@ -1,2 +1,6 @@
+pub mod Asked
+pub mod CommandLine
 pub mod Places
+pub mod Runs
 pub mod Statuses
+pub mod Views

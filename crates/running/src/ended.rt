@@ -1,6 +1,6 @@
 //! What is told of a run's end, and its exit status.
 
-ghost use Rattle.std.specs.Prelude.{◌≡◌};
+ghost use Rattle.std.specs.Prelude.{◌≡◌, if◌then◌else◌};
 ghost use Rattle.running.specs.Statuses.{status_of_ending};
 
 use console::{Ending, Played};
@@ -28,7 +28,9 @@ fn step_word(steps: u64) -> &'static str {
 
 /// Writes a line that says why a run did not come to its end. A line that cannot be written is left
 /// out.
-pub fn tell_ending<E: Write>(played: Played, pc: u16, errors: &mut E) {
+pub fn tell_ending<E: Write>(played: Played, pc: u16, errors: &mut E)
+    ensures quiet { status_of_ending played.ending 0 ≡ 0 → errors.new ≡ errors.old }
+{
     let steps = played.steps;
     let _ = match played.ending {
         Ending::Until | Ending::Rest | Ending::InputOver => Ok(()),

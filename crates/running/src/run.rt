@@ -1,16 +1,35 @@
 //! What the word `run` does.
 
+ghost use Rattle.std.specs.Prelude.{◌≡◌, ◌≤◌, ◌⊎◌, [], ◌∷◌, None, Some, false, map};
+ghost use Rattle.std.specs.Prelude.{if◌then◌else◌, option_map};
+ghost use Rattle.clap.specs.Words.{IsAmong, fault_of};
+ghost use Rattle.clap.specs.declared.error.kind.ErrorKind.TheVariants.{DisplayHelp};
+ghost use Rattle.loading.specs.Place.{names_of};
+ghost use Rattle.loading.specs.Refused.{IsTakenBy};
+ghost use Rattle.model.specs.State.{input_waits};
+ghost use Rattle.running.specs.Asked.{RunAsked, asked};
+ghost use Rattle.running.specs.CommandLine.{run};
+ghost use Rattle.running.specs.Places.{place_asked};
+ghost use Rattle.running.specs.Runs.{IsDone, RanIfFound, RanTo};
+ghost use Rattle.running.specs.Statuses.{status_of_ending};
+ghost use Rattle.running.specs.Views.{run_view};
+
 use crate::ended::{status_of_ending, tell_cycles, tell_ending};
 use crate::started::{load_at_start, place_named, refusal_of};
 use crate::words::{RunWords, read_words};
 use console::{Played, play};
 use debugger::Session;
+use loading::Loaded;
 use program::{refuse, refused_words};
 use std::io::{Read, Write};
 use std::rt::Files;
 
 /// Tells how a run ended, and returns the exit status.
-fn ended<E: Write>(words: &RunWords<'_>, played: Played, session: &Session, errors: &mut E) -> u8 {
+fn ended<E: Write>(words: &RunWords<'_>, played: Played, session: &Session, errors: &mut E) -> u8
+    ensures status { result ≡ status_of_ending played.ending
+        (if words.now.is_status_of_a then session.now.current.regs.a else 0) }
+    ensures quiet { words.now.tells_cycles ≡ false → result ≡ 0 → errors.new ≡ errors.old }
+{
     let regs = session.regs();
     tell_ending(played, regs.pc, errors);
     if words.tells_cycles {
@@ -20,6 +39,57 @@ fn ended<E: Write>(words: &RunWords<'_>, played: Played, session: &Session, erro
     status_of_ending(played.ending, status)
 }
 
+/// Runs a session up to a place, if there is one, and returns the exit status.
+fn run_to<R: Read, O: Write, E: Write>(
+    words: &RunWords<'_>,
+    session: &mut Session,
+    until: Option<u16>,
+    input: &mut R,
+    output: &mut O,
+    errors: &mut E,
+) -> u8
+    requires idle { input_waits session.old.current.bus ≡ false }
+    requires silent { session.old.current.bus.out ≡ [] }
+    ensures ran { RanTo (run_view words.now) until session.old (record {
+      given = R.remaining input.old;
+      left = R.remaining input.new;
+      held = O.contents output.old;
+      now = O.contents output.new;
+    }) result }
+    ensures quiet { words.now.tells_cycles ≡ false → result ≡ 0 → errors.new ≡ errors.old }
+{
+    match play(session, until, words.steps, input, output) {
+        Ok(played) => ended(words, played, session, errors),
+        Err(fault) => refuse(refusal_of(fault), errors),
+    }
+}
+
+/// Runs what was loaded up to the place of the words, and returns the exit status.
+fn run_loaded<R: Read, O: Write, E: Write>(
+    words: &RunWords<'_>,
+    loaded: &mut Loaded,
+    input: &mut R,
+    output: &mut O,
+    errors: &mut E,
+) -> u8
+    requires idle { input_waits loaded.old.session.current.bus ≡ false }
+    requires silent { loaded.old.session.current.bus.out ≡ [] }
+    ensures ran { RanIfFound (run_view words.now)
+        (place_asked (names_of loaded.old.assembly) (run_view words.now).until)
+        loaded.old.session (record {
+          given = R.remaining input.old;
+          left = R.remaining input.new;
+          held = O.contents output.old;
+          now = O.contents output.new;
+        }) result ((input.new ≡ input.old) × (output.new ≡ output.old)) }
+    ensures quiet { words.now.tells_cycles ≡ false → result ≡ 0 → errors.new ≡ errors.old }
+{
+    match place_named(loaded, words.until, errors) {
+        Ok(until) => run_to(words, &mut loaded.session, until, input, output, errors),
+        Err(status) => status,
+    }
+}
+
 /// Loads the file of the words and runs it, and returns the exit status.
 fn run_words<H: Files + AllocGlobal, R: Read, O: Write, E: Write>(
     rt: &H,
@@ -27,18 +97,21 @@ fn run_words<H: Files + AllocGlobal, R: Read, O: Write, E: Write>(
     input: &mut R,
     output: &mut O,
     errors: &mut E,
-) -> u8 {
-    let mut loaded = match load_at_start(rt, &words.file) {
-        Ok(loaded) => loaded,
-        Err(fault) => return fault.tell(words.file.file, errors),
-    };
-    let until = match place_named(&loaded, words.until, errors) {
-        Ok(until) => until,
-        Err(status) => return status,
-    };
-    match play(&mut loaded.session, until, words.steps, input, output) {
-        Ok(played) => ended(words, played, &loaded.session, errors),
-        Err(fault) => refuse(refusal_of(fault), errors),
+) -> u8
+    ensures done { IsDone (run_view words.now) (record {
+      given = R.remaining input.old;
+      left = R.remaining input.new;
+      held = O.contents output.old;
+      now = O.contents output.new;
+    }) result ((input.new ≡ input.old) × (output.new ≡ output.old)) }
+    ensures quiet { words.now.tells_cycles ≡ false → result ≡ 0 → errors.new ≡ errors.old }
+{
+    match load_at_start(rt, &words.file) {
+        Ok(loaded) => {
+            let mut loaded = loaded;
+            run_loaded(words, &mut loaded, input, output, errors)
+        }
+        Err(fault) => fault.tell(words.file.file, errors),
     }
 }
 
@@ -58,7 +131,34 @@ pub fn run_program<H: Files + AllocGlobal, R: Read, O: Write, E: Write>(
     input: &mut R,
     output: &mut O,
     errors: &mut E,
-) -> u8 {
+) -> u8
+    // Words that fit the command line, with right values: their file was loaded and ran by the
+    // definition of a run, or it was not and the streams are unchanged, as the status says.
+    ensures done { (a : RunAsked) → asked (map (λ s. s.now) words.entry.now) ≡ Some a
+        → IsTakenBy run (map (λ s. s.now) words.entry.now) → IsDone a (record {
+          given = R.remaining input.old;
+          left = R.remaining input.new;
+          held = O.contents output.old;
+          now = O.contents output.new;
+        }) result ((input.new ≡ input.old) × (output.new ≡ output.old)) }
+    // Other words read nothing, and write nothing on the output but help.
+    ensures untaken { ¬ IsTakenBy run (map (λ s. s.now) words.entry.now)
+        → (input.new ≡ input.old) × (1 ≤ result → result ≤ 3 → output.new ≡ output.old) }
+    ensures unasked { asked (map (λ s. s.now) words.entry.now) ≡ None
+        → (input.new ≡ input.old) × (1 ≤ result → result ≤ 3 → output.new ≡ output.old) }
+    // Words that fit nothing have the status 2, unless they ask for help or memory runs out; help
+    // that is asked for has 0 if it was written.
+    ensures usage { ¬ IsTakenBy run (map (λ s. s.now) words.entry.now) → ¬ IsAmong DisplayHelp
+        (fault_of run (map (λ s. s.now) words.entry.now)) → (result ≡ 2) ⊎ (result ≡ 3) }
+    ensures help { fault_of run (map (λ s. s.now) words.entry.now) ≡ DisplayHelp ∷ []
+        → (result ≡ 0) ⊎ (result ≡ 3) ⊎ (result ≡ 4) }
+    // A wrong value has the status 2, unless memory runs out.
+    ensures value { IsTakenBy run (map (λ s. s.now) words.entry.now)
+        → asked (map (λ s. s.now) words.entry.now) ≡ None → (result ≡ 2) ⊎ (result ≡ 3) }
+    // Nothing is written on the error stream with the status 0, unless cycles are asked for.
+    ensures quiet { ((a : RunAsked) → asked (map (λ s. s.now) words.entry.now) ≡ Some a
+        → a.tells_cycles ≡ false) → result ≡ 0 → errors.new ≡ errors.old }
+{
     match read_words(rt.alloc(), words) {
         Ok(words) => run_words(rt, &words, input, output, errors),
         Err(fault) => refused_words(fault, output, errors),

@@ -1,7 +1,8 @@
 //! What a word that runs a program needs besides the run: the program at its start, a place that a
 //! word names, and what a stream that failed means.
 
-ghost use Rattle.std.specs.Prelude.{◌≡◌, ℕ, List, Option, IfOk, false, option_map};
+ghost use Rattle.std.specs.Prelude.{◌≡◌, ℕ, List, [], Option, IfOk, OnOk, false};
+ghost use Rattle.std.specs.Prelude.{option_map};
 ghost use Rattle.loading.specs.Place.{names_of};
 ghost use Rattle.model.specs.Event.{start};
 ghost use Rattle.model.specs.Session.{new_session};
@@ -15,7 +16,8 @@ use program::Refusal;
 use std::io::Write;
 use std::rt::Files;
 
-/// Loads the file of the words, as `load` does. No input waits in its session.
+/// Loads the file of the words, as `load` does. No input waits in its session, and nothing was put
+/// out.
 ///
 /// # Errors
 ///
@@ -31,6 +33,7 @@ pub fn load_at_start<H: Files + AllocGlobal>(
           port = words.now.port;
         }) image))) }
     ensures idle { IfOk result (λ loaded. input_waits loaded.session.current.bus ≡ false) }
+    ensures silent { IfOk result (λ loaded. loaded.session.current.bus.out ≡ []) }
 {
     match load(rt, words) {
         Ok(loaded) => Ok(loaded),
@@ -49,8 +52,9 @@ pub fn place_named<E: Write>(
     word: Option<&str>,
     errors: &mut E,
 ) -> Result<Option<u16>, u8>
-    ensures { result
+    ensures place { result
         ≡ place_asked (names_of loaded.now.assembly) (option_map (λ w. w.now) word.entry) }
+    ensures quiet { OnOk result (errors.new ≡ errors.old) }
 {
     match word {
         None => Ok(None),

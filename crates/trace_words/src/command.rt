@@ -1,5 +1,11 @@
 //! The command line of `trace` as it is described to `clap`.
 
+ghost use Rattle.std.specs.Prelude.{◌≡◌, IfErr, IfOk, false};
+ghost use Rattle.clap.specs.Words.{app_of, kind_of, rule_of};
+ghost use Rattle.program_words.specs.CommandLine.{flag_rule};
+ghost use Rattle.trace_words.specs.CommandLine.{trace};
+
+use clap::error::ErrorKind;
 use clap::{Arg, ArgAction, Command, Error};
 use loading::{option, with_file_options};
 use std::alloc::Global;
@@ -15,7 +21,10 @@ Examples:
   mos65 trace sort.a65 --count";
 
 /// Returns an option that takes no value.
-fn flag<'a>(alloc: Global, name: &'a str, help: &'a str) -> Arg<'a> {
+fn flag<'a>(alloc: Global, name: &'a str, help: &'a str) -> Arg<'a>
+    ensures rule { rule_of result ≡ flag_rule name.entry.now }
+    ensures local { result.global ≡ false }
+{
     Arg::new(alloc, name)
         .long(name)
         .action(ArgAction::SetTrue)
@@ -25,7 +34,10 @@ fn flag<'a>(alloc: Global, name: &'a str, help: &'a str) -> Arg<'a> {
 /// Returns the command line of `trace`.
 ///
 /// The only error is that an allocation failed.
-pub fn command<'a>(alloc: Global) -> Result<Command<'a>, Error> {
+pub fn command<'a>(alloc: Global) -> Result<Command<'a>, Error>
+    ensures shape { IfOk result (λ c. app_of c ≡ trace) }
+    ensures memory { IfErr result (λ e. kind_of e ≡ ErrorKind.OutOfMemory) }
+{
     let from = "Where the trace begins: a name, an address, or a sum of both [default: the start]";
     let to = "Where the trace ends, likewise [default: where the program ends]";
     let steps = "The most steps from where the trace begins [default: no limit]";

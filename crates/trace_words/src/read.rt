@@ -1,5 +1,12 @@
 //! From words to what they ask for.
 
+ghost use Rattle.std.specs.Prelude.{◌≡◌, IsOkUnless, IfErr, IfOk, None, Some, map, option_map};
+ghost use Rattle.clap.specs.Words.{first_value, found_of};
+ghost use Rattle.loading.specs.Refused.{IsRightRefusalBy, IsTakenBy};
+ghost use Rattle.trace_words.specs.Asked.{TraceAsked, asked, trace_asked};
+ghost use Rattle.trace_words.specs.CommandLine.{trace};
+ghost use Rattle.trace_words.specs.Views.{trace_view};
+
 use crate::command::command;
 use clap::ArgMatches;
 use loading::{FileWords, file_words, steps_of};
@@ -26,7 +33,9 @@ pub struct TraceWords<'a> {
 }
 
 /// Returns what the values that were found ask for, or `None` if one is wrong.
-fn asked<'a>(matches: &ArgMatches<'a>) -> Option<TraceWords<'a>> {
+fn asked<'a>(matches: &ArgMatches<'a>) -> Option<TraceWords<'a>>
+    ensures { option_map trace_view result ≡ trace_asked (first_value (found_of matches.now)) }
+{
     Some(TraceWords {
         file: file_words(matches)?,
         from: matches.get_str("from"),
@@ -46,7 +55,16 @@ fn asked<'a>(matches: &ArgMatches<'a>) -> Option<TraceWords<'a>> {
 /// - `Usage`: a word is missing or unknown, or there are too many. The text is `clap`'s.
 /// - `Value`: an option has a value that it cannot have. Places are not looked up here.
 /// - `OutOfMemory`: an allocation failed.
-pub fn read_words<'a>(alloc: Global, words: &'a [&'a str]) -> Result<TraceWords<'a>, WordsFault> {
+pub fn read_words<'a>(alloc: Global, words: &'a [&'a str]) -> Result<TraceWords<'a>, WordsFault>
+    ensures asked { IfOk result (λ w. asked (map (λ s. s.now) words.entry.now)
+        ≡ Some (trace_view w)) }
+    ensures taken { IfOk result (λ w. IsTakenBy trace (map (λ s. s.now) words.entry.now)) }
+    ensures served { (a : TraceAsked) → IsTakenBy trace (map (λ s. s.now) words.entry.now)
+        → asked (map (λ s. s.now) words.entry.now) ≡ Some a
+        → IsOkUnless result WordsFault.OutOfMemory }
+    ensures refused { IfErr result (IsRightRefusalBy trace
+        (asked (map (λ s. s.now) words.entry.now) ≡ None) (map (λ s. s.now) words.entry.now)) }
+{
     let matches = command(alloc)?.try_get_matches_from(words)?;
     match asked(&matches) {
         Some(words) => Ok(words),

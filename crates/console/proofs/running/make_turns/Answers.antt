@@ -1,7 +1,7 @@
 use Rattle.std.proofs.Common.{◌≡◌, ◌+◌, ◌<◌, ◌≤◌, ◌++◌, [], true, false, Some, None, List, ℕ, arith, refl, sym, ap, ◌∙◌, append-nil, append_assoc}
 use Rattle.std.proofs.KnownBytes.{Appends-nil, Appends-trans, Consumes-nil, Consumes-trans}
 use Rattle.model.proofs.Written.{front_after}
-use Rattle.console.specs.Playing.{begun, is_at, played}
+use Rattle.console.specs.Playing.{begun, is_at, no_memo, played}
 use Rattle.console.specs.Written.{RanAs}
 use Rattle.console.specs.declared.ending.Ending.TheVariants.{Limit, Until}
 use Rattle.console.proofs.Turning.{runs_none, runs_on, ends_at, ends_with, ends_full, still_over, whole_input, ran_as}
@@ -17,7 +17,7 @@ loop-steps-init g c = (
     out = sym (append-nil _);
     waits = c.begin-player.ensures.waits;
     over = λ is. cc;
-    runs = rw (c.begin-player.ensures.over, c.begin-player.ensures.memo) (runs_none c.args.until c.args.limit c.args.session.now false);
+    runs = rw (c.begin-player.ensures.over, c.begin-player.ensures.memo) (runs_none c.args.until c.args.limit c.args.session.now no_memo false);
   },
 )
 
@@ -31,7 +31,7 @@ returns-in-Ok-Some-clause-ok g c =
     whole_input _ _ (inv.0 ++ turn.0) p.is_over (λ input left. RanAs (played c.args.until c.args.limit (begun s input)) (record { steps = l.steps; ending = c.in-Ok-Some.ending }) u left)
     (Consumes-trans _ _ _ inv.0 turn.0 inv.2.consumes turn.1) (still_over l.player.is_over p.is_over _ _ turn.2 inv.2.over)
     (λ rest may. ran_as _ l.steps c.in-Ok-Some.ending u p.memo rest
-    (ends_with c.args.until c.args.limit s inv.0 l.player.is_over l.steps l.session l.player.memo inv.2.runs c.loop-steps-test.true turn.0 p.is_over (Some c.in-Ok-Some.ending) u p.memo turn.3 turn.4 c.in-Ok-Some.ending refl rest may))
+    (ends_with c.args.until c.args.limit s no_memo inv.0 l.player.is_over l.steps l.session l.player.memo inv.2.runs c.loop-steps-test.true turn.0 p.is_over (Some c.in-Ok-Some.ending) u p.memo turn.3 turn.4 c.in-Ok-Some.ending refl rest may))
 
 pub returns-in-Ok-Some-clause-output : goal.returns-in-Ok-Some-clause-output
 returns-in-Ok-Some-clause-output g c =
@@ -54,7 +54,7 @@ returns-then-is_at-clause-ok g c =
     whole_input _ _ (inv.0 ++ turn.0) p.is_over (λ input left. RanAs (played c.args.until c.args.limit (begun s input)) (record { steps = l.steps + 1; ending = Until }) u left)
     (Consumes-trans _ _ _ inv.0 turn.0 inv.2.consumes turn.1) (still_over l.player.is_over p.is_over _ _ turn.2 inv.2.over)
     (λ rest may. ran_as _ (l.steps + 1) Until u p.memo rest
-    (ends_at c.args.until c.args.limit s inv.0 l.player.is_over l.steps l.session l.player.memo inv.2.runs c.loop-steps-test.true turn.0 p.is_over None u p.memo turn.3 turn.4 refl at' rest may))
+    (ends_at c.args.until c.args.limit s no_memo inv.0 l.player.is_over l.steps l.session l.player.memo inv.2.runs c.loop-steps-test.true turn.0 p.is_over None u p.memo turn.3 turn.4 refl at' rest may))
 
 pub returns-then-is_at-clause-output : goal.returns-then-is_at-clause-output
 returns-then-is_at-clause-output g c =
@@ -78,7 +78,7 @@ loop-steps-preserved g c =
         out = more.1 ∙ ap (λ out. out ++ more.0) inv.2.out ∙ append_assoc _ inv.1 more.0;
         waits = c.in-Ok-None.ensures.waits;
         over = still_over l.player.is_over p.is_over _ _ turn.2 inv.2.over;
-        runs = runs_on c.args.until c.args.limit s inv.0 l.player.is_over l.steps l.session l.player.memo inv.2.runs c.loop-steps-test.true turn.0 p.is_over None u p.memo turn.3 turn.4 refl off;
+        runs = runs_on c.args.until c.args.limit s no_memo inv.0 l.player.is_over l.steps l.session l.player.memo inv.2.runs c.loop-steps-test.true turn.0 p.is_over None u p.memo turn.3 turn.4 refl off;
       },
     )
 
@@ -90,4 +90,4 @@ returns-clause-ok g c =
     whole_input _ _ inv.0 l.player.is_over (λ input left. RanAs (played c.args.until c.args.limit (begun s input)) (record { steps = c.args.limit; ending = Limit }) l.session left)
     inv.2.consumes inv.2.over
     (λ rest may. ran_as _ c.args.limit Limit l.session l.player.memo rest
-    (ends_full c.args.until c.args.limit s inv.0 l.player.is_over l.steps l.session l.player.memo inv.2.runs (omega (arith, c.loop-steps-test.false)) (omega (arith, c.loop-steps.auto.steps-end)) rest may))
+    (ends_full c.args.until c.args.limit s no_memo inv.0 l.player.is_over l.steps l.session l.player.memo inv.2.runs (omega (arith, c.loop-steps-test.false)) (omega (arith, c.loop-steps.auto.steps-end)) rest may))

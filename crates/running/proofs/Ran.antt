@@ -1,0 +1,60 @@
+-- How a run ended, from what `play` says of it.
+use Rattle.std.proofs.Common.{◌≡◌, ◌∙◌, ◌++◌, ℕ, Bool, List, [], Option, Some, None, Result, Ok, Err, IfOk, refl, sym, ap, subst, if◌then◌else◌, inl, inr}
+use Rattle.std.specs.Io.KnownBytes.{Appends}
+use Rattle.console.specs.Playing.{Outcome, begun, played}
+use Rattle.console.specs.Written.{AreBytesOf, RanAs}
+use Rattle.console.specs.declared.ending.Ending.{Ending}
+use Rattle.console.specs.declared.ending.Ending.TheVariants.{Until, Rest, InputOver, Limit, Refused}
+use Rattle.console.specs.declared.ending.PlayFault.{PlayFault}
+use Rattle.console.specs.declared.ending.Played.{Played}
+use Rattle.model.specs.Event.{start}
+use Rattle.model.specs.Names.{Definitions}
+use Rattle.model.specs.Session.{Session, new_session}
+use Rattle.model.specs.Writers.{AppendsFront}
+use Rattle.program.specs.Statuses.{status_of}
+use Rattle.running.specs.Asked.{RunAsked}
+use Rattle.running.specs.Runs.{IsDone, RanIfFound, RanTo, Streams, map_of}
+use Rattle.running.specs.Places.{place_asked}
+use Rattle.running.specs.Statuses.{refusal_of, status_of_ending}
+
+abbrev PlayedOf : Option ℕ → ℕ → Session → Option (List ℕ) → Option (List ℕ) → Session → Played → Type 0
+PlayedOf until limit s given left now end = (input : List ℕ) × (rest : List ℕ) × AreBytesOf given input × AreBytesOf left rest
+    × RanAs (played until limit (begun s input)) end now rest
+
+-- What was written is what the session put out since.
+abbrev AllWritten : Session → Session → Option (List ℕ) → Option (List ℕ) → Type 0
+AllWritten s t held now = (text : List ℕ) × (t.current.bus.out ≡ s.current.bus.out ++ text) × Appends held now text
+
+abbrev FrontWritten : Session → Session → Option (List ℕ) → Option (List ℕ) → Type 0
+FrontWritten s t held now = (text : List ℕ) × (t.current.bus.out ≡ s.current.bus.out ++ text) × AppendsFront held now text
+
+pub ran_to : (a : RunAsked) (until : Option ℕ) (s t : Session) (streams : Streams) (end : Played) (status : ℕ)
+    → s.current.bus.out ≡ []
+    → PlayedOf until a.steps s streams.given streams.left t end
+    → AllWritten s t streams.held streams.now
+    → status ≡ status_of_ending end.ending (if a.is_status_of_a then t.current.regs.a else 0)
+    → RanTo a until s streams status
+ran_to a until s t streams end status silent run written is =
+    let outcome : Outcome = played until a.steps (begun s run.0) in
+    let same : RanAs outcome end t run.1 = run.4 in
+    let B : List ℕ → Type 0 = λ bytes. AreBytesOf streams.left bytes in
+    let W : List ℕ → Type 0 = λ text. Appends streams.held streams.now text in
+    let ended : Ending → Session → ℕ = λ why now. status_of_ending why (if a.is_status_of_a then now.current.regs.a else 0) in
+    let text_is : written.0 ≡ outcome.play.session.current.bus.out
+    = sym (ap (λ (out : List ℕ). out ++ written.0) silent) ∙ sym written.1 ∙ ap (λ (now : Session). now.current.bus.out) same.session in (
+      Ok outcome,
+      (run.0, refl, run.2, subst B same.left run.3, subst W text_is written.2),
+      is ∙ ap (λ (why : Ending). ended why t) same.ending ∙ ap (λ (now : Session). ended outcome.ending now) same.session,
+    )
+
+pub failed_to : (a : RunAsked) (until : Option ℕ) (s t : Session) (streams : Streams) (fault : PlayFault) (status : ℕ)
+    → FrontWritten s t streams.held streams.now
+    → status ≡ status_of (refusal_of fault)
+    → RanTo a until s streams status
+failed_to a until s t streams fault status written is = (Err fault, (written.2.0, written.2.3), is)
+
+-- A file that was loaded.
+pub ran_file : (a : RunAsked) (s : Session) (names : Definitions) (image : List (Option ℕ)) (streams : Streams) (status : ℕ) (Alone : Type 0)
+    → s ≡ new_session 0 (start (map_of a.file) image) → RanIfFound a (place_asked names a.until) s streams status Alone → IsDone a streams status Alone
+ran_file a s names image streams status A begins ran =
+    inr (image, names, subst (λ (t : Session). RanIfFound a (place_asked names a.until) t streams status A) begins ran)

@@ -1,0 +1,24 @@
+use Rattle.std.proofs.Common.{◌∙◌, ap}
+use Rattle.program.specs.Statuses.{status_of}
+use Rattle.running.proofs.Ran.{failed_to, ran_to}
+use Rattle.running.specs.Views.{run_view}
+use Rattle.running.proofs.run.run_to.Goals as goal
+
+pub returns-in-Ok-clause-ran : goal.returns-in-Ok-clause-ran
+returns-in-Ok-clause-ran g c =
+    ran_to (run_view c.args.words.now) c.args.until c.args.session.now c.play.new.session (record {
+      given = g.R.Read.remaining c.args.input.now;
+      left = g.R.Read.remaining c.play.new.reader;
+      held = g.O.Write.contents c.args.output.now;
+      now = g.O.Write.contents c.play.new.writer;
+    }) c.in-Ok.played c.ended.result c.requires.silent c.in-Ok.ensures.ok c.in-Ok.ensures.output c.ended.ensures.status
+
+pub returns-in-Err-clause-ran : goal.returns-in-Err-clause-ran
+returns-in-Err-clause-ran g c =
+    failed_to (run_view c.args.words.now) c.args.until c.args.session.now c.play.new.session (record {
+      given = g.R.Read.remaining c.args.input.now;
+      left = g.R.Read.remaining c.play.new.reader;
+      held = g.O.Write.contents c.args.output.now;
+      now = g.O.Write.contents c.play.new.writer;
+    }) c.in-Err.fault c.refuse.result c.in-Err.ensures.output
+    (c.refuse.ensures.status ∙ ap status_of c.refusal_of.ensures)

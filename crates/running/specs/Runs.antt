@@ -1,0 +1,70 @@
+-- What `run` does to its streams, and its exit status. No clause can say which image and names a file
+-- stands for. Source: mos65.
+use Rattle.std.specs.Prelude.{◌≡◌, ◌⊎◌, ℕ, Bool, if◌then◌else◌, List, Option, Result, Ok, Err}
+use Rattle.std.specs.Io.KnownBytes.{Appends}
+use Rattle.console.specs.Playing.{Outcome, begun, played}
+use Rattle.console.specs.Written.{AreBytesOf}
+use Rattle.console.specs.declared.ending.PlayFault.{PlayFault}
+use Rattle.loading.specs.Asked.{FileAsked}
+use Rattle.loading.specs.Statuses.{status_of_load}
+use Rattle.loading.specs.declared.loaded.LoadFault.{LoadFault}
+use Rattle.model.specs.Event.{start}
+use Rattle.model.specs.Names.{Definitions}
+use Rattle.model.specs.Session.{Session, new_session}
+use Rattle.model.specs.State.{Map}
+use Rattle.program.specs.Statuses.{status_of}
+use Rattle.running.specs.Asked.{RunAsked}
+use Rattle.running.specs.Places.{place_asked}
+use Rattle.running.specs.Statuses.{refusal_of, status_of_ending}
+
+-- What is known of the input and of the output, before and after.
+pub record Streams : Type 0 where
+  pub given : Option (List ℕ)
+  pub left : Option (List ℕ)
+  pub held : Option (List ℕ)
+  pub now : Option (List ℕ)
+
+-- A session ran to its end by the definition of a run, over some input, which is the reader's if its
+-- bytes are known: what the run did not ask for is left, and its output was written. If a stream
+-- failed, something was written.
+abbrev pub Ran : Session → Option ℕ → ℕ → Streams → Result Outcome PlayFault → Type 0
+Ran s until limit streams (Ok end) = (input : List ℕ)
+    × (end ≡ played until limit (begun s input))
+    × AreBytesOf streams.given input × AreBytesOf streams.left end.play.input
+    × Appends streams.held streams.now end.play.session.current.bus.out
+Ran s until limit streams (Err fault) = (text : List ℕ) × Appends streams.held streams.now text
+
+-- The exit status of a run: 0 at its end, or the value of A there if that is asked for.
+abbrev pub status_of_run : Bool → Result Outcome PlayFault → ℕ
+status_of_run is_of_a (Ok end) = status_of_ending end.ending
+    (if is_of_a then end.play.session.current.regs.a else 0)
+status_of_run is_of_a (Err fault) = status_of (refusal_of fault)
+
+-- A session ran up to a place.
+abbrev pub RanTo : RunAsked → Option ℕ → Session → Streams → ℕ → Type 0
+RanTo a until s streams status = (outcome : Result Outcome PlayFault)
+    × Ran s until a.steps streams outcome × (status ≡ status_of_run a.is_status_of_a outcome)
+
+-- A session ran up to the place of the words, if it is found; else the streams were left alone,
+-- `Alone`.
+abbrev pub RanIfFound : RunAsked → Result (Option ℕ) ℕ → Session → Streams → ℕ → Type 0 → Type 0
+RanIfFound a (Ok until) s streams status Alone = RanTo a until s streams status
+RanIfFound a (Err refused) s streams status Alone = (status ≡ refused) × Alone
+
+-- The file was not loaded, and the streams were left alone.
+abbrev pub IsUnloaded : ℕ → Type 0 → Type 0
+IsUnloaded status Alone = (fault : LoadFault) × (status ≡ status_of_load fault) × Alone
+
+abbrev pub map_of : FileAsked → Map
+map_of file = record { profile = file.profile; rom = file.rom; port = file.port }
+
+-- A file was loaded: from the start of some image, on the map of the words and with the names of
+-- some source, a session ran.
+abbrev pub RanFile : RunAsked → Streams → ℕ → Type 0 → Type 0
+RanFile a streams status Alone = (image : List (Option ℕ)) × (names : Definitions)
+    × RanIfFound a (place_asked names a.until) (new_session 0 (start (map_of a.file) image))
+    streams status Alone
+
+-- What was done for words.
+abbrev pub IsDone : RunAsked → Streams → ℕ → Type 0 → Type 0
+IsDone a streams status Alone = IsUnloaded status Alone ⊎ RanFile a streams status Alone
