@@ -2,9 +2,9 @@
 
 ghost use Rattle.std.specs.Prelude.{◌≡◌, ◌≢◌, IfErr, IfOk, OnOk};
 ghost use Rattle.mon_desk.specs.Served.{HasRun, ShowsOnly, course_of};
-ghost use Rattle.mon_desk.specs.Steps.{KeepsWatches, called, goes_on, is_limit, ran, ran_by, ran_on};
-ghost use Rattle.mon_desk.specs.Steps.{ran_until, returned, some_steps, stand_of, start_of, stepped};
-ghost use Rattle.mon_desk.specs.Steps.{stepped_over, watches_of};
+ghost use Rattle.mon_desk.specs.Steps.{KeepsWatches, called, goes_on, is_limit, ran, ran_by};
+ghost use Rattle.mon_desk.specs.Steps.{ran_on, ran_until, returned, some_steps, stand_of};
+ghost use Rattle.mon_desk.specs.Steps.{start_of, stepped, stepped_over, watches_of};
 ghost use Rattle.mon_runs.specs.Past.{count_run, go_run, out_run, over_run};
 
 use crate::desk::Desk;
@@ -83,8 +83,8 @@ impl Desk {
         end
     }
 
-    /// Says what a step did that is shown as a row from `length` on, where the stack pointer and the
-    /// cycles before it were these. Returns whether the steps go on.
+    /// Says what a step did that is shown as a row from `length` on, where the stack pointer and
+    /// the cycles before it were these. Returns whether the steps go on.
     fn told_step(
         &mut self,
         end: Ended,

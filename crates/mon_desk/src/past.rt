@@ -3,8 +3,8 @@
 ghost use Rattle.std.specs.Prelude.{◌≡◌, ◌≤◌, ℕ, OnErr, OnOk, length};
 ghost use Rattle.mon_desk.specs.BackLines.{IsPartlyShown, undone_by, undone_over, history_shown};
 ghost use Rattle.mon_desk.specs.BackLines.{undone_by_watches, undone_to_stop};
-ghost use Rattle.mon_desk.specs.Served.{KeepsStops, ShowsOnly, course_of, most_remade, remade, remade_one};
-ghost use Rattle.mon_desk.specs.Served.{undone};
+ghost use Rattle.mon_desk.specs.Served.{KeepsStops, ShowsOnly, course_of, most_remade, remade};
+ghost use Rattle.mon_desk.specs.Served.{remade_one, undone};
 ghost use Rattle.mon_desk.specs.StopLines.{IsEither};
 
 use crate::desk::Desk;

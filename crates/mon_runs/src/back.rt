@@ -39,8 +39,8 @@ fn back_by_one(session: &mut Session)
     let _ = session.back(1);
 }
 
-/// Undoes one event at a time, up to the JSR with this stack pointer, or so many events. Returns how
-/// many it has undone.
+/// Undoes one event at a time, up to the JSR with this stack pointer, or so many events. Returns
+/// how many it has undone.
 fn back_to_call(session: &mut Session, stack: u8, most: u32) -> u32
     requires { most ≤ length session.old.earlier }
     ensures undone { session.new ≡ gone_back result session.old }
