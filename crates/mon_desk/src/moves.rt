@@ -39,7 +39,8 @@ impl Desk {
     fn make_steps(&mut self, count: u32) -> Ended
         ensures course { HasRun (course_of self.old) (course_of self.new) }
         ensures stand { stand_of self.new ≡ ran count (watches_of self.old) (stand_of self.old) }
-        ensures end { result ≡ (count_run count (watches_of self.old) (start_of (stand_of self.old))).0 }
+        ensures end { result
+            ≡ (count_run count (watches_of self.old) (start_of (stand_of self.old))).0 }
         ensures watches { KeepsWatches self.old self.new }
     {
         let end = run(&mut self.session, &mut self.stops, count);
