@@ -1,8 +1,21 @@
 //! What the word `trace` does.
 
-ghost use Rattle.std.specs.Prelude.{◌≡◌, OnOk, false};
-ghost use Rattle.model.specs.State.{input_waits};
+ghost use Rattle.std.specs.Prelude.{◌≡◌, ◌≤◌, ◌⊎◌, [], ◌∷◌, ℕ, List, None, Some, IfOk, OnOk};
+ghost use Rattle.std.specs.Prelude.{false, map};
+ghost use Rattle.clap.specs.Words.{IsAmong, fault_of};
+ghost use Rattle.clap.specs.declared.error.kind.ErrorKind.TheVariants.{DisplayHelp};
+ghost use Rattle.console.specs.Playing.{begun, is_at, played};
 ghost use Rattle.console.specs.Taking.{Waits};
+ghost use Rattle.console.specs.Written.{AreBytesOf, RanAs};
+ghost use Rattle.loading.specs.Place.{names_of};
+ghost use Rattle.loading.specs.Refused.{IsTakenBy};
+ghost use Rattle.model.specs.State.{input_waits};
+ghost use Rattle.running.specs.Places.{place_asked};
+ghost use Rattle.trace_words.specs.Asked.{TraceAsked, asked};
+ghost use Rattle.trace_words.specs.CommandLine.{trace};
+ghost use Rattle.trace_words.specs.Views.{trace_view};
+ghost use Rattle.tracing.specs.Traces.{EndsAt, IsDone, TracedIfFound, TracedTo, WentOn};
+ghost use Rattle.tracing.specs.Traces.{is_begun, reached, traced};
 
 use crate::tracer::Tracer;
 use console::{Ending, PlayFault, Played, Player, begin, take_turn};
@@ -12,22 +25,80 @@ use loading::Loaded;
 use papertape::read_tape_from;
 use program::{Refusal, refuse, refused_words};
 use running::{load_at_start, place_named, refusal_of, status_of_ending, tell_ending};
+use std::alloc::Global;
 use std::fs::File;
 use std::io::{Read, Write};
 use std::rt::Files;
 use trace_rows::Sites;
 use trace_words::{TraceWords, read_words};
 
+/// Where a trace begins and ends, if such places are named, and the most steps that it has.
+#[derive(Clone, Copy)]
+struct Span {
+    from: Option<u16>,
+    to: Option<u16>,
+    limit: u64,
+}
+
 /// Returns whether the program counter is at an address, if there is one.
-fn is_at(place: Option<u16>, session: &Session) -> bool {
+fn is_at(place: Option<u16>, session: &Session) -> bool
+    ensures { result ≡ is_at place session.now.current }
+{
     match place {
         None => false,
         Some(address) => session.regs().pc == address,
     }
 }
 
-/// Runs a program up to the place where the trace begins, if one is named. Returns why the run ends
-/// before that, if it does.
+/// Returns whether the trace begins here: no place is named, or the program is at it.
+fn is_begun(from: Option<u16>, session: &Session) -> bool
+    ensures { result ≡ is_begun from session.now.current }
+{
+    match from {
+        None => true,
+        Some(_) => is_at(from, session),
+    }
+}
+
+/// Runs a program until a step leads to a place.
+fn run_to_place<R: Read, E: Write>(
+    tracer: &mut Tracer<'_>,
+    session: &mut Session,
+    player: &mut Player,
+    place: Option<u16>,
+    input: &mut R,
+    errors: &mut E,
+) -> Result<Played, PlayFault>
+    requires waits { Waits session.old.current player.old.waiting }
+    requires over { EndsAt player.old.is_over (R.remaining input.old) }
+    ensures ok { IfOk result (λ end. WentOn (played place 18446744073709551615)
+        session.old player.old (R.remaining input.old) (R.remaining input.new)
+        end session.new player.new) }
+    ensures waits { OnOk result (Waits session.new.current player.new.waiting) }
+    ensures over { OnOk result (EndsAt player.new.is_over (R.remaining input.new)) }
+{
+    for steps in 0..u64::MAX {
+        let ahead = tracer.look_ahead(session);
+        match take_turn(session, player, input, errors) {
+            Ok(None) => tracer.pass(session, ahead),
+            Ok(Some(ending)) => return Ok(Played { steps, ending }),
+            Err(fault) => return Err(fault),
+        }
+        if is_at(place, session) {
+            return Ok(Played {
+                steps: steps + 1,
+                ending: Ending::Until,
+            });
+        }
+    }
+    Ok(Played {
+        steps: u64::MAX,
+        ending: Ending::Limit,
+    })
+}
+
+/// Runs a program up to the place where the trace begins, if one is named and the program is not
+/// there. The run ends with `Until` if the place is reached.
 fn run_to_start<R: Read, E: Write>(
     tracer: &mut Tracer<'_>,
     session: &mut Session,
@@ -35,22 +106,22 @@ fn run_to_start<R: Read, E: Write>(
     from: Option<u16>,
     input: &mut R,
     errors: &mut E,
-) -> Result<Option<Ending>, PlayFault>
-    requires { Waits session.old.current player.old.waiting }
-    ensures { OnOk result (Waits session.new.current player.new.waiting) }
+) -> Result<Played, PlayFault>
+    requires waits { Waits session.old.current player.old.waiting }
+    requires over { EndsAt player.old.is_over (R.remaining input.old) }
+    ensures ok { IfOk result (λ end. WentOn (reached from)
+        session.old player.old (R.remaining input.old) (R.remaining input.new)
+        end session.new player.new) }
+    ensures waits { OnOk result (Waits session.new.current player.new.waiting) }
+    ensures over { OnOk result (EndsAt player.new.is_over (R.remaining input.new)) }
 {
-    for _ in 0..u64::MAX {
-        if from.is_none() || is_at(from, session) {
-            return Ok(None);
-        }
-        let ahead = tracer.look_ahead(session);
-        match take_turn(session, player, input, errors) {
-            Ok(None) => tracer.pass(session, ahead),
-            Ok(Some(ending)) => return Ok(Some(ending)),
-            Err(fault) => return Err(fault),
-        }
+    if is_begun(from, session) {
+        return Ok(Played {
+            steps: 0,
+            ending: Ending::Until,
+        });
     }
-    Ok(Some(Ending::Limit))
+    run_to_place(tracer, session, player, from, input, errors)
 }
 
 /// Makes the steps of the trace, and notes each. Returns how many were made, and why it ended.
@@ -64,7 +135,12 @@ fn run_noting<R: Read, O: Write, E: Write>(
     output: &mut O,
     errors: &mut E,
 ) -> Result<Played, Refusal>
-    requires { Waits session.old.current player.old.waiting }
+    requires waits { Waits session.old.current player.old.waiting }
+    requires over { EndsAt player.old.is_over (R.remaining input.old) }
+    ensures ok { IfOk result (λ end. WentOn (played to limit)
+        session.old player.old (R.remaining input.old) (R.remaining input.new)
+        end session.new player.new) }
+    ensures over { OnOk result (EndsAt player.new.is_over (R.remaining input.new)) }
 {
     for steps in 0..limit {
         let ahead = tracer.look_ahead(session);
@@ -131,47 +207,160 @@ fn make_tracer<'a, H: Files + AllocGlobal>(
     }
 }
 
-/// Runs the program that was loaded, and traces it from one place to another.
-fn trace_between<H: Files + AllocGlobal, R: Read, O: Write, E: Write>(
+/// Makes the steps of the trace from where it begins, and writes what was gathered.
+fn trace_on<R: Read, O: Write, E: Write>(
+    alloc: Global,
+    tracer: &mut Tracer<'_>,
+    session: &mut Session,
+    player: &mut Player,
+    span: Span,
+    input: &mut R,
+    output: &mut O,
+    errors: &mut E,
+) -> Result<Played, Refusal>
+    requires waits { Waits session.old.current player.old.waiting }
+    requires over { EndsAt player.old.is_over (R.remaining input.old) }
+    ensures ok { IfOk result (λ end. WentOn (played span.to span.limit)
+        session.old player.old (R.remaining input.old) (R.remaining input.new)
+        end session.new player.new) }
+    ensures over { OnOk result (EndsAt player.new.is_over (R.remaining input.new)) }
+{
+    let played = run_noting(
+        tracer, session, player, span.to, span.limit, input, output, errors,
+    );
+    let written = tracer.finish(alloc, output);
+    match played {
+        Ok(played) => match written {
+            Ok(()) => Ok(played),
+            Err(refusal) => Err(refusal),
+        },
+        Err(refusal) => Err(refusal),
+    }
+}
+
+/// Runs a session, and traces it from one place to another.
+fn trace_between<R: Read, O: Write, E: Write>(
+    alloc: Global,
+    tracer: &mut Tracer<'_>,
+    session: &mut Session,
+    span: Span,
+    input: &mut R,
+    output: &mut O,
+    errors: &mut E,
+) -> Result<Played, Refusal>
+    requires { input_waits session.old.current.bus ≡ false }
+    // The trace is the definition's over some input, which is the reader's if its bytes are known;
+    // what it did not ask for is left.
+    ensures { IfOk result (λ end. (told : List ℕ) × (left : List ℕ)
+        × AreBytesOf (R.remaining input.old) told × AreBytesOf (R.remaining input.new) left
+        × RanAs (traced span.from span.to span.limit (begun session.old told)) end session.new
+        left) }
+{
+    let mut player = begin(session);
+    let reached = match run_to_start(tracer, session, &mut player, span.from, input, errors) {
+        Ok(reached) => reached,
+        Err(fault) => return Err(refusal_of(fault)),
+    };
+    match reached.ending {
+        Ending::Until => trace_on(
+            alloc,
+            tracer,
+            session,
+            &mut player,
+            span,
+            input,
+            output,
+            errors,
+        ),
+        ending => {
+            let _ = writeln!(errors, "mos65: the program ended before the trace began");
+            Ok(Played { steps: 0, ending })
+        }
+    }
+}
+
+/// Traces what was loaded.
+fn trace_span<H: Files + AllocGlobal, R: Read, O: Write, E: Write>(
     rt: &H,
     words: &TraceWords<'_>,
     loaded: &mut Loaded,
-    from: Option<u16>,
-    to: Option<u16>,
+    span: Span,
     input: &mut R,
     output: &mut O,
     errors: &mut E,
 ) -> Result<Played, Refusal>
     requires { input_waits loaded.old.session.current.bus ≡ false }
+    ensures { IfOk result (λ end. (told : List ℕ) × (left : List ℕ)
+        × AreBytesOf (R.remaining input.old) told × AreBytesOf (R.remaining input.new) left
+        × RanAs (traced span.from span.to span.limit (begun loaded.old.session told)) end
+        loaded.new.session left) }
 {
     let mut tracer = make_tracer(rt, words, loaded)?;
     let session = &mut loaded.session;
-    let mut player = begin(session);
-    match run_to_start(&mut tracer, session, &mut player, from, input, errors) {
-        Ok(None) => {}
-        Ok(Some(ending)) => {
-            let _ = writeln!(errors, "mos65: the program ended before the trace began");
-            return Ok(Played { steps: 0, ending });
-        }
-        Err(fault) => return Err(refusal_of(fault)),
-    }
-    let limit = words.steps;
-    let played = run_noting(
+    trace_between(
+        rt.alloc(),
         &mut tracer,
         session,
-        &mut player,
-        to,
-        limit,
+        span,
         input,
         output,
         errors,
-    );
-    let written = tracer.finish(rt.alloc(), output);
-    match (played, written) {
-        (Ok(played), Ok(())) => Ok(played),
-        (Err(refusal), _) => Err(refusal),
-        (Ok(_), Err(refusal)) => Err(refusal),
+    )
+}
+
+/// Traces what was loaded, tells how that ended, and returns the exit status.
+fn trace_told<H: Files + AllocGlobal, R: Read, O: Write, E: Write>(
+    rt: &H,
+    words: &TraceWords<'_>,
+    loaded: &mut Loaded,
+    span: Span,
+    input: &mut R,
+    output: &mut O,
+    errors: &mut E,
+) -> u8
+    requires { input_waits loaded.old.session.current.bus ≡ false }
+    ensures { TracedTo span.from span.to span.limit loaded.old.session
+        (R.remaining input.old) (R.remaining input.new) result }
+{
+    match trace_span(rt, words, loaded, span, input, output, errors) {
+        Ok(played) => {
+            tell_ending(played, loaded.session.regs().pc, errors);
+            status_of_ending(played.ending, 0)
+        }
+        Err(refusal) => refuse(refusal, errors),
     }
+}
+
+/// Traces what was loaded between the places of the words, and returns the exit status.
+fn trace_loaded<H: Files + AllocGlobal, R: Read, O: Write, E: Write>(
+    rt: &H,
+    words: &TraceWords<'_>,
+    loaded: &mut Loaded,
+    input: &mut R,
+    output: &mut O,
+    errors: &mut E,
+) -> u8
+    requires { input_waits loaded.old.session.current.bus ≡ false }
+    ensures { TracedIfFound
+        (place_asked (names_of loaded.old.assembly) (trace_view words.now).from)
+        (place_asked (names_of loaded.old.assembly) (trace_view words.now).to)
+        words.now.steps loaded.old.session (R.remaining input.old) (R.remaining input.new) result
+        ((input.new ≡ input.old) × (output.new ≡ output.old)) }
+{
+    let from = match place_named(loaded, words.from, errors) {
+        Ok(from) => from,
+        Err(status) => return status,
+    };
+    let to = match place_named(loaded, words.to, errors) {
+        Ok(to) => to,
+        Err(status) => return status,
+    };
+    let span = Span {
+        from,
+        to,
+        limit: words.steps,
+    };
+    trace_told(rt, words, loaded, span, input, output, errors)
 }
 
 /// Loads the file of the words and traces it, and returns the exit status.
@@ -181,25 +370,16 @@ fn trace_words<H: Files + AllocGlobal, R: Read, O: Write, E: Write>(
     input: &mut R,
     output: &mut O,
     errors: &mut E,
-) -> u8 {
-    let mut loaded = match load_at_start(rt, &words.file) {
-        Ok(loaded) => loaded,
-        Err(fault) => return fault.tell(words.file.file, errors),
-    };
-    let from = match place_named(&loaded, words.from, errors) {
-        Ok(from) => from,
-        Err(status) => return status,
-    };
-    let to = match place_named(&loaded, words.to, errors) {
-        Ok(to) => to,
-        Err(status) => return status,
-    };
-    match trace_between(rt, words, &mut loaded, from, to, input, output, errors) {
-        Ok(played) => {
-            tell_ending(played, loaded.session.regs().pc, errors);
-            status_of_ending(played.ending, 0)
+) -> u8
+    ensures { IsDone (trace_view words.now) (R.remaining input.old) (R.remaining input.new) result
+        ((input.new ≡ input.old) × (output.new ≡ output.old)) }
+{
+    match load_at_start(rt, &words.file) {
+        Ok(loaded) => {
+            let mut loaded = loaded;
+            trace_loaded(rt, words, &mut loaded, input, output, errors)
         }
-        Err(refusal) => refuse(refusal, errors),
+        Err(fault) => fault.tell(words.file.file, errors),
     }
 }
 
@@ -213,7 +393,28 @@ pub fn trace_program<H: Files + AllocGlobal, R: Read, O: Write, E: Write>(
     input: &mut R,
     output: &mut O,
     errors: &mut E,
-) -> u8 {
+) -> u8
+    // Words that fit the command line, with right values: their file was loaded and traced by the
+    // definition of a trace, or it was not and the streams are unchanged, as the status says.
+    ensures done { (a : TraceAsked) → asked (map (λ s. s.now) words.entry.now) ≡ Some a
+        → IsTakenBy trace (map (λ s. s.now) words.entry.now)
+        → IsDone a (R.remaining input.old) (R.remaining input.new) result
+        ((input.new ≡ input.old) × (output.new ≡ output.old)) }
+    // Other words read nothing, and write nothing on the output but help.
+    ensures untaken { ¬ IsTakenBy trace (map (λ s. s.now) words.entry.now)
+        → (input.new ≡ input.old) × (1 ≤ result → result ≤ 3 → output.new ≡ output.old) }
+    ensures unasked { asked (map (λ s. s.now) words.entry.now) ≡ None
+        → (input.new ≡ input.old) × (1 ≤ result → result ≤ 3 → output.new ≡ output.old) }
+    // Words that fit nothing have the status 2, unless they ask for help or memory runs out; help
+    // that is asked for has 0 if it was written.
+    ensures usage { ¬ IsTakenBy trace (map (λ s. s.now) words.entry.now) → ¬ IsAmong DisplayHelp
+        (fault_of trace (map (λ s. s.now) words.entry.now)) → (result ≡ 2) ⊎ (result ≡ 3) }
+    ensures help { fault_of trace (map (λ s. s.now) words.entry.now) ≡ DisplayHelp ∷ []
+        → (result ≡ 0) ⊎ (result ≡ 3) ⊎ (result ≡ 4) }
+    // A wrong value has the status 2, unless memory runs out.
+    ensures value { IsTakenBy trace (map (λ s. s.now) words.entry.now)
+        → asked (map (λ s. s.now) words.entry.now) ≡ None → (result ≡ 2) ⊎ (result ≡ 3) }
+{
     match read_words(rt.alloc(), words) {
         Ok(words) => trace_words(rt, &words, input, output, errors),
         Err(fault) => refused_words(fault, output, errors),

@@ -1,5 +1,16 @@
+use Rattle.std.proofs.Common.{List, ℕ}
+use Rattle.std.specs.Io.KnownBytes.{Consumes}
+use Rattle.console.proofs.Turning.{RunsOn}
 use Rattle.console.specs.Taking.{Waits}
+use Rattle.console.specs.Turns.{EndsOnce}
+use Rattle.tracing.specs.Traces.{EndsAt}
 use Rattle.tracing.proofs.trace.run_noting.Given as goal
 
 abbrev pub invariant-loop-steps : goal.invariant-loop-steps
-invariant-loop-steps g l = Waits l.session.current l.player.waiting
+invariant-loop-steps g l = (told : List ℕ) × record {
+  consumes : Consumes (g.R.Read.remaining l.fn.input) (g.R.Read.remaining l.input) told;
+  once : EndsOnce l.fn.player.is_over l.player.is_over told;
+  waits : Waits l.session.current l.player.waiting;
+  over : EndsAt l.player.is_over (g.R.Read.remaining l.input);
+  runs : RunsOn l.fn.to l.fn.limit l.fn.session l.fn.player.memo told l.player.is_over l.steps l.session l.player.memo;
+}

@@ -1,0 +1,91 @@
+use Rattle.std.proofs.Common.{◌≡◌, ◌+◌, ◌++◌, [], true, false, Some, None, arith, refl, sym, ◌∙◌}
+use Rattle.std.proofs.KnownBytes.{Consumes-nil, Consumes-trans}
+use Rattle.console.specs.Playing.{is_at}
+use Rattle.console.proofs.Turning.{ends_at, ends_full, ends_with, runs_none, runs_on, still_over}
+use Rattle.tracing.proofs.Going.{once_both, once_none}
+use Rattle.tracing.proofs.trace.run_noting.Goals as goal
+
+pub loop-steps-init : goal.loop-steps-init
+loop-steps-init g c = (
+  [],
+  record {
+    consumes = Consumes-nil _;
+    once = once_none c.args.player.now.is_over;
+    waits = c.requires.waits;
+    over = c.requires.over;
+    runs = runs_none c.args.to c.args.limit c.args.session.now c.args.player.now.memo c.args.player.now.is_over;
+  },
+)
+
+pub returns-in-Ok-Some-clause-ok : goal.returns-in-Ok-Some-clause-ok
+returns-in-Ok-Some-clause-ok g c =
+    let inv = c.loop-steps.invariant in
+    let l = c.loop-steps in
+    let turn = rw c.in-Ok-Some.field-0-is at c.in-Ok-Some.ensures.ok in
+    let u = c.take_turn.new.session in
+    let p = c.take_turn.new.player in record {
+      told = inv.0 ++ turn.0;
+      consumes = Consumes-trans _ _ _ inv.0 turn.0 inv.1.consumes turn.1;
+      once = once_both c.args.player.now.is_over l.player.is_over p.is_over inv.0 turn.0 inv.1.once turn.3;
+      leads = ends_with c.args.to c.args.limit c.args.session.now c.args.player.now.memo inv.0 l.player.is_over l.steps l.session l.player.memo inv.1.runs c.loop-steps-test.true
+          turn.0 p.is_over (Some c.in-Ok-Some.ending) u p.memo turn.3 turn.4 c.in-Ok-Some.ending refl;
+    }
+
+pub returns-in-Ok-Some-clause-over : goal.returns-in-Ok-Some-clause-over
+returns-in-Ok-Some-clause-over g c =
+    let inv = c.loop-steps.invariant in
+    let turn = rw c.in-Ok-Some.field-0-is at c.in-Ok-Some.ensures.ok in
+    still_over c.loop-steps.player.is_over c.take_turn.new.player.is_over _ _ turn.2 inv.1.over
+
+pub returns-then-is_at-clause-ok : goal.returns-then-is_at-clause-ok
+returns-then-is_at-clause-ok g c =
+    let inv = c.loop-steps.invariant in
+    let l = c.loop-steps in
+    let turn = rw c.in-Ok-None.field-0-is at c.in-Ok-None.ensures.ok in
+    let u = c.take_turn.new.session in
+    let p = c.take_turn.new.player in
+    let at' : is_at c.args.to u.current ≡ true = sym c.is_at.ensures ∙ c.if-is_at.true in record {
+      told = inv.0 ++ turn.0;
+      consumes = Consumes-trans _ _ _ inv.0 turn.0 inv.1.consumes turn.1;
+      once = once_both c.args.player.now.is_over l.player.is_over p.is_over inv.0 turn.0 inv.1.once turn.3;
+      leads = ends_at c.args.to c.args.limit c.args.session.now c.args.player.now.memo inv.0 l.player.is_over l.steps l.session l.player.memo inv.1.runs c.loop-steps-test.true
+          turn.0 p.is_over None u p.memo turn.3 turn.4 refl at';
+    }
+
+pub returns-then-is_at-clause-over : goal.returns-then-is_at-clause-over
+returns-then-is_at-clause-over g c =
+    let inv = c.loop-steps.invariant in
+    let turn = rw c.in-Ok-None.field-0-is at c.in-Ok-None.ensures.ok in
+    still_over c.loop-steps.player.is_over c.take_turn.new.player.is_over _ _ turn.2 inv.1.over
+
+pub loop-steps-preserved : goal.loop-steps-preserved
+loop-steps-preserved g c =
+    let inv = c.loop-steps.invariant in
+    let l = c.loop-steps in
+    let turn = rw c.in-Ok-None.field-0-is at c.in-Ok-None.ensures.ok in
+    let u = c.take_turn.new.session in
+    let p = c.take_turn.new.player in
+    let off : is_at c.args.to u.current ≡ false = sym c.is_at.ensures ∙ c.if-is_at.false in (
+      inv.0 ++ turn.0,
+      record {
+        consumes = Consumes-trans _ _ _ inv.0 turn.0 inv.1.consumes turn.1;
+        once = once_both c.args.player.now.is_over l.player.is_over p.is_over inv.0 turn.0 inv.1.once turn.3;
+        waits = c.in-Ok-None.ensures.waits;
+        over = still_over l.player.is_over p.is_over _ _ turn.2 inv.1.over;
+        runs = runs_on c.args.to c.args.limit c.args.session.now c.args.player.now.memo inv.0 l.player.is_over l.steps l.session l.player.memo inv.1.runs c.loop-steps-test.true
+            turn.0 p.is_over None u p.memo turn.3 turn.4 refl off;
+      },
+    )
+
+pub returns-clause-ok : goal.returns-clause-ok
+returns-clause-ok g c =
+    let inv = c.loop-steps.invariant in
+    let l = c.loop-steps in record {
+      told = inv.0;
+      consumes = inv.1.consumes;
+      once = inv.1.once;
+      leads = ends_full c.args.to c.args.limit c.args.session.now c.args.player.now.memo inv.0 l.player.is_over l.steps l.session l.player.memo inv.1.runs (omega (arith, c.loop-steps-test.false)) (omega (arith, c.loop-steps.auto.steps-end));
+    }
+
+pub returns-clause-over : goal.returns-clause-over
+returns-clause-over g c = c.loop-steps.invariant.1.over

@@ -1,0 +1,25 @@
+use Rattle.std.proofs.Common.{◌≡◌, refl}
+use Rattle.loading.specs.Place.{names_of}
+use Rattle.running.specs.Places.{place_asked}
+use Rattle.trace_words.specs.Views.{trace_view}
+use Rattle.tracing.proofs.Done.{traced_between, unfound_from, unfound_to}
+use Rattle.tracing.proofs.trace.trace_loaded.Goals as goal
+
+pub returns-in-Err : goal.returns-in-Err
+returns-in-Err g c =
+    let names = names_of c.args.loaded.now.assembly in let a = trace_view c.args.words.now in
+    unfound_from (place_asked names a.from) (place_asked names a.to) c.args.words.now.steps c.args.loaded.now.session (g.R.Read.remaining c.args.input.now) (g.R.Read.remaining c.args.input.now)
+    c.in-Err.status ((c.args.input.now ≡ c.args.input.now) × (c.args.output.now ≡ c.args.output.now)) c.in-Err.ensures.place (refl, refl)
+
+pub returns-in-Err-place_named : goal.returns-in-Err-place_named
+returns-in-Err-place_named g c =
+    let names = names_of c.args.loaded.now.assembly in let a = trace_view c.args.words.now in
+    unfound_to c.in-Ok.from (place_asked names a.from) (place_asked names a.to) c.args.words.now.steps c.args.loaded.now.session (g.R.Read.remaining c.args.input.now) (g.R.Read.remaining c.args.input.now)
+    c.in-Err-place_named.status ((c.args.input.now ≡ c.args.input.now) × (c.args.output.now ≡ c.args.output.now)) c.in-Ok.ensures.place c.in-Err-place_named.ensures.place (refl, refl)
+
+pub returns : goal.returns
+returns g c =
+    let names = names_of c.args.loaded.now.assembly in let a = trace_view c.args.words.now in
+    traced_between c.in-Ok.from c.in-Ok-place_named.to (place_asked names a.from) (place_asked names a.to) c.args.words.now.steps c.args.loaded.now.session
+    (g.R.Read.remaining c.args.input.now) (g.R.Read.remaining c.trace_told.new.input) c.trace_told.result
+    ((c.trace_told.new.input ≡ c.args.input.now) × (c.trace_told.new.output ≡ c.args.output.now)) c.in-Ok.ensures.place c.in-Ok-place_named.ensures.place c.trace_told.ensures
