@@ -1,8 +1,8 @@
 -- Words read one after another.
-use Rattle.std.proofs.Common.{◌≡◌, ℕ, suc, ◌+◌, ◌<◌, ◌≤◌, List, [], ◌∷◌, ◌++◌, length, map, Option, Some, None, refl, sym, ap, ◌∙◌, arith, append_assoc, append-nil, drop, drop-cons, add-one, get_or}
+use Rattle.std.proofs.Common.{◌≡◌, ℕ, suc, ◌+◌, ◌<◌, ◌≤◌, List, [], ◌∷◌, ◌++◌, length, map, Option, Some, None, refl, sym, ap, ◌∙◌, append_assoc, append-nil, drop, drop-cons, add-one, get_or}
 use Rattle.std.specs.Prelude.{option_map}
 use Rattle.std.proofs.Math.ListN.{drop_of_length-le}
-use Rattle.dis_source.specs.Asked.{all_of, before_all}
+use Rattle.dis_source.specs.Asked.{all_of}
 
 -- what was read comes before what is left
 abbrev pub Reads : {A W : Type 0} → (W → List ℕ) → (List ℕ → Option A) → List W → ℕ → List A → Type 0

@@ -1,11 +1,13 @@
 //! What the words ask for.
-ghost use Rattle.std.specs.Prelude.{◌≡◌, IfOk, map, option_map};
+ghost use Rattle.std.specs.Prelude.{◌≡◌, IfErr, IfOk, None, Some, map, option_map};
 ghost use Rattle.clap.specs.Words.{first_value, found_of};
 ghost use Rattle.dis_source.specs.Asked.{addresses_of, all_of, all_values, bounds_asked};
 ghost use Rattle.dis_source.specs.Asked.{follow_asked, range_of, ranges_asked};
 ghost use Rattle.dis_source.specs.Asked.{source_asked};
+ghost use Rattle.dis_source.specs.CommandLine.{dis, words_asked};
 ghost use Rattle.dis_source.specs.Views.{source_view};
 ghost use Rattle.model.specs.Commands.{address_of};
+ghost use Rattle.word_streams.specs.Words.{Fits, IsRefusalOf};
 
 use crate::command::command;
 use clap::ArgMatches;
@@ -193,7 +195,13 @@ fn source_words<'a>(
 pub fn read_source_words<'a>(
     alloc: Global,
     words: &'a [&'a str],
-) -> Result<SourceWords<'a>, WordsFault> {
+) -> Result<SourceWords<'a>, WordsFault>
+    ensures asked { IfOk result
+        (λ w. words_asked (map (λ s. s.now) words.entry.now) ≡ Some (source_view w)) }
+    ensures taken { IfOk result (λ w. Fits dis (map (λ s. s.now) words.entry.now)) }
+    ensures refused { IfErr result (IsRefusalOf dis (map (λ s. s.now) words.entry.now)
+        (words_asked (map (λ s. s.now) words.entry.now) ≡ None)) }
+{
     let matches = command(alloc)?.try_get_matches_from(words)?;
     match source_words(alloc, &matches) {
         Ok(Some(words)) => Ok(words),

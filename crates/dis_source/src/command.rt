@@ -1,18 +1,41 @@
 //! The command line as `clap` is told of it.
 
+ghost use Rattle.std.specs.Prelude.{◌≡◌, IfErr, IfOk, false};
+ghost use Rattle.clap.specs.Words.{app_of, kind_of, rule_of};
+ghost use Rattle.dis_source.specs.CommandLine.{bound_rule, dis, list_rule};
+ghost use Rattle.program_words.specs.CommandLine.{file_rule, flag_rule, option_rule};
+
+use clap::error::ErrorKind;
 use clap::{Arg, ArgAction, Command, Error};
 use std::alloc::Global;
 
-/// A word.
-fn word<'a>(alloc: Global, name: &'a str, required: bool, help: &'a str) -> Arg<'a> {
+/// A word that has to be there.
+fn word<'a>(alloc: Global, name: &'a str, help: &'a str) -> Arg<'a>
+    ensures rule { rule_of result ≡ file_rule name.entry.now }
+    ensures local { result.global ≡ false }
+{
     Arg::new(alloc, name)
-        .required(required)
+        .required(true)
+        .action(ArgAction::Set)
+        .help(help)
+}
+
+/// A word that may be left out.
+fn bound<'a>(alloc: Global, name: &'a str, help: &'a str) -> Arg<'a>
+    ensures rule { rule_of result ≡ bound_rule name.entry.now }
+    ensures local { result.global ≡ false }
+{
+    Arg::new(alloc, name)
+        .required(false)
         .action(ArgAction::Set)
         .help(help)
 }
 
 /// An option with one value.
-fn option<'a>(alloc: Global, name: &'a str, value: &'a str, help: &'a str) -> Arg<'a> {
+fn option<'a>(alloc: Global, name: &'a str, value: &'a str, help: &'a str) -> Arg<'a>
+    ensures rule { rule_of result ≡ option_rule name.entry.now }
+    ensures local { result.global ≡ false }
+{
     Arg::new(alloc, name)
         .long(name)
         .value_name(value)
@@ -21,7 +44,10 @@ fn option<'a>(alloc: Global, name: &'a str, value: &'a str, help: &'a str) -> Ar
 }
 
 /// An option with several values, which can be said more than once.
-fn list<'a>(alloc: Global, name: &'a str, value: &'a str, least: usize, help: &'a str) -> Arg<'a> {
+fn list<'a>(alloc: Global, name: &'a str, value: &'a str, least: usize, help: &'a str) -> Arg<'a>
+    ensures rule { rule_of result ≡ list_rule least name.entry.now }
+    ensures local { result.global ≡ false }
+{
     Arg::new(alloc, name)
         .long(name)
         .value_name(value)
@@ -31,7 +57,10 @@ fn list<'a>(alloc: Global, name: &'a str, value: &'a str, least: usize, help: &'
 }
 
 /// An option without a value.
-fn flag<'a>(alloc: Global, name: &'a str, help: &'a str) -> Arg<'a> {
+fn flag<'a>(alloc: Global, name: &'a str, help: &'a str) -> Arg<'a>
+    ensures rule { rule_of result ≡ flag_rule name.entry.now }
+    ensures local { result.global ≡ false }
+{
     Arg::new(alloc, name)
         .long(name)
         .action(ArgAction::SetTrue)
@@ -40,7 +69,10 @@ fn flag<'a>(alloc: Global, name: &'a str, help: &'a str) -> Arg<'a> {
 
 /// Returns the command line of `dis` with `--source`. The only error is that a request for memory
 /// was refused.
-pub fn command<'a>(alloc: Global) -> Result<Command<'a>, Error> {
+pub fn command<'a>(alloc: Global) -> Result<Command<'a>, Error>
+    ensures shape { IfOk result (λ c. app_of c ≡ dis) }
+    ensures memory { IfErr result (λ e. kind_of e ≡ ErrorKind.OutOfMemory) }
+{
     let data = "Addresses of numbers [default: none]";
     let text = "Addresses of letters [default: none]";
     let follow = "Code is what control reaches from here, or from the vectors; the rest is data";
@@ -50,9 +82,9 @@ pub fn command<'a>(alloc: Global) -> Result<Command<'a>, Error> {
         .after_help("Example:\n  mos65 dis hello.tape --source --text 0210-021C > hello.a65")
         .no_binary_name(true)
         .bin_name("mos65 dis")?
-        .arg(word(alloc, "TAPE", true, "The tape to read"))?
-        .arg(word(alloc, "LO", false, "The first address [default: 0000]"))?
-        .arg(word(alloc, "HI", false, "The last address [default: FFFF]"))?
+        .arg(word(alloc, "TAPE", "The tape to read"))?
+        .arg(bound(alloc, "LO", "The first address [default: 0000]"))?
+        .arg(bound(alloc, "HI", "The last address [default: FFFF]"))?
         .arg(flag(
             alloc,
             "source",

@@ -1,6 +1,7 @@
 //! Why no source is written.
-ghost use Rattle.std.specs.Prelude.{◌≡◌};
+ghost use Rattle.std.specs.Prelude.{◌≡◌, ◌⊎◌};
 ghost use Rattle.dis_source.specs.Statuses.{status_of};
+ghost use Rattle.dis_source.specs.Word.{unread_of};
 
 use model::{AsmFault, TapeFault, TapeFaultKind};
 use papertape::TapeReadFault;
@@ -46,7 +47,9 @@ impl Refusal {
     }
 
     /// Returns why a file could not be opened.
-    pub fn unreadable(error: &io::Error) -> Refusal {
+    pub fn unreadable(error: &io::Error) -> Refusal
+        ensures { (result ≡ Refusal.OutOfMemory) ⊎ (result ≡ Refusal.Read) }
+    {
         match error.kind() {
             ErrorKind::OutOfMemory => Refusal::OutOfMemory,
             _ => Refusal::Read,
@@ -54,7 +57,9 @@ impl Refusal {
     }
 
     /// Returns why a tape was not read.
-    pub fn unread(fault: TapeReadFault) -> Refusal {
+    pub fn unread(fault: TapeReadFault) -> Refusal
+        ensures { result ≡ unread_of fault }
+    {
         match fault {
             TapeReadFault::Read => Refusal::Read,
             TapeReadFault::Tape(fault) => match fault.kind {

@@ -1,6 +1,12 @@
 //! The source of a tape, written.
-ghost use Rattle.std.specs.Prelude.{◌≡◌, ◌≤◌, Err, OnErr};
+ghost use Rattle.std.specs.Prelude.{◌≡◌, ◌≢◌, ◌≤◌, ◌⊎◌, ℕ, List, IfErr, IfOk, None, map, true};
+ghost use Rattle.dis_source.specs.CommandLine.{Asks, dis, words_asked};
 ghost use Rattle.dis_source.specs.Statuses.{status_of};
+ghost use Rattle.dis_source.specs.Views.{source_view};
+ghost use Rattle.dis_source.specs.Word.{EndsSource, HasNamesFault, HasTapeFault, IsSaid, IsSource};
+ghost use Rattle.model.specs.TapePieces.{IsReadInPieces};
+ghost use Rattle.word_streams.specs.Streams.{Tells, TellsFront};
+ghost use Rattle.word_streams.specs.Words.{AsksForHelp, Fits, IsStatusOf, Misfits};
 
 use crate::asked::{SourceWords, read_source_words};
 use crate::refusal::Refusal;
@@ -14,6 +20,7 @@ use std::fs::File;
 use std::io;
 use std::io::{Read, Write};
 use std::rt::Files;
+use word_streams::write_text;
 
 /// One byte more than the longest source.
 const MOST_READ: u64 = 1_048_577;
@@ -27,48 +34,65 @@ fn read_source<H: Files + AllocGlobal>(rt: &H, path: &str) -> io::Result<Vec<u8>
     Ok(source)
 }
 
-/// The image of a tape's file. The tape is read in pieces.
-fn image_of<H: Files + AllocGlobal>(rt: &H, path: &str) -> Result<Image, Refusal> {
-    let mut tape = File::open(rt, path).map_err(|error| Refusal::unreadable(&error))?;
+/// The image of the tape's file of the words. The tape is read in pieces.
+fn image_of<H: Files + AllocGlobal>(rt: &H, words: &SourceWords<'_>) -> Result<Image, Refusal>
+    ensures found { IfOk result (λ image. (tape : List ℕ) × IsReadInPieces tape image) }
+    ensures refused { IfErr result (EndsSource words.now.profile) }
+{
+    let mut tape = File::open(rt, words.tape).map_err(|error| Refusal::unreadable(&error))?;
     match read_tape_from(rt.alloc(), &mut tape) {
         Ok(image) => Ok(image),
         Err(fault) => Err(Refusal::unread(fault)),
     }
 }
 
-/// What the source defines that has the names for addresses.
+/// What the source defines that has the names for addresses, if there is one.
 fn names_of<H: Files + AllocGlobal>(
     rt: &H,
     profile: Profile,
-    path: &str,
-) -> Result<Assembly, Refusal> {
-    let source = read_source(rt, path).map_err(|error| Refusal::unreadable(&error))?;
-    defined(rt.alloc(), profile, source.as_slice())
-}
-
-/// The source of what a tape's file has between the addresses of the words, with the words' marks.
-fn text_of<H: Files + AllocGlobal>(rt: &H, words: &SourceWords<'_>) -> Result<Vec<u8>, Refusal> {
-    let image = image_of(rt, words.tape)?;
-    let names = match words.symbols {
-        None => None,
-        Some(path) => Some(names_of(rt, words.profile, path)?),
+    path: Option<&str>,
+) -> Result<Option<Assembly>, Refusal>
+    ensures refused { IfErr result (EndsSource profile) }
+{
+    let Some(path) = path else {
+        return Ok(None);
     };
-    match written(rt.alloc(), words, &image, names.as_ref()) {
-        Ok(text) => Ok(text),
-        Err(_) => Err(Refusal::OutOfMemory),
+    match read_source(rt, path) {
+        Ok(source) => match defined(rt.alloc(), profile, source.as_slice()) {
+            Ok(names) => Ok(Some(names)),
+            Err(refusal) => Err(refusal),
+        },
+        Err(error) => Err(Refusal::unreadable(&error)),
     }
 }
 
-/// Writes a text and flushes it.
-fn write_text<O: Write>(output: &mut O, text: &[u8]) -> Result<(), Refusal>
-    ensures { OnErr result (result ≡ Err Refusal.Write) }
+/// The source of what an image has between the addresses of the words, with the words' marks.
+fn source_of<H: Files + AllocGlobal>(
+    rt: &H,
+    words: &SourceWords<'_>,
+    image: &Image,
+) -> Result<Vec<u8>, Refusal>
+    requires { (tape : List ℕ) × IsReadInPieces tape image.now }
+    ensures source { IfOk result (λ text. IsSource (source_view words.now) text.items) }
+    ensures refused { IfErr result (EndsSource words.now.profile) }
 {
-    match output.write_all(text) {
-        Ok(()) => match output.flush() {
-            Ok(()) => Ok(()),
-            Err(_) => Err(Refusal::Write),
+    match names_of(rt, words.profile, words.symbols) {
+        Ok(names) => match written(rt.alloc(), words, image, names.as_ref()) {
+            Ok(text) => Ok(text),
+            Err(_) => Err(Refusal::OutOfMemory),
         },
-        Err(_) => Err(Refusal::Write),
+        Err(refusal) => Err(refusal),
+    }
+}
+
+/// The source of what a tape's file has between the addresses of the words, with the words' marks.
+fn text_of<H: Files + AllocGlobal>(rt: &H, words: &SourceWords<'_>) -> Result<Vec<u8>, Refusal>
+    ensures source { IfOk result (λ text. IsSource (source_view words.now) text.items) }
+    ensures refused { IfErr result (EndsSource words.now.profile) }
+{
+    match image_of(rt, words) {
+        Ok(image) => source_of(rt, words, &image),
+        Err(refusal) => Err(refusal),
     }
 }
 
@@ -83,6 +107,7 @@ fn refuse<E: Write>(refusal: Refusal, errors: &mut E) -> u8
 /// Says why the words are refused, or gives the help that they ask for, and gives the exit status.
 fn refused_words<O: Write, E: Write>(fault: WordsFault, output: &mut O, errors: &mut E) -> u8
     ensures status { result ≤ 4 }
+    ensures why { IsStatusOf fault result }
     ensures untouched { 1 ≤ result → result ≤ 3 → output.new ≡ output.old }
     ensures quiet { result ≡ 0 → errors.new ≡ errors.old }
 {
@@ -100,13 +125,24 @@ fn refused_words<O: Write, E: Write>(fault: WordsFault, output: &mut O, errors: 
     }
 }
 
-/// Writes what was made, or says why there is nothing, and gives the exit status.
-fn finish<O: Write, E: Write>(text: Result<Vec<u8>, Refusal>, output: &mut O, errors: &mut E) -> u8
+/// Writes the source that the words ask for, or says why there is none, and gives the exit status.
+fn done<H: Files + AllocGlobal, O: Write, E: Write>(
+    rt: &H,
+    words: &SourceWords<'_>,
+    output: &mut O,
+    errors: &mut E,
+) -> u8
     ensures status { result ≤ 4 }
     ensures untouched { 1 ≤ result → result ≤ 3 → output.new ≡ output.old }
     ensures quiet { result ≡ 0 → errors.new ≡ errors.old }
+    ensures done { result ≡ 0 → Tells (IsSaid (source_view words.now)) true
+        (O.contents output.old) (O.contents output.new) }
+    ensures wrong { result ≡ 1 → HasTapeFault ⊎ HasNamesFault words.now.profile }
+    ensures never { result ≢ 2 }
+    ensures begun { result ≡ 4 → TellsFront (IsSaid (source_view words.now))
+        (O.contents output.old) (O.contents output.new) ⊎ (output.new ≡ output.old) }
 {
-    match text {
+    match text_of(rt, words) {
         Ok(text) => match write_text(output, text.as_slice()) {
             Ok(()) => 0,
             Err(_) => refuse(Refusal::Write, errors),
@@ -132,9 +168,25 @@ pub fn dis_source<H: Files + AllocGlobal, O: Write, E: Write>(
     // A tape or words that are refused leave the output as it was, and so it is where memory ran
     // out.
     ensures untouched { 1 ≤ result → result ≤ 3 → output.new ≡ output.old }
+    // 0 means that a source was written of what some tape has between the addresses of the words, or
+    // the help that is asked for.
+    ensures done { result ≡ 0 → AsksForHelp dis (map (λ s. s.now) words.entry.now)
+        ⊎ Asks (map (λ s. s.now) words.entry.now) (λ asked. Tells (IsSaid asked) true
+        (O.contents output.old) (O.contents output.new)) }
+    // 1 means that some tape has a fault, or some source of names for the words' processor.
+    ensures wrong { result ≡ 1 → Asks (map (λ s. s.now) words.entry.now)
+        (λ asked. HasTapeFault ⊎ HasNamesFault asked.profile) }
+    // 2 means that the words do not fit, or that a value is wrong.
+    ensures refused { result ≡ 2 → Misfits dis (map (λ s. s.now) words.entry.now)
+        ⊎ (Fits dis (map (λ s. s.now) words.entry.now)
+        × (words_asked (map (λ s. s.now) words.entry.now) ≡ None)) }
+    // 4 means that a beginning of such a source was written, or nothing; or help is asked for.
+    ensures begun { result ≡ 4 → AsksForHelp dis (map (λ s. s.now) words.entry.now)
+        ⊎ Asks (map (λ s. s.now) words.entry.now) (λ asked. TellsFront (IsSaid asked)
+        (O.contents output.old) (O.contents output.new) ⊎ (output.new ≡ output.old)) }
 {
     match read_source_words(rt.alloc(), words) {
-        Ok(words) => finish(text_of(rt, &words), output, errors),
+        Ok(words) => done(rt, &words, output, errors),
         Err(fault) => refused_words(fault, output, errors),
     }
 }

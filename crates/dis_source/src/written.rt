@@ -1,6 +1,7 @@
 //! The source that the words ask for.
 
-ghost use Rattle.std.specs.Prelude.{◌≡◌, IfOk, false};
+ghost use Rattle.std.specs.Prelude.{◌≡◌, IfErr, IfOk, false};
+ghost use Rattle.dis_source.specs.Word.{EndsSource};
 ghost use Rattle.dis_source.specs.Written.{IsSourceOfPart};
 ghost use Rattle.model.specs.Source.{Denotes};
 ghost use Rattle.model.specs.State.{Map, has_port_byte};
@@ -19,7 +20,10 @@ use std::alloc::{AllocError, Global};
 
 /// Returns what a source with names for addresses defines. Its fault, or that memory ran out, is
 /// why not.
-pub fn defined(alloc: Global, profile: Profile, source: &[u8]) -> Result<Assembly, Refusal> {
+#[tactic(auto, unfolding(model::specs::State::is_map))]
+pub fn defined(alloc: Global, profile: Profile, source: &[u8]) -> Result<Assembly, Refusal>
+    ensures refused { IfErr result (EndsSource profile) }
+{
     let Ok(map) = MapSpec::new(None, 0xf000) else {
         return Err(Refusal::Words);
     };

@@ -1,0 +1,57 @@
+-- What `dis --source` has done. Source: mos65. No clause can say what a file has.
+use Rattle.std.specs.Prelude.{◌≡◌, ⊤, ℕ, Bool, List, Option}
+use Rattle.dis_source.specs.Asked.{SourceAsked}
+use Rattle.dis_source.specs.Written.{IsSourceOfPart}
+use Rattle.dis_source.specs.declared.refusal.Refusal.{Refusal}
+use Rattle.dis_source.specs.declared.refusal.Refusal.TheVariants.{Words, Tape, Symbols, OutOfMemory, Read, Write}
+use Rattle.model.specs.Source.{HasFault}
+use Rattle.model.specs.State.{Map}
+use Rattle.model.specs.TapePieces.{IsReadInPieces, IsRefusedInPieces}
+use Rattle.model.specs.declared.source_fault.AsmFault.{AsmFault}
+use Rattle.model.specs.declared.instruction.Profile.{Profile}
+use Rattle.model.specs.declared.tape.TapeFault.{TapeFault}
+use Rattle.model.specs.declared.tape.TapeFaultKind.{TapeFaultKind}
+use Rattle.model.specs.declared.tape.TapeFaultKind.TheVariants as kind
+use Rattle.papertape.specs.declared.stream.TapeReadFault.{TapeReadFault}
+use Rattle.papertape.specs.declared.stream.TapeReadFault.TheVariants as stream
+
+-- A text is a source of what some tape has between the addresses that are asked for.
+pub record IsSource (asked : SourceAsked) (text : List ℕ) : Type 0 where
+  pub tape : List ℕ
+  pub image : List (Option ℕ)
+  pub read : IsReadInPieces tape image
+  pub written : IsSourceOfPart asked.profile image asked.first asked.last text
+
+abbrev pub IsSaid : SourceAsked → Bool → List ℕ → Type 0
+IsSaid asked is_right text = IsSource asked text
+
+-- The refusal of a tape that is not read: memory that ran out is no fault of the tape.
+abbrev pub of_kind : TapeFaultKind → TapeFault → Refusal
+of_kind kind.OutOfMemory fault = OutOfMemory
+of_kind other fault = Tape fault
+
+abbrev pub unread_of : TapeReadFault → Refusal
+unread_of stream.Read = Read
+unread_of (stream.Tape fault) = of_kind fault.kind fault
+
+-- Some tape has a fault.
+abbrev pub HasTapeFault : Type 0
+HasTapeFault = (fault : TapeFault) × ((text : List ℕ) × IsRefusedInPieces text fault)
+
+-- Some source has this fault, for a processor.
+abbrev pub IsNamesFault : Profile → AsmFault → Type 0
+IsNamesFault profile fault = (bus_map : Map) × (bus_map.profile ≡ profile)
+    × ((source : List ℕ) × HasFault bus_map source fault)
+
+abbrev pub HasNamesFault : Profile → Type 0
+HasNamesFault profile = (fault : AsmFault) × IsNamesFault profile fault
+
+-- Why there is no source: some tape has this fault, or some source of names has. No clause can say
+-- whether memory is there, or a file can be read.
+abbrev pub EndsSource : Profile → Refusal → Type 0
+EndsSource profile Words = ⊥
+EndsSource profile (Tape fault) = (text : List ℕ) × IsRefusedInPieces text fault
+EndsSource profile (Symbols fault) = IsNamesFault profile fault
+EndsSource profile OutOfMemory = ⊤
+EndsSource profile Read = ⊤
+EndsSource profile Write = ⊥
