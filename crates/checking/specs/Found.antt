@@ -1,5 +1,5 @@
 -- What `check` finds of a source, and what it writes of it. Source: mos65.
-use Rattle.std.specs.Prelude.{◌≡◌, ⊤, ℕ, ◌==◌, ◌&&◌, ◌||◌, Bool, not, false, List, Option, Some, None, length}
+use Rattle.std.specs.Prelude.{◌≡◌, ⊤, ℕ, ◌==◌, ◌&&◌, ◌||◌, Bool, not, false, List, Some, None, length}
 use Rattle.checking.specs.Checked.{IsCheckedText}
 use Rattle.checking.specs.CommandLine.{CheckAsked, check, check_asked, map_asked}
 use Rattle.checking.specs.declared.refusal.Refusal.{Refusal}
