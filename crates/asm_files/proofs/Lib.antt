@@ -1,3 +1,5 @@
 pub mod Ends
 pub mod Laid
 pub mod Rows
+pub mod Read
+pub mod Said

@@ -1,6 +1,6 @@
 -- What the words of `asm` with `--symbols` or `--map` ask for, and which words these are. Source:
 -- mos65.
-use Rattle.std.specs.Prelude.{ℕ, Bool, true, false, List, [], ◌∷◌, Option, Some, None, codes, ◌==◌, ◌||◌, if◌then◌else◌, is_some, not, ◌&&◌}
+use Rattle.std.specs.Prelude.{ℕ, Bool, false, List, [], ◌∷◌, Option, Some, None, codes, ◌==◌, ◌||◌, if◌then◌else◌, is_some, not, ◌&&◌}
 use Rattle.std.specs.List.{starts_with}
 use Rattle.std.specs.Str.{bytes_eq}
 use Rattle.clap.specs.Words.{Text}

@@ -1,4 +1,5 @@
 pub mod Asked
+pub mod CommandLine
 pub mod Found
 pub mod Texts
 pub mod Views

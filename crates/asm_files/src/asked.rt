@@ -1,11 +1,13 @@
 //! What the words ask for.
 
-ghost use Rattle.std.specs.Prelude.{◌≡◌, option_map};
+ghost use Rattle.std.specs.Prelude.{◌≡◌, IfErr, IfOk, None, Some, map, option_map};
 ghost use Rattle.asm_files.specs.Asked.{files_asked, format_asked, is_used, is_wrong};
+ghost use Rattle.asm_files.specs.CommandLine.{asm, words_asked};
 ghost use Rattle.asm_files.specs.Views.{files_view};
 ghost use Rattle.clap.specs.Words.{first_value, found_of};
 ghost use Rattle.program_words.specs.Asked.{asm_asked, is_named, overwrites};
 ghost use Rattle.program_words.specs.Views.{asm_view};
+ghost use Rattle.word_streams.specs.Words.{Fits, IsRefusalOf};
 
 use crate::command::command;
 use crate::format::SymbolsFormat;
@@ -146,7 +148,13 @@ fn files_words<'a>(matches: &ArgMatches<'a>) -> Option<FilesWords<'a>>
 pub fn read_files_words<'a>(
     alloc: Global,
     words: &'a [&'a str],
-) -> Result<FilesWords<'a>, WordsFault> {
+) -> Result<FilesWords<'a>, WordsFault>
+    ensures asked { IfOk result
+        (λ w. words_asked (map (λ s. s.now) words.entry.now) ≡ Some (files_view w)) }
+    ensures taken { IfOk result (λ w. Fits asm (map (λ s. s.now) words.entry.now)) }
+    ensures refused { IfErr result (IsRefusalOf asm (map (λ s. s.now) words.entry.now)
+        (words_asked (map (λ s. s.now) words.entry.now) ≡ None)) }
+{
     let matches = command(alloc)?.try_get_matches_from(words)?;
     match files_words(&matches) {
         Some(words) => Ok(words),

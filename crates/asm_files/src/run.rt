@@ -1,9 +1,13 @@
 //! The tape and the files of a source, written.
 
-ghost use Rattle.std.specs.Prelude.{◌≡◌, ◌≤◌, ◌⊎◌, None, Err, IfErr, IfOk, false};
+ghost use Rattle.std.specs.Prelude.{◌≡◌, ◌≤◌, ◌⊎◌, None, Err, IfErr, IfOk, false, map};
+ghost use Rattle.asm_files.specs.CommandLine.{Asks, HasSource, HasSourceFault, asm, map_asked};
+ghost use Rattle.asm_files.specs.CommandLine.{words_asked};
+ghost use Rattle.asm_files.specs.Views.{files_view};
 ghost use Rattle.model.specs.State.{is_map};
 ghost use Rattle.model.specs.declared.bus_fault.BusFault.TheVariants.{BadMap};
 ghost use Rattle.program.specs.Refusals.{EndsAsm};
+ghost use Rattle.word_streams.specs.Words.{AsksForHelp, Fits, Misfits};
 
 use crate::asked::{FilesWords, read_files_words};
 use crate::texts::{FileTexts, TextsAsked, file_texts};
@@ -85,6 +89,7 @@ fn assembled<H: Files + AllocGlobal>(rt: &H, words: &FilesWords<'_>) -> Result<(
     ensures bad_map { is_map None words.now.asm.port ≡ false → result ≡ Err (Refusal.Map BadMap) }
     ensures refused { IfErr result (EndsAsm
         (record { profile = words.now.asm.profile; rom = None; port = words.now.asm.port })) }
+    ensures done { IfOk result (λ _. HasSource (map_asked (files_view words.now))) }
 {
     let map = map_of(words.asm.profile, words.asm.port)?;
     let source = read_source(rt, words.asm.source).map_err(|error| Refusal::unreadable(&error))?;
@@ -111,6 +116,23 @@ pub fn asm_files<H: Files + AllocGlobal, O: Write, E: Write>(
     // A source, words or a map that are rejected leave the output unchanged, and so does memory
     // that runs out.
     ensures untouched { 1 ≤ result → result ≤ 3 → output.new ≡ output.old }
+    // 0 means that some source was assembled, on the map of the words, or that the help that is
+    // asked for was written.
+    ensures done { result ≡ 0 → AsksForHelp asm (map (λ s. s.now) words.entry.now)
+        ⊎ Asks (map (λ s. s.now) words.entry.now) (λ asked. HasSource (map_asked asked)
+        × (output.new ≡ output.old)) }
+    // 1 means that some source has a fault on that map.
+    ensures rejected { result ≡ 1 → Asks (map (λ s. s.now) words.entry.now)
+        (λ asked. HasSourceFault (map_asked asked)) }
+    // 2 means that the words do not fit, that a value is wrong, or that the port makes no map.
+    ensures refused { result ≡ 2 → Misfits asm (map (λ s. s.now) words.entry.now)
+        ⊎ ((Fits asm (map (λ s. s.now) words.entry.now)
+        × (words_asked (map (λ s. s.now) words.entry.now) ≡ None))
+        ⊎ Asks (map (λ s. s.now) words.entry.now)
+        (λ asked. is_map None asked.asm.port ≡ false)) }
+    // 4 means that the output is as it was, or that help is asked for.
+    ensures begun { result ≡ 4 → AsksForHelp asm (map (λ s. s.now) words.entry.now)
+        ⊎ (Fits asm (map (λ s. s.now) words.entry.now) × (output.new ≡ output.old)) }
 {
     match read_files_words(rt.alloc(), words) {
         Ok(words) => finish(assembled(rt, &words), errors),

@@ -1,31 +1,48 @@
 -- What `check` finds of a source, and what it writes of it. Source: mos65.
-use Rattle.std.specs.Prelude.{◌≡◌, ℕ, ◌==◌, ◌&&◌, ◌||◌, Bool, not, true, List, Option, length}
-use Rattle.std.specs.Io.KnownBytes.{Appends}
+use Rattle.std.specs.Prelude.{◌≡◌, ⊤, ℕ, ◌==◌, ◌&&◌, ◌||◌, Bool, not, false, List, Some, None, length}
 use Rattle.checking.specs.Checked.{IsCheckedText}
+use Rattle.checking.specs.CommandLine.{CheckAsked, check, check_asked, map_asked}
+use Rattle.checking.specs.declared.refusal.Refusal.{Refusal}
+use Rattle.checking.specs.declared.refusal.Refusal.TheVariants.{Words, Map, LooksLikeTape, OutOfMemory, Read, Write}
 use Rattle.checking.specs.declared.text.CheckedText.{CheckedText}
+use Rattle.clap.specs.Words.{Text}
 use Rattle.model.specs.AllFaults.{faults_of}
-use Rattle.model.specs.State.{Map}
+use Rattle.model.specs.State.{is_map}
 use Rattle.warnings.specs.Warnings.{warnings_of}
+use Rattle.word_streams.specs.Words.{Fits}
 
--- The text of all faults or warnings of some source on some map, and which of these it has. No
--- clause can say which source a file stands for.
-pub record IsFound (found : CheckedText) : Type 0 where
-  pub bus_map : Map
+-- The text of all faults or warnings of some source on the map that is asked for, and which of these
+-- it has. No clause can say which source a file stands for.
+pub record IsFound (asked : CheckAsked) (found : CheckedText) : Type 0 where
   pub source : List ℕ
-  pub file : List ℕ
-  pub told : IsCheckedText file (faults_of bus_map source) (warnings_of bus_map source)
-      found.text.items
-  pub faulty : found.is_faulty ≡ not (length (faults_of bus_map source) == 0)
-  pub warned : found.is_warned ≡ ((length (faults_of bus_map source) == 0)
-      && not (length (warnings_of bus_map source) == 0))
+  pub told : IsCheckedText asked.source (faults_of (map_asked asked) source)
+      (warnings_of (map_asked asked) source) found.text.items
+  pub faulty : found.is_faulty ≡ not (length (faults_of (map_asked asked) source) == 0)
+  pub warned : found.is_warned ≡ ((length (faults_of (map_asked asked) source) == 0)
+      && not (length (warnings_of (map_asked asked) source) == 0))
 
 -- Whether a text counts for the exit status: it has a fault, or a warning where these count.
 abbrev pub has_slips : Bool → CheckedText → Bool
 has_slips strict found = found.is_faulty || (strict && found.is_warned)
 
--- The blocks of some source that has a fault, or a warning where these count, were written.
-pub record TellsSlips (strict : Bool) (held now : Option (List ℕ)) : Type 0 where
+-- A text can be said of some source that has a fault, or a warning where these count, or of one that
+-- has none.
+pub record IsSaid (asked : CheckAsked) (is_right : Bool) (said : List ℕ) : Type 0 where
   pub found : CheckedText
-  pub is : IsFound found
-  pub slips : has_slips strict found ≡ true
-  pub written : Appends held now found.text.items
+  pub is : IsFound asked found
+  pub slips : has_slips asked.strict found ≡ not is_right
+  pub text : said ≡ found.text.items
+
+-- Why no source was looked at: the port makes no map. No clause can say what a file has, or whether
+-- memory is there.
+abbrev pub EndsCheck : CheckAsked → Refusal → Type 0
+EndsCheck asked Words = ⊥
+EndsCheck asked Map = is_map None asked.port ≡ false
+EndsCheck asked LooksLikeTape = ⊤
+EndsCheck asked OutOfMemory = ⊤
+EndsCheck asked Read = ⊤
+EndsCheck asked Write = ⊤
+
+-- The words fit, each value is one that its name can have, and a fact holds of what they ask for.
+abbrev pub Asks : List Text → (CheckAsked → Type 0) → Type 0
+Asks words P = (asked : CheckAsked) × Fits check words × (check_asked words ≡ Some asked) × P asked

@@ -1,3 +1,4 @@
 pub mod Checked
+pub mod CommandLine
 pub mod Found
 pub mod Statuses

@@ -1,6 +1,6 @@
 //! Why `check` ends without having looked at a source.
 
-ghost use Rattle.std.specs.Prelude.{◌≡◌};
+ghost use Rattle.std.specs.Prelude.{◌≡◌, ◌⊎◌};
 ghost use Rattle.checking.specs.Statuses.{status_of};
 
 use std::io;
@@ -43,7 +43,9 @@ impl Refusal {
     }
 
     /// Returns why a file could not be read.
-    pub fn unreadable(error: &io::Error) -> Refusal {
+    pub fn unreadable(error: &io::Error) -> Refusal
+        ensures { (result ≡ Refusal.OutOfMemory) ⊎ (result ≡ Refusal.Read) }
+    {
         match error.kind() {
             ErrorKind::OutOfMemory => Refusal::OutOfMemory,
             _ => Refusal::Read,

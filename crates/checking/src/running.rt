@@ -1,9 +1,12 @@
 //! What the word `check` does.
 
-ghost use Rattle.std.specs.Prelude.{◌≡◌, ◌≤◌, Bool, IfOk, OnOk, true};
-ghost use Rattle.std.specs.Io.KnownBytes.{Appends};
-ghost use Rattle.checking.specs.Found.{IsFound, TellsSlips};
+ghost use Rattle.std.specs.Prelude.{◌≡◌, ◌≤◌, ◌⊎◌, IfErr, IfOk, None, false, map, true};
+ghost use Rattle.checking.specs.CommandLine.{check, check_asked, check_view, map_asked};
+ghost use Rattle.checking.specs.Found.{Asks, EndsCheck, IsFound, IsSaid};
 ghost use Rattle.checking.specs.Statuses.{status_of};
+ghost use Rattle.model.specs.State.{is_map};
+ghost use Rattle.word_streams.specs.Streams.{Tells, TellsFront};
+ghost use Rattle.word_streams.specs.Words.{AsksForHelp, Fits, IsStatusOf, Misfits};
 
 use crate::refusal::Refusal;
 use crate::text::{CheckedText, checked_text};
@@ -11,11 +14,13 @@ use crate::words::{CheckWords, read_words};
 use bus::MapSpec;
 use model::Profile;
 use program_words::WordsFault;
+use std::alloc::Global;
 use std::fs::File;
 use std::io;
 use std::io::{Read, Write};
 use std::rt::Files;
 use tape_hint::looks_like_tape;
+use word_streams::write_text;
 
 /// One byte more than the longest source.
 const MOST_READ: u64 = 1_048_577;
@@ -30,7 +35,11 @@ fn read_source<H: Files + AllocGlobal>(rt: &H, path: &str) -> io::Result<Vec<u8>
 }
 
 /// The map of the words.
-fn map_of(words: &CheckWords<'_>) -> Result<MapSpec, Refusal> {
+fn map_of(words: &CheckWords<'_>) -> Result<MapSpec, Refusal>
+    ensures map { IfOk result (λ map. map ≡ map_asked (check_view words.now)) }
+    ensures bad { IfErr result
+        (λ r. (r ≡ Refusal.Map) × (is_map None words.now.port ≡ false)) }
+{
     match MapSpec::new(None, words.port) {
         Ok(map) => match words.profile {
             Profile::N => Ok(map),
@@ -40,34 +49,40 @@ fn map_of(words: &CheckWords<'_>) -> Result<MapSpec, Refusal> {
     }
 }
 
-/// What is to be written of the source that the words name.
-fn checked<H: Files + AllocGlobal>(rt: &H, words: &CheckWords<'_>) -> Result<CheckedText, Refusal>
-    ensures { IfOk result IsFound }
+/// What is to be written of a source, or why nothing is.
+fn found_in(
+    alloc: Global,
+    words: &CheckWords<'_>,
+    source: &[u8],
+    map: &MapSpec,
+) -> Result<CheckedText, Refusal>
+    requires { map.now ≡ map_asked (check_view words.now) }
+    ensures found { IfOk result (IsFound (check_view words.now)) }
+    ensures refused { IfErr result (EndsCheck (check_view words.now)) }
 {
-    let map = map_of(words)?;
-    let source = read_source(rt, words.source).map_err(|error| Refusal::unreadable(&error))?;
-    let file = words.source.as_bytes();
-    match looks_like_tape(rt.alloc(), &source) {
+    match looks_like_tape(alloc, source) {
         Ok(true) => return Err(Refusal::LooksLikeTape),
         Ok(false) => {}
         Err(_) => return Err(Refusal::OutOfMemory),
     }
-    match checked_text(rt.alloc(), file, &source, &map) {
+    match checked_text(alloc, words.source.as_bytes(), source, map) {
         Ok(found) => Ok(found),
         Err(_) => Err(Refusal::OutOfMemory),
     }
 }
 
-/// Writes a text and flushes it.
-fn write_text<O: Write>(output: &mut O, text: &[u8]) -> Result<(), Refusal>
-    ensures { OnOk result (Appends (O.contents output.old) (O.contents output.new) text.now) }
+/// What is to be written of the source that the words name, or why nothing is.
+fn checked<H: Files + AllocGlobal>(rt: &H, words: &CheckWords<'_>) -> Result<CheckedText, Refusal>
+    ensures found { IfOk result (IsFound (check_view words.now)) }
+    ensures refused { IfErr result (EndsCheck (check_view words.now)) }
 {
-    match output.write_all(text) {
-        Ok(()) => match output.flush() {
-            Ok(()) => Ok(()),
-            Err(_) => Err(Refusal::Write),
-        },
-        Err(_) => Err(Refusal::Write),
+    let map = match map_of(words) {
+        Ok(map) => map,
+        Err(refusal) => return Err(refusal),
+    };
+    match read_source(rt, words.source) {
+        Ok(source) => found_in(rt.alloc(), words, &source, &map),
+        Err(error) => Err(Refusal::unreadable(&error)),
     }
 }
 
@@ -82,7 +97,7 @@ fn refuse<E: Write>(refusal: Refusal, errors: &mut E) -> u8
 /// Writes why words are rejected, or the help that they ask for, and returns the exit status.
 fn refused_words<O: Write, E: Write>(fault: WordsFault, output: &mut O, errors: &mut E) -> u8
     ensures status { result ≤ 4 }
-    ensures told { result ≡ 1 → TellsSlips true (O.contents output.old) (O.contents output.new) }
+    ensures why { IsStatusOf fault result }
     ensures quiet { result ≤ 1 → errors.new ≡ errors.old }
     ensures untouched { 2 ≤ result → result ≤ 3 → output.new ≡ output.old }
 {
@@ -100,37 +115,69 @@ fn refused_words<O: Write, E: Write>(fault: WordsFault, output: &mut O, errors: 
     }
 }
 
-/// Writes what was found of a source, or why nothing was, and returns the exit status.
-fn finish<O: Write, E: Write>(
-    file: &str,
-    strict: bool,
-    found: Result<CheckedText, Refusal>,
+/// Writes what was found of a source, and returns the exit status.
+fn tell<O: Write, E: Write>(
+    words: &CheckWords<'_>,
+    found: &CheckedText,
     output: &mut O,
     errors: &mut E,
 ) -> u8
-    requires { IfOk found IsFound }
+    requires { IsFound (check_view words.now) found.now }
     ensures status { result ≤ 4 }
-    ensures told { result ≡ 1
-        → TellsSlips strict (O.contents output.old) (O.contents output.new) }
+    ensures right { result ≡ 0 → Tells (IsSaid (check_view words.now)) true
+        (O.contents output.old) (O.contents output.new) }
+    ensures told { result ≡ 1 → Tells (IsSaid (check_view words.now)) false
+        (O.contents output.old) (O.contents output.new) }
+    ensures begun { 2 ≤ result → TellsFront (IsSaid (check_view words.now))
+        (O.contents output.old) (O.contents output.new) }
+    ensures least { 2 ≤ result → result ≡ 4 }
     ensures quiet { result ≤ 1 → errors.new ≡ errors.old }
-    ensures untouched { 2 ≤ result → result ≤ 3 → output.new ≡ output.old }
 {
-    match found {
-        Ok(found) => match write_text(output, &found.text) {
-            Ok(()) => {
-                if found.is_faulty || (strict && found.is_warned) {
-                    1
-                } else {
-                    0
-                }
+    match write_text(output, &found.text) {
+        Ok(()) => {
+            if found.is_faulty || (words.strict && found.is_warned) {
+                1
+            } else {
+                0
             }
-            Err(_) => refuse(Refusal::Write, errors),
-        },
-        Err(Refusal::LooksLikeTape) => {
+        }
+        Err(_) => refuse(Refusal::Write, errors),
+    }
+}
+
+/// Says why no source was looked at, and returns the exit status.
+fn not_checked<E: Write>(file: &str, refusal: Refusal, errors: &mut E) -> u8
+    ensures { result ≡ status_of refusal }
+{
+    match refusal {
+        Refusal::LooksLikeTape => {
             let _ = writeln!(errors, "mos65: {file} {}", Refusal::LooksLikeTape);
             2
         }
-        Err(refusal) => refuse(refusal, errors),
+        refusal => refuse(refusal, errors),
+    }
+}
+
+/// Checks the source of the words, and returns the exit status.
+fn done<H: Files + AllocGlobal, O: Write, E: Write>(
+    rt: &H,
+    words: &CheckWords<'_>,
+    output: &mut O,
+    errors: &mut E,
+) -> u8
+    ensures status { result ≤ 4 }
+    ensures right { result ≡ 0 → Tells (IsSaid (check_view words.now)) true
+        (O.contents output.old) (O.contents output.new) }
+    ensures told { result ≡ 1 → Tells (IsSaid (check_view words.now)) false
+        (O.contents output.old) (O.contents output.new) }
+    ensures begun { result ≡ 4 → TellsFront (IsSaid (check_view words.now))
+        (O.contents output.old) (O.contents output.new) ⊎ (output.new ≡ output.old) }
+    ensures quiet { result ≤ 1 → errors.new ≡ errors.old }
+    ensures untouched { 2 ≤ result → result ≤ 3 → output.new ≡ output.old }
+{
+    match checked(rt, words) {
+        Ok(found) => tell(words, &found, output, errors),
+        Err(refusal) => not_checked(words.source, refusal, errors),
     }
 }
 
@@ -148,10 +195,24 @@ pub fn check<H: Files + AllocGlobal, O: Write, E: Write>(
     errors: &mut E,
 ) -> u8
     ensures status { result ≤ 4 }
-    // If the status is 1, the blocks of all faults of some source were written, or those of its
-    // warnings where these count.
-    ensures told { result ≡ 1 → (strict : Bool)
-        × TellsSlips strict (O.contents output.old) (O.contents output.new) }
+    // 0 means that some source was checked, on the map of the words, and what was written of it that
+    // does not count for the status; or the help that is asked for was written.
+    ensures right { result ≡ 0 → AsksForHelp check (map (λ s. s.now) words.entry.now)
+        ⊎ Asks (map (λ s. s.now) words.entry.now) (λ asked. Tells (IsSaid asked) true
+        (O.contents output.old) (O.contents output.new)) }
+    // 1 means that the blocks of all faults of some source were written, or those of its warnings
+    // where the words count these.
+    ensures told { result ≡ 1 → Asks (map (λ s. s.now) words.entry.now)
+        (λ asked. Tells (IsSaid asked) false (O.contents output.old) (O.contents output.new)) }
+    // 2 means that help is not asked for: the words do not fit, or a value, the map or the file is
+    // wrong. Any file may look like a tape.
+    ensures refused { result ≡ 2 → Misfits check (map (λ s. s.now) words.entry.now)
+        ⊎ Fits check (map (λ s. s.now) words.entry.now) }
+    // 4 means that a beginning was written of what is said of some source, or nothing; or help is
+    // asked for.
+    ensures begun { result ≡ 4 → AsksForHelp check (map (λ s. s.now) words.entry.now)
+        ⊎ Asks (map (λ s. s.now) words.entry.now) (λ asked. TellsFront (IsSaid asked)
+        (O.contents output.old) (O.contents output.new) ⊎ (output.new ≡ output.old)) }
     // If a source was checked, nothing is written on the error stream.
     ensures quiet { result ≤ 1 → errors.new ≡ errors.old }
     // Words, a map or a tape that are rejected leave the output unchanged; so does memory that
@@ -159,13 +220,7 @@ pub fn check<H: Files + AllocGlobal, O: Write, E: Write>(
     ensures untouched { 2 ≤ result → result ≤ 3 → output.new ≡ output.old }
 {
     match read_words(rt.alloc(), words) {
-        Ok(words) => finish(
-            words.source,
-            words.strict,
-            checked(rt, &words),
-            output,
-            errors,
-        ),
+        Ok(words) => done(rt, &words, output, errors),
         Err(fault) => refused_words(fault, output, errors),
     }
 }

@@ -1,6 +1,6 @@
 use Rattle.std.proofs.Common.{◌≡◌, Some, None, arith}
 use Rattle.std.specs.Prelude.{slice_get}
-use Rattle.asm_files.proofs.Rows.{name_done, name_there, no_name}
+use Rattle.asm_files.proofs.Rows.{name_done, name_there}
 use Rattle.asm_files.proofs.names.symbols_text.Goals.{in-Some+in_ok-push_row-in-Some, in-None}
 use Rattle.asm_files.proofs.names.symbols_text.Goals as goal
 

@@ -1,0 +1,46 @@
+-- The command line of `check SOURCE [--strict] [--port HHHH] [--profile N|C]`, as clap's definitions
+-- describe one, and what its words ask for. How words are matched with it is clap's to say. Source:
+-- mos65.
+use Rattle.std.specs.Prelude.{ℕ, Bool, Option, Some, None, List, codes}
+use Rattle.clap.specs.Words.{App, Text, with_rule}
+use Rattle.model.specs.State.{Map}
+use Rattle.model.specs.declared.instruction.Profile.{Profile}
+use Rattle.program_words.specs.Asked.{is_flag}
+use Rattle.program_words.specs.CommandLine.{file_rule, flag_rule, option_rule}
+use Rattle.program_words.specs.Values.{port_asked, profile_asked}
+use Rattle.checking.specs.declared.words.CheckWords.{CheckWords}
+use Rattle.word_streams.specs.Words.{unnamed, value_in}
+
+abbrev pub check : App
+check = with_rule (with_rule (with_rule (with_rule (unnamed (codes "check"))
+    (file_rule (codes "SOURCE"))) (flag_rule (codes "strict"))) (option_rule (codes "port")))
+    (option_rule (codes "profile"))
+
+pub record CheckAsked : Type 0 where
+  pub source : Text
+  pub port : ℕ
+  pub profile : Profile
+  pub strict : Bool
+
+abbrev pub check_of : Option Text → Option ℕ → Option Profile → Bool → Option CheckAsked
+check_of (Some source) (Some port) (Some profile) strict
+    = Some (record { source = source; port = port; profile = profile; strict = strict })
+check_of source port profile strict = None
+
+-- What the values of the names ask for, where each is one that its name can have.
+abbrev pub check_by : (Text → Option Text) → Option CheckAsked
+check_by value = check_of (value (codes "SOURCE")) (port_asked (value (codes "port")))
+    (profile_asked (value (codes "profile"))) (is_flag (value (codes "strict")))
+
+-- What words ask for, where the values that clap finds are right.
+abbrev pub check_asked : List Text → Option CheckAsked
+check_asked words = check_by (value_in check words)
+
+-- What was read, as what is asked for.
+abbrev pub check_view : CheckWords → CheckAsked
+check_view w
+    = record { source = w.source.now; port = w.port; profile = w.profile; strict = w.strict }
+
+-- The map that is asked for.
+abbrev pub map_asked : CheckAsked → Map
+map_asked asked = record { profile = asked.profile; rom = None; port = asked.port }
