@@ -15,7 +15,8 @@ ghost use Rattle.console.specs.Playing.{asks, came as is_some_line, ending_befor
 ghost use Rattle.console.specs.Playing.{memo_after, no_memo, same_flags, same_regs, stays};
 ghost use Rattle.console.specs.Playing.{stepped};
 ghost use Rattle.console.specs.Taking.{counted, take_count, Waits};
-ghost use Rattle.console.specs.Turns.{CutTurn, EndsOnce, EndsWith, IsLine, TurnsTo, play_at, turn_to};
+ghost use Rattle.console.specs.Turns.{CutTurn, EndsOnce, EndsWith, IsLine, TurnsTo, play_at};
+ghost use Rattle.console.specs.Turns.{turn_to};
 
 use crate::ending::{Ending, PlayFault};
 use crate::input::hand_in_line;
