@@ -14,8 +14,8 @@ use Rattle.model.specs.declared.event.EventFault.{EventFault}
 use Rattle.console.specs.Line.{line_at, room_of}
 use Rattle.console.specs.Playing.{Play, Turn, asks, ending_before, memo_after, line_for, with_line, came, turn_with, unless_ended, stepped, turn_of, Outcome, is_at, later, after_turn, played}
 use Rattle.console.specs.Taking.{Waits}
-use Rattle.console.specs.Turns.{EndsOnce, EndsWith, IsLine, MayCome, TurnsTo, play_at, turn_to}
-use Rattle.console.specs.Written.{AreBytesOf, RanAs}
+use Rattle.console.specs.Turns.{CutTurn, EndsOnce, EndsWith, IsLine, MayCome, TurnsTo, play_at, turn_to}
+use Rattle.console.specs.Written.{AreBytesOf, CutRun, RanAs}
 use Rattle.console.specs.declared.memo.Memo.{Memo}
 use Rattle.console.specs.declared.ending.Ending.{Ending}
 use Rattle.console.specs.declared.ending.Ending.TheVariants.{Limit, Refused, Until}
@@ -147,6 +147,20 @@ ends_full until limit s first told over steps t memo h full within rest may =
     let all : steps + 0 ≡ limit = omega arith in
     h.runs rest may ∙ ap (later steps) (played_none until (limit - steps) (play_at t memo rest) none)
     ∙ ap (λ n. record { steps = n; ending = Limit; play = play_at t memo rest }) all
+
+-- a run that was cut short in its next turn
+pub cut_run : (until : Option ℕ) (limit : ℕ) (s : Session) (first : Memo) (told : List ℕ) (over : Bool) (steps : ℕ) (t : Session) (memo : Memo) → RunsOn until limit s first told over steps t memo → steps < limit
+    → (told2 : List ℕ) (over2 : Bool) (u : Session) → EndsOnce over over2 told2 → CutTurn t told2 u
+    → (rest : List ℕ) → MayCome over2 rest → CutRun until limit (play_at s first ((told ++ told2) ++ rest)) u rest
+cut_run until limit s first told over steps t memo h room told2 over2 u once cut rest may = record {
+  steps = steps;
+  before = play_at t memo (told2 ++ rest);
+  told = told2;
+  within = room;
+  made = ap (λ l. played until limit (play_at s first l)) (append_assoc told told2 rest) ∙ h.runs (told2 ++ rest) (may_all over over2 told2 rest once may);
+  input = refl;
+  turn = cut;
+}
 
 -- ---- the input
 

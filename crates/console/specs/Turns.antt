@@ -1,7 +1,10 @@
 -- What a turn has read and where it leads, if more of the input may come.
 use Rattle.std.specs.Io.KnownBytes.{IsAtEnd}
-use Rattle.std.specs.Prelude.{◌≡◌, ◌⊎◌, ℕ, Bool, true, if◌then◌else◌, List, [], ◌++◌, Option}
-use Rattle.model.specs.Session.{Session}
+use Rattle.std.specs.Prelude.{◌≡◌, ◌⊎◌, ℕ, Bool, true, if◌then◌else◌, List, [], ◌++◌, Option, Ok}
+use Rattle.model.specs.State.{State}
+use Rattle.model.specs.Step.{step}
+use Rattle.model.specs.Session.{Session, with_state}
+use Rattle.model.specs.Transcript.{after_input}
 use Rattle.console.specs.Line.{line_at}
 use Rattle.console.specs.Playing.{Play, Turn, turn_of}
 use Rattle.console.specs.declared.memo.Memo.{Memo}
@@ -34,3 +37,9 @@ turn_to ending s memo input = record { ending = ending; play = play_at s memo in
 abbrev pub TurnsTo : Session → Memo → List ℕ → Bool → Option Ending → Session → Memo → Type 0
 TurnsTo s memo told is_over ending t after = (rest : List ℕ) → MayCome is_over rest
     → turn_of (play_at s memo (told ++ rest)) ≡ turn_to ending t after rest
+
+-- A turn that was cut short: bytes of a line were handed in, and then the step was made or not.
+abbrev pub CutTurn : Session → List ℕ → Session → Type 0
+CutTurn s told t = (t ≡ after_input s told)
+    ⊎ ((state : State) × (step (after_input s told).current ≡ Ok state)
+    × (t ≡ with_state (after_input s told) state))

@@ -61,6 +61,9 @@ pub fn hand_in_line<R: Read>(session: &mut Session, reader: &mut R) -> Result<Li
         × (session.new.current ≡ given_to session.old.current told)
         × ((rest : List ℕ) → (line.is_last ≡ true → rest ≡ [])
         → line_at (room_of session.old.current) (told ++ rest) ≡ told)) }
+    ensures err { OnErr result ((told : List ℕ)
+        × Consumes (R.remaining reader.old) (R.remaining reader.new) told
+        × (session.new ≡ after_input session.old told)) }
     ensures output { session.new.current.bus.out ≡ session.old.current.bus.out }
 {
     let room = session.input_room();

@@ -1,10 +1,10 @@
 //! A run with a reader and a writer.
 
-ghost use Rattle.std.specs.Prelude.{◌≡◌, ◌++◌, false, IfOk, ℕ, List};
+ghost use Rattle.std.specs.Prelude.{◌≡◌, ◌++◌, false, IfOk, OnErr, ℕ, List};
 ghost use Rattle.model.specs.State.{input_waits};
 ghost use Rattle.model.specs.Writers.{Writes};
 ghost use Rattle.console.specs.Playing.{begun, is_at, played};
-ghost use Rattle.console.specs.Written.{AreBytesOf, RanAs};
+ghost use Rattle.console.specs.Written.{AreBytesOf, BrokeOff, CutRun, RanAs};
 
 use crate::ending::{Ending, PlayFault, Played};
 use crate::output::flush;
@@ -55,6 +55,10 @@ pub fn play<R: Read, W: Write>(
     ensures ok { IfOk result (λ end. (input : List ℕ) × (left : List ℕ)
         × AreBytesOf (R.remaining reader.old) input × AreBytesOf (R.remaining reader.new) left
         × RanAs (played until limit (begun session.old input)) end session.new left) }
+    // At an error no more than a beginning of that run was made.
+    ensures err { OnErr result ((input : List ℕ) × (left : List ℕ)
+        × AreBytesOf (R.remaining reader.old) input × AreBytesOf (R.remaining reader.new) left
+        × BrokeOff until limit (begun session.old input) session.new left) }
     // What was written is the console's output since: all of it, or at an error a beginning.
     ensures output { (text : List ℕ)
         × (session.new.current.bus.out ≡ session.old.current.bus.out ++ text)
@@ -81,6 +85,9 @@ fn make_turns<R: Read, W: Write>(
     ensures ok { IfOk result (λ end. (input : List ℕ) × (left : List ℕ)
         × AreBytesOf (R.remaining reader.old) input × AreBytesOf (R.remaining reader.new) left
         × RanAs (played until limit (begun session.old input)) end session.new left) }
+    ensures err { OnErr result ((input : List ℕ) × (left : List ℕ)
+        × AreBytesOf (R.remaining reader.old) input × AreBytesOf (R.remaining reader.new) left
+        × CutRun until limit (begun session.old input) session.new left) }
     ensures output { (text : List ℕ)
         × (session.new.current.bus.out ≡ session.old.current.bus.out ++ text)
         × Writes (W.contents writer.old) (W.contents writer.new) text result }

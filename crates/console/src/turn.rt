@@ -1,7 +1,9 @@
 //! A turn: a line of input if one is asked for, and a step.
 
-ghost use Rattle.std.specs.Prelude.{◌≡◌, ◌==◌, ◌+◌, ◌≤◌, ◌++◌, ℕ, List, IfOk, OnOk, false};
+ghost use Rattle.std.specs.Prelude.{◌≡◌, ◌==◌, ◌+◌, ◌≤◌, ◌++◌, ℕ, List, IfOk, OnOk};
+ghost use Rattle.std.specs.Prelude.{OnErr, Ok, false};
 ghost use Rattle.std.specs.Io.KnownBytes.{Consumes, Keeps};
+ghost use Rattle.model.specs.Session.{with_state};
 ghost use Rattle.model.specs.Step.{step};
 ghost use Rattle.model.specs.State.{input_waits, State};
 ghost use Rattle.model.specs.Transcript.{after_input};
@@ -13,7 +15,8 @@ ghost use Rattle.console.specs.Playing.{asks, came as is_some_line, ending_befor
 ghost use Rattle.console.specs.Playing.{memo_after, no_memo, same_flags, same_regs, stays};
 ghost use Rattle.console.specs.Playing.{stepped};
 ghost use Rattle.console.specs.Taking.{counted, take_count, Waits};
-ghost use Rattle.console.specs.Turns.{EndsOnce, EndsWith, IsLine, TurnsTo, play_at, turn_to};
+ghost use Rattle.console.specs.Turns.{CutTurn, EndsOnce, EndsWith, IsLine, TurnsTo, play_at};
+ghost use Rattle.console.specs.Turns.{turn_to};
 
 use crate::ending::{Ending, PlayFault};
 use crate::input::hand_in_line;
@@ -200,6 +203,9 @@ fn make_step<W: Write>(
         → stepped (play_at session.old player.old.memo input) is_asked came
         (step session.old.current) ≡ turn_to ending session.new player.new.memo input) }
     ensures waits { OnOk result (Waits session.new.current player.new.waiting) }
+    // The step was made, and its output not written to its end.
+    ensures err { OnErr result ((state : State) × (step session.old.current ≡ Ok state)
+        × (session.new ≡ with_state session.old state)) }
     ensures over { player.new.is_over ≡ player.old.is_over }
     ensures output { (text : List ℕ)
         × (session.new.current.bus.out ≡ session.old.current.bus.out ++ text)
@@ -244,6 +250,12 @@ fn supply<R: Read, W: Write>(
         × (session.new ≡ after_input session.old told)
         × (session.new.current ≡ given_to session.old.current told)
         × IsLine is_asked player.new.is_over (room_of session.old.current) told) }
+    ensures err { OnErr result ((told : List ℕ)
+        × Consumes (R.remaining reader.old) (R.remaining reader.new) told
+        × EndsWith player.old.is_over player.new.is_over (R.remaining reader.old)
+        (R.remaining reader.new)
+        × EndsOnce player.old.is_over player.new.is_over told
+        × (session.new ≡ after_input session.old told)) }
     ensures waits { OnOk result (Waits session.new.current player.new.waiting) }
     ensures memo { player.new.memo ≡ player.old.memo }
     ensures kept { Keeps (W.contents writer.old) (W.contents writer.new) }
@@ -317,6 +329,13 @@ pub fn take_turn<R: Read, W: Write>(
         × EndsOnce player.old.is_over player.new.is_over told
         × TurnsTo session.old player.old.memo told player.new.is_over ending
         session.new player.new.memo) }
+    // At an error nothing but a beginning of the turn was done.
+    ensures err { OnErr result ((told : List ℕ)
+        × Consumes (R.remaining reader.old) (R.remaining reader.new) told
+        × EndsWith player.old.is_over player.new.is_over (R.remaining reader.old)
+        (R.remaining reader.new)
+        × EndsOnce player.old.is_over player.new.is_over told
+        × CutTurn session.old told session.new) }
     ensures waits { OnOk result (Waits session.new.current player.new.waiting) }
     ensures output { (text : List ℕ)
         × (session.new.current.bus.out ≡ session.old.current.bus.out ++ text)

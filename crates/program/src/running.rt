@@ -123,6 +123,8 @@ pub fn program<H: Files + AllocGlobal, R: Read, O: Write, E: Write>(
         → (input.new ≡ input.old) × (output.new ≡ output.old) }
     ensures unasked { asked (map (λ s. s.now) words.entry.now) ≡ None → 1 ≤ result → result ≤ 3
         → (input.new ≡ input.old) × (output.new ≡ output.old) }
+    // Words that fit nothing read nothing, however the program ends.
+    ensures unread { ¬ IsTaken (map (λ s. s.now) words.entry.now) → input.new ≡ input.old }
     // Words that fit nothing have the status 2, unless they ask for help or memory runs out; help
     // that is asked for has 0 if it was written.
     ensures usage { ¬ IsTaken (map (λ s. s.now) words.entry.now) → ¬ IsAmong DisplayHelp

@@ -56,11 +56,20 @@ pub fn strict_debug<H: Files + AllocGlobal, R: Read, O: Write, E: Write>(
         → (input.new ≡ input.old) × (result.1 ≡ output) }
     ensures unasked { asked (plain_words (map (λ s. s.now) words.entry.now)) ≡ None
         → 1 ≤ result.0 → result.0 ≤ 3 → (input.new ≡ input.old) × (result.1 ≡ output) }
-    // Words that fit nothing have the status 2, unless they ask for help or memory runs out.
+    // So do words that fit nothing.
+    ensures untaken { ¬ IsTaken (plain_words (map (λ s. s.now) words.entry.now))
+        → 1 ≤ result.0 → result.0 ≤ 3 → (input.new ≡ input.old) × (result.1 ≡ output) }
+    // Words that fit nothing read nothing, however the program ends.
+    ensures unread { ¬ IsTaken (plain_words (map (λ s. s.now) words.entry.now))
+        → input.new ≡ input.old }
+    // Words that fit nothing have the status 2, unless they ask for help or memory runs out. Help
+    // that is asked for has 0 or 5 if it was written.
     ensures usage { ¬ IsTaken (plain_words (map (λ s. s.now) words.entry.now))
         → ¬ IsAmong DisplayHelp (fault_of mos65 (plain_words (map (λ s. s.now) words.entry.now)))
         → (result.0 ≡ 2) ⊎ (result.0 ≡ 3) }
-    // So has a wrong value, and a wrong map.
+    ensures help { fault_of mos65 (plain_words (map (λ s. s.now) words.entry.now))
+        ≡ DisplayHelp ∷ [] → IsDone result.0 ⊎ (result.0 ≡ 3) ⊎ (result.0 ≡ 4) }
+    // A wrong value has the status 2, unless memory runs out, and so has a wrong map.
     ensures value { IsTaken (plain_words (map (λ s. s.now) words.entry.now))
         → asked (plain_words (map (λ s. s.now) words.entry.now)) ≡ None
         → (result.0 ≡ 2) ⊎ (result.0 ≡ 3) }

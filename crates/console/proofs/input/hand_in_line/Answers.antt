@@ -1,5 +1,5 @@
 use Rattle.std.proofs.Common.{◌≡◌, ◌+◌, ◌<◌, ◌≤◌, ◌++◌, ◌∷◌, [], true, false, arith, length, refl, sym, ap, ◌∙◌, append-nil, length-append}
-use Rattle.std.proofs.KnownBytes.{Consumes-nil, Consumes-trans}
+use Rattle.std.proofs.KnownBytes.{Consumes-kept, Consumes-nil, Consumes-trans}
 use Rattle.console.specs.Line.{room_of}
 use Rattle.console.proofs.Lines.{hands_none, hands_byte, reads_none, reads_byte, reads_lf, reads_end, reads_full}
 use Rattle.console.proofs.input.hand_in_line.Goals as goal
@@ -34,6 +34,10 @@ returns-in-Ok-Some-eq10-clause-line g c =
       one.current,
       λ rest _. reads_lf (room_of c.args.session.now.current) inv.0 inv.4 inside rest,
     )
+
+pub returns-in-Err-clause-err : goal.returns-in-Err-clause-err
+returns-in-Err-clause-err g c =
+    let inv = c.loop-len.invariant in (inv.0, Consumes-kept _ _ _ inv.0 inv.1 c.in-Err.ensures.fault, inv.3.session)
 
 pub loop-len-preserved : goal.loop-len-preserved
 loop-len-preserved g c =

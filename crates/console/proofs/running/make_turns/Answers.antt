@@ -2,9 +2,9 @@ use Rattle.std.proofs.Common.{◌≡◌, ◌+◌, ◌<◌, ◌≤◌, ◌++◌, 
 use Rattle.std.proofs.KnownBytes.{Appends-nil, Appends-trans, Consumes-nil, Consumes-trans}
 use Rattle.model.proofs.Written.{front_after}
 use Rattle.console.specs.Playing.{begun, is_at, no_memo, played}
-use Rattle.console.specs.Written.{RanAs}
+use Rattle.console.specs.Written.{CutRun, RanAs}
 use Rattle.console.specs.declared.ending.Ending.TheVariants.{Limit, Until}
-use Rattle.console.proofs.Turning.{runs_none, runs_on, ends_at, ends_with, ends_full, still_over, whole_input, ran_as}
+use Rattle.console.proofs.Turning.{cut_run, runs_none, runs_on, ends_at, ends_with, ends_full, still_over, whole_input, ran_as}
 use Rattle.console.proofs.running.make_turns.Goals as goal
 
 pub loop-steps-init : goal.loop-steps-init
@@ -37,6 +37,17 @@ pub returns-in-Ok-Some-clause-output : goal.returns-in-Ok-Some-clause-output
 returns-in-Ok-Some-clause-output g c =
     let inv = c.loop-steps.invariant in let more = c.in-Ok-Some.ensures.output in
     (inv.1 ++ more.0, more.1 ∙ ap (λ out. out ++ more.0) inv.2.out ∙ append_assoc _ inv.1 more.0, Appends-trans _ _ _ inv.1 more.0 inv.2.appends more.2)
+
+pub returns-in-Err-clause-err : goal.returns-in-Err-clause-err
+returns-in-Err-clause-err g c =
+    let inv = c.loop-steps.invariant in
+    let l = c.loop-steps in
+    let s = c.args.session.now in
+    let turn = c.in-Err.ensures.err in
+    let u = c.take_turn.new.session in let p = c.take_turn.new.player in
+    whole_input _ _ (inv.0 ++ turn.0) p.is_over (λ input left. CutRun c.args.until c.args.limit (begun s input) u left)
+    (Consumes-trans _ _ _ inv.0 turn.0 inv.2.consumes turn.1) (still_over l.player.is_over p.is_over _ _ turn.2 inv.2.over)
+    (λ rest may. cut_run c.args.until c.args.limit s no_memo inv.0 l.player.is_over l.steps l.session l.player.memo inv.2.runs c.loop-steps-test.true turn.0 p.is_over u turn.3 turn.4 rest may)
 
 pub returns-in-Err-clause-output : goal.returns-in-Err-clause-output
 returns-in-Err-clause-output g c =

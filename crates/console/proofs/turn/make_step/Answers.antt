@@ -43,6 +43,10 @@ returns-in-Ok-put_output-clause-output g c =
     = ap (λ n. drop n c.event.new.self.current.bus.out) c.output_len-shown.ensures ∙ ap (λ t. drop (length s.bus.out) t.current.bus.out) e.2 ∙ more.2 in
     (more.0, ap (λ t. t.current.bus.out) e.2 ∙ more.1, rw shown at c.in-Ok-put_output.ensures.writes)
 
+pub returns-in-Err-put_output-clause-err : goal.returns-in-Err-put_output-clause-err
+returns-in-Err-put_output-clause-err g c =
+    let e = c.in-Ok.ensures.ok in (e.0, step_made c.args.session.now.current e.0 e.1, e.2)
+
 pub returns-in-Err-put_output-clause-output : goal.returns-in-Err-put_output-clause-output
 returns-in-Err-put_output-clause-output g c =
     let e = c.in-Ok.ensures.ok in

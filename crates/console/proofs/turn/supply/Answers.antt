@@ -29,6 +29,25 @@ returns-then-player-clause-ok g c = (
   λ rest may. line_over c.args.is_asked (room_of c.args.session.now.current) rest (may c.if-player.true),
 )
 
+pub returns-in-Err-clause-err : goal.returns-in-Err-clause-err
+returns-in-Err-clause-err g c = (
+  [],
+  Consumes-nil _,
+  λ is. inl (is, refl),
+  λ is. (refl, is),
+  sym (input-none _),
+)
+
+pub returns-in-Err-hand_in_line-clause-err : goal.returns-in-Err-hand_in_line-clause-err
+returns-in-Err-hand_in_line-clause-err g c =
+    let line = c.in-Err-hand_in_line.ensures.err in (
+      line.0,
+      line.1,
+      (λ is. let no : true ≡ false = sym is ∙ c.if-player.false in cc),
+      (λ is. let no : true ≡ false = sym is ∙ c.if-player.false in cc),
+      line.2,
+    )
+
 pub overflow_add-player : goal.overflow_add-player
 overflow_add-player g c =
     let line = c.in-Ok-hand_in_line.ensures.line in

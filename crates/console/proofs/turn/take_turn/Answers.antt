@@ -1,7 +1,9 @@
-use Rattle.std.proofs.Common.{◌≡◌, ◌++◌, true, Some, None, arith, ap, sym, ◌∙◌, subst}
+use Rattle.std.proofs.Common.{◌≡◌, ◌++◌, true, Some, None, Ok, arith, ap, sym, ◌∙◌, subst, inl, inr}
 use Rattle.console.specs.Playing.{ending_before, unless_ended, stepped}
 use Rattle.console.specs.Turns.{EndsOnce, EndsWith, play_at, turn_to}
 use Rattle.model.specs.Step.{step}
+use Rattle.model.specs.State.{State}
+use Rattle.model.specs.Session.{with_state}
 use Rattle.console.proofs.Turning.{turned}
 use Rattle.console.proofs.turn.take_turn.Goals as goal
 
@@ -41,4 +43,20 @@ returns-in-Ok-make_step-clause-ok g c =
           ∙ ap (λ e. unless_ended e (play_at t memo rest) (stepped (play_at t memo rest) asked c.in-Ok.came (step t.current))) ending
           ∙ ap (λ m. stepped (play_at t m rest) asked c.in-Ok.came (step t.current)) (sym c.in-Ok.ensures.memo)
           ∙ c.in-Ok-make_step.ensures.ok rest,
+    )
+
+pub returns-in-Err-clause-err : goal.returns-in-Err-clause-err
+returns-in-Err-clause-err g c =
+    let line = c.in-Err.ensures.err in (line.0, line.1, line.2, line.3, inl line.4)
+
+pub returns-in-Err-make_step-clause-err : goal.returns-in-Err-make_step-clause-err
+returns-in-Err-make_step-clause-err g c =
+    let line = c.in-Ok.ensures.ok in
+    let e = c.in-Err-make_step.ensures.err in
+    let over = c.in-Err-make_step.ensures.over in (
+      line.0,
+      line.1,
+      (λ is. line.2 (sym over ∙ is)),
+      (λ is. let ends = line.3 is in (ends.0, over ∙ ends.1)),
+      inr (subst (λ t. (state : State) × (step t.current ≡ Ok state) × (c.make_step.new.session ≡ with_state t state)) line.5 e),
     )
