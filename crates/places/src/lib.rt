@@ -3,7 +3,7 @@
 //! They are taken from an assembly, whose listing has the address of each line.
 #![tactic(auto)]
 
-pub use names::{Name, Names};
+pub use names::{Names, is_same_word};
 pub use places::Places;
 pub use rows::{Row, rows_of};
 

@@ -1,5 +1,8 @@
 //! The lines of a source that have bytes, from its listing.
 
+ghost use Rattle.std.specs.Prelude.{◌≡◌, ◌++◌, IfOk, OnOk};
+ghost use Rattle.places.specs.Lines.{address_in, counted, line_in, lines_in};
+
 use commands::address_of;
 use source_lines::next_line;
 use std::alloc::{AllocError, Global};
@@ -16,15 +19,43 @@ pub struct Row {
 const FRONT: usize = 16;
 
 /// The address of a line's row, if the line has bytes.
-fn address_in(row: &[u8]) -> Option<u16> {
+fn address_in(row: &[u8]) -> Option<u16>
+    ensures { result ≡ address_in row.now }
+{
     match row {
         [a, b, c, d, _, _, first, ..] if *first != b' ' => address_of(&[*a, *b, *c, *d]),
         _ => None,
     }
 }
 
+/// Returns how many lines there are with a row after so many of them.
+fn counted(count: u32, row: &[u8]) -> u32
+    ensures { result ≡ counted count row.now }
+{
+    if row.len() >= FRONT {
+        count.saturating_add(1)
+    } else {
+        count
+    }
+}
+
+/// Appends the line of a row after so many lines, if it has bytes.
+fn push_line(rows: &mut Vec<Row>, count: u32, row: &[u8]) -> Result<(), AllocError>
+    ensures { OnOk result (rows.new.items ≡ rows.old.items ++ line_in count row.now) }
+{
+    if row.len() >= FRONT {
+        if let Some(address) = address_in(row) {
+            let line = counted(count, row);
+            rows.push(Row { address, line })?;
+        }
+    }
+    Ok(())
+}
+
 /// Returns the lines with bytes, from the text of a listing.
-pub fn rows_of(alloc: Global, listing: &[u8]) -> Result<Vec<Row>, AllocError> {
+pub fn rows_of(alloc: Global, listing: &[u8]) -> Result<Vec<Row>, AllocError>
+    ensures { IfOk result (λ rows. rows.items ≡ lines_in listing.now) }
+{
     let mut rows = Vec::new(alloc);
     let mut rest = listing;
     let mut line = 0u32;
@@ -37,12 +68,8 @@ pub fn rows_of(alloc: Global, listing: &[u8]) -> Result<Vec<Row>, AllocError> {
         if row.is_empty() {
             return Ok(rows);
         }
-        if row.len() >= FRONT {
-            line = line.saturating_add(1);
-            if let Some(address) = address_in(row) {
-                rows.push(Row { address, line })?;
-            }
-        }
+        push_line(&mut rows, line, row)?;
+        line = counted(line, row);
     }
     Ok(rows)
 }
