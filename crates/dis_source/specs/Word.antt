@@ -1,5 +1,5 @@
 -- What `dis --source` has done. Source: mos65. No clause can say what a file has.
-use Rattle.std.specs.Prelude.{◌≡◌, ⊤, ℕ, Bool, List, Option}
+use Rattle.std.specs.Prelude.{⊤, ℕ, Bool, List, Option, None}
 use Rattle.dis_source.specs.Asked.{SourceAsked}
 use Rattle.dis_source.specs.Written.{IsSourceOfPart}
 use Rattle.dis_source.specs.declared.refusal.Refusal.{Refusal}
@@ -38,10 +38,22 @@ unread_of (stream.Tape fault) = of_kind fault.kind fault
 abbrev pub HasTapeFault : Type 0
 HasTapeFault = (fault : TapeFault) × ((text : List ℕ) × IsRefusedInPieces text fault)
 
--- Some source has this fault, for a processor.
+-- The map by which a source of names is read: no ROM, and a port at $F000.
+abbrev pub names_map : Profile → Map
+names_map profile = record { profile = profile; rom = None; port = 61440 }
+
+-- Why a source of names is refused: it has this fault. Memory may run out at any source.
+abbrev pub EndsNames : Profile → List ℕ → Refusal → Type 0
+EndsNames profile source Words = ⊥
+EndsNames profile source (Tape fault) = ⊥
+EndsNames profile source (Symbols fault) = HasFault (names_map profile) source fault
+EndsNames profile source OutOfMemory = ⊤
+EndsNames profile source Read = ⊥
+EndsNames profile source Write = ⊥
+
+-- Some source of names has this fault, for a processor.
 abbrev pub IsNamesFault : Profile → AsmFault → Type 0
-IsNamesFault profile fault = (bus_map : Map) × (bus_map.profile ≡ profile)
-    × ((source : List ℕ) × HasFault bus_map source fault)
+IsNamesFault profile fault = (source : List ℕ) × HasFault (names_map profile) source fault
 
 abbrev pub HasNamesFault : Profile → Type 0
 HasNamesFault profile = (fault : AsmFault) × IsNamesFault profile fault

@@ -168,8 +168,8 @@ pub fn dis_source<H: Files + AllocGlobal, O: Write, E: Write>(
     // A tape or words that are refused leave the output as it was, and so it is where memory ran
     // out.
     ensures untouched { 1 ≤ result → result ≤ 3 → output.new ≡ output.old }
-    // 0 means that a source was written of what some tape has between the addresses of the words, or
-    // the help that is asked for.
+    // 0 means that a source was written of what some tape has between the addresses of the words,
+    // or that it is help that is asked for.
     ensures done { result ≡ 0 → AsksForHelp dis (map (λ s. s.now) words.entry.now)
         ⊎ Asks (map (λ s. s.now) words.entry.now) (λ asked. Tells (IsSaid asked) true
         (O.contents output.old) (O.contents output.new)) }

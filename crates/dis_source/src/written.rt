@@ -1,7 +1,7 @@
 //! The source that the words ask for.
 
 ghost use Rattle.std.specs.Prelude.{◌≡◌, IfErr, IfOk, false};
-ghost use Rattle.dis_source.specs.Word.{EndsSource};
+ghost use Rattle.dis_source.specs.Word.{EndsNames, names_map};
 ghost use Rattle.dis_source.specs.Written.{IsSourceOfPart};
 ghost use Rattle.model.specs.Source.{Denotes};
 ghost use Rattle.model.specs.State.{Map, has_port_byte};
@@ -22,7 +22,9 @@ use std::alloc::{AllocError, Global};
 /// why not.
 #[tactic(auto, unfolding(model::specs::State::is_map))]
 pub fn defined(alloc: Global, profile: Profile, source: &[u8]) -> Result<Assembly, Refusal>
-    ensures refused { IfErr result (EndsSource profile) }
+    ensures denoted { IfOk result (λ a. Denotes (names_map profile) source.now a.image) }
+    ensures kept { IfOk result (λ a. a.source ≡ source.now) }
+    ensures refused { IfErr result (EndsNames profile source.now) }
 {
     let Ok(map) = MapSpec::new(None, 0xf000) else {
         return Err(Refusal::Words);
