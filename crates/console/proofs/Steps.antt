@@ -1,13 +1,13 @@
 -- What a step takes of the input, and what it adds to the output. A step takes a byte only if the
 -- instruction at PC reads base+1; the stack pointer tells such a step from an interrupt entry.
-use Rattle.std.proofs.Common.{◌≡◌, ◌≢◌, ℕ, ◌+◌, ◌/◌, ◌%◌, ◌<◌, ◌≤◌, Bool, true, false, cond, List, [], ◌∷◌, ◌++◌, length, Option, Some, None, Ok, Err, refl, sym, ap, ◌∙◌, arith, append-nil, append_assoc, inl, inr}
-use Rattle.std.specs.Prelude.{slice_index, not, ◌&&◌, ◌||◌, ◌==◌, nat_lt}
+use Rattle.std.proofs.Common.{◌≡◌, ◌≢◌, ℕ, ◌+◌, ◌/◌, ◌%◌, ◌<◌, Bool, true, false, cond, List, [], ◌∷◌, ◌++◌, Option, Some, None, Ok, Err, refl, sym, ap, ◌∙◌, arith, append-nil, append_assoc, inl, inr}
+use Rattle.std.specs.Prelude.{slice_index, not, ◌&&◌, ◌==◌, nat_lt}
 use Rattle.std.proofs.lemmas.Bool.Decides.{eqb_tells}
-use Rattle.model.specs.State.{Bus, State, is_port, is_rom, input_waits, after_read, after_write, bus_with_byte, byte_read, AreRegs}
-use Rattle.model.specs.Operand.{effective_address, is_immediate, is_accumulator, byte_at}
-use Rattle.model.specs.Effect.{operand, after_operand, load, store, modify_a, modify_memory, branches, branch, with_pc, after_push, after_pull, stack_top_address, pull_a, pull_x, pull_y, pull_status, call, return_from_call, return_from_interrupt, interrupt_sequence, break_entry, after_operation, operation_of, regs_after_read, modify_sum, status, store_value}
+use Rattle.model.specs.State.{Bus, State, is_port, is_rom, input_waits, after_read, after_write, bus_with_byte, byte_read}
+use Rattle.model.specs.Operand.{effective_address, is_immediate, is_accumulator}
+use Rattle.model.specs.Effect.{operand, after_operand, load, store, modify_a, modify_memory, branches, branch, after_push, after_pull, pull_a, pull_x, pull_y, pull_status, call, return_from_call, return_from_interrupt, interrupt_sequence, break_entry, after_operation, operation_of, regs_after_read, modify_sum, status, store_value}
 use Rattle.model.specs.OpcodeTable.{row_at}
-use Rattle.model.specs.Step.{stores, past_instruction, execution, attempt, interrupt_entry, most_cycles, irq_asked, step}
+use Rattle.model.specs.Step.{past_instruction, execution, attempt, interrupt_entry, most_cycles, irq_asked, step}
 use Rattle.model.specs.declared.registers.Regs.{Regs}
 use Rattle.model.specs.declared.instruction.EffectiveAddress.{EffectiveAddress}
 use Rattle.model.specs.declared.instruction.Row.{Row}

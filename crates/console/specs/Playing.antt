@@ -1,6 +1,6 @@
 -- A program that runs with a reader for its console: it is given a line of input where it looks for
 -- input and none waits. Source: mos65.
-use Rattle.std.specs.Prelude.{ℕ, zero, suc, ◌+◌, Bool, true, false, not, ◌&&◌, ◌||◌, ◌==◌, nat_lt, if◌then◌else◌, List, [], ◌∷◌, length, drop, Option, Some, None, Result, Ok, Err}
+use Rattle.std.specs.Prelude.{ℕ, zero, suc, ◌+◌, Bool, false, not, ◌&&◌, ◌||◌, ◌==◌, nat_lt, if◌then◌else◌, List, [], length, drop, Option, Some, None, Result, Ok, Err}
 use Rattle.model.specs.State.{Map, State, input_waits}
 use Rattle.model.specs.Step.{step}
 use Rattle.model.specs.Session.{Session, with_state}

@@ -1,4 +1,4 @@
-use Rattle.std.proofs.Common.{◌≡◌, ◌+◌, ◌<◌, ◌≤◌, ◌++◌, ◌∷◌, [], true, false, arith, length, refl, sym, ap, ◌∙◌, append-nil, length-append}
+use Rattle.std.proofs.Common.{◌<◌, ◌≤◌, ◌++◌, ◌∷◌, [], arith, length, refl, append-nil, length-append}
 use Rattle.std.proofs.KnownBytes.{Consumes-kept, Consumes-nil, Consumes-trans}
 use Rattle.console.specs.Line.{room_of}
 use Rattle.console.proofs.Lines.{hands_none, hands_byte, reads_none, reads_byte, reads_lf, reads_end, reads_full}

@@ -1,7 +1,7 @@
-use Rattle.std.proofs.Common.{◌+◌, ◌<◌, ◌++◌, ◌∷◌, [], arith, length, get_or}
+use Rattle.std.proofs.Common.{◌<◌, ◌++◌, ◌∷◌, [], arith, length, get_or}
 use Rattle.std.proofs.KnownBytes.{Appends-trans}
 use Rattle.model.proofs.Written.{front_after, front_more}
-use Rattle.console.proofs.Outputs.{out_more, out_all}
+use Rattle.console.proofs.Outputs.{out_more}
 use Rattle.console.proofs.output.put_output.Goals as goal
 
 pub returns-in-Err-clause-writes : goal.returns-in-Err-clause-writes

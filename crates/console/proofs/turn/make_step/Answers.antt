@@ -1,10 +1,8 @@
-use Rattle.std.proofs.Common.{◌≡◌, ◌≤◌, ◌++◌, arith, sym, ap, ◌∙◌, length, drop}
-use Rattle.model.specs.State.{State}
-use Rattle.model.specs.Session.{with_state}
+use Rattle.std.proofs.Common.{◌≡◌, ◌≤◌, arith, sym, ap, ◌∙◌, length, drop}
 use Rattle.operands.specs.Access.{access_here}
 use Rattle.console.specs.Playing.{memo_after}
-use Rattle.console.specs.Taking.{counted, take_count, Waits}
-use Rattle.console.proofs.Steps.{Leads, step_leads}
+use Rattle.console.specs.Taking.{counted, take_count}
+use Rattle.console.proofs.Steps.{step_leads}
 use Rattle.console.proofs.Turning.{refused, made, step_made, waits_on, added}
 use Rattle.console.proofs.turn.make_step.Goals as goal
 

@@ -1,7 +1,7 @@
-use Rattle.std.proofs.Common.{◌≡◌, ◌+◌, [], true, false, arith, refl, sym, ap, ◌∙◌, length, length-append, inl, inr, cond}
+use Rattle.std.proofs.Common.{◌≡◌, [], true, false, arith, refl, sym, ap, ◌∙◌, length, length-append, inl}
 use Rattle.std.proofs.KnownBytes.{Consumes-nil}
-use Rattle.console.specs.Line.{room_of, line_at}
-use Rattle.console.proofs.Lines.{input-none, given-none, line-none}
+use Rattle.console.specs.Line.{room_of}
+use Rattle.console.proofs.Lines.{input-none, given-none}
 use Rattle.console.proofs.Turning.{line_over}
 use Rattle.console.proofs.turn.supply.Goals as goal
 

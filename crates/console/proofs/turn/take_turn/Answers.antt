@@ -1,6 +1,6 @@
-use Rattle.std.proofs.Common.{◌≡◌, ◌++◌, true, Some, None, Ok, arith, ap, sym, ◌∙◌, subst, inl, inr}
+use Rattle.std.proofs.Common.{◌≡◌, Some, None, Ok, ap, sym, ◌∙◌, subst, inl, inr}
 use Rattle.console.specs.Playing.{ending_before, unless_ended, stepped}
-use Rattle.console.specs.Turns.{EndsOnce, EndsWith, play_at, turn_to}
+use Rattle.console.specs.Turns.{play_at, turn_to}
 use Rattle.model.specs.Step.{step}
 use Rattle.model.specs.State.{State}
 use Rattle.model.specs.Session.{with_state}
