@@ -1,27 +1,44 @@
 //! Numbers as sources write them.
 
+ghost use Rattle.std.specs.Prelude.{◌≡◌, ◌≤◌, IfSome};
+ghost use Rattle.model.specs.Digits.{hex_value};
+ghost use Rattle.mon_lines.specs.Reading.{digit_in, number_in};
+
 /// The value of a hex digit.
-fn hex_value(byte: u8) -> Option<u32> {
+fn hex_value(byte: u8) -> Option<u32>
+    ensures value { result ≡ hex_value byte }
+    ensures within { IfSome result (λ digit. digit ≤ 15) }
+{
     match byte {
-        b'0'..=b'9' => Some((byte - b'0') as u32),
-        b'A'..=b'F' => Some((byte - b'A') as u32 + 10),
-        b'a'..=b'f' => Some((byte - b'a') as u32 + 10),
+        b'A'..=b'F' => Some(byte as u32 - 55),
+        b'a'..=b'f' => Some(byte as u32 - 87),
+        b'0'..=b'9' => Some(byte as u32 - 48),
+        _ => None,
+    }
+}
+
+/// The value of a digit of a base.
+fn digit_in(base: u32, byte: u8) -> Option<u32>
+    ensures { result ≡ digit_in base byte }
+{
+    match hex_value(byte) {
+        Some(digit) if digit < base => Some(digit),
         _ => None,
     }
 }
 
 /// Returns the number of some digits in a base, at most 2^32 - 1. `None` if there is no digit, or
 /// one that is none of the base.
-pub fn number_in(base: u32, digits: &[u8]) -> Option<u32> {
+#[tactic(auto, unfolding(crate::specs::Reading::number_in))]
+pub fn number_in(base: u32, digits: &[u8]) -> Option<u32>
+    ensures { result ≡ number_in base digits.now }
+{
     if digits.is_empty() {
         return None;
     }
     let mut number = 0u32;
     for byte in digits {
-        let value = hex_value(*byte)?;
-        if value >= base {
-            return None;
-        }
+        let value = digit_in(base, *byte)?;
         number = number.saturating_mul(base).saturating_add(value);
     }
     Some(number)

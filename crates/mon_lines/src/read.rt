@@ -1,239 +1,172 @@
 //! From a line to what it asks for.
 
-use crate::command::{Command, Compare, Left, Register, Stretch, Test, Undoing, WatchKind};
-use crate::cursor::Cursor;
+ghost use Rattle.std.specs.Prelude.{◌≡◌, IfErr, IfOk};
+ghost use Rattle.mon_lines.specs.Reading.{why_view};
+ghost use Rattle.mon_lines.specs.Parts.{level_of, setting_by, setting_of, undoing_of, value_of};
+
+use crate::command::{Command, Register, Undoing};
 use crate::numbers::number_in;
-use crate::slip::{Slip, Why};
+use crate::scan::{after, after_word, is_empty, is_next, is_word, past, skip, word_of};
+use crate::slip::{Lack, Slip, Why};
+use crate::stretches::{kind_of, shown_of, stretch_of};
+use crate::tests::{register_of, tests_of, times_of};
 use crate::topic::{Topic, topic_of};
-use crate::values::{Known, address, byte, bytes, count, word_value};
-use arrayvec::ArrayVec;
+use crate::values::{address_of, byte_of, bytes_of, count_of};
 use debugger::Setting;
-use places::Places;
-
-/// A register's name.
-fn register_of(word: &[u8]) -> Option<Register> {
-    match word {
-        b"A" | b"a" => Some(Register::A),
-        b"X" | b"x" => Some(Register::X),
-        b"Y" | b"y" => Some(Register::Y),
-        b"S" | b"s" | b"SP" | b"sp" => Some(Register::S),
-        b"P" | b"p" => Some(Register::P),
-        b"PC" | b"pc" | b"Pc" => Some(Register::Pc),
-        _ => None,
-    }
-}
-
-/// Reads `=`, `==`, `<>`, `!=`, `<`, `<=`, `>` or `>=`.
-fn comparison<'a>(cursor: &mut Cursor<'a>) -> Result<Compare, Why<'a>> {
-    if cursor.takes(b'=') {
-        let _ = cursor.takes(b'=');
-        return Ok(Compare::Equal);
-    }
-    if cursor.takes(b'!') && cursor.takes(b'=') {
-        return Ok(Compare::Other);
-    }
-    if cursor.takes(b'<') {
-        if cursor.takes(b'>') {
-            return Ok(Compare::Other);
-        }
-        if cursor.takes(b'=') {
-            return Ok(Compare::LessOrEqual);
-        }
-        return Ok(Compare::Less);
-    }
-    if cursor.takes(b'>') {
-        if cursor.takes(b'=') {
-            return Ok(Compare::MoreOrEqual);
-        }
-        return Ok(Compare::More);
-    }
-    Err(Why::Missing("=, <, > or <> in the test"))
-}
-
-/// Reads a test of a register or of a byte of memory.
-fn test<'a>(cursor: &mut Cursor<'a>, known: Known<'_>) -> Result<Test, Why<'a>> {
-    let before = *cursor;
-    let left = match register_of(cursor.word()) {
-        Some(register) => Left::Register(register),
-        None => {
-            *cursor = before;
-            Left::Byte(address(cursor, known)?)
-        }
-    };
-    let compare = comparison(cursor)?;
-    let right = word_value(cursor, known)?;
-    Ok(Test {
-        left,
-        compare,
-        right,
-    })
-}
+use places::{Names, Places};
 
 /// Reads `WHERE [if TESTS] [times N]`.
-fn break_at<'a>(cursor: &mut Cursor<'a>, known: Known<'_>) -> Result<Command<'a>, Why<'a>> {
-    let address = address(cursor, known)?;
-    let mut tests = ArrayVec::new();
-    if cursor.takes_word(b"if") {
-        for _ in 0..u32::MAX {
-            let next = test(cursor, known)?;
-            if tests.try_push(next).is_err() {
-                return Err(Why::Many);
-            }
-            if !cursor.takes_word(b"and") {
-                break;
-            }
-        }
-    }
-    let times = if cursor.takes_word(b"times") {
-        match count(cursor, known)? {
-            Some(times) => times,
-            None => return Err(Why::Missing("a number after times")),
-        }
-    } else {
-        1
-    };
-    Ok(Command::Break {
+fn break_at<'a>(
+    names: &Names,
+    pc: u16,
+    text: &'a [u8],
+) -> Result<(Command<'a>, &'a [u8]), Why<'a>> {
+    let (address, rest) = address_of(names, pc, text)?;
+    let (tests, rest) = tests_of(names, pc, rest)?;
+    let (times, rest) = times_of(names, rest)?;
+    let command = Command::Break {
         address,
         tests,
         times,
-    })
-}
-
-/// The addresses from the first to so many behind it, none past $FFFF.
-fn stretch_of(first: u16, count: u32) -> Stretch {
-    let last = (first as u32).saturating_add(count.saturating_sub(1));
-    Stretch {
-        first,
-        last: if last > 65535 { 65535 } else { last as u16 },
-    }
-}
-
-/// Reads `WHERE` or `WHERE..WHERE`.
-fn stretch<'a>(cursor: &mut Cursor<'a>, known: Known<'_>) -> Result<Stretch, Why<'a>> {
-    let first = address(cursor, known)?;
-    if !cursor.takes(b'.') {
-        return Ok(Stretch { first, last: first });
-    }
-    if !cursor.takes(b'.') {
-        return Err(Why::Missing("two points between the addresses"));
-    }
-    let last = address(cursor, known)?;
-    if last < first {
-        return Err(Why::Missing("a last address that is not below the first"));
-    }
-    Ok(Stretch { first, last })
+    };
+    Ok((command, rest))
 }
 
 /// Reads `WHERE` or `WHERE..WHERE`, and `read`, `write` or `change` behind it.
-fn watched<'a>(cursor: &mut Cursor<'a>, known: Known<'_>) -> Result<Command<'a>, Why<'a>> {
-    let stretch = stretch(cursor, known)?;
-    let kind = if cursor.takes_word(b"read") {
-        WatchKind::Read
-    } else if cursor.takes_word(b"write") {
-        WatchKind::Write
-    } else {
-        let _ = cursor.takes_word(b"change");
-        WatchKind::Change
-    };
-    Ok(Command::Watch { stretch, kind })
+fn watched<'a>(names: &Names, pc: u16, text: &'a [u8]) -> Result<(Command<'a>, &'a [u8]), Why<'a>> {
+    let (stretch, rest) = stretch_of(names, pc, text)?;
+    let (kind, rest) = kind_of(rest);
+    Ok((Command::Watch { stretch, kind }, rest))
 }
 
-/// Reads `WHERE`, `WHERE N`, `WHERE..WHERE`, or two addresses of four hex digits.
-fn shown<'a>(cursor: &mut Cursor<'a>, known: Known<'_>) -> Result<Stretch, Why<'a>> {
-    let range = stretch(cursor, known)?;
-    if range.last > range.first || cursor.is_at_end() {
-        let count = if range.last > range.first {
-            (range.last - range.first) as u32 + 1
-        } else {
-            64
-        };
-        return Ok(stretch_of(range.first, count));
+/// Reads the value of a register.
+fn value_of<'a>(
+    names: &Names,
+    pc: u16,
+    register: Register,
+    text: &'a [u8],
+) -> Result<(Setting, &'a [u8]), Why<'a>>
+    ensures ok { IfOk result (λ p. value_of names.now pc register text.now ≡ Ok (p.0, p.1.now)) }
+    ensures err { IfErr result
+        (λ why. value_of names.now pc register text.now ≡ Err (why_view why)) }
+{
+    if let Register::Pc = register {
+        let (address, rest) = address_of(names, pc, text)?;
+        return Ok((Setting::Pc(address), rest));
     }
-    let before = *cursor;
-    if cursor.word().len() == 4 {
-        *cursor = before;
-        let last = address(cursor, known)?;
-        if last >= range.first {
-            return Ok(Stretch {
-                first: range.first,
-                last,
-            });
-        }
-    }
-    *cursor = before;
-    match count(cursor, known)? {
-        Some(count) => Ok(stretch_of(range.first, count)),
-        None => Ok(stretch_of(range.first, 64)),
-    }
+    let (byte, rest) = byte_of(names, text)?;
+    let setting = match register {
+        Register::A => Setting::A(byte),
+        Register::X => Setting::X(byte),
+        Register::Y => Setting::Y(byte),
+        Register::S => Setting::S(byte),
+        Register::P | Register::Pc => Setting::P(byte),
+    };
+    Ok((setting, rest))
 }
 
 /// Reads `REGISTER VALUE`.
-fn setting<'a>(cursor: &mut Cursor<'a>, known: Known<'_>) -> Result<Setting, Why<'a>> {
-    if cursor.is_at_end() {
-        return Err(Why::Missing("a register"));
+fn setting_of<'a>(names: &Names, pc: u16, text: &'a [u8]) -> Result<(Setting, &'a [u8]), Why<'a>>
+    ensures ok { IfOk result (λ p. setting_of names.now pc text.now ≡ Ok (p.0, p.1.now)) }
+    ensures err { IfErr result (λ why. setting_of names.now pc text.now ≡ Err (why_view why)) }
+{
+    if is_empty(text) {
+        return Err(Why::Missing(Lack::Register));
     }
-    let word = cursor.word();
-    let Some(register) = register_of(word) else {
-        return Err(Why::Unreadable(word));
-    };
-    let _ = cursor.takes(b'=');
-    match register {
-        Register::A => Ok(Setting::A(byte(cursor, known)?)),
-        Register::X => Ok(Setting::X(byte(cursor, known)?)),
-        Register::Y => Ok(Setting::Y(byte(cursor, known)?)),
-        Register::S => Ok(Setting::S(byte(cursor, known)?)),
-        Register::P => Ok(Setting::P(byte(cursor, known)?)),
-        Register::Pc => Ok(Setting::Pc(address(cursor, known)?)),
+    let word = word_of(text);
+    match register_of(word) {
+        Some(register) => value_of(names, pc, register, past(b'=', after_word(text))),
+        None => Err(Why::Unreadable(word)),
     }
 }
 
 /// Reads `on` or `off`, or a 1 or a 0.
-fn level<'a>(cursor: &mut Cursor<'a>) -> Result<bool, Why<'a>> {
-    if cursor.takes_word(b"on") || cursor.takes_word(b"1") {
-        return Ok(true);
+fn level_of(text: &[u8]) -> Result<(bool, &[u8]), Why<'_>>
+    ensures ok { IfOk result (λ p. level_of text.now ≡ Ok (p.0, p.1.now)) }
+    ensures err { IfErr result (λ why. level_of text.now ≡ Err (why_view why)) }
+{
+    if is_word(b"on", text) || is_word(b"1", text) {
+        Ok((true, after_word(text)))
+    } else if is_word(b"off", text) || is_word(b"0", text) {
+        Ok((false, after_word(text)))
+    } else {
+        Err(Why::Missing(Lack::Level))
     }
-    if cursor.takes_word(b"off") || cursor.takes_word(b"0") {
-        return Ok(false);
-    }
-    Err(Why::Missing("on or off"))
 }
 
 /// Reads `[WHERE] [N]`.
-fn instructions<'a>(cursor: &mut Cursor<'a>, known: Known<'_>) -> Result<Command<'a>, Why<'a>> {
-    let address = if cursor.is_at_end() {
-        known.pc
+fn instructions<'a>(
+    names: &Names,
+    pc: u16,
+    text: &'a [u8],
+) -> Result<(Command<'a>, &'a [u8]), Why<'a>> {
+    let (address, rest) = if is_empty(text) {
+        (pc, text)
     } else {
-        address(cursor, known)?
+        address_of(names, pc, text)?
     };
-    let count = count(cursor, known)?.unwrap_or(10);
-    Ok(Command::Dis { address, count })
+    let (count, rest) = count_of(names, rest)?;
+    let count = count.unwrap_or(10);
+    Ok((Command::Dis { address, count }, rest))
 }
 
 /// Reads what follows `back`.
-fn undoing<'a>(cursor: &mut Cursor<'a>, known: Known<'_>) -> Result<Undoing, Why<'a>> {
-    if cursor.takes_word(b"over") {
-        return Ok(Undoing::Over);
+fn undoing_of<'a>(names: &Names, text: &'a [u8]) -> Result<(Undoing, &'a [u8]), Why<'a>>
+    ensures ok { IfOk result (λ p. undoing_of names.now text.now ≡ Ok (p.0, p.1.now)) }
+    ensures err { IfErr result (λ why. undoing_of names.now text.now ≡ Err (why_view why)) }
+{
+    if is_word(b"over", text) {
+        return Ok((Undoing::Over, after_word(text)));
     }
-    Ok(Undoing::Events(count(cursor, known)?.unwrap_or(1)))
+    let (count, rest) = count_of(names, text)?;
+    Ok((Undoing::Events(count.unwrap_or(1)), rest))
 }
 
 /// Reads what follows `go` or `run`.
-fn going<'a>(cursor: &mut Cursor<'a>, known: Known<'_>) -> Result<Command<'a>, Why<'a>> {
-    if cursor.takes_word(b"until") {
-        return Ok(Command::Until(address(cursor, known)?));
+fn going<'a>(names: &Names, pc: u16, text: &'a [u8]) -> Result<(Command<'a>, &'a [u8]), Why<'a>> {
+    if is_word(b"until", text) {
+        return until(names, pc, after_word(text));
     }
-    Ok(Command::Go(count(cursor, known)?))
+    let (count, rest) = count_of(names, text)?;
+    Ok((Command::Go(count), rest))
+}
+
+/// Reads the address to which a run goes.
+fn until<'a>(names: &Names, pc: u16, text: &'a [u8]) -> Result<(Command<'a>, &'a [u8]), Why<'a>> {
+    let (address, rest) = address_of(names, pc, text)?;
+    Ok((Command::Until(address), rest))
+}
+
+/// Reads `WHERE TEXT`.
+fn assembled<'a>(
+    names: &Names,
+    pc: u16,
+    text: &'a [u8],
+) -> Result<(Command<'a>, &'a [u8]), Why<'a>> {
+    let (address, rest) = address_of(names, pc, text)?;
+    if is_empty(rest) {
+        return Err(Why::Missing(Lack::Instruction));
+    }
+    let (text, rest) = rest.split_at(rest.len());
+    Ok((Command::Asm { address, text }, rest))
+}
+
+/// Reads `WHERE BYTES`.
+fn put<'a>(names: &Names, pc: u16, text: &'a [u8]) -> Result<(Command<'a>, &'a [u8]), Why<'a>> {
+    let (address, rest) = address_of(names, pc, text)?;
+    let (bytes, rest) = bytes_of(names, rest)?;
+    Ok((Command::Put { address, bytes }, rest))
 }
 
 /// Reads what follows `help`.
-fn helped<'a>(cursor: &mut Cursor<'a>) -> Result<Command<'a>, Why<'a>> {
-    if cursor.is_at_end() {
-        return Ok(Command::Help(None));
+fn helped<'a>(text: &'a [u8]) -> Result<(Command<'a>, &'a [u8]), Why<'a>> {
+    if is_empty(text) {
+        return Ok((Command::Help(None), text));
     }
-    let word = cursor.word();
-    let _ = cursor.all();
+    let word = word_of(text);
+    let (_, rest) = text.split_at(text.len());
     match topic_of(word) {
-        (Some(topic), _) => Ok(Command::Help(Some(topic))),
+        (Some(topic), _) => Ok((Command::Help(Some(topic)), rest)),
         (None, true) => Err(Why::Several(word)),
         (None, false) => Err(Why::Unknown(word)),
     }
@@ -242,88 +175,110 @@ fn helped<'a>(cursor: &mut Cursor<'a>) -> Result<Command<'a>, Why<'a>> {
 /// Reads what follows a word that moves the session.
 fn moving<'a>(
     topic: Topic,
-    cursor: &mut Cursor<'a>,
-    known: Known<'_>,
-) -> Result<Command<'a>, Why<'a>> {
+    names: &Names,
+    pc: u16,
+    text: &'a [u8],
+) -> Result<(Command<'a>, &'a [u8]), Why<'a>> {
     match topic {
-        Topic::Step => Ok(Command::Step(count(cursor, known)?.unwrap_or(1))),
-        Topic::Over => Ok(Command::Over),
-        Topic::Out => Ok(Command::Out),
-        Topic::Until => Ok(Command::Until(address(cursor, known)?)),
-        Topic::Go => going(cursor, known),
-        Topic::Back => Ok(Command::Back(undoing(cursor, known)?)),
-        Topic::Rback => Ok(Command::Rback),
-        Topic::Redo => Ok(Command::Redo(count(cursor, known)?)),
-        Topic::Irq => Ok(Command::Irq(level(cursor)?)),
-        Topic::Nmi => Ok(Command::Nmi),
-        Topic::Reset => Ok(Command::Reset),
-        _ => seeing(topic, cursor, known),
+        Topic::Step => {
+            let (count, rest) = count_of(names, text)?;
+            Ok((Command::Step(count.unwrap_or(1)), rest))
+        }
+        Topic::Over => Ok((Command::Over, text)),
+        Topic::Out => Ok((Command::Out, text)),
+        Topic::Until => until(names, pc, text),
+        Topic::Go => going(names, pc, text),
+        Topic::Back => {
+            let (undoing, rest) = undoing_of(names, text)?;
+            Ok((Command::Back(undoing), rest))
+        }
+        Topic::Rback => Ok((Command::Rback, text)),
+        Topic::Redo => {
+            let (count, rest) = count_of(names, text)?;
+            Ok((Command::Redo(count), rest))
+        }
+        Topic::Irq => {
+            let (level, rest) = level_of(text)?;
+            Ok((Command::Irq(level), rest))
+        }
+        Topic::Nmi => Ok((Command::Nmi, text)),
+        Topic::Reset => Ok((Command::Reset, text)),
+        _ => seeing(topic, names, pc, text),
     }
 }
 
 /// Reads what follows a word that shows something, or sets or clears a stop.
 fn seeing<'a>(
     topic: Topic,
-    cursor: &mut Cursor<'a>,
-    known: Known<'_>,
-) -> Result<Command<'a>, Why<'a>> {
+    names: &Names,
+    pc: u16,
+    text: &'a [u8],
+) -> Result<(Command<'a>, &'a [u8]), Why<'a>> {
     match topic {
-        Topic::Where => Ok(Command::Where),
-        Topic::History => Ok(Command::History(count(cursor, known)?.unwrap_or(10))),
-        Topic::Break => break_at(cursor, known),
-        Topic::Watch => watched(cursor, known),
-        Topic::List => Ok(Command::List),
-        Topic::Delete => Ok(Command::Delete(address(cursor, known)?)),
-        Topic::Regs => Ok(Command::Regs),
-        Topic::Flags => Ok(Command::Flags),
-        Topic::Mem => Ok(Command::Mem(shown(cursor, known)?)),
-        Topic::Dis => instructions(cursor, known),
-        Topic::Find => Ok(Command::Find(bytes(cursor, known)?)),
-        Topic::Stack => Ok(Command::Stack),
-        Topic::Screen => Ok(Command::Screen),
-        _ => putting(topic, cursor, known),
+        Topic::Where => Ok((Command::Where, text)),
+        Topic::History => {
+            let (count, rest) = count_of(names, text)?;
+            Ok((Command::History(count.unwrap_or(10)), rest))
+        }
+        Topic::Break => break_at(names, pc, text),
+        Topic::Watch => watched(names, pc, text),
+        Topic::List => Ok((Command::List, text)),
+        Topic::Delete => {
+            let (address, rest) = address_of(names, pc, text)?;
+            Ok((Command::Delete(address), rest))
+        }
+        Topic::Regs => Ok((Command::Regs, text)),
+        Topic::Flags => Ok((Command::Flags, text)),
+        Topic::Mem => {
+            let (stretch, rest) = shown_of(names, pc, text)?;
+            Ok((Command::Mem(stretch), rest))
+        }
+        Topic::Dis => instructions(names, pc, text),
+        Topic::Find => {
+            let (bytes, rest) = bytes_of(names, text)?;
+            Ok((Command::Find(bytes), rest))
+        }
+        Topic::Stack => Ok((Command::Stack, text)),
+        Topic::Screen => Ok((Command::Screen, text)),
+        _ => putting(topic, names, pc, text),
     }
 }
 
 /// Reads what follows a word that puts something.
 fn putting<'a>(
     topic: Topic,
-    cursor: &mut Cursor<'a>,
-    known: Known<'_>,
-) -> Result<Command<'a>, Why<'a>> {
+    names: &Names,
+    pc: u16,
+    text: &'a [u8],
+) -> Result<(Command<'a>, &'a [u8]), Why<'a>> {
     match topic {
-        Topic::Set => Ok(Command::Set(setting(cursor, known)?)),
-        Topic::Put => {
-            let address = address(cursor, known)?;
-            let bytes = bytes(cursor, known)?;
-            Ok(Command::Put { address, bytes })
+        Topic::Set => {
+            let (setting, rest) = setting_of(names, pc, text)?;
+            Ok((Command::Set(setting), rest))
         }
-        Topic::Asm => {
-            let address = address(cursor, known)?;
-            let text = cursor.all();
-            if text.is_empty() {
-                return Err(Why::Missing("an instruction"));
-            }
-            Ok(Command::Asm { address, text })
+        Topic::Put => put(names, pc, text),
+        Topic::Asm => assembled(names, pc, text),
+        Topic::Type => {
+            let (bytes, rest) = bytes_of(names, text)?;
+            Ok((Command::Type(bytes), rest))
         }
-        Topic::Type => Ok(Command::Type(bytes(cursor, known)?)),
-        Topic::Help => helped(cursor),
-        Topic::Trace => Ok(Command::Help(Some(Topic::Trace))),
-        _ => Ok(Command::Quit),
+        Topic::Help => helped(text),
+        Topic::Trace => Ok((Command::Help(Some(Topic::Trace)), text)),
+        _ => Ok((Command::Quit, text)),
     }
 }
 
 /// Returns the decimal digits that stand where a line has an address, if there are two or three: a
 /// reader may mean a hex number.
 pub fn decimal_address<'a>(line: &'a [u8]) -> Option<&'a [u8]> {
-    let mut cursor = Cursor::new(line);
-    let (topic, _) = topic_of(cursor.word());
+    let text = skip(line);
+    let (topic, _) = topic_of(word_of(text));
     let has_address = match topic? {
         Topic::Break | Topic::Watch | Topic::Mem | Topic::Dis => true,
         Topic::Until | Topic::Delete | Topic::Put | Topic::Asm => true,
         _ => false,
     };
-    let word = cursor.word();
+    let word = word_of(after_word(text));
     let is_decimal = matches!(word.len(), 2 | 3) && number_in(10, word).is_some();
     if has_address && is_decimal {
         Some(word)
@@ -332,18 +287,32 @@ pub fn decimal_address<'a>(line: &'a [u8]) -> Option<&'a [u8]> {
     }
 }
 
+/// Reads the whole line about a topic.
+fn line_about<'a>(
+    topic: Topic,
+    names: &Names,
+    pc: u16,
+    text: &'a [u8],
+) -> Result<Command<'a>, Why<'a>> {
+    let (command, rest) = moving(topic, names, pc, text)?;
+    if is_empty(rest) {
+        Ok(command)
+    } else {
+        Err(Why::Behind(rest))
+    }
+}
+
 /// Returns what a line asks for, or what is missing in it. Names are those of the places, `PC` is
 /// the program counter.
 pub fn read_line<'a>(line: &'a [u8], places: &Places, pc: u16) -> Result<Command<'a>, Slip<'a>> {
-    let known = Known { places, pc };
-    let mut cursor = Cursor::new(line);
-    if cursor.is_at_end() {
+    let text = skip(line);
+    if is_empty(text) {
         return Ok(Command::Nothing);
     }
-    let first = if cursor.takes(b'?') {
-        b"?".as_slice()
+    let (first, rest) = if is_next(b'?', text) {
+        (b"?".as_slice(), after(1, text))
     } else {
-        cursor.word()
+        (word_of(text), after_word(text))
     };
     let topic = match topic_of(first) {
         (Some(topic), _) => topic,
@@ -360,11 +329,8 @@ pub fn read_line<'a>(line: &'a [u8], places: &Places, pc: u16) -> Result<Command
             });
         }
     };
-    let slip = |why| Slip {
+    line_about(topic, places.names(), pc, rest).map_err(|why| Slip {
         topic: Some(topic),
         why,
-    };
-    let command = moving(topic, &mut cursor, known).map_err(slip)?;
-    cursor.end().map_err(slip)?;
-    Ok(command)
+    })
 }

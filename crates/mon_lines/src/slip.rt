@@ -2,6 +2,34 @@
 
 use crate::topic::Topic;
 
+/// What is missing in a line.
+#[derive(Clone, Copy)]
+pub enum Lack {
+    HexDigits,
+    BinaryDigits,
+    Address,
+    Value,
+    Number,
+    /// A number after a plus.
+    Addend,
+    /// A number after a minus.
+    Subtrahend,
+    /// A byte of text.
+    Text,
+    /// The sign of a test.
+    Comparison,
+    /// How often the tests of a break have to hold.
+    Times,
+    /// The points between two addresses.
+    Points,
+    /// A last address that is not below the first.
+    LastAddress,
+    Register,
+    /// The level of the interrupt line.
+    Level,
+    Instruction,
+}
+
 /// Why a line asks for nothing that can be done.
 #[derive(Clone, Copy)]
 pub enum Why<'a> {
@@ -10,7 +38,7 @@ pub enum Why<'a> {
     /// More than one word begins so.
     Several(&'a [u8]),
     /// Something is missing.
-    Missing(&'static str),
+    Missing(Lack),
     /// This cannot be read there.
     Unreadable(&'a [u8]),
     /// This is left over.

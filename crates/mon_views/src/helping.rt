@@ -1,7 +1,7 @@
 //! Help, and what is missing in a line.
 
 use crate::words::{push_blanks, push_count, push_text};
-use mon_lines::{Slip, TOPICS, Topic, Why};
+use mon_lines::{Lack, Slip, TOPICS, Topic, Why};
 use std::alloc::AllocError;
 
 /// Appends a word's form, what it does, and an example; or the forms of all words.
@@ -49,6 +49,27 @@ fn push_quoted(text: &mut Vec<u8>, piece: &[u8]) -> Result<(), AllocError> {
     Ok(())
 }
 
+/// The words for what is missing in a line.
+fn words_of(lack: Lack) -> &'static str {
+    match lack {
+        Lack::HexDigits => "hex digits after $",
+        Lack::BinaryDigits => "binary digits after %",
+        Lack::Address => "an address",
+        Lack::Value => "a value",
+        Lack::Number => "a number",
+        Lack::Addend => "a number after +",
+        Lack::Subtrahend => "a number after -",
+        Lack::Text => "text between the quotes",
+        Lack::Comparison => "=, <, > or <> in the test",
+        Lack::Times => "a number after times",
+        Lack::Points => "two points between the addresses",
+        Lack::LastAddress => "a last address that is not below the first",
+        Lack::Register => "a register",
+        Lack::Level => "on or off",
+        Lack::Instruction => "an instruction",
+    }
+}
+
 /// Appends why a line cannot be read.
 fn push_why(text: &mut Vec<u8>, why: Why<'_>) -> Result<(), AllocError> {
     match why {
@@ -62,7 +83,7 @@ fn push_why(text: &mut Vec<u8>, why: Why<'_>) -> Result<(), AllocError> {
         }
         Why::Missing(what) => {
             push_text(text, "missing: ")?;
-            push_text(text, what)
+            push_text(text, words_of(what))
         }
         Why::Unreadable(piece) => {
             push_quoted(text, piece)?;

@@ -1,27 +1,44 @@
 //! Numbers and places in a text.
 
+ghost use Rattle.std.specs.Prelude.{◌≡◌, ◌∷◌, ◌++◌, [], OnErr, OnOk, decimal};
+
+ghost use Rattle.model.specs.Text.{hex_address, hex_byte};
+ghost use Rattle.mon_views.specs.Shown.{shown_character};
+
 use formatting::{digits_of, digits_of_address};
 use itoa::Buffer;
 use places::Places;
 use std::alloc::AllocError;
 
 /// Appends words.
-pub fn push_text(text: &mut Vec<u8>, words: &str) -> Result<(), AllocError> {
+pub fn push_text(text: &mut Vec<u8>, words: &str) -> Result<(), AllocError>
+    ensures ok { OnOk result (text.new.items ≡ text.old.items ++ words.now) }
+    ensures err { OnErr result (text.new.items ≡ text.old.items) }
+{
     text.extend_from_slice(words.as_bytes())
 }
 
 /// Appends a count in decimal.
-pub fn push_count(text: &mut Vec<u8>, number: u64) -> Result<(), AllocError> {
+pub fn push_count(text: &mut Vec<u8>, number: u64) -> Result<(), AllocError>
+    ensures ok { OnOk result (text.new.items ≡ text.old.items ++ decimal number) }
+    ensures err { OnErr result (text.new.items ≡ text.old.items) }
+{
     text.extend_from_slice(Buffer::new().format(number).as_bytes())
 }
 
 /// Appends a byte as two hex digits.
-pub fn push_byte(text: &mut Vec<u8>, byte: u8) -> Result<(), AllocError> {
+pub fn push_byte(text: &mut Vec<u8>, byte: u8) -> Result<(), AllocError>
+    ensures ok { OnOk result (text.new.items ≡ text.old.items ++ hex_byte byte) }
+    ensures err { OnErr result (text.new.items ≡ text.old.items) }
+{
     text.extend_from_slice(&digits_of(byte))
 }
 
 /// Appends an address as four hex digits.
-pub fn push_address(text: &mut Vec<u8>, address: u16) -> Result<(), AllocError> {
+pub fn push_address(text: &mut Vec<u8>, address: u16) -> Result<(), AllocError>
+    ensures ok { OnOk result (text.new.items ≡ text.old.items ++ hex_address address) }
+    ensures err { OnErr result (text.new.items ≡ text.old.items) }
+{
     text.extend_from_slice(&digits_of_address(address))
 }
 
@@ -49,7 +66,10 @@ pub fn push_place(text: &mut Vec<u8>, places: &Places, address: u16) -> Result<(
 }
 
 /// Appends a byte as a character, or a point in its place.
-pub fn push_character(text: &mut Vec<u8>, byte: u8) -> Result<(), AllocError> {
+pub fn push_character(text: &mut Vec<u8>, byte: u8) -> Result<(), AllocError>
+    ensures ok { OnOk result (text.new.items ≡ text.old.items ++ shown_character byte ∷ []) }
+    ensures err { OnErr result (text.new.items ≡ text.old.items) }
+{
     let shown = match byte {
         b' '..=b'~' => byte,
         _ => b'.',

@@ -1,0 +1,116 @@
+//! Stretches of memory.
+
+ghost use Rattle.std.specs.Prelude.{◌≡◌, ◌≤◌, IfErr, IfOk};
+ghost use Rattle.mon_lines.specs.Reading.{and_then, why_view};
+ghost use Rattle.mon_lines.specs.Parts.{by_count, counted_from, from_to, kind_of, last_of, second_of};
+ghost use Rattle.mon_lines.specs.Parts.{shown_of, so_many_from, stretch_of};
+
+use crate::command::{Stretch, WatchKind};
+use crate::scan::{after, after_word, is_empty, is_next, is_word, word_of};
+use crate::slip::{Lack, Why};
+use crate::values::{address_of, count_of};
+use places::Names;
+
+/// The addresses from the first to so many behind it, none past $FFFF.
+fn so_many_from(first: u16, count: u32) -> Stretch
+    ensures { result ≡ so_many_from first count }
+{
+    let last = (first as u32).saturating_add(count.saturating_sub(1));
+    Stretch {
+        first,
+        last: last.min(65535) as u16,
+    }
+}
+
+/// The addresses between two, the last of which must not be below the first.
+fn last_of(first: u16, last: u16, rest: &[u8]) -> Result<(Stretch, &[u8]), Why<'_>>
+    ensures ok { IfOk result (λ p. last_of first last rest.now ≡ Ok (p.0, p.1.now)) }
+    ensures err { IfErr result (λ why. last_of first last rest.now ≡ Err (why_view why)) }
+{
+    if last < first {
+        return Err(Why::Missing(Lack::LastAddress));
+    }
+    Ok((Stretch { first, last }, rest))
+}
+
+/// Reads `WHERE` or `WHERE..WHERE`.
+#[tactic(auto, unfolding(crate::specs::Parts::stretch_of))]
+pub fn stretch_of<'a>(
+    names: &Names,
+    pc: u16,
+    text: &'a [u8],
+) -> Result<(Stretch, &'a [u8]), Why<'a>>
+    ensures ok { IfOk result (λ p. stretch_of names.now pc text.now ≡ Ok (p.0, p.1.now)) }
+    ensures err { IfErr result (λ why. stretch_of names.now pc text.now ≡ Err (why_view why)) }
+{
+    let (first, rest) = address_of(names, pc, text)?;
+    if !is_next(b'.', rest) {
+        return Ok((Stretch { first, last: first }, rest));
+    }
+    if !is_next(b'.', after(1, rest)) {
+        return Err(Why::Missing(Lack::Points));
+    }
+    let (last, rest) = address_of(names, pc, after(1, after(1, rest)))?;
+    last_of(first, last, rest)
+}
+
+/// Reads `read`, `write` or `change`.
+pub fn kind_of(text: &[u8]) -> (WatchKind, &[u8])
+    ensures { kind_of text.now ≡ Ok (result.0, result.1.now) }
+{
+    if is_word(b"read", text) {
+        (WatchKind::Read, after_word(text))
+    } else if is_word(b"write", text) {
+        (WatchKind::Write, after_word(text))
+    } else if is_word(b"change", text) {
+        (WatchKind::Change, after_word(text))
+    } else {
+        (WatchKind::Change, text)
+    }
+}
+
+/// Reads a count of addresses from one on, 64 if none is given.
+fn by_count<'a>(names: &Names, first: u16, text: &'a [u8]) -> Result<(Stretch, &'a [u8]), Why<'a>>
+    ensures ok { IfOk result (λ p. by_count names.now first text.now ≡ Ok (p.0, p.1.now)) }
+    ensures err { IfErr result (λ why. by_count names.now first text.now ≡ Err (why_view why)) }
+{
+    let (count, rest) = count_of(names, text)?;
+    Ok((so_many_from(first, count.unwrap_or(64)), rest))
+}
+
+/// Reads a last address of four bytes, or a count.
+#[tactic(auto, unfolding(crate::specs::Parts::second_of))]
+fn second_of<'a>(
+    names: &Names,
+    pc: u16,
+    first: u16,
+    text: &'a [u8],
+) -> Result<(Stretch, &'a [u8]), Why<'a>>
+    ensures ok { IfOk result (λ p. second_of names.now pc first text.now ≡ Ok (p.0, p.1.now)) }
+    ensures err { IfErr result
+        (λ why. second_of names.now pc first text.now ≡ Err (why_view why)) }
+{
+    if word_of(text).len() == 4 {
+        let (last, rest) = address_of(names, pc, text)?;
+        if first <= last {
+            return Ok((Stretch { first, last }, rest));
+        }
+    }
+    by_count(names, first, text)
+}
+
+/// Reads `WHERE`, `WHERE N`, `WHERE..WHERE`, or two addresses of four hex digits.
+#[tactic(auto, unfolding(crate::specs::Parts::shown_of))]
+pub fn shown_of<'a>(names: &Names, pc: u16, text: &'a [u8]) -> Result<(Stretch, &'a [u8]), Why<'a>>
+    ensures ok { IfOk result (λ p. shown_of names.now pc text.now ≡ Ok (p.0, p.1.now)) }
+    ensures err { IfErr result (λ why. shown_of names.now pc text.now ≡ Err (why_view why)) }
+{
+    let (range, rest) = stretch_of(names, pc, text)?;
+    if range.first < range.last {
+        Ok((range, rest))
+    } else if is_empty(rest) {
+        Ok((so_many_from(range.first, 64), rest))
+    } else {
+        second_of(names, pc, range.first, rest)
+    }
+}
