@@ -1,1 +1,3 @@
+pub mod Classes
+pub mod Operands
 pub mod Places

@@ -1,12 +1,17 @@
 //! The tokens of a line's operation.
 
+ghost use Rattle.std.specs.Prelude.{◌≡◌};
+ghost use Rattle.notes.specs.Operands.{after_label, is_symbol, operand_of};
+
 use crate::runs::blank_run;
 use crate::words::{Note, noted};
 use line_parts::Token;
 use model::TokenKind;
 
 /// Returns whether a token is this symbol.
-pub fn is_symbol(token: &Token<'_>, symbol: u8) -> bool {
+pub fn is_symbol(token: &Token<'_>, symbol: u8) -> bool
+    ensures { result ≡ is_symbol token.now symbol }
+{
     match (token.kind, token.text) {
         (TokenKind::Symbol, [byte]) => *byte == symbol,
         _ => false,
@@ -14,7 +19,9 @@ pub fn is_symbol(token: &Token<'_>, symbol: u8) -> bool {
 }
 
 /// Returns the tokens after a label, all where there is none.
-pub fn after_label<'t, 'a>(tokens: &'t [Token<'a>]) -> &'t [Token<'a>] {
+pub fn after_label<'t, 'a>(tokens: &'t [Token<'a>]) -> &'t [Token<'a>]
+    ensures { result.now ≡ after_label tokens.now }
+{
     match tokens {
         [_, colon, rest @ ..] if is_symbol(colon, b':') => rest,
         _ => tokens,
@@ -22,7 +29,9 @@ pub fn after_label<'t, 'a>(tokens: &'t [Token<'a>]) -> &'t [Token<'a>] {
 }
 
 /// Returns the tokens after the first one of an operation, or after the `=` of a definition.
-pub fn operand_of<'t, 'a>(tokens: &'t [Token<'a>]) -> &'t [Token<'a>] {
+pub fn operand_of<'t, 'a>(tokens: &'t [Token<'a>]) -> &'t [Token<'a>]
+    ensures { result.now ≡ operand_of tokens.now }
+{
     match after_label(tokens) {
         [_, equals, value @ ..] if is_symbol(equals, b'=') => value,
         [_, operand @ ..] => operand,

@@ -1,5 +1,10 @@
 //! How many bytes of one class some bytes begin with.
 
+ghost use Rattle.std.specs.Prelude.{◌≡◌, drop};
+ghost use Rattle.std.specs.List.{prefix_len};
+ghost use Rattle.model.specs.Token.{is_blank, is_word_byte};
+ghost use Rattle.notes.specs.Classes.{is_in};
+
 /// A class of bytes.
 #[derive(Clone, Copy)]
 pub enum Class {
@@ -19,7 +24,9 @@ pub enum Class {
 
 impl Class {
     /// Returns whether a byte is of the class.
-    pub fn has(self, byte: u8) -> bool {
+    pub fn has(self, byte: u8) -> bool
+        ensures { result ≡ is_in self byte }
+    {
         match self {
             Class::Blank => matches!(byte, b' ' | b'\t'),
             Class::Word => matches!(byte, b'A'..=b'Z' | b'a'..=b'z' | b'0'..=b'9' | b'_'),
@@ -32,19 +39,16 @@ impl Class {
 }
 
 /// Returns how many bytes of a class some bytes begin with.
-pub fn run_of(class: Class, bytes: &[u8]) -> usize {
-    let mut count = 0usize;
-    for byte in bytes {
-        if !class.has(*byte) {
-            return count;
-        }
-        count = count.saturating_add(1);
-    }
-    count
+pub fn run_of(class: Class, bytes: &[u8]) -> usize
+    ensures { result ≡ prefix_len (is_in class) bytes.now }
+{
+    bytes.iter().take_while(|byte| class.has(**byte)).count()
 }
 
 /// Returns the bytes after so many, if there are so many.
-pub fn after(bytes: &[u8], count: usize) -> &[u8] {
+pub fn after(bytes: &[u8], count: usize) -> &[u8]
+    ensures { result.now ≡ drop count bytes.now }
+{
     if count <= bytes.len() {
         &bytes[count..]
     } else {
@@ -53,11 +57,15 @@ pub fn after(bytes: &[u8], count: usize) -> &[u8] {
 }
 
 /// Returns how many spaces and tabs some bytes begin with.
-pub fn blank_run(bytes: &[u8]) -> usize {
+pub fn blank_run(bytes: &[u8]) -> usize
+    ensures { result ≡ prefix_len is_blank bytes.now }
+{
     run_of(Class::Blank, bytes)
 }
 
 /// Returns how many letters, digits and `_` some bytes begin with.
-pub fn word_run(bytes: &[u8]) -> usize {
+pub fn word_run(bytes: &[u8]) -> usize
+    ensures { result ≡ prefix_len is_word_byte bytes.now }
+{
     run_of(Class::Word, bytes)
 }

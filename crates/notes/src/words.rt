@@ -1,7 +1,8 @@
 //! Words put together.
 
-ghost use Rattle.std.specs.Prelude.{◌≡◌, ◌++◌, OnOk};
+ghost use Rattle.std.specs.Prelude.{◌≡◌, ◌%◌, ◌∷◌, ◌++◌, IfOk, OnOk};
 ghost use Rattle.std.specs.Fmt.{decimal};
+ghost use Rattle.model.specs.Text.{hex_address};
 
 use formatting::digits_of_address;
 use itoa::Buffer;
@@ -17,7 +18,9 @@ pub struct Note {
 }
 
 /// Returns words about some bytes of a line.
-pub fn noted(start: usize, width: usize, words: Vec<u8>) -> Note {
+pub fn noted(start: usize, width: usize, words: Vec<u8>) -> Note
+    ensures { result ≡ record { start = start; width = width; words = words } }
+{
     Note {
         start,
         width,
@@ -35,12 +38,16 @@ pub fn joined(alloc: Global, pieces: &[&[u8]]) -> Result<Vec<u8>, AllocError> {
 }
 
 /// Returns words that stand as they are.
-pub fn said(alloc: Global, words: &str) -> Result<Vec<u8>, AllocError> {
+pub fn said(alloc: Global, words: &str) -> Result<Vec<u8>, AllocError>
+    ensures { IfOk result (λ text. text.items ≡ words.now) }
+{
     Vec::from_slice(alloc, words.as_bytes())
 }
 
 /// Returns a name and what is said of it.
-pub fn named(alloc: Global, name: &[u8], words: &str) -> Result<Vec<u8>, AllocError> {
+pub fn named(alloc: Global, name: &[u8], words: &str) -> Result<Vec<u8>, AllocError>
+    ensures { IfOk result (λ text. text.items ≡ name.now ++ words.now) }
+{
     let mut text = Vec::from_slice(alloc, name)?;
     text.extend_from_slice(words.as_bytes())?;
     Ok(text)
@@ -59,7 +66,10 @@ pub fn push_count(words: &mut Vec<u8>, number: u32) -> Result<(), AllocError>
 }
 
 /// Appends an address in hex.
-pub fn push_address(words: &mut Vec<u8>, address: u32) -> Result<(), AllocError> {
+pub fn push_address(words: &mut Vec<u8>, address: u32) -> Result<(), AllocError>
+    ensures { OnOk result (words.new.items
+        ≡ words.old.items ++ 36 ∷ hex_address (address % 65536)) }
+{
     words.push(b'$')?;
     words.extend_from_slice(&digits_of_address((address % 65536) as u16))
 }
