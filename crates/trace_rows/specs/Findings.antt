@@ -6,7 +6,7 @@ use Rattle.footprint.specs.declared.moment.Moment.{Moment}
 use Rattle.trace_rows.specs.declared.sites.Sites.{Sites}
 use Rattle.trace_rows.specs.declared.unwritten.Finding.{Finding}
 use Rattle.trace_rows.specs.declared.unwritten.Part.{Part}
-use Rattle.trace_rows.specs.declared.unwritten.Part.TheVariants.{Code, Data, Vector}
+use Rattle.trace_rows.specs.declared.unwritten.Part.TheVariants.{Code, Vector}
 use Rattle.trace_rows.specs.Steps.{ended_row, row_front, with_executed}
 use Rattle.trace_rows.specs.Words.{padded}
 

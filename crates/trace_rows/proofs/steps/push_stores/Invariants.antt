@@ -1,4 +1,4 @@
-use Rattle.std.proofs.Common.{◌≡◌, ◌≤◌, ◌+◌, ◌*◌, ◌++◌, length, take, drop}
+use Rattle.std.proofs.Common.{◌≡◌, ◌≤◌, ◌+◌, ◌*◌, length, take, drop}
 use Rattle.trace_rows.specs.Steps.{with_stores}
 use Rattle.trace_rows.proofs.steps.push_stores.Given as goal
 
