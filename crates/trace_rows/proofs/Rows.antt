@@ -31,6 +31,8 @@ reaches zero xs ys h = omega arith
 reaches (suc n) [] ys h = absurd (omega arith)
 reaches (suc n) (x ∷ xs) ys h = let e : n ≤ length (take n xs ++ ys) = reaches n xs ys (omega arith) in omega arith
 
+pub ruleset grown = (take_grown, drop_grown, take_taken, drop_taken, reaches)
+
 pub padded_at : (from column : ℕ) (text : List ℕ) → from ≤ length text → take from text ++ padded column (drop from text) ≡ text ++ blanks (column - (length text - from))
 unfolding padded
 padded_at from column text h =

@@ -6,7 +6,8 @@ ghost use Rattle.disasm.specs.Rows.{row_view};
 ghost use Rattle.model.specs.InstructionText.{row_of};
 ghost use Rattle.trace_rows.specs.Steps.{byte_left, bytes_of, flag_letter, flag_letters};
 ghost use Rattle.trace_rows.specs.Steps.{instruction_columns, regs_text, step_row, with_entry};
-ghost use Rattle.trace_rows.specs.Steps.{byte_column, named_byte, step_front, store_text, with_executed, with_stores};
+ghost use Rattle.trace_rows.specs.Steps.{byte_column, named_byte, step_front, store_text, with_executed};
+ghost use Rattle.trace_rows.specs.Steps.{with_stores};
 
 use crate::sites::Sites;
 use crate::words::{SiteColumns, push_address, push_blanks, push_byte, push_front, push_row_end};
@@ -44,7 +45,8 @@ const SITE_BEHIND: SiteColumns = SiteColumns {
 
 /// Returns the instruction of a moment as text.
 fn instruction(session: &Session, moment: &Moment) -> TextLine
-    ensures row { row_view result ≡ row_of session.now.current.bus.map.profile (bytes_of moment.now) moment.now.regs.pc }
+    ensures row { row_view result ≡ row_of session.now.current.bus.map.profile
+        (bytes_of moment.now) moment.now.regs.pc }
     ensures short { result.text_len ≤ 12 }
     ensures within { result.len ≤ 3 }
 {
@@ -71,7 +73,7 @@ fn push_byte_column(text: &mut Vec<u8>, byte: u8) -> Result<(), AllocError>
 }
 
 /// Appends the bytes and the text of the instruction of a moment.
-#[tactic(auto, using(crate::proofs::Rows::take_grown, crate::proofs::Rows::drop_grown, crate::proofs::Rows::take_taken, crate::proofs::Rows::drop_taken, crate::proofs::Rows::reaches), unfolding(crate::specs::Steps::instruction_columns))]
+#[tactic(auto, using(crate::proofs::Rows::grown), unfolding(crate::specs::Steps::instruction_columns))]
 pub fn push_instruction(
     text: &mut Vec<u8>,
     session: &Session,
@@ -89,17 +91,18 @@ pub fn push_instruction(
 }
 
 /// Appends what stands for the instruction in the row of an interrupt entry that begins at `from`.
-#[tactic(auto, using(crate::proofs::Rows::take_grown, crate::proofs::Rows::drop_grown, crate::proofs::Rows::take_taken, crate::proofs::Rows::drop_taken, crate::proofs::Rows::reaches), unfolding(crate::specs::Steps::with_entry))]
+#[tactic(auto, using(crate::proofs::Rows::grown), unfolding(crate::specs::Steps::with_entry))]
 pub fn push_entry(text: &mut Vec<u8>, from: usize) -> Result<(), AllocError>
     requires { from ≤ length text.old.items }
-    ensures { OnOk result (text.new.items ≡ take from text.old.items ++ with_entry (drop from text.old.items)) }
+    ensures { OnOk result (text.new.items ≡ take from text.old.items
+        ++ with_entry (drop from text.old.items)) }
 {
     push_blanks(text, from, TEXT_COLUMN)?;
     text.extend_from_slice(b"(interrupt)")
 }
 
 /// Appends what a step executes to the row that begins at `from`: an entry, or the instruction.
-#[tactic(auto, using(crate::proofs::Rows::take_grown, crate::proofs::Rows::drop_grown, crate::proofs::Rows::take_taken, crate::proofs::Rows::drop_taken, crate::proofs::Rows::reaches))]
+#[tactic(auto, using(crate::proofs::Rows::grown))]
 pub fn push_executed(
     text: &mut Vec<u8>,
     from: usize,
@@ -109,7 +112,8 @@ pub fn push_executed(
 ) -> Result<(), AllocError>
     requires { from ≤ length text.old.items }
     ensures { OnOk result (text.new.items ≡ take from text.old.items
-        ++ with_executed is_entry session.now.current.bus.map.profile moment.now (drop from text.old.items)) }
+        ++ with_executed is_entry session.now.current.bus.map.profile moment.now
+        (drop from text.old.items)) }
 {
     if is_entry {
         push_entry(text, from)
@@ -166,7 +170,8 @@ fn push_regs(text: &mut Vec<u8>, regs: Regs) -> Result<(), AllocError>
 
 /// Appends an address and what a store has left there: `01FD=02`.
 fn push_store(text: &mut Vec<u8>, session: &Session, address: u16) -> Result<(), AllocError>
-    ensures { OnOk result (text.new.items ≡ text.old.items ++ store_text session.now.current.bus address) }
+    ensures { OnOk result (text.new.items ≡ text.old.items
+        ++ store_text session.now.current.bus address) }
 {
     push_address(text, address)?;
     text.extend_from_slice(b"=")?;
@@ -183,7 +188,8 @@ fn push_stores(
 ) -> Result<(), AllocError>
     requires { from ≤ length text.old.items }
     ensures { OnOk result (text.new.items ≡ take from text.old.items
-        ++ with_stores session.now.current.bus STORES_COLUMN stores.now.items (drop from text.old.items)) }
+        ++ with_stores session.now.current.bus STORES_COLUMN stores.now.items
+        (drop from text.old.items)) }
 {
     let mut column = STORES_COLUMN;
     for address in stores.as_slice() {
@@ -209,9 +215,10 @@ fn byte_left(session: &Session, address: u16) -> u8
 }
 
 /// Appends what the row of a step has before its stores.
-#[tactic(auto, using(crate::proofs::Rows::take_grown, crate::proofs::Rows::drop_grown, crate::proofs::Rows::take_taken, crate::proofs::Rows::drop_taken, crate::proofs::Rows::reaches), unfolding(crate::specs::Steps::step_front))]
+#[tactic(auto, using(crate::proofs::Rows::grown), unfolding(crate::specs::Steps::step_front))]
 fn push_step_front(text: &mut Vec<u8>, session: &Session, step: &Step) -> Result<(), AllocError>
-    ensures { OnOk result (text.new.items ≡ text.old.items ++ step_front session.now.current step.now) }
+    ensures { OnOk result (text.new.items ≡ text.old.items
+        ++ step_front session.now.current step.now) }
 {
     let from = text.len();
     push_front(text, step.moment.cycles, &step.moment)?;
@@ -229,7 +236,7 @@ fn push_step_front(text: &mut Vec<u8>, session: &Session, step: &Step) -> Result
 /// The session is in the state after the step.
 ///
 /// Errors: `AllocError` if an allocation fails.
-#[tactic(auto, using(crate::proofs::Rows::take_grown, crate::proofs::Rows::drop_grown, crate::proofs::Rows::take_taken, crate::proofs::Rows::drop_taken, crate::proofs::Rows::reaches), unfolding(crate::specs::Steps::step_row))]
+#[tactic(auto, using(crate::proofs::Rows::grown), unfolding(crate::specs::Steps::step_row))]
 pub fn push_step(
     text: &mut Vec<u8>,
     session: &Session,

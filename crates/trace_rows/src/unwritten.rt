@@ -41,7 +41,7 @@ const SITE: SiteColumns = SiteColumns {
 };
 
 /// Appends what the row of a finding has before the label.
-#[tactic(auto, using(crate::proofs::Rows::take_grown, crate::proofs::Rows::drop_grown, crate::proofs::Rows::take_taken, crate::proofs::Rows::drop_taken, crate::proofs::Rows::reaches), unfolding(crate::specs::Findings::finding_front))]
+#[tactic(auto, using(crate::proofs::Rows::grown), unfolding(crate::specs::Findings::finding_front))]
 fn push_finding_front(
     text: &mut Vec<u8>,
     session: &Session,
@@ -83,7 +83,7 @@ fn push_verb(text: &mut Vec<u8>, part: Part) -> Result<(), AllocError>
 /// instruction, what it reads, and the label and the line of the source as far as there are any.
 ///
 /// Errors: `AllocError` if an allocation fails.
-#[tactic(auto, using(crate::proofs::Rows::take_grown, crate::proofs::Rows::drop_grown, crate::proofs::Rows::take_taken, crate::proofs::Rows::drop_taken, crate::proofs::Rows::reaches), unfolding(crate::specs::Findings::finding_row))]
+#[tactic(auto, using(crate::proofs::Rows::grown), unfolding(crate::specs::Findings::finding_row))]
 pub fn push_finding(
     text: &mut Vec<u8>,
     session: &Session,

@@ -51,7 +51,8 @@ pub fn push_address(text: &mut Vec<u8>, address: u16) -> Result<(), AllocError>
 #[tactic(auto, using(crate::proofs::Rows::padded_at))]
 pub fn push_blanks(text: &mut Vec<u8>, from: usize, column: u8) -> Result<(), AllocError>
     requires { from ≤ length text.old.items }
-    ensures { OnOk result (text.new.items ≡ take from text.old.items ++ padded column (drop from text.old.items)) }
+    ensures { OnOk result (text.new.items ≡ take from text.old.items
+        ++ padded column (drop from text.old.items)) }
 {
     let width = text.len() - from;
     let missing = (column as usize).saturating_sub(width);
@@ -68,7 +69,7 @@ pub struct SiteColumns {
 
 /// Appends a label and how far an address is above it, after two blanks and no further left than a
 /// column.
-#[tactic(auto, using(crate::proofs::Rows::take_grown, crate::proofs::Rows::drop_grown, crate::proofs::Rows::take_taken, crate::proofs::Rows::drop_taken, crate::proofs::Rows::reaches), unfolding(crate::specs::Words::with_label))]
+#[tactic(auto, using(crate::proofs::Rows::grown), unfolding(crate::specs::Words::with_label))]
 fn push_label(
     text: &mut Vec<u8>,
     from: usize,
@@ -91,7 +92,7 @@ fn push_label(
 }
 
 /// Appends the number of a line after a colon, likewise.
-#[tactic(auto, using(crate::proofs::Rows::take_grown, crate::proofs::Rows::drop_grown, crate::proofs::Rows::take_taken, crate::proofs::Rows::drop_taken, crate::proofs::Rows::reaches), unfolding(crate::specs::Words::with_line))]
+#[tactic(auto, using(crate::proofs::Rows::grown), unfolding(crate::specs::Words::with_line))]
 fn push_line_number(
     text: &mut Vec<u8>,
     from: usize,
@@ -110,7 +111,7 @@ fn push_line_number(
 
 /// Appends the label of an address and the number of its line, as far as the source has them, each
 /// after two blanks and no further left than its column: `again+4  :6`.
-#[tactic(auto, using(crate::proofs::Rows::take_grown, crate::proofs::Rows::drop_grown, crate::proofs::Rows::take_taken, crate::proofs::Rows::drop_taken, crate::proofs::Rows::reaches), unfolding(crate::specs::Words::with_site, crate::specs::Words::with_label, crate::specs::Words::with_line))]
+#[tactic(auto, using(crate::proofs::Rows::grown), unfolding(crate::specs::Words::with_site, crate::specs::Words::with_label, crate::specs::Words::with_line))]
 pub fn push_site(
     text: &mut Vec<u8>,
     from: usize,
@@ -132,7 +133,7 @@ pub fn push_site(
 }
 
 /// Appends the label and the line of an address, and ends the row.
-#[tactic(auto, using(crate::proofs::Rows::take_grown, crate::proofs::Rows::drop_grown, crate::proofs::Rows::take_taken, crate::proofs::Rows::drop_taken, crate::proofs::Rows::reaches))]
+#[tactic(auto, using(crate::proofs::Rows::grown))]
 pub fn push_row_end(
     text: &mut Vec<u8>,
     from: usize,
