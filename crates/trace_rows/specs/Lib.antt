@@ -1,0 +1,4 @@
+pub mod Sites
+pub mod Words
+pub mod Steps
+pub mod Findings

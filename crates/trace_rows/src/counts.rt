@@ -7,11 +7,11 @@ use footprint::{Count, Tally};
 use std::alloc::{AllocError, Global};
 
 /// The columns of visits.
-const VISITS: usize = 8;
+const VISITS: u8 = 8;
 /// The columns of cycles, with two blanks before them.
-const CYCLES: usize = 12;
+const CYCLES: u8 = 12;
 /// The columns of a line's number.
-const NUMBER: usize = 4;
+const NUMBER: u8 = 4;
 
 /// Appends a table's head, behind an empty line if it is not the first.
 fn push_head(text: &mut Vec<u8>, what: &str) -> Result<(), AllocError> {

@@ -1,5 +1,9 @@
 //! Which label and which line of the source an address belongs to.
 
+ghost use Rattle.std.specs.Prelude.{◌≡◌, []};
+ghost use Rattle.std.specs.Option.{option_copied};
+ghost use Rattle.trace_rows.specs.Sites.{index_at, label_near, line_at, near_view};
+
 use crate::lines::{SourceLine, lines_of};
 use assembler::Assembly;
 use std::alloc::{AllocError, Global};
@@ -23,7 +27,9 @@ pub struct Sites {
 }
 
 /// Returns the place of a row in a table of one more than indices, or `None` for 0.
-fn place_at(table: &Vec<u32>, address: u16) -> Option<usize> {
+fn place_at(table: &Vec<u32>, address: u16) -> Option<usize>
+    ensures { result ≡ index_at table.now.items address }
+{
     match table.get(address as usize) {
         None => None,
         Some(0) => None,
@@ -77,7 +83,12 @@ fn spread(table: &mut Vec<u32>, assembly: &Assembly) {
 
 impl Sites {
     /// Makes the sites of a program without a source.
-    pub fn new(alloc: Global) -> Sites {
+    pub fn new(alloc: Global) -> Sites
+        ensures labels { result.labels.items ≡ [] }
+        ensures lines { result.lines.items ≡ [] }
+        ensures label_of { result.label_of.items ≡ [] }
+        ensures line_of { result.line_of.items ≡ [] }
+    {
         Sites {
             labels: Vec::new(alloc),
             lines: Vec::new(alloc),
@@ -111,29 +122,39 @@ impl Sites {
     }
 
     /// Returns the labels in the order of definition.
-    pub fn labels(&self) -> &[Label] {
+    pub fn labels(&self) -> &[Label]
+        ensures { result.now ≡ self.now.labels.items }
+    {
         self.labels.as_slice()
     }
 
     /// Returns the lines that have bytes, in their order.
-    pub fn lines(&self) -> &[SourceLine] {
+    pub fn lines(&self) -> &[SourceLine]
+        ensures { result.now ≡ self.now.lines.items }
+    {
         self.lines.as_slice()
     }
 
     /// Returns the index of the label that an address belongs to: the first that stands there, or
     /// otherwise the nearest below it, if the source puts bytes at all addresses between.
-    pub fn label_index(&self, address: u16) -> Option<usize> {
+    pub fn label_index(&self, address: u16) -> Option<usize>
+        ensures { result ≡ index_at self.now.label_of.items address }
+    {
         place_at(&self.label_of, address)
     }
 
     /// Returns the label that an address belongs to, and how far above it the address is.
-    pub fn label_near(&self, address: u16) -> Option<(&[u8], u16)> {
+    pub fn label_near(&self, address: u16) -> Option<(&[u8], u16)>
+        ensures { near_view result ≡ label_near self.now address }
+    {
         let label = self.labels.get(self.label_index(address)?)?;
         Some((label.text.as_slice(), address.wrapping_sub(label.address)))
     }
 
     /// Returns the first line whose first byte stands at an address.
-    pub fn line_at(&self, address: u16) -> Option<&SourceLine> {
+    pub fn line_at(&self, address: u16) -> Option<&SourceLine>
+        ensures { option_copied result ≡ line_at self.now address }
+    {
         self.lines.get(place_at(&self.line_of, address)?)
     }
 }

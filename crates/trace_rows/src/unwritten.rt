@@ -1,8 +1,11 @@
 //! A row for a read of memory that nobody ever wrote.
 
+ghost use Rattle.std.specs.Prelude.{◌≡◌, ◌++◌, OnOk};
+ghost use Rattle.trace_rows.specs.Findings.{finding_front, finding_row, read_text, verb};
+
 use crate::sites::Sites;
-use crate::steps::{push_entry, push_instruction};
-use crate::words::{SiteColumns, push_address, push_blanks, push_count, push_site};
+use crate::steps::push_executed;
+use crate::words::{SiteColumns, push_address, push_blanks, push_front, push_row_end};
 use debugger::Session;
 use footprint::Moment;
 use std::alloc::AllocError;
@@ -30,44 +33,68 @@ pub struct Finding {
 }
 
 /// The column of what is read, behind 8 digits of the step, an address, bytes and text.
-const READ_COLUMN: usize = 40;
+const READ_COLUMN: u8 = 40;
 /// The columns of the label and the line.
 const SITE: SiteColumns = SiteColumns {
     label: 72,
     line: 86,
 };
 
+/// Appends what the row of a finding has before the label.
+#[tactic(auto, using(crate::proofs::Rows::grown), unfolding(crate::specs::Findings::finding_front))]
+fn push_finding_front(
+    text: &mut Vec<u8>,
+    session: &Session,
+    moment: &Moment,
+    finding: Finding,
+) -> Result<(), AllocError>
+    ensures { OnOk result (text.new.items ≡ text.old.items
+        ++ finding_front session.now.current moment.now finding) }
+{
+    let from = text.len();
+    let is_entry = matches!(finding.part, Part::Vector);
+    push_front(text, finding.step, moment)?;
+    push_executed(text, from, session, moment, is_entry)?;
+    text.extend_from_slice(b"  ")?;
+    push_blanks(text, from, READ_COLUMN)?;
+    push_read(text, finding)
+}
+
+/// Appends what is read.
+fn push_read(text: &mut Vec<u8>, finding: Finding) -> Result<(), AllocError>
+    ensures { OnOk result (text.new.items ≡ text.old.items ++ read_text finding) }
+{
+    push_verb(text, finding.part)?;
+    push_address(text, finding.address)?;
+    text.extend_from_slice(b", never written")
+}
+
+/// Appends what is said of a read: code runs, all else is read.
+fn push_verb(text: &mut Vec<u8>, part: Part) -> Result<(), AllocError>
+    ensures { OnOk result (text.new.items ≡ text.old.items ++ verb part) }
+{
+    match part {
+        Part::Code => text.extend_from_slice(b"runs "),
+        Part::Data | Part::Vector => text.extend_from_slice(b"reads "),
+    }
+}
+
 /// Appends the row of a finding: the number of the step, address, bytes and text of its
 /// instruction, what it reads, and the label and the line of the source as far as there are any.
 ///
 /// Errors: `AllocError` if an allocation fails.
+#[tactic(auto, using(crate::proofs::Rows::grown), unfolding(crate::specs::Findings::finding_row))]
 pub fn push_finding(
     text: &mut Vec<u8>,
     session: &Session,
     sites: &Sites,
     moment: &Moment,
     finding: Finding,
-) -> Result<(), AllocError> {
+) -> Result<(), AllocError>
+    ensures { OnOk result (text.new.items ≡ text.old.items
+        ++ finding_row session.now.current sites.now moment.now finding) }
+{
     let from = text.len();
-    push_count(text, finding.step, 8)?;
-    text.extend_from_slice(b"  ")?;
-    push_address(text, moment.regs.pc)?;
-    text.extend_from_slice(b"  ")?;
-    if finding.part == Part::Vector {
-        push_entry(text, from)?;
-    } else {
-        push_instruction(text, session, moment)?;
-    }
-    text.extend_from_slice(b"  ")?;
-    push_blanks(text, from, READ_COLUMN)?;
-    if finding.part == Part::Code {
-        text.extend_from_slice(b"runs ")?;
-    } else {
-        text.extend_from_slice(b"reads ")?;
-    }
-    push_address(text, finding.address)?;
-    text.extend_from_slice(b", never written")?;
-    push_site(text, from, SITE, sites, moment.regs.pc)?;
-    text.push(b'\n')?;
-    Ok(())
+    push_finding_front(text, session, moment, finding)?;
+    push_row_end(text, from, SITE, sites, moment.regs.pc)
 }
