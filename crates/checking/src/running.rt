@@ -195,7 +195,7 @@ pub fn check<H: Files + AllocGlobal, O: Write, E: Write>(
     errors: &mut E,
 ) -> u8
     ensures status { result ≤ 4 }
-    // 0 means that some source was checked, on the map of the words, and what was written of it that
+    // 0 means that some source was checked, on the map of the words, and what was written of it
     // does not count for the status; or the help that is asked for was written.
     ensures right { result ≡ 0 → AsksForHelp check (map (λ s. s.now) words.entry.now)
         ⊎ Asks (map (λ s. s.now) words.entry.now) (λ asked. Tells (IsSaid asked) true

@@ -1,7 +1,6 @@
 //! Numbers and places in a text.
 
 ghost use Rattle.std.specs.Prelude.{◌≡◌, ◌∷◌, ◌++◌, [], OnErr, OnOk, decimal};
-
 ghost use Rattle.model.specs.Text.{hex_address, hex_byte};
 ghost use Rattle.mon_views.specs.Shown.{shown_character};
 
