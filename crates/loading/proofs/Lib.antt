@@ -1,2 +1,3 @@
 pub mod DigitLemmas
 pub mod Reading
+mod Ends

@@ -2,6 +2,7 @@
 -- among them. Source: mos65.
 use Rattle.std.specs.Prelude.{ℕ, Bool, Option, Some, None, codes}
 use Rattle.clap.specs.Words.{Text}
+use Rattle.model.specs.State.{Map}
 use Rattle.model.specs.declared.instruction.Profile.{Profile}
 use Rattle.program_words.specs.Asked.{is_flag}
 use Rattle.program_words.specs.Values.{port_asked, profile_asked, rom_asked}
@@ -12,6 +13,10 @@ pub record FileAsked : Type 0 where
   pub port : ℕ
   pub rom : Option (ℕ × ℕ)
   pub profile : Profile
+
+-- The map that the file is loaded on, if its port and its ROM make one.
+abbrev pub map_of : FileAsked → Map
+map_of file = record { profile = file.profile; rom = file.rom; port = file.port }
 
 abbrev pub file_of : Option Text → Bool → Option ℕ → Option (Option (ℕ × ℕ)) → Option Profile
     → Option FileAsked

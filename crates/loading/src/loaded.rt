@@ -1,18 +1,30 @@
 //! A file loaded into a session.
 
-ghost use Rattle.std.specs.Prelude.{◌≡◌, ◌≤◌, ℕ, List, Option, IfOk};
+ghost use Rattle.std.specs.Prelude.{◌≡◌, ◌≤◌, ◌⊎◌, ℕ, List, Option, Err, IfErr, IfOk, false, true};
+ghost use Rattle.engine.specs.Refusals.{of_session, of_source, of_tape_read};
+ghost use Rattle.loading.specs.Asked.{map_of};
+ghost use Rattle.loading.specs.Ends.{EndsFile, EndsLoad, EndsNames, EndsSource};
+ghost use Rattle.loading.specs.Ends.{IsBadMap, IsImageOf, IsUnread};
+ghost use Rattle.loading.specs.Statuses.{status_of_load};
+ghost use Rattle.loading.specs.Views.{file_view};
+ghost use Rattle.loading.specs.declared.loaded.LoadFault.TheVariants.{Refused};
 ghost use Rattle.model.specs.Event.{start};
 ghost use Rattle.model.specs.Session.{new_session};
-ghost use Rattle.loading.specs.Statuses.{status_of_load};
+ghost use Rattle.model.specs.Source.{Denotes};
+ghost use Rattle.model.specs.State.{has_port_byte, is_map};
+ghost use Rattle.model.specs.TapePieces.{IsReadInPieces};
+ghost use Rattle.model.specs.declared.bus_fault.BusFault.TheVariants.{BadMap};
+ghost use Rattle.program.specs.Refusals.{of_engine};
 
 use crate::options::FileWords;
 use assembler::{Assembly, assemble};
-use bus::MapSpec;
+use bus::{Image, MapSpec};
 use debugger::Session;
 use engine::EngineFault;
-use model::{AsmFault, Profile};
+use model::{AsmFault, Profile, SessionFault};
 use papertape::{TapeReadFault, read_tape_from};
 use program::{Refusal, refuse};
+use std::alloc::Global;
 use std::fs::File;
 use std::io;
 use std::io::{Read, Write};
@@ -40,6 +52,8 @@ pub enum LoadFault {
 }
 
 impl From<Refusal> for LoadFault {
+    ghost from_gives = { λ refusal fault. fault ≡ Refused refusal };
+
     fn from(refusal: Refusal) -> LoadFault {
         LoadFault::Refused(refusal)
     }
@@ -62,7 +76,20 @@ impl LoadFault {
 }
 
 /// Returns the bytes of a source's file, or the first of them if it is too long for a source.
-fn read_source<H: Files + AllocGlobal>(rt: &H, path: &str) -> io::Result<Vec<u8>> {
+///
+/// Errors: `OutOfMemory` if an allocation fails, `Read` if the file cannot be read.
+fn read_source<H: Files + AllocGlobal>(rt: &H, path: &str) -> Result<Vec<u8>, Refusal>
+    ensures { IfErr result
+        (λ fault. (fault ≡ Refusal.OutOfMemory) ⊎ (fault ≡ Refusal.Read)) }
+{
+    match read_bytes(rt, path) {
+        Ok(source) => Ok(source),
+        Err(error) => Err(Refusal::unreadable(&error)),
+    }
+}
+
+/// Returns the first bytes of a file.
+fn read_bytes<H: Files + AllocGlobal>(rt: &H, path: &str) -> io::Result<Vec<u8>> {
     let mut source = Vec::new(rt.alloc());
     File::open(rt, path)?
         .take(MOST_READ)
@@ -74,27 +101,89 @@ fn read_source<H: Files + AllocGlobal>(rt: &H, path: &str) -> io::Result<Vec<u8>
 ///
 /// Errors: `Map` if the port and the ROM do not make a map.
 fn map_of(words: &FileWords<'_>) -> Result<MapSpec, Refusal>
-    ensures { IfOk result (λ map. map ≡ record {
-      profile = words.now.profile;
-      rom = words.now.rom;
-      port = words.now.port;
-    }) }
+    ensures map { IfOk result (λ map. map ≡ map_of (file_view words.now)) }
+    ensures is_map { IfOk result (λ _. is_map words.now.rom words.now.port ≡ true) }
+    ensures bad { IfErr result (IsBadMap (map_of (file_view words.now))) }
 {
     let map = MapSpec::new(words.rom, words.port)?;
+    map.is_map();
     match words.profile {
         Profile::N => Ok(map),
         Profile::C => Ok(map.profile_c()),
     }
 }
 
-/// Returns why a source is not loaded.
-fn of_source(fault: AsmFault) -> LoadFault {
-    LoadFault::Refused(Refusal::from(fault))
+/// Returns why a source is rejected.
+fn of_source(fault: AsmFault) -> Refusal
+    ensures { result ≡ of_engine (of_source fault) }
+{
+    Refusal::from(fault)
 }
 
-/// Returns why a tape is not loaded.
-fn of_tape(fault: TapeReadFault) -> LoadFault {
-    LoadFault::Refused(Refusal::from(fault))
+/// Returns why a tape is rejected.
+fn of_tape(fault: TapeReadFault) -> Refusal
+    ensures { result ≡ of_engine (of_tape_read fault) }
+{
+    Refusal::from(fault)
+}
+
+/// Returns why no session is made.
+fn of_session(fault: SessionFault) -> Refusal
+    ensures { result ≡ of_engine (of_session fault) }
+{
+    Refusal::from(EngineFault::from(fault))
+}
+
+/// Assembles a source on a map.
+///
+/// Errors: `Source` with its fault, `OutOfMemory` if an allocation fails.
+fn assembled(alloc: Global, source: &[u8], map: &MapSpec) -> Result<Assembly, Refusal>
+    ensures denoted { IfOk result (λ a. Denotes map.now source.now a.image) }
+    ensures spared { IfOk result (λ a. has_port_byte map.now a.image ≡ false) }
+    ensures refused { IfErr result (EndsSource map.now) }
+{
+    match assemble(alloc, source, map) {
+        Ok(assembly) => Ok(assembly),
+        Err(fault) => Err(of_source(fault)),
+    }
+}
+
+/// Assembles a source on a map, unless it begins with a record of a tape.
+fn assembled_source(alloc: Global, source: &[u8], map: &MapSpec) -> Result<Assembly, LoadFault>
+    ensures denoted { IfOk result (λ a. Denotes map.now source.now a.image) }
+    ensures spared { IfOk result (λ a. has_port_byte map.now a.image ≡ false) }
+    ensures refused { IfErr result (EndsFile false map.now) }
+{
+    match looks_like_tape(alloc, source) {
+        Ok(false) => match assembled(alloc, source, map) {
+            Ok(assembly) => Ok(assembly),
+            Err(refusal) => Err(LoadFault::Refused(refusal)),
+        },
+        Ok(true) => Err(LoadFault::LooksLikeTape),
+        Err(_) => Err(LoadFault::Refused(Refusal::OutOfMemory)),
+    }
+}
+
+/// Returns a session that holds at most `history` earlier states, on the image of a source.
+fn start_source(
+    alloc: Global,
+    map: MapSpec,
+    assembly: Assembly,
+    history: u32,
+) -> Result<Loaded, LoadFault>
+    requires history { history ≤ 65536 }
+    requires spared { has_port_byte map assembly.image ≡ false }
+    ensures started { IfOk result
+        (λ loaded. loaded.session ≡ new_session history (start map assembly.image)) }
+    ensures refused { IfErr result (λ fault. fault ≡ Refused (Refusal.OutOfMemory)) }
+{
+    match Session::new(alloc, map, assembly.image(), history) {
+        Ok(session) => Ok(Loaded {
+            session,
+            assembly: Some(assembly),
+        }),
+        Err(fault) => Err(LoadFault::Refused(of_session(fault))),
+    }
 }
 
 /// Returns a session that holds at most `history` earlier states, on the image of a source's file.
@@ -105,27 +194,36 @@ fn load_source<H: Files + AllocGlobal>(
     history: u32,
 ) -> Result<Loaded, LoadFault>
     requires { history ≤ 65536 }
-    ensures { IfOk result (λ loaded. (image : List (Option ℕ))
-        × (loaded.session ≡ new_session history (start map image))) }
+    ensures started { IfOk result (λ loaded. (image : List (Option ℕ))
+        × IsImageOf false map image × (loaded.session ≡ new_session history (start map image))) }
+    ensures refused { IfErr result (EndsFile false map) }
 {
-    let source = read_source(rt, words.file).map_err(|error| Refusal::unreadable(&error))?;
-    match looks_like_tape(rt.alloc(), source.as_slice()) {
-        Ok(false) => {}
-        Ok(true) => return Err(LoadFault::LooksLikeTape),
-        Err(_) => return Err(LoadFault::Refused(Refusal::OutOfMemory)),
-    }
-    let assembly = assemble(rt.alloc(), source.as_slice(), &map).map_err(of_source)?;
-    match Session::new(rt.alloc(), map, assembly.image(), history) {
-        Ok(session) => Ok(Loaded {
-            session,
-            assembly: Some(assembly),
-        }),
-        Err(fault) => Err(LoadFault::Refused(Refusal::from(EngineFault::from(fault)))),
+    let source = read_source(rt, words.file)?;
+    let assembly = assembled_source(rt.alloc(), source.as_slice(), &map)?;
+    start_source(rt.alloc(), map, assembly, history)
+}
+
+/// Returns the image of a tape's file, which is read in pieces.
+///
+/// Errors: `Read` if the file cannot be read, `Tape` with the tape's fault, `OutOfMemory` if an
+/// allocation fails.
+fn image_of_tape<H: Files + AllocGlobal>(rt: &H, path: &str) -> Result<Image, Refusal>
+    ensures denoted { IfOk result (λ image. (text : List ℕ) × IsReadInPieces text image) }
+    ensures refused { IfErr result IsUnread }
+{
+    match File::open(rt, path) {
+        Ok(file) => {
+            let mut tape = file;
+            match read_tape_from(rt.alloc(), &mut tape) {
+                Ok(image) => Ok(image),
+                Err(fault) => Err(of_tape(fault)),
+            }
+        }
+        Err(error) => Err(Refusal::unreadable(&error)),
     }
 }
 
-/// Returns a session that holds at most `history` earlier states, on the image of a tape's file,
-/// which is read in pieces.
+/// Returns a session that holds at most `history` earlier states, on the image of a tape's file.
 fn load_tape<H: Files + AllocGlobal>(
     rt: &H,
     words: &FileWords<'_>,
@@ -133,17 +231,17 @@ fn load_tape<H: Files + AllocGlobal>(
     history: u32,
 ) -> Result<Loaded, LoadFault>
     requires { history ≤ 65536 }
-    ensures { IfOk result (λ loaded. (image : List (Option ℕ))
-        × (loaded.session ≡ new_session history (start map image))) }
+    ensures started { IfOk result (λ loaded. (image : List (Option ℕ))
+        × IsImageOf true map image × (loaded.session ≡ new_session history (start map image))) }
+    ensures refused { IfErr result (EndsFile true map) }
 {
-    let mut tape = File::open(rt, words.file).map_err(|error| Refusal::unreadable(&error))?;
-    let image = read_tape_from(rt.alloc(), &mut tape).map_err(of_tape)?;
+    let image = image_of_tape(rt, words.file)?;
     match Session::new(rt.alloc(), map, &image, history) {
         Ok(session) => Ok(Loaded {
             session,
             assembly: None,
         }),
-        Err(fault) => Err(LoadFault::Refused(Refusal::from(EngineFault::from(fault)))),
+        Err(fault) => Err(LoadFault::Refused(of_session(fault))),
     }
 }
 
@@ -157,9 +255,13 @@ fn load_tape<H: Files + AllocGlobal>(
 /// `Source` or `Tape` with its fault; `Session` if a tape has a byte at the port. `OutOfMemory` if
 /// an allocation fails.
 pub fn load<H: Files + AllocGlobal>(rt: &H, words: &FileWords<'_>) -> Result<Loaded, LoadFault>
-    ensures { IfOk result (λ loaded. (image : List (Option ℕ)) × (loaded.session ≡ new_session 0
-        (start (record { profile = words.now.profile; rom = words.now.rom; port = words.now.port })
-        image))) }
+    ensures started { IfOk result (λ loaded. (image : List (Option ℕ))
+        × IsImageOf words.now.is_tape (map_of (file_view words.now)) image
+        × (loaded.session ≡ new_session 0 (start (map_of (file_view words.now)) image))) }
+    ensures is_map { IfOk result (λ _. is_map words.now.rom words.now.port ≡ true) }
+    ensures bad_map { is_map words.now.rom words.now.port ≡ false
+        → result ≡ Err (Refused (Refusal.Map BadMap)) }
+    ensures refused { IfErr result (EndsLoad (file_view words.now)) }
 {
     load_with_history(rt, words, 0)
 }
@@ -176,10 +278,13 @@ pub fn load_with_history<H: Files + AllocGlobal>(
     history: u32,
 ) -> Result<Loaded, LoadFault>
     requires { history ≤ 65536 }
-    ensures { IfOk result (λ loaded. (image : List (Option ℕ))
-        × (loaded.session ≡ new_session history (start
-        (record { profile = words.now.profile; rom = words.now.rom; port = words.now.port })
-        image))) }
+    ensures started { IfOk result (λ loaded. (image : List (Option ℕ))
+        × IsImageOf words.now.is_tape (map_of (file_view words.now)) image
+        × (loaded.session ≡ new_session history (start (map_of (file_view words.now)) image))) }
+    ensures is_map { IfOk result (λ _. is_map words.now.rom words.now.port ≡ true) }
+    ensures bad_map { is_map words.now.rom words.now.port ≡ false
+        → result ≡ Err (Refused (Refusal.Map BadMap)) }
+    ensures refused { IfErr result (EndsLoad (file_view words.now)) }
 {
     match map_of(words) {
         Ok(map) => {
@@ -203,8 +308,12 @@ pub fn load_names<H: Files + AllocGlobal>(
     rt: &H,
     words: &FileWords<'_>,
     path: &str,
-) -> Result<Assembly, Refusal> {
+) -> Result<Assembly, Refusal>
+    ensures denoted { IfOk result
+        (λ a. (source : List ℕ) × Denotes (map_of (file_view words.now)) source a.image) }
+    ensures refused { IfErr result (EndsNames (file_view words.now)) }
+{
     let map = map_of(words)?;
-    let source = read_source(rt, path).map_err(|error| Refusal::unreadable(&error))?;
-    Ok(assemble(rt.alloc(), source.as_slice(), &map)?)
+    let source = read_source(rt, path)?;
+    assembled(rt.alloc(), source.as_slice(), &map)
 }

@@ -1,0 +1,63 @@
+-- Why a file is not loaded. No clause can say whether memory is there, nor what is in a file. Source:
+-- mos65.
+use Rattle.std.specs.Prelude.{◌≡◌, ◌⊎◌, ⊤, ℕ, true, false, Bool, List, Option}
+use Rattle.loading.specs.Asked.{FileAsked, map_of}
+use Rattle.loading.specs.declared.loaded.LoadFault.{LoadFault}
+use Rattle.loading.specs.declared.loaded.LoadFault.TheVariants.{LooksLikeTape, Refused}
+use Rattle.model.specs.Source.{Denotes, HasFault}
+use Rattle.model.specs.State.{Map, has_port_byte, is_map}
+use Rattle.model.specs.TapePieces.{IsReadInPieces, IsRefusedInPieces}
+use Rattle.model.specs.declared.bus_fault.BusFault.TheVariants.{BadMap}
+use Rattle.model.specs.declared.session_fault.SessionFault.TheVariants.{PortAddress}
+use Rattle.program.specs.declared.refusal.Refusal.{Refusal}
+use Rattle.program.specs.declared.refusal.Refusal.TheVariants as refusal
+use Rattle.tape_hint.specs.Hint.{BeginsTape}
+
+-- A port and a ROM that make no map are rejected for that.
+abbrev pub IsBadMap : Map → Refusal → Type 0
+IsBadMap bus_map fault = (is_map bus_map.rom bus_map.port ≡ false) × (fault ≡ refusal.Map BadMap)
+
+-- Why a source is not assembled: it has this fault, memory ran out, or the file cannot be read.
+abbrev pub EndsSource : Map → Refusal → Type 0
+EndsSource bus_map (refusal.Source fault) = (source : List ℕ) × HasFault bus_map source fault
+EndsSource bus_map refusal.OutOfMemory = ⊤
+EndsSource bus_map refusal.Read = ⊤
+EndsSource bus_map fault = ⊥
+
+-- Why a tape is not read: it has this fault, memory ran out, or the file cannot be read.
+abbrev pub IsUnread : Refusal → Type 0
+IsUnread (refusal.Tape fault) = (text : List ℕ) × IsRefusedInPieces text fault
+IsUnread refusal.OutOfMemory = ⊤
+IsUnread refusal.Read = ⊤
+IsUnread fault = ⊥
+
+-- Why a tape is not loaded: it is not read, or it has a byte at the port.
+abbrev pub EndsTape : Map → Refusal → Type 0
+EndsTape bus_map (refusal.Session fault) = (fault ≡ PortAddress)
+    × ((text : List ℕ) × (image : List (Option ℕ)) × IsReadInPieces text image
+    × (has_port_byte bus_map image ≡ true))
+EndsTape bus_map fault = IsUnread fault
+
+-- Why a file of names is not assembled.
+abbrev pub EndsNames : FileAsked → Refusal → Type 0
+EndsNames asked fault = IsBadMap (map_of asked) fault ⊎ EndsSource (map_of asked) fault
+
+-- Why a file is not loaded on a map: as a source it may also begin with a record of a tape.
+abbrev pub EndsFile : Bool → Map → LoadFault → Type 0
+EndsFile true bus_map LooksLikeTape = ⊥
+EndsFile true bus_map (Refused fault) = EndsTape bus_map fault
+EndsFile false bus_map LooksLikeTape = (source : List ℕ) × BeginsTape source
+EndsFile false bus_map (Refused fault) = EndsSource bus_map fault
+
+abbrev pub EndsOnMap : Map → LoadFault → Type 0
+EndsOnMap bus_map LooksLikeTape = ⊥
+EndsOnMap bus_map (Refused fault) = IsBadMap bus_map fault
+
+-- Why a file is not loaded.
+abbrev pub EndsLoad : FileAsked → LoadFault → Type 0
+EndsLoad asked fault = EndsOnMap (map_of asked) fault ⊎ EndsFile asked.is_tape (map_of asked) fault
+
+-- The image of a file: some source or some tape denotes it.
+abbrev pub IsImageOf : Bool → Map → List (Option ℕ) → Type 0
+IsImageOf true bus_map image = (text : List ℕ) × IsReadInPieces text image
+IsImageOf false bus_map image = (source : List ℕ) × Denotes bus_map source image
