@@ -3,7 +3,7 @@ use Rattle.std.proofs.Common.{◌≡◌, ◌∙◌, ℕ, List, Option, ◌⊎◌
 use Rattle.assembler.specs.Assembly.{out_of_memory}
 use Rattle.engine.specs.Refusals.{of_source, of_source_kind, of_tape, of_tape_kind, of_tape_read}
 use Rattle.engine.specs.declared.fault.EngineFault.TheVariants as engine_fault
-use Rattle.loading.specs.Ends.{EndsSource, IsUnread}
+use Rattle.loading.specs.Loads.{EndsSource, IsUnread}
 use Rattle.model.specs.Source.{HasFault}
 use Rattle.model.specs.State.{Map}
 use Rattle.model.specs.TapeFault.{out_of_memory as tape_out_of_memory}

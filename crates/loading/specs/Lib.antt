@@ -1,6 +1,6 @@
 pub mod Asked
 pub mod CommandLine
-pub mod Ends
+pub mod Loads
 pub mod Place
 pub mod Refused
 pub mod Statuses

@@ -3,8 +3,8 @@
 ghost use Rattle.std.specs.Prelude.{◌≡◌, ◌≤◌, ◌⊎◌, ℕ, List, Option, Err, IfErr, IfOk, false, true};
 ghost use Rattle.engine.specs.Refusals.{of_session, of_source, of_tape_read};
 ghost use Rattle.loading.specs.Asked.{map_of};
-ghost use Rattle.loading.specs.Ends.{EndsFile, EndsLoad, EndsNames, EndsSource};
-ghost use Rattle.loading.specs.Ends.{IsBadMap, IsImageOf, IsUnread};
+ghost use Rattle.loading.specs.Loads.{EndsFile, EndsLoad, EndsNames, EndsSource};
+ghost use Rattle.loading.specs.Loads.{IsBadMap, IsImageOf, IsLoaded, IsUnread};
 ghost use Rattle.loading.specs.Statuses.{status_of_load};
 ghost use Rattle.loading.specs.Views.{file_view};
 ghost use Rattle.loading.specs.declared.loaded.LoadFault.TheVariants.{Refused};
@@ -256,9 +256,8 @@ fn load_tape<H: Files + AllocGlobal>(
 /// an allocation fails.
 pub fn load<H: Files + AllocGlobal>(rt: &H, words: &FileWords<'_>) -> Result<Loaded, LoadFault>
     ensures started { IfOk result (λ loaded. (image : List (Option ℕ))
-        × IsImageOf words.now.is_tape (map_of (file_view words.now)) image
+        × IsLoaded (file_view words.now) image
         × (loaded.session ≡ new_session 0 (start (map_of (file_view words.now)) image))) }
-    ensures is_map { IfOk result (λ _. is_map words.now.rom words.now.port ≡ true) }
     ensures bad_map { is_map words.now.rom words.now.port ≡ false
         → result ≡ Err (Refused (Refusal.Map BadMap)) }
     ensures refused { IfErr result (EndsLoad (file_view words.now)) }
@@ -279,9 +278,8 @@ pub fn load_with_history<H: Files + AllocGlobal>(
 ) -> Result<Loaded, LoadFault>
     requires { history ≤ 65536 }
     ensures started { IfOk result (λ loaded. (image : List (Option ℕ))
-        × IsImageOf words.now.is_tape (map_of (file_view words.now)) image
+        × IsLoaded (file_view words.now) image
         × (loaded.session ≡ new_session history (start (map_of (file_view words.now)) image))) }
-    ensures is_map { IfOk result (λ _. is_map words.now.rom words.now.port ≡ true) }
     ensures bad_map { is_map words.now.rom words.now.port ≡ false
         → result ≡ Err (Refused (Refusal.Map BadMap)) }
     ensures refused { IfErr result (EndsLoad (file_view words.now)) }

@@ -1,5 +1,5 @@
 -- How a run ended, from what `play` says of it.
-use Rattle.std.proofs.Common.{◌≡◌, ◌∙◌, ◌++◌, ℕ, Bool, List, [], Option, Some, None, Result, Ok, Err, IfOk, refl, sym, ap, subst, if◌then◌else◌, inl, inr}
+use Rattle.std.proofs.Common.{◌≡◌, ◌∙◌, ◌++◌, ℕ, Bool, true, false, List, [], Option, Some, None, Result, Ok, Err, IfOk, refl, sym, ap, subst, if◌then◌else◌, inl, inr}
 use Rattle.std.specs.Io.KnownBytes.{Appends}
 use Rattle.console.specs.Playing.{Outcome, begun, played}
 use Rattle.console.specs.Written.{AreBytesOf, RanAs}
@@ -7,13 +7,18 @@ use Rattle.console.specs.declared.ending.Ending.{Ending}
 use Rattle.console.specs.declared.ending.Ending.TheVariants.{Until, Rest, InputOver, Limit, Refused}
 use Rattle.console.specs.declared.ending.PlayFault.{PlayFault}
 use Rattle.console.specs.declared.ending.Played.{Played}
+use Rattle.loading.specs.Asked.{FileAsked, map_of}
+use Rattle.loading.specs.Loads.{EndsFile, EndsLoad, IsLoaded}
+use Rattle.loading.specs.declared.loaded.LoadFault.TheVariants.{Refused as NotLoaded}
 use Rattle.model.specs.Event.{start}
+use Rattle.model.specs.State.{Map}
+use Rattle.program.specs.declared.refusal.Refusal.TheVariants.{OutOfMemory}
 use Rattle.model.specs.Names.{Definitions}
 use Rattle.model.specs.Session.{Session, new_session}
 use Rattle.model.specs.Writers.{AppendsFront}
 use Rattle.program.specs.Statuses.{status_of}
 use Rattle.running.specs.Asked.{RunAsked}
-use Rattle.running.specs.Runs.{IsDone, RanIfFound, RanTo, Streams, map_of}
+use Rattle.running.specs.Runs.{IsDone, RanIfFound, RanTo, Streams}
 use Rattle.running.specs.Places.{place_asked}
 use Rattle.running.specs.Statuses.{refusal_of, status_of_ending}
 
@@ -54,7 +59,15 @@ pub failed_to : (a : RunAsked) (until : Option ℕ) (s t : Session) (streams : S
 failed_to a until s t streams fault status written is = (Err fault, (written.2.0, written.2.3), is)
 
 -- A file that was loaded.
-pub ran_file : (a : RunAsked) (s : Session) (names : Definitions) (image : List (Option ℕ)) (streams : Streams) (status : ℕ) (Alone : Type 0)
+pub ran_file : (a : RunAsked) (s : Session) (names : Definitions) (image : List (Option ℕ)) (streams : Streams) (status : ℕ) (Alone : Type 0) → IsLoaded a.file image
     → s ≡ new_session 0 (start (map_of a.file) image) → RanIfFound a (place_asked names a.until) s streams status Alone → IsDone a streams status Alone
-ran_file a s names image streams status A begins ran =
-    inr (image, names, subst (λ (t : Session). RanIfFound a (place_asked names a.until) t streams status A) begins ran)
+ran_file a s names image streams status A loaded begins ran =
+    inr (image, loaded, names, subst (λ (t : Session). RanIfFound a (place_asked names a.until) t streams status A) begins ran)
+
+-- Memory may run out for any words.
+memory_by : (is_tape : Bool) (bus_map : Map) → EndsFile is_tape bus_map (NotLoaded OutOfMemory)
+memory_by true bus_map = tt
+memory_by false bus_map = tt
+
+pub memory_ends : (asked : FileAsked) → EndsLoad asked (NotLoaded OutOfMemory)
+memory_ends asked = inr (memory_by asked.is_tape (map_of asked))

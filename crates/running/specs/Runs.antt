@@ -5,13 +5,13 @@ use Rattle.std.specs.Io.KnownBytes.{Appends}
 use Rattle.console.specs.Playing.{Outcome, begun, played}
 use Rattle.console.specs.Written.{AreBytesOf}
 use Rattle.console.specs.declared.ending.PlayFault.{PlayFault}
-use Rattle.loading.specs.Asked.{FileAsked}
+use Rattle.loading.specs.Asked.{FileAsked, map_of}
+use Rattle.loading.specs.Loads.{EndsLoad, IsLoaded}
 use Rattle.loading.specs.Statuses.{status_of_load}
 use Rattle.loading.specs.declared.loaded.LoadFault.{LoadFault}
 use Rattle.model.specs.Event.{start}
 use Rattle.model.specs.Names.{Definitions}
 use Rattle.model.specs.Session.{Session, new_session}
-use Rattle.model.specs.State.{Map}
 use Rattle.program.specs.Statuses.{status_of}
 use Rattle.running.specs.Asked.{RunAsked}
 use Rattle.running.specs.Places.{place_asked}
@@ -52,19 +52,18 @@ RanIfFound a (Ok until) s streams status Alone = RanTo a until s streams status
 RanIfFound a (Err refused) s streams status Alone = (status ≡ refused) × Alone
 
 -- The file was not loaded, and the streams were left alone.
-abbrev pub IsUnloaded : ℕ → Type 0 → Type 0
-IsUnloaded status Alone = (fault : LoadFault) × (status ≡ status_of_load fault) × Alone
+abbrev pub IsUnloaded : FileAsked → ℕ → Type 0 → Type 0
+IsUnloaded file status Alone = (fault : LoadFault) × EndsLoad file fault
+    × (status ≡ status_of_load fault) × Alone
 
-abbrev pub map_of : FileAsked → Map
-map_of file = record { profile = file.profile; rom = file.rom; port = file.port }
-
--- A file was loaded: from the start of some image, on the map of the words and with the names of
--- some source, a session ran.
+-- A file was loaded: from the start of an image that it can have, on the map of the words and with
+-- the names of some source, a session ran.
 abbrev pub RanFile : RunAsked → Streams → ℕ → Type 0 → Type 0
-RanFile a streams status Alone = (image : List (Option ℕ)) × (names : Definitions)
+RanFile a streams status Alone = (image : List (Option ℕ)) × IsLoaded a.file image
+    × (names : Definitions)
     × RanIfFound a (place_asked names a.until) (new_session 0 (start (map_of a.file) image))
     streams status Alone
 
 -- What was done for words.
 abbrev pub IsDone : RunAsked → Streams → ℕ → Type 0 → Type 0
-IsDone a streams status Alone = IsUnloaded status Alone ⊎ RanFile a streams status Alone
+IsDone a streams status Alone = IsUnloaded a.file status Alone ⊎ RanFile a streams status Alone

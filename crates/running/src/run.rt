@@ -6,7 +6,7 @@ ghost use Rattle.clap.specs.Words.{IsAmong, fault_of};
 ghost use Rattle.clap.specs.declared.error.kind.ErrorKind.TheVariants.{DisplayHelp};
 ghost use Rattle.loading.specs.Place.{names_of};
 ghost use Rattle.loading.specs.Refused.{IsTakenBy};
-ghost use Rattle.model.specs.State.{input_waits};
+ghost use Rattle.model.specs.State.{input_waits, is_map};
 ghost use Rattle.running.specs.Asked.{RunAsked, asked};
 ghost use Rattle.running.specs.CommandLine.{run};
 ghost use Rattle.running.specs.Places.{place_asked};
@@ -104,6 +104,7 @@ fn run_words<H: Files + AllocGlobal, R: Read, O: Write, E: Write>(
       held = O.contents output.old;
       now = O.contents output.new;
     }) result ((input.new ≡ input.old) × (output.new ≡ output.old)) }
+    ensures bad_map { is_map words.now.file.rom words.now.file.port ≡ false → result ≡ 2 }
     ensures quiet { words.now.tells_cycles ≡ false → result ≡ 0 → errors.new ≡ errors.old }
 {
     match load_at_start(rt, &words.file) {
@@ -155,6 +156,10 @@ pub fn run_program<H: Files + AllocGlobal, R: Read, O: Write, E: Write>(
     // A wrong value has the status 2, unless memory runs out.
     ensures value { IsTakenBy run (map (λ s. s.now) words.entry.now)
         → asked (map (λ s. s.now) words.entry.now) ≡ None → (result ≡ 2) ⊎ (result ≡ 3) }
+    // A port and a ROM that make no map have the status 2, unless memory runs out.
+    ensures bad_map { (a : RunAsked) → asked (map (λ s. s.now) words.entry.now) ≡ Some a
+        → IsTakenBy run (map (λ s. s.now) words.entry.now)
+        → is_map a.file.rom a.file.port ≡ false → (result ≡ 2) ⊎ (result ≡ 3) }
     // Nothing is written on the error stream with the status 0, unless cycles are asked for.
     ensures quiet { ((a : RunAsked) → asked (map (λ s. s.now) words.entry.now) ≡ Some a
         → a.tells_cycles ≡ false) → result ≡ 0 → errors.new ≡ errors.old }

@@ -1,12 +1,17 @@
 //! What a word that runs a program needs besides the run: the program at its start, a place that a
 //! word names, and what a stream that failed means.
 
-ghost use Rattle.std.specs.Prelude.{◌≡◌, ℕ, List, [], Option, IfOk, OnOk, false};
+ghost use Rattle.std.specs.Prelude.{◌≡◌, ℕ, List, [], Option, Err, IfErr, IfOk, OnOk, false};
 ghost use Rattle.std.specs.Prelude.{option_map};
+ghost use Rattle.loading.specs.Asked.{map_of};
+ghost use Rattle.loading.specs.Loads.{EndsLoad, IsLoaded};
 ghost use Rattle.loading.specs.Place.{names_of};
+ghost use Rattle.loading.specs.Views.{file_view};
+ghost use Rattle.loading.specs.declared.loaded.LoadFault.TheVariants.{Refused};
 ghost use Rattle.model.specs.Event.{start};
 ghost use Rattle.model.specs.Session.{new_session};
-ghost use Rattle.model.specs.State.{input_waits};
+ghost use Rattle.model.specs.State.{input_waits, is_map};
+ghost use Rattle.model.specs.declared.bus_fault.BusFault.TheVariants.{BadMap};
 ghost use Rattle.running.specs.Places.{place_asked};
 ghost use Rattle.running.specs.Statuses.{refusal_of};
 
@@ -26,14 +31,14 @@ pub fn load_at_start<H: Files + AllocGlobal>(
     rt: &H,
     words: &FileWords<'_>,
 ) -> Result<Loaded, LoadFault>
-    ensures started { IfOk result (λ loaded. (image : List (Option ℕ)) × (loaded.session
-        ≡ new_session 0 (start (record {
-          profile = words.now.profile;
-          rom = words.now.rom;
-          port = words.now.port;
-        }) image))) }
+    ensures started { IfOk result (λ loaded. (image : List (Option ℕ))
+        × IsLoaded (file_view words.now) image
+        × (loaded.session ≡ new_session 0 (start (map_of (file_view words.now)) image))) }
     ensures idle { IfOk result (λ loaded. input_waits loaded.session.current.bus ≡ false) }
     ensures silent { IfOk result (λ loaded. loaded.session.current.bus.out ≡ []) }
+    ensures bad_map { is_map words.now.rom words.now.port ≡ false
+        → result ≡ Err (Refused (Refusal.Map BadMap)) }
+    ensures refused { IfErr result (EndsLoad (file_view words.now)) }
 {
     match load(rt, words) {
         Ok(loaded) => Ok(loaded),

@@ -1,16 +1,20 @@
 -- What was done for the words of `trace`, from what was traced.
-use Rattle.std.proofs.Common.{◌≡◌, ◌∙◌, ℕ, List, Option, Some, Result, Ok, Err, inr, refl, ap, subst}
+use Rattle.std.proofs.Common.{◌≡◌, ◌∙◌, ℕ, Bool, true, false, List, Option, Some, Result, Ok, Err, inr, refl, ap, subst}
 use Rattle.console.specs.Playing.{Outcome, begun}
 use Rattle.console.specs.Written.{AreBytesOf, RanAs}
 use Rattle.console.specs.declared.ending.Ending.{Ending}
 use Rattle.console.specs.declared.ending.Played.{Played}
+use Rattle.loading.specs.Asked.{FileAsked, map_of}
+use Rattle.loading.specs.Loads.{EndsFile, EndsLoad, IsLoaded}
+use Rattle.loading.specs.declared.loaded.LoadFault.TheVariants.{Refused as NotLoaded}
 use Rattle.model.specs.Event.{start}
 use Rattle.model.specs.Names.{Definitions}
 use Rattle.model.specs.Session.{Session, new_session}
+use Rattle.model.specs.State.{Map}
 use Rattle.program.specs.Statuses.{status_of}
 use Rattle.program.specs.declared.refusal.Refusal.{Refusal}
+use Rattle.program.specs.declared.refusal.Refusal.TheVariants.{OutOfMemory}
 use Rattle.running.specs.Places.{place_asked}
-use Rattle.running.specs.Runs.{map_of}
 use Rattle.running.specs.Statuses.{status_of_ending}
 use Rattle.trace_words.specs.Asked.{TraceAsked}
 use Rattle.tracing.specs.Traces.{IsDone, TracedIfFound, TracedTo, traced}
@@ -55,7 +59,15 @@ unfound_to from a b limit s given left status A is_from is alone =
 
 -- A file that was loaded.
 pub traced_file : (a : TraceAsked) (s : Session) (names : Definitions) (image : List (Option ℕ)) (given left : Option (List ℕ)) (status : ℕ) (Alone : Type 0)
-    → s ≡ new_session 0 (start (map_of a.file) image)
+    → IsLoaded a.file image → s ≡ new_session 0 (start (map_of a.file) image)
     → TracedIfFound (place_asked names a.from) (place_asked names a.to) a.steps s given left status Alone → IsDone a given left status Alone
-traced_file a s names image given left status A begins done =
-    inr (image, names, subst (λ (t : Session). TracedIfFound (place_asked names a.from) (place_asked names a.to) a.steps t given left status A) begins done)
+traced_file a s names image given left status A loaded begins done =
+    inr (image, loaded, names, subst (λ (t : Session). TracedIfFound (place_asked names a.from) (place_asked names a.to) a.steps t given left status A) begins done)
+
+-- Memory may run out for any words.
+memory_by : (is_tape : Bool) (bus_map : Map) → EndsFile is_tape bus_map (NotLoaded OutOfMemory)
+memory_by true bus_map = tt
+memory_by false bus_map = tt
+
+pub memory_ends : (asked : FileAsked) → EndsLoad asked (NotLoaded OutOfMemory)
+memory_ends asked = inr (memory_by asked.is_tape (map_of asked))

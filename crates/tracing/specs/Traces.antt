@@ -9,8 +9,8 @@ use Rattle.console.specs.declared.ending.Ending.{Ending}
 use Rattle.console.specs.declared.ending.Ending.TheVariants.{Until}
 use Rattle.console.specs.declared.ending.Played.{Played}
 use Rattle.console.specs.declared.turn.Player.{Player}
-use Rattle.loading.specs.Statuses.{status_of_load}
-use Rattle.loading.specs.declared.loaded.LoadFault.{LoadFault}
+use Rattle.loading.specs.Asked.{map_of}
+use Rattle.loading.specs.Loads.{IsLoaded}
 use Rattle.model.specs.Event.{start}
 use Rattle.model.specs.Names.{Definitions}
 use Rattle.model.specs.Session.{Session, new_session}
@@ -18,7 +18,7 @@ use Rattle.model.specs.State.{State}
 use Rattle.program.specs.Statuses.{status_of}
 use Rattle.program.specs.declared.refusal.Refusal.{Refusal}
 use Rattle.running.specs.Places.{place_asked}
-use Rattle.running.specs.Runs.{map_of}
+use Rattle.running.specs.Runs.{IsUnloaded}
 use Rattle.running.specs.Statuses.{status_of_ending}
 use Rattle.trace_words.specs.Asked.{TraceAsked}
 
@@ -100,10 +100,10 @@ TracedIfFound (Ok from) (Err refused) limit s given left status Alone = (status 
 TracedIfFound (Err refused) to limit s given left status Alone = (status ≡ refused) × Alone
 
 -- What was done for words: a file was not loaded, and the streams were left alone; or from the start
--- of some image, on the map of the words and with the names of some source, a session was traced.
+-- of an image that it can have, on the map of the words and with the names of some source, a session
+-- was traced.
 abbrev pub IsDone : TraceAsked → Option (List ℕ) → Option (List ℕ) → ℕ → Type 0 → Type 0
-IsDone a given left status Alone =
-    ((fault : LoadFault) × (status ≡ status_of_load fault) × Alone)
-    ⊎ ((image : List (Option ℕ)) × (names : Definitions)
+IsDone a given left status Alone = IsUnloaded a.file status Alone
+    ⊎ ((image : List (Option ℕ)) × IsLoaded a.file image × (names : Definitions)
     × TracedIfFound (place_asked names a.from) (place_asked names a.to) a.steps
     (new_session 0 (start (map_of a.file) image)) given left status Alone)

@@ -9,7 +9,7 @@ ghost use Rattle.console.specs.Taking.{Waits};
 ghost use Rattle.console.specs.Written.{AreBytesOf, RanAs};
 ghost use Rattle.loading.specs.Place.{names_of};
 ghost use Rattle.loading.specs.Refused.{IsTakenBy};
-ghost use Rattle.model.specs.State.{input_waits};
+ghost use Rattle.model.specs.State.{input_waits, is_map};
 ghost use Rattle.running.specs.Places.{place_asked};
 ghost use Rattle.trace_words.specs.Asked.{TraceAsked, asked};
 ghost use Rattle.trace_words.specs.CommandLine.{trace};
@@ -371,8 +371,9 @@ fn trace_words<H: Files + AllocGlobal, R: Read, O: Write, E: Write>(
     output: &mut O,
     errors: &mut E,
 ) -> u8
-    ensures { IsDone (trace_view words.now) (R.remaining input.old) (R.remaining input.new) result
-        ((input.new ≡ input.old) × (output.new ≡ output.old)) }
+    ensures done { IsDone (trace_view words.now) (R.remaining input.old) (R.remaining input.new)
+        result ((input.new ≡ input.old) × (output.new ≡ output.old)) }
+    ensures bad_map { is_map words.now.file.rom words.now.file.port ≡ false → result ≡ 2 }
 {
     match load_at_start(rt, &words.file) {
         Ok(loaded) => {
@@ -414,6 +415,10 @@ pub fn trace_program<H: Files + AllocGlobal, R: Read, O: Write, E: Write>(
     // A wrong value has the status 2, unless memory runs out.
     ensures value { IsTakenBy trace (map (λ s. s.now) words.entry.now)
         → asked (map (λ s. s.now) words.entry.now) ≡ None → (result ≡ 2) ⊎ (result ≡ 3) }
+    // A port and a ROM that make no map have the status 2, unless memory runs out.
+    ensures bad_map { (a : TraceAsked) → asked (map (λ s. s.now) words.entry.now) ≡ Some a
+        → IsTakenBy trace (map (λ s. s.now) words.entry.now)
+        → is_map a.file.rom a.file.port ≡ false → (result ≡ 2) ⊎ (result ≡ 3) }
 {
     match read_words(rt.alloc(), words) {
         Ok(words) => trace_words(rt, &words, input, output, errors),

@@ -1,4 +1,4 @@
-use Rattle.std.proofs.Common.{◌≡◌, arith, inl, refl, subst}
+use Rattle.std.proofs.Common.{◌≡◌, arith, inl, inr, refl, subst}
 use Rattle.loading.specs.declared.loaded.LoadFault.TheVariants.{Refused}
 use Rattle.program.specs.Statuses.{IsStatusOf}
 use Rattle.program.specs.declared.refusal.Refusal.TheVariants.{OutOfMemory}
@@ -6,6 +6,7 @@ use Rattle.running.specs.Asked.{RunAsked}
 use Rattle.running.specs.Runs.{IsDone}
 use Rattle.running.specs.Views.{run_view}
 use Rattle.running.proofs.Found.{one_asked}
+use Rattle.running.proofs.Ran.{memory_ends}
 use Rattle.running.proofs.run.run_program.Goals as goal
 
 pub returns-in-Ok-clause-done : goal.returns-in-Ok-clause-done
@@ -23,4 +24,8 @@ pub returns-in-Err-clause-done : goal.returns-in-Err-clause-done
 returns-in-Err-clause-done g c a h taken =
     let memory = c.in-Err.ensures.served a taken h in
     let three : c.refused_words.result ≡ 3 = subst (λ f. IsStatusOf f c.refused_words.result) memory c.refused_words.ensures.status in
-    inl (Refused OutOfMemory, three, (refl, c.refused_words.ensures.untouched (omega (arith, three)) (omega (arith, three))))
+    inl (Refused OutOfMemory, memory_ends a.file, three, (refl, c.refused_words.ensures.untouched (omega (arith, three)) (omega (arith, three))))
+
+pub returns-in-Err-clause-bad_map : goal.returns-in-Err-clause-bad_map
+returns-in-Err-clause-bad_map g c a h taken bad =
+    inr (subst (λ f. IsStatusOf f c.refused_words.result) (c.in-Err.ensures.served a taken h) c.refused_words.ensures.status)

@@ -12,4 +12,4 @@ returns-in-Ok-clause-done g c =
       held = g.O.Write.contents c.args.output.now;
       now = g.O.Write.contents c.run_loaded.new.output;
     }) c.run_loaded.result ((c.run_loaded.new.input ≡ c.args.input.now) × (c.run_loaded.new.output ≡ c.args.output.now))
-    c.in-Ok.ensures.started.1 c.run_loaded.ensures.ran
+    c.in-Ok.ensures.started.1 c.in-Ok.ensures.started.2 c.run_loaded.ensures.ran

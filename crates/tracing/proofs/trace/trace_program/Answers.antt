@@ -1,22 +1,26 @@
-use Rattle.std.proofs.Common.{◌≡◌, arith, inl, refl, subst}
+use Rattle.std.proofs.Common.{◌≡◌, arith, inl, inr, refl, subst}
 use Rattle.loading.specs.declared.loaded.LoadFault.TheVariants.{Refused}
 use Rattle.program.specs.Statuses.{IsStatusOf}
 use Rattle.program.specs.declared.refusal.Refusal.TheVariants.{OutOfMemory}
 use Rattle.trace_words.specs.Asked.{TraceAsked}
 use Rattle.trace_words.specs.Views.{trace_view}
 use Rattle.tracing.specs.Traces.{IsDone}
-use Rattle.tracing.proofs.Done.{one_asked}
+use Rattle.tracing.proofs.Done.{memory_ends, one_asked}
 use Rattle.tracing.proofs.trace.trace_program.Goals as goal
 
 pub returns-in-Ok-clause-done : goal.returns-in-Ok-clause-done
 returns-in-Ok-clause-done g c a h taken =
     subst (λ (b : TraceAsked). IsDone b (g.R.Read.remaining c.args.input.now) (g.R.Read.remaining c.trace_words.new.input) c.trace_words.result
     ((c.trace_words.new.input ≡ c.args.input.now) × (c.trace_words.new.output ≡ c.args.output.now)))
-    (one_asked _ (trace_view c.in-Ok.words) a c.in-Ok.ensures.asked h) c.trace_words.ensures
+    (one_asked _ (trace_view c.in-Ok.words) a c.in-Ok.ensures.asked h) c.trace_words.ensures.done
 
 -- The words were right, so memory ran out.
 pub returns-in-Err-clause-done : goal.returns-in-Err-clause-done
 returns-in-Err-clause-done g c a h taken =
     let memory = c.in-Err.ensures.served a taken h in
     let three : c.refused_words.result ≡ 3 = subst (λ f. IsStatusOf f c.refused_words.result) memory c.refused_words.ensures.status in
-    inl (Refused OutOfMemory, three, (refl, c.refused_words.ensures.untouched (omega (arith, three)) (omega (arith, three))))
+    inl (Refused OutOfMemory, memory_ends a.file, three, (refl, c.refused_words.ensures.untouched (omega (arith, three)) (omega (arith, three))))
+
+pub returns-in-Err-clause-bad_map : goal.returns-in-Err-clause-bad_map
+returns-in-Err-clause-bad_map g c a h taken bad =
+    inr (subst (λ f. IsStatusOf f c.refused_words.result) (c.in-Err.ensures.served a taken h) c.refused_words.ensures.status)

@@ -4,8 +4,8 @@ use Rattle.trace_words.specs.Views.{trace_view}
 use Rattle.tracing.proofs.Done.{traced_file}
 use Rattle.tracing.proofs.trace.trace_words.Goals as goal
 
-pub returns-in-Ok : goal.returns-in-Ok
-returns-in-Ok g c =
+pub returns-in-Ok-clause-done : goal.returns-in-Ok-clause-done
+returns-in-Ok-clause-done g c =
     traced_file (trace_view c.args.words.now) c.in-Ok.loaded.session (names_of c.in-Ok.loaded.assembly) c.in-Ok.ensures.started.0
     (g.R.Read.remaining c.args.input.now) (g.R.Read.remaining c.trace_loaded.new.input) c.trace_loaded.result
-    ((c.trace_loaded.new.input ≡ c.args.input.now) × (c.trace_loaded.new.output ≡ c.args.output.now)) c.in-Ok.ensures.started.1 c.trace_loaded.ensures
+    ((c.trace_loaded.new.input ≡ c.args.input.now) × (c.trace_loaded.new.output ≡ c.args.output.now)) c.in-Ok.ensures.started.1 c.in-Ok.ensures.started.2 c.trace_loaded.ensures

@@ -1,5 +1,5 @@
--- Why a file is not loaded. No clause can say whether memory is there, nor what is in a file. Source:
--- mos65.
+-- Which image a file is loaded with, and why it is not loaded. No clause can say whether memory is
+-- there, nor what is in a file. Source: mos65.
 use Rattle.std.specs.Prelude.{◌≡◌, ◌⊎◌, ⊤, ℕ, true, false, Bool, List, Option}
 use Rattle.loading.specs.Asked.{FileAsked, map_of}
 use Rattle.loading.specs.declared.loaded.LoadFault.{LoadFault}
@@ -57,7 +57,12 @@ EndsOnMap bus_map (Refused fault) = IsBadMap bus_map fault
 abbrev pub EndsLoad : FileAsked → LoadFault → Type 0
 EndsLoad asked fault = EndsOnMap (map_of asked) fault ⊎ EndsFile asked.is_tape (map_of asked) fault
 
--- The image of a file: some source or some tape denotes it.
+-- Some source or some tape denotes an image.
 abbrev pub IsImageOf : Bool → Map → List (Option ℕ) → Type 0
 IsImageOf true bus_map image = (text : List ℕ) × IsReadInPieces text image
 IsImageOf false bus_map image = (source : List ℕ) × Denotes bus_map source image
+
+-- What is loaded: the port and the ROM make a map, and the image is one that a file can have.
+abbrev pub IsLoaded : FileAsked → List (Option ℕ) → Type 0
+IsLoaded asked image = (is_map asked.rom asked.port ≡ true)
+    × IsImageOf asked.is_tape (map_of asked) image
