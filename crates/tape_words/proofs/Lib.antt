@@ -1,3 +1,4 @@
 pub mod Read
 pub mod Said
 pub mod Unread
+pub mod LineLemmas

@@ -1,7 +1,10 @@
 //! Instructions of an image, and numbers of things, as text.
 
-ghost use Rattle.std.specs.Prelude.{◌≡◌, ◌++◌, OnOk, string_bytes};
+ghost use Rattle.std.specs.Prelude.{◌≡◌, ◌+◌, ◌++◌, ◌≤◌, IfSome, OnOk, encode_utf8_all};
+ghost use Rattle.std.specs.Prelude.{option_map, string_bytes};
+ghost use Rattle.disasm.specs.Rows.{row_view};
 ghost use Rattle.tape_words.specs.Answers.{counted};
+ghost use Rattle.tape_words.specs.Instructions.{byte_at, len_by, row_at, text_by};
 
 use disasm::{TextLine, line_in};
 use memory_map::Image;
@@ -9,13 +12,24 @@ use model::Profile;
 use std::alloc::AllocError;
 
 /// Returns an image's byte so many addresses after an address, if there is one.
-fn byte_after(image: &Image, address: u16, count: u16) -> Option<u8> {
-    image.get(address.checked_add(count)?)
+fn byte_after(image: &Image, address: u16, count: u16) -> Option<u8>
+    ensures { result ≡ byte_at image.now (address + count) }
+{
+    match address.checked_add(count) {
+        Some(there) => image.get(there),
+        None => None,
+    }
 }
 
 /// Returns the row at an address of what the image has there, if it has a byte.
-fn line_at(profile: Profile, image: &Image, address: u16) -> Option<TextLine> {
-    let first = image.get(address)?;
+#[tactic(auto, unfolding(crate::specs::Instructions::bytes_at))]
+fn line_at(profile: Profile, image: &Image, address: u16) -> Option<TextLine>
+    ensures row { option_map row_view result ≡ row_at profile image.now address }
+    ensures short { IfSome result (λ line. line.text_len ≤ 12) }
+{
+    let Some(first) = byte_after(image, address, 0) else {
+        return None;
+    };
     let Some(second) = byte_after(image, address, 1) else {
         return Some(line_in(profile, &[first], address));
     };
@@ -26,11 +40,24 @@ fn line_at(profile: Profile, image: &Image, address: u16) -> Option<TextLine> {
 }
 
 /// Returns how many bytes the row at an address shows; 1 if the image has no byte there.
-pub fn instruction_len(profile: Profile, image: &Image, address: u16) -> u8 {
+pub fn instruction_len(profile: Profile, image: &Image, address: u16) -> u8
+    ensures { result ≡ len_by (row_at profile image.now address) }
+{
     match line_at(profile, image, address) {
         Some(line) => line.len,
         None => 1,
     }
+}
+
+/// Appends characters that are given as bytes.
+fn push_characters(words: &mut String, text: &[u8]) -> Result<(), AllocError>
+    ensures { OnOk result
+        (string_bytes words.new ≡ string_bytes words.old ++ encode_utf8_all text.now) }
+{
+    for byte in text {
+        words.push(*byte as char)?;
+    }
+    Ok(())
 }
 
 /// Appends the instruction at an address as `dis` writes it, or `nothing` if the image has no byte
@@ -42,14 +69,12 @@ pub fn push_instruction(
     profile: Profile,
     image: &Image,
     address: u16,
-) -> Result<(), AllocError> {
+) -> Result<(), AllocError>
+    ensures { OnOk result (string_bytes words.new ≡ string_bytes words.old
+        ++ encode_utf8_all (text_by (row_at profile image.now address))) }
+{
     match line_at(profile, image, address) {
-        Some(line) => {
-            for byte in line.text.iter().take(line.text_len as usize) {
-                words.push(*byte as char)?;
-            }
-            Ok(())
-        }
+        Some(line) => push_characters(words, &line.text[..line.text_len as usize]),
         None => words.push_str("nothing"),
     }
 }

@@ -1,7 +1,8 @@
 //! A fault of a tape in words.
 
-ghost use Rattle.std.specs.Prelude.{◌≡◌, ◌++◌, IfOk, OnOk, string_bytes};
-ghost use Rattle.tape_words.specs.Answers.{TellsFault, fault_front};
+ghost use Rattle.std.specs.Prelude.{◌≡◌, ◌≤◌, ◌++◌, IfOk, OnOk, drop, string_bytes};
+ghost use Rattle.tape_words.specs.Answers.{Begins, TellsFault, fault_front};
+ghost use Rattle.tape_words.specs.Lines.{ends_first, ends_line, line_of};
 
 use crate::instruction::push_count;
 use model::{TapeFault, TapeFaultKind};
@@ -109,22 +110,50 @@ fn semicolons(text: &[u8]) -> usize {
     count
 }
 
+/// Returns whether a line ends with a byte, by what follows it.
+fn ends_line(byte: u8, behind: &[u8]) -> bool
+    ensures { result ≡ ends_line byte behind.now }
+{
+    match behind {
+        [] => byte == b'\n' || byte == b'\r',
+        [next, ..] => byte == b'\n' || (byte == b'\r' && *next != b'\n'),
+    }
+}
+
+/// Returns 1 if the first byte of a text ends a line, and otherwise 0.
+fn ends_first(text: &[u8]) -> u64
+    ensures value { result ≡ ends_first text.now }
+    ensures small { result ≤ 1 }
+{
+    match text {
+        [] => 0,
+        [byte, behind @ ..] => u64::from(ends_line(*byte, behind)),
+    }
+}
+
+/// Returns a text without its first byte.
+fn without_first(text: &[u8]) -> &[u8]
+    ensures { result.now ≡ drop 1 text.now }
+{
+    match text {
+        [] => text,
+        [_, behind @ ..] => behind,
+    }
+}
+
 /// Returns the number of the line in which a byte stands, from 1 on: a line ends with LF, or with a
 /// CR that no LF follows.
-fn line_of(text: &[u8], offset: u64) -> u64 {
+fn line_of(text: &[u8], offset: u64) -> u64
+    ensures { result ≡ line_of text.now offset }
+{
     let mut line = 1u64;
-    for (k, byte) in text.iter().enumerate() {
-        if k as u64 >= offset {
-            break;
+    let mut rest = text;
+    for seen in 0..offset {
+        if rest.is_empty() {
+            return line;
         }
-        let is_end = match *byte {
-            b'\n' => true,
-            b'\r' => text.get(k + 1).copied() != Some(b'\n'),
-            _ => false,
-        };
-        if is_end {
-            line = line.saturating_add(1);
-        }
+        line += ends_first(rest);
+        rest = without_first(rest);
     }
     line
 }
@@ -243,7 +272,9 @@ pub fn fault_text(
     text: &[u8],
     fault: TapeFault,
 ) -> Result<String, AllocError>
-    ensures { IfOk result (λ words. TellsFault file.now fault.kind (string_bytes words)) }
+    ensures told { IfOk result (λ words. TellsFault file.now fault.kind (string_bytes words)) }
+    ensures front { IfOk result (λ words. Begins
+        (fault_front file.now (line_of text.now fault.offset) fault.kind) (string_bytes words)) }
 {
     let mut words = String::new(alloc);
     push_front(&mut words, file, line_of(text, fault.offset), fault.kind)?;
