@@ -1,6 +1,8 @@
 //! The words of `mon`: the file, how many events it holds, a file of names, and whether it prompts.
 #![tactic(auto)]
 
-pub use words::{MonWords, read_words};
+pub use asked::MonWords;
+pub use words::read_words;
 
+mod asked;
 mod words;

@@ -1,0 +1,23 @@
+use Rattle.std.proofs.Common.{rules, ap, ap₂, codes, true, ◌≡◌, ◌∙◌}
+use Rattle.clap.specs.Simple.{app_of_fields}
+use Rattle.clap.specs.Words.{App, app_of, new_app, rule_of, with_rule}
+use Rattle.loading.specs.CommandLine.{with_file}
+use Rattle.program_words.specs.CommandLine.{flag_rule, option_rule}
+use Rattle.mon_words.specs.CommandLine.{unnamed}
+use Rattle.mon_words.proofs.words.command.Goals as goal
+
+abbrev without_name : App → App
+without_name a = record a { top = record a.top { no_binary_name = true } }
+
+pub returns-clause-shape : goal.returns-clause-shape
+returns-clause-shape c =
+    let history_is : rule_of c.option.result ≡ option_rule (codes "history") = search rules in
+    let symbols_is : rule_of c.option-2.result ≡ option_rule (codes "symbols") = search rules in
+    let prompt_is : rule_of c.prompt_flag.result ≡ flag_rule (codes "prompt") = search rules in
+    let begun : app_of c.after_help.result ≡ new_app (codes "mon") = ap app_of_fields c.after_help.ensures ∙ ap app_of_fields c.about.ensures ∙ c.new.ensures.app in
+    let without : app_of c.no_binary_name.result ≡ unnamed = ap app_of_fields c.no_binary_name.ensures ∙ ap without_name begun in
+    let named : app_of c.in_ok-command.command ≡ unnamed = ap app_of_fields c.in_ok-command.ensures.0 ∙ without in
+    let filed : app_of c.in_ok-with_file_options.field-0 ≡ with_file unnamed = c.in_ok-with_file_options.ensures.shape ∙ ap with_file named in
+    let with_history = c.in_ok-arg.ensures.shape (search rules) ∙ ap₂ with_rule filed history_is in
+    let with_symbols = c.in_ok-arg-2.ensures.shape (search rules) ∙ ap₂ with_rule with_history symbols_is in
+    c.in_ok-command-2.ensures.shape (search rules) ∙ ap₂ with_rule with_symbols prompt_is
