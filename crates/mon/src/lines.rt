@@ -1,5 +1,8 @@
 //! The lines of the input, and the loop that serves them.
 
+ghost use Rattle.std.specs.Prelude.{◌≡◌, IfErr};
+ghost use Rattle.mon.specs.Done.{EndsSession};
+
 use arrayvec::ArrayVec;
 use mon_desk::Desk;
 use program::Refusal;
@@ -15,7 +18,9 @@ type Begun = ArrayVec<u8, 257>;
 const PROMPT: &str = "mon> ";
 
 /// Writes and flushes the text of the desk, which has none afterwards.
-fn put_text<W: Write>(desk: &mut Desk, writer: &mut W) -> Result<(), Refusal> {
+fn put_text<W: Write>(desk: &mut Desk, writer: &mut W) -> Result<(), Refusal>
+    ensures { IfErr result EndsSession }
+{
     if writer.write_all(desk.text.as_slice()).is_err() || writer.flush().is_err() {
         return Err(Refusal::Write);
     }
@@ -23,9 +28,14 @@ fn put_text<W: Write>(desk: &mut Desk, writer: &mut W) -> Result<(), Refusal> {
     Ok(())
 }
 
-/// Returns why an allocation failed.
-fn of_memory(_: AllocError) -> Refusal {
-    Refusal::OutOfMemory
+/// Returns what was made, or that an allocation failed.
+pub fn of_memory<T>(made: Result<T, AllocError>) -> Result<T, Refusal>
+    ensures { IfErr result EndsSession }
+{
+    match made {
+        Ok(value) => Ok(value),
+        Err(_) => Err(Refusal::OutOfMemory),
+    }
 }
 
 /// Serves a line that has ended, and begins the next one. Returns whether the session is to end.
@@ -35,15 +45,17 @@ fn serve_begun<W: Write>(
     prompts: bool,
     begun: &mut Begun,
     writer: &mut W,
-) -> Result<bool, Refusal> {
+) -> Result<bool, Refusal>
+    ensures { IfErr result EndsSession }
+{
     let line = match begun.as_slice() {
         [line @ .., b'\r'] => line,
         line => line,
     };
-    let is_over = desk.serve(alloc, line).map_err(of_memory)?;
+    let is_over = of_memory(desk.serve(alloc, line))?;
     begun.clear();
     if prompts && !is_over {
-        desk.say(PROMPT).map_err(of_memory)?;
+        of_memory(desk.say(PROMPT))?;
     }
     put_text(desk, writer)?;
     Ok(is_over)
@@ -57,7 +69,9 @@ fn serve_bytes<W: Write>(
     begun: &mut Begun,
     bytes: &[u8],
     writer: &mut W,
-) -> Result<bool, Refusal> {
+) -> Result<bool, Refusal>
+    ensures { IfErr result EndsSession }
+{
     for byte in bytes {
         if *byte == b'\n' {
             if serve_begun(alloc, desk, prompts, begun, writer)? {
@@ -77,9 +91,11 @@ fn serve_last<W: Write>(
     prompts: bool,
     begun: &mut Begun,
     writer: &mut W,
-) -> Result<(), Refusal> {
+) -> Result<(), Refusal>
+    ensures { IfErr result EndsSession }
+{
     if prompts {
-        desk.say("\n").map_err(of_memory)?;
+        of_memory(desk.say("\n"))?;
     }
     if begun.is_empty() {
         return put_text(desk, writer);
@@ -102,9 +118,11 @@ pub fn attend<R: Read, W: Write>(
     prompts: bool,
     reader: &mut R,
     writer: &mut W,
-) -> Result<(), Refusal> {
+) -> Result<(), Refusal>
+    ensures { IfErr result EndsSession }
+{
     if prompts {
-        desk.say(PROMPT).map_err(of_memory)?;
+        of_memory(desk.say(PROMPT))?;
     }
     put_text(desk, writer)?;
     let mut begun = Begun::new();

@@ -1,53 +1,147 @@
 //! What the word `mon` does.
 
-ghost use Rattle.std.specs.Prelude.{◌≡◌};
+ghost use Rattle.std.specs.Prelude.{◌≡◌, ◌≤◌, ◌⊎◌, ◌∷◌, [], ℕ, List, Option, None, Some, IfErr, IfOk, false};
+ghost use Rattle.std.specs.Prelude.{map, option_map};
+ghost use Rattle.clap.specs.Words.{IsAmong, fault_of};
+ghost use Rattle.clap.specs.declared.error.kind.ErrorKind.TheVariants.{DisplayHelp};
+ghost use Rattle.loading.specs.Asked.{map_of};
+ghost use Rattle.loading.specs.Loads.{IsLoaded};
+ghost use Rattle.loading.specs.Refused.{IsTakenBy};
+ghost use Rattle.loading.specs.Views.{file_view};
+ghost use Rattle.loading.specs.declared.loaded.LoadFault.TheVariants.{Refused};
+ghost use Rattle.model.specs.Event.{start};
+ghost use Rattle.model.specs.Session.{new_session};
+ghost use Rattle.model.specs.State.{is_map};
+ghost use Rattle.model.specs.declared.bus_fault.BusFault.TheVariants.{BadMap};
+ghost use Rattle.mon.specs.Done.{EndsMon, EndsNamed, EndsSession, IsDone, IsEnded};
+ghost use Rattle.mon_words.specs.Asked.{MonAsked, asked};
+ghost use Rattle.mon_words.specs.CommandLine.{mon};
+ghost use Rattle.mon_words.specs.Views.{mon_view};
 
-use crate::lines::attend;
-use loading::{LoadFault, load_names, load_with_history};
+use crate::lines::{attend, of_memory};
+use loading::{FileWords, LoadFault, Loaded, load_names, load_with_history};
 use mon_desk::Desk;
 use mon_words::{MonWords, read_words};
 use places::Places;
-use program::{Refusal, refused_words};
-use std::alloc::AllocError;
+use program::{Refusal, refuse, refused_words};
+use std::alloc::{AllocError, Global};
 use std::io::{IsTerminal, Read, Write};
 use std::rt::Files;
 
-/// Returns why an allocation failed.
-fn of_memory(_: AllocError) -> Refusal {
-    Refusal::OutOfMemory
+/// Returns what was made, or that an allocation failed.
+fn or_memory<T>(made: Result<T, AllocError>) -> Result<T, LoadFault>
+    ensures { IfErr result (λ fault. fault ≡ Refused (Refusal.OutOfMemory)) }
+{
+    match made {
+        Ok(value) => Ok(value),
+        Err(_) => Err(LoadFault::Refused(Refusal::OutOfMemory)),
+    }
+}
+
+/// Returns the places of what was loaded.
+fn places_of(alloc: Global, file: &str, loaded: &Loaded) -> Result<Places, LoadFault>
+    ensures { IfErr result (λ fault. fault ≡ Refused (Refusal.OutOfMemory)) }
+{
+    match &loaded.assembly {
+        Some(assembly) => or_memory(Places::of_source(alloc, file.as_bytes(), assembly)),
+        None => Ok(Places::new(alloc)),
+    }
+}
+
+/// Adds the names of a file of names, if one is named.
+fn add_names<H: Files + AllocGlobal>(
+    rt: &H,
+    words: &MonWords<'_>,
+    places: &mut Places,
+) -> Result<(), LoadFault>
+    ensures { IfErr result (λ fault. (fault ≡ Refused (Refusal.OutOfMemory))
+        ⊎ EndsNamed (mon_view words.now).symbols (file_view words.now.file) fault) }
+{
+    match words.symbols {
+        None => Ok(()),
+        Some(path) => match load_names(rt, &words.file, path) {
+            Ok(names) => or_memory(places.add_names(rt.alloc(), &names)),
+            Err(refusal) => Err(LoadFault::Refused(refusal)),
+        },
+    }
 }
 
 /// Loads what the words name, and returns the desk of its session.
-fn desk_of<H: Files + AllocGlobal>(rt: &H, words: &MonWords<'_>) -> Result<Desk, LoadFault> {
-    let alloc = rt.alloc();
+fn desk_of<H: Files + AllocGlobal>(rt: &H, words: &MonWords<'_>) -> Result<Desk, LoadFault>
+    ensures made { IfOk result (λ desk. (image : List (Option ℕ))
+        × IsLoaded (file_view words.now.file) image × (desk.session
+        ≡ new_session words.now.history (start (map_of (file_view words.now.file)) image))) }
+    ensures bad_map { is_map words.now.file.rom words.now.file.port ≡ false
+        → IfErr result (λ fault. fault ≡ Refused (Refusal.Map BadMap)) }
+    ensures refused { IfErr result (EndsMon (mon_view words.now)) }
+{
     let loaded = load_with_history(rt, &words.file, words.history)?;
-    let file = words.file.file.as_bytes();
-    let mut places = match &loaded.assembly {
-        Some(assembly) => Places::of_source(alloc, file, assembly).map_err(of_memory)?,
-        None => Places::new(alloc),
-    };
-    if let Some(path) = words.symbols {
-        let names = load_names(rt, &words.file, path)?;
-        places.add_names(alloc, &names).map_err(of_memory)?;
-    }
-    Ok(Desk::new(alloc, loaded.session, places, words.history).map_err(of_memory)?)
+    let mut places = places_of(rt.alloc(), words.file.file, &loaded)?;
+    add_names(rt, words, &mut places)?;
+    or_memory(Desk::new(
+        rt.alloc(),
+        loaded.session,
+        places,
+        words.history,
+    ))
 }
 
-/// Serves a session on the file of the words.
-fn serve<H: Files + AllocGlobal, R: Read, O: Write>(
-    rt: &H,
-    words: &MonWords<'_>,
+/// Serves a session.
+fn serve<R: Read, O: Write>(
+    alloc: Global,
+    desk: &mut Desk,
     prompts: bool,
     input: &mut R,
     output: &mut O,
-) -> Result<(), LoadFault> {
-    let mut desk = desk_of(rt, words)?;
+) -> Result<(), Refusal>
+    ensures { IfErr result EndsSession }
+{
     if prompts {
-        desk.say("mos65 mon: help lists the words, an empty line steps, quit ends\n")
-            .map_err(of_memory)?;
+        of_memory(desk.say("mos65 mon: help lists the words, an empty line steps, quit ends\n"))?;
     }
-    desk.show(None).map_err(of_memory)?;
-    Ok(attend(rt.alloc(), &mut desk, prompts, input, output)?)
+    of_memory(desk.show(None))?;
+    attend(alloc, desk, prompts, input, output)
+}
+
+/// Serves a session, says why it ended before its input did, and returns the exit status.
+fn served<R: Read, O: Write, E: Write>(
+    alloc: Global,
+    desk: &mut Desk,
+    prompts: bool,
+    input: &mut R,
+    output: &mut O,
+    errors: &mut E,
+) -> u8
+    ensures ended { IsEnded result }
+    ensures quiet { result ≡ 0 → errors.new ≡ errors.old }
+{
+    match serve(alloc, desk, prompts, input, output) {
+        Ok(()) => 0,
+        Err(refusal) => refuse(refusal, errors),
+    }
+}
+
+/// Does what words that fit the command line ask for, and returns the exit status.
+fn mon_words<H: Files + AllocGlobal, R: Read + IsTerminal, O: Write, E: Write>(
+    rt: &H,
+    words: &MonWords<'_>,
+    input: &mut R,
+    output: &mut O,
+    errors: &mut E,
+) -> u8
+    ensures done { IsDone (mon_view words.now) result
+        ((input.new ≡ input.old) × (output.new ≡ output.old)) }
+    ensures bad_map { is_map words.now.file.rom words.now.file.port ≡ false → result ≡ 2 }
+    ensures quiet { result ≡ 0 → errors.new ≡ errors.old }
+{
+    let prompts = words.prompts || input.is_terminal();
+    match desk_of(rt, words) {
+        Ok(desk) => {
+            let mut desk = desk;
+            served(rt.alloc(), &mut desk, prompts, input, output, errors)
+        }
+        Err(fault) => fault.tell(words.file.file, errors),
+    }
 }
 
 /// Does what the words of `mon` ask for, its own name left out, and returns the exit status.
@@ -66,16 +160,33 @@ pub fn mon<H: Files + AllocGlobal, R: Read + IsTerminal, O: Write, E: Write>(
     output: &mut O,
     errors: &mut E,
 ) -> u8
+    // Words that fit the command line, with right values: a session began on their file and ended, or
+    // none began and the streams are unchanged, as the status says.
+    ensures done { (a : MonAsked) → asked (map (λ s. s.now) words.entry.now) ≡ Some a
+        → IsTakenBy mon (map (λ s. s.now) words.entry.now)
+        → IsDone a result ((input.new ≡ input.old) × (output.new ≡ output.old)) }
+    // Other words read nothing, and write nothing on the output but help.
+    ensures untaken { ¬ IsTakenBy mon (map (λ s. s.now) words.entry.now)
+        → (input.new ≡ input.old) × (1 ≤ result → result ≤ 3 → output.new ≡ output.old) }
+    ensures unasked { asked (map (λ s. s.now) words.entry.now) ≡ None
+        → (input.new ≡ input.old) × (1 ≤ result → result ≤ 3 → output.new ≡ output.old) }
+    // Words that fit nothing have the status 2, unless they ask for help or memory runs out; help
+    // that is asked for has 0 if it was written.
+    ensures usage { ¬ IsTakenBy mon (map (λ s. s.now) words.entry.now) → ¬ IsAmong DisplayHelp
+        (fault_of mon (map (λ s. s.now) words.entry.now)) → (result ≡ 2) ⊎ (result ≡ 3) }
+    ensures help { fault_of mon (map (λ s. s.now) words.entry.now) ≡ DisplayHelp ∷ []
+        → (result ≡ 0) ⊎ (result ≡ 3) ⊎ (result ≡ 4) }
+    // A wrong value has the status 2, unless memory runs out.
+    ensures value { IsTakenBy mon (map (λ s. s.now) words.entry.now)
+        → asked (map (λ s. s.now) words.entry.now) ≡ None → (result ≡ 2) ⊎ (result ≡ 3) }
+    // A port and a ROM that make no map have the status 2, unless memory runs out.
+    ensures bad_map { (a : MonAsked) → asked (map (λ s. s.now) words.entry.now) ≡ Some a
+        → IsTakenBy mon (map (λ s. s.now) words.entry.now)
+        → is_map a.file.rom a.file.port ≡ false → (result ≡ 2) ⊎ (result ≡ 3) }
     ensures quiet { result ≡ 0 → errors.new ≡ errors.old }
 {
     match read_words(rt.alloc(), words) {
-        Ok(words) => {
-            let prompts = words.prompts || input.is_terminal();
-            match serve(rt, &words, prompts, input, output) {
-                Ok(()) => 0,
-                Err(fault) => fault.tell(words.file.file, errors),
-            }
-        }
+        Ok(words) => mon_words(rt, &words, input, output, errors),
         Err(fault) => refused_words(fault, output, errors),
     }
 }
