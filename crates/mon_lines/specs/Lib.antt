@@ -3,3 +3,4 @@ pub mod Values
 pub mod Parts
 pub mod Topics
 pub mod Lines
+pub mod Told

@@ -1,6 +1,7 @@
 //! The words that a line begins with.
 
 ghost use Rattle.std.specs.Prelude.{◌≡◌, ◌≤◌, map};
+ghost use Rattle.mon_lines.specs.Told.{effect_of, example_of, form_of};
 ghost use Rattle.mon_lines.specs.Topics.{begins_with, begun, by_words, common, is_same, row_view};
 ghost use Rattle.mon_lines.specs.Topics.{topic_of, whole, words};
 
@@ -128,7 +129,10 @@ pub const TOPICS: [Topic; 30] = [
 
 impl Topic {
     /// Returns how a line about it is written, and what it does.
-    pub fn form(self) -> (&'static str, &'static str) {
+    pub fn form(self) -> (&'static str, &'static str)
+        ensures form { result.0.now ≡ form_of self }
+        ensures effect { result.1.now ≡ effect_of self }
+    {
         match self {
             Topic::Step => ("step [N]", "makes N steps, or 1"),
             Topic::Over => ("over", "makes a JSR as one step"),
@@ -168,7 +172,9 @@ impl Topic {
     }
 
     /// Returns a line about it, as an example.
-    pub fn example(self) -> &'static str {
+    pub fn example(self) -> &'static str
+        ensures { result.now ≡ example_of self }
+    {
         match self {
             Topic::Step => "step 3",
             Topic::Over => "over",
