@@ -118,7 +118,8 @@ until_from names pc text =
 
 -- `until` and a place, or a count.
 abbrev pub going_from : List Named → ℕ → List ℕ → Reads SeenCommand
-going_from names pc text = if is_word (codes "until") text then until_from names pc (after_word text)
+going_from names pc text =
+    if is_word (codes "until") text then until_from names pc (after_word text)
     else and_then (count_of names text) (λ count rest. Ok (go count, rest))
 
 -- A place, and an instruction to the end of the line.
@@ -134,7 +135,7 @@ put_from names pc text =
     and_then (bytes_of names rest) (λ bytes rest.
     Ok (put address bytes, rest)))
 
--- What is read of a topic of a word: nothing behind the word counts.
+-- What `help` asks for by a word. What stands behind the word does not count.
 abbrev pub helped_by : List ℕ → Option Topic × Bool → Reads SeenCommand
 helped_by word (Some about, many) = Ok (help (Some about), [])
 helped_by word (None, true) = Err (several word)
@@ -146,10 +147,12 @@ helped_from text = if is_empty text then Ok (help None, text)
 
 -- What follows a word that puts something.
 abbrev pub putting : List Named → ℕ → List ℕ → Topic → Reads SeenCommand
-putting names pc text topic.Set = and_then (setting_of names pc text) (λ setting rest. Ok (set setting, rest))
+putting names pc text topic.Set =
+    and_then (setting_of names pc text) (λ setting rest. Ok (set setting, rest))
 putting names pc text topic.Put = put_from names pc text
 putting names pc text topic.Asm = assembled_from names pc text
-putting names pc text topic.«Type» = and_then (bytes_of names text) (λ bytes rest. Ok (type_in bytes, rest))
+putting names pc text topic.«Type» =
+    and_then (bytes_of names text) (λ bytes rest. Ok (type_in bytes, rest))
 putting names pc text topic.Help = helped_from text
 putting names pc text topic.Trace = Ok (help (Some topic.Trace), text)
 putting names pc text _ = Ok (quit, text)
@@ -157,30 +160,37 @@ putting names pc text _ = Ok (quit, text)
 -- What follows a word that shows something, or sets or clears a stop.
 abbrev pub seeing : List Named → ℕ → List ℕ → Topic → Reads SeenCommand
 seeing names pc text topic.Where = Ok (calls, text)
-seeing names pc text topic.History = and_then (count_of names text) (λ count rest. Ok (history (unwrap_or count 10), rest))
+seeing names pc text topic.History =
+    and_then (count_of names text) (λ count rest. Ok (history (unwrap_or count 10), rest))
 seeing names pc text topic.Break = break_from names pc text
 seeing names pc text topic.Watch = watched_from names pc text
 seeing names pc text topic.List = Ok (list, text)
-seeing names pc text topic.Delete = and_then (address_at names pc text) (λ address rest. Ok (delete address, rest))
+seeing names pc text topic.Delete =
+    and_then (address_at names pc text) (λ address rest. Ok (delete address, rest))
 seeing names pc text topic.Regs = Ok (regs, text)
 seeing names pc text topic.Flags = Ok (flags, text)
-seeing names pc text topic.Mem = and_then (shown_of names pc text) (λ stretch rest. Ok (mem stretch, rest))
+seeing names pc text topic.Mem =
+    and_then (shown_of names pc text) (λ stretch rest. Ok (mem stretch, rest))
 seeing names pc text topic.Dis = instructions_from names pc text
-seeing names pc text topic.Find = and_then (bytes_of names text) (λ bytes rest. Ok (find bytes, rest))
+seeing names pc text topic.Find =
+    and_then (bytes_of names text) (λ bytes rest. Ok (find bytes, rest))
 seeing names pc text topic.Stack = Ok (stack, text)
 seeing names pc text topic.Screen = Ok (screen, text)
 seeing names pc text other = putting names pc text other
 
 -- What follows the first word, by its topic: that of one that moves the session here.
 abbrev pub moving : List Named → ℕ → List ℕ → Topic → Reads SeenCommand
-moving names pc text topic.Step = and_then (count_of names text) (λ count rest. Ok (step (unwrap_or count 1), rest))
+moving names pc text topic.Step =
+    and_then (count_of names text) (λ count rest. Ok (step (unwrap_or count 1), rest))
 moving names pc text topic.Over = Ok (over, text)
 moving names pc text topic.Out = Ok (out, text)
 moving names pc text topic.Until = until_from names pc text
 moving names pc text topic.Go = going_from names pc text
-moving names pc text topic.Back = and_then (undoing_of names text) (λ undoing rest. Ok (back undoing, rest))
+moving names pc text topic.Back =
+    and_then (undoing_of names text) (λ undoing rest. Ok (back undoing, rest))
 moving names pc text topic.Rback = Ok (rback, text)
-moving names pc text topic.Redo = and_then (count_of names text) (λ count rest. Ok (redo count, rest))
+moving names pc text topic.Redo =
+    and_then (count_of names text) (λ count rest. Ok (redo count, rest))
 moving names pc text topic.Irq = and_then (level_of text) (λ level rest. Ok (irq level, rest))
 moving names pc text topic.Nmi = Ok (nmi, text)
 moving names pc text topic.Reset = Ok (reset, text)
@@ -197,10 +207,12 @@ whole_line about (Ok read) = if is_empty read.1 then Ok read.0 else Err (Some ab
 whole_line about (Err why) = Err (Some about, why)
 
 -- The rest of a line behind its first word, by the topic of the word.
-abbrev pub line_by : List Named → ℕ → List ℕ → List ℕ → List ℕ → Option Topic × Bool → Result SeenCommand SeenSlip
+abbrev pub line_by : List Named → ℕ → List ℕ → List ℕ → List ℕ
+    → Option Topic × Bool → Result SeenCommand SeenSlip
 line_by names pc line word rest (Some about, many) = whole_line about (moving names pc rest about)
 line_by names pc line word rest (None, true) = Err (None, several word)
-line_by names pc line word rest (None, false) = Err (None, unknown (if is_empty word then line else word))
+line_by names pc line word rest (None, false) =
+    Err (None, unknown (if is_empty word then line else word))
 
 -- A line: nothing, or a first word or `?` and what follows it.
 abbrev pub line_from : List Named → ℕ → List ℕ → List ℕ → Result SeenCommand SeenSlip

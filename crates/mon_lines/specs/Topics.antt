@@ -71,7 +71,8 @@ words =
 -- What the first word is about that is a text, capitals or not.
 abbrev pub whole : List ℕ → List TopicWord → Option Topic
 whole text [] = None
-whole text (row ∷ rows) = if str_eq_ignore_ascii_case row.0 text then Some row.1 else whole text rows
+whole text (row ∷ rows) = if str_eq_ignore_ascii_case row.0 text then Some row.1
+    else whole text rows
 
 -- Whether a word begins with a text, capitals or not.
 abbrev pub begins_with : List ℕ → List ℕ → Bool
@@ -81,7 +82,8 @@ begins_with word text = nat_le (length text) (length word)
 -- What the words are about that begin with a text.
 abbrev pub begun : List ℕ → List TopicWord → List Topic
 begun text [] = []
-begun text (row ∷ rows) = if begins_with row.0 text then row.1 ∷ begun text rows else begun text rows
+begun text (row ∷ rows) = if begins_with row.0 text then row.1 ∷ begun text rows
+    else begun text rows
 
 -- The topics, counted from 0.
 abbrev pub place_of : Topic → ℕ
@@ -123,7 +125,8 @@ is_same one other = place_of one == place_of other
 -- The topic that all of some have in common, and whether there are topics that have none.
 abbrev pub common : List Topic → Option Topic × Bool
 common [] = (None, false)
-common (first ∷ others) = if list_all (is_same first) others then (Some first, false) else (None, true)
+common (first ∷ others) = if list_all (is_same first) others then (Some first, false)
+    else (None, true)
 
 abbrev pub or_common : Option Topic → List Topic → Option Topic × Bool
 or_common (Some one) topics = (Some one, false)

@@ -1,13 +1,13 @@
 //! From a line to what it asks for.
 
 ghost use Rattle.std.specs.Prelude.{◌≡◌, IfErr, IfOk};
-ghost use Rattle.mon_lines.specs.Reading.{why_view};
 ghost use Rattle.std.specs.Option.{option_copied};
+ghost use Rattle.mon_lines.specs.Reading.{why_view};
 ghost use Rattle.mon_lines.specs.Parts.{level_of, setting_by, setting_of, undoing_of, value_of};
 ghost use Rattle.mon_lines.specs.Lines.{assembled_from, break_from, command_view, decimal_address};
-ghost use Rattle.mon_lines.specs.Lines.{going_from, helped_from, instructions_from, line_of, moving};
+ghost use Rattle.mon_lines.specs.Lines.{going_from, helped_from, instructions_from, line_of};
 ghost use Rattle.mon_lines.specs.Lines.{has_address, is_short_decimal, line_by, put_from, putting};
-ghost use Rattle.mon_lines.specs.Lines.{seeing, until_from, watched_from, whole_line};
+ghost use Rattle.mon_lines.specs.Lines.{moving, seeing, until_from, watched_from, whole_line};
 ghost use Rattle.mon_lines.specs.Topics.{topic_of};
 
 use crate::command::{Command, Register, Undoing};
