@@ -1,3 +1,4 @@
 pub mod Capped
 pub mod Sums
 pub mod TestSteps
+pub mod Begun

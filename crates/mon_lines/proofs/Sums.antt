@@ -1,5 +1,5 @@
 -- The way over the terms of a sum, and over the pieces of a line.
-use Rattle.std.proofs.Common.{◌≡◌, ℕ, zero, suc, ◌+◌, ℤ, Bool, true, false, List, [], cond, refl, ap, sym, ◌∙◌, arith, Ok, Err}
+use Rattle.std.proofs.Common.{◌≡◌, ℕ, zero, suc, ◌+◌, ℤ, Bool, true, false, List, cond, refl, ap, ◌∙◌, arith, Ok, Err}
 use Rattle.std.specs.Str.{byte}
 use Rattle.places.specs.Names.{Named}
 use Rattle.mon_lines.specs.Reading.{Reads, SeenWhy, and_then, is_empty, past}

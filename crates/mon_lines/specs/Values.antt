@@ -1,5 +1,5 @@
 -- Values: numbers, names, and sums of them. Source: mos65.
-use Rattle.std.specs.Prelude.{ℕ, zero, suc, ◌+◌, ℤ, pos, negsuc, ◌+ℤ◌, ◌-ℤ◌, ◌==◌, ◌||◌, nat_le, nat_lt, Bool, true, false, codes, if◌then◌else◌, List, [], ◌∷◌, ◌++◌, length, Option, Some, None, Result, Ok, Err}
+use Rattle.std.specs.Prelude.{ℕ, zero, suc, ◌+◌, ℤ, pos, negsuc, ◌+ℤ◌, ◌-ℤ◌, ◌==◌, ◌||◌, nat_le, Bool, codes, if◌then◌else◌, List, [], ◌∷◌, ◌++◌, length, Option, Some, None, Ok, Err}
 use Rattle.std.specs.Int.{saturate_signed, w64}
 use Rattle.std.specs.Option.{option_or}
 use Rattle.std.specs.Str.{byte, str_eq_ignore_ascii_case}

@@ -1,8 +1,14 @@
 //! From a line to what it asks for.
 
 ghost use Rattle.std.specs.Prelude.{◌≡◌, IfErr, IfOk};
+ghost use Rattle.std.specs.Option.{option_copied};
 ghost use Rattle.mon_lines.specs.Reading.{why_view};
 ghost use Rattle.mon_lines.specs.Parts.{level_of, setting_by, setting_of, undoing_of, value_of};
+ghost use Rattle.mon_lines.specs.Lines.{assembled_from, break_from, command_view, decimal_address};
+ghost use Rattle.mon_lines.specs.Lines.{going_from, helped_from, instructions_from, line_of};
+ghost use Rattle.mon_lines.specs.Lines.{has_address, is_short_decimal, line_by, put_from, putting};
+ghost use Rattle.mon_lines.specs.Lines.{moving, seeing, until_from, watched_from, whole_line};
+ghost use Rattle.mon_lines.specs.Topics.{topic_of};
 
 use crate::command::{Command, Register, Undoing};
 use crate::numbers::number_in;
@@ -16,11 +22,11 @@ use debugger::Setting;
 use places::{Names, Places};
 
 /// Reads `WHERE [if TESTS] [times N]`.
-fn break_at<'a>(
-    names: &Names,
-    pc: u16,
-    text: &'a [u8],
-) -> Result<(Command<'a>, &'a [u8]), Why<'a>> {
+fn break_at<'a>(names: &Names, pc: u16, text: &'a [u8]) -> Result<(Command<'a>, &'a [u8]), Why<'a>>
+    ensures ok { IfOk result (λ p. break_from names.now pc text.now
+        ≡ Ok (command_view p.0, p.1.now)) }
+    ensures err { IfErr result (λ why. break_from names.now pc text.now ≡ Err (why_view why)) }
+{
     let (address, rest) = address_of(names, pc, text)?;
     let (tests, rest) = tests_of(names, pc, rest)?;
     let (times, rest) = times_of(names, rest)?;
@@ -33,7 +39,11 @@ fn break_at<'a>(
 }
 
 /// Reads `WHERE` or `WHERE..WHERE`, and `read`, `write` or `change` behind it.
-fn watched<'a>(names: &Names, pc: u16, text: &'a [u8]) -> Result<(Command<'a>, &'a [u8]), Why<'a>> {
+fn watched<'a>(names: &Names, pc: u16, text: &'a [u8]) -> Result<(Command<'a>, &'a [u8]), Why<'a>>
+    ensures ok { IfOk result (λ p. watched_from names.now pc text.now
+        ≡ Ok (command_view p.0, p.1.now)) }
+    ensures err { IfErr result (λ why. watched_from names.now pc text.now ≡ Err (why_view why)) }
+{
     let (stretch, rest) = stretch_of(names, pc, text)?;
     let (kind, rest) = kind_of(rest);
     Ok((Command::Watch { stretch, kind }, rest))
@@ -99,7 +109,12 @@ fn instructions<'a>(
     names: &Names,
     pc: u16,
     text: &'a [u8],
-) -> Result<(Command<'a>, &'a [u8]), Why<'a>> {
+) -> Result<(Command<'a>, &'a [u8]), Why<'a>>
+    ensures ok { IfOk result (λ p. instructions_from names.now pc text.now
+        ≡ Ok (command_view p.0, p.1.now)) }
+    ensures err { IfErr result
+        (λ why. instructions_from names.now pc text.now ≡ Err (why_view why)) }
+{
     let (address, rest) = if is_empty(text) {
         (pc, text)
     } else {
@@ -123,7 +138,11 @@ fn undoing_of<'a>(names: &Names, text: &'a [u8]) -> Result<(Undoing, &'a [u8]), 
 }
 
 /// Reads what follows `go` or `run`.
-fn going<'a>(names: &Names, pc: u16, text: &'a [u8]) -> Result<(Command<'a>, &'a [u8]), Why<'a>> {
+fn going<'a>(names: &Names, pc: u16, text: &'a [u8]) -> Result<(Command<'a>, &'a [u8]), Why<'a>>
+    ensures ok { IfOk result (λ p. going_from names.now pc text.now
+        ≡ Ok (command_view p.0, p.1.now)) }
+    ensures err { IfErr result (λ why. going_from names.now pc text.now ≡ Err (why_view why)) }
+{
     if is_word(b"until", text) {
         return until(names, pc, after_word(text));
     }
@@ -132,17 +151,21 @@ fn going<'a>(names: &Names, pc: u16, text: &'a [u8]) -> Result<(Command<'a>, &'a
 }
 
 /// Reads the address to which a run goes.
-fn until<'a>(names: &Names, pc: u16, text: &'a [u8]) -> Result<(Command<'a>, &'a [u8]), Why<'a>> {
+fn until<'a>(names: &Names, pc: u16, text: &'a [u8]) -> Result<(Command<'a>, &'a [u8]), Why<'a>>
+    ensures ok { IfOk result (λ p. until_from names.now pc text.now
+        ≡ Ok (command_view p.0, p.1.now)) }
+    ensures err { IfErr result (λ why. until_from names.now pc text.now ≡ Err (why_view why)) }
+{
     let (address, rest) = address_of(names, pc, text)?;
     Ok((Command::Until(address), rest))
 }
 
 /// Reads `WHERE TEXT`.
-fn assembled<'a>(
-    names: &Names,
-    pc: u16,
-    text: &'a [u8],
-) -> Result<(Command<'a>, &'a [u8]), Why<'a>> {
+fn assembled<'a>(names: &Names, pc: u16, text: &'a [u8]) -> Result<(Command<'a>, &'a [u8]), Why<'a>>
+    ensures ok { IfOk result (λ p. assembled_from names.now pc text.now
+        ≡ Ok (command_view p.0, p.1.now)) }
+    ensures err { IfErr result (λ why. assembled_from names.now pc text.now ≡ Err (why_view why)) }
+{
     let (address, rest) = address_of(names, pc, text)?;
     if is_empty(rest) {
         return Err(Why::Missing(Lack::Instruction));
@@ -152,14 +175,21 @@ fn assembled<'a>(
 }
 
 /// Reads `WHERE BYTES`.
-fn put<'a>(names: &Names, pc: u16, text: &'a [u8]) -> Result<(Command<'a>, &'a [u8]), Why<'a>> {
+fn put<'a>(names: &Names, pc: u16, text: &'a [u8]) -> Result<(Command<'a>, &'a [u8]), Why<'a>>
+    ensures ok { IfOk result (λ p. put_from names.now pc text.now
+        ≡ Ok (command_view p.0, p.1.now)) }
+    ensures err { IfErr result (λ why. put_from names.now pc text.now ≡ Err (why_view why)) }
+{
     let (address, rest) = address_of(names, pc, text)?;
     let (bytes, rest) = bytes_of(names, rest)?;
     Ok((Command::Put { address, bytes }, rest))
 }
 
 /// Reads what follows `help`.
-fn helped<'a>(text: &'a [u8]) -> Result<(Command<'a>, &'a [u8]), Why<'a>> {
+fn helped<'a>(text: &'a [u8]) -> Result<(Command<'a>, &'a [u8]), Why<'a>>
+    ensures ok { IfOk result (λ p. helped_from text.now ≡ Ok (command_view p.0, p.1.now)) }
+    ensures err { IfErr result (λ why. helped_from text.now ≡ Err (why_view why)) }
+{
     if is_empty(text) {
         return Ok((Command::Help(None), text));
     }
@@ -178,7 +208,11 @@ fn moving<'a>(
     names: &Names,
     pc: u16,
     text: &'a [u8],
-) -> Result<(Command<'a>, &'a [u8]), Why<'a>> {
+) -> Result<(Command<'a>, &'a [u8]), Why<'a>>
+    ensures ok { IfOk result (λ p. moving names.now pc text.now topic
+        ≡ Ok (command_view p.0, p.1.now)) }
+    ensures err { IfErr result (λ why. moving names.now pc text.now topic ≡ Err (why_view why)) }
+{
     match topic {
         Topic::Step => {
             let (count, rest) = count_of(names, text)?;
@@ -213,7 +247,11 @@ fn seeing<'a>(
     names: &Names,
     pc: u16,
     text: &'a [u8],
-) -> Result<(Command<'a>, &'a [u8]), Why<'a>> {
+) -> Result<(Command<'a>, &'a [u8]), Why<'a>>
+    ensures ok { IfOk result (λ p. seeing names.now pc text.now topic
+        ≡ Ok (command_view p.0, p.1.now)) }
+    ensures err { IfErr result (λ why. seeing names.now pc text.now topic ≡ Err (why_view why)) }
+{
     match topic {
         Topic::Where => Ok((Command::Where, text)),
         Topic::History => {
@@ -250,7 +288,11 @@ fn putting<'a>(
     names: &Names,
     pc: u16,
     text: &'a [u8],
-) -> Result<(Command<'a>, &'a [u8]), Why<'a>> {
+) -> Result<(Command<'a>, &'a [u8]), Why<'a>>
+    ensures ok { IfOk result (λ p. putting names.now pc text.now topic
+        ≡ Ok (command_view p.0, p.1.now)) }
+    ensures err { IfErr result (λ why. putting names.now pc text.now topic ≡ Err (why_view why)) }
+{
     match topic {
         Topic::Set => {
             let (setting, rest) = setting_of(names, pc, text)?;
@@ -268,19 +310,34 @@ fn putting<'a>(
     }
 }
 
+/// Whether a line about a topic has an address behind its first word.
+fn has_address(topic: Option<Topic>) -> bool
+    ensures { result ≡ has_address topic }
+{
+    match topic {
+        Some(Topic::Break | Topic::Watch | Topic::Mem | Topic::Dis) => true,
+        Some(Topic::Until | Topic::Delete | Topic::Put | Topic::Asm) => true,
+        _ => false,
+    }
+}
+
+/// Whether a word has two or three decimal digits, and nothing else.
+fn is_short_decimal(word: &[u8]) -> bool
+    ensures { result ≡ is_short_decimal word.now }
+{
+    (word.len() == 2 || word.len() == 3) && number_in(10, word).is_some()
+}
+
 /// Returns the decimal digits that stand where a line has an address, if there are two or three: a
 /// reader may mean a hex number.
-pub fn decimal_address<'a>(line: &'a [u8]) -> Option<&'a [u8]> {
+#[tactic(auto, unfolding(crate::specs::Lines::decimal_address))]
+pub fn decimal_address<'a>(line: &'a [u8]) -> Option<&'a [u8]>
+    ensures { option_copied result ≡ decimal_address line.now }
+{
     let text = skip(line);
     let (topic, _) = topic_of(word_of(text));
-    let has_address = match topic? {
-        Topic::Break | Topic::Watch | Topic::Mem | Topic::Dis => true,
-        Topic::Until | Topic::Delete | Topic::Put | Topic::Asm => true,
-        _ => false,
-    };
     let word = word_of(after_word(text));
-    let is_decimal = matches!(word.len(), 2 | 3) && number_in(10, word).is_some();
-    if has_address && is_decimal {
+    if has_address(topic) && is_short_decimal(word) {
         Some(word)
     } else {
         None
@@ -293,44 +350,73 @@ fn line_about<'a>(
     names: &Names,
     pc: u16,
     text: &'a [u8],
-) -> Result<Command<'a>, Why<'a>> {
-    let (command, rest) = moving(topic, names, pc, text)?;
-    if is_empty(rest) {
-        Ok(command)
-    } else {
-        Err(Why::Behind(rest))
+) -> Result<Command<'a>, Slip<'a>>
+    ensures ok { IfOk result (λ command. whole_line topic (moving names.now pc text.now topic)
+        ≡ Ok (command_view command)) }
+    ensures err { IfErr result (λ slip. whole_line topic (moving names.now pc text.now topic)
+        ≡ Err (slip.topic, why_view slip.why)) }
+{
+    match moving(topic, names, pc, text) {
+        Ok((command, rest)) => {
+            if is_empty(rest) {
+                Ok(command)
+            } else {
+                Err(Slip {
+                    topic: Some(topic),
+                    why: Why::Behind(rest),
+                })
+            }
+        }
+        Err(why) => Err(Slip {
+            topic: Some(topic),
+            why,
+        }),
+    }
+}
+
+/// Reads a line by its first word and the text behind the word.
+fn line_by<'a>(
+    names: &Names,
+    pc: u16,
+    line: &'a [u8],
+    word: &'a [u8],
+    rest: &'a [u8],
+) -> Result<Command<'a>, Slip<'a>>
+    ensures ok { IfOk result (λ command. line_by names.now pc line.now word.now rest.now
+        (topic_of word.now) ≡ Ok (command_view command)) }
+    ensures err { IfErr result (λ slip. line_by names.now pc line.now word.now rest.now
+        (topic_of word.now) ≡ Err (slip.topic, why_view slip.why)) }
+{
+    match topic_of(word) {
+        (Some(topic), _) => line_about(topic, names, pc, rest),
+        (None, true) => Err(Slip {
+            topic: None,
+            why: Why::Several(word),
+        }),
+        (None, false) => Err(Slip {
+            topic: None,
+            why: Why::Unknown(if is_empty(word) { line } else { word }),
+        }),
     }
 }
 
 /// Returns what a line asks for, or what is missing in it. Names are those of the places, `PC` is
 /// the program counter.
-pub fn read_line<'a>(line: &'a [u8], places: &Places, pc: u16) -> Result<Command<'a>, Slip<'a>> {
+#[tactic(auto, unfolding(crate::specs::Lines::line_of))]
+pub fn read_line<'a>(line: &'a [u8], places: &Places, pc: u16) -> Result<Command<'a>, Slip<'a>>
+    ensures ok { IfOk result (λ command. line_of places.now.names pc line.now
+        ≡ Ok (command_view command)) }
+    ensures err { IfErr result (λ slip. line_of places.now.names pc line.now
+        ≡ Err (slip.topic, why_view slip.why)) }
+{
     let text = skip(line);
+    let names = places.names();
     if is_empty(text) {
         return Ok(Command::Nothing);
     }
-    let (first, rest) = if is_next(b'?', text) {
-        (b"?".as_slice(), after(1, text))
+    if is_next(b'?', text) {
+        line_by(names, pc, line, b"?", after(1, text))
     } else {
-        (word_of(text), after_word(text))
-    };
-    let topic = match topic_of(first) {
-        (Some(topic), _) => topic,
-        (None, true) => {
-            return Err(Slip {
-                topic: None,
-                why: Why::Several(first),
-            });
-        }
-        (None, false) => {
-            return Err(Slip {
-                topic: None,
-                why: Why::Unknown(if first.is_empty() { line } else { first }),
-            });
-        }
-    };
-    line_about(topic, places.names(), pc, rest).map_err(|why| Slip {
-        topic: Some(topic),
-        why,
-    })
+        line_by(names, pc, line, word_of(text), after_word(text))
+    }
 }

@@ -1,5 +1,12 @@
 //! The words that a line begins with.
 
+ghost use Rattle.std.specs.Prelude.{◌≡◌, ◌≤◌, map};
+ghost use Rattle.mon_lines.specs.Told.{effect_of, example_of, form_of};
+ghost use Rattle.mon_lines.specs.Topics.{begins_with, begun, by_words, common, is_same, row_view};
+ghost use Rattle.mon_lines.specs.Topics.{topic_of, whole, words};
+
+use places::is_same_word;
+
 /// What a line is about.
 #[derive(Clone, Copy)]
 pub enum Topic {
@@ -122,7 +129,10 @@ pub const TOPICS: [Topic; 30] = [
 
 impl Topic {
     /// Returns how a line about it is written, and what it does.
-    pub fn form(self) -> (&'static str, &'static str) {
+    pub fn form(self) -> (&'static str, &'static str)
+        ensures form { result.0.now ≡ form_of self }
+        ensures effect { result.1.now ≡ effect_of self }
+    {
         match self {
             Topic::Step => ("step [N]", "makes N steps, or 1"),
             Topic::Over => ("over", "makes a JSR as one step"),
@@ -162,7 +172,9 @@ impl Topic {
     }
 
     /// Returns a line about it, as an example.
-    pub fn example(self) -> &'static str {
+    pub fn example(self) -> &'static str
+        ensures { result.now ≡ example_of self }
+    {
         match self {
             Topic::Step => "step 3",
             Topic::Over => "over",
@@ -200,37 +212,86 @@ impl Topic {
 }
 
 /// Whether a word begins with some text, capitals or not.
-fn begins_with(word: &[u8], text: &[u8]) -> bool {
+fn begins_with(word: &[u8], text: &[u8]) -> bool
+    ensures { result ≡ begins_with word.now text.now }
+{
     text.len() <= word.len() && word[..text.len()].eq_ignore_ascii_case(text)
+}
+
+/// Whether two topics are the same.
+#[tactic(auto, using(crate::proofs::Begun::place_is))]
+fn is_same(one: Topic, other: Topic) -> bool
+    ensures { result ≡ is_same one other }
+{
+    one as u8 == other as u8
+}
+
+/// Returns the topic of the first word that a text is, capitals or not.
+fn whole(text: &[u8], words: &[(&[u8], Topic)]) -> Option<Topic>
+    ensures { result ≡ whole text.now (map row_view words.now) }
+{
+    for (word, topic) in words {
+        if is_same_word(word, text) {
+            return Some(*topic);
+        }
+    }
+    None
+}
+
+/// Returns the topic of the words that begin with a text. `None` and `false` if there is none,
+/// `None` and `true` if they have more than one topic.
+fn begun(text: &[u8], words: &[(&[u8], Topic)]) -> (Option<Topic>, bool)
+    ensures { result ≡ common (begun text.now (map row_view words.now)) }
+{
+    let mut found: Option<Topic> = None;
+    for (word, topic) in words {
+        if begins_with(word, text) {
+            match found {
+                None => found = Some(*topic),
+                Some(other) => {
+                    if !is_same(other, *topic) {
+                        return (None, true);
+                    }
+                }
+            }
+        }
+    }
+    (found, false)
+}
+
+/// The words of the table.
+#[tactic(auto, unfolding(crate::specs::Topics::words))]
+fn all_words() -> &'static [(&'static [u8], Topic)]
+    ensures { map row_view result.now ≡ words }
+{
+    &WORDS
+}
+
+/// Returns the topic of the word that a text is, otherwise of the words that it begins.
+fn by_words(text: &[u8], words: &[(&[u8], Topic)]) -> (Option<Topic>, bool)
+    ensures { result ≡ by_words text.now (map row_view words.now) }
+{
+    match whole(text, words) {
+        Some(topic) => (Some(topic), false),
+        None => begun(text, words),
+    }
 }
 
 /// Returns the topic of a first word: of the word that it is, otherwise of the words that it
 /// begins, if they have one topic. `None` and `false` if it begins none, `None` and `true` if they
 /// have more than one topic. A text without a byte begins none.
-pub fn topic_of(text: &[u8]) -> (Option<Topic>, bool) {
+#[tactic(auto, unfolding(crate::specs::Topics::topic_of))]
+pub fn topic_of(text: &[u8]) -> (Option<Topic>, bool)
+    ensures { result ≡ topic_of text.now }
+{
     if text == b"?".as_slice() {
         return (Some(Topic::Help), false);
     }
     if text.is_empty() {
         return (None, false);
     }
-    if text.eq_ignore_ascii_case(b"exit") {
+    if is_same_word(text, b"exit") {
         return (Some(Topic::Quit), false);
     }
-    for (word, topic) in &WORDS {
-        if word.eq_ignore_ascii_case(text) {
-            return (Some(*topic), false);
-        }
-    }
-    let mut found: Option<Topic> = None;
-    for (word, topic) in &WORDS {
-        if begins_with(word, text) {
-            match found {
-                None => found = Some(*topic),
-                Some(other) if other as u8 == *topic as u8 => {}
-                Some(_) => return (None, true),
-            }
-        }
-    }
-    (found, false)
+    by_words(text, all_words())
 }

@@ -1,4 +1,4 @@
-use Rattle.std.proofs.Common.{◌≡◌, ◌∙◌, ◌-◌, ◌+◌, false, true, sym, ap, arith}
+use Rattle.std.proofs.Common.{◌∙◌, ◌-◌, ◌+◌, sym, arith}
 use Rattle.mon_lines.proofs.TestSteps.{no_test_left, test_refused, tests_end, tests_more}
 use Rattle.mon_lines.proofs.tests.tests_within.Goals as goal
 

@@ -1,4 +1,4 @@
-use Rattle.std.proofs.Common.{◌≡◌, ◌∙◌, ◌-◌, ◌+◌, false, true, sym, ap, arith, length}
+use Rattle.std.proofs.Common.{◌∙◌, ◌-◌, ◌+◌, sym, ap, arith, length}
 use Rattle.mon_lines.specs.Reading.{is_empty}
 use Rattle.mon_lines.proofs.Sums.{no_piece_left, piece_refused, pieces_end, pieces_more}
 use Rattle.mon_lines.proofs.values.pieces_of.Goals as goal

@@ -1,0 +1,252 @@
+-- What a line asks for. Source: mos65.
+use Rattle.std.specs.Prelude.{ℕ, ◌==◌, ◌&&◌, ◌||◌, is_some, Bool, true, false, codes, if◌then◌else◌, List, [], length, Option, Some, None, unwrap_or, Result, Ok, Err}
+use Rattle.std.specs.Str.{byte}
+use Rattle.model.specs.declared.event.Setting.{Setting}
+use Rattle.places.specs.Names.{Named}
+use Rattle.mon_lines.specs.Reading.{Reads, SeenWhy, unknown, several, missing, behind, after, after_word, and_then, is_empty, is_next, is_word, number_in, skip, word_of}
+use Rattle.mon_lines.specs.Values.{bytes_of, count_of}
+use Rattle.mon_lines.specs.Parts.{address_at, kind_of, level_of, setting_of, shown_of, stretch_of, tests_of, times_of, undoing_of}
+use Rattle.mon_lines.specs.Topics.{topic_of}
+use Rattle.mon_lines.specs.declared.command.Command.{Command}
+use Rattle.mon_lines.specs.declared.command.Command.TheVariants as command
+use Rattle.mon_lines.specs.declared.command.Stretch.{Stretch}
+use Rattle.mon_lines.specs.declared.command.Test.{Test}
+use Rattle.mon_lines.specs.declared.command.Undoing.{Undoing}
+use Rattle.mon_lines.specs.declared.command.WatchKind.{WatchKind}
+use Rattle.mon_lines.specs.declared.slip.Lack.TheVariants as lacking
+use Rattle.mon_lines.specs.declared.topic.Topic.{Topic}
+use Rattle.mon_lines.specs.declared.topic.Topic.TheVariants as topic
+
+-- What a line asks for: each command with what it is told.
+pub data SeenCommand : Type 0 where
+  nothing : SeenCommand
+  step : ℕ → SeenCommand
+  over : SeenCommand
+  out : SeenCommand
+  until : ℕ → SeenCommand
+  go : Option ℕ → SeenCommand
+  back : Undoing → SeenCommand
+  rback : SeenCommand
+  redo : Option ℕ → SeenCommand
+  calls : SeenCommand
+  history : ℕ → SeenCommand
+  break_at : ℕ → List Test → ℕ → SeenCommand
+  watch : Stretch → WatchKind → SeenCommand
+  list : SeenCommand
+  delete : ℕ → SeenCommand
+  regs : SeenCommand
+  flags : SeenCommand
+  mem : Stretch → SeenCommand
+  dis : ℕ → ℕ → SeenCommand
+  find : List ℕ → SeenCommand
+  stack : SeenCommand
+  set : Setting → SeenCommand
+  put : ℕ → List ℕ → SeenCommand
+  asm : ℕ → List ℕ → SeenCommand
+  type_in : List ℕ → SeenCommand
+  screen : SeenCommand
+  irq : Bool → SeenCommand
+  nmi : SeenCommand
+  reset : SeenCommand
+  help : Option Topic → SeenCommand
+  quit : SeenCommand
+
+-- The same without where its parts lie in memory.
+abbrev pub command_view : Command → SeenCommand
+command_view command.Nothing = nothing
+command_view (command.Step count) = step count
+command_view command.Over = over
+command_view command.Out = out
+command_view (command.Until address) = until address
+command_view (command.Go count) = go count
+command_view (command.Back undoing) = back undoing
+command_view command.Rback = rback
+command_view (command.Redo count) = redo count
+command_view command.Where = calls
+command_view (command.History count) = history count
+command_view (command.Break address tests times) = break_at address tests.items times
+command_view (command.Watch stretch kind) = watch stretch kind
+command_view command.List = list
+command_view (command.Delete address) = delete address
+command_view command.Regs = regs
+command_view command.Flags = flags
+command_view (command.Mem stretch) = mem stretch
+command_view (command.Dis address count) = dis address count
+command_view (command.Find bytes) = find bytes.items
+command_view command.Stack = stack
+command_view (command.Set setting) = set setting
+command_view (command.Put address bytes) = put address bytes.items
+command_view (command.Asm address text) = asm address text.now
+command_view (command.«Type» bytes) = type_in bytes.items
+command_view command.Screen = screen
+command_view (command.Irq level) = irq level
+command_view command.Nmi = nmi
+command_view command.Reset = reset
+command_view (command.Help about) = help about
+command_view command.Quit = quit
+
+-- ---- what follows a first word
+
+-- A place, tests, and how often they have to hold.
+abbrev pub break_from : List Named → ℕ → List ℕ → Reads SeenCommand
+break_from names pc text =
+    and_then (address_at names pc text) (λ address rest.
+    and_then (tests_of names pc rest) (λ tests rest.
+    and_then (times_of names rest) (λ times rest.
+    Ok (break_at address tests times, rest))))
+
+-- A place or two, and what is watched there.
+abbrev pub watched_from : List Named → ℕ → List ℕ → Reads SeenCommand
+watched_from names pc text =
+    and_then (stretch_of names pc text) (λ stretch rest.
+    and_then (kind_of rest) (λ kind rest.
+    Ok (watch stretch kind, rest)))
+
+-- A place, the program counter if nothing is left, and a count, 10 if there is none.
+abbrev pub place_or : List Named → ℕ → List ℕ → Reads ℕ
+place_or names pc text = if is_empty text then Ok (pc, text) else address_at names pc text
+
+abbrev pub instructions_from : List Named → ℕ → List ℕ → Reads SeenCommand
+instructions_from names pc text =
+    and_then (place_or names pc text) (λ address rest.
+    and_then (count_of names rest) (λ count rest.
+    Ok (dis address (unwrap_or count 10), rest)))
+
+abbrev pub until_from : List Named → ℕ → List ℕ → Reads SeenCommand
+until_from names pc text =
+    and_then (address_at names pc text) (λ address rest. Ok (until address, rest))
+
+-- `until` and a place, or a count.
+abbrev pub going_from : List Named → ℕ → List ℕ → Reads SeenCommand
+going_from names pc text =
+    if is_word (codes "until") text then until_from names pc (after_word text)
+    else and_then (count_of names text) (λ count rest. Ok (go count, rest))
+
+-- A place, and an instruction to the end of the line.
+abbrev pub assembled_from : List Named → ℕ → List ℕ → Reads SeenCommand
+assembled_from names pc text =
+    and_then (address_at names pc text) (λ address rest.
+    if is_empty rest then Err (missing lacking.Instruction) else Ok (asm address rest, []))
+
+-- A place, and bytes.
+abbrev pub put_from : List Named → ℕ → List ℕ → Reads SeenCommand
+put_from names pc text =
+    and_then (address_at names pc text) (λ address rest.
+    and_then (bytes_of names rest) (λ bytes rest.
+    Ok (put address bytes, rest)))
+
+-- What `help` asks for by a word. What stands behind the word does not count.
+abbrev pub helped_by : List ℕ → Option Topic × Bool → Reads SeenCommand
+helped_by word (Some about, many) = Ok (help (Some about), [])
+helped_by word (None, true) = Err (several word)
+helped_by word (None, false) = Err (unknown word)
+
+abbrev pub helped_from : List ℕ → Reads SeenCommand
+helped_from text = if is_empty text then Ok (help None, text)
+    else helped_by (word_of text) (topic_of (word_of text))
+
+-- What follows a word that puts something.
+abbrev pub putting : List Named → ℕ → List ℕ → Topic → Reads SeenCommand
+putting names pc text topic.Set =
+    and_then (setting_of names pc text) (λ setting rest. Ok (set setting, rest))
+putting names pc text topic.Put = put_from names pc text
+putting names pc text topic.Asm = assembled_from names pc text
+putting names pc text topic.«Type» =
+    and_then (bytes_of names text) (λ bytes rest. Ok (type_in bytes, rest))
+putting names pc text topic.Help = helped_from text
+putting names pc text topic.Trace = Ok (help (Some topic.Trace), text)
+putting names pc text _ = Ok (quit, text)
+
+-- What follows a word that shows something, or sets or clears a stop.
+abbrev pub seeing : List Named → ℕ → List ℕ → Topic → Reads SeenCommand
+seeing names pc text topic.Where = Ok (calls, text)
+seeing names pc text topic.History =
+    and_then (count_of names text) (λ count rest. Ok (history (unwrap_or count 10), rest))
+seeing names pc text topic.Break = break_from names pc text
+seeing names pc text topic.Watch = watched_from names pc text
+seeing names pc text topic.List = Ok (list, text)
+seeing names pc text topic.Delete =
+    and_then (address_at names pc text) (λ address rest. Ok (delete address, rest))
+seeing names pc text topic.Regs = Ok (regs, text)
+seeing names pc text topic.Flags = Ok (flags, text)
+seeing names pc text topic.Mem =
+    and_then (shown_of names pc text) (λ stretch rest. Ok (mem stretch, rest))
+seeing names pc text topic.Dis = instructions_from names pc text
+seeing names pc text topic.Find =
+    and_then (bytes_of names text) (λ bytes rest. Ok (find bytes, rest))
+seeing names pc text topic.Stack = Ok (stack, text)
+seeing names pc text topic.Screen = Ok (screen, text)
+seeing names pc text other = putting names pc text other
+
+-- What follows the first word, by its topic: that of one that moves the session here.
+abbrev pub moving : List Named → ℕ → List ℕ → Topic → Reads SeenCommand
+moving names pc text topic.Step =
+    and_then (count_of names text) (λ count rest. Ok (step (unwrap_or count 1), rest))
+moving names pc text topic.Over = Ok (over, text)
+moving names pc text topic.Out = Ok (out, text)
+moving names pc text topic.Until = until_from names pc text
+moving names pc text topic.Go = going_from names pc text
+moving names pc text topic.Back =
+    and_then (undoing_of names text) (λ undoing rest. Ok (back undoing, rest))
+moving names pc text topic.Rback = Ok (rback, text)
+moving names pc text topic.Redo =
+    and_then (count_of names text) (λ count rest. Ok (redo count, rest))
+moving names pc text topic.Irq = and_then (level_of text) (λ level rest. Ok (irq level, rest))
+moving names pc text topic.Nmi = Ok (nmi, text)
+moving names pc text topic.Reset = Ok (reset, text)
+moving names pc text other = seeing names pc text other
+
+-- ---- the whole line
+
+-- A slip, and what the line is about, if that was read.
+abbrev pub SeenSlip : Type 0
+SeenSlip = Option Topic × SeenWhy
+
+abbrev pub whole_line : Topic → Reads SeenCommand → Result SeenCommand SeenSlip
+whole_line about (Ok read) = if is_empty read.1 then Ok read.0 else Err (Some about, behind read.1)
+whole_line about (Err why) = Err (Some about, why)
+
+-- The rest of a line behind its first word, by the topic of the word.
+abbrev pub line_by : List Named → ℕ → List ℕ → List ℕ → List ℕ
+    → Option Topic × Bool → Result SeenCommand SeenSlip
+line_by names pc line word rest (Some about, many) = whole_line about (moving names pc rest about)
+line_by names pc line word rest (None, true) = Err (None, several word)
+line_by names pc line word rest (None, false) =
+    Err (None, unknown (if is_empty word then line else word))
+
+-- A line: nothing, or a first word or `?` and what follows it.
+abbrev pub line_from : List Named → ℕ → List ℕ → List ℕ → Result SeenCommand SeenSlip
+line_from names pc line text =
+    if is_empty text then Ok nothing
+    else if is_next (byte "?") text
+    then line_by names pc line (codes "?") (after 1 text) (topic_of (codes "?"))
+    else line_by names pc line (word_of text) (after_word text) (topic_of (word_of text))
+
+unfoldable pub line_of : List Named → ℕ → List ℕ → Result SeenCommand SeenSlip
+line_of names pc line = line_from names pc line (skip line)
+
+-- ---- an address that may be meant as a hex number
+
+-- Whether a line about a topic has an address behind its first word.
+abbrev pub has_address : Option Topic → Bool
+has_address (Some topic.Break) = true
+has_address (Some topic.Watch) = true
+has_address (Some topic.Mem) = true
+has_address (Some topic.Dis) = true
+has_address (Some topic.Until) = true
+has_address (Some topic.Delete) = true
+has_address (Some topic.Put) = true
+has_address (Some topic.Asm) = true
+has_address _ = false
+
+-- Two or three decimal digits.
+abbrev pub is_short_decimal : List ℕ → Bool
+is_short_decimal word = (length word == 2 || length word == 3) && is_some (number_in 10 word)
+
+abbrev pub decimal_behind : List ℕ → List ℕ → Option (List ℕ)
+decimal_behind text word = if has_address (topic_of (word_of text)).0 && is_short_decimal word
+    then Some word else None
+
+-- The decimal digits that stand where a line has an address, if there are two or three.
+unfoldable pub decimal_address : List ℕ → Option (List ℕ)
+decimal_address line = decimal_behind (skip line) (word_of (after_word (skip line)))
