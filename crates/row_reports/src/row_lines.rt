@@ -29,7 +29,8 @@ impl<'a> RowLines<'a> {
     /// is not there.
     pub fn walk_to(&mut self, number: u32) -> &'a [u8]
         ensures line { result.now ≡ line_at number self.old.next (lines_left self.old) }
-        ensures rest { lines_left self.new ≡ lines_after number self.old.next (lines_left self.old) }
+        ensures rest { lines_left self.new
+            ≡ lines_after number self.old.next (lines_left self.old) }
         ensures next { self.new.next ≡ next_after number self.old.next (lines_left self.old) }
     {
         for _ in 0..self.rest.len() {
