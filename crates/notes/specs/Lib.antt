@@ -1,3 +1,6 @@
 pub mod Classes
+pub mod Lines
 pub mod Operands
 pub mod Places
+pub mod Shown
+pub mod Words

@@ -1,7 +1,8 @@
 //! What is said of lines of a source to a person: where in the line, in which words, and the line
 //! with a mark under what is meant.
 //!
-//! Where a block stands, `FILE:LINE:COLUMN: `, is proved; what the words say is tested.
+//! Where a block stands, `FILE:LINE:COLUMN: `, the line with its mark, and the names that lines
+//! begin with are proved.
 #![tactic(auto)]
 
 mod lines;

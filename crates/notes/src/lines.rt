@@ -1,5 +1,11 @@
 //! The lines of a source that are read, and the names that they begin with.
 
+ghost use Rattle.std.specs.Prelude.{◌≡◌, ◌++◌, [], IfOk, OnOk, map, take};
+ghost use Rattle.std.specs.Option.{option_map};
+ghost use Rattle.model.specs.TextLines.{lines_of};
+ghost use Rattle.notes.specs.Lines.{defines, name_of, name_view, names_of, texts_of};
+ghost use Rattle.notes.specs.Lines.{with_name, without_blanks};
+
 use crate::runs::{after, blank_run, word_run};
 use source_lines::next_line;
 use std::alloc::{AllocError, Global};
@@ -16,7 +22,9 @@ pub fn lines_of<'a>(
     alloc: Global,
     source: &'a [u8],
     most: usize,
-) -> Result<Vec<&'a [u8]>, AllocError> {
+) -> Result<Vec<&'a [u8]>, AllocError>
+    ensures { IfOk result (λ lines. texts_of lines.items ≡ take most (lines_of source.now)) }
+{
     let mut lines = Vec::new(alloc);
     let mut rest = source;
     for _ in 0..most {
@@ -30,29 +38,60 @@ pub fn lines_of<'a>(
     Ok(lines)
 }
 
+/// Returns a text from its first byte on that is no blank.
+fn without_blanks(text: &[u8]) -> &[u8]
+    ensures { result.now ≡ without_blanks text.now }
+{
+    after(text, blank_run(text))
+}
+
+/// Returns whether a text begins with `:` or `=`.
+fn defines(text: &[u8]) -> bool
+    ensures { result ≡ defines text.now }
+{
+    match text {
+        [byte, ..] => *byte == b':' || *byte == b'=',
+        [] => false,
+    }
+}
+
 /// The name that a line begins with, if `:` or `=` stands after it.
-fn name_of(line: &[u8]) -> Option<&[u8]> {
-    let rest = after(line, blank_run(line));
+#[tactic(auto, using(crate::proofs::LineSteps::name_steps), unfolding(crate::specs::Lines::name_of))]
+fn name_of(line: &[u8]) -> Option<&[u8]>
+    ensures { option_map (λ name. name.now) result ≡ name_of line.now }
+{
+    let rest = without_blanks(line);
     let count = word_run(rest);
     if count == 0 || count > rest.len() {
         return None;
     }
-    let behind = after(rest, count);
-    match after(behind, blank_run(behind)).first().copied() {
-        Some(b':') | Some(b'=') => Some(&rest[..count]),
-        _ => None,
+    if defines(without_blanks(after(rest, count))) {
+        Some(&rest[..count])
+    } else {
+        None
     }
 }
 
+/// Appends the name that a line of this number begins with, if there is one.
+fn push_name<'a>(names: &mut Vec<Name<'a>>, line: &'a [u8], number: u32) -> Result<(), AllocError>
+    ensures { OnOk result (map name_view names.new.items
+        ≡ map name_view names.old.items ++ with_name (name_of line.now) number []) }
+{
+    if let Some(text) = name_of(line) {
+        names.push(Name { text, line: number })?;
+    }
+    Ok(())
+}
+
 /// Returns the names that lines define, in their order.
-pub fn names_of<'a>(alloc: Global, lines: &[&'a [u8]]) -> Result<Vec<Name<'a>>, AllocError> {
+pub fn names_of<'a>(alloc: Global, lines: &[&'a [u8]]) -> Result<Vec<Name<'a>>, AllocError>
+    ensures { IfOk result (λ names. map name_view names.items ≡ names_of (texts_of lines.now)) }
+{
     let mut names = Vec::new(alloc);
     let mut number = 0u32;
     for line in lines {
         number = number.saturating_add(1);
-        if let Some(text) = name_of(line) {
-            names.push(Name { text, line: number })?;
-        }
+        push_name(&mut names, line, number)?;
     }
     Ok(names)
 }

@@ -1,7 +1,8 @@
 //! The tokens of a line's operation.
 
 ghost use Rattle.std.specs.Prelude.{◌≡◌};
-ghost use Rattle.notes.specs.Operands.{after_label, is_symbol, operand_of};
+ghost use Rattle.notes.specs.Operands.{after_label, is_symbol, meant_by, operand_of};
+ghost use Rattle.notes.specs.Operands.{operand_place};
 
 use crate::runs::blank_run;
 use crate::words::{Note, noted};
@@ -39,19 +40,29 @@ pub fn operand_of<'t, 'a>(tokens: &'t [Token<'a>]) -> &'t [Token<'a>]
     }
 }
 
-/// Words about the operand of a line, or about all of it where it has none.
-pub fn about_operand(line: &[u8], tokens: &[Token<'_>], words: Vec<u8>) -> Note {
-    let operand = operand_of(tokens);
-    let meant = if operand.is_empty() {
-        after_label(tokens)
-    } else {
-        operand
-    };
-    match (meant.first(), meant.last()) {
+/// Words about some tokens of a line, or about its first byte after the blanks if there are none.
+fn about(line: &[u8], tokens: &[Token<'_>], words: Vec<u8>) -> Note
+    ensures { let place = meant_by line.now tokens.now in
+        result ≡ record { start = place.0; width = place.1; words = words } }
+{
+    match (tokens.first(), tokens.last()) {
         (Some(first), Some(last)) => {
             let end = last.start.saturating_add(last.text.len());
             noted(first.start, end.saturating_sub(first.start), words)
         }
         _ => noted(blank_run(line), 1, words),
+    }
+}
+
+/// Words about the operand of a line, or about all of it where it has none.
+pub fn about_operand(line: &[u8], tokens: &[Token<'_>], words: Vec<u8>) -> Note
+    ensures { let place = operand_place line.now tokens.now in
+        result ≡ record { start = place.0; width = place.1; words = words } }
+{
+    let operand = operand_of(tokens);
+    if operand.is_empty() {
+        about(line, after_label(tokens), words)
+    } else {
+        about(line, operand, words)
     }
 }

@@ -1,8 +1,9 @@
 //! Words put together.
 
 ghost use Rattle.std.specs.Prelude.{◌≡◌, ◌%◌, ◌∷◌, ◌++◌, IfOk, OnOk};
-ghost use Rattle.std.specs.Fmt.{decimal};
+ghost use Rattle.std.specs.Fmt.{decimal, signed_decimal};
 ghost use Rattle.model.specs.Text.{hex_address};
+ghost use Rattle.notes.specs.Words.{joined};
 
 use formatting::digits_of_address;
 use itoa::Buffer;
@@ -29,7 +30,9 @@ pub fn noted(start: usize, width: usize, words: Vec<u8>) -> Note
 }
 
 /// Returns pieces of text, one after another.
-pub fn joined(alloc: Global, pieces: &[&[u8]]) -> Result<Vec<u8>, AllocError> {
+pub fn joined(alloc: Global, pieces: &[&[u8]]) -> Result<Vec<u8>, AllocError>
+    ensures { IfOk result (λ text. text.items ≡ joined pieces.now) }
+{
     let mut words = Vec::new(alloc);
     for piece in pieces {
         words.extend_from_slice(piece)?;
@@ -54,7 +57,9 @@ pub fn named(alloc: Global, name: &[u8], words: &str) -> Result<Vec<u8>, AllocEr
 }
 
 /// Appends a number in decimal.
-pub fn push_decimal(words: &mut Vec<u8>, number: i32) -> Result<(), AllocError> {
+pub fn push_decimal(words: &mut Vec<u8>, number: i32) -> Result<(), AllocError>
+    ensures { OnOk result (words.new.items ≡ words.old.items ++ signed_decimal number) }
+{
     words.extend_from_slice(Buffer::new().format(number).as_bytes())
 }
 

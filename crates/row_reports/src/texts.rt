@@ -1,21 +1,37 @@
 //! Places, values and rows as text.
 
+ghost use Rattle.std.specs.Prelude.{◌≡◌, ◌<◌, ◌++◌, ◌∷◌, [], OnOk, map, string_bytes};
+ghost use Rattle.row_reports.specs.Texts.{flag_name, number_text, place_text, register_name};
+ghost use Rattle.row_reports.specs.Texts.{relation_sign, value_text, visible};
+
 use row_reader::{Flag, Place, Range, Register, Relation};
 use std::alloc::AllocError;
 
 /// Appends bytes, with a `?` for each that is no visible character of ASCII.
-pub fn push_bytes(text: &mut String, bytes: &[u8]) -> Result<(), AllocError> {
+pub fn push_bytes(text: &mut String, bytes: &[u8]) -> Result<(), AllocError>
+    ensures { OnOk result (string_bytes text.new
+        ≡ string_bytes text.old ++ map visible bytes.now) }
+{
     for byte in bytes {
-        match *byte {
-            b' '..=b'~' => text.push(*byte as char)?,
-            b'\t' => text.push(' ')?,
-            _ => text.push('?')?,
-        }
+        push_byte(text, *byte)?;
     }
     Ok(())
 }
 
-fn register_name(register: Register) -> &'static str {
+/// Appends a byte, with a `?` for one that is no visible character of ASCII.
+fn push_byte(text: &mut String, byte: u8) -> Result<(), AllocError>
+    ensures { OnOk result (string_bytes text.new ≡ string_bytes text.old ++ visible byte ∷ []) }
+{
+    match byte {
+        b' '..=b'~' => text.push(byte as char),
+        b'\t' => text.push(' '),
+        _ => text.push('?'),
+    }
+}
+
+fn register_name(register: Register) -> &'static str
+    ensures { result.now ≡ register_name register }
+{
     match register {
         Register::A => "A",
         Register::X => "X",
@@ -25,7 +41,9 @@ fn register_name(register: Register) -> &'static str {
     }
 }
 
-fn flag_name(flag: Flag) -> &'static str {
+fn flag_name(flag: Flag) -> &'static str
+    ensures { result.now ≡ flag_name flag }
+{
     match flag {
         Flag::N => "N",
         Flag::V => "V",
@@ -37,7 +55,9 @@ fn flag_name(flag: Flag) -> &'static str {
 }
 
 /// Appends a place as a row names it.
-pub fn push_place(text: &mut String, place: Place) -> Result<(), AllocError> {
+pub fn push_place(text: &mut String, place: Place) -> Result<(), AllocError>
+    ensures { OnOk result (string_bytes text.new ≡ string_bytes text.old ++ place_text place) }
+{
     match place {
         Place::Register(register) => text.push_str(register_name(register)),
         Place::Flag(flag) => text.push_str(flag_name(flag)),
@@ -50,7 +70,10 @@ pub fn push_place(text: &mut String, place: Place) -> Result<(), AllocError> {
 }
 
 /// Appends a relation as a row writes it.
-pub fn push_relation(text: &mut String, relation: Relation) -> Result<(), AllocError> {
+pub fn push_relation(text: &mut String, relation: Relation) -> Result<(), AllocError>
+    ensures { OnOk result (string_bytes text.new
+        ≡ string_bytes text.old ++ relation_sign relation ∷ []) }
+{
     text.push(match relation {
         Relation::Equal => '=',
         Relation::Below => '<',
@@ -59,7 +82,10 @@ pub fn push_relation(text: &mut String, relation: Relation) -> Result<(), AllocE
 }
 
 /// Appends a number as a row would write it for a place.
-pub fn push_number(text: &mut String, place: Place, number: u64) -> Result<(), AllocError> {
+pub fn push_number(text: &mut String, place: Place, number: u64) -> Result<(), AllocError>
+    ensures { OnOk result (string_bytes text.new
+        ≡ string_bytes text.old ++ number_text place number) }
+{
     match place {
         Place::Cycles | Place::OutputCount | Place::Flag(_) => write!(text, "{number}"),
         Place::Register(_) | Place::Byte(_) | Place::Input | Place::Output(_) => {
@@ -69,7 +95,10 @@ pub fn push_number(text: &mut String, place: Place, number: u64) -> Result<(), A
 }
 
 /// Appends the value of a range's letter.
-pub fn push_value(text: &mut String, range: Range, value: u32) -> Result<(), AllocError> {
+pub fn push_value(text: &mut String, range: Range, value: u32) -> Result<(), AllocError>
+    ensures { OnOk result (range.letter < 128
+        → string_bytes text.new ≡ string_bytes text.old ++ value_text range value) }
+{
     text.push(range.letter as char)?;
     write!(text, "={value:02X}")
 }
