@@ -1,7 +1,8 @@
 //! Counts visits and cycles for each label and each line, and for what belongs to none.
 
 ghost use Rattle.std.specs.Prelude.{◌≡◌, ◌++◌, IfOk, OnOk, codes, if◌then◌else◌, slice_index_or};
-ghost use Rattle.trace_rows.specs.Counts.{columns_text, count_of_line, counts_below, entries_row, nothing_counted};
+ghost use Rattle.trace_rows.specs.Counts.{columns_text, count_of_line, counts_below, entries_row};
+ghost use Rattle.trace_rows.specs.Counts.{nothing_counted};
 ghost use Rattle.trace_rows.specs.Counts.{add_cycles, address_row, is_elsewhere, is_shown};
 ghost use Rattle.trace_rows.specs.Counts.{is_unreached, label_row, label_rows, line_row, line_text};
 ghost use Rattle.trace_rows.specs.Counts.{with_counts, with_elsewhere, with_head};
