@@ -44,8 +44,8 @@ impl Sheet {
         }
     }
 
-    /// Ends a row: writes the text that was gathered if it is enough. Otherwise nothing changes, and
-    /// so it is if the row could not be gathered.
+    /// Ends a row: writes the text that was gathered if it is enough. Otherwise nothing changes,
+    /// nor if the row could not be gathered.
     ///
     /// Errors: `OutOfMemory` if the row could not be gathered, `Write` if it cannot be written.
     pub fn end_row<O: Write>(
