@@ -2,3 +2,4 @@ pub mod Sites
 pub mod Words
 pub mod Steps
 pub mod Findings
+pub mod Counts

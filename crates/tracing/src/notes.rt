@@ -1,8 +1,16 @@
 //! What a step is about to touch, and what it has touched.
 
+ghost use Rattle.std.specs.Prelude.{◌≡◌, ◌≤◌, length};
+ghost use Rattle.footprint.specs.Footprint.{below, reads_here, stores_here};
+ghost use Rattle.footprint.specs.Moments.{moment_of};
+ghost use Rattle.model.specs.State.{lies_in};
+ghost use Rattle.tracing.specs.Notes.{code_of, entry_reads, entry_stores, if_asked, is_kept, kept};
+ghost use Rattle.tracing.specs.Notes.{len_of};
+
 use debugger::Session;
 use footprint::{Addresses, Moment, moment_of, reads_here, stores_here};
 use loading::FileWords;
+use model::Row;
 
 /// What is known of a step before it is made.
 #[derive(Drop)]
@@ -14,7 +22,11 @@ pub struct Ahead {
 
 /// Returns what is known of the next step. The addresses that it touches are left out unless they
 /// are asked for.
-pub fn look_ahead(session: &Session, is_asked: bool) -> Ahead {
+pub fn look_ahead(session: &Session, is_asked: bool) -> Ahead
+    ensures moment { result.moment ≡ moment_of session.now.current }
+    ensures reads { result.reads.items ≡ if_asked is_asked (reads_here session.now.current) }
+    ensures stores { result.stores.items ≡ if_asked is_asked (stores_here session.now.current) }
+{
     if is_asked {
         Ahead {
             moment: moment_of(session),
@@ -30,38 +42,62 @@ pub fn look_ahead(session: &Session, is_asked: bool) -> Ahead {
     }
 }
 
-/// Returns the addresses of the bytes of the instruction of a moment.
-pub fn code_of(moment: &Moment) -> Addresses {
-    let len = match moment.row {
+/// Returns these addresses.
+fn addresses(listed: &[u16]) -> Addresses
+    requires { length listed.now ≤ 3 }
+    ensures { result.items ≡ listed.now }
+{
+    let mut addresses = Addresses::new();
+    let _ = addresses.try_extend_from_slice(listed);
+    addresses
+}
+
+/// Returns how many bytes an instruction has.
+fn len_of(row: Option<Row>) -> u8
+    ensures { result ≡ len_of row }
+{
+    match row {
         None => 1,
-        Some(row) => row.len as u16,
-    };
-    let mut code = Addresses::new();
-    for offset in 0..len {
-        let _ = code.try_push(moment.regs.pc.wrapping_add(offset));
+        Some(row) => row.len,
     }
-    code
+}
+
+/// Returns the addresses of the bytes of the instruction of a moment.
+pub fn code_of(moment: &Moment) -> Addresses
+    ensures { result.items ≡ code_of moment.now }
+{
+    let pc = moment.regs.pc;
+    let code = [pc, pc.wrapping_add(1), pc.wrapping_add(2)];
+    let len = (len_of(moment.row) as usize).min(3);
+    addresses(&code[..len])
 }
 
 /// Returns the addresses that the entry of an IRQ reads: its vector.
-pub fn entry_reads() -> Addresses {
-    let mut reads = Addresses::new();
-    let _ = reads.try_push(0xfffe);
-    let _ = reads.try_push(0xffff);
-    reads
+pub fn entry_reads() -> Addresses
+    ensures { result.items ≡ entry_reads }
+{
+    addresses(&[0xfffe, 0xffff])
+}
+
+/// Returns an address of the stack page, so many bytes below the stack pointer.
+fn below(s: u8, count: u8) -> u16
+    requires { count ≤ 2 }
+    ensures { result ≡ below s count }
+{
+    0x0100 + s.wrapping_sub(count) as u16
 }
 
 /// Returns the addresses where an interrupt entry pushes, by the stack pointer before it.
-pub fn entry_stores(s: u8) -> Addresses {
-    let mut stores = Addresses::new();
-    for pushes in 0..3u8 {
-        let _ = stores.try_push(0x0100 + s.wrapping_sub(pushes) as u16);
-    }
-    stores
+pub fn entry_stores(s: u8) -> Addresses
+    ensures { result.items ≡ entry_stores s }
+{
+    addresses(&[below(s, 0), below(s, 1), below(s, 2)])
 }
 
 /// Returns whether an address lies in the ROM of the words.
-fn is_rom(file: &FileWords<'_>, address: u16) -> bool {
+fn is_rom(file: &FileWords<'_>, address: u16) -> bool
+    ensures { result ≡ lies_in file.now.rom address }
+{
     match file.rom {
         None => false,
         Some((first, last)) => first <= address && address <= last,
@@ -70,7 +106,9 @@ fn is_rom(file: &FileWords<'_>, address: u16) -> bool {
 
 /// Returns whether a store leaves a byte that can be shown: in memory outside the ROM, or at the
 /// port's first address, where it is put out.
-fn is_kept(session: &Session, file: &FileWords<'_>, address: u16) -> bool {
+fn is_kept(session: &Session, file: &FileWords<'_>, address: u16) -> bool
+    ensures { result ≡ is_kept session.now.current.bus.map file.now.rom file.now.port address }
+{
     if session.is_port(address) {
         address == file.port
     } else {
@@ -79,12 +117,16 @@ fn is_kept(session: &Session, file: &FileWords<'_>, address: u16) -> bool {
 }
 
 /// Returns those of the addresses where a store leaves a byte.
-pub fn kept(session: &Session, file: &FileWords<'_>, stores: &Addresses) -> Addresses {
+pub fn kept(session: &Session, file: &FileWords<'_>, stores: &Addresses) -> Addresses
+    ensures { result.items ≡ kept session.now.current.bus.map file.now.rom file.now.port
+        stores.now.items }
+{
     let mut kept = Addresses::new();
     for address in stores.as_slice() {
-        if is_kept(session, file, *address) {
-            let _ = kept.try_push(*address);
+        if !is_kept(session, file, *address) {
+            continue;
         }
+        let _ = kept.try_push(*address);
     }
     kept
 }

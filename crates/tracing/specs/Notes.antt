@@ -1,0 +1,39 @@
+-- The addresses that a step is about to touch, and those where it has left a byte. Source: mos65.
+use Rattle.std.specs.Prelude.{ℕ, ◌+◌, ◌%◌, ◌==◌, Bool, true, false, not, if◌then◌else◌, List, [], ◌∷◌, Option, None, Some, take}
+use Rattle.model.specs.State.{Map, is_port, lies_in}
+use Rattle.model.specs.declared.instruction.Row.{Row}
+use Rattle.footprint.specs.Footprint.{below}
+use Rattle.footprint.specs.declared.moment.Moment.{Moment}
+
+-- Addresses that are left out unless they are asked for.
+abbrev pub if_asked : Bool → List ℕ → List ℕ
+if_asked true addresses = addresses
+if_asked false addresses = []
+
+-- An opcode that is not documented stands alone.
+abbrev pub len_of : Option Row → ℕ
+len_of None = 1
+len_of (Some row) = row.len
+
+-- The bytes of the instruction of a moment, three at most.
+abbrev pub code_of : Moment → List ℕ
+code_of moment = take (len_of moment.row) (moment.regs.pc ∷ (moment.regs.pc + 1) % 65536
+    ∷ (moment.regs.pc + 2) % 65536 ∷ [])
+
+-- The vector of an IRQ.
+abbrev pub entry_reads : List ℕ
+entry_reads = 0xFFFE ∷ 0xFFFF ∷ []
+
+-- Where an entry pushes the return address and the status, by the stack pointer before it.
+abbrev pub entry_stores : ℕ → List ℕ
+entry_stores s = below s 0 ∷ below s 1 ∷ below s 2 ∷ []
+
+-- A store leaves a byte outside the ROM, and of the port's addresses at the first alone.
+abbrev pub is_kept : Map → Option (ℕ × ℕ) → ℕ → ℕ → Bool
+is_kept map rom port address
+    = if is_port map address then address == port else not (lies_in rom address)
+
+unfoldable pub kept : Map → Option (ℕ × ℕ) → ℕ → List ℕ → List ℕ
+kept map rom port [] = []
+kept map rom port (address ∷ addresses) = if is_kept map rom port address
+    then address ∷ kept map rom port addresses else kept map rom port addresses
