@@ -1,1 +1,4 @@
 pub mod Shown
+pub mod Places
+pub mod Registers
+pub mod Reasons
