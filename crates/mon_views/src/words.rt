@@ -1,9 +1,9 @@
 //! Numbers and places in a text.
 
-ghost use Rattle.std.specs.Prelude.{◌≡◌, ◌-◌, ◌∷◌, ◌++◌, [], OnErr, OnOk, None, Some, decimal, length};
+ghost use Rattle.std.specs.Prelude.{◌≡◌, ◌≤◌, ◌∷◌, ◌++◌, [], OnErr, OnOk, None, Some, decimal, drop, length, take};
 ghost use Rattle.model.specs.Text.{hex_address, hex_byte};
 ghost use Rattle.places.specs.Names.{name_at};
-ghost use Rattle.mon_views.specs.Places.{blanks, name_or, name_text, place_text};
+ghost use Rattle.mon_views.specs.Places.{name_or, name_text, padded, place_text};
 ghost use Rattle.mon_views.specs.Shown.{shown_character};
 
 use formatting::{digits_of, digits_of_address};
@@ -98,11 +98,13 @@ pub fn push_character(text: &mut Vec<u8>, byte: u8) -> Result<(), AllocError>
 }
 
 /// Appends blanks until so many bytes follow the first `from`.
+#[tactic(auto, using(crate::proofs::Rows::padded_at))]
 pub fn push_blanks(text: &mut Vec<u8>, from: usize, width: u8) -> Result<(), AllocError>
-    ensures ok { OnOk result (text.new.items ≡ text.old.items
-        ++ blanks (width - (length text.old.items - from))) }
+    requires { from ≤ length text.old.items }
+    ensures { OnOk result (text.new.items ≡ take from text.old.items
+        ++ padded width (drop from text.old.items)) }
 {
-    let written = text.len().saturating_sub(from);
+    let written = text.len() - from;
     let missing = (width as usize).saturating_sub(written);
     text.resize(text.len() + missing, b' ')?;
     Ok(())
