@@ -1,56 +1,122 @@
 //! Help, and what is missing in a line.
 
+ghost use Rattle.std.specs.Prelude.{◌≡◌, ◌++◌, ℕ, List, OnOk, codes};
+ghost use Rattle.std.specs.List.{flat_map};
+ghost use Rattle.mon_lines.specs.Reading.{why_view};
+ghost use Rattle.mon_views.specs.Slips.{lack_text, quoted, quoted_and, quoted_byte, range_text};
+ghost use Rattle.mon_views.specs.Slips.{slip_text};
+
 use crate::words::{push_blanks, push_count, push_text};
 use mon_lines::{Lack, Slip, TOPICS, Topic, Why};
 use std::alloc::AllocError;
 
+/// Appends a word's form and what it does, in columns.
+fn push_form(text: &mut Vec<u8>, topic: Topic) -> Result<(), AllocError>
+    ensures { OnOk result ((row : List ℕ) × (text.new.items ≡ text.old.items ++ row)) }
+{
+    let from = text.len();
+    let (form, words) = topic.form();
+    push_text(text, form)?;
+    push_blanks(text, from, 34)?;
+    push_text(text, words)?;
+    push_text(text, "\n")
+}
+
+/// Appends the forms of all words.
+fn push_forms(text: &mut Vec<u8>) -> Result<(), AllocError>
+    ensures { OnOk result ((rows : List ℕ) × (text.new.items ≡ text.old.items ++ rows)) }
+{
+    for topic in &TOPICS {
+        push_form(text, *topic)?;
+    }
+    Ok(())
+}
+
+/// Appends the forms of all words, what an address may be, and what an empty line does.
+fn push_words(text: &mut Vec<u8>) -> Result<(), AllocError>
+    ensures { OnOk result ((help : List ℕ) × (text.new.items
+        ≡ text.old.items ++ help ++ codes "\n")) }
+{
+    push_forms(text)?;
+    push_text(
+        text,
+        "WHERE is a name, NAME+5, $0200, or four hex digits as 0200.\n",
+    )?;
+    push_text(text, "An empty line steps. Words may be shortened.")?;
+    push_text(text, "\n")
+}
+
+/// Appends a word's form, what it does, and an example.
+fn push_topic(text: &mut Vec<u8>, topic: Topic) -> Result<(), AllocError>
+    ensures { OnOk result ((help : List ℕ) × (text.new.items
+        ≡ text.old.items ++ help ++ codes "\n")) }
+{
+    let (form, words) = topic.form();
+    push_text(text, form)?;
+    push_text(text, "  ")?;
+    push_text(text, words)?;
+    push_text(text, "\nas in: ")?;
+    push_text(text, topic.example())?;
+    push_text(text, "\n")
+}
+
 /// Appends a word's form, what it does, and an example; or the forms of all words.
-pub fn push_help(text: &mut Vec<u8>, topic: Option<Topic>) -> Result<(), AllocError> {
+///
+/// Errors: `AllocError` if an allocation fails.
+pub fn push_help(text: &mut Vec<u8>, topic: Option<Topic>) -> Result<(), AllocError>
+    ensures ok { OnOk result ((help : List ℕ) × (text.new.items
+        ≡ text.old.items ++ help ++ codes "\n")) }
+{
     match topic {
-        Some(topic) => {
-            let (form, words) = topic.form();
-            push_text(text, form)?;
-            push_text(text, "  ")?;
-            push_text(text, words)?;
-            push_text(text, "\nas in: ")?;
-            push_text(text, topic.example())?;
-            text.push(b'\n')?;
-            Ok(())
-        }
-        None => {
-            for topic in &TOPICS {
-                let from = text.len();
-                let (form, words) = topic.form();
-                push_text(text, form)?;
-                push_blanks(text, from, 34)?;
-                push_text(text, words)?;
-                text.push(b'\n')?;
-            }
-            push_text(
-                text,
-                "WHERE is a name, NAME+5, $0200, or four hex digits as 0200.\n",
-            )?;
-            push_text(text, "An empty line steps. Words may be shortened.\n")
-        }
+        Some(topic) => push_topic(text, topic),
+        None => push_words(text),
     }
 }
 
-/// Appends a piece of a line between quotes.
-fn push_quoted(text: &mut Vec<u8>, piece: &[u8]) -> Result<(), AllocError> {
-    text.push(b'\'')?;
+/// Appends a byte between quotes.
+fn push_quoted_byte(text: &mut Vec<u8>, byte: u8) -> Result<(), AllocError>
+    ensures { OnOk result (text.new.items ≡ text.old.items ++ quoted_byte byte) }
+{
+    let shown = match byte {
+        b' '..=b'~' => byte,
+        _ => b'?',
+    };
+    text.push(shown)?;
+    Ok(())
+}
+
+/// Appends the bytes of a piece of a line.
+fn push_piece(text: &mut Vec<u8>, piece: &[u8]) -> Result<(), AllocError>
+    ensures { OnOk result (text.new.items ≡ text.old.items ++ flat_map quoted_byte piece.now) }
+{
     for byte in piece {
-        let shown = match *byte {
-            b' '..=b'~' => *byte,
-            _ => b'?',
-        };
-        text.push(shown)?;
+        push_quoted_byte(text, *byte)?;
     }
+    Ok(())
+}
+
+/// Appends a piece of a line between quotes.
+fn push_quoted(text: &mut Vec<u8>, piece: &[u8]) -> Result<(), AllocError>
+    ensures { OnOk result (text.new.items ≡ text.old.items ++ quoted piece.now) }
+{
+    text.push(b'\'')?;
+    push_piece(text, piece)?;
     text.push(b'\'')?;
     Ok(())
 }
 
+/// Appends a piece of a line between quotes, and words.
+fn push_quoted_and(text: &mut Vec<u8>, piece: &[u8], words: &str) -> Result<(), AllocError>
+    ensures { OnOk result (text.new.items ≡ text.old.items ++ quoted_and piece.now words.now) }
+{
+    push_quoted(text, piece)?;
+    push_text(text, words)
+}
+
 /// The words for what is missing in a line.
-fn words_of(lack: Lack) -> &'static str {
+fn words_of(lack: Lack) -> &'static str
+    ensures { result.now ≡ lack_text lack }
+{
     match lack {
         Lack::HexDigits => "hex digits after $",
         Lack::BinaryDigits => "binary digits after %",
@@ -70,50 +136,65 @@ fn words_of(lack: Lack) -> &'static str {
     }
 }
 
+/// Appends what is missing.
+fn push_missing(text: &mut Vec<u8>, lack: Lack) -> Result<(), AllocError>
+    ensures { OnOk result (text.new.items ≡ text.old.items ++ codes "missing: " ++ lack_text lack) }
+{
+    push_text(text, "missing: ")?;
+    push_text(text, words_of(lack))
+}
+
+/// Appends between which numbers a number has to be.
+fn push_range(text: &mut Vec<u8>, least: u32, most: u32) -> Result<(), AllocError>
+    ensures { OnOk result (text.new.items ≡ text.old.items ++ range_text least most) }
+{
+    push_text(text, "the number is not between ")?;
+    push_count(text, least as u64)?;
+    push_text(text, " and ")?;
+    push_count(text, most as u64)
+}
+
 /// Appends why a line cannot be read.
-fn push_why(text: &mut Vec<u8>, why: Why<'_>) -> Result<(), AllocError> {
+#[tactic(auto, unfolding(crate::specs::Slips::slip_text))]
+fn push_why(text: &mut Vec<u8>, why: Why<'_>) -> Result<(), AllocError>
+    ensures { OnOk result (text.new.items ≡ text.old.items ++ slip_text (why_view why.entry)) }
+{
     match why {
-        Why::Unknown(word) => {
-            push_quoted(text, word)?;
-            push_text(text, " is no word of mon; help lists them")
-        }
+        Why::Unknown(word) => push_quoted_and(text, word, " is no word of mon; help lists them"),
         Why::Several(word) => {
-            push_quoted(text, word)?;
-            push_text(text, " begins more than one word; help lists them")
+            push_quoted_and(text, word, " begins more than one word; help lists them")
         }
-        Why::Missing(what) => {
-            push_text(text, "missing: ")?;
-            push_text(text, words_of(what))
-        }
-        Why::Unreadable(piece) => {
-            push_quoted(text, piece)?;
-            push_text(text, " cannot be read here")
-        }
-        Why::Behind(piece) => {
-            push_quoted(text, piece)?;
-            push_text(text, " is left over")
-        }
+        Why::Missing(what) => push_missing(text, what),
+        Why::Unreadable(piece) => push_quoted_and(text, piece, " cannot be read here"),
+        Why::Behind(piece) => push_quoted_and(text, piece, " is left over"),
         Why::NoName(word) => {
-            push_quoted(text, word)?;
-            push_text(text, " is neither a name of the program nor a number")
+            push_quoted_and(text, word, " is neither a name of the program nor a number")
         }
-        Why::Range { least, most } => {
-            push_text(text, "the number is not between ")?;
-            push_count(text, least as u64)?;
-            push_text(text, " and ")?;
-            push_count(text, most as u64)
-        }
+        Why::Range { least, most } => push_range(text, least, most),
         Why::Many => push_text(text, "there are too many"),
     }
 }
 
-/// Appends the line that says what is wrong in a line, with an example.
-pub fn push_slip(text: &mut Vec<u8>, slip: Slip<'_>) -> Result<(), AllocError> {
-    push_why(text, slip.why)?;
-    if let Some(topic) = slip.topic {
+/// Appends an example, if it is known what a line is about.
+fn push_example(text: &mut Vec<u8>, topic: Option<Topic>) -> Result<(), AllocError>
+    ensures { OnOk result ((example : List ℕ)
+        × (text.new.items ≡ text.old.items ++ example)) }
+{
+    if let Some(topic) = topic {
         push_text(text, "; as in: ")?;
         push_text(text, topic.example())?;
     }
-    text.push(b'\n')?;
     Ok(())
+}
+
+/// Appends the line that says what is wrong in a line, with an example.
+///
+/// Errors: `AllocError` if an allocation fails.
+pub fn push_slip(text: &mut Vec<u8>, slip: Slip<'_>) -> Result<(), AllocError>
+    ensures ok { OnOk result ((example : List ℕ) × (text.new.items ≡ text.old.items
+        ++ slip_text (why_view slip.entry.why) ++ example ++ codes "\n")) }
+{
+    push_why(text, slip.why)?;
+    push_example(text, slip.topic)?;
+    push_text(text, "\n")
 }

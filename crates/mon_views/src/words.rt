@@ -1,7 +1,9 @@
 //! Numbers and places in a text.
 
-ghost use Rattle.std.specs.Prelude.{◌≡◌, ◌∷◌, ◌++◌, [], OnErr, OnOk, decimal};
+ghost use Rattle.std.specs.Prelude.{◌≡◌, ◌≤◌, ◌∷◌, ◌++◌, [], OnErr, OnOk, None, Some, decimal, drop, length, take};
 ghost use Rattle.model.specs.Text.{hex_address, hex_byte};
+ghost use Rattle.places.specs.Names.{name_at};
+ghost use Rattle.mon_views.specs.Places.{name_or, name_text, padded, place_text};
 ghost use Rattle.mon_views.specs.Shown.{shown_character};
 
 use formatting::{digits_of, digits_of_address};
@@ -41,26 +43,44 @@ pub fn push_address(text: &mut Vec<u8>, address: u16) -> Result<(), AllocError>
     text.extend_from_slice(&digits_of_address(address))
 }
 
+/// Appends a name after a blank, and how far above it an address is.
+fn push_near(text: &mut Vec<u8>, name: &[u8], distance: u16) -> Result<(), AllocError>
+    ensures { OnOk result (text.new.items ≡ text.old.items
+        ++ name_or (Some (name.now, distance)) None) }
+{
+    text.push(b' ')?;
+    text.extend_from_slice(name)?;
+    if distance > 0 {
+        text.push(b'+')?;
+        push_count(text, distance as u64)?;
+    }
+    Ok(())
+}
+
+/// Appends the name of an address after a blank, if it has one.
+fn push_name(text: &mut Vec<u8>, places: &Places, address: u16) -> Result<(), AllocError>
+    ensures { OnOk result (text.new.items ≡ text.old.items
+        ++ name_text (name_at places.now.names address)) }
+{
+    if let Some(name) = places.names().name_at(address) {
+        text.push(b' ')?;
+        text.extend_from_slice(name)?;
+    }
+    Ok(())
+}
+
 /// Appends an address, and the name that stands there or nearest below it, if one is near.
-pub fn push_place(text: &mut Vec<u8>, places: &Places, address: u16) -> Result<(), AllocError> {
+///
+/// Errors: `AllocError` if an allocation fails.
+#[tactic(auto, unfolding(crate::specs::Places::place_text))]
+pub fn push_place(text: &mut Vec<u8>, places: &Places, address: u16) -> Result<(), AllocError>
+    ensures ok { OnOk result (text.new.items ≡ text.old.items
+        ++ place_text places.now.names address) }
+{
     push_address(text, address)?;
     match places.names().name_near(address) {
-        Some((name, distance)) => {
-            text.push(b' ')?;
-            text.extend_from_slice(name)?;
-            if distance > 0 {
-                text.push(b'+')?;
-                push_count(text, distance as u64)?;
-            }
-            Ok(())
-        }
-        None => match places.names().name_at(address) {
-            Some(name) => {
-                text.push(b' ')?;
-                text.extend_from_slice(name)
-            }
-            None => Ok(()),
-        },
+        Some((name, distance)) => push_near(text, name, distance),
+        None => push_name(text, places, address),
     }
 }
 
@@ -78,12 +98,14 @@ pub fn push_character(text: &mut Vec<u8>, byte: u8) -> Result<(), AllocError>
 }
 
 /// Appends blanks until so many bytes follow the first `from`.
-pub fn push_blanks(text: &mut Vec<u8>, from: usize, width: usize) -> Result<(), AllocError> {
-    for _ in 0..width {
-        if text.len() >= from.saturating_add(width) {
-            return Ok(());
-        }
-        text.push(b' ')?;
-    }
+#[tactic(auto, using(crate::proofs::Rows::padded_at))]
+pub fn push_blanks(text: &mut Vec<u8>, from: usize, width: u8) -> Result<(), AllocError>
+    requires { from ≤ length text.old.items }
+    ensures { OnOk result (text.new.items ≡ take from text.old.items
+        ++ padded width (drop from text.old.items)) }
+{
+    let written = text.len() - from;
+    let missing = (width as usize).saturating_sub(written);
+    text.resize(text.len() + missing, b' ')?;
     Ok(())
 }
