@@ -6,3 +6,4 @@ pub mod Instructions
 pub mod Stops
 pub mod Memory
 pub mod Slips
+pub mod Help

@@ -1,8 +1,10 @@
 //! Help, and what is missing in a line.
 
-ghost use Rattle.std.specs.Prelude.{◌≡◌, ◌++◌, ℕ, List, OnOk, codes};
+ghost use Rattle.std.specs.Prelude.{◌≡◌, ◌++◌, OnOk, codes};
 ghost use Rattle.std.specs.List.{flat_map};
 ghost use Rattle.mon_lines.specs.Reading.{why_view};
+ghost use Rattle.mon_views.specs.Help.{all_help, all_topics, example_text, form_row, help_text};
+ghost use Rattle.mon_views.specs.Help.{topic_help};
 ghost use Rattle.mon_views.specs.Slips.{lack_text, quoted, quoted_and, quoted_byte, range_text};
 ghost use Rattle.mon_views.specs.Slips.{slip_text};
 
@@ -10,9 +12,18 @@ use crate::words::{push_blanks, push_count, push_text};
 use mon_lines::{Lack, Slip, TOPICS, Topic, Why};
 use std::alloc::AllocError;
 
-/// Appends a word's form and what it does, in columns.
+/// Returns the topics, in the order in which help tells them.
+#[tactic(auto, unfolding(crate::specs::Help::all_topics))]
+fn all_topics() -> &'static [Topic]
+    ensures { result.now ≡ all_topics }
+{
+    &TOPICS
+}
+
+/// Appends how a line about a topic is written, and what it does, in columns.
+#[tactic(auto, unfolding(crate::specs::Help::form_row))]
 fn push_form(text: &mut Vec<u8>, topic: Topic) -> Result<(), AllocError>
-    ensures { OnOk result ((row : List ℕ) × (text.new.items ≡ text.old.items ++ row)) }
+    ensures { OnOk result (text.new.items ≡ text.old.items ++ form_row topic) }
 {
     let from = text.len();
     let (form, words) = topic.form();
@@ -22,34 +33,33 @@ fn push_form(text: &mut Vec<u8>, topic: Topic) -> Result<(), AllocError>
     push_text(text, "\n")
 }
 
-/// Appends the forms of all words.
-fn push_forms(text: &mut Vec<u8>) -> Result<(), AllocError>
-    ensures { OnOk result ((rows : List ℕ) × (text.new.items ≡ text.old.items ++ rows)) }
+/// Appends the rows of topics.
+fn push_forms(text: &mut Vec<u8>, topics: &[Topic]) -> Result<(), AllocError>
+    ensures { OnOk result (text.new.items ≡ text.old.items ++ flat_map form_row topics.now) }
 {
-    for topic in &TOPICS {
+    for topic in topics {
         push_form(text, *topic)?;
     }
     Ok(())
 }
 
-/// Appends the forms of all words, what an address may be, and what an empty line does.
-fn push_words(text: &mut Vec<u8>) -> Result<(), AllocError>
-    ensures { OnOk result ((help : List ℕ) × (text.new.items
-        ≡ text.old.items ++ help ++ codes "\n")) }
+/// Appends the rows of all topics, what an address may be, and what an empty line does.
+#[tactic(auto, unfolding(crate::specs::Help::all_help))]
+fn push_all(text: &mut Vec<u8>) -> Result<(), AllocError>
+    ensures { OnOk result (text.new.items ≡ text.old.items ++ all_help) }
 {
-    push_forms(text)?;
+    push_forms(text, all_topics())?;
     push_text(
         text,
         "WHERE is a name, NAME+5, $0200, or four hex digits as 0200.\n",
     )?;
-    push_text(text, "An empty line steps. Words may be shortened.")?;
-    push_text(text, "\n")
+    push_text(text, "An empty line steps. Words may be shortened.\n")
 }
 
-/// Appends a word's form, what it does, and an example.
+/// Appends how a line about a topic is written, what it does, and an example.
+#[tactic(auto, unfolding(crate::specs::Help::topic_help))]
 fn push_topic(text: &mut Vec<u8>, topic: Topic) -> Result<(), AllocError>
-    ensures { OnOk result ((help : List ℕ) × (text.new.items
-        ≡ text.old.items ++ help ++ codes "\n")) }
+    ensures { OnOk result (text.new.items ≡ text.old.items ++ topic_help topic) }
 {
     let (form, words) = topic.form();
     push_text(text, form)?;
@@ -64,12 +74,11 @@ fn push_topic(text: &mut Vec<u8>, topic: Topic) -> Result<(), AllocError>
 ///
 /// Errors: `AllocError` if an allocation fails.
 pub fn push_help(text: &mut Vec<u8>, topic: Option<Topic>) -> Result<(), AllocError>
-    ensures ok { OnOk result ((help : List ℕ) × (text.new.items
-        ≡ text.old.items ++ help ++ codes "\n")) }
+    ensures ok { OnOk result (text.new.items ≡ text.old.items ++ help_text topic) }
 {
     match topic {
         Some(topic) => push_topic(text, topic),
-        None => push_words(text),
+        None => push_all(text),
     }
 }
 
@@ -177,8 +186,7 @@ fn push_why(text: &mut Vec<u8>, why: Why<'_>) -> Result<(), AllocError>
 
 /// Appends an example, if it is known what a line is about.
 fn push_example(text: &mut Vec<u8>, topic: Option<Topic>) -> Result<(), AllocError>
-    ensures { OnOk result ((example : List ℕ)
-        × (text.new.items ≡ text.old.items ++ example)) }
+    ensures { OnOk result (text.new.items ≡ text.old.items ++ example_text topic) }
 {
     if let Some(topic) = topic {
         push_text(text, "; as in: ")?;
@@ -191,8 +199,8 @@ fn push_example(text: &mut Vec<u8>, topic: Option<Topic>) -> Result<(), AllocErr
 ///
 /// Errors: `AllocError` if an allocation fails.
 pub fn push_slip(text: &mut Vec<u8>, slip: Slip<'_>) -> Result<(), AllocError>
-    ensures ok { OnOk result ((example : List ℕ) × (text.new.items ≡ text.old.items
-        ++ slip_text (why_view slip.entry.why) ++ example ++ codes "\n")) }
+    ensures ok { OnOk result (text.new.items ≡ text.old.items
+        ++ slip_text (why_view slip.entry.why) ++ example_text slip.entry.topic ++ codes "\n") }
 {
     push_why(text, slip.why)?;
     push_example(text, slip.topic)?;
