@@ -1,6 +1,6 @@
 //! What the word `mon` does.
 
-ghost use Rattle.std.specs.Prelude.{◌≡◌, ◌≤◌, ◌⊎◌, ◌∷◌, [], ℕ, List, Option, None, Some, IfErr, IfOk, false};
+ghost use Rattle.std.specs.Prelude.{◌≡◌, ◌≤◌, ◌⊎◌, ◌∷◌, [], ℕ, List, Option, None, Some, Err, IfErr, IfOk, false};
 ghost use Rattle.std.specs.Prelude.{map, option_map};
 ghost use Rattle.clap.specs.Words.{IsAmong, fault_of};
 ghost use Rattle.clap.specs.declared.error.kind.ErrorKind.TheVariants.{DisplayHelp};
@@ -66,24 +66,37 @@ fn add_names<H: Files + AllocGlobal>(
     }
 }
 
+/// Returns the desk of what was loaded, with the names of a file of names, if one is named.
+fn named_desk<H: Files + AllocGlobal>(
+    rt: &H,
+    words: &MonWords<'_>,
+    loaded: Loaded,
+) -> Result<Desk, LoadFault>
+    ensures made { IfOk result (λ desk. desk.session ≡ loaded.session) }
+    ensures refused { IfErr result (λ fault. (fault ≡ Refused (Refusal.OutOfMemory))
+        ⊎ EndsNamed (mon_view words.now).symbols (file_view words.now.file) fault) }
+{
+    let mut places = places_of(rt.alloc(), words.file.file, &loaded)?;
+    add_names(rt, words, &mut places)?;
+    match Desk::new(rt.alloc(), loaded.session, places, words.history) {
+        Ok(desk) => Ok(desk),
+        Err(_) => Err(LoadFault::Refused(Refusal::OutOfMemory)),
+    }
+}
+
 /// Loads what the words name, and returns the desk of its session.
 fn desk_of<H: Files + AllocGlobal>(rt: &H, words: &MonWords<'_>) -> Result<Desk, LoadFault>
     ensures made { IfOk result (λ desk. (image : List (Option ℕ))
         × IsLoaded (file_view words.now.file) image × (desk.session
         ≡ new_session words.now.history (start (map_of (file_view words.now.file)) image))) }
     ensures bad_map { is_map words.now.file.rom words.now.file.port ≡ false
-        → IfErr result (λ fault. fault ≡ Refused (Refusal.Map BadMap)) }
+        → result ≡ Err (Refused (Refusal.Map BadMap)) }
     ensures refused { IfErr result (EndsMon (mon_view words.now)) }
 {
-    let loaded = load_with_history(rt, &words.file, words.history)?;
-    let mut places = places_of(rt.alloc(), words.file.file, &loaded)?;
-    add_names(rt, words, &mut places)?;
-    or_memory(Desk::new(
-        rt.alloc(),
-        loaded.session,
-        places,
-        words.history,
-    ))
+    match load_with_history(rt, &words.file, words.history) {
+        Ok(loaded) => named_desk(rt, words, loaded),
+        Err(fault) => Err(fault),
+    }
 }
 
 /// Serves a session.

@@ -1,9 +1,12 @@
 -- What each kind of line does. Source: mos65.
-use Rattle.std.specs.Prelude.{ℕ, ◌≡◌, ◌⊎◌, Bool, true, false, if◌then◌else◌, [], ◌∷◌, ◌++◌}
+use Rattle.std.specs.Prelude.{ℕ, ◌≡◌, Bool, true, false, if◌then◌else◌, List, [], ◌∷◌, ◌++◌, Option, Result, Ok, Err}
 use Rattle.model.specs.Breakpoints.{break_set}
 use Rattle.model.specs.declared.event.Event.TheVariants as event
+use Rattle.mon_lines.specs.Lines.{SeenCommand, command_view, line_of}
+use Rattle.mon_lines.specs.Reading.{SeenWhy}
 use Rattle.mon_lines.specs.declared.command.Command.{Command}
 use Rattle.mon_lines.specs.declared.command.Command.TheVariants as line
+use Rattle.mon_lines.specs.declared.topic.Topic.{Topic}
 use Rattle.mon_stops.specs.Stops.{first_with, new_changes, without, without_first_with}
 use Rattle.mon_stops.specs.declared.breaks.Break.{Break}
 use Rattle.mon_stops.specs.declared.watches.Watch.{Watch}
@@ -94,11 +97,17 @@ abbrev pub is_quit : Command → Bool
 is_quit line.Quit = true
 is_quit command = false
 
--- A line only shows, or does what some command asks for.
-abbrev pub Follows : Bool → Desk → Desk → Type 0
-Follows is_over old new = ((is_over ≡ false) × ShowsOnly old new)
-    ⊎ ((command : Command) × (is_over ≡ is_quit command) × Does command old new)
+-- What a line asks for at a desk, or what is missing in it.
+abbrev pub read_at : Desk → List ℕ → Result SeenCommand (Option Topic × SeenWhy)
+read_at desk line = line_of desk.places.names desk.session.current.regs.pc line
+
+-- A line that can be read does what it asks for. Any other only shows.
+abbrev pub Follows : Result SeenCommand (Option Topic × SeenWhy) → Bool → Desk → Desk → Type 0
+Follows (Ok seen) is_over old new = (command : Command) × (command_view command ≡ seen)
+    × (is_over ≡ is_quit command) × Does command old new
+Follows (Err slip) is_over old new = (is_over ≡ false) × ShowsOnly old new
 
 -- A line does that, and then only shows.
-abbrev pub Serves : Bool → Desk → Desk → Type 0
-Serves is_over old new = (between : Desk) × Follows is_over old between × ShowsOnly between new
+abbrev pub Serves : Result SeenCommand (Option Topic × SeenWhy) → Bool → Desk → Desk → Type 0
+Serves read is_over old new = (between : Desk) × Follows read is_over old between
+    × ShowsOnly between new

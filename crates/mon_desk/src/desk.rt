@@ -1,9 +1,9 @@
 //! What a session of `mon` has: the machine, its events, its stops, its places, and the text that
 //! is to be written.
 
-ghost use Rattle.std.specs.Prelude.{◌≡◌, [], IfOk, OnErr, false, is_ok};
+ghost use Rattle.std.specs.Prelude.{◌≡◌, ◌<◌, ◌≤◌, [], IfOk, OnErr, false, is_ok, length};
 ghost use Rattle.model.specs.Event.{event_of};
-ghost use Rattle.mon_desk.specs.Lines.{Follows, Serves};
+ghost use Rattle.mon_desk.specs.Lines.{Follows, Serves, read_at};
 ghost use Rattle.mon_desk.specs.Served.{KeepsStops, ShowsOnly, course_of, happened};
 
 use model::EventFault;
@@ -54,7 +54,8 @@ impl Desk {
     /// Does what a line asks for, or says what is missing in it. Returns whether the session is to
     /// end.
     fn follow(&mut self, alloc: Global, line: &[u8]) -> Result<bool, AllocError>
-        ensures { IfOk result (λ is_over. Follows is_over self.old self.new) }
+        ensures { IfOk result
+            (λ is_over. Follows (read_at self.old line.now) is_over self.old self.new) }
     {
         let pc = self.session.regs().pc;
         match read_line(line, &self.places, pc) {
@@ -80,9 +81,12 @@ impl Desk {
     }
 
     /// Does what a line asks for, or says what is missing in it. Returns whether the session is to
-    /// end.
+    /// end. A line of more than 255 bytes asks for nothing.
     pub fn serve(&mut self, alloc: Global, line: &[u8]) -> Result<bool, AllocError>
-        ensures { IfOk result (λ is_over. Serves is_over self.old self.new) }
+        ensures served { length line.now ≤ 255 → IfOk result
+            (λ is_over. Serves (read_at self.old line.now) is_over self.old self.new) }
+        ensures long { 255 < length line.now → IfOk result
+            (λ is_over. (is_over ≡ false) × ShowsOnly self.old self.new) }
     {
         if line.len() > 255 {
             self.say("a line has at most 255 bytes\n")?;

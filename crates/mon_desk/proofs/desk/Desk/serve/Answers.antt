@@ -1,6 +1,6 @@
-use Rattle.std.proofs.Common.{refl, inl}
+use Rattle.std.proofs.Common.{arith}
 use Rattle.mon_desk.proofs.desk.Desk.serve.Goals as goal
 
-pub returns-then-line-gt255 : goal.returns-then-line-gt255
-returns-then-line-gt255 c =
-    (c.args.self.now, inl (refl, (refl, refl, refl)), c.say.ensures)
+-- The line is not so short.
+pub returns-then-line-gt255-clause-served : goal.returns-then-line-gt255-clause-served
+returns-then-line-gt255-clause-served c short = absurd (omega (arith, short))

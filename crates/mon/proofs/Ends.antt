@@ -1,0 +1,27 @@
+-- Why no session begins.
+use Rattle.std.proofs.Common.{◌≡◌, ◌∙◌, ◌⊎◌, ℕ, Bool, true, false, List, Option, inl, inr, sym, subst, Result, Ok, Err, IfErr, IfOk}
+use Rattle.loading.specs.Asked.{map_of}
+use Rattle.loading.specs.Loads.{EndsFile}
+use Rattle.loading.specs.declared.loaded.LoadFault.{LoadFault}
+use Rattle.loading.specs.declared.loaded.LoadFault.TheVariants.{Refused}
+use Rattle.model.specs.State.{Map}
+use Rattle.mon.specs.Done.{EndsMon, EndsNamed}
+use Rattle.mon_words.specs.Asked.{MonAsked}
+use Rattle.program.specs.declared.refusal.Refusal.TheVariants.{OutOfMemory}
+
+memory_by : (is_tape : Bool) (bus_map : Map) → EndsFile is_tape bus_map (Refused OutOfMemory)
+memory_by true bus_map = tt
+memory_by false bus_map = tt
+
+-- Memory may run out for any words.
+pub memory_ends : (asked : MonAsked) → EndsMon asked (Refused OutOfMemory)
+memory_ends asked = inl (inr (memory_by asked.file.is_tape (map_of asked.file)))
+
+either_ends : (asked : MonAsked) (fault : LoadFault) → (fault ≡ Refused OutOfMemory) ⊎ EndsNamed asked.symbols asked.file fault → EndsMon asked fault
+either_ends asked fault (inl memory) = subst (EndsMon asked) (sym memory) (memory_ends asked)
+either_ends asked fault (inr named) = inr named
+
+pub named_ends : {X : Type 0} (asked : MonAsked) (r : Result X LoadFault)
+    → IfErr r (λ fault. (fault ≡ Refused OutOfMemory) ⊎ EndsNamed asked.symbols asked.file fault) → IfErr r (EndsMon asked)
+named_ends asked (Ok x) h = tt
+named_ends asked (Err fault) h = either_ends asked fault h

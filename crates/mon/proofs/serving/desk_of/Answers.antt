@@ -1,0 +1,6 @@
+use Rattle.mon.proofs.Ends.{named_ends}
+use Rattle.mon_words.specs.Views.{mon_view}
+use Rattle.mon.proofs.serving.desk_of.Goals as goal
+
+pub returns-in-Ok-clause-refused : goal.returns-in-Ok-clause-refused
+returns-in-Ok-clause-refused g c = named_ends (mon_view c.args.words.now) c.named_desk.result c.named_desk.ensures.refused
