@@ -173,8 +173,8 @@ pub fn mon<H: Files + AllocGlobal, R: Read + IsTerminal, O: Write, E: Write>(
     output: &mut O,
     errors: &mut E,
 ) -> u8
-    // Words that fit the command line, with right values: a session began on their file and ended, or
-    // none began and the streams are unchanged, as the status says.
+    // Words that fit the command line, with right values: a session began on their file and ended,
+    // or none began and the streams are unchanged, as the status says.
     ensures done { (a : MonAsked) → asked (map (λ s. s.now) words.entry.now) ≡ Some a
         → IsTakenBy mon (map (λ s. s.now) words.entry.now)
         → IsDone a result ((input.new ≡ input.old) × (output.new ≡ output.old)) }

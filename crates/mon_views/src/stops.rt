@@ -107,7 +107,8 @@ fn push_others(text: &mut Vec<u8>, places: &Places, tests: &[Test]) -> Result<()
 
 /// Appends the tests of a break, if it has any.
 fn push_tests(text: &mut Vec<u8>, places: &Places, tests: &[Test]) -> Result<(), AllocError>
-    ensures { OnOk result (text.new.items ≡ text.old.items ++ tests_text places.now.names tests.now) }
+    ensures { OnOk result (text.new.items
+        ≡ text.old.items ++ tests_text places.now.names tests.now) }
 {
     match tests {
         [] => Ok(()),

@@ -54,8 +54,8 @@ fn record_front(text: &[u8]) -> Option<&[u8]>
     }
 }
 
-/// Returns whether a tape may go on after so much of it and the `;` of another record. A record that
-/// is not whole has a fault there.
+/// Returns whether a tape may go on after so much of it and the `;` of another record. A record
+/// that is not whole has a fault there.
 fn goes_on(reader: TapeReader, front: &[u8]) -> bool
     requires { reader ≡ nothing_fed }
     ensures { (result ≡ true) ↔ GoesOn (front.now ++ byte ";" ∷ []) }
