@@ -3,10 +3,10 @@ use Rattle.std.specs.Prelude.{ℕ, ◌≡◌, Bool, true, false, if◌then◌els
 use Rattle.model.specs.Breakpoints.{break_set}
 use Rattle.model.specs.declared.event.Event.TheVariants as event
 use Rattle.mon_lines.specs.Lines.{SeenCommand, command_view, line_of}
-use Rattle.mon_lines.specs.Reading.{SeenWhy}
+use Rattle.mon_values.specs.Reading.{SeenWhy}
 use Rattle.mon_lines.specs.declared.command.Command.{Command}
 use Rattle.mon_lines.specs.declared.command.Command.TheVariants as line
-use Rattle.mon_lines.specs.declared.topic.Topic.{Topic}
+use Rattle.mon_topics.specs.declared.topic.Topic.{Topic}
 use Rattle.mon_stops.specs.Stops.{first_with, new_changes, without, without_first_with}
 use Rattle.mon_stops.specs.declared.breaks.Break.{Break}
 use Rattle.mon_stops.specs.declared.watches.Watch.{Watch}

@@ -1,4 +1,1 @@
-pub mod Capped
-pub mod Sums
 pub mod TestSteps
-pub mod Begun

@@ -1,8 +1,8 @@
 //! What lines ask for.
 
-use crate::topic::Topic;
 use arrayvec::ArrayVec;
 use debugger::Setting;
+use mon_topics::Topic;
 
 /// A register whose value a test may look at.
 #[derive(Clone, Copy)]

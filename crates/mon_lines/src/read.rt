@@ -2,23 +2,24 @@
 
 ghost use Rattle.std.specs.Prelude.{◌≡◌, IfErr, IfOk};
 ghost use Rattle.std.specs.Option.{option_copied};
-ghost use Rattle.mon_lines.specs.Reading.{why_view};
+ghost use Rattle.mon_values.specs.Reading.{why_view};
 ghost use Rattle.mon_lines.specs.Parts.{level_of, setting_by, setting_of, undoing_of, value_of};
 ghost use Rattle.mon_lines.specs.Lines.{assembled_from, break_from, command_view, decimal_address};
 ghost use Rattle.mon_lines.specs.Lines.{going_from, helped_from, instructions_from, line_of};
 ghost use Rattle.mon_lines.specs.Lines.{has_address, is_short_decimal, line_by, put_from, putting};
 ghost use Rattle.mon_lines.specs.Lines.{moving, seeing, until_from, watched_from, whole_line};
-ghost use Rattle.mon_lines.specs.Topics.{topic_of};
+ghost use Rattle.mon_topics.specs.Topics.{topic_of};
 
 use crate::command::{Command, Register, Undoing};
-use crate::numbers::number_in;
-use crate::scan::{after, after_word, is_empty, is_next, is_word, past, skip, word_of};
-use crate::slip::{Lack, Slip, Why};
+use crate::slip::Slip;
 use crate::stretches::{kind_of, shown_of, stretch_of};
 use crate::tests::{register_of, tests_of, times_of};
-use crate::topic::{Topic, topic_of};
-use crate::values::{address_of, byte_of, bytes_of, count_of};
 use debugger::Setting;
+use mon_topics::{Topic, topic_of};
+use mon_values::{
+    Lack, Why, address_of, after, after_word, byte_of, bytes_of, count_of, is_empty, is_next,
+    is_word, number_in, past, skip, word_of,
+};
 use places::{Names, Places};
 
 /// Reads `WHERE [if TESTS] [times N]`.

@@ -1,14 +1,14 @@
 //! Stretches of memory.
 
 ghost use Rattle.std.specs.Prelude.{◌≡◌, ◌≤◌, IfErr, IfOk};
-ghost use Rattle.mon_lines.specs.Reading.{and_then, why_view};
+ghost use Rattle.mon_values.specs.Reading.{and_then, why_view};
 ghost use Rattle.mon_lines.specs.Parts.{by_count, counted_from, from_to, kind_of, last_of, second_of};
 ghost use Rattle.mon_lines.specs.Parts.{shown_of, so_many_from, stretch_of};
 
 use crate::command::{Stretch, WatchKind};
-use crate::scan::{after, after_word, is_empty, is_next, is_word, word_of};
-use crate::slip::{Lack, Why};
-use crate::values::{address_of, count_of};
+use mon_values::{
+    Lack, Why, address_of, after, after_word, count_of, is_empty, is_next, is_word, word_of,
+};
 use places::Names;
 
 /// The addresses from the first to so many behind it, none past $FFFF.

@@ -1,9 +1,9 @@
 -- What help says of the words of `mon`. Source: mos65.
 use Rattle.std.specs.Prelude.{ℕ, List, [], ◌∷◌, ◌++◌, Option, Some, None, codes}
 use Rattle.std.specs.List.{flat_map}
-use Rattle.mon_lines.specs.Told.{effect_of, example_of, form_of}
-use Rattle.mon_lines.specs.declared.topic.Topic.{Topic}
-use Rattle.mon_lines.specs.declared.topic.Topic.TheVariants as topic
+use Rattle.mon_topics.specs.Told.{effect_of, example_of, form_of}
+use Rattle.mon_topics.specs.declared.topic.Topic.{Topic}
+use Rattle.mon_topics.specs.declared.topic.Topic.TheVariants as topic
 use Rattle.mon_views.specs.Places.{padded}
 
 -- The topics, in the order in which help tells them.

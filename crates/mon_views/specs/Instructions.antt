@@ -5,7 +5,7 @@ use Rattle.model.specs.State.{State}
 use Rattle.model.specs.Text.{hex_address, hex_byte}
 use Rattle.model.specs.Token.{begins}
 use Rattle.model.specs.InstructionText.{TextRow, row_of}
-use Rattle.mon_lines.specs.Reading.{number_in}
+use Rattle.mon_values.specs.Reading.{number_in}
 use Rattle.places.specs.Lines.{PlacesView, line_at}
 use Rattle.places.specs.Names.{Named, name_at}
 use Rattle.mon_views.specs.Places.{padded}

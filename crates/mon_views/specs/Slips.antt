@@ -3,9 +3,9 @@ use Rattle.std.specs.Prelude.{ℕ, if◌then◌else◌, List, [], ◌∷◌, ◌
 use Rattle.std.specs.List.{flat_map}
 use Rattle.std.specs.Str.{byte}
 use Rattle.model.specs.Token.{is_printable}
-use Rattle.mon_lines.specs.Reading.{SeenWhy, unknown, several, missing, unreadable, behind, no_name, range, many}
-use Rattle.mon_lines.specs.declared.slip.Lack.{Lack}
-use Rattle.mon_lines.specs.declared.slip.Lack.TheVariants as lacking
+use Rattle.mon_values.specs.Reading.{SeenWhy, unknown, several, missing, unreadable, behind, no_name, range, many}
+use Rattle.mon_values.specs.declared.slip.Lack.{Lack}
+use Rattle.mon_values.specs.declared.slip.Lack.TheVariants as lacking
 
 -- A byte between quotes: `?` is put for one that is no character.
 abbrev pub quoted_byte : ℕ → List ℕ

@@ -2,14 +2,16 @@
 
 ghost use Rattle.std.specs.Prelude.{◌≡◌, ◌++◌, OnOk, codes};
 ghost use Rattle.std.specs.List.{flat_map};
-ghost use Rattle.mon_lines.specs.Reading.{why_view};
+ghost use Rattle.mon_values.specs.Reading.{why_view};
 ghost use Rattle.mon_views.specs.Help.{all_help, all_topics, example_text, form_row, help_text};
 ghost use Rattle.mon_views.specs.Help.{topic_help};
 ghost use Rattle.mon_views.specs.Slips.{lack_text, quoted, quoted_and, quoted_byte, range_text};
 ghost use Rattle.mon_views.specs.Slips.{slip_text};
 
 use crate::words::{push_blanks, push_count, push_text};
-use mon_lines::{Lack, Slip, TOPICS, Topic, Why};
+use mon_lines::Slip;
+use mon_topics::{TOPICS, Topic};
+use mon_values::{Lack, Why};
 use std::alloc::AllocError;
 
 /// Returns the topics, in the order in which help tells them.

@@ -16,7 +16,7 @@ ghost use Rattle.mon_views.specs.Instructions.{with_line};
 use crate::words::{push_address, push_blanks, push_byte, push_count, push_text};
 use debugger::Session;
 use disasm::{TextLine, line_in};
-use mon_lines::number_in;
+use mon_values::number_in;
 use places::Places;
 use std::alloc::AllocError;
 

@@ -1,0 +1,12 @@
+//! Words, signs, numbers, names and sums in a line of `mon`, and what is missing or wrong in it.
+#![tactic(auto)]
+
+pub use numbers::number_in;
+pub use scan::{after, after_word, is_empty, is_next, is_word, past, skip, word_of};
+pub use slip::{Lack, Why};
+pub use values::{address_of, byte_of, bytes_of, count_of, word_value};
+
+mod numbers;
+mod scan;
+mod slip;
+mod values;
