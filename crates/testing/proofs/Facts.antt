@@ -10,7 +10,7 @@ use Rattle.row_reader.specs.RowText.{SeenRow, numbered_view, rows_from}
 use Rattle.row_runner.specs.Passes.{Pair}
 use Rattle.row_runner.specs.Start.{fresh}
 use Rattle.row_verdicts.specs.Verdicts.{failures}
-use Rattle.testing.specs.Tested.{AreNamesOf, AreTested, IsAssembled, IsPrepared, IsTested, SomeTested, TestedFile, map_of, passes}
+use Rattle.testing.specs.Tested.{AreNamesOf, AreTested, IsAssembled, IsPrepared, IsTested, TestedFile, map_of, passes}
 use Rattle.testing.specs.declared.prepared.Prepared.{Prepared}
 
 pub ready : (prepared : Prepared) (text : List ℕ) (head : SeenHead) (next : ℕ) (lines : List (List ℕ))
@@ -72,9 +72,3 @@ pub all_tested : (count n : ℕ) (all : Bool) → count ≡ n → AreTested coun
 all_tested count n all e a =
     let A : ℕ → Type 0 = λ k. AreTested k all in
     subst A e a
-
-pub some_tested : (count : ℕ) (all one : Bool) → all ≡ one → 1 ≤ count → AreTested count all → SomeTested one
-some_tested count all one e h a =
-    let A : ℕ → Type 0 = λ k. AreTested k all in
-    let S : Bool → Type 0 = λ b. SomeTested b in
-    subst S e (record { more = count - 1; tested = subst A (omega arith) a })

@@ -1,1 +1,3 @@
 mod Facts
+mod Ends
+mod Words

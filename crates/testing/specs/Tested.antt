@@ -1,5 +1,5 @@
 -- What a file of rows is that was tested, and whether its rows pass. Source: mos65.
-use Rattle.std.specs.Prelude.{◌≡◌, ◌+◌, ℕ, Bool, List, Option, Ok, length, map}
+use Rattle.std.specs.Prelude.{◌≡◌, ℕ, Bool, List, Option, Ok, length, map}
 use Rattle.std.specs.List.{list_all}
 use Rattle.assembler.specs.Assembly.{AssemblyView}
 use Rattle.model.specs.Layout.{Context, PlacedLine, IsLaidOut}
@@ -66,8 +66,3 @@ pub record AreTested (count : ℕ) (all : Bool) : Type 0 where
   pub files : List TestedFile
   pub count_is : length files ≡ count
   pub all_is : list_all passes files ≡ all
-
--- One file at least was tested.
-pub record SomeTested (all : Bool) : Type 0 where
-  pub more : ℕ
-  pub tested : AreTested (more + 1) all

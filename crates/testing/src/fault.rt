@@ -1,10 +1,11 @@
 //! Why a file cannot be tested.
 
-ghost use Rattle.std.specs.Prelude.{◌≡◌, ◌≤◌};
+ghost use Rattle.std.specs.Prelude.{◌≡◌, ◌≤◌, ◌⊎◌};
 ghost use Rattle.testing.specs.Statuses.{status_of};
+ghost use Rattle.testing.specs.declared.fault.FileFault.TheVariants.{InRows};
 
-use model::{AsmFault, AsmFaultKind};
-use row_reader::{RowFaultKind, TextFault};
+use model::AsmFault;
+use row_reader::TextFault;
 use std::io;
 use std::io::ErrorKind;
 
@@ -42,26 +43,12 @@ impl TestFault {
     }
 
     /// Returns why a file could not be read.
-    pub fn unreadable(error: &io::Error) -> TestFault {
+    pub fn unreadable(error: &io::Error) -> TestFault
+        ensures { (result ≡ TestFault.OutOfMemory) ⊎ (result ≡ TestFault.Read) }
+    {
         match error.kind() {
             ErrorKind::OutOfMemory => TestFault::OutOfMemory,
             _ => TestFault::Read,
-        }
-    }
-
-    /// Returns why the rows could not be read.
-    pub fn of_rows(fault: TextFault) -> TestFault {
-        match fault.kind {
-            RowFaultKind::OutOfMemory => TestFault::OutOfMemory,
-            _ => TestFault::Rows(fault),
-        }
-    }
-
-    /// Returns why a source could not be assembled.
-    pub fn of_source(fault: AsmFault) -> TestFault {
-        match fault.kind {
-            AsmFaultKind::OutOfMemory => TestFault::OutOfMemory,
-            _ => TestFault::Source(fault),
         }
     }
 }
@@ -74,6 +61,8 @@ pub enum FileFault {
 }
 
 impl From<TestFault> for FileFault {
+    ghost from_gives = { λ fault of_file. of_file ≡ InRows fault };
+
     fn from(fault: TestFault) -> FileFault {
         FileFault::InRows(fault)
     }

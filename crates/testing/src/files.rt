@@ -1,8 +1,9 @@
 //! Files of rows, run.
 
-ghost use Rattle.std.specs.Prelude.{◌≡◌, ◌&&◌, IfOk, length};
+ghost use Rattle.std.specs.Prelude.{◌≡◌, ◌&&◌, IfErr, IfOk, length};
 ghost use Rattle.row_runner.specs.Start.{fresh};
 ghost use Rattle.row_verdicts.specs.Verdicts.{failures, failures_view, rows_view};
+ghost use Rattle.testing.specs.Ends.{EndsTest, fault_in};
 ghost use Rattle.testing.specs.Tested.{AreTested, IsTested};
 
 use crate::fault::{FileFault, TestFault};
@@ -17,8 +18,9 @@ use std::rt::Files;
 
 /// Runs the rows of a file from the start of its source's machine.
 fn judged(alloc: Global, file: &Prepared) -> Result<Vec<Option<Pair>>, TestFault>
-    ensures { IfOk result (λ found. failures_view found.items ≡ failures
+    ensures failed { IfOk result (λ found. failures_view found.items ≡ failures
         (fresh file.now.map file.now.assembly.image) (rows_view file.now.rows.items)) }
+    ensures refused { IfErr result EndsTest }
 {
     let image = file.assembly.image();
     let Ok(mut session) = Session::new(alloc, file.map, image, HISTORY) else {
@@ -36,7 +38,8 @@ fn run_file<H: Files + AllocGlobal>(
     file: &str,
     reports: &mut Reports,
 ) -> Result<bool, FileFault>
-    ensures { IfOk result IsTested }
+    ensures tested { IfOk result IsTested }
+    ensures refused { IfErr result (λ fault. EndsTest (fault_in fault)) }
 {
     let readied = prepare(rt, file)?;
     let found = judged(rt.alloc(), &readied)?;
@@ -65,7 +68,8 @@ pub fn run_files<H: Files + AllocGlobal>(
     files: &[&str],
     reports: &mut Reports,
 ) -> Result<bool, (usize, FileFault)>
-    ensures { IfOk result (λ all. AreTested (length files.entry.now) all) }
+    ensures tested { IfOk result (λ all. AreTested (length files.entry.now) all) }
+    ensures refused { IfErr result (λ refused. EndsTest (fault_in refused.1)) }
 {
     let mut all = true;
     for index in 0..files.len() {

@@ -1,6 +1,7 @@
 //! Files by their names.
 
-ghost use Rattle.std.specs.Prelude.{◌≤◌, IfOk, vec_len};
+ghost use Rattle.std.specs.Prelude.{◌≤◌, IfErr, IfOk, vec_len};
+ghost use Rattle.testing.specs.Ends.{EndsTest};
 
 use crate::fault::TestFault;
 use std::alloc::Global;
@@ -25,13 +26,14 @@ pub fn read_most<H: Files + AllocGlobal>(rt: &H, path: &str) -> io::Result<Vec<u
 ///
 /// Errors: `TooLarge`, `Read`, `OutOfMemory`.
 pub fn read_rows_text<H: Files + AllocGlobal>(rt: &H, path: &str) -> Result<Vec<u8>, TestFault>
-    ensures { IfOk result (λ text. vec_len text ≤ 1048576) }
+    ensures small { IfOk result (λ text. vec_len text ≤ 1048576) }
+    ensures refused { IfErr result EndsTest }
 {
-    let text = read_most(rt, path).map_err(|error| TestFault::unreadable(&error))?;
-    if text.len() > LARGEST as usize {
-        return Err(TestFault::TooLarge);
+    match read_most(rt, path) {
+        Ok(text) if text.len() <= LARGEST as usize => Ok(text),
+        Ok(_) => Err(TestFault::TooLarge),
+        Err(error) => Err(TestFault::unreadable(&error)),
     }
-    Ok(text)
 }
 
 /// Returns the part of a path before the name of its file, with the `/`.
@@ -46,7 +48,9 @@ fn folder_of(path: &[u8]) -> &[u8] {
 /// not begin with `/`.
 ///
 /// Errors: `Read` if the name is no text of UTF-8; `OutOfMemory`.
-pub fn source_path(alloc: Global, file: &str, name: &[u8]) -> Result<String, TestFault> {
+pub fn source_path(alloc: Global, file: &str, name: &[u8]) -> Result<String, TestFault>
+    ensures refused { IfErr result EndsTest }
+{
     let mut path = Vec::new(alloc);
     if !name.starts_with(b"/") && path.extend_from_slice(folder_of(file.as_bytes())).is_err() {
         return Err(TestFault::OutOfMemory);

@@ -1,9 +1,12 @@
 //! What the word `test` does.
 
-ghost use Rattle.std.specs.Prelude.{◌≡◌, ◌⊎◌, ◌≤◌, false, true, map, vec_len};
+ghost use Rattle.std.specs.Prelude.{◌≡◌, ◌⊎◌, ◌≤◌, IfErr, None, false, length, map, true};
+ghost use Rattle.testing.specs.Ends.{EndsTest, IsUntested, fault_in};
 ghost use Rattle.testing.specs.Statuses.{status_of};
-ghost use Rattle.testing.specs.Tested.{SomeTested};
-ghost use Rattle.testing_words.specs.Help.{asks_for_help};
+ghost use Rattle.testing.specs.Tested.{AreTested};
+ghost use Rattle.testing_words.specs.CommandLine.{Asks, test, words_asked};
+ghost use Rattle.testing_words.specs.Views.{test_view};
+ghost use Rattle.word_streams.specs.Words.{AsksForHelp, Fits, Misfits};
 
 use crate::fault::{FileFault, TestFault};
 use crate::files::run_files;
@@ -13,7 +16,7 @@ use row_reports::Reports;
 use std::fs;
 use std::io::{ErrorKind, Write};
 use std::rt::Files;
-use testing_words::{TestWords, WordsFault, asks_for_help, read_words};
+use testing_words::{TestWords, read_words};
 
 /// Returns an example of what has to stand there, for the faults that a first file has.
 fn example_of(kind: RowFaultKind) -> &'static str {
@@ -51,6 +54,7 @@ fn refuse_at<E: Write>(path: &str, fault: TestFault, errors: &mut E) -> u8
 
 /// Writes why a file cannot be tested, and returns the exit status.
 fn refuse_file<E: Write>(file: &str, fault: FileFault, errors: &mut E) -> u8
+    ensures value { result ≡ status_of (fault_in fault) }
     ensures low { 1 ≤ result }
     ensures high { result ≤ 4 }
 {
@@ -92,19 +96,32 @@ fn written<H: Files, O: Write, E: Write>(
     }
 }
 
+/// Writes why a file cannot be tested, by its place among the files, and returns the exit status.
+#[tactic(auto, using(crate::proofs::Ends::untested))]
+fn refuse_one<E: Write>(files: &[&str], index: usize, fault: FileFault, errors: &mut E) -> u8
+    requires { EndsTest (fault_in fault) }
+    ensures untested { IsUntested result }
+    ensures low { 1 ≤ result }
+    ensures high { result ≤ 4 }
+{
+    match files.get(index) {
+        Some(file) => refuse_file(file, fault, errors),
+        None => refuse_file("", fault, errors),
+    }
+}
+
 /// Runs the files of the words, and returns the exit status.
-#[tactic(auto, using(crate::proofs::Facts::some_tested))]
 fn run_words<H: Files + AllocGlobal, O: Write, E: Write>(
     rt: &H,
     words: &TestWords<'_>,
     output: &mut O,
     errors: &mut E,
 ) -> u8
-    requires { 1 ≤ vec_len words.now.files }
     ensures status { result ≤ 4 }
-    ensures passed { result ≡ 0 → SomeTested true }
-    ensures failed { result ≡ 1 → (SomeTested false × (errors.new ≡ errors.old))
-        ⊎ (output.new ≡ output.old) }
+    ensures passed { result ≡ 0 → AreTested (length (test_view words.now).files) true }
+    ensures failed { result ≡ 1 → (AreTested (length (test_view words.now).files) false
+        × (errors.new ≡ errors.old)) ⊎ (IsUntested 1 × (output.new ≡ output.old)) }
+    ensures wrong { result ≡ 2 → IsUntested 2 }
     ensures quiet { result ≡ 0 → errors.new ≡ errors.old }
     ensures untouched { 2 ≤ result → result ≤ 3 → output.new ≡ output.old }
 {
@@ -116,25 +133,7 @@ fn run_words<H: Files + AllocGlobal, O: Write, E: Write>(
             Ok(()) => written(rt, words, &reports, all, output, errors),
             Err(_) => refuse(Refusal::OutOfMemory, errors),
         },
-        Err((index, fault)) => match words.files.get(index) {
-            Some(file) => refuse_file(file, fault, errors),
-            None => refuse_file("", fault, errors),
-        },
-    }
-}
-
-/// Writes why words are rejected that ask for no help, and returns the exit status.
-fn refused_plainly<E: Write>(fault: WordsFault, errors: &mut E) -> u8
-    ensures low { 2 ≤ result }
-    ensures high { result ≤ 3 }
-{
-    match fault {
-        WordsFault::Usage(text) => {
-            let _ = write!(errors, "{text}");
-            2
-        }
-        WordsFault::Help(_) | WordsFault::Value => refuse(Refusal::Words, errors),
-        WordsFault::OutOfMemory => refuse(Refusal::OutOfMemory, errors),
+        Err((index, fault)) => refuse_one(&words.files, index, fault, errors),
     }
 }
 
@@ -153,27 +152,32 @@ pub fn test<H: Files + AllocGlobal, O: Write, E: Write>(
     errors: &mut E,
 ) -> u8
     ensures status { result ≤ 4 }
-    // If it is done and no help was asked for, one file at least was tested, and all rows of all
-    // files pass.
-    ensures passed { asks_for_help (map (λ s. s.now) words.entry.now) ≡ false → result ≡ 0
-        → SomeTested true }
-    // If the status is 1, a row of a file that was tested fails and nothing is written on the error
-    // stream; or a file cannot be tested and the output is unchanged.
-    ensures failed { result ≡ 1 → (SomeTested false × (errors.new ≡ errors.old))
-        ⊎ (output.new ≡ output.old) }
     // If it is done, nothing is written on the error stream.
     ensures quiet { result ≡ 0 → errors.new ≡ errors.old }
     // Words or a map that are wrong leave the output unchanged; so does memory that runs out.
     ensures untouched { 2 ≤ result → result ≤ 3 → output.new ≡ output.old }
+    // 0 means that as many files were tested as the words name, and all of their rows pass, or that
+    // it is help that is asked for.
+    ensures passed { result ≡ 0 → AsksForHelp test (map (λ s. s.now) words.entry.now)
+        ⊎ Asks (map (λ s. s.now) words.entry.now)
+        (λ asked. AreTested (length asked.files) true) }
+    // 1 means that a row of such files fails, and nothing is written on the error stream; or that
+    // some file cannot be tested, and the output is unchanged.
+    ensures failed { result ≡ 1 → Asks (map (λ s. s.now) words.entry.now)
+        (λ asked. (AreTested (length asked.files) false × (errors.new ≡ errors.old))
+        ⊎ (IsUntested 1 × (output.new ≡ output.old))) }
+    // 2 means that the words do not fit or name no file, or that some file asks for a map that is
+    // none.
+    ensures refused { result ≡ 2 → Misfits test (map (λ s. s.now) words.entry.now)
+        ⊎ ((Fits test (map (λ s. s.now) words.entry.now)
+        × (words_asked (map (λ s. s.now) words.entry.now) ≡ None))
+        ⊎ Asks (map (λ s. s.now) words.entry.now) (λ asked. IsUntested 2)) }
+    // 4 means that a stream or a file failed, or that it is help that is asked for.
+    ensures begun { result ≡ 4 → AsksForHelp test (map (λ s. s.now) words.entry.now)
+        ⊎ Fits test (map (λ s. s.now) words.entry.now) }
 {
     match read_words(rt.alloc(), words) {
         Ok(asked) => run_words(rt, &asked, output, errors),
-        Err(fault) => {
-            if asks_for_help(words) {
-                refused_words(fault, output, errors)
-            } else {
-                refused_plainly(fault, errors)
-            }
-        }
+        Err(fault) => refused_words(fault, output, errors),
     }
 }

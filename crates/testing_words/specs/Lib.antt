@@ -1,1 +1,3 @@
-pub mod Help
+pub mod Asked
+pub mod CommandLine
+pub mod Views

@@ -4,4 +4,4 @@
 mod words;
 
 pub use program_words::WordsFault;
-pub use words::{TestWords, asks_for_help, read_words};
+pub use words::{TestWords, read_words};
