@@ -1,6 +1,6 @@
 -- The command line of `test FILE .. [--junit FILE]`, as clap's definitions describe one. How words
 -- are matched with it is clap's to say. Source: mos65.
-use Rattle.std.specs.Prelude.{◌≡◌, List, Option, Some, codes}
+use Rattle.std.specs.Prelude.{◌≡◌, true, List, Option, Some, codes}
 use Rattle.clap.specs.Lexer.{usize_max}
 use Rattle.clap.specs.Words.{App, Rule, Text, all_of, matches_of, new_rule, with_rule}
 use Rattle.clap.specs.declared.builder.action.ArgAction.TheVariants.{Append}
