@@ -1,5 +1,5 @@
 -- The lines of a source that have bytes, as its listing tells them. Source: mos65.
-use Rattle.std.specs.Prelude.{ℕ, ◌+◌, ◌==◌, min, nat_le, Bool, not, if◌then◌else◌, List, [], ◌∷◌, ◌++◌, drop, length, Option, Some, None}
+use Rattle.std.specs.Prelude.{ℕ, ◌+◌, ◌==◌, min, nat_le, Bool, not, if◌then◌else◌, List, [], ◌∷◌, ◌++◌, drop, length, Option, None}
 use Rattle.std.specs.List.{prefix_len}
 use Rattle.std.specs.Option.{option_map, option_to_list}
 use Rattle.model.specs.Commands.{address_of}
