@@ -1,3 +1,4 @@
+pub mod Listed
 pub mod Sites
 pub mod Words
 pub mod Steps

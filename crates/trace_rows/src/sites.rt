@@ -1,8 +1,15 @@
 //! Which label and which line of the source an address belongs to.
 
-ghost use Rattle.std.specs.Prelude.{◌≡◌, []};
-ghost use Rattle.std.specs.Option.{option_copied};
-ghost use Rattle.trace_rows.specs.Sites.{index_at, label_near, line_at, near_view};
+ghost use Rattle.std.specs.Prelude.{◌≡◌, ◌+◌, ◌++◌, ◌==◌, [], None, IfOk, OnOk, is_some};
+ghost use Rattle.std.specs.Prelude.{if◌then◌else◌, length, map, nat_lt, slice_get, slice_index};
+ghost use Rattle.std.specs.Option.{option_copied, option_to_list};
+ghost use Rattle.assembler.specs.Assembly.{listing_of};
+ghost use Rattle.model.specs.Image.{cell_at};
+ghost use Rattle.trace_rows.specs.Listed.{listed, lines_in};
+ghost use Rattle.trace_rows.specs.Sites.{IsTable, first_at, index_at, label_addresses, label_for};
+ghost use Rattle.trace_rows.specs.Sites.{label_named, label_near, labelled, labels_in, labels_of};
+ghost use Rattle.trace_rows.specs.Sites.{line_addresses, line_at, line_for, near_view, or_below};
+ghost use Rattle.trace_rows.specs.Sites.{put_if_none};
 
 use crate::lines::{SourceLine, lines_of};
 use assembler::Assembly;
@@ -37,48 +44,153 @@ fn place_at(table: &Vec<u32>, address: u16) -> Option<usize>
     }
 }
 
+/// Makes a table without an index.
+fn empty_table(alloc: Global) -> Result<Vec<u32>, AllocError>
+    ensures { IfOk result (λ table. IsTable table.items (λ address. None)) }
+{
+    match vec![in alloc; 0; 65536] {
+        Ok(table) => Ok(table),
+        Err(error) => Err(error),
+    }
+}
+
+/// Puts a number at an address if nothing is there, and returns what stands there then.
+fn put_if_none(table: &mut Vec<u32>, address: u16, number: u32) -> u32
+    requires { length table.old.items ≡ 65536 }
+    ensures put { table.new.items ≡ put_if_none table.old.items address number }
+    ensures there { result ≡ if slice_index table.old.items address == 0
+        then number else slice_index table.old.items address }
+{
+    let there = table[address as usize];
+    if there == 0 {
+        table[address as usize] = number;
+        number
+    } else {
+        there
+    }
+}
+
 /// Puts one more than an index at an address, if nothing is there.
-fn put_first(table: &mut Vec<u32>, address: u16, index: usize) {
-    if let Some(cell) = table.get_mut(address as usize) {
-        if *cell == 0 && index < u32::MAX as usize {
-            *cell = index as u32 + 1;
+fn put_first(table: &mut Vec<u32>, address: u16, index: usize)
+    requires { length table.old.items ≡ 65536 }
+    ensures { table.new.items ≡ if nat_lt index 4294967295
+        then put_if_none table.old.items address (index + 1) else table.old.items }
+{
+    if index < u32::MAX as usize {
+        put_if_none(table, address, index as u32 + 1);
+    }
+}
+
+/// Makes the table of the first label at each address.
+fn table_of_labels(alloc: Global, labels: &[Label]) -> Result<Vec<u32>, AllocError>
+    ensures { IfOk result (λ table. IsTable table.items
+        (first_at (label_addresses (map labelled labels.now)))) }
+{
+    let mut table = empty_table(alloc)?;
+    for (index, label) in labels.iter().enumerate() {
+        put_first(&mut table, label.address, index);
+    }
+    Ok(table)
+}
+
+/// Makes the table of the first line at each address.
+fn table_of_lines(alloc: Global, lines: &[SourceLine]) -> Result<Vec<u32>, AllocError>
+    ensures { IfOk result (λ table. IsTable table.items
+        (first_at (line_addresses (map listed lines.now)))) }
+{
+    let mut table = empty_table(alloc)?;
+    for (index, line) in lines.iter().enumerate() {
+        put_first(&mut table, line.address, index);
+    }
+    Ok(table)
+}
+
+/// Appends the label of a name, if its number is an address at which the image has a byte.
+fn push_label(
+    alloc: Global,
+    labels: &mut Vec<Label>,
+    assembly: &Assembly,
+    text: &[u8],
+    number: i32,
+) -> Result<(), AllocError>
+    ensures { OnOk result (map labelled labels.new.items
+        ≡ map labelled labels.old.items ++ label_named assembly.now.image text.now number) }
+{
+    if number >= 0 && number <= 65535 {
+        let address = number as u16;
+        if assembly.image().get(address).is_some() {
+            let text = Vec::from_slice(alloc, text)?;
+            labels.push(Label { text, address })?;
         }
+    }
+    Ok(())
+}
+
+/// Appends the label of an index of an assembly, if that name is a label.
+#[tactic(auto, unfolding(crate::specs::Sites::labels_of))]
+fn push_label_at(
+    alloc: Global,
+    labels: &mut Vec<Label>,
+    assembly: &Assembly,
+    index: usize,
+) -> Result<(), AllocError>
+    ensures { OnOk result (map labelled labels.new.items ≡ map labelled labels.old.items
+        ++ labels_of assembly.now.image (option_to_list (slice_get assembly.now.names index))) }
+{
+    match assembly.symbol(index) {
+        Some((text, number)) => push_label(alloc, labels, assembly, text, number),
+        None => Ok(()),
     }
 }
 
 /// Returns the labels of an assembly in the order of definition.
-fn labels_of(alloc: Global, assembly: &Assembly) -> Result<Vec<Label>, AllocError> {
+fn labels_of(alloc: Global, assembly: &Assembly) -> Result<Vec<Label>, AllocError>
+    ensures { IfOk result (λ labels. map labelled labels.items ≡ labels_in assembly.now) }
+{
     let mut labels = Vec::new(alloc);
     for index in 0..assembly.symbol_count() {
-        if let Some((text, number)) = assembly.symbol(index) {
-            if let Ok(address) = u16::try_from(number) {
-                if assembly.image().get(address).is_some() {
-                    labels.push(Label {
-                        text: Vec::from_slice(alloc, text)?,
-                        address,
-                    })?;
-                }
-            }
-        }
+        push_label_at(alloc, &mut labels, assembly, index)?;
     }
     Ok(labels)
 }
 
-/// Gives each address the label that stands there or below it with no gap in the image between.
-fn spread(table: &mut Vec<u32>, assembly: &Assembly) {
-    let mut label = 0u32;
-    for address in 0..=65535u16 {
-        if assembly.image().get(address).is_none() {
-            label = 0;
-        }
-        if let Some(cell) = table.get_mut(address as usize) {
-            if *cell == 0 {
-                *cell = label;
-            } else {
-                label = *cell;
-            }
-        }
+/// Returns what an address has from the one below: nothing if the image has no byte there.
+fn from_below(assembly: &Assembly, address: u16, below: u32) -> u32
+    ensures { result ≡ if is_some (cell_at assembly.now.image address) then below else 0 }
+{
+    if assembly.image().get(address).is_some() {
+        below
+    } else {
+        0
     }
+}
+
+/// Gives each address the label that stands there or below it with no gap in the image between.
+fn spread(table: &mut Vec<u32>, assembly: &Assembly)
+    requires { length table.old.items ≡ 65536 }
+    ensures { IsTable table.new.items
+        (or_below assembly.now.image (index_at table.old.items)) }
+{
+    let mut label = 0u32;
+    for place in 0..65536u32 {
+        let address = place as u16;
+        let below = from_below(assembly, address, label);
+        label = put_if_none(table, address, below);
+    }
+}
+
+/// Makes the table of the label that each address belongs to.
+fn table_of_sites(
+    alloc: Global,
+    labels: &[Label],
+    assembly: &Assembly,
+) -> Result<Vec<u32>, AllocError>
+    ensures { IfOk result (λ table. IsTable table.items (or_below assembly.now.image
+        (first_at (label_addresses (map labelled labels.now))))) }
+{
+    let mut table = table_of_labels(alloc, labels)?;
+    spread(&mut table, assembly);
+    Ok(table)
 }
 
 impl Sites {
@@ -100,19 +212,24 @@ impl Sites {
     /// Makes the sites of an assembled source.
     ///
     /// Errors: `AllocError` if an allocation fails.
-    pub fn of_source(alloc: Global, assembly: &Assembly) -> Result<Sites, AllocError> {
-        let listing = assembly.listing(alloc).map_err(|_| AllocError)?;
+    pub fn of_source(alloc: Global, assembly: &Assembly) -> Result<Sites, AllocError>
+        ensures labels { IfOk result
+            (λ sites. map labelled sites.labels.items ≡ labels_in assembly.now) }
+        ensures lines { IfOk result
+            (λ sites. map listed sites.lines.items ≡ lines_in (listing_of assembly.now)) }
+        ensures label_of { IfOk result
+            (λ sites. IsTable sites.label_of.items (label_for assembly.now)) }
+        ensures line_of { IfOk result
+            (λ sites. IsTable sites.line_of.items (line_for assembly.now)) }
+    {
+        let listing = match assembly.listing(alloc) {
+            Ok(listing) => listing,
+            Err(_) => return Err(AllocError),
+        };
         let labels = labels_of(alloc, assembly)?;
         let lines = lines_of(alloc, listing.as_slice())?;
-        let mut label_of = vec![in alloc; 0; 65536]?;
-        for (index, label) in labels.iter().enumerate() {
-            put_first(&mut label_of, label.address, index);
-        }
-        spread(&mut label_of, assembly);
-        let mut line_of = vec![in alloc; 0; 65536]?;
-        for (index, line) in lines.iter().enumerate() {
-            put_first(&mut line_of, line.address, index);
-        }
+        let label_of = table_of_sites(alloc, labels.as_slice(), assembly)?;
+        let line_of = table_of_lines(alloc, lines.as_slice())?;
         Ok(Sites {
             labels,
             lines,
