@@ -1,6 +1,8 @@
 -- TAP, and the report for JUnit. Source: mos65, for the formats TAP 13 and JUnit's XML.
 use Rattle.std.specs.Prelude.{ℕ, ◌-◌, ◌==◌, ◌&&◌, ◌||◌, Bool, true, false, not, if◌then◌else◌, List, [], ◌∷◌, ◌++◌, Option, None, Some, codes, decimal, drop, length, take}
 use Rattle.std.specs.Char.{is_ascii_whitespace}
+use Rattle.std.specs.Option.{is_some}
+use Rattle.std.specs.Str.Lines.{lines}
 use Rattle.std.specs.List.{flat_map, prefix_len, suffix_len}
 use Rattle.row_reports.specs.Texts.{visible}
 
@@ -40,6 +42,20 @@ verdict false = codes "ok "
 unfoldable pub tap_row : Bool → ℕ → List ℕ → ℕ → List ℕ → List ℕ
 tap_row failed count file line text = verdict failed ++ decimal count ++ codes " - "
     ++ tap_text file ++ codes ":" ++ decimal line ++ codes " " ++ tap_text text ++ 10 ∷ []
+
+-- A line of why a row fails, as TAP has it.
+abbrev pub tap_comment : List ℕ → List ℕ
+tap_comment line = codes "# " ++ line ++ codes "\n"
+
+-- The lines of why a row fails, if it does.
+abbrev pub tap_detail : Option (List ℕ) → List ℕ
+tap_detail None = []
+tap_detail (Some why) = flat_map tap_comment (lines why)
+
+-- What TAP tells of a row, by its number among all rows: its row, and why it fails, if it does.
+abbrev pub tap_case : ℕ → List ℕ → ℕ → List ℕ → Option (List ℕ) → List ℕ
+tap_case count file line text why
+    = tap_row (is_some why) count file line text ++ tap_detail why
 
 -- ---- JUnit
 

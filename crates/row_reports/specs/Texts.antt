@@ -1,5 +1,5 @@
 -- Places, values and rows as text. Source: mos65.
-use Rattle.std.specs.Prelude.{ℕ, ◌-◌, ◌^◌, ◌==◌, true, false, if◌then◌else◌, List, [], ◌∷◌, ◌++◌, codes, decimal}
+use Rattle.std.specs.Prelude.{ℕ, ◌-◌, ◌^◌, ◌==◌, true, false, if◌then◌else◌, List, [], ◌∷◌, ◌++◌, codes, decimal, encode_utf8}
 use Rattle.std.specs.Fmt.{digits, format_spec, padded_integral}
 use Rattle.model.specs.Token.{is_printable}
 use Rattle.row_reader.specs.declared.row.Flag.{Flag}
@@ -20,6 +20,16 @@ visible byte = if is_printable byte then byte else if byte == 9 then 32 else 63
 abbrev pub hex_of : ℕ → ℕ → List ℕ
 hex_of width number = padded_integral (format_spec 32 0 4 width (2 ^ 64 - 1)) false []
     (digits 16 true number)
+
+-- A byte, an address and a count behind words.
+unfoldable pub named_byte : List ℕ → ℕ → List ℕ
+named_byte words byte = words ++ hex_of 2 byte
+
+unfoldable pub named_address : List ℕ → ℕ → List ℕ
+named_address words address = words ++ hex_of 4 address
+
+unfoldable pub named_count : List ℕ → ℕ → List ℕ
+named_count words count = words ++ decimal count
 
 abbrev pub register_name : Register → List ℕ
 register_name register.A = codes "A"
@@ -59,6 +69,6 @@ number_text place.OutputCount number = decimal number
 number_text (place.Flag flag) number = decimal number
 number_text place number = hex_of 2 number
 
--- The value of a range's letter.
+-- The letter of a range, and its value.
 abbrev pub value_text : Range → ℕ → List ℕ
-value_text range value = range.letter ∷ (61 ∷ hex_of 2 value)
+value_text range value = encode_utf8 range.letter ++ 61 ∷ hex_of 2 value

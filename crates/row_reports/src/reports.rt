@@ -1,13 +1,13 @@
 //! TAP and JUnit.
 
 ghost use Rattle.std.specs.Prelude.{◌≡◌, ◌+◌, ◌-◌, ◌^◌, ◌==◌, ◌&&◌, ◌++◌, if◌then◌else◌, false};
-ghost use Rattle.std.specs.Prelude.{codes, decimal, min, not, string_bytes, IfNone, IfOk, OnOk};
+ghost use Rattle.std.specs.Prelude.{codes, decimal, min, not, string_bytes, IfOk, OnOk};
 ghost use Rattle.std.specs.List.{prefix_len};
 ghost use Rattle.std.specs.Option.{option_map};
 ghost use Rattle.row_reports.specs.Reports.{before_comment, case_end, case_front, counts_text};
 ghost use Rattle.row_reports.specs.Reports.{first_line, line_text};
-ghost use Rattle.row_reports.specs.Reports.{junit_case, row_of, suite_head, tap_byte, tap_row};
-ghost use Rattle.row_reports.specs.Reports.{tap_text, xml, xml_byte};
+ghost use Rattle.row_reports.specs.Reports.{junit_case, row_of, suite_head, tap_byte, tap_case, tap_comment};
+ghost use Rattle.row_reports.specs.Reports.{tap_detail, tap_row, tap_text, xml, xml_byte};
 
 use crate::texts::push_bytes;
 use std::alloc::{AllocError, Global};
@@ -201,6 +201,25 @@ fn push_tap_row(
     tap.push('\n')
 }
 
+/// Appends a line of why a row fails, as TAP has it.
+fn push_tap_comment(tap: &mut String, line: &str) -> Result<(), AllocError>
+    ensures { OnOk result (string_bytes tap.new
+        ≡ string_bytes tap.old ++ tap_comment line.now) }
+{
+    writeln!(tap, "# {line}")
+}
+
+/// Appends the lines of why a row fails, as TAP has them.
+fn push_tap_detail(tap: &mut String, detail: &str) -> Result<(), AllocError>
+    ensures { OnOk result (string_bytes tap.new
+        ≡ string_bytes tap.old ++ tap_detail (Some detail.now)) }
+{
+    for line in detail.lines() {
+        push_tap_comment(tap, line)?;
+    }
+    Ok(())
+}
+
 /// Appends what TAP tells of a row: its row, and why it fails.
 fn push_tap(
     tap: &mut String,
@@ -208,16 +227,15 @@ fn push_tap(
     case: Case<'_>,
     detail: Option<&str>,
 ) -> Result<(), AllocError>
-    ensures { OnOk result (IfNone detail.entry (string_bytes tap.new ≡ string_bytes tap.old
-        ++ tap_row false count case.entry.file.now case.entry.line case.entry.text.now)) }
+    ensures { OnOk result (string_bytes tap.new ≡ string_bytes tap.old
+        ++ tap_case count case.entry.file.now case.entry.line case.entry.text.now
+        (option_map (λ why. why.now) detail.entry)) }
 {
     push_tap_row(tap, count, case, detail.is_some())?;
-    if let Some(detail) = detail {
-        for line in detail.lines() {
-            writeln!(tap, "# {line}")?;
-        }
+    match detail {
+        None => Ok(()),
+        Some(detail) => push_tap_detail(tap, detail),
     }
-    Ok(())
 }
 
 /// Appends the beginning of what the report for JUnit tells of a row.
@@ -291,9 +309,9 @@ impl Reports {
     /// Tells of a row whether it passes, and if it does not, why.
     pub fn push_case(&mut self, case: Case<'_>, detail: Option<&str>) -> Result<(), AllocError>
         ensures count { self.new.count ≡ min (self.old.count + 1) (2 ^ 64 - 1) }
-        ensures tap { OnOk result (IfNone detail.entry (string_bytes self.new.tap
-            ≡ string_bytes self.old.tap ++ tap_row false (min (self.old.count + 1) (2 ^ 64 - 1))
-            case.entry.file.now case.entry.line case.entry.text.now)) }
+        ensures tap { OnOk result (string_bytes self.new.tap ≡ string_bytes self.old.tap
+            ++ tap_case (min (self.old.count + 1) (2 ^ 64 - 1)) case.entry.file.now
+            case.entry.line case.entry.text.now (option_map (λ why. why.now) detail.entry)) }
         ensures junit { OnOk result (string_bytes self.new.junit
             ≡ string_bytes self.old.junit ++ junit_case case.entry.file.now case.entry.line
             case.entry.text.now (option_map (λ why. why.now) detail.entry)) }

@@ -1,8 +1,8 @@
 //! Places, values and rows as text.
 
-ghost use Rattle.std.specs.Prelude.{◌≡◌, ◌<◌, ◌++◌, ◌∷◌, [], OnOk, map, string_bytes};
-ghost use Rattle.row_reports.specs.Texts.{flag_name, number_text, place_text, register_name};
-ghost use Rattle.row_reports.specs.Texts.{relation_sign, value_text, visible};
+ghost use Rattle.std.specs.Prelude.{◌≡◌, ◌++◌, ◌∷◌, [], OnOk, map, string_bytes};
+ghost use Rattle.row_reports.specs.Texts.{flag_name, named_address, named_byte, named_count};
+ghost use Rattle.row_reports.specs.Texts.{number_text, place_text, register_name, relation_sign, value_text, visible};
 
 use row_reader::{Flag, Place, Range, Register, Relation};
 use std::alloc::AllocError;
@@ -94,10 +94,37 @@ pub fn push_number(text: &mut String, place: Place, number: u64) -> Result<(), A
     }
 }
 
+/// Appends a byte behind words.
+#[tactic(auto, unfolding(crate::specs::Texts::named_byte))]
+pub fn push_named_byte(text: &mut String, words: &str, byte: u8) -> Result<(), AllocError>
+    ensures { OnOk result (string_bytes text.new
+        ≡ string_bytes text.old ++ named_byte words.now byte) }
+{
+    write!(text, "{words}{byte:02X}")
+}
+
+/// Appends an address behind words.
+#[tactic(auto, unfolding(crate::specs::Texts::named_address))]
+pub fn push_named_address(text: &mut String, words: &str, address: u16) -> Result<(), AllocError>
+    ensures { OnOk result (string_bytes text.new
+        ≡ string_bytes text.old ++ named_address words.now address) }
+{
+    write!(text, "{words}{address:04X}")
+}
+
+/// Appends a count behind words.
+#[tactic(auto, unfolding(crate::specs::Texts::named_count))]
+pub fn push_named_count(text: &mut String, words: &str, count: u32) -> Result<(), AllocError>
+    ensures { OnOk result (string_bytes text.new
+        ≡ string_bytes text.old ++ named_count words.now count) }
+{
+    write!(text, "{words}{count}")
+}
+
 /// Appends the value of a range's letter.
 pub fn push_value(text: &mut String, range: Range, value: u32) -> Result<(), AllocError>
-    ensures { OnOk result (range.letter < 128
-        → string_bytes text.new ≡ string_bytes text.old ++ value_text range value) }
+    ensures { OnOk result (string_bytes text.new
+        ≡ string_bytes text.old ++ value_text range value) }
 {
     text.push(range.letter as char)?;
     write!(text, "={value:02X}")
