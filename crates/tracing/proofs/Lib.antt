@@ -1,3 +1,6 @@
 mod Done
+mod Gathering
 mod Going
 mod Keeping
+mod Noting
+mod Telling

@@ -1,2 +1,3 @@
 pub mod Traces
 pub mod Notes
+pub mod Gathered

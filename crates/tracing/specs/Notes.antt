@@ -1,9 +1,11 @@
 -- The addresses that a step is about to touch, and those where it has left a byte. Source: mos65.
 use Rattle.std.specs.Prelude.{ℕ, ◌+◌, ◌%◌, ◌==◌, Bool, true, false, not, if◌then◌else◌, List, [], ◌∷◌, Option, None, Some, take}
-use Rattle.model.specs.State.{Map, is_port, lies_in}
+use Rattle.loading.specs.Asked.{FileAsked}
+use Rattle.model.specs.State.{Map, State, is_port, lies_in}
 use Rattle.model.specs.declared.instruction.Row.{Row}
 use Rattle.footprint.specs.Footprint.{below}
 use Rattle.footprint.specs.declared.moment.Moment.{Moment}
+use Rattle.tracing.specs.declared.notes.Ahead.{Ahead}
 
 -- Addresses that are left out unless they are asked for.
 abbrev pub if_asked : Bool → List ℕ → List ℕ
@@ -37,3 +39,13 @@ unfoldable pub kept : Map → Option (ℕ × ℕ) → ℕ → List ℕ → List 
 kept map rom port [] = []
 kept map rom port (address ∷ addresses) = if is_kept map rom port address
     then address ∷ kept map rom port addresses else kept map rom port addresses
+
+-- Where a step has stored.
+abbrev pub stores_of : Bool → Ahead → List ℕ
+stores_of true ahead = entry_stores ahead.moment.regs.s
+stores_of false ahead = ahead.stores.items
+
+-- Where a step has left a byte.
+abbrev pub left_at : State → FileAsked → Bool → Ahead → List ℕ
+left_at state file is_entry ahead
+    = kept state.bus.map file.rom file.port (stores_of is_entry ahead)

@@ -3,9 +3,10 @@
 ghost use Rattle.std.specs.Prelude.{◌≡◌, ◌≤◌, length};
 ghost use Rattle.footprint.specs.Footprint.{below, reads_here, stores_here};
 ghost use Rattle.footprint.specs.Moments.{moment_of};
+ghost use Rattle.loading.specs.Views.{file_view};
 ghost use Rattle.model.specs.State.{lies_in};
 ghost use Rattle.tracing.specs.Notes.{code_of, entry_reads, entry_stores, if_asked, is_kept, kept};
-ghost use Rattle.tracing.specs.Notes.{len_of};
+ghost use Rattle.tracing.specs.Notes.{left_at, len_of};
 
 use debugger::Session;
 use footprint::{Addresses, Moment, moment_of, reads_here, stores_here};
@@ -129,4 +130,16 @@ pub fn kept(session: &Session, file: &FileWords<'_>, stores: &Addresses) -> Addr
         let _ = kept.try_push(*address);
     }
     kept
+}
+
+/// Returns the addresses where a step has left a byte: those where an interrupt entry pushes, or
+/// those that were known before the step. The session is in the state after it.
+pub fn left_at(session: &Session, file: &FileWords<'_>, is_entry: bool, ahead: &Ahead) -> Addresses
+    ensures { result.items ≡ left_at session.now.current (file_view file.now) is_entry ahead.now }
+{
+    if is_entry {
+        kept(session, file, &entry_stores(ahead.moment.regs.s))
+    } else {
+        kept(session, file, &ahead.stores)
+    }
 }

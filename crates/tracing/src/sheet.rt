@@ -3,6 +3,7 @@
 ghost use Rattle.std.specs.Prelude.{◌≡◌, ◌≤◌, ◌<◌, [], IsOk, OnErr, OnOk, Err, length};
 ghost use Rattle.std.specs.Io.KnownBytes.{Appends};
 ghost use Rattle.program.specs.declared.refusal.Refusal.{Refusal};
+ghost use Rattle.tracing.specs.Gathered.{Gathers};
 
 use program::Refusal;
 use std::alloc::{AllocError, Global};
@@ -30,11 +31,14 @@ impl Sheet {
     /// Writes the text that was gathered.
     ///
     /// Errors: `Write` if it cannot be written.
+    #[tactic(auto, using(crate::proofs::Gathering::gathers_all))]
     pub fn write_out<O: Write>(&mut self, output: &mut O) -> Result<(), Refusal>
         ensures written { OnOk result (Appends (O.contents output.old) (O.contents output.new)
             self.old.text.items) }
         ensures emptied { self.new.text.items ≡ [] }
         ensures fault { OnErr result (result ≡ Err Refusal.Write) }
+        ensures gathered { OnOk result (Gathers (O.contents output.old) (O.contents output.new)
+            self.old.text.items self.new.text.items []) }
     {
         let written = output.write_all(self.text.as_slice());
         self.text.clear();
@@ -48,6 +52,7 @@ impl Sheet {
     /// nor if the row could not be gathered.
     ///
     /// Errors: `OutOfMemory` if the row could not be gathered, `Write` if it cannot be written.
+    #[tactic(auto, using(crate::proofs::Gathering::gathers_none))]
     pub fn end_row<O: Write>(
         &mut self,
         row: Result<(), AllocError>,
@@ -64,6 +69,8 @@ impl Sheet {
             (Appends (O.contents output.old) (O.contents output.new) self.old.text.items) }
         ensures emptied { 16384 ≤ length self.old.text.items → OnOk row (self.new.text.items ≡ []) }
         ensures fault { OnOk row (OnErr result (result ≡ Err Refusal.Write)) }
+        ensures gathered { OnOk result (Gathers (O.contents output.old) (O.contents output.new)
+            self.old.text.items self.new.text.items []) }
     {
         match row {
             Err(_) => Err(Refusal::OutOfMemory),

@@ -1,6 +1,17 @@
 //! What a trace gathers while its program runs.
 
-use crate::notes::{Ahead, code_of, entry_reads, entry_stores, kept, look_ahead};
+ghost use Rattle.std.specs.Prelude.{◌≡◌, ◌⊎◌, [], ◌∷◌, Err, IfOk, OnErr, OnOk};
+ghost use Rattle.std.specs.Io.KnownBytes.{Appends};
+ghost use Rattle.program.specs.declared.refusal.Refusal.{Refusal};
+ghost use Rattle.trace_words.specs.Views.{trace_view};
+ghost use Rattle.tracing.specs.Gathered.{Gathers, ahead_of, counted, counted_here};
+ghost use Rattle.tracing.specs.Gathered.{counted_step, findings, gathered, is_told, marked};
+ghost use Rattle.tracing.specs.Gathered.{none_gathered, noted_here, passed, reads_text, row_text};
+ghost use Rattle.tracing.specs.Gathered.{text_at_end};
+ghost use Rattle.tracing.specs.Gathered.{text_of_step, told, with_all_written, with_reads};
+ghost use Rattle.tracing.specs.Gathered.{with_told, with_written};
+
+use crate::notes::{Ahead, code_of, entry_reads, left_at, look_ahead};
 use crate::sheet::Sheet;
 use debugger::Session;
 use footprint::{Addresses, Count, Moment, Tally, Written};
@@ -24,7 +35,9 @@ pub struct Tracer<'a> {
 }
 
 /// Counts one visit more.
-fn add(count: &mut Count, cycles: u64) {
+fn add(count: &mut Count, cycles: u64)
+    ensures { count.new ≡ counted count.old cycles }
+{
     count.visits = count.visits.saturating_add(1);
     count.cycles = count.cycles.saturating_add(cycles);
 }
@@ -39,7 +52,11 @@ impl<'a> Tracer<'a> {
         words: &TraceWords<'a>,
         sites: Sites,
         written: Option<Written>,
-    ) -> Result<Tracer<'a>, AllocError> {
+    ) -> Result<Tracer<'a>, AllocError>
+        ensures gathered { IfOk result
+            (λ t. gathered t ≡ none_gathered (trace_view words.now) sites written) }
+        ensures sheet { IfOk result (λ t. t.sheet.text.items ≡ []) }
+    {
         let tally = if words.counts {
             Some(Tally::new(alloc)?)
         } else {
@@ -61,12 +78,18 @@ impl<'a> Tracer<'a> {
     }
 
     /// Returns what is known of the next step, as far as this trace asks for it.
-    pub fn look_ahead(&self, session: &Session) -> Ahead {
+    pub fn look_ahead(&self, session: &Session) -> Ahead
+        ensures { result ≡ ahead_of (gathered self.now) session.now.current }
+    {
         look_ahead(session, self.words.shows_stores || self.written.is_some())
     }
 
     /// Counts a step: an interrupt entry by itself, any other at the address of its instruction.
-    fn count(&mut self, moment: &Moment, is_entry: bool, cycles: u64) {
+    fn count(&mut self, moment: &Moment, is_entry: bool, cycles: u64)
+        ensures counted { gathered self.new
+            ≡ counted_step is_entry moment.now.regs.pc cycles (gathered self.old) }
+        ensures sheet { self.new.sheet ≡ self.old.sheet }
+    {
         add(&mut self.all, cycles);
         if is_entry {
             add(&mut self.entries, cycles);
@@ -75,8 +98,60 @@ impl<'a> Tracer<'a> {
         }
     }
 
+    /// Returns whether a read is told: of an address where nobody ever wrote.
+    fn is_told(&self, session: &Session, address: u16) -> bool
+        ensures { result ≡ is_told session.now.current.bus.map self.now.written address }
+    {
+        match &self.written {
+            None => false,
+            Some(written) => !session.is_port(address) && !written.contains(address),
+        }
+    }
+
+    /// Notes that a byte was put at an address.
+    fn note_written(&mut self, address: u16)
+        ensures marked { gathered self.new
+            ≡ marked (with_written self.old.written address) (gathered self.old) }
+        ensures sheet { self.new.sheet ≡ self.old.sheet }
+    {
+        if let Some(written) = &mut self.written {
+            written.note(address);
+        }
+    }
+
+    /// Writes a row for an address that a step has read, if nobody ever wrote there. It counts as
+    /// written from then on.
+    ///
+    /// Errors: `OutOfMemory` if an allocation fails, `Write` if the row cannot be written.
+    fn tell_read<O: Write>(
+        &mut self,
+        session: &Session,
+        moment: &Moment,
+        finding: Finding,
+        output: &mut O,
+    ) -> Result<(), Refusal>
+        ensures written { OnOk result (self.new.written ≡ with_told session.now.current.bus.map
+            self.old.written (finding.address ∷ [])) }
+        ensures gathered { OnOk result (Gathers (O.contents output.old) (O.contents output.new)
+            self.old.sheet.text.items self.new.sheet.text.items
+            (findings session.now.current self.old.sites moment.now finding.step finding.part
+            (told session.now.current.bus.map self.old.written (finding.address ∷ [])))) }
+        ensures rest { gathered self.new ≡ marked self.new.written (gathered self.old) }
+        ensures fault { OnErr result ((result ≡ Err Refusal.OutOfMemory)
+            ⊎ (result ≡ Err Refusal.Write)) }
+    {
+        if !self.is_told(session, finding.address) {
+            return Ok(());
+        }
+        self.note_written(finding.address);
+        let row = push_finding(&mut self.sheet.text, session, &self.sites, moment, finding);
+        self.sheet.end_row(row, output)
+    }
+
     /// Writes a row for each of the addresses that a step has read where nobody ever wrote. Each
     /// address is told once.
+    ///
+    /// Errors: `OutOfMemory` if an allocation fails, `Write` if a row cannot be written.
     fn tell_unwritten<O: Write>(
         &mut self,
         session: &Session,
@@ -84,44 +159,85 @@ impl<'a> Tracer<'a> {
         addresses: &Addresses,
         part: Part,
         output: &mut O,
-    ) -> Result<(), Refusal> {
+    ) -> Result<(), Refusal>
+        ensures written { OnOk result (self.new.written ≡ with_told session.now.current.bus.map
+            self.old.written addresses.now.items) }
+        ensures gathered { OnOk result (Gathers (O.contents output.old) (O.contents output.new)
+            self.old.sheet.text.items self.new.sheet.text.items
+            (findings session.now.current self.old.sites moment.now self.old.all.visits part
+            (told session.now.current.bus.map self.old.written addresses.now.items))) }
+        ensures rest { gathered self.new ≡ marked self.new.written (gathered self.old) }
+        ensures fault { OnErr result ((result ≡ Err Refusal.OutOfMemory)
+            ⊎ (result ≡ Err Refusal.Write)) }
+    {
         let step = self.all.visits;
-        let Some(written) = &mut self.written else {
-            return Ok(());
-        };
         for address in addresses.as_slice() {
-            let address = *address;
-            if !session.is_port(address) && !written.contains(address) {
-                written.note(address);
-                let finding = Finding {
-                    step,
-                    address,
-                    part,
-                };
-                let text = &mut self.sheet.text;
-                let row = push_finding(text, session, &self.sites, moment, finding);
-                self.sheet.end_row(row, output)?;
-            }
+            let finding = Finding {
+                step,
+                address: *address,
+                part,
+            };
+            self.tell_read(session, moment, finding, output)?;
         }
         Ok(())
     }
 
+    /// Writes a row for each of the addresses that a step has read where nobody ever wrote: for an
+    /// interrupt entry of its vector, otherwise of its instruction, and then of its data.
+    ///
+    /// Errors: `OutOfMemory` if an allocation fails, `Write` if a row cannot be written.
+    fn tell_reads<O: Write>(
+        &mut self,
+        session: &Session,
+        ahead: &Ahead,
+        is_entry: bool,
+        output: &mut O,
+    ) -> Result<(), Refusal>
+        ensures written { OnOk result (self.new.written
+            ≡ with_reads is_entry session.now.current.bus.map ahead.now self.old.written) }
+        ensures gathered { OnOk result (Gathers (O.contents output.old) (O.contents output.new)
+            self.old.sheet.text.items self.new.sheet.text.items
+            (reads_text is_entry session.now.current self.old.sites self.old.all.visits ahead.now
+            self.old.written)) }
+        ensures rest { gathered self.new ≡ marked self.new.written (gathered self.old) }
+        ensures fault { OnErr result ((result ≡ Err Refusal.OutOfMemory)
+            ⊎ (result ≡ Err Refusal.Write)) }
+    {
+        let moment = &ahead.moment;
+        if is_entry {
+            return self.tell_unwritten(session, moment, &entry_reads(), Part::Vector, output);
+        }
+        self.tell_unwritten(session, moment, &code_of(moment), Part::Code, output)?;
+        self.tell_unwritten(session, moment, &ahead.reads, Part::Data, output)
+    }
+
     /// Notes that a step has left bytes at addresses.
-    fn note_stores(&mut self, stores: &Addresses) {
-        if let Some(written) = &mut self.written {
-            for address in stores.as_slice() {
-                written.note(*address);
-            }
+    fn note_stores(&mut self, stores: &Addresses)
+        ensures marked { gathered self.new
+            ≡ marked (with_all_written self.old.written stores.now.items) (gathered self.old) }
+        ensures sheet { self.new.sheet ≡ self.old.sheet }
+    {
+        for address in stores.as_slice() {
+            self.note_written(*address);
         }
     }
 
     /// Writes the row of a step, unless counts or unwritten memory are asked for in its place.
+    ///
+    /// Errors: `OutOfMemory` if an allocation fails, `Write` if the row cannot be written.
     fn write_row<O: Write>(
         &mut self,
         session: &Session,
         step: &Step,
         output: &mut O,
-    ) -> Result<(), Refusal> {
+    ) -> Result<(), Refusal>
+        ensures gathered { OnOk result (Gathers (O.contents output.old) (O.contents output.new)
+            self.old.sheet.text.items self.new.sheet.text.items
+            (row_text (trace_view self.old.words) session.now.current self.old.sites step.now)) }
+        ensures same { gathered self.new ≡ gathered self.old }
+        ensures fault { OnErr result ((result ≡ Err Refusal.OutOfMemory)
+            ⊎ (result ≡ Err Refusal.Write)) }
+    {
         if self.words.counts || self.words.finds_unwritten {
             return Ok(());
         }
@@ -133,14 +249,13 @@ impl<'a> Tracer<'a> {
 
     /// Notes a step that was made before the trace began: where it stored, and nothing else. The
     /// session is in the state after the step.
-    pub fn pass(&mut self, session: &Session, ahead: Ahead) {
-        let moment = ahead.moment;
-        let stores = if moment.was_entered(session) {
-            entry_stores(moment.regs.s)
-        } else {
-            ahead.stores
-        };
-        let stores = kept(session, &self.words.file, &stores);
+    pub fn pass(&mut self, session: &Session, ahead: Ahead)
+        ensures passed { gathered self.new
+            ≡ passed session.now.current ahead (gathered self.old) }
+        ensures sheet { self.new.sheet ≡ self.old.sheet }
+    {
+        let is_entry = ahead.moment.was_entered(session);
+        let stores = left_at(session, &self.words.file, is_entry, &ahead);
         self.note_stores(&stores);
     }
 
@@ -153,35 +268,40 @@ impl<'a> Tracer<'a> {
         session: &Session,
         ahead: Ahead,
         output: &mut O,
-    ) -> Result<(), Refusal> {
-        let moment = ahead.moment;
-        let is_entry = moment.was_entered(session);
-        self.count(
-            &moment,
-            is_entry,
-            session.cycles().saturating_sub(moment.cycles),
-        );
-        let stores = if is_entry {
-            self.tell_unwritten(session, &moment, &entry_reads(), Part::Vector, output)?;
-            entry_stores(moment.regs.s)
-        } else {
-            self.tell_unwritten(session, &moment, &code_of(&moment), Part::Code, output)?;
-            self.tell_unwritten(session, &moment, &ahead.reads, Part::Data, output)?;
-            ahead.stores
-        };
+    ) -> Result<(), Refusal>
+        ensures counted { gathered self.new ≡ marked self.new.written
+            (counted_here session.now.current ahead (gathered self.old)) }
+        ensures noted { OnOk result (gathered self.new
+            ≡ noted_here session.now.current ahead (gathered self.old)) }
+        ensures gathered { OnOk result (Gathers (O.contents output.old) (O.contents output.new)
+            self.old.sheet.text.items self.new.sheet.text.items
+            (text_of_step session.now.current ahead (gathered self.old))) }
+        ensures fault { OnErr result ((result ≡ Err Refusal.OutOfMemory)
+            ⊎ (result ≡ Err Refusal.Write)) }
+    {
+        let is_entry = ahead.moment.was_entered(session);
+        let cycles = session.cycles().saturating_sub(ahead.moment.cycles);
+        self.count(&ahead.moment, is_entry, cycles);
+        self.tell_reads(session, &ahead, is_entry, output)?;
+        let stores = left_at(session, &self.words.file, is_entry, &ahead);
+        self.note_stores(&stores);
         let step = Step {
-            moment,
+            moment: ahead.moment,
             is_entry,
-            stores: kept(session, &self.words.file, &stores),
+            stores,
         };
-        self.note_stores(&step.stores);
         self.write_row(session, &step, output)
     }
 
-    /// Writes what was gathered, and the counts if they are asked for.
+    /// Appends the counts to what was gathered, if they are asked for.
     ///
-    /// Errors: `OutOfMemory` if an allocation fails, `Write` if it cannot be written.
-    pub fn finish<O: Write>(&mut self, alloc: Global, output: &mut O) -> Result<(), Refusal> {
+    /// Errors: `OutOfMemory` if an allocation fails.
+    fn tell_counts(&mut self, alloc: Global) -> Result<(), Refusal>
+        ensures text { OnOk result (self.new.sheet.text.items
+            ≡ text_at_end (gathered self.old) self.old.sheet.text.items) }
+        ensures same { gathered self.new ≡ gathered self.old }
+        ensures fault { OnErr result (result ≡ Err Refusal.OutOfMemory) }
+    {
         if let Some(tally) = &self.tally {
             let text = &mut self.sheet.text;
             let told = push_counts(text, alloc, &self.sites, tally, self.entries, self.all);
@@ -189,6 +309,21 @@ impl<'a> Tracer<'a> {
                 return Err(Refusal::OutOfMemory);
             }
         }
+        Ok(())
+    }
+
+    /// Writes what was gathered, and the counts if they are asked for.
+    ///
+    /// Errors: `OutOfMemory` if an allocation fails, `Write` if it cannot be written.
+    pub fn finish<O: Write>(&mut self, alloc: Global, output: &mut O) -> Result<(), Refusal>
+        ensures text { OnOk result (Appends (O.contents output.old) (O.contents output.new)
+            (text_at_end (gathered self.old) self.old.sheet.text.items)) }
+        ensures emptied { OnOk result (self.new.sheet.text.items ≡ []) }
+        ensures same { gathered self.new ≡ gathered self.old }
+        ensures fault { OnErr result ((result ≡ Err Refusal.OutOfMemory)
+            ⊎ (result ≡ Err Refusal.Write)) }
+    {
+        self.tell_counts(alloc)?;
         self.sheet.write_out(output)?;
         match output.flush() {
             Ok(()) => Ok(()),

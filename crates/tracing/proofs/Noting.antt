@@ -1,0 +1,105 @@
+-- What a tracer gathers of a step, one part after another.
+use Rattle.std.proofs.Common.{◌≡◌, ◌∙◌, ◌++◌, ℕ, Bool, true, false, List, [], ◌∷◌, Option, Result, OnOk, refl, sym, ap, subst, append-nil}
+use Rattle.std.proofs.lemmas.Grind.{flat_map-append}
+use Rattle.footprint.specs.Moments.{entered}
+use Rattle.footprint.specs.declared.moment.Moment.{Moment}
+use Rattle.model.specs.State.{State}
+use Rattle.program.specs.declared.refusal.Refusal.{Refusal}
+use Rattle.trace_rows.specs.Findings.{finding_row}
+use Rattle.trace_rows.specs.declared.sites.Sites.{Sites}
+use Rattle.trace_rows.specs.declared.unwritten.Finding.{Finding}
+use Rattle.trace_rows.specs.declared.unwritten.Part.{Part}
+use Rattle.trace_rows.specs.declared.unwritten.Part.TheVariants.{Code, Data}
+use Rattle.trace_words.specs.Asked.{TraceAsked}
+use Rattle.trace_words.specs.Views.{trace_view}
+use Rattle.tracing.specs.Gathered.{Gathered, Gathers, counted, counted_here, counted_step, cycles_of, findings, gathered, is_told, marked, reads_text, row_text, step_of, text_of_step, told, with_told}
+use Rattle.tracing.specs.Notes.{code_of, left_at}
+use Rattle.tracing.specs.declared.notes.Ahead.{Ahead}
+use Rattle.tracing.specs.declared.tracer.Tracer.{Tracer}
+use Rattle.tracing.proofs.Gathering.{gathers_both, gathers_none, ok_then}
+use Rattle.tracing.proofs.Telling.{told_not, told_yes}
+
+-- Marked by what counts as written, once and again.
+pub marked_as : (a b : Tracer) (w : Option (List Bool)) → gathered b ≡ marked w (gathered a) → gathered b ≡ marked b.written (gathered a)
+marked_as a b w e = e ∙ ap (λ u. marked u (gathered a)) (sym (ap (λ (g : Gathered). g.written) e))
+
+pub marked_on : (a b c : Tracer) → gathered b ≡ marked b.written (gathered a) → gathered c ≡ marked c.written (gathered b) → gathered c ≡ marked c.written (gathered a)
+marked_on a b c p q = q ∙ ap (marked c.written) p
+
+pub same_sites : (a b : Tracer) (w : Option (List Bool)) → gathered b ≡ marked w (gathered a) → b.sites ≡ a.sites
+same_sites a b w e = ap (λ (g : Gathered). g.sites) e
+
+pub same_asked : (a b : Tracer) (w : Option (List Bool)) → gathered b ≡ marked w (gathered a) → trace_view b.words ≡ trace_view a.words
+same_asked a b w e = ap (λ (g : Gathered). g.asked) e
+
+pub same_number : (a b : Tracer) (w : Option (List Bool)) → gathered b ≡ marked w (gathered a) → b.all.visits ≡ a.all.visits
+same_number a b w e = ap (λ (g : Gathered). g.all.visits) e
+
+-- A read that is not told, and one that is.
+pub none_told : (state : State) (sites : Sites) (moment : Moment) (finding : Finding) (w : Option (List Bool)) (held : Option (List ℕ)) (text : List ℕ)
+    → is_told state.bus.map w finding.address ≡ false
+    → Gathers held held text text (findings state sites moment finding.step finding.part (told state.bus.map w (finding.address ∷ [])))
+none_told state sites moment finding w held text off =
+    subst (λ ys. Gathers held held text text (findings state sites moment finding.step finding.part ys)) (sym (told_not state.bus.map w finding.address off)) (gathers_none held held text text refl refl)
+
+pub one_told : (state : State) (sites : Sites) (moment : Moment) (finding : Finding) (w : Option (List Bool)) (held now : Option (List ℕ)) (before after : List ℕ)
+    → is_told state.bus.map w finding.address ≡ true → Gathers held now before after (finding_row state sites moment finding)
+    → Gathers held now before after (findings state sites moment finding.step finding.part (told state.bus.map w (finding.address ∷ [])))
+one_told state sites moment finding w held now before after on row =
+    subst (λ ys. Gathers held now before after (findings state sites moment finding.step finding.part ys)) (sym (told_yes state.bus.map w finding.address on))
+    (subst (Gathers held now before after) (sym (append-nil (finding_row state sites moment finding))) row)
+
+-- Reads at some addresses, and then at others.
+pub findings_both : (state : State) (sites : Sites) (moment : Moment) (number : ℕ) (part : Part) (xs ys : List ℕ) (held mid now : Option (List ℕ)) (before between after : List ℕ)
+    → Gathers held mid before between (findings state sites moment number part xs) → Gathers mid now between after (findings state sites moment number part ys)
+    → Gathers held now before after (findings state sites moment number part (xs ++ ys))
+findings_both state sites moment number part xs ys held mid now before between after first second =
+    let row : ℕ → List ℕ = λ address. finding_row state sites moment (record { step = number; address = address; part = part }) in
+    subst (Gathers held now before after) (sym (flat_map-append row xs ys)) (gathers_both held mid now before between after _ _ first second)
+
+-- The reads of an instruction, and then of its data.
+pub reads_gathered : {A : Type 0} (is_entry : Bool) (state : State) (sites sites2 : Sites) (number number2 : ℕ) (ahead : Ahead) (w v : Option (List Bool)) (code : List ℕ)
+    (r : Result A Refusal) (held mid now : Option (List ℕ)) (before between after : List ℕ)
+    → is_entry ≡ false → sites2 ≡ sites → number2 ≡ number → v ≡ with_told state.bus.map w code → code ≡ code_of ahead.moment
+    → Gathers held mid before between (findings state sites ahead.moment number Code (told state.bus.map w code))
+    → OnOk r (Gathers mid now between after (findings state sites2 ahead.moment number2 Data (told state.bus.map v ahead.reads.items)))
+    → OnOk r (Gathers held now before after (reads_text is_entry state sites number ahead w))
+reads_gathered is_entry state sites sites2 number number2 ahead w v code r held mid now before between after plain sites_are number_is here is_code first second =
+    let T : Sites → ℕ → Option (List Bool) → Type 0 = λ s n u. Gathers mid now between after (findings state s ahead.moment n Data (told state.bus.map u ahead.reads.items)) in
+    let ran = subst (λ ys. Gathers held mid before between (findings state sites ahead.moment number Code (told state.bus.map w ys))) is_code first in
+    let there : v ≡ with_told state.bus.map w (code_of ahead.moment) = here ∙ ap (with_told state.bus.map w) is_code in
+    subst (λ b. OnOk r (Gathers held now before after (reads_text b state sites number ahead w))) (sym plain)
+    (ok_then r (T sites2 number2 v) (Gathers held now before after (reads_text false state sites number ahead w))
+    (λ more. gathers_both held mid now before between after _ _ ran
+    (subst (λ u. T sites number u) there (subst (λ n. T sites n v) number_is (subst (λ s. T s number2 v) sites_are more)))) second)
+
+-- The reads of a step, and then its row.
+pub step_gathered : {A : Type 0} (state : State) (ahead : Ahead) (t c d n : Tracer) (is_entry : Bool) (cycles : ℕ) (w v : Option (List Bool)) (stores : List ℕ) (r : Result A Refusal) (held mid now : Option (List ℕ)) (after : List ℕ)
+    → is_entry ≡ entered ahead.moment state → cycles ≡ cycles_of ahead.moment state
+    → gathered c ≡ counted_step is_entry ahead.moment.regs.pc cycles (gathered t) → c.sheet ≡ t.sheet
+    → gathered d ≡ marked w (gathered c) → Gathers held mid c.sheet.text.items d.sheet.text.items (reads_text is_entry state c.sites c.all.visits ahead c.written)
+    → gathered n ≡ marked v (gathered d) → n.sheet ≡ d.sheet → stores ≡ left_at state (trace_view d.words).file is_entry ahead
+    → OnOk r (Gathers mid now n.sheet.text.items after (row_text (trace_view n.words) state n.sites (record { moment = ahead.moment; is_entry = is_entry; stores = record { items = stores } })))
+    → OnOk r (Gathers held now t.sheet.text.items after (text_of_step state ahead (gathered t)))
+step_gathered state ahead t c d n is_entry cycles w v stores r held mid now after is took counts sheet reads read left sheet2 stored row =
+    let at : Bool = entered ahead.moment state in
+    let took_so : ℕ = cycles_of ahead.moment state in
+    let file : trace_view d.words ≡ trace_view t.words = same_asked c d w reads ∙ ap (λ (g : Gathered). g.asked) counts in
+    let words : trace_view n.words ≡ trace_view t.words = same_asked d n v left ∙ file in
+    let sites : n.sites ≡ t.sites = same_sites d n v left ∙ same_sites c d w reads ∙ ap (λ (g : Gathered). g.sites) counts in
+    let stores_are : stores ≡ left_at state (trace_view t.words).file at ahead =
+    stored ∙ ap (λ (ws : TraceAsked). left_at state ws.file is_entry ahead) file ∙ ap (λ b. left_at state (trace_view t.words).file b ahead) is in
+    let text : reads_text is_entry state c.sites c.all.visits ahead c.written ≡ reads_text at state t.sites (counted_here state ahead (gathered t)).all.visits ahead t.written =
+    ap (λ (g : Gathered). reads_text is_entry state g.sites g.all.visits ahead g.written) counts
+    ∙ ap (λ n. reads_text is_entry state t.sites (counted t.all n).visits ahead t.written) took
+    ∙ ap (λ b. reads_text b state t.sites (counted t.all took_so).visits ahead t.written) is in
+    let made : row_text (trace_view n.words) state n.sites (record { moment = ahead.moment; is_entry = is_entry; stores = record { items = stores } }) ≡ row_text (trace_view t.words) state t.sites (step_of state (trace_view t.words).file at ahead) =
+    ap (λ ws. row_text ws state n.sites (record { moment = ahead.moment; is_entry = is_entry; stores = record { items = stores } })) words
+    ∙ ap (λ s. row_text (trace_view t.words) state s (record { moment = ahead.moment; is_entry = is_entry; stores = record { items = stores } })) sites
+    ∙ ap (λ b. row_text (trace_view t.words) state t.sites (record { moment = ahead.moment; is_entry = b; stores = record { items = stores } })) is
+    ∙ ap (λ xs. row_text (trace_view t.words) state t.sites (record { moment = ahead.moment; is_entry = at; stores = record { items = xs } })) stores_are in
+    let told_here = subst (λ xs. Gathers held mid t.sheet.text.items d.sheet.text.items xs) text
+    (subst (λ s. Gathers held mid s.text.items d.sheet.text.items (reads_text is_entry state c.sites c.all.visits ahead c.written)) sheet read) in
+    ok_then r _ _ (λ more. gathers_both held mid now t.sheet.text.items d.sheet.text.items after _ _ told_here
+    (subst (λ xs. Gathers mid now d.sheet.text.items after xs) made
+    (subst (λ s. Gathers mid now s.text.items after (row_text (trace_view n.words) state n.sites (record { moment = ahead.moment; is_entry = is_entry; stores = record { items = stores } }))) sheet2 more))) row
