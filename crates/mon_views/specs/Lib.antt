@@ -7,3 +7,5 @@ pub mod Stops
 pub mod Memory
 pub mod Slips
 pub mod Help
+pub mod Calls
+pub mod Screen

@@ -1,4 +1,4 @@
-//! Memory, the stack and the console.
+//! Memory and the stack.
 
 ghost use Rattle.std.specs.Prelude.{◌≡◌, ◌+◌, ◌*◌, ◌≤◌, ◌<◌, ◌++◌, OnOk};
 ghost use Rattle.std.specs.List.{flat_map};
@@ -7,11 +7,10 @@ ghost use Rattle.mon_views.specs.Memory.{byte_after_blank, bytes_from, character
 ghost use Rattle.mon_views.specs.Memory.{goes_on_at, memory_row, memory_rows, memory_text, next_of};
 ghost use Rattle.mon_views.specs.Memory.{numbered_row, shown_count, stack_line};
 
-use crate::instructions::{push_byte_column, push_instruction};
-use crate::words::{push_address, push_blanks, push_byte, push_character, push_place, push_text};
+use crate::instructions::push_byte_column;
+use crate::words::{push_address, push_blanks, push_byte, push_character, push_text};
 use debugger::Session;
 use mon_lines::Stretch;
-use places::Places;
 use std::alloc::AllocError;
 
 /// Appends so many bytes from an address on, with a blank behind each.
@@ -208,65 +207,4 @@ pub fn push_stack(text: &mut Vec<u8>, session: &Session) -> Result<(), AllocErro
         ++ stack_line session.now.current.bus.memory session.now.current.regs.s) }
 {
     push_stack_at(text, session, session.regs().s)
-}
-
-/// The address of the JSR whose return address stands at a place of the stack, if one does.
-fn caller_at(session: &Session, offset: u16) -> Option<u16> {
-    let low = session.peek(0x0100 + offset % 256);
-    let high = session.peek(0x0100 + offset.wrapping_add(1) % 256);
-    let jsr = u16::from_le_bytes([low, high]).wrapping_sub(2);
-    if session.peek(jsr) == 0x20 {
-        Some(jsr)
-    } else {
-        None
-    }
-}
-
-/// Appends the calls whose return addresses are on the stack, the last one first.
-pub fn push_calls(
-    text: &mut Vec<u8>,
-    session: &Session,
-    places: &Places,
-) -> Result<(), AllocError> {
-    push_text(text, "at ")?;
-    push_place(text, places, session.regs().pc)?;
-    text.push(b'\n')?;
-    let mut skipped = 0u16;
-    for offset in session.regs().s as u16 + 1..255 {
-        if offset < skipped {
-            continue;
-        }
-        if let Some(jsr) = caller_at(session, offset) {
-            skipped = offset.saturating_add(2);
-            push_text(text, "called from ")?;
-            push_place(text, places, jsr)?;
-            push_text(text, ": ")?;
-            push_instruction(text, session, places, jsr)?;
-            text.push(b'\n')?;
-        }
-    }
-    Ok(())
-}
-
-/// Appends the console's output as text.
-pub fn push_screen(text: &mut Vec<u8>, session: &Session) -> Result<(), AllocError> {
-    let count = session.output_len();
-    if count == 0 {
-        return push_text(text, "nothing was written to the console yet\n");
-    }
-    let mut is_line_open = false;
-    for index in 0..count {
-        let byte = session.output_at(index).unwrap_or(0);
-        if byte == 10 {
-            text.push(b'\n')?;
-            is_line_open = false;
-        } else if byte != 13 {
-            push_character(text, byte)?;
-            is_line_open = true;
-        }
-    }
-    if is_line_open {
-        text.push(b'\n')?;
-    }
-    Ok(())
 }
