@@ -1,23 +1,22 @@
 -- A listing that is read back tells the lines of its source that have bytes.
-use Rattle.std.proofs.Common.{◌≡◌, ◌∙◌, ℕ, zero, suc, ◌+◌, ◌-◌, ◌*◌, ◌/◌, ◌%◌, ◌<◌, ◌≤◌, Bool, true, false, List, [], ◌∷◌, ◌++◌, Option, Some, None, length, drop, get_or, map, refl, sym, ap, subst, arith, inl, inr, append_assoc, append-nil}
-use Rattle.std.specs.Prelude.{◌==◌, ◌&&◌, if◌then◌else◌, codes, min, nat_le, nat_lt, take, ⊤}
-use Rattle.std.specs.List.{flat_map, list_all, range_with_len}
+use Rattle.std.proofs.Common.{◌≡◌, ◌∙◌, ℕ, zero, suc, ◌+◌, ◌-◌, ◌*◌, ◌/◌, ◌%◌, ◌<◌, ◌≤◌, Bool, true, false, List, [], ◌∷◌, ◌++◌, Option, Some, None, length, drop, get_or, map, refl, sym, ap, arith, inl, inr, append_assoc, append-nil}
+use Rattle.std.specs.Prelude.{◌==◌, ◌&&◌, if◌then◌else◌, codes, min, nat_lt, take}
+use Rattle.std.specs.List.{list_all, range_with_len}
 use Rattle.std.specs.Option.{option_and_then, option_map, option_to_list}
 use Rattle.std.specs.Io.BufRead.{strip_last}
-use Rattle.std.proofs.lemmas.List.{length-append}
 use Rattle.std.proofs.lemmas.List.FromFn.{get_or-map-range_with_len}
 use Rattle.std.proofs.lemmas.List.Folds.{list_all-append}
-use Rattle.std.proofs.lemmas.Bool.{and_from, cases_lt, eqb-true, le-leb, le-ltb, lt-leb, lt-ltb, ltb-true, ne_eqb}
+use Rattle.std.proofs.lemmas.Bool.{and_from, cases_lt, le-leb, le-ltb, lt-leb, lt-ltb, ltb-true}
 use Rattle.std.proofs.lemmas.Bool.Decides.{eqb_tells}
 use Rattle.model.specs.Commands.{address_of}
 use Rattle.model.specs.Digits.{hex_value, number_from}
 use Rattle.model.specs.Listing.{address_text, group_row, group_rows, line_rows, lines_rows, listing_text, names_rows, with_padding, with_spaces}
 use Rattle.model.specs.Names.{Definitions}
-use Rattle.model.specs.Text.{hex_address, hex_byte, hex_digit, spaced_bytes}
+use Rattle.model.specs.Text.{hex_address, hex_digit, spaced_bytes}
 use Rattle.model.specs.TextLines.{last_line, lines_from, lines_of}
 use Rattle.model.specs.Token.{is_source_byte}
 use Rattle.trace_rows.specs.Listed.{Listed, byte_in, counted, is_line, line_in, line_of, line_with, lines_after, lines_in, place_in}
-use Rattle.trace_rows.specs.SourceLines.{AreShown, IsShown, line_of_bytes, lines_with_bytes}
+use Rattle.trace_rows.specs.SourceLines.{AreShown, line_of_bytes, lines_with_bytes}
 
 -- ---- lines that are cut
 

@@ -23,8 +23,8 @@ lines_with_bytes count (line ∷ lines) [] = []
 lines_with_bytes count (line ∷ lines) (place ∷ places)
     = line_of_bytes (count + 1) line place.0 place.1 ++ lines_with_bytes (count + 1) lines places
 
--- A line as each assembled source has it: of bytes that a line may have, with its first byte, if it
--- puts bytes, at an address below 65536.
+-- A line as an assembled source has it: its text has bytes that a line may have, what it puts are
+-- bytes, and the first of them, if there is one, stands at an address below 65536.
 pub record IsShown (line : List ℕ) (place : ℕ × List ℕ) : Type 0 where
   pub text : list_all is_source_byte line ≡ true
   pub bytes : list_all (λ b. nat_lt b 256) place.1 ≡ true
