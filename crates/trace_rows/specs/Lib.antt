@@ -1,5 +1,6 @@
 pub mod Listed
 pub mod Sites
+pub mod SourceLines
 pub mod Words
 pub mod Steps
 pub mod Findings

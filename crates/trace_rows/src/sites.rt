@@ -10,6 +10,7 @@ ghost use Rattle.trace_rows.specs.Sites.{IsTable, first_at, index_at, label_addr
 ghost use Rattle.trace_rows.specs.Sites.{label_named, label_near, labelled, labels_in, labels_of};
 ghost use Rattle.trace_rows.specs.Sites.{line_addresses, line_at, line_for, near_view, or_below};
 ghost use Rattle.trace_rows.specs.Sites.{put_if_none};
+ghost use Rattle.trace_rows.specs.SourceLines.{HasShownLines, source_lines};
 
 use crate::lines::{SourceLine, lines_of};
 use assembler::Assembly;
@@ -217,6 +218,9 @@ impl Sites {
             (λ sites. map labelled sites.labels.items ≡ labels_in assembly.now) }
         ensures lines { IfOk result
             (λ sites. map listed sites.lines.items ≡ lines_in (listing_of assembly.now)) }
+        // These are the lines of the source that have bytes.
+        ensures source { IfOk result (λ sites. HasShownLines assembly.now
+            → map listed sites.lines.items ≡ source_lines assembly.now) }
         ensures label_of { IfOk result
             (λ sites. IsTable sites.label_of.items (label_for assembly.now)) }
         ensures line_of { IfOk result
