@@ -1,3 +1,5 @@
 pub mod Walks
 pub mod RowText
 pub mod StepByStep
+pub mod Appended
+pub mod Told

@@ -1,8 +1,8 @@
 //! What is told of rows that were run: TAP, and a report for JUnit.
 //!
-//! Places, values, the rows of TAP and of the report, and lines by their numbers are proved; why a
-//! row fails is tested. `Bench` is the machine that the rows ran on; for a row that has
-//! failed it is made again, so that what was expected, what came and the last steps can be told.
+//! The texts are proved: places, values, the rows of TAP and of the report, lines by their numbers,
+//! and why a row fails. `Bench` is the machine that the rows ran on; for a row that has failed it
+//! is made again, so that what was expected, what came and the last steps can be told.
 #![tactic(auto)]
 
 mod detail;

@@ -3,5 +3,7 @@ pub mod Asked
 pub mod CommandLines
 pub mod Instructions
 pub mod Lines
+pub mod Meanings
+pub mod Records
 pub mod Statuses
 pub mod Unread
