@@ -1,6 +1,6 @@
 -- Parts of a run, one after another.
-use Rattle.std.proofs.Common.{◌≡◌, ◌∙◌, ◌++◌, ℕ, Bool, false, true, List, [], Option, Result, Ok, Err, IfOk, OnOk, refl, sym, ap, ap₂, append_assoc}
-use Rattle.std.proofs.KnownBytes.{Consumes-nil, Consumes-trans}
+use Rattle.std.proofs.Common.{◌≡◌, ◌∙◌, ◌++◌, ℕ, Bool, false, true, List, [], Option, None, Some, Result, Ok, Err, IfOk, OnOk, refl, sym, ap, ap₂, append_assoc, subst}
+use Rattle.std.proofs.KnownBytes.{Appends-trans, Consumes-nil, Consumes-trans}
 use Rattle.console.proofs.Turning.{ran_as, whole_input}
 use Rattle.console.specs.Playing.{Outcome, Play, begun, no_memo, played}
 use Rattle.console.specs.Turns.{EndsOnce, MayCome, play_at}
@@ -13,7 +13,13 @@ use Rattle.console.specs.declared.turn.Player.{Player}
 use Rattle.console.specs.declared.memo.Memo.{Memo}
 use Rattle.model.specs.Session.{Session}
 use Rattle.program.specs.declared.refusal.Refusal.{Refusal}
-use Rattle.tracing.specs.Traces.{EndsAt, WentOn, is_begun, reached, traced, traced_after}
+use Rattle.std.specs.Io.KnownBytes.{Appends}
+use Rattle.std.specs.Prelude.{is_some}
+use Rattle.trace_rows.specs.declared.sites.Sites.{Sites}
+use Rattle.trace_words.specs.Asked.{TraceAsked}
+use Rattle.tracing.specs.Gathered.{Gathered, Gathers, none_gathered, text_at_end}
+use Rattle.tracing.specs.Texts.{GotText, Noted, by_steps, no_text, note_step, pass_step}
+use Rattle.tracing.specs.Traces.{EndsAt, WentOn, WroteNotes, gathered_at, is_begun, noted_after, reached, trace_noted, traced, traced_after}
 
 pub once_none : (b : Bool) → EndsOnce b b []
 once_none b is = (refl, is)
@@ -22,7 +28,7 @@ pub once_both : (a b c : Bool) (told more : List ℕ) → EndsOnce a b told → 
 once_both a b c told more first second is =
     let one = first is in let two = second one.1 in (ap₂ (λ (xs ys : List ℕ). xs ++ ys) one.0 two.0, two.1)
 
-may_all : (b c : Bool) (more rest : List ℕ) → EndsOnce b c more → MayCome c rest → MayCome b (more ++ rest)
+pub may_all : (b c : Bool) (more rest : List ℕ) → EndsOnce b c more → MayCome c rest → MayCome b (more ++ rest)
 may_all b c more rest once may is =
     let ends = once is in ap (λ (xs : List ℕ). xs ++ rest) ends.0 ∙ may ends.1
 
@@ -33,37 +39,49 @@ abbrev none_made : Played
 none_made = record { steps = 0; ending = Until }
 
 -- A trace begins at once where it may.
-pub reached_here : (from : Option ℕ) (s : Session) (p : Player) (given : Option (List ℕ)) → is_begun from s.current ≡ true → WentOn (reached from) s p given given none_made s p
-reached_here from s p given here = record { told = []; consumes = Consumes-nil given; once = once_none p.is_over; leads = λ rest may. rw here refl }
+pub reached_here : (from : Option ℕ) (s : Session) (p : Player) (given : Option (List ℕ)) (g : Gathered) → is_begun from s.current ≡ true → WentOn (reached from) (gathered_at from g) s p given given none_made s p g
+reached_here from s p given g here = record { told = []; consumes = Consumes-nil given; once = once_none p.is_over; leads = λ rest may. (rw here refl, rw here refl) }
 
 -- Otherwise a run leads there.
-reached_later : (from : Option ℕ) (s t : Session) (before after : Player) (given left : Option (List ℕ)) (end : Played) → is_begun from s.current ≡ false
-    → WentOn (played from 18446744073709551615) s before given left end t after → WentOn (reached from) s before given left end t after
-reached_later from s t before after given left end away went = record {
+reached_later : (from : Option ℕ) (s t : Session) (before after : Player) (given left : Option (List ℕ)) (g h : Gathered) (end : Played) → is_begun from s.current ≡ false
+    → WentOn (played from 18446744073709551615) (λ p. by_steps pass_step from 18446744073709551615 p g) s before given left end t after h → WentOn (reached from) (gathered_at from g) s before given left end t after h
+reached_later from s t before after given left g h end away went = record {
   told = went.told;
   consumes = went.consumes;
   once = went.once;
-  leads = λ rest may. rw away (went.leads rest may);
+  leads = λ rest may. (rw away (went.leads rest may).0, rw away (went.leads rest may).1);
 }
 
-pub reached_if_made : (from : Option ℕ) (s t : Session) (before after : Player) (given left : Option (List ℕ)) (r : Result Played PlayFault) → is_begun from s.current ≡ false
-    → IfOk r (λ end. WentOn (played from 18446744073709551615) s before given left end t after) → IfOk r (λ end. WentOn (reached from) s before given left end t after)
-reached_if_made from s t before after given left (Ok end) away went = reached_later from s t before after given left end away went
-reached_if_made from s t before after given left (Err fault) away went = tt
+pub reached_if_made : (from : Option ℕ) (s t : Session) (before after : Player) (given left : Option (List ℕ)) (g h : Gathered) (r : Result Played PlayFault) → is_begun from s.current ≡ false
+    → IfOk r (λ end. WentOn (played from 18446744073709551615) (λ p. by_steps pass_step from 18446744073709551615 p g) s before given left end t after h)
+    → IfOk r (λ end. WentOn (reached from) (gathered_at from g) s before given left end t after h)
+reached_if_made from s t before after given left g h (Ok end) away went = reached_later from s t before after given left g h end away went
+reached_if_made from s t before after given left g h (Err fault) away went = tt
+
+abbrev noting : Option ℕ → ℕ → Gathered → Play → Noted
+noting to limit g p = by_steps note_step to limit p (no_text g)
 
 -- From the place on, the rest of a run is the trace.
-pub traced_on : (from to : Option ℕ) (limit : ℕ) (s t u : Session) (a b c : Player) (given mid left : Option (List ℕ)) (first end : Played) → first.ending ≡ Until
-    → WentOn (reached from) s a given mid first t b → WentOn (played to limit) t b mid left end u c
-    → WentOn (traced from to limit) s a given left end u c
-traced_on from to limit s t u a b c given mid left first end until went on = record {
+pub traced_on : (from to : Option ℕ) (limit : ℕ) (s t u : Session) (a b c : Player) (given mid left : Option (List ℕ)) (g h : Gathered) (n : Noted) (first end : Played) → first.ending ≡ Until
+    → WentOn (reached from) (gathered_at from g) s a given mid first t b h → WentOn (played to limit) (noting to limit h) t b mid left end u c n
+    → WentOn (traced from to limit) (trace_noted from to limit g) s a given left end u c (Some n)
+traced_on from to limit s t u a b c given mid left g h n first end until went on = record {
   told = went.told ++ on.told;
   consumes = Consumes-trans given mid left went.told on.told went.consumes on.consumes;
   once = once_both a.is_over b.is_over c.is_over went.told on.told went.once on.once;
   leads = λ rest may.
-      ap (λ (input : List ℕ). traced from to limit (play_at s a.memo input)) (append_assoc went.told on.told rest)
-      ∙ ap (traced_after to limit) (went.leads (on.told ++ rest) (may_all b.is_over c.is_over on.told rest on.once may))
-      ∙ ap (λ (why : Ending). traced_after to limit (record { steps = first.steps; ending = why; play = play_at t b.memo (on.told ++ rest) })) until
-      ∙ on.leads rest may;
+      let all : List ℕ = on.told ++ rest in
+      let there = went.leads all (may_all b.is_over c.is_over on.told rest on.once may) in (
+        ap (λ (input : List ℕ). traced from to limit (play_at s a.memo input)) (append_assoc went.told on.told rest)
+            ∙ ap (traced_after to limit) there.0
+            ∙ ap (λ (why : Ending). traced_after to limit (record { steps = first.steps; ending = why; play = play_at t b.memo all })) until
+            ∙ (on.leads rest may).0,
+        ap (λ (input : List ℕ). trace_noted from to limit g (play_at s a.memo input)) (append_assoc went.told on.told rest)
+            ∙ ap (λ (x : Gathered). noted_after to limit x (reached from (play_at s a.memo (went.told ++ all)))) there.1
+            ∙ ap (noted_after to limit h) there.0
+            ∙ ap (λ (why : Ending). noted_after to limit h (record { steps = first.steps; ending = why; play = play_at t b.memo all })) until
+            ∙ ap (λ (m : Noted). Some m) (on.leads rest may).1,
+      );
 }
 
 -- A run that ended before has no step traced.
@@ -75,32 +93,76 @@ ended_before to limit steps InputOver p other = refl
 ended_before to limit steps Limit p other = refl
 ended_before to limit steps (Refused fault) p other = refl
 
-pub traced_none : (from to : Option ℕ) (limit : ℕ) (s t : Session) (a b : Player) (given left : Option (List ℕ)) (first end : Played) → (first.ending ≡ Until → ⊥)
+none_noted : (to : Option ℕ) (limit steps : ℕ) (g : Gathered) (why : Ending) (p : Play) → (why ≡ Until → ⊥)
+    → noted_after to limit g (record { steps = steps; ending = why; play = p }) ≡ None
+none_noted to limit steps g Until p other = absurd (other refl)
+none_noted to limit steps g Rest p other = refl
+none_noted to limit steps g InputOver p other = refl
+none_noted to limit steps g Limit p other = refl
+none_noted to limit steps g (Refused fault) p other = refl
+
+pub traced_none : (from to : Option ℕ) (limit : ℕ) (s t : Session) (a b : Player) (given left : Option (List ℕ)) (g h : Gathered) (first end : Played) → (first.ending ≡ Until → ⊥)
     → end ≡ record { steps = 0; ending = first.ending }
-    → WentOn (reached from) s a given left first t b → WentOn (traced from to limit) s a given left end t b
-traced_none from to limit s t a b given left first end other is went = record {
+    → WentOn (reached from) (gathered_at from g) s a given left first t b h → WentOn (traced from to limit) (trace_noted from to limit g) s a given left end t b None
+traced_none from to limit s t a b given left g h first end other is went = record {
   told = went.told;
   consumes = went.consumes;
   once = went.once;
   leads = λ rest may.
-      ap (traced_after to limit) (went.leads rest may) ∙ ended_before to limit first.steps first.ending (play_at t b.memo rest) other
-      ∙ ap (λ (e : Played). outcome_of e t b.memo rest) (sym is);
+      let there = went.leads rest may in (
+        ap (traced_after to limit) there.0 ∙ ended_before to limit first.steps first.ending (play_at t b.memo rest) other
+            ∙ ap (λ (e : Played). outcome_of e t b.memo rest) (sym is),
+        ap (noted_after to limit (gathered_at from g (play_at s a.memo (went.told ++ rest)))) there.0
+            ∙ none_noted to limit first.steps (gathered_at from g (play_at s a.memo (went.told ++ rest))) first.ending (play_at t b.memo rest) other,
+      );
 }
 
 -- A whole trace, from a session where nothing is remembered.
-pub whole_trace : (part : Play → Outcome) (s t : Session) (a b : Player) (given left : Option (List ℕ)) (end : Played) → a.memo ≡ no_memo → EndsAt b.is_over left
-    → WentOn part s a given left end t b
-    → (input : List ℕ) × (rest : List ℕ) × AreBytesOf given input × AreBytesOf left rest × RanAs (part (begun s input)) end t rest
-whole_trace part s t a b given left end none over went =
-    whole_input given left went.told b.is_over (λ input rest. RanAs (part (begun s input)) end t rest) went.consumes over
-    (λ rest may. ran_as (part (begun s (went.told ++ rest))) end.steps end.ending t b.memo rest
-    (ap (λ (m : Memo). part (play_at s m (went.told ++ rest))) (sym none) ∙ went.leads rest may))
+pub whole_trace : (part : Play → Outcome) (makes : Play → Option Noted) (s t : Session) (a b : Player) (given left held now : Option (List ℕ)) (end : Played) (n : Option Noted) → a.memo ≡ no_memo → EndsAt b.is_over left
+    → WentOn part makes s a given left end t b n → GotText n held now
+    → (input : List ℕ) × (rest : List ℕ) × AreBytesOf given input × AreBytesOf left rest × RanAs (part (begun s input)) end t rest × GotText (makes (begun s input)) held now
+whole_trace part makes s t a b given left held now end n none over went got =
+    let whole = whole_input given left went.told b.is_over (λ input rest. RanAs (part (begun s input)) end t rest × GotText (makes (begun s input)) held now) went.consumes over
+    (λ rest may.
+    let there = went.leads rest may in (
+      ran_as (part (begun s (went.told ++ rest))) end.steps end.ending t b.memo rest
+          (ap (λ (m : Memo). part (play_at s m (went.told ++ rest))) (sym none) ∙ there.0),
+      subst (λ (m : Option Noted). GotText m held now) (sym (ap (λ (m : Memo). makes (play_at s m (went.told ++ rest))) (sym none) ∙ there.1)) got,
+    )) in
+    (whole.0, whole.1, whole.2, whole.3, whole.4.0, whole.4.1)
 
 -- A trace whose steps were made, if they were.
-pub whole_on : (from to : Option ℕ) (limit : ℕ) (s t u : Session) (a b c : Player) (given mid left : Option (List ℕ)) (first : Played) (r : Result Played Refusal)
-    → a.memo ≡ no_memo → first.ending ≡ Until → WentOn (reached from) s a given mid first t b
-    → IfOk r (λ end. WentOn (played to limit) t b mid left end u c) → OnOk r (EndsAt c.is_over left)
-    → IfOk r (λ end. (input : List ℕ) × (rest : List ℕ) × AreBytesOf given input × AreBytesOf left rest × RanAs (traced from to limit (begun s input)) end u rest)
-whole_on from to limit s t u a b c given mid left first (Ok end) none until went on over =
-    whole_trace (traced from to limit) s u a c given left end none over (traced_on from to limit s t u a b c given mid left first end until went on)
-whole_on from to limit s t u a b c given mid left first (Err refusal) none until went on over = tt
+pub whole_on : (from to : Option ℕ) (limit : ℕ) (s t u : Session) (a b c : Player) (given mid left held now : Option (List ℕ)) (g h : Gathered) (first : Played) (r : Result Played Refusal)
+    → a.memo ≡ no_memo → first.ending ≡ Until → WentOn (reached from) (gathered_at from g) s a given mid first t b h
+    → IfOk r (λ end. (n : Noted) × WentOn (played to limit) (noting to limit h) t b mid left end u c n × GotText (Some n) held now) → OnOk r (EndsAt c.is_over left)
+    → IfOk r (λ end. (input : List ℕ) × (rest : List ℕ) × AreBytesOf given input × AreBytesOf left rest × RanAs (traced from to limit (begun s input)) end u rest
+    × GotText (trace_noted from to limit g (begun s input)) held now)
+whole_on from to limit s t u a b c given mid left held now g h first (Ok end) none until went on over =
+    whole_trace (traced from to limit) (trace_noted from to limit g) s u a c given left held now end (Some on.0) none over
+    (traced_on from to limit s t u a b c given mid left g h on.0 first end until went on.1) on.2
+whole_on from to limit s t u a b c given mid left held now g h first (Err refusal) none until went on over = tt
+
+-- The text at the end: what went to the writer before, and then the rest.
+pub got_text : (held mid now : Option (List ℕ)) (before sheet text : List ℕ) (g : Gathered) → before ≡ [] → Gathers held mid before sheet text → Appends mid now (text_at_end g sheet)
+    → GotText (Some (record { gathered = g; text = text })) held now
+got_text held mid now before sheet text g none gathers ended = (
+  gathers.written ++ text_at_end g sheet,
+  (gathers.written, sheet, sym (gathers.whole ∙ ap (λ xs. xs ++ text) none), refl),
+  Appends-trans held mid now gathers.written (text_at_end g sheet) gathers.appends ended,
+)
+
+-- A trace that is as long as was asked for.
+pub as_long : (a : TraceAsked) (from to : Option ℕ) (limit steps : ℕ) (s t : Session) (given left held now : Option (List ℕ)) (end : Played) → limit ≡ steps
+    → ((input : List ℕ) × (rest : List ℕ) × AreBytesOf given input × AreBytesOf left rest × RanAs (traced from to limit (begun s input)) end t rest × WroteNotes a (λ g. trace_noted from to limit g (begun s input)) held now)
+    → (input : List ℕ) × (rest : List ℕ) × AreBytesOf given input × AreBytesOf left rest × RanAs (traced from to steps (begun s input)) end t rest × WroteNotes a (λ g. trace_noted from to steps g (begun s input)) held now
+as_long a from to limit steps s t given left held now end same run =
+    subst (λ n. (input : List ℕ) × (rest : List ℕ) × AreBytesOf given input × AreBytesOf left rest × RanAs (traced from to n (begun s input)) end t rest × WroteNotes a (λ g. trace_noted from to n g (begun s input)) held now) same run
+
+-- Nothing was gathered before the trace of a file.
+pub wrote_notes : (a : TraceAsked) (from to : Option ℕ) (limit : ℕ) (s t : Session) (given left held now : Option (List ℕ)) (g : Gathered) (r : Result Played Refusal)
+    → ((sites : Sites) × (written : Option (List Bool)) × (is_some written ≡ a.finds_unwritten) × (g ≡ none_gathered a sites written))
+    → IfOk r (λ end. (input : List ℕ) × (rest : List ℕ) × AreBytesOf given input × AreBytesOf left rest × RanAs (traced from to limit (begun s input)) end t rest × GotText (trace_noted from to limit g (begun s input)) held now)
+    → IfOk r (λ end. (input : List ℕ) × (rest : List ℕ) × AreBytesOf given input × AreBytesOf left rest × RanAs (traced from to limit (begun s input)) end t rest × WroteNotes a (λ h. trace_noted from to limit h (begun s input)) held now)
+wrote_notes a from to limit s t given left held now g (Err refusal) new run = tt
+wrote_notes a from to limit s t given left held now g (Ok end) new run =
+    (run.0, run.1, run.2, run.3, run.4, (new.0, new.1, new.2, subst (λ h. GotText (trace_noted from to limit h (begun s run.0)) held now) new.3 run.5))

@@ -2,5 +2,6 @@ mod Done
 mod Gathering
 mod Going
 mod Keeping
+mod Making
 mod Noting
 mod Telling

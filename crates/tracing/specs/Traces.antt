@@ -1,6 +1,6 @@
--- Where a trace leads, and how its exit status tells of it. No clause can say which image and names a
+-- Where a trace leads, what it writes, and how its exit status tells of it. No clause can say which image and names a
 -- file stands for. Source: mos65.
-use Rattle.std.specs.Prelude.{◌≡◌, ◌⊎◌, ⊤, ℕ, true, Bool, if◌then◌else◌, List, ◌++◌, Option, Some, None, Result, Ok, Err}
+use Rattle.std.specs.Prelude.{◌≡◌, ◌⊎◌, ⊤, ℕ, true, Bool, if◌then◌else◌, List, [], ◌++◌, Option, Some, None, Result, Ok, Err, is_some}
 use Rattle.std.specs.Io.KnownBytes.{Consumes, IsAtEnd}
 use Rattle.console.specs.Playing.{Outcome, Play, begun, is_at, played}
 use Rattle.console.specs.Turns.{EndsOnce, MayCome, play_at}
@@ -18,9 +18,12 @@ use Rattle.model.specs.State.{State}
 use Rattle.program.specs.Statuses.{status_of}
 use Rattle.program.specs.declared.refusal.Refusal.{Refusal}
 use Rattle.running.specs.Places.{place_asked}
-use Rattle.running.specs.Runs.{IsUnloaded}
+use Rattle.running.specs.Runs.{IsUnloaded, Streams}
 use Rattle.running.specs.Statuses.{status_of_ending}
+use Rattle.trace_rows.specs.declared.sites.Sites.{Sites}
 use Rattle.trace_words.specs.Asked.{TraceAsked}
+use Rattle.tracing.specs.Gathered.{Gathered, none_gathered}
+use Rattle.tracing.specs.Texts.{GotText, Noted, by_steps, no_text, note_step, pass_step}
 
 -- ---- a trace
 
@@ -51,33 +54,61 @@ traced_after to limit before = by before.ending
 abbrev pub traced : Option ℕ → Option ℕ → ℕ → Play → Outcome
 traced from to limit p = traced_after to limit (reached from p)
 
+-- What is gathered where a trace begins.
+abbrev pub gathered_at : Option ℕ → Gathered → Play → Gathered
+gathered_at from g p = if is_begun from p.session.current then g
+    else by_steps pass_step from 18446744073709551615 p g
+
+-- What is noted of a run that led to the place where its trace begins, and of no other.
+abbrev pub noted_after : Option ℕ → ℕ → Gathered → Outcome → Option Noted
+noted_after to limit g before = by before.ending
+  where
+    by : Ending → Option Noted
+    by Until = Some (by_steps note_step to limit before.play (no_text g))
+    by why = None
+
+-- What a trace notes from one place to another.
+abbrev pub trace_noted : Option ℕ → Option ℕ → ℕ → Gathered → Play → Option Noted
+trace_noted from to limit g p = noted_after to limit (gathered_at from g p) (reached from p)
+
 -- ---- a part of a run
 
 -- A reader that is said to have ended gives nothing more.
 abbrev pub EndsAt : Bool → Option (List ℕ) → Type 0
 EndsAt is_over left = is_over ≡ true → IsAtEnd left
 
--- A part of a run went on in a session, from what its player remembered: what it read, and where
--- that leads, whatever comes after it.
-pub record WentOn (part : Play → Outcome) (s : Session) (before : Player) (given left : Option (List ℕ))
-    (end : Played) (t : Session) (after : Player) : Type 0 where
+-- A part of a run went on in a session, from what its player remembered: what it read, where that
+-- leads, and what its steps make of something, whatever comes after it.
+pub record WentOn {A : Type 0} (part : Play → Outcome) (makes : Play → A) (s : Session)
+    (before : Player) (given left : Option (List ℕ)) (end : Played) (t : Session) (after : Player)
+    (made : A) : Type 0 where
   pub told : List ℕ
   pub consumes : Consumes given left told
   pub once : EndsOnce before.is_over after.is_over told
   pub leads : (rest : List ℕ) → MayCome after.is_over rest
-      → part (play_at s before.memo (told ++ rest))
-      ≡ record { steps = end.steps; ending = end.ending; play = play_at t after.memo rest }
+      → (part (play_at s before.memo (told ++ rest))
+      ≡ record { steps = end.steps; ending = end.ending; play = play_at t after.memo rest })
+      × (makes (play_at s before.memo (told ++ rest)) ≡ made)
 
 -- ---- what the word does
 
+-- A writer got the text that a trace notes, by some sites, and by some addresses that count as
+-- written if reads of others are asked for.
+abbrev pub WroteNotes : TraceAsked → (Gathered → Option Noted) → Option (List ℕ)
+    → Option (List ℕ) → Type 0
+WroteNotes a notes held now = (sites : Sites) × (written : Option (List Bool))
+    × (is_some written ≡ a.finds_unwritten)
+    × GotText (notes (none_gathered a sites written)) held now
+
 -- A session was traced by the definition of a trace over some input, which is the reader's if its
--- bytes are known: what was not asked for is left.
-abbrev pub IsTraced : Session → Option ℕ → Option ℕ → ℕ → Option (List ℕ) → Option (List ℕ)
+-- bytes are known: what was not asked for is left, and what was noted was written.
+abbrev pub IsTraced : TraceAsked → Session → Option ℕ → Option ℕ → Streams
     → Result Outcome Refusal → Type 0
-IsTraced s from to limit given left (Ok end) = (input : List ℕ)
-    × (end ≡ traced from to limit (begun s input))
-    × AreBytesOf given input × AreBytesOf left end.play.input
-IsTraced s from to limit given left (Err refusal) = ⊤
+IsTraced a s from to streams (Ok end) = (input : List ℕ)
+    × (end ≡ traced from to a.steps (begun s input))
+    × AreBytesOf streams.given input × AreBytesOf streams.left end.play.input
+    × WroteNotes a (λ g. trace_noted from to a.steps g (begun s input)) streams.held streams.now
+IsTraced a s from to streams (Err refusal) = ⊤
 
 -- The exit status of a trace: 0 where the program came to its end, or to the end of the trace.
 abbrev pub status_of_trace : Result Outcome Refusal → ℕ
@@ -85,25 +116,23 @@ status_of_trace (Ok end) = status_of_ending end.ending 0
 status_of_trace (Err refusal) = status_of refusal
 
 -- A session was traced from one place to another.
-abbrev pub TracedTo : Option ℕ → Option ℕ → ℕ → Session → Option (List ℕ) → Option (List ℕ) → ℕ
-    → Type 0
-TracedTo from to limit s given left status = (outcome : Result Outcome Refusal)
-    × IsTraced s from to limit given left outcome × (status ≡ status_of_trace outcome)
+abbrev pub TracedTo : TraceAsked → Option ℕ → Option ℕ → Session → Streams → ℕ → Type 0
+TracedTo a from to s streams status = (outcome : Result Outcome Refusal)
+    × IsTraced a s from to streams outcome × (status ≡ status_of_trace outcome)
 
 -- A session was traced between the places of the words, if they are found; else the streams were
 -- left alone, `Alone`.
-abbrev pub TracedIfFound : Result (Option ℕ) ℕ → Result (Option ℕ) ℕ → ℕ → Session
-    → Option (List ℕ) → Option (List ℕ) → ℕ → Type 0 → Type 0
-TracedIfFound (Ok from) (Ok to) limit s given left status Alone
-    = TracedTo from to limit s given left status
-TracedIfFound (Ok from) (Err refused) limit s given left status Alone = (status ≡ refused) × Alone
-TracedIfFound (Err refused) to limit s given left status Alone = (status ≡ refused) × Alone
+abbrev pub TracedIfFound : TraceAsked → Result (Option ℕ) ℕ → Result (Option ℕ) ℕ → Session
+    → Streams → ℕ → Type 0 → Type 0
+TracedIfFound a (Ok from) (Ok to) s streams status Alone = TracedTo a from to s streams status
+TracedIfFound a (Ok from) (Err refused) s streams status Alone = (status ≡ refused) × Alone
+TracedIfFound a (Err refused) to s streams status Alone = (status ≡ refused) × Alone
 
 -- What was done for words: a file was not loaded, and the streams were left alone; or from the start
 -- of an image that it can have, on the map of the words and with the names of some source, a session
 -- was traced.
-abbrev pub IsDone : TraceAsked → Option (List ℕ) → Option (List ℕ) → ℕ → Type 0 → Type 0
-IsDone a given left status Alone = IsUnloaded a.file status Alone
+abbrev pub IsDone : TraceAsked → Streams → ℕ → Type 0 → Type 0
+IsDone a streams status Alone = IsUnloaded a.file status Alone
     ⊎ ((image : List (Option ℕ)) × IsLoaded a.file image × (names : Definitions)
-    × TracedIfFound (place_asked names a.from) (place_asked names a.to) a.steps
-    (new_session 0 (start (map_of a.file) image)) given left status Alone)
+    × TracedIfFound a (place_asked names a.from) (place_asked names a.to)
+    (new_session 0 (start (map_of a.file) image)) streams status Alone)

@@ -1,7 +1,7 @@
 //! What the word `trace` does.
 
-ghost use Rattle.std.specs.Prelude.{◌≡◌, ◌≤◌, ◌⊎◌, [], ◌∷◌, ℕ, List, None, Some, IfOk, OnOk};
-ghost use Rattle.std.specs.Prelude.{false, map};
+ghost use Rattle.std.specs.Prelude.{◌≡◌, ◌≤◌, ◌⊎◌, [], ◌∷◌, ℕ, List, None, IfOk, OnOk};
+ghost use Rattle.std.specs.Prelude.{Bool, Option, Some, false, is_some, map};
 ghost use Rattle.clap.specs.Words.{IsAmong, fault_of};
 ghost use Rattle.clap.specs.declared.error.kind.ErrorKind.TheVariants.{DisplayHelp};
 ghost use Rattle.console.specs.Playing.{begun, is_at, played};
@@ -11,11 +11,15 @@ ghost use Rattle.loading.specs.Place.{names_of};
 ghost use Rattle.loading.specs.Refused.{IsTakenBy};
 ghost use Rattle.model.specs.State.{input_waits, is_map};
 ghost use Rattle.running.specs.Places.{place_asked};
+ghost use Rattle.trace_rows.specs.declared.sites.Sites.{Sites};
 ghost use Rattle.trace_words.specs.Asked.{TraceAsked, asked};
 ghost use Rattle.trace_words.specs.CommandLine.{trace};
 ghost use Rattle.trace_words.specs.Views.{trace_view};
+ghost use Rattle.tracing.specs.Gathered.{Gathers, gathered, none_gathered};
+ghost use Rattle.tracing.specs.Texts.{GotText, Noted, by_steps, no_text, note_step, noted_in};
+ghost use Rattle.tracing.specs.Texts.{pass_step};
 ghost use Rattle.tracing.specs.Traces.{EndsAt, IsDone, TracedIfFound, TracedTo, WentOn};
-ghost use Rattle.tracing.specs.Traces.{is_begun, reached, traced};
+ghost use Rattle.tracing.specs.Traces.{WroteNotes, gathered_at, is_begun, reached, trace_noted, traced};
 
 use crate::tracer::Tracer;
 use console::{Ending, PlayFault, Played, Player, begin, take_turn};
@@ -72,8 +76,10 @@ fn run_to_place<R: Read, E: Write>(
     requires waits { Waits session.old.current player.old.waiting }
     requires over { EndsAt player.old.is_over (R.remaining input.old) }
     ensures ok { IfOk result (λ end. WentOn (played place 18446744073709551615)
+        (λ p. by_steps pass_step place 18446744073709551615 p (gathered tracer.old))
         session.old player.old (R.remaining input.old) (R.remaining input.new)
-        end session.new player.new) }
+        end session.new player.new (gathered tracer.new)) }
+    ensures sheet { tracer.new.sheet ≡ tracer.old.sheet }
     ensures waits { OnOk result (Waits session.new.current player.new.waiting) }
     ensures over { OnOk result (EndsAt player.new.is_over (R.remaining input.new)) }
 {
@@ -109,9 +115,10 @@ fn run_to_start<R: Read, E: Write>(
 ) -> Result<Played, PlayFault>
     requires waits { Waits session.old.current player.old.waiting }
     requires over { EndsAt player.old.is_over (R.remaining input.old) }
-    ensures ok { IfOk result (λ end. WentOn (reached from)
+    ensures ok { IfOk result (λ end. WentOn (reached from) (gathered_at from (gathered tracer.old))
         session.old player.old (R.remaining input.old) (R.remaining input.new)
-        end session.new player.new) }
+        end session.new player.new (gathered tracer.new)) }
+    ensures sheet { tracer.new.sheet ≡ tracer.old.sheet }
     ensures waits { OnOk result (Waits session.new.current player.new.waiting) }
     ensures over { OnOk result (EndsAt player.new.is_over (R.remaining input.new)) }
 {
@@ -137,9 +144,13 @@ fn run_noting<R: Read, O: Write, E: Write>(
 ) -> Result<Played, Refusal>
     requires waits { Waits session.old.current player.old.waiting }
     requires over { EndsAt player.old.is_over (R.remaining input.old) }
-    ensures ok { IfOk result (λ end. WentOn (played to limit)
+    // What the steps have noted: all that was gathered, and a text.
+    ensures ok { IfOk result (λ end. (text : List ℕ) × WentOn (played to limit)
+        (λ p. by_steps note_step to limit p (no_text (gathered tracer.old)))
         session.old player.old (R.remaining input.old) (R.remaining input.new)
-        end session.new player.new) }
+        end session.new player.new (noted_in tracer.new text)
+        × Gathers (O.contents output.old) (O.contents output.new)
+        tracer.old.sheet.text.items tracer.new.sheet.text.items text) }
     ensures over { OnOk result (EndsAt player.new.is_over (R.remaining input.new)) }
 {
     for steps in 0..limit {
@@ -169,7 +180,9 @@ fn written_of<H: Files + AllocGlobal>(
     rt: &H,
     words: &TraceWords<'_>,
     loaded: &Loaded,
-) -> Result<Option<Written>, Refusal> {
+) -> Result<Option<Written>, Refusal>
+    ensures { IfOk result (λ written. is_some written ≡ words.now.finds_unwritten) }
+{
     if !words.finds_unwritten {
         return Ok(None);
     }
@@ -194,15 +207,23 @@ fn make_tracer<'a, H: Files + AllocGlobal>(
     rt: &H,
     words: &TraceWords<'a>,
     loaded: &Loaded,
-) -> Result<Tracer<'a>, Refusal> {
+) -> Result<Tracer<'a>, Refusal>
+    ensures nothing { IfOk result (λ t. (sites : Sites) × (written : Option (List Bool))
+        × (is_some written ≡ words.now.finds_unwritten)
+        × (gathered t ≡ none_gathered (trace_view words.now) sites written)) }
+    ensures sheet { IfOk result (λ t. t.sheet.text.items ≡ []) }
+{
     let alloc = rt.alloc();
     let sites = match &loaded.assembly {
         None => Ok(Sites::new(alloc)),
         Some(assembly) => Sites::of_source(alloc, assembly),
     };
     let written = written_of(rt, words, loaded)?;
-    match sites {
-        Ok(sites) => Tracer::new(alloc, words, sites, written).map_err(|_| Refusal::OutOfMemory),
+    let Ok(sites) = sites else {
+        return Err(Refusal::OutOfMemory);
+    };
+    match Tracer::new(alloc, words, sites, written) {
+        Ok(tracer) => Ok(tracer),
         Err(_) => Err(Refusal::OutOfMemory),
     }
 }
@@ -220,9 +241,12 @@ fn trace_on<R: Read, O: Write, E: Write>(
 ) -> Result<Played, Refusal>
     requires waits { Waits session.old.current player.old.waiting }
     requires over { EndsAt player.old.is_over (R.remaining input.old) }
-    ensures ok { IfOk result (λ end. WentOn (played span.to span.limit)
+    requires sheet { tracer.old.sheet.text.items ≡ [] }
+    ensures ok { IfOk result (λ end. (noted : Noted) × WentOn (played span.to span.limit)
+        (λ p. by_steps note_step span.to span.limit p (no_text (gathered tracer.old)))
         session.old player.old (R.remaining input.old) (R.remaining input.new)
-        end session.new player.new) }
+        end session.new player.new noted
+        × GotText (Some noted) (O.contents output.old) (O.contents output.new)) }
     ensures over { OnOk result (EndsAt player.new.is_over (R.remaining input.new)) }
 {
     let played = run_noting(
@@ -248,13 +272,15 @@ fn trace_between<R: Read, O: Write, E: Write>(
     output: &mut O,
     errors: &mut E,
 ) -> Result<Played, Refusal>
-    requires { input_waits session.old.current.bus ≡ false }
+    requires waits { input_waits session.old.current.bus ≡ false }
+    requires sheet { tracer.old.sheet.text.items ≡ [] }
     // The trace is the definition's over some input, which is the reader's if its bytes are known;
-    // what it did not ask for is left.
+    // what it did not ask for is left. The writer got what the definition notes.
     ensures { IfOk result (λ end. (told : List ℕ) × (left : List ℕ)
         × AreBytesOf (R.remaining input.old) told × AreBytesOf (R.remaining input.new) left
         × RanAs (traced span.from span.to span.limit (begun session.old told)) end session.new
-        left) }
+        left × GotText (trace_noted span.from span.to span.limit (gathered tracer.old)
+        (begun session.old told)) (O.contents output.old) (O.contents output.new)) }
 {
     let mut player = begin(session);
     let reached = match run_to_start(tracer, session, &mut player, span.from, input, errors) {
@@ -293,7 +319,9 @@ fn trace_span<H: Files + AllocGlobal, R: Read, O: Write, E: Write>(
     ensures { IfOk result (λ end. (told : List ℕ) × (left : List ℕ)
         × AreBytesOf (R.remaining input.old) told × AreBytesOf (R.remaining input.new) left
         × RanAs (traced span.from span.to span.limit (begun loaded.old.session told)) end
-        loaded.new.session left) }
+        loaded.new.session left × WroteNotes (trace_view words.now)
+        (λ g. trace_noted span.from span.to span.limit g (begun loaded.old.session told))
+        (O.contents output.old) (O.contents output.new)) }
 {
     let mut tracer = make_tracer(rt, words, loaded)?;
     let session = &mut loaded.session;
@@ -318,9 +346,14 @@ fn trace_told<H: Files + AllocGlobal, R: Read, O: Write, E: Write>(
     output: &mut O,
     errors: &mut E,
 ) -> u8
-    requires { input_waits loaded.old.session.current.bus ≡ false }
-    ensures { TracedTo span.from span.to span.limit loaded.old.session
-        (R.remaining input.old) (R.remaining input.new) result }
+    requires idle { input_waits loaded.old.session.current.bus ≡ false }
+    requires limit { span.limit ≡ words.now.steps }
+    ensures { TracedTo (trace_view words.now) span.from span.to loaded.old.session (record {
+      given = R.remaining input.old;
+      left = R.remaining input.new;
+      held = O.contents output.old;
+      now = O.contents output.new;
+    }) result }
 {
     match trace_span(rt, words, loaded, span, input, output, errors) {
         Ok(played) => {
@@ -341,11 +374,15 @@ fn trace_loaded<H: Files + AllocGlobal, R: Read, O: Write, E: Write>(
     errors: &mut E,
 ) -> u8
     requires { input_waits loaded.old.session.current.bus ≡ false }
-    ensures { TracedIfFound
+    ensures { TracedIfFound (trace_view words.now)
         (place_asked (names_of loaded.old.assembly) (trace_view words.now).from)
         (place_asked (names_of loaded.old.assembly) (trace_view words.now).to)
-        words.now.steps loaded.old.session (R.remaining input.old) (R.remaining input.new) result
-        ((input.new ≡ input.old) × (output.new ≡ output.old)) }
+        loaded.old.session (record {
+          given = R.remaining input.old;
+          left = R.remaining input.new;
+          held = O.contents output.old;
+          now = O.contents output.new;
+        }) result ((input.new ≡ input.old) × (output.new ≡ output.old)) }
 {
     let from = match place_named(loaded, words.from, errors) {
         Ok(from) => from,
@@ -371,8 +408,12 @@ fn trace_words<H: Files + AllocGlobal, R: Read, O: Write, E: Write>(
     output: &mut O,
     errors: &mut E,
 ) -> u8
-    ensures done { IsDone (trace_view words.now) (R.remaining input.old) (R.remaining input.new)
-        result ((input.new ≡ input.old) × (output.new ≡ output.old)) }
+    ensures done { IsDone (trace_view words.now) (record {
+      given = R.remaining input.old;
+      left = R.remaining input.new;
+      held = O.contents output.old;
+      now = O.contents output.new;
+    }) result ((input.new ≡ input.old) × (output.new ≡ output.old)) }
     ensures bad_map { is_map words.now.file.rom words.now.file.port ≡ false → result ≡ 2 }
 {
     match load_at_start(rt, &words.file) {
@@ -396,11 +437,15 @@ pub fn trace_program<H: Files + AllocGlobal, R: Read, O: Write, E: Write>(
     errors: &mut E,
 ) -> u8
     // Words that fit the command line, with right values: their file was loaded and traced by the
-    // definition of a trace, or it was not and the streams are unchanged, as the status says.
+    // definition of a trace, and what that notes was written; or it was not and the streams are
+    // unchanged, as the status says.
     ensures done { (a : TraceAsked) → asked (map (λ s. s.now) words.entry.now) ≡ Some a
-        → IsTakenBy trace (map (λ s. s.now) words.entry.now)
-        → IsDone a (R.remaining input.old) (R.remaining input.new) result
-        ((input.new ≡ input.old) × (output.new ≡ output.old)) }
+        → IsTakenBy trace (map (λ s. s.now) words.entry.now) → IsDone a (record {
+          given = R.remaining input.old;
+          left = R.remaining input.new;
+          held = O.contents output.old;
+          now = O.contents output.new;
+        }) result ((input.new ≡ input.old) × (output.new ≡ output.old)) }
     // Other words read nothing, and write nothing on the output but help.
     ensures untaken { ¬ IsTakenBy trace (map (λ s. s.now) words.entry.now)
         → (input.new ≡ input.old) × (1 ≤ result → result ≤ 3 → output.new ≡ output.old) }

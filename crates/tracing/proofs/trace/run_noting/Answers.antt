@@ -2,11 +2,16 @@ use Rattle.std.proofs.Common.{◌≡◌, ◌+◌, ◌++◌, [], true, false, Som
 use Rattle.std.proofs.KnownBytes.{Consumes-nil, Consumes-trans}
 use Rattle.console.specs.Playing.{is_at}
 use Rattle.console.proofs.Turning.{ends_at, ends_full, ends_with, runs_none, runs_on, still_over}
+use Rattle.tracing.specs.Gathered.{gathered, text_of_step}
+use Rattle.tracing.specs.Texts.{no_text, note_step, noted_in}
+use Rattle.tracing.proofs.Gathering.{gathers_both, gathers_none}
 use Rattle.tracing.proofs.Going.{once_both, once_none}
+use Rattle.tracing.proofs.Making.{makes_at, makes_full, makes_none, makes_on, makes_with, noted_on}
 use Rattle.tracing.proofs.trace.run_noting.Goals as goal
 
 pub loop-steps-init : goal.loop-steps-init
 loop-steps-init g c = (
+  [],
   [],
   record {
     consumes = Consumes-nil _;
@@ -14,6 +19,8 @@ loop-steps-init g c = (
     waits = c.requires.waits;
     over = c.requires.over;
     runs = runs_none c.args.to c.args.limit c.args.session.now c.args.player.now.memo c.args.player.now.is_over;
+    makes = makes_none note_step c.args.to c.args.limit c.args.session.now c.args.player.now.memo c.args.player.now.is_over (no_text (gathered c.args.tracer.now));
+    text = gathers_none _ _ _ _ refl refl;
   },
 )
 
@@ -23,19 +30,27 @@ returns-in-Ok-Some-clause-ok g c =
     let l = c.loop-steps in
     let turn = rw c.in-Ok-Some.field-0-is at c.in-Ok-Some.ensures.ok in
     let u = c.take_turn.new.session in
-    let p = c.take_turn.new.player in record {
-      told = inv.0 ++ turn.0;
-      consumes = Consumes-trans _ _ _ inv.0 turn.0 inv.1.consumes turn.1;
-      once = once_both c.args.player.now.is_over l.player.is_over p.is_over inv.0 turn.0 inv.1.once turn.3;
-      leads = ends_with c.args.to c.args.limit c.args.session.now c.args.player.now.memo inv.0 l.player.is_over l.steps l.session l.player.memo inv.1.runs c.loop-steps-test.true
-          turn.0 p.is_over (Some c.in-Ok-Some.ending) u p.memo turn.3 turn.4 c.in-Ok-Some.ending refl;
-    }
+    let p = c.take_turn.new.player in (
+      inv.1,
+      record {
+        told = inv.0 ++ turn.0;
+        consumes = Consumes-trans _ _ _ inv.0 turn.0 inv.2.consumes turn.1;
+        once = once_both c.args.player.now.is_over l.player.is_over p.is_over inv.0 turn.0 inv.2.once turn.3;
+        leads = λ rest may. (
+          ends_with c.args.to c.args.limit c.args.session.now c.args.player.now.memo inv.0 l.player.is_over l.steps l.session l.player.memo inv.2.runs c.loop-steps-test.true
+              turn.0 p.is_over (Some c.in-Ok-Some.ending) u p.memo turn.3 turn.4 c.in-Ok-Some.ending refl rest may,
+          makes_with note_step c.args.to c.args.limit c.args.session.now c.args.player.now.memo inv.0 l.player.is_over l.steps l.session l.player.memo (no_text (gathered c.args.tracer.now)) (noted_in l.tracer inv.1) inv.2.makes c.loop-steps-test.true
+              turn.0 p.is_over (Some c.in-Ok-Some.ending) u p.memo turn.3 turn.4 c.in-Ok-Some.ending refl rest may,
+        );
+      },
+      inv.2.text,
+    )
 
 pub returns-in-Ok-Some-clause-over : goal.returns-in-Ok-Some-clause-over
 returns-in-Ok-Some-clause-over g c =
     let inv = c.loop-steps.invariant in
     let turn = rw c.in-Ok-Some.field-0-is at c.in-Ok-Some.ensures.ok in
-    still_over c.loop-steps.player.is_over c.take_turn.new.player.is_over _ _ turn.2 inv.1.over
+    still_over c.loop-steps.player.is_over c.take_turn.new.player.is_over _ _ turn.2 inv.2.over
 
 pub returns-then-is_at-clause-ok : goal.returns-then-is_at-clause-ok
 returns-then-is_at-clause-ok g c =
@@ -44,19 +59,29 @@ returns-then-is_at-clause-ok g c =
     let turn = rw c.in-Ok-None.field-0-is at c.in-Ok-None.ensures.ok in
     let u = c.take_turn.new.session in
     let p = c.take_turn.new.player in
-    let at' : is_at c.args.to u.current ≡ true = sym c.is_at.ensures ∙ c.if-is_at.true in record {
-      told = inv.0 ++ turn.0;
-      consumes = Consumes-trans _ _ _ inv.0 turn.0 inv.1.consumes turn.1;
-      once = once_both c.args.player.now.is_over l.player.is_over p.is_over inv.0 turn.0 inv.1.once turn.3;
-      leads = ends_at c.args.to c.args.limit c.args.session.now c.args.player.now.memo inv.0 l.player.is_over l.steps l.session l.player.memo inv.1.runs c.loop-steps-test.true
-          turn.0 p.is_over None u p.memo turn.3 turn.4 refl at';
-    }
+    let ahead = c.look_ahead-ahead.result in
+    let step = text_of_step u.current ahead (gathered l.tracer) in
+    let at' : is_at c.args.to u.current ≡ true = sym c.is_at.ensures ∙ c.if-is_at.true in (
+      inv.1 ++ step,
+      record {
+        told = inv.0 ++ turn.0;
+        consumes = Consumes-trans _ _ _ inv.0 turn.0 inv.2.consumes turn.1;
+        once = once_both c.args.player.now.is_over l.player.is_over p.is_over inv.0 turn.0 inv.2.once turn.3;
+        leads = λ rest may. (
+          ends_at c.args.to c.args.limit c.args.session.now c.args.player.now.memo inv.0 l.player.is_over l.steps l.session l.player.memo inv.2.runs c.loop-steps-test.true
+              turn.0 p.is_over None u p.memo turn.3 turn.4 refl at' rest may,
+          makes_at note_step c.args.to c.args.limit c.args.session.now c.args.player.now.memo inv.0 l.player.is_over l.steps l.session l.player.memo (no_text (gathered c.args.tracer.now)) (noted_in l.tracer inv.1) inv.2.makes c.loop-steps-test.true
+              turn.0 p.is_over None u p.memo turn.3 turn.4 (noted_in c.note.new.self (inv.1 ++ step)) (noted_on l.session.current u.current l.tracer c.note.new.self ahead inv.1 c.look_ahead-ahead.ensures c.in_ok-note.ensures.noted) refl at' rest may,
+        );
+      },
+      gathers_both _ (g.O.Write.contents l.output) _ _ l.tracer.sheet.text.items _ inv.1 step inv.2.text c.in_ok-note.ensures.gathered,
+    )
 
 pub returns-then-is_at-clause-over : goal.returns-then-is_at-clause-over
 returns-then-is_at-clause-over g c =
     let inv = c.loop-steps.invariant in
     let turn = rw c.in-Ok-None.field-0-is at c.in-Ok-None.ensures.ok in
-    still_over c.loop-steps.player.is_over c.take_turn.new.player.is_over _ _ turn.2 inv.1.over
+    still_over c.loop-steps.player.is_over c.take_turn.new.player.is_over _ _ turn.2 inv.2.over
 
 pub loop-steps-preserved : goal.loop-steps-preserved
 loop-steps-preserved g c =
@@ -65,27 +90,40 @@ loop-steps-preserved g c =
     let turn = rw c.in-Ok-None.field-0-is at c.in-Ok-None.ensures.ok in
     let u = c.take_turn.new.session in
     let p = c.take_turn.new.player in
+    let ahead = c.look_ahead-ahead.result in
+    let step = text_of_step u.current ahead (gathered l.tracer) in
     let off : is_at c.args.to u.current ≡ false = sym c.is_at.ensures ∙ c.if-is_at.false in (
       inv.0 ++ turn.0,
+      inv.1 ++ step,
       record {
-        consumes = Consumes-trans _ _ _ inv.0 turn.0 inv.1.consumes turn.1;
-        once = once_both c.args.player.now.is_over l.player.is_over p.is_over inv.0 turn.0 inv.1.once turn.3;
+        consumes = Consumes-trans _ _ _ inv.0 turn.0 inv.2.consumes turn.1;
+        once = once_both c.args.player.now.is_over l.player.is_over p.is_over inv.0 turn.0 inv.2.once turn.3;
         waits = c.in-Ok-None.ensures.waits;
-        over = still_over l.player.is_over p.is_over _ _ turn.2 inv.1.over;
-        runs = runs_on c.args.to c.args.limit c.args.session.now c.args.player.now.memo inv.0 l.player.is_over l.steps l.session l.player.memo inv.1.runs c.loop-steps-test.true
+        over = still_over l.player.is_over p.is_over _ _ turn.2 inv.2.over;
+        runs = runs_on c.args.to c.args.limit c.args.session.now c.args.player.now.memo inv.0 l.player.is_over l.steps l.session l.player.memo inv.2.runs c.loop-steps-test.true
             turn.0 p.is_over None u p.memo turn.3 turn.4 refl off;
+        makes = makes_on note_step c.args.to c.args.limit c.args.session.now c.args.player.now.memo inv.0 l.player.is_over l.steps l.session l.player.memo (no_text (gathered c.args.tracer.now)) (noted_in l.tracer inv.1) inv.2.makes c.loop-steps-test.true
+            turn.0 p.is_over None u p.memo turn.3 turn.4 (noted_in c.note.new.self (inv.1 ++ step)) (noted_on l.session.current u.current l.tracer c.note.new.self ahead inv.1 c.look_ahead-ahead.ensures c.in_ok-note.ensures.noted) refl off;
+        text = gathers_both _ (g.O.Write.contents l.output) _ _ l.tracer.sheet.text.items _ inv.1 step inv.2.text c.in_ok-note.ensures.gathered;
       },
     )
 
 pub returns-clause-ok : goal.returns-clause-ok
 returns-clause-ok g c =
     let inv = c.loop-steps.invariant in
-    let l = c.loop-steps in record {
-      told = inv.0;
-      consumes = inv.1.consumes;
-      once = inv.1.once;
-      leads = ends_full c.args.to c.args.limit c.args.session.now c.args.player.now.memo inv.0 l.player.is_over l.steps l.session l.player.memo inv.1.runs (omega (arith, c.loop-steps-test.false)) (omega (arith, c.loop-steps.auto.steps-end));
-    }
+    let l = c.loop-steps in (
+      inv.1,
+      record {
+        told = inv.0;
+        consumes = inv.2.consumes;
+        once = inv.2.once;
+        leads = λ rest may. (
+          ends_full c.args.to c.args.limit c.args.session.now c.args.player.now.memo inv.0 l.player.is_over l.steps l.session l.player.memo inv.2.runs (omega (arith, c.loop-steps-test.false)) (omega (arith, c.loop-steps.auto.steps-end)) rest may,
+          makes_full note_step c.args.to c.args.limit c.args.session.now c.args.player.now.memo inv.0 l.player.is_over l.steps l.session l.player.memo (no_text (gathered c.args.tracer.now)) (noted_in l.tracer inv.1) inv.2.makes (omega (arith, c.loop-steps-test.false)) rest may,
+        );
+      },
+      inv.2.text,
+    )
 
 pub returns-clause-over : goal.returns-clause-over
-returns-clause-over g c = c.loop-steps.invariant.1.over
+returns-clause-over g c = c.loop-steps.invariant.2.over

@@ -4,13 +4,18 @@ use Rattle.console.proofs.Turning.{RunsOn}
 use Rattle.console.specs.Taking.{Waits}
 use Rattle.console.specs.Turns.{EndsOnce}
 use Rattle.tracing.specs.Traces.{EndsAt}
+use Rattle.tracing.specs.Gathered.{Gathers, gathered}
+use Rattle.tracing.specs.Texts.{no_text, note_step, noted_in}
+use Rattle.tracing.proofs.Making.{MakesOn}
 use Rattle.tracing.proofs.trace.run_noting.Given as goal
 
 abbrev pub invariant-loop-steps : goal.invariant-loop-steps
-invariant-loop-steps g l = (told : List ℕ) × record {
+invariant-loop-steps g l = (told : List ℕ) × (noted : List ℕ) × record {
   consumes : Consumes (g.R.Read.remaining l.fn.input) (g.R.Read.remaining l.input) told;
   once : EndsOnce l.fn.player.is_over l.player.is_over told;
   waits : Waits l.session.current l.player.waiting;
   over : EndsAt l.player.is_over (g.R.Read.remaining l.input);
   runs : RunsOn l.fn.to l.fn.limit l.fn.session l.fn.player.memo told l.player.is_over l.steps l.session l.player.memo;
+  makes : MakesOn note_step l.fn.to l.fn.limit l.fn.session l.fn.player.memo told l.player.is_over l.steps l.session l.player.memo (no_text (gathered l.fn.tracer)) (noted_in l.tracer noted);
+  text : Gathers (g.O.Write.contents l.fn.output) (g.O.Write.contents l.output) l.fn.tracer.sheet.text.items l.tracer.sheet.text.items noted;
 }

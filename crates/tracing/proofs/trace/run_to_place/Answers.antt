@@ -1,8 +1,11 @@
-use Rattle.std.proofs.Common.{◌≡◌, ◌+◌, ◌++◌, [], true, false, Some, None, arith, refl, sym, ◌∙◌}
+use Rattle.std.proofs.Common.{◌≡◌, ◌+◌, ◌++◌, [], true, false, Some, None, arith, refl, sym, ap, ◌∙◌}
 use Rattle.std.proofs.KnownBytes.{Consumes-nil, Consumes-trans}
 use Rattle.console.specs.Playing.{is_at}
 use Rattle.console.proofs.Turning.{ends_at, ends_full, ends_with, runs_none, runs_on, still_over}
+use Rattle.tracing.specs.Gathered.{gathered, passed}
+use Rattle.tracing.specs.Texts.{pass_step}
 use Rattle.tracing.proofs.Going.{once_both, once_none}
+use Rattle.tracing.proofs.Making.{makes_at, makes_full, makes_none, makes_on, makes_with}
 use Rattle.tracing.proofs.trace.run_to_place.Goals as goal
 
 pub loop-steps-init : goal.loop-steps-init
@@ -14,6 +17,8 @@ loop-steps-init g c = (
     waits = c.requires.waits;
     over = c.requires.over;
     runs = runs_none c.args.place 18446744073709551615 c.args.session.now c.args.player.now.memo c.args.player.now.is_over;
+    makes = makes_none pass_step c.args.place 18446744073709551615 c.args.session.now c.args.player.now.memo c.args.player.now.is_over (gathered c.args.tracer.now);
+    sheet = refl;
   },
 )
 
@@ -27,8 +32,12 @@ returns-in-Ok-Some-clause-ok g c =
       told = inv.0 ++ turn.0;
       consumes = Consumes-trans _ _ _ inv.0 turn.0 inv.1.consumes turn.1;
       once = once_both c.args.player.now.is_over l.player.is_over p.is_over inv.0 turn.0 inv.1.once turn.3;
-      leads = ends_with c.args.place 18446744073709551615 c.args.session.now c.args.player.now.memo inv.0 l.player.is_over l.steps l.session l.player.memo inv.1.runs c.loop-steps-test.true
-          turn.0 p.is_over (Some c.in-Ok-Some.ending) u p.memo turn.3 turn.4 c.in-Ok-Some.ending refl;
+      leads = λ rest may. (
+        ends_with c.args.place 18446744073709551615 c.args.session.now c.args.player.now.memo inv.0 l.player.is_over l.steps l.session l.player.memo inv.1.runs c.loop-steps-test.true
+            turn.0 p.is_over (Some c.in-Ok-Some.ending) u p.memo turn.3 turn.4 c.in-Ok-Some.ending refl rest may,
+        makes_with pass_step c.args.place 18446744073709551615 c.args.session.now c.args.player.now.memo inv.0 l.player.is_over l.steps l.session l.player.memo (gathered c.args.tracer.now) (gathered l.tracer) inv.1.makes c.loop-steps-test.true
+            turn.0 p.is_over (Some c.in-Ok-Some.ending) u p.memo turn.3 turn.4 c.in-Ok-Some.ending refl rest may,
+      );
     }
 
 pub returns-in-Ok-Some-clause-over : goal.returns-in-Ok-Some-clause-over
@@ -48,8 +57,12 @@ returns-then-is_at-clause-ok g c =
       told = inv.0 ++ turn.0;
       consumes = Consumes-trans _ _ _ inv.0 turn.0 inv.1.consumes turn.1;
       once = once_both c.args.player.now.is_over l.player.is_over p.is_over inv.0 turn.0 inv.1.once turn.3;
-      leads = ends_at c.args.place 18446744073709551615 c.args.session.now c.args.player.now.memo inv.0 l.player.is_over l.steps l.session l.player.memo inv.1.runs c.loop-steps-test.true
-          turn.0 p.is_over None u p.memo turn.3 turn.4 refl at';
+      leads = λ rest may. (
+        ends_at c.args.place 18446744073709551615 c.args.session.now c.args.player.now.memo inv.0 l.player.is_over l.steps l.session l.player.memo inv.1.runs c.loop-steps-test.true
+            turn.0 p.is_over None u p.memo turn.3 turn.4 refl at' rest may,
+        makes_at pass_step c.args.place 18446744073709551615 c.args.session.now c.args.player.now.memo inv.0 l.player.is_over l.steps l.session l.player.memo (gathered c.args.tracer.now) (gathered l.tracer) inv.1.makes c.loop-steps-test.true
+            turn.0 p.is_over None u p.memo turn.3 turn.4 (gathered c.pass.new.self) (c.pass.ensures.passed ∙ ap (λ x. passed u.current x (gathered l.tracer)) c.look_ahead-ahead.ensures) refl at' rest may,
+      );
     }
 
 pub returns-then-is_at-clause-over : goal.returns-then-is_at-clause-over
@@ -74,6 +87,9 @@ loop-steps-preserved g c =
         over = still_over l.player.is_over p.is_over _ _ turn.2 inv.1.over;
         runs = runs_on c.args.place 18446744073709551615 c.args.session.now c.args.player.now.memo inv.0 l.player.is_over l.steps l.session l.player.memo inv.1.runs c.loop-steps-test.true
             turn.0 p.is_over None u p.memo turn.3 turn.4 refl off;
+        makes = makes_on pass_step c.args.place 18446744073709551615 c.args.session.now c.args.player.now.memo inv.0 l.player.is_over l.steps l.session l.player.memo (gathered c.args.tracer.now) (gathered l.tracer) inv.1.makes c.loop-steps-test.true
+            turn.0 p.is_over None u p.memo turn.3 turn.4 (gathered c.pass.new.self) (c.pass.ensures.passed ∙ ap (λ x. passed u.current x (gathered l.tracer)) c.look_ahead-ahead.ensures) refl off;
+        sheet = c.pass.ensures.sheet ∙ inv.1.sheet;
       },
     )
 
@@ -84,7 +100,10 @@ returns-clause-ok g c =
       told = inv.0;
       consumes = inv.1.consumes;
       once = inv.1.once;
-      leads = ends_full c.args.place 18446744073709551615 c.args.session.now c.args.player.now.memo inv.0 l.player.is_over l.steps l.session l.player.memo inv.1.runs (omega (arith, c.loop-steps-test.false)) (omega (arith, c.loop-steps.auto.steps-end));
+      leads = λ rest may. (
+        ends_full c.args.place 18446744073709551615 c.args.session.now c.args.player.now.memo inv.0 l.player.is_over l.steps l.session l.player.memo inv.1.runs (omega (arith, c.loop-steps-test.false)) (omega (arith, c.loop-steps.auto.steps-end)) rest may,
+        makes_full pass_step c.args.place 18446744073709551615 c.args.session.now c.args.player.now.memo inv.0 l.player.is_over l.steps l.session l.player.memo (gathered c.args.tracer.now) (gathered l.tracer) inv.1.makes (omega (arith, c.loop-steps-test.false)) rest may,
+      );
     }
 
 pub returns-clause-over : goal.returns-clause-over

@@ -1,9 +1,12 @@
-use Rattle.std.proofs.Common.{List, ℕ}
+use Rattle.std.proofs.Common.{◌≡◌, List, ℕ}
 use Rattle.std.specs.Io.KnownBytes.{Consumes}
 use Rattle.console.proofs.Turning.{RunsOn}
 use Rattle.console.specs.Taking.{Waits}
 use Rattle.console.specs.Turns.{EndsOnce}
 use Rattle.tracing.specs.Traces.{EndsAt}
+use Rattle.tracing.specs.Gathered.{gathered}
+use Rattle.tracing.specs.Texts.{pass_step}
+use Rattle.tracing.proofs.Making.{MakesOn}
 use Rattle.tracing.proofs.trace.run_to_place.Given as goal
 
 abbrev pub invariant-loop-steps : goal.invariant-loop-steps
@@ -13,4 +16,6 @@ invariant-loop-steps g l = (told : List ℕ) × record {
   waits : Waits l.session.current l.player.waiting;
   over : EndsAt l.player.is_over (g.R.Read.remaining l.input);
   runs : RunsOn l.fn.place 18446744073709551615 l.fn.session l.fn.player.memo told l.player.is_over l.steps l.session l.player.memo;
+  makes : MakesOn pass_step l.fn.place 18446744073709551615 l.fn.session l.fn.player.memo told l.player.is_over l.steps l.session l.player.memo (gathered l.fn.tracer) (gathered l.tracer);
+  sheet : l.tracer.sheet ≡ l.fn.tracer.sheet;
 }

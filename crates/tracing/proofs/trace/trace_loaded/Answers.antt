@@ -8,18 +8,32 @@ use Rattle.tracing.proofs.trace.trace_loaded.Goals as goal
 pub returns-in-Err : goal.returns-in-Err
 returns-in-Err g c =
     let names = names_of c.args.loaded.now.assembly in let a = trace_view c.args.words.now in
-    unfound_from (place_asked names a.from) (place_asked names a.to) c.args.words.now.steps c.args.loaded.now.session (g.R.Read.remaining c.args.input.now) (g.R.Read.remaining c.args.input.now)
+    unfound_from a (place_asked names a.from) (place_asked names a.to) c.args.loaded.now.session (record {
+      given = g.R.Read.remaining c.args.input.now;
+      left = g.R.Read.remaining c.args.input.now;
+      held = g.O.Write.contents c.args.output.now;
+      now = g.O.Write.contents c.args.output.now;
+    })
     c.in-Err.status ((c.args.input.now ≡ c.args.input.now) × (c.args.output.now ≡ c.args.output.now)) c.in-Err.ensures.place (refl, refl)
 
 pub returns-in-Err-place_named : goal.returns-in-Err-place_named
 returns-in-Err-place_named g c =
     let names = names_of c.args.loaded.now.assembly in let a = trace_view c.args.words.now in
-    unfound_to c.in-Ok.from (place_asked names a.from) (place_asked names a.to) c.args.words.now.steps c.args.loaded.now.session (g.R.Read.remaining c.args.input.now) (g.R.Read.remaining c.args.input.now)
+    unfound_to a c.in-Ok.from (place_asked names a.from) (place_asked names a.to) c.args.loaded.now.session (record {
+      given = g.R.Read.remaining c.args.input.now;
+      left = g.R.Read.remaining c.args.input.now;
+      held = g.O.Write.contents c.args.output.now;
+      now = g.O.Write.contents c.args.output.now;
+    })
     c.in-Err-place_named.status ((c.args.input.now ≡ c.args.input.now) × (c.args.output.now ≡ c.args.output.now)) c.in-Ok.ensures.place c.in-Err-place_named.ensures.place (refl, refl)
 
 pub returns : goal.returns
 returns g c =
     let names = names_of c.args.loaded.now.assembly in let a = trace_view c.args.words.now in
-    traced_between c.in-Ok.from c.in-Ok-place_named.to (place_asked names a.from) (place_asked names a.to) c.args.words.now.steps c.args.loaded.now.session
-    (g.R.Read.remaining c.args.input.now) (g.R.Read.remaining c.trace_told.new.input) c.trace_told.result
+    traced_between a c.in-Ok.from c.in-Ok-place_named.to (place_asked names a.from) (place_asked names a.to) c.args.loaded.now.session (record {
+      given = g.R.Read.remaining c.args.input.now;
+      left = g.R.Read.remaining c.trace_told.new.input;
+      held = g.O.Write.contents c.args.output.now;
+      now = g.O.Write.contents c.trace_told.new.output;
+    }) c.trace_told.result
     ((c.trace_told.new.input ≡ c.args.input.now) × (c.trace_told.new.output ≡ c.args.output.now)) c.in-Ok.ensures.place c.in-Ok-place_named.ensures.place c.trace_told.ensures

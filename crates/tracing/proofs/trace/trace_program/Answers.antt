@@ -10,7 +10,12 @@ use Rattle.tracing.proofs.trace.trace_program.Goals as goal
 
 pub returns-in-Ok-clause-done : goal.returns-in-Ok-clause-done
 returns-in-Ok-clause-done g c a h taken =
-    subst (λ (b : TraceAsked). IsDone b (g.R.Read.remaining c.args.input.now) (g.R.Read.remaining c.trace_words.new.input) c.trace_words.result
+    subst (λ (b : TraceAsked). IsDone b (record {
+      given = g.R.Read.remaining c.args.input.now;
+      left = g.R.Read.remaining c.trace_words.new.input;
+      held = g.O.Write.contents c.args.output.now;
+      now = g.O.Write.contents c.trace_words.new.output;
+    }) c.trace_words.result
     ((c.trace_words.new.input ≡ c.args.input.now) × (c.trace_words.new.output ≡ c.args.output.now)))
     (one_asked _ (trace_view c.in-Ok.words) a c.in-Ok.ensures.asked h) c.trace_words.ensures.done
 

@@ -6,6 +6,10 @@ use Rattle.tracing.proofs.trace.trace_words.Goals as goal
 
 pub returns-in-Ok-clause-done : goal.returns-in-Ok-clause-done
 returns-in-Ok-clause-done g c =
-    traced_file (trace_view c.args.words.now) c.in-Ok.loaded.session (names_of c.in-Ok.loaded.assembly) c.in-Ok.ensures.started.0
-    (g.R.Read.remaining c.args.input.now) (g.R.Read.remaining c.trace_loaded.new.input) c.trace_loaded.result
+    traced_file (trace_view c.args.words.now) c.in-Ok.loaded.session (names_of c.in-Ok.loaded.assembly) c.in-Ok.ensures.started.0 (record {
+      given = g.R.Read.remaining c.args.input.now;
+      left = g.R.Read.remaining c.trace_loaded.new.input;
+      held = g.O.Write.contents c.args.output.now;
+      now = g.O.Write.contents c.trace_loaded.new.output;
+    }) c.trace_loaded.result
     ((c.trace_loaded.new.input ≡ c.args.input.now) × (c.trace_loaded.new.output ≡ c.args.output.now)) c.in-Ok.ensures.started.1 c.in-Ok.ensures.started.2 c.trace_loaded.ensures

@@ -1,0 +1,77 @@
+-- What the steps of a run make of something, one turn after another.
+use Rattle.std.proofs.Common.{◌≡◌, ◌∙◌, ℕ, suc, ◌+◌, ◌-◌, ◌<◌, ◌≤◌, Bool, true, false, cond, List, [], ◌++◌, Option, Some, None, refl, sym, ap, arith, append_assoc}
+use Rattle.std.proofs.Math.Nat.{sub-zero}
+use Rattle.console.specs.Playing.{Play, Turn, is_at, turn_of}
+use Rattle.console.specs.Turns.{EndsOnce, MayCome, TurnsTo, play_at, turn_to}
+use Rattle.console.specs.declared.ending.Ending.{Ending}
+use Rattle.console.specs.declared.memo.Memo.{Memo}
+use Rattle.model.specs.Session.{Session}
+use Rattle.model.specs.State.{State}
+use Rattle.tracing.specs.Gathered.{ahead_of, gathered, noted_here, text_of_step}
+use Rattle.tracing.specs.Texts.{Noted, by_steps, by_turn, note_step, noted_in}
+use Rattle.tracing.specs.declared.notes.Ahead.{Ahead}
+use Rattle.tracing.specs.declared.tracer.Tracer.{Tracer}
+use Rattle.tracing.proofs.Going.{may_all}
+
+-- So far: whatever comes after what was told, so many steps make one thing of another, and the rest
+-- goes on with it.
+pub record MakesOn {A : Type 0} (each : State → State → A → A) (until : Option ℕ) (limit : ℕ) (s : Session) (first : Memo) (told : List ℕ) (over : Bool) (steps : ℕ) (t : Session) (memo : Memo) (a b : A) : Type 0 where
+  pub makes : (rest : List ℕ) → MayCome over rest → by_steps each until limit (play_at s first (told ++ rest)) a ≡ by_steps each until (limit - steps) (play_at t memo rest) b
+
+pub makes_none : {A : Type 0} (each : State → State → A → A) (until : Option ℕ) (limit : ℕ) (s : Session) (first : Memo) (over : Bool) (a : A) → MakesOn each until limit s first [] over 0 s first a a
+makes_none each until limit s first over a = record {
+  makes = λ rest may. ap (λ n. by_steps each until n (play_at s first rest) a) (sym (sub-zero limit));
+}
+
+made_turn : {A : Type 0} (each : State → State → A → A) (until : Option ℕ) (n m : ℕ) (p : Play) (a : A) → n ≡ suc m
+    → by_steps each until n p a ≡ by_turn each until p.session.current (turn_of p) a (λ q b. by_steps each until m q b)
+unfolding by_steps
+made_turn each until n m p a e = ap (λ k. by_steps each until k p a) e
+
+made_none : {A : Type 0} (each : State → State → A → A) (until : Option ℕ) (n : ℕ) (p : Play) (a : A) → n ≡ 0 → by_steps each until n p a ≡ a
+unfolding by_steps
+made_none each until n p a e = ap (λ k. by_steps each until k p a) e
+
+pub makes_full : {A : Type 0} (each : State → State → A → A) (until : Option ℕ) (limit : ℕ) (s : Session) (first : Memo) (told : List ℕ) (over : Bool) (steps : ℕ) (t : Session) (memo : Memo) (a b : A)
+    → MakesOn each until limit s first told over steps t memo a b → limit ≤ steps → (rest : List ℕ) → MayCome over rest → by_steps each until limit (play_at s first (told ++ rest)) a ≡ b
+makes_full each until limit s first told over steps t memo a b h full rest may =
+    h.makes rest may ∙ made_none each until (limit - steps) (play_at t memo rest) b (omega arith)
+
+-- With one turn more.
+module _ {A : Type 0} (each : State → State → A → A) (until : Option ℕ) (limit : ℕ) (s : Session) (first : Memo) (told : List ℕ) (over : Bool) (steps : ℕ) (t : Session) (memo : Memo) (a b : A)
+    (h : MakesOn each until limit s first told over steps t memo a b) (room : steps < limit)
+    (told2 : List ℕ) (over2 : Bool) (ending : Option Ending) (u : Session) (memo2 : Memo) (once : EndsOnce over over2 told2) (turn : TurnsTo t memo told2 over2 ending u memo2) where
+  abbrev next : Turn → A
+  next x = by_turn each until t.current x b (λ q c. by_steps each until (limit - (steps + 1)) q c)
+
+  one_turn : (rest : List ℕ) → MayCome over2 rest → by_steps each until limit (play_at s first ((told ++ told2) ++ rest)) a ≡ next (turn_to ending u memo2 rest)
+  one_turn rest may =
+      let less : limit - steps ≡ suc (limit - (steps + 1)) = omega arith in
+      ap (λ l. by_steps each until limit (play_at s first l) a) (append_assoc told told2 rest)
+      ∙ h.makes (told2 ++ rest) (may_all over over2 told2 rest once may)
+      ∙ made_turn each until (limit - steps) (limit - (steps + 1)) (play_at t memo (told2 ++ rest)) b less
+      ∙ ap next (turn rest may)
+
+  pub makes_on : (c : A) → c ≡ each t.current u.current b → ending ≡ None → is_at until u.current ≡ false → MakesOn each until limit s first (told ++ told2) over2 (steps + 1) u memo2 a c
+  makes_on c is none off = record {
+    makes = λ rest may.
+        one_turn rest may ∙ ap (λ e. next (turn_to e u memo2 rest)) none
+        ∙ ap (λ x. cond x (each t.current u.current b) (by_steps each until (limit - (steps + 1)) (play_at u memo2 rest) (each t.current u.current b))) off
+        ∙ ap (by_steps each until (limit - (steps + 1)) (play_at u memo2 rest)) (sym is);
+  }
+
+  pub makes_at : (c : A) → c ≡ each t.current u.current b → ending ≡ None → is_at until u.current ≡ true → (rest : List ℕ) → MayCome over2 rest → by_steps each until limit (play_at s first ((told ++ told2) ++ rest)) a ≡ c
+  makes_at c is none on rest may =
+      one_turn rest may ∙ ap (λ e. next (turn_to e u memo2 rest)) none
+      ∙ ap (λ x. cond x (each t.current u.current b) (by_steps each until (limit - (steps + 1)) (play_at u memo2 rest) (each t.current u.current b))) on
+      ∙ sym is
+
+  pub makes_with : (why : Ending) → ending ≡ Some why → (rest : List ℕ) → MayCome over2 rest → by_steps each until limit (play_at s first ((told ++ told2) ++ rest)) a ≡ b
+  makes_with why some rest may = one_turn rest may ∙ ap (λ e. next (turn_to e u memo2 rest)) some
+
+-- A step that was noted.
+pub noted_on : (before after : State) (old new : Tracer) (ahead : Ahead) (text : List ℕ) → ahead ≡ ahead_of (gathered old) before → gathered new ≡ noted_here after ahead (gathered old)
+    → noted_in new (text ++ text_of_step after ahead (gathered old)) ≡ note_step before after (noted_in old text)
+noted_on before after old new ahead text is noted =
+    let made : Ahead → Noted = λ x. record { gathered = noted_here after x (gathered old); text = text ++ text_of_step after x (gathered old) } in
+    ap (λ g. record { gathered = g; text = text ++ text_of_step after ahead (gathered old) }) noted ∙ ap made is
