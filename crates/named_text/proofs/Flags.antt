@@ -1,8 +1,8 @@
 -- Flags of the addresses that have names.
-use Rattle.std.proofs.Common.{◌≡◌, ℕ, zero, suc, ◌+◌, ◌<◌, ◌≤◌, ℤ, List, [], ◌∷◌, ◌++◌, length, Bool, true, false, Option, Some, None, cond, refl, sym, ap, ap₂, ◌∙◌, arith, add-one, take, drop, get_or, append_assoc, append-nil, subst, length-set, drop_of_length-le, take-append-drop}
+use Rattle.std.proofs.Common.{◌≡◌, ℕ, zero, suc, ◌+◌, ◌<◌, ◌≤◌, ℤ, List, [], ◌∷◌, ◌++◌, length, Bool, true, false, Option, Some, None, cond, refl, sym, ap, ap₂, ◌∙◌, arith, add-one, take, drop, length-set, drop_of_length-le, take-append-drop}
 use Rattle.std.proofs.lemmas.List.{set_past}
 use Rattle.std.proofs.lemmas.Bool.{lt-ltb}
-use Rattle.std.specs.Prelude.{◌||◌, find, if◌then◌else◌, nat_lt, slice_index, slice_set}
+use Rattle.std.specs.Prelude.{◌||◌, find, nat_lt, slice_index, slice_set}
 use Rattle.std.specs.List.{position_from}
 use Rattle.std.specs.Option.{is_some, option_map}
 use Rattle.model.specs.Names.{Definitions}

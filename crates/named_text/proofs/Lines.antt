@@ -1,11 +1,10 @@
 -- A line written with names, one byte after another.
-use Rattle.std.proofs.Common.{◌≡◌, ℕ, zero, suc, ◌+◌, ◌-◌, ◌<◌, ◌≤◌, List, [], ◌∷◌, ◌++◌, length, Option, Some, None, refl, sym, ap, ◌∙◌, arith, add-one, drop, take, get_or, append_assoc, append-nil, drop-cons, drop_of_length-le}
+use Rattle.std.proofs.Common.{◌≡◌, ℕ, zero, suc, ◌+◌, ◌-◌, ◌<◌, ◌≤◌, List, [], ◌∷◌, ◌++◌, length, Option, refl, sym, ap, ◌∙◌, arith, add-one, drop, take, get_or, append_assoc, append-nil, drop-cons, drop_of_length-le}
 use Rattle.std.specs.List.{flat_map}
 use Rattle.std.proofs.lemmas.Grind.{common_steps}
 use Rattle.model.specs.Names.{Definitions}
 use Rattle.model.specs.TextLines.{lines_from, lines_of}
-use Rattle.named_text.specs.Names.{name_of}
-use Rattle.named_text.specs.Renaming.{definition_of, definitions, definitions_from, ended_named, left_out, name_outside, place_at, renamed, rest_named, written_for, Found}
+use Rattle.named_text.specs.Renaming.{definition_of, definitions_from, ended_named, left_out, name_outside, place_at, rest_named, written_for, Found}
 
 -- ---- a line
 

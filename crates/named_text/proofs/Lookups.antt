@@ -1,8 +1,8 @@
 -- The name of an address, by its cell of a table.
 use Rattle.std.proofs.Common.{◌≡◌, ℕ, zero, suc, ◌+◌, ◌-◌, ◌<◌, ◌≤◌, ℤ, List, [], ◌∷◌, Bool, true, false, Option, Some, None, cond, refl, sym, ap, ◌∙◌, arith, take}
-use Rattle.std.specs.Prelude.{find, nat_lt, slice_get, slice_index}
+use Rattle.std.specs.Prelude.{find, slice_get, slice_index}
 use Rattle.std.specs.List.{position_from}
-use Rattle.std.specs.Option.{is_some, option_map}
+use Rattle.std.specs.Option.{option_map}
 use Rattle.model.specs.Names.{Definitions}
 use Rattle.named_text.specs.Names.{IsTable, gives_name, index_of, looked_at, name_of}
 use Rattle.named_text.proofs.Tables.{one_more}

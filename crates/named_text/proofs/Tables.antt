@@ -1,11 +1,11 @@
 -- The names of addresses, noted in a table one definition after another.
-use Rattle.std.proofs.Common.{◌≡◌, ℕ, zero, suc, ◌+◌, ◌-◌, ◌<◌, ◌≤◌, ℤ, List, [], ◌∷◌, length, Bool, true, false, Option, Some, None, cond, refl, sym, ap, ◌∙◌, arith, add-one, drop, take, length-take, drop_of_length-le}
-use Rattle.std.specs.Prelude.{◌==◌, ◌&&◌, nat_lt, if◌then◌else◌, find, slice_get, slice_index}
+use Rattle.std.proofs.Common.{◌≡◌, ℕ, zero, suc, ◌+◌, ◌<◌, ◌≤◌, ℤ, List, [], ◌∷◌, length, Bool, true, false, Option, Some, None, cond, refl, sym, ◌∙◌, arith, add-one, drop, take, length-take, drop_of_length-le}
+use Rattle.std.specs.Prelude.{◌==◌, ◌&&◌, nat_lt, if◌then◌else◌, slice_get, slice_index}
 use Rattle.std.specs.List.{position_from}
-use Rattle.std.specs.Option.{is_some, option_map, option_map_or}
+use Rattle.std.specs.Option.{option_map_or}
 use Rattle.std.proofs.lemmas.Bool.{ltb-true, ltb-false, ne_eqb}
 use Rattle.model.specs.Names.{Definitions}
-use Rattle.named_text.specs.Names.{gives_name, index_of, looked_at, name_of, IsTable, noted}
+use Rattle.named_text.specs.Names.{gives_name, index_of, looked_at, IsTable, noted}
 
 abbrev pub or_later : ℕ → ℕ → ℕ
 or_later zero later = later

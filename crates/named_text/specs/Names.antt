@@ -1,5 +1,5 @@
 -- The names that a source gives to addresses. Source: mos65.
-use Rattle.std.specs.Prelude.{◌≡◌, ℕ, ◌+◌, ◌<◌, ◌==◌, ◌&&◌, ◌||◌, nat_lt, not, ℤ, pos, negsuc, Bool, true, false, is_some, List, [], ◌∷◌, length, find, take, slice_index, if◌then◌else◌, Option, Some, None}
+use Rattle.std.specs.Prelude.{◌≡◌, ℕ, ◌+◌, ◌<◌, ◌==◌, ◌&&◌, ◌||◌, nat_lt, not, ℤ, pos, negsuc, Bool, false, is_some, List, [], ◌∷◌, length, find, take, slice_index, if◌then◌else◌, Option}
 use Rattle.std.specs.List.{position_from}
 use Rattle.std.specs.Option.{option_map, option_map_or}
 use Rattle.model.specs.Names.{Definitions}

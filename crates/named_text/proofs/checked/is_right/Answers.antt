@@ -1,9 +1,8 @@
-use Rattle.std.proofs.Common.{◌≡◌, List, Option, ℕ, true, false, sym, ◌∙◌, subst, ap, arith, rules}
+use Rattle.std.proofs.Common.{◌≡◌, List, Option, ℕ, sym, ◌∙◌, subst, ap}
 use Rattle.std.proofs.lemmas.Bool.{both_ways, false≢true}
 use Rattle.model.specs.Source.{Denotes}
-use Rattle.model.specs.State.{Map, has_port_byte}
+use Rattle.model.specs.State.{has_port_byte}
 use Rattle.model.specs.declared.source_fault.AsmFault.{AsmFault}
-use Rattle.named_text.specs.NamedText.{IsSourceOf}
 use Rattle.named_text.proofs.Carried.{denotes_under}
 use Rattle.named_text.proofs.checked.is_right.Goals as goal
 

@@ -1,4 +1,4 @@
-use Rattle.std.proofs.Common.{◌≡◌, ◌∙◌, None, true, false, refl, sym, ap, rules, arith}
+use Rattle.std.proofs.Common.{◌≡◌, ◌∙◌, None, true, false, refl, sym, ap}
 use Rattle.std.proofs.lemmas.Bool.{both_ways}
 use Rattle.model.specs.State.{Map, is_map}
 use Rattle.named_text.proofs.Maps.{base_is, same_port}

@@ -1,5 +1,5 @@
 use Rattle.std.proofs.Common.{◌≡◌, true, ℕ, ◌-◌, ◌*◌, arith, below_more}
-use Rattle.model.specs.State.{Map, has_port_byte, is_map}
+use Rattle.model.specs.State.{has_port_byte, is_map}
 use Rattle.named_text.proofs.Maps.{quarter_of, IsQuarter}
 use Rattle.named_text.proofs.checked.map_for.Goals as goal
 

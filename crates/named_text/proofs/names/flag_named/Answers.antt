@@ -1,6 +1,5 @@
-use Rattle.std.proofs.Common.{◌≡◌, ◌<◌, ◌≤◌, ℕ, length, slice_index, nat_lt, true, false, sym, ◌∙◌, ap, arith, rules, refl}
+use Rattle.std.proofs.Common.{◌≡◌, ◌<◌, ◌≤◌, length, slice_index, nat_lt, true, false, arith, rules, refl}
 use Rattle.std.proofs.lemmas.Bool.{lt-ltb, le-ltb}
-use Rattle.std.proofs.lemmas.Grind.{common_steps}
 use Rattle.named_text.proofs.Flags.{flag_more, nothing_more, past_end}
 use Rattle.named_text.proofs.names.flag_named.Goals.{then-index-gt0+then-address-len, else-index-gt0, else-index-gt0-via-then-index-gt0+else-address-len, else-index-gt0-via-else-index-gt0}
 use Rattle.named_text.proofs.names.flag_named.Goals as goal

@@ -1,4 +1,4 @@
-use Rattle.std.proofs.Common.{◌≡◌, ◌∙◌, ◌<◌, ◌-◌, ℕ, ℤ, List, Option, option_map, slice_get, slice_index, sym, ap, arith, rules}
+use Rattle.std.proofs.Common.{◌≡◌, ◌∙◌, ◌-◌, ℕ, ℤ, List, Option, option_map, slice_get, slice_index, ap, arith, rules}
 use Rattle.std.proofs.lemmas.Grind.{common_steps}
 use Rattle.named_text.specs.Names.{name_of}
 use Rattle.named_text.proofs.Lookups.{a_name}

@@ -1,6 +1,5 @@
-use Rattle.std.proofs.Common.{◌≡◌, ◌∙◌, ◌++◌, ◌<◌, ℕ, List, Option, Some, None, sym, ap, refl, arith, rules, append-nil, option_copied}
-use Rattle.std.proofs.lemmas.Grind.{common_steps}
-use Rattle.named_text.specs.Renaming.{definition_of, definitions, name_outside}
+use Rattle.std.proofs.Common.{◌≡◌, ◌∙◌, ◌++◌, Some, None, sym, ap, arith, rules, append-nil, option_copied}
+use Rattle.named_text.specs.Renaming.{definitions, name_outside}
 use Rattle.named_text.proofs.Lines.{definitions_more}
 use Rattle.named_text.proofs.renaming.push_definitions.Goals.{in-Some+in_ok-push_name, in_default}
 use Rattle.named_text.proofs.renaming.push_definitions.Goals as goal

@@ -1,4 +1,4 @@
-use Rattle.std.proofs.Common.{◌≡◌, ◌∙◌, ◌++◌, ◌<◌, ℕ, List, Option, Some, None, length, drop, slice_index_or, sym, ap, refl, arith, rules}
+use Rattle.std.proofs.Common.{◌≡◌, ◌∙◌, ◌++◌, ◌<◌, Some, None, length, slice_index_or, sym, ap, refl, arith, rules}
 use Rattle.named_text.specs.Renaming.{found_view, place_at, rest_named, Found}
 use Rattle.named_text.proofs.Lines.{byte_left, byte_written, rest_is}
 use Rattle.named_text.proofs.renaming.push_renamed.Goals.{then-left-gt0, else-left-gt0+in-Some+in_ok-extend_from_slice-in-Some, else-left-gt0+in-None+in_ok-push-in-None}

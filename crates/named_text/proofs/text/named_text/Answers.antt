@@ -1,4 +1,4 @@
-use Rattle.std.proofs.Common.{◌≡◌, ◌∙◌, ℕ, List, Bool, Option, ap, sym, subst}
+use Rattle.std.proofs.Common.{◌≡◌, ◌∙◌, ℕ, List, Option, ap, sym, subst}
 use Rattle.label_rows.specs.Labels.{flagged_source, flags_of}
 use Rattle.named_text.specs.NamedText.{IsSourceOf, named_source, plain_source}
 use Rattle.named_text.specs.Names.{flagged_by}
