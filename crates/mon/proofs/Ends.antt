@@ -1,5 +1,5 @@
 -- Why no session begins.
-use Rattle.std.proofs.Common.{◌≡◌, ◌∙◌, ◌⊎◌, ℕ, Bool, true, false, List, Option, inl, inr, sym, subst, Result, Ok, Err, IfErr, IfOk}
+use Rattle.std.proofs.Common.{◌≡◌, ◌⊎◌, Bool, true, false, inl, inr, sym, subst, Result, Ok, Err, IfErr}
 use Rattle.loading.specs.Asked.{map_of}
 use Rattle.loading.specs.Loads.{EndsFile}
 use Rattle.loading.specs.declared.loaded.LoadFault.{LoadFault}

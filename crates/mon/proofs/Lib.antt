@@ -1,1 +1,4 @@
+pub mod LinesServed
+pub mod Pieces
 mod Ends
+mod Starts

@@ -1,1 +1,3 @@
+pub mod Attended
 pub mod Done
+pub mod Pieces

@@ -1,7 +1,14 @@
 //! The lines of the input, and the loop that serves them.
 
-ghost use Rattle.std.specs.Prelude.{◌≡◌, IfErr};
-ghost use Rattle.mon.specs.Done.{EndsSession};
+ghost use Rattle.std.specs.Prelude.{◌≡◌, ◌∷◌, [], ℕ, List, Bool, Ok, Err, IfErr, IfOk};
+ghost use Rattle.std.specs.Io.BufRead.{strip_last};
+ghost use Rattle.std.specs.Io.KnownBytes.{Appends};
+ghost use Rattle.mon.specs.Attended.{IsAttended, IsAttendedSoFar, ServesLine, ServesLines};
+ghost use Rattle.mon.specs.Attended.{input_lines};
+ghost use Rattle.mon.specs.Done.{EndsAnswer, EndsSession};
+ghost use Rattle.mon.specs.Pieces.{Feeds, GoesOn};
+ghost use Rattle.mon_desk.specs.Served.{ShowsOnly};
+ghost use Rattle.mon_desk.specs.declared.desk.Desk.{Desk};
 
 use arrayvec::ArrayVec;
 use mon_desk::Desk;
@@ -19,7 +26,11 @@ const PROMPT: &str = "mon> ";
 
 /// Writes and flushes the text of the desk, which has none afterwards.
 fn put_text<W: Write>(desk: &mut Desk, writer: &mut W) -> Result<(), Refusal>
-    ensures { IfErr result EndsSession }
+    ensures shows { ShowsOnly desk.old desk.new }
+    ensures written { IfOk result (λ _. Appends (W.contents writer.old) (W.contents writer.new)
+        desk.old.text.items) }
+    ensures cleared { IfOk result (λ _. desk.new.text.items ≡ []) }
+    ensures refused { IfErr result EndsAnswer }
 {
     if writer.write_all(desk.text.as_slice()).is_err() || writer.flush().is_err() {
         return Err(Refusal::Write);
@@ -30,12 +41,42 @@ fn put_text<W: Write>(desk: &mut Desk, writer: &mut W) -> Result<(), Refusal>
 
 /// Returns what was made, or that an allocation failed.
 pub fn of_memory<T>(made: Result<T, AllocError>) -> Result<T, Refusal>
-    ensures { IfErr result EndsSession }
+    ensures made { IfOk result (λ value. made ≡ Ok value) }
+    ensures refused { IfErr result (λ fault. fault ≡ Refusal.OutOfMemory) }
 {
     match made {
         Ok(value) => Ok(value),
         Err(_) => Err(Refusal::OutOfMemory),
     }
+}
+
+/// Says something if it is asked for.
+pub fn say_if(desk: &mut Desk, is_asked: bool, words: &str) -> Result<(), Refusal>
+    ensures shows { ShowsOnly desk.old desk.new }
+    ensures refused { IfErr result EndsAnswer }
+{
+    if is_asked {
+        return of_memory(desk.say(words));
+    }
+    Ok(())
+}
+
+/// Returns a line that has ended without the CR at its end.
+fn line_of(begun: &Begun) -> &[u8]
+    ensures { result.now ≡ strip_last 13 begun.now.items }
+{
+    match begun.as_slice() {
+        [line @ .., b'\r'] => line,
+        line => line,
+    }
+}
+
+/// Does what a line asks for, and returns whether the session is to end.
+fn serve_line(alloc: Global, desk: &mut Desk, line: &[u8]) -> Result<bool, Refusal>
+    ensures served { IfOk result (λ is_over. ServesLine line.now is_over desk.old desk.new) }
+    ensures refused { IfErr result EndsAnswer }
+{
+    of_memory(desk.serve(alloc, line))
 }
 
 /// Serves a line that has ended, and begins the next one. Returns whether the session is to end.
@@ -46,19 +87,41 @@ fn serve_begun<W: Write>(
     begun: &mut Begun,
     writer: &mut W,
 ) -> Result<bool, Refusal>
-    ensures { IfErr result EndsSession }
+    ensures served { IfOk result (λ is_over.
+        ServesLine (strip_last 13 begun.old.items) is_over desk.old desk.new) }
+    ensures cleared { IfOk result (λ _. begun.new.items ≡ []) }
+    ensures written { IfOk result (λ _. desk.new.text.items ≡ []) }
+    ensures refused { IfErr result EndsAnswer }
 {
-    let line = match begun.as_slice() {
-        [line @ .., b'\r'] => line,
-        line => line,
-    };
-    let is_over = of_memory(desk.serve(alloc, line))?;
+    let is_over = serve_line(alloc, desk, line_of(begun))?;
     begun.clear();
-    if prompts && !is_over {
-        of_memory(desk.say(PROMPT))?;
-    }
+    say_if(desk, prompts && !is_over, PROMPT)?;
     put_text(desk, writer)?;
     Ok(is_over)
+}
+
+/// Serves one byte of the input. Returns whether the session is to end.
+fn serve_byte<W: Write>(
+    alloc: Global,
+    desk: &mut Desk,
+    prompts: bool,
+    begun: &mut Begun,
+    byte: u8,
+    writer: &mut W,
+) -> Result<bool, Refusal>
+    ensures fed { IfOk result (λ is_over.
+        Feeds (byte ∷ []) is_over begun.old.items desk.old begun.new.items desk.new) }
+    ensures written { IfOk result
+        (λ _. desk.old.text.items ≡ [] → desk.new.text.items ≡ []) }
+    ensures refused { IfErr result EndsAnswer }
+{
+    if byte == b'\n' {
+        return serve_begun(alloc, desk, prompts, begun, writer);
+    }
+    if begun.len() < 257 {
+        begun.push(byte);
+    }
+    Ok(false)
 }
 
 /// Serves some bytes of the input. Returns whether the session is to end.
@@ -70,15 +133,15 @@ fn serve_bytes<W: Write>(
     bytes: &[u8],
     writer: &mut W,
 ) -> Result<bool, Refusal>
-    ensures { IfErr result EndsSession }
+    ensures fed { IfOk result (λ is_over.
+        Feeds bytes.now is_over begun.old.items desk.old begun.new.items desk.new) }
+    ensures written { IfOk result
+        (λ _. desk.old.text.items ≡ [] → desk.new.text.items ≡ []) }
+    ensures refused { IfErr result EndsAnswer }
 {
     for byte in bytes {
-        if *byte == b'\n' {
-            if serve_begun(alloc, desk, prompts, begun, writer)? {
-                return Ok(true);
-            }
-        } else if begun.len() < 257 {
-            begun.push(*byte);
+        if serve_byte(alloc, desk, prompts, begun, *byte, writer)? {
+            return Ok(true);
         }
     }
     Ok(false)
@@ -92,11 +155,13 @@ fn serve_last<W: Write>(
     begun: &mut Begun,
     writer: &mut W,
 ) -> Result<(), Refusal>
-    ensures { IfErr result EndsSession }
+    ensures served { IfOk result (λ _. (told : List ℕ) (first : Desk)
+        → GoesOn told begun.old.items first desk.old
+        → (is_over : Bool) × ServesLines (input_lines told) is_over first desk.new) }
+    ensures written { IfOk result (λ _. desk.new.text.items ≡ []) }
+    ensures refused { IfErr result EndsAnswer }
 {
-    if prompts {
-        of_memory(desk.say("\n"))?;
-    }
+    say_if(desk, prompts, "\n")?;
     if begun.is_empty() {
         return put_text(desk, writer);
     }
@@ -119,11 +184,14 @@ pub fn attend<R: Read, W: Write>(
     reader: &mut R,
     writer: &mut W,
 ) -> Result<(), Refusal>
-    ensures { IfErr result EndsSession }
+    ensures attended { IfOk result (λ _.
+        IsAttended (R.remaining reader.old) (R.remaining reader.new) desk.old desk.new) }
+    ensures unread { result ≡ Err (Refusal.Read) → IsAttendedSoFar (R.remaining reader.old)
+        (R.remaining reader.new) desk.old desk.new }
+    ensures written { IfOk result (λ _. desk.new.text.items ≡ []) }
+    ensures refused { IfErr result EndsSession }
 {
-    if prompts {
-        of_memory(desk.say(PROMPT))?;
-    }
+    say_if(desk, prompts, PROMPT)?;
     put_text(desk, writer)?;
     let mut begun = Begun::new();
     let mut chunk = [0u8; 512];

@@ -5,20 +5,19 @@ ghost use Rattle.std.specs.Prelude.{map, option_map};
 ghost use Rattle.clap.specs.Words.{IsAmong, fault_of};
 ghost use Rattle.clap.specs.declared.error.kind.ErrorKind.TheVariants.{DisplayHelp};
 ghost use Rattle.loading.specs.Asked.{map_of};
-ghost use Rattle.loading.specs.Loads.{IsLoaded};
 ghost use Rattle.loading.specs.Refused.{IsTakenBy};
 ghost use Rattle.loading.specs.Views.{file_view};
 ghost use Rattle.loading.specs.declared.loaded.LoadFault.TheVariants.{Refused};
-ghost use Rattle.model.specs.Event.{start};
-ghost use Rattle.model.specs.Session.{new_session};
 ghost use Rattle.model.specs.State.{is_map};
 ghost use Rattle.model.specs.declared.bus_fault.BusFault.TheVariants.{BadMap};
-ghost use Rattle.mon.specs.Done.{EndsMon, EndsNamed, EndsSession, IsDone, IsEnded};
+ghost use Rattle.mon.specs.Attended.{IsAttended, IsAttendedSoFar};
+ghost use Rattle.mon.specs.Done.{EndsAt, EndsMon, EndsNamed, EndsSession, IsDone, IsNewDesk};
+ghost use Rattle.mon.specs.Done.{StartsMon};
 ghost use Rattle.mon_words.specs.Asked.{MonAsked, asked};
 ghost use Rattle.mon_words.specs.CommandLine.{mon};
 ghost use Rattle.mon_words.specs.Views.{mon_view};
 
-use crate::lines::{attend, of_memory};
+use crate::lines::{attend, of_memory, say_if};
 use loading::{FileWords, LoadFault, Loaded, load_names, load_with_history};
 use mon_desk::Desk;
 use mon_words::{MonWords, read_words};
@@ -27,6 +26,9 @@ use program::{Refusal, refuse, refused_words};
 use std::alloc::{AllocError, Global};
 use std::io::{IsTerminal, Read, Write};
 use std::rt::Files;
+
+/// What is written first, if a prompt is asked for.
+const GREETING: &str = "mos65 mon: help lists the words, an empty line steps, quit ends\n";
 
 /// Returns what was made, or that an allocation failed.
 fn or_memory<T>(made: Result<T, AllocError>) -> Result<T, LoadFault>
@@ -72,7 +74,7 @@ fn named_desk<H: Files + AllocGlobal>(
     words: &MonWords<'_>,
     loaded: Loaded,
 ) -> Result<Desk, LoadFault>
-    ensures made { IfOk result (λ desk. desk.session ≡ loaded.session) }
+    ensures made { IfOk result (λ desk. IsNewDesk loaded.session words.now.history desk) }
     ensures refused { IfErr result (λ fault. (fault ≡ Refused (Refusal.OutOfMemory))
         ⊎ EndsNamed (mon_view words.now).symbols (file_view words.now.file) fault) }
 {
@@ -86,9 +88,7 @@ fn named_desk<H: Files + AllocGlobal>(
 
 /// Loads what the words name, and returns the desk of its session.
 fn desk_of<H: Files + AllocGlobal>(rt: &H, words: &MonWords<'_>) -> Result<Desk, LoadFault>
-    ensures made { IfOk result (λ desk. (image : List (Option ℕ))
-        × IsLoaded (file_view words.now.file) image × (desk.session
-        ≡ new_session words.now.history (start (map_of (file_view words.now.file)) image))) }
+    ensures made { IfOk result (StartsMon (mon_view words.now)) }
     ensures bad_map { is_map words.now.file.rom words.now.file.port ≡ false
         → result ≡ Err (Refused (Refusal.Map BadMap)) }
     ensures refused { IfErr result (EndsMon (mon_view words.now)) }
@@ -107,11 +107,14 @@ fn serve<R: Read, O: Write>(
     input: &mut R,
     output: &mut O,
 ) -> Result<(), Refusal>
-    ensures { IfErr result EndsSession }
+    ensures attended { IfOk result (λ _.
+        IsAttended (R.remaining input.old) (R.remaining input.new) desk.old desk.new) }
+    ensures unread { result ≡ Err (Refusal.Read) → IsAttendedSoFar (R.remaining input.old)
+        (R.remaining input.new) desk.old desk.new }
+    ensures written { IfOk result (λ _. desk.new.text.items ≡ []) }
+    ensures refused { IfErr result EndsSession }
 {
-    if prompts {
-        of_memory(desk.say("mos65 mon: help lists the words, an empty line steps, quit ends\n"))?;
-    }
+    say_if(desk, prompts, GREETING)?;
     of_memory(desk.show(None))?;
     attend(alloc, desk, prompts, input, output)
 }
@@ -125,7 +128,7 @@ fn served<R: Read, O: Write, E: Write>(
     output: &mut O,
     errors: &mut E,
 ) -> u8
-    ensures ended { IsEnded result }
+    ensures ended { EndsAt desk.old (R.remaining input.old) (R.remaining input.new) result }
     ensures quiet { result ≡ 0 → errors.new ≡ errors.old }
 {
     match serve(alloc, desk, prompts, input, output) {
@@ -142,8 +145,8 @@ fn mon_words<H: Files + AllocGlobal, R: Read + IsTerminal, O: Write, E: Write>(
     output: &mut O,
     errors: &mut E,
 ) -> u8
-    ensures done { IsDone (mon_view words.now) result
-        ((input.new ≡ input.old) × (output.new ≡ output.old)) }
+    ensures done { IsDone (mon_view words.now) (R.remaining input.old) (R.remaining input.new)
+        result ((input.new ≡ input.old) × (output.new ≡ output.old)) }
     ensures bad_map { is_map words.now.file.rom words.now.file.port ≡ false → result ≡ 2 }
     ensures quiet { result ≡ 0 → errors.new ≡ errors.old }
 {
@@ -174,10 +177,12 @@ pub fn mon<H: Files + AllocGlobal, R: Read + IsTerminal, O: Write, E: Write>(
     errors: &mut E,
 ) -> u8
     // Words that fit the command line, with right values: a session began on their file and ended,
-    // or none began and the streams are unchanged, as the status says.
+    // or none began and the streams are unchanged, as the status says. At 0 the session has served
+    // the lines of the input.
     ensures done { (a : MonAsked) → asked (map (λ s. s.now) words.entry.now) ≡ Some a
         → IsTakenBy mon (map (λ s. s.now) words.entry.now)
-        → IsDone a result ((input.new ≡ input.old) × (output.new ≡ output.old)) }
+        → IsDone a (R.remaining input.old) (R.remaining input.new) result
+        ((input.new ≡ input.old) × (output.new ≡ output.old)) }
     // Other words read nothing, and write nothing on the output but help.
     ensures untaken { ¬ IsTakenBy mon (map (λ s. s.now) words.entry.now)
         → (input.new ≡ input.old) × (1 ≤ result → result ≤ 3 → output.new ≡ output.old) }

@@ -1,11 +1,11 @@
 -- What a source denotes under one map, it denotes under each map of the profile at whose port the
 -- image has no byte.
-use Rattle.std.proofs.Common.{◌≡◌, ℕ, zero, suc, ◌+◌, ◌<◌, ◌≤◌, List, [], ◌∷◌, length, Bool, true, false, Option, Some, None, refl, sym, ap, ◌∙◌, subst, arith, inl, inr, replicate, get_or, get_or-set_other, get_or-set_same}
+use Rattle.std.proofs.Common.{◌≡◌, ℕ, zero, suc, ◌+◌, ◌<◌, ◌≤◌, List, [], ◌∷◌, length, true, false, Option, Some, None, refl, sym, ap, ◌∙◌, subst, arith, inl, inr, replicate, get_or, get_or-set_other, get_or-set_same}
 use Rattle.std.specs.Prelude.{⊤, ◌&&◌, nat_lt, slice_set}
 use Rattle.std.proofs.lemmas.Bool.{lt-ltb, ltb-false}
 use Rattle.std.proofs.lemmas.Bool.Decides.{eqb_tells}
 use Rattle.std.proofs.lemmas.List.{length-set, length-replicate}
-use Rattle.model.specs.State.{Map, has_port_byte, is_port}
+use Rattle.model.specs.State.{Map, has_port_byte}
 use Rattle.model.specs.Image.{cell_at, empty_image, with_bytes}
 use Rattle.model.specs.Names.{number_in}
 use Rattle.model.specs.Value.{Numbers}

@@ -1,9 +1,10 @@
 //! Whether a source denotes an image.
 
-ghost use Rattle.std.specs.Prelude.{◌≡◌, IfOk, IfSome, true, false};
+ghost use Rattle.std.specs.Prelude.{◌≡◌, IfNone, IfOk, IfSome, true, false};
 ghost use Rattle.model.specs.Image.{has_byte};
 ghost use Rattle.model.specs.Source.{Denotes};
-ghost use Rattle.model.specs.State.{Map, has_port_byte};
+ghost use Rattle.model.specs.State.{Map, has_port_byte, is_map};
+ghost use Rattle.named_text.specs.NamedText.{IsSourceOf};
 
 use assembler::{AsmFaultKind, assemble};
 use bus::{Image, MapSpec};
@@ -36,6 +37,8 @@ fn has_port_byte(map: &MapSpec, image: &Image) -> bool
 fn map_at(profile: Profile, image: &Image, port: u16) -> Option<MapSpec>
     ensures profile { IfSome result (λ map. map.profile ≡ profile) }
     ensures spared { IfSome result (λ map. has_port_byte map image.now ≡ false) }
+    ensures none { IfNone result ((bus_map : Map) → bus_map.port ≡ port
+        → is_map bus_map.rom bus_map.port ≡ true → has_port_byte bus_map image.now ≡ true) }
 {
     let Ok(map) = MapSpec::new(None, port) else {
         return None;
@@ -55,6 +58,8 @@ fn map_at(profile: Profile, image: &Image, port: u16) -> Option<MapSpec>
 fn map_for(profile: Profile, image: &Image) -> Option<MapSpec>
     ensures profile { IfSome result (λ map. map.profile ≡ profile) }
     ensures spared { IfSome result (λ map. has_port_byte map image.now ≡ false) }
+    ensures none { IfNone result ((bus_map : Map) → is_map bus_map.rom bus_map.port ≡ true
+        → has_port_byte bus_map image.now ≡ true) }
 {
     for quarter in 0..16384u16 {
         if let Some(map) = map_at(profile, image, 65532 - 4 * quarter) {
@@ -66,7 +71,8 @@ fn map_for(profile: Profile, image: &Image) -> Option<MapSpec>
 
 /// Whether two cells are the same.
 fn is_same_cell(cell: Option<u8>, other: Option<u8>) -> bool
-    ensures { result ≡ true → cell ≡ other }
+    ensures same { result ≡ true → cell ≡ other }
+    ensures apart { result ≡ false → cell ≡ other → ⊥ }
 {
     match cell {
         None => other.is_none(),
@@ -79,7 +85,8 @@ fn is_same_cell(cell: Option<u8>, other: Option<u8>) -> bool
 
 /// Whether two images are the same.
 fn is_same(image: &Image, other: &Image) -> bool
-    ensures { result ≡ true → image.now ≡ other.now }
+    ensures same { result ≡ true → image.now ≡ other.now }
+    ensures apart { result ≡ false → image.now ≡ other.now → ⊥ }
 {
     for address in 0..65536u32 {
         if !is_same_cell(image.get(address as u16), other.get(address as u16)) {
@@ -100,14 +107,21 @@ pub fn is_right(
     source: &[u8],
     image: &Image,
 ) -> Result<bool, AllocError>
-    ensures { IfOk result (λ right. right ≡ true → (bus_map : Map) → bus_map.profile ≡ profile
-        → has_port_byte bus_map image.now ≡ false → Denotes bus_map source.now image.now) }
+    ensures denotes { IfOk result (λ right. right ≡ true → (bus_map : Map)
+        → bus_map.profile ≡ profile → has_port_byte bus_map image.now ≡ false
+        → Denotes bus_map source.now image.now) }
+    ensures right { IfOk result
+        (λ right. right ≡ true → IsSourceOf profile image.now source.now) }
+    ensures wrong { IfOk result
+        (λ right. right ≡ false → IsSourceOf profile image.now source.now → ⊥) }
 {
     // For the proof: that a line has as many bytes as its size says.
     bytes_fill_their_size();
     let Some(map) = map_for(profile, image) else {
         return Ok(false);
     };
+    // For the proof: that it is a map.
+    map.is_map();
     match assemble(alloc, source, &map) {
         Ok(assembly) => Ok(is_same(assembly.image(), image)),
         Err(fault) => match fault.kind {

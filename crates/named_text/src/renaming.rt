@@ -1,5 +1,12 @@
 //! A source with labels, written with names.
 
+ghost use Rattle.std.specs.Prelude.{◌≡◌, ◌++◌, IfOk, OnOk, is_some};
+ghost use Rattle.std.specs.Option.{option_copied};
+ghost use Rattle.named_text.specs.Names.{IsTable, name_of};
+ghost use Rattle.named_text.specs.Renaming.{byte_at, definitions, ended_named, found_view, is_kept};
+ghost use Rattle.named_text.specs.Renaming.{label_at, name_outside, place_at, renamed, rest_named};
+ghost use Rattle.named_text.specs.Renaming.{word_at, word_of};
+
 use crate::names::name_of;
 use assembler::Assembly;
 use bus::Image;
@@ -18,12 +25,20 @@ pub struct Naming<'a> {
 
 impl<'a> Naming<'a> {
     /// The name of an address.
-    fn name(&self, address: u16) -> Option<&'a [u8]> {
+    fn name(&self, address: u16) -> Option<&'a [u8]>
+        requires { IsTable self.now.names.now.names self.now.table.now }
+        ensures { option_copied result ≡ name_of self.now.names.now.names address }
+    {
         name_of(self.names, self.table, address)
     }
 
     /// The name of an address at which the image has nothing.
-    fn outside(&self, address: u16) -> Option<&'a [u8]> {
+    #[tactic(auto, unfolding(crate::specs::Renaming::name_outside))]
+    fn outside(&self, address: u16) -> Option<&'a [u8]>
+        requires { IsTable self.now.names.now.names self.now.table.now }
+        ensures { option_copied result
+            ≡ name_outside self.now.names.now.names self.now.image.now address }
+    {
         if self.image.get(address).is_some() {
             return None;
         }
@@ -36,7 +51,11 @@ impl<'a> Naming<'a> {
 type Found<'a> = Option<(usize, &'a [u8])>;
 
 /// A label, `L_HHHH`.
-fn label_at<'a>(naming: Naming<'a>, line: &[u8]) -> Found<'a> {
+#[tactic(auto, unfolding(crate::specs::Renaming::label_at))]
+fn label_at<'a>(naming: Naming<'a>, line: &[u8]) -> Found<'a>
+    requires { IsTable naming.names.now.names naming.table.now }
+    ensures { found_view result ≡ label_at naming.entry.names.now.names line.now }
+{
     let [b'L', b'_', digits @ ..] = line else {
         return None;
     };
@@ -45,7 +64,12 @@ fn label_at<'a>(naming: Naming<'a>, line: &[u8]) -> Found<'a> {
 }
 
 /// An address as a number, `$HHHH`.
-fn word_at<'a>(naming: Naming<'a>, line: &[u8]) -> Found<'a> {
+#[tactic(auto, unfolding(crate::specs::Renaming::word_at))]
+fn word_at<'a>(naming: Naming<'a>, line: &[u8]) -> Found<'a>
+    requires { IsTable naming.names.now.names naming.table.now }
+    ensures { found_view result
+        ≡ word_at naming.entry.names.now.names naming.entry.image.now line.now }
+{
     let [b'$', digits @ ..] = line else {
         return None;
     };
@@ -54,7 +78,9 @@ fn word_at<'a>(naming: Naming<'a>, line: &[u8]) -> Found<'a> {
 }
 
 /// Whether four hex digits are at the front.
-fn is_word(digits: &[u8]) -> bool {
+fn is_word(digits: &[u8]) -> bool
+    ensures { result ≡ is_some (word_of digits.now) }
+{
     match digits.get(..4) {
         Some(word) => address_of(word).is_some(),
         None => false,
@@ -62,7 +88,12 @@ fn is_word(digits: &[u8]) -> bool {
 }
 
 /// An address in page 0 as a number, `$HH`, after a space or a parenthesis.
-fn byte_at<'a>(naming: Naming<'a>, before: u8, line: &[u8]) -> Found<'a> {
+#[tactic(auto, unfolding(crate::specs::Renaming::byte_at))]
+fn byte_at<'a>(naming: Naming<'a>, before: u8, line: &[u8]) -> Found<'a>
+    requires { IsTable naming.names.now.names naming.table.now }
+    ensures { found_view result
+        ≡ byte_at naming.entry.names.now.names naming.entry.image.now before line.now }
+{
     let [b'$', digits @ ..] = line else {
         return None;
     };
@@ -77,7 +108,12 @@ fn byte_at<'a>(naming: Naming<'a>, before: u8, line: &[u8]) -> Found<'a> {
 }
 
 /// What stands at the front of the rest of a line, after a byte.
-fn place_at<'a>(naming: Naming<'a>, before: u8, rest: &[u8]) -> Found<'a> {
+#[tactic(auto, unfolding(crate::specs::Renaming::place_at))]
+fn place_at<'a>(naming: Naming<'a>, before: u8, rest: &[u8]) -> Found<'a>
+    requires { IsTable naming.names.now.names naming.table.now }
+    ensures { found_view result
+        ≡ place_at naming.entry.names.now.names naming.entry.image.now before rest.now }
+{
     match label_at(naming, rest) {
         Some(found) => Some(found),
         None => match word_at(naming, rest) {
@@ -88,7 +124,12 @@ fn place_at<'a>(naming: Naming<'a>, before: u8, rest: &[u8]) -> Found<'a> {
 }
 
 /// A line with names. The only error is that a request for memory was refused.
-fn push_renamed(out: &mut Vec<u8>, naming: Naming<'_>, line: &[u8]) -> Result<(), AllocError> {
+#[tactic(auto, using(crate::proofs::Lines::line_end))]
+fn push_renamed(out: &mut Vec<u8>, naming: Naming<'_>, line: &[u8]) -> Result<(), AllocError>
+    requires { IsTable naming.names.now.names naming.table.now }
+    ensures { OnOk result (out.new.items ≡ out.old.items
+        ++ rest_named naming.entry.names.now.names naming.entry.image.now 32 0 line.now) }
+{
     let mut before = b' ';
     let mut left = 0usize;
     for (at, byte) in line.iter().enumerate() {
@@ -109,7 +150,9 @@ fn push_renamed(out: &mut Vec<u8>, naming: Naming<'_>, line: &[u8]) -> Result<()
 }
 
 /// Whether a line is data or `*=`, which no name changes.
-fn is_kept(line: &[u8]) -> bool {
+fn is_kept(line: &[u8]) -> bool
+    ensures { result ≡ is_kept line.now }
+{
     match line {
         [b'.', b'B', ..] | [b'*', ..] => true,
         _ => false,
@@ -117,7 +160,12 @@ fn is_kept(line: &[u8]) -> bool {
 }
 
 /// A line with its end.
-fn push_line(out: &mut Vec<u8>, naming: Naming<'_>, line: &[u8]) -> Result<(), AllocError> {
+#[tactic(auto, unfolding(crate::specs::Renaming::line_named))]
+fn push_line(out: &mut Vec<u8>, naming: Naming<'_>, line: &[u8]) -> Result<(), AllocError>
+    requires { IsTable naming.names.now.names naming.table.now }
+    ensures { OnOk result (out.new.items ≡ out.old.items
+        ++ ended_named naming.entry.names.now.names naming.entry.image.now line.now) }
+{
     if is_kept(line) {
         out.extend_from_slice(line)?;
     } else {
@@ -128,7 +176,12 @@ fn push_line(out: &mut Vec<u8>, naming: Naming<'_>, line: &[u8]) -> Result<(), A
 }
 
 /// `NAME = $HHHH` for each name of an address at which the image has nothing.
-fn push_definitions(out: &mut Vec<u8>, naming: Naming<'_>) -> Result<(), AllocError> {
+#[tactic(auto, using(crate::proofs::Lines::definitions_end), unfolding(crate::specs::Renaming::definitions))]
+fn push_definitions(out: &mut Vec<u8>, naming: Naming<'_>) -> Result<(), AllocError>
+    requires { IsTable naming.names.now.names naming.table.now }
+    ensures { OnOk result (out.new.items
+        ≡ out.old.items ++ definitions naming.entry.names.now.names naming.entry.image.now) }
+{
     for address in 0..65536u32 {
         if let Some(name) = naming.outside(address as u16) {
             push_name(out, name, address as i32)?;
@@ -140,7 +193,12 @@ fn push_definitions(out: &mut Vec<u8>, naming: Naming<'_>) -> Result<(), AllocEr
 /// Returns a source with labels written with names: in place of a label the name of its address,
 /// and the name of an address at which the image has nothing in place of the number of an operand,
 /// with its definition before all lines. The only error is that a request for memory was refused.
-pub fn renamed(alloc: Global, naming: Naming<'_>, source: &[u8]) -> Result<Vec<u8>, AllocError> {
+#[tactic(auto, using(crate::proofs::Lines::lines_end), unfolding(crate::specs::Renaming::renamed))]
+pub fn renamed(alloc: Global, naming: Naming<'_>, source: &[u8]) -> Result<Vec<u8>, AllocError>
+    requires { IsTable naming.names.now.names naming.table.now }
+    ensures { IfOk result (λ text. text.items
+        ≡ renamed naming.entry.names.now.names naming.entry.image.now source.now) }
+{
     let mut out = Vec::new(alloc);
     push_definitions(&mut out, naming)?;
     let mut rest = source;

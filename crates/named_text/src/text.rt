@@ -3,6 +3,7 @@
 ghost use Rattle.std.specs.Prelude.{◌≡◌, IfOk, false};
 ghost use Rattle.model.specs.Source.{Denotes};
 ghost use Rattle.model.specs.State.{Map, has_port_byte};
+ghost use Rattle.named_text.specs.NamedText.{IsNamedText};
 
 use crate::checked::is_right;
 use crate::names::{flag_named, table_of};
@@ -34,7 +35,9 @@ pub fn named_text(
     marks: &[Mark],
     names: &Assembly,
 ) -> Result<Vec<u8>, AllocError>
-    ensures { IfOk result (λ text. (bus_map : Map) → bus_map.profile ≡ profile
+    ensures text { IfOk result
+        (λ text. IsNamedText profile image.now marks.now names.now.names text.items) }
+    ensures denotes { IfOk result (λ text. (bus_map : Map) → bus_map.profile ≡ profile
         → has_port_byte bus_map image.now ≡ false → Denotes bus_map text.items image.now) }
 {
     let table = table_of(alloc, names)?;

@@ -1,0 +1,10 @@
+use Rattle.std.proofs.Common.{◌≡◌, [], List, ℕ}
+use Rattle.std.specs.Io.KnownBytes.{Consumes}
+use Rattle.mon.specs.Pieces.{GoesOn}
+use Rattle.mon.proofs.lines.attend.Given as goal
+
+-- the lines that have ended in what was read were served, and what was said then was written
+abbrev pub invariant-loop : goal.invariant-loop
+invariant-loop g l =
+    (told : List ℕ) × Consumes (g.R.Read.remaining l.fn.reader) (g.R.Read.remaining l.reader) told × GoesOn told l.begun.items l.fn.desk l.desk
+    × (l.desk.text.items ≡ [])

@@ -1,0 +1,20 @@
+use Rattle.std.proofs.Common.{◌∙◌, ◌++◌, ◌∷◌, [], ap, arith, length, take, ◌<◌, ◌≤◌}
+use Rattle.mon.proofs.Pieces.{byte_on, kept_full, kept_room, line_fed}
+use Rattle.mon.proofs.lines.serve_byte.Goals as goal
+
+pub returns-then-byte-eq10-clause-fed : goal.returns-then-byte-eq10-clause-fed
+returns-then-byte-eq10-clause-fed g c =
+    line_fed c.serve_begun.result c.args.byte c.args.begun.now.items c.serve_begun.new.begun.items c.args.desk.now c.serve_begun.new.desk c.if-byte-eq10.true
+    c.serve_begun.ensures.served c.serve_begun.ensures.cleared
+
+pub returns-then-len-lt257-clause-fed : goal.returns-then-len-lt257-clause-fed
+returns-then-len-lt257-clause-fed g c told first s =
+    let room : length (take 257 s.begun) < 257 = omega (arith, c.if-len-lt257.true, c.len.ensures.value, ap length s.front) in
+    byte_on told c.args.begun.now.items first c.args.desk.now s c.args.byte c.push.new.self.items c.if-byte-eq10.false
+    (c.push.ensures.items ∙ ap (λ k. k ++ c.args.byte ∷ []) s.front ∙ kept_room s.begun c.args.byte room)
+
+pub returns-else-len-lt257-clause-fed : goal.returns-else-len-lt257-clause-fed
+returns-else-len-lt257-clause-fed g c told first s =
+    let full : 257 ≤ length (take 257 s.begun) = omega (arith, c.if-len-lt257.false, c.len.ensures.value, ap length s.front) in
+    byte_on told c.args.begun.now.items first c.args.desk.now s c.args.byte c.args.begun.now.items c.if-byte-eq10.false
+    (s.front ∙ kept_full s.begun c.args.byte full)
