@@ -15,7 +15,7 @@ use Rattle.assembler.specs.Assembly.{AssemblyView}
 pub head_ends : (text : List ℕ) (fault : TextFault) → head_from 1 (lines_of text) ≡ Err fault → EndsTest (Rows fault)
 head_ends text fault refused = inl (text, refused)
 
-headed_file : (text : List ℕ) (head : SeenHead) (next : ℕ) (lines : List (List ℕ)) → head_from 1 (lines_of text) ≡ Ok (head, next, lines) → HeadedFile
+abbrev headed_file : (text : List ℕ) (head : SeenHead) (next : ℕ) (lines : List (List ℕ)) → head_from 1 (lines_of text) ≡ Ok (head, next, lines) → HeadedFile
 headed_file text head next lines headed = record { text = text; head = head; next = next; lines = lines; headed = headed }
 
 pub map_ends : (text : List ℕ) (head : SeenHead) (next : ℕ) (lines : List (List ℕ)) (fault : TestFault)
@@ -29,7 +29,8 @@ pub source_ends : (text : List ℕ) (head : SeenHead) (next : ℕ) (lines : List
 source_ends text head next lines bus_map (Rows fault) headed is ends = absurd ends
 source_ends text head next lines bus_map (Source fault) headed is ends =
     let E : Map → Type 0 = λ m. EndsSource m (Source fault) in
-    (headed_file text head next lines headed, subst E is ends)
+    let on_its_map = subst E is ends in
+    (headed_file text head next lines headed, on_its_map.0, on_its_map.1)
 source_ends text head next lines bus_map TooLarge headed is ends = tt
 source_ends text head next lines bus_map NoMap headed is ends = absurd ends
 source_ends text head next lines bus_map OutOfMemory headed is ends = tt

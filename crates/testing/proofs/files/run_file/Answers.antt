@@ -6,7 +6,7 @@ use Rattle.row_verdicts.specs.Verdicts.{failures_view}
 use Rattle.testing.proofs.Facts.{tested}
 use Rattle.testing.proofs.files.run_file.Goals as goal
 
-pub returns-in-Ok : goal.returns-in-Ok
-returns-in-Ok g c =
+pub returns-in-Ok-clause-tested : goal.returns-in-Ok-clause-tested
+returns-in-Ok-clause-tested g c =
     let e : c.all_pass.result ≡ list_all is_none (failures_view c.in_ok-found.found.items) = first_of (cc, first_of (search rules, grind (arith, common_steps))) in
-    tested c.in_ok-readied.readied (failures_view c.in_ok-found.found.items) c.all_pass.result c.in_ok-readied.ensures c.in_ok-found.ensures e
+    tested c.in_ok-readied.readied (failures_view c.in_ok-found.found.items) c.all_pass.result c.in_ok-readied.ensures.prepared c.in_ok-found.ensures.failed e
