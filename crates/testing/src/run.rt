@@ -1,6 +1,6 @@
 //! What the word `test` does.
 
-ghost use Rattle.std.specs.Prelude.{◌≡◌, ◌⊎◌, ◌≤◌, IfErr, None, false, length, map, true};
+ghost use Rattle.std.specs.Prelude.{◌≡◌, ◌≢◌, ◌⊎◌, ◌≤◌, IfErr, None, false, length, map, true};
 ghost use Rattle.testing.specs.Ends.{EndsTest, IsUntested, fault_in};
 ghost use Rattle.testing.specs.Statuses.{status_of};
 ghost use Rattle.testing.specs.Tested.{AreTested};
@@ -76,6 +76,7 @@ fn written<H: Files, O: Write, E: Write>(
     ensures status { result ≤ 4 }
     ensures passed { result ≡ 0 → all ≡ true }
     ensures failed { result ≡ 1 → all ≡ false }
+    ensures never { result ≢ 2 }
     ensures quiet { result ≤ 1 → errors.new ≡ errors.old }
     ensures untouched { 2 ≤ result → result ≤ 3 → output.new ≡ output.old }
 {
