@@ -1,11 +1,10 @@
 -- Why a file of rows cannot be tested, by what its parts say.
-use Rattle.std.proofs.Common.{◌≡◌, ◌⊎◌, ℕ, List, Option, Ok, Err, false, sym, subst, inl, inr}
-use Rattle.model.specs.Names.{Definitions}
+use Rattle.std.proofs.Common.{◌≡◌, ℕ, List, Ok, Err, false, sym, subst, inl, inr}
 use Rattle.model.specs.State.{Map, is_map}
 use Rattle.model.specs.TextLines.{lines_of}
 use Rattle.row_reader.specs.HeadText.{SeenHead, head_from}
 use Rattle.row_reader.specs.declared.fault.TextFault.{TextFault}
-use Rattle.testing.specs.Ends.{EndsRows, EndsSource, EndsTest, HasNames, HeadedFile, IsRowFault, IsUntested}
+use Rattle.testing.specs.Ends.{EndsRows, EndsSource, EndsTest, HasNames, HeadedFile, IsUntested}
 use Rattle.testing.specs.Statuses.{status_of}
 use Rattle.testing.specs.Tested.{IsAssembled, map_of}
 use Rattle.testing.specs.declared.fault.TestFault.{TestFault}

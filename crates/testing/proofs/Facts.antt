@@ -1,5 +1,5 @@
 -- What was prepared, and what was tested.
-use Rattle.std.proofs.Common.{◌≡◌, ℕ, ◌+◌, ◌-◌, ◌≤◌, Bool, true, List, [], ◌∷◌, length, map, Option, refl, sym, ap, ◌∙◌, subst, arith}
+use Rattle.std.proofs.Common.{◌≡◌, ℕ, ◌+◌, Bool, true, List, [], ◌∷◌, map, Option, refl, sym, ap, ◌∙◌, subst, arith}
 use Rattle.std.specs.Prelude.{◌&&◌, Ok, is_none}
 use Rattle.std.specs.List.{list_all}
 use Rattle.model.specs.Source.{Denotes}
@@ -10,7 +10,7 @@ use Rattle.row_reader.specs.RowText.{SeenRow, numbered_view, rows_from}
 use Rattle.row_runner.specs.Passes.{Pair}
 use Rattle.row_runner.specs.Start.{fresh}
 use Rattle.row_verdicts.specs.Verdicts.{failures}
-use Rattle.testing.specs.Tested.{AreNamesOf, AreTested, IsAssembled, IsPrepared, IsTested, TestedFile, map_of, passes}
+use Rattle.testing.specs.Tested.{AreNamesOf, AreTested, IsAssembled, IsPrepared, IsTested, map_of, passes}
 use Rattle.testing.specs.declared.prepared.Prepared.{Prepared}
 
 pub ready : (prepared : Prepared) (text : List ℕ) (head : SeenHead) (next : ℕ) (lines : List (List ℕ))
