@@ -1,14 +1,31 @@
--- A source of a part is one of what an image has between two addresses.
-use Rattle.std.proofs.Common.{◌≡◌, ℕ, ◌<◌, List, Option, Result, Ok, Err, false}
+-- A source of a part is one of what an image has between two addresses, with marks and names.
+use Rattle.std.proofs.Common.{◌≡◌, ℕ, ◌<◌, ◌||◌, Bool, List, [], ◌∷◌, length, Option, Some, None, Result, Ok, Err, false, true, is_some, subst, sym, arith}
 use Rattle.std.specs.Prelude.{IfOk}
 use Rattle.model.specs.Image.{cell_at}
+use Rattle.model.specs.Layout.{Context, PlacedLine, first_context}
+use Rattle.model.specs.Names.{Definitions}
 use Rattle.model.specs.Source.{Denotes}
 use Rattle.model.specs.State.{Map, has_port_byte}
 use Rattle.model.specs.declared.instruction.Profile.{Profile}
-use Rattle.dis_source.specs.Marks.{cell_between}
-use Rattle.dis_source.specs.Written.{IsSourceOfPart}
+use Rattle.reached.specs.Reached.{AreFollowed, vectors}
+use Rattle.source_rows.specs.Rows.{mark_at}
+use Rattle.source_rows.specs.declared.mark.Mark.{Mark}
+use Rattle.dis_source.specs.Asked.{SourceAsked}
+use Rattle.dis_source.specs.Marks.{cell_between, mark_of}
+use Rattle.dis_source.specs.Written.{AreMarked, AreMarkedBy, IsSourceOfPart, IsText, starts_of}
 
-pub source_is : {X E : Type 0} (items : X → List ℕ) (profile : Profile) (image : List (Option ℕ)) (first last : ℕ) (part : List (Option ℕ)) (r : Result X E) → ((a : ℕ) → a < 65536 → cell_at part a ≡ cell_between image first last a)
-    → IfOk r (λ x. (bus_map : Map) → bus_map.profile ≡ profile → has_port_byte bus_map part ≡ false → Denotes bus_map (items x) part) → IfOk r (λ x. IsSourceOfPart profile image first last (items x))
-source_is items profile image first last part (Ok x) cells means = record { part = part; cells = cells; denotes = means }
-source_is items profile image first last part (Err e) cells means = tt
+pub source_is : {X E : Type 0} (items : X → List ℕ) (asked : SourceAsked) (image : List (Option ℕ)) (names : Option Definitions) (part : List (Option ℕ)) (marks : List Mark) (r : Result X E) → ((a : ℕ) → a < 65536 → cell_at part a ≡ cell_between image asked.first asked.last a)
+    → AreMarkedBy asked.follow asked part marks
+    → IfOk r (λ x. IsText asked part marks names (items x))
+    → IfOk r (λ x. (bus_map : Map) → bus_map.profile ≡ asked.profile → has_port_byte bus_map part ≡ false → Denotes bus_map (items x) part) → IfOk r (λ x. IsSourceOfPart asked image names (items x))
+source_is items asked image names part marks (Ok x) cells marked says means = record { part = part; cells = cells; marks = marks; marked = marked; says = says; denotes = means }
+source_is items asked image names part marks (Err e) cells marked says means = tt
+
+-- where no address is said control is followed from the vectors
+pub from_vectors : (profile : Profile) (part : List (Option ℕ)) (marks : List Mark) (starts : List ℕ) (now : List Mark) → length starts ≡ 0 → AreFollowed profile part marks (vectors part) now → AreFollowed profile part marks (starts_of part starts) now
+from_vectors profile part marks [] now none f = f
+from_vectors profile part marks (start ∷ starts) now none f = absurd (omega (arith, none))
+
+pub from_starts : (profile : Profile) (part : List (Option ℕ)) (marks : List Mark) (starts : List ℕ) (now : List Mark) → 0 < length starts → AreFollowed profile part marks starts now → AreFollowed profile part marks (starts_of part starts) now
+from_starts profile part marks [] now some f = absurd (omega (arith, some))
+from_starts profile part marks (start ∷ starts) now some f = f

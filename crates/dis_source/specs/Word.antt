@@ -1,10 +1,12 @@
 -- What `dis --source` has done. Source: mos65. No clause can say what a file has.
-use Rattle.std.specs.Prelude.{⊤, ℕ, Bool, List, Option, None}
+use Rattle.std.specs.Prelude.{◌≡◌, ⊤, ℕ, Bool, List, Option, Some, None}
+use Rattle.clap.specs.Words.{Text}
 use Rattle.dis_source.specs.Asked.{SourceAsked}
 use Rattle.dis_source.specs.Written.{IsSourceOfPart}
 use Rattle.dis_source.specs.declared.refusal.Refusal.{Refusal}
 use Rattle.dis_source.specs.declared.refusal.Refusal.TheVariants.{Words, Tape, Symbols, OutOfMemory, Read, Write}
-use Rattle.model.specs.Source.{HasFault}
+use Rattle.model.specs.Names.{Definitions}
+use Rattle.model.specs.Source.{Denotes, HasFault}
 use Rattle.model.specs.State.{Map}
 use Rattle.model.specs.TapePieces.{IsReadInPieces, IsRefusedInPieces}
 use Rattle.model.specs.declared.source_fault.AsmFault.{AsmFault}
@@ -15,12 +17,32 @@ use Rattle.model.specs.declared.tape.TapeFaultKind.TheVariants as kind
 use Rattle.papertape.specs.declared.stream.TapeReadFault.{TapeReadFault}
 use Rattle.papertape.specs.declared.stream.TapeReadFault.TheVariants as stream
 
--- A text is a source of what some tape has between the addresses that are asked for.
+-- The map by which a source of names is read: no ROM, and a port at $F000.
+abbrev pub names_map : Profile → Map
+names_map profile = record { profile = profile; rom = None; port = 61440 }
+
+-- Names that some source defines.
+pub record AreNames (profile : Profile) (names : Definitions) : Type 0 where
+  pub source : List ℕ
+  pub image : List (Option ℕ)
+  pub denotes : Denotes (names_map profile) source image
+  pub same : names ≡ denotes.all.names
+
+-- There are names where a source of names is asked for.
+abbrev pub AreGiven : Option Text → Profile → Option Definitions → Type 0
+AreGiven None profile names = names ≡ None
+AreGiven (Some path) profile None = ⊥
+AreGiven (Some path) profile (Some names) = AreNames profile names
+
+-- A text is the source that is asked for, of what some tape has, with the names of some source if
+-- names are asked for.
 pub record IsSource (asked : SourceAsked) (text : List ℕ) : Type 0 where
   pub tape : List ℕ
   pub image : List (Option ℕ)
   pub read : IsReadInPieces tape image
-  pub written : IsSourceOfPart asked.profile image asked.first asked.last text
+  pub names : Option Definitions
+  pub given : AreGiven asked.symbols asked.profile names
+  pub written : IsSourceOfPart asked image names text
 
 abbrev pub IsSaid : SourceAsked → Bool → List ℕ → Type 0
 IsSaid asked is_right text = IsSource asked text
@@ -37,10 +59,6 @@ unread_of (stream.Tape fault) = of_kind fault.kind fault
 -- Some tape has a fault.
 abbrev pub HasTapeFault : Type 0
 HasTapeFault = (fault : TapeFault) × ((text : List ℕ) × IsRefusedInPieces text fault)
-
--- The map by which a source of names is read: no ROM, and a port at $F000.
-abbrev pub names_map : Profile → Map
-names_map profile = record { profile = profile; rom = None; port = 61440 }
 
 -- Why a source of names is refused: it has this fault. Memory may run out at any source.
 abbrev pub EndsNames : Profile → List ℕ → Refusal → Type 0

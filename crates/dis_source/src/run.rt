@@ -1,9 +1,11 @@
 //! The source of a tape, written.
 ghost use Rattle.std.specs.Prelude.{◌≡◌, ◌≢◌, ◌≤◌, ◌⊎◌, ℕ, List, IfErr, IfOk, None, map, true};
+ghost use Rattle.std.specs.Prelude.{option_map};
 ghost use Rattle.dis_source.specs.CommandLine.{Asks, dis, words_asked};
 ghost use Rattle.dis_source.specs.Statuses.{status_of};
 ghost use Rattle.dis_source.specs.Views.{source_view};
-ghost use Rattle.dis_source.specs.Word.{EndsSource, HasNamesFault, HasTapeFault, IsSaid, IsSource};
+ghost use Rattle.dis_source.specs.Word.{AreGiven, EndsSource, HasNamesFault, HasTapeFault, IsSaid};
+ghost use Rattle.dis_source.specs.Word.{IsSource};
 ghost use Rattle.model.specs.TapePieces.{IsReadInPieces};
 ghost use Rattle.word_streams.specs.Streams.{Tells, TellsFront};
 ghost use Rattle.word_streams.specs.Words.{AsksForHelp, Fits, IsStatusOf, Misfits};
@@ -52,6 +54,8 @@ fn names_of<H: Files + AllocGlobal>(
     profile: Profile,
     path: Option<&str>,
 ) -> Result<Option<Assembly>, Refusal>
+    ensures given { IfOk result (λ names. AreGiven (option_map (λ s. s.now) path.entry) profile
+        (option_map (λ a. a.names) names)) }
     ensures refused { IfErr result (EndsSource profile) }
 {
     let Some(path) = path else {

@@ -1,10 +1,12 @@
 //! The source that the words ask for.
 
-ghost use Rattle.std.specs.Prelude.{◌≡◌, IfErr, IfOk, false};
-ghost use Rattle.dis_source.specs.Word.{EndsNames, names_map};
-ghost use Rattle.dis_source.specs.Written.{IsSourceOfPart};
+ghost use Rattle.std.specs.Prelude.{◌≡◌, IfErr, IfOk, false, option_map};
+ghost use Rattle.dis_source.specs.Views.{source_view};
+ghost use Rattle.dis_source.specs.Word.{AreNames, EndsNames};
+ghost use Rattle.dis_source.specs.Written.{AreMarkedBy, IsSourceOfPart, IsText, starts_of};
 ghost use Rattle.model.specs.Source.{Denotes};
 ghost use Rattle.model.specs.State.{Map, has_port_byte};
+ghost use Rattle.reached.specs.Reached.{AreFollowed};
 
 use crate::asked::SourceWords;
 use crate::marks::{between, marks_of};
@@ -22,8 +24,7 @@ use std::alloc::{AllocError, Global};
 /// why not.
 #[tactic(auto, unfolding(model::specs::State::is_map))]
 pub fn defined(alloc: Global, profile: Profile, source: &[u8]) -> Result<Assembly, Refusal>
-    ensures denoted { IfOk result (λ a. Denotes (names_map profile) source.now a.image) }
-    ensures kept { IfOk result (λ a. a.source ≡ source.now) }
+    ensures named { IfOk result (λ a. AreNames profile a.names) }
     ensures refused { IfErr result (EndsNames profile source.now) }
 {
     let Ok(map) = MapSpec::new(None, 0xf000) else {
@@ -42,8 +43,31 @@ pub fn defined(alloc: Global, profile: Profile, source: &[u8]) -> Result<Assembl
     }
 }
 
+/// Follows control from these addresses, or from the vectors where there is none, and returns the
+/// marks after that.
+fn followed(
+    alloc: Global,
+    profile: Profile,
+    part: &Image,
+    marks: &[Mark],
+    starts: &[u16],
+) -> Result<Vec<Mark>, AllocError>
+    ensures { IfOk result (λ followed. AreFollowed profile part.now marks.now
+        (starts_of part.now starts.now) followed.items) }
+{
+    if starts.is_empty() {
+        let entries = vectors(part);
+        followed_marks(alloc, profile, part, marks, entries.as_slice())
+    } else {
+        followed_marks(alloc, profile, part, marks, starts)
+    }
+}
+
 /// The marks that the words ask for.
-fn marked(alloc: Global, words: &SourceWords<'_>, part: &Image) -> Result<Vec<Mark>, AllocError> {
+fn marked(alloc: Global, words: &SourceWords<'_>, part: &Image) -> Result<Vec<Mark>, AllocError>
+    ensures { IfOk result (λ marks. AreMarkedBy (source_view words.now).follow
+        (source_view words.now) part.now marks.items) }
+{
     let marks = marks_of(
         alloc,
         words.labels | words.symbols.is_some(),
@@ -52,15 +76,13 @@ fn marked(alloc: Global, words: &SourceWords<'_>, part: &Image) -> Result<Vec<Ma
     )?;
     match &words.follow {
         None => Ok(marks),
-        Some(starts) => {
-            let entries = vectors(part);
-            let starts = if starts.is_empty() {
-                entries.as_slice()
-            } else {
-                starts.as_slice()
-            };
-            followed_marks(alloc, words.profile, part, marks.as_slice(), starts)
-        }
+        Some(starts) => followed(
+            alloc,
+            words.profile,
+            part,
+            marks.as_slice(),
+            starts.as_slice(),
+        ),
     }
 }
 
@@ -72,7 +94,9 @@ fn source_of(
     marks: &[Mark],
     names: Option<&Assembly>,
 ) -> Result<Vec<u8>, AllocError>
-    ensures { IfOk result (λ text. (bus_map : Map) → bus_map.profile ≡ words.now.profile
+    ensures says { IfOk result (λ text. IsText (source_view words.now) image.now marks.now
+        (option_map (λ a. a.now.names) names.entry) text.items) }
+    ensures denotes { IfOk result (λ text. (bus_map : Map) → bus_map.profile ≡ words.now.profile
         → has_port_byte bus_map image.now ≡ false → Denotes bus_map text.items image.now) }
 {
     match names {
@@ -96,8 +120,8 @@ pub fn written(
     image: &Image,
     names: Option<&Assembly>,
 ) -> Result<Vec<u8>, AllocError>
-    ensures { IfOk result (λ text. IsSourceOfPart words.now.profile image.now words.now.first
-        words.now.last text.items) }
+    ensures { IfOk result (λ text. IsSourceOfPart (source_view words.now) image.now
+        (option_map (λ a. a.now.names) names.entry) text.items) }
 {
     let Ok(part) = between(alloc, image, words.first, words.last) else {
         return Err(AllocError);

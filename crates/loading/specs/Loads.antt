@@ -1,9 +1,11 @@
--- Which image a file is loaded with, and why it is not loaded. No clause can say whether memory is
+-- Which image and assembly a file is loaded with, and why it is not loaded. No clause can say whether memory is
 -- there, nor what is in a file. Source: mos65.
-use Rattle.std.specs.Prelude.{◌≡◌, ◌⊎◌, ⊤, ℕ, true, false, Bool, List, Option}
+use Rattle.std.specs.Prelude.{◌≡◌, ◌⊎◌, ⊤, ℕ, true, false, Bool, List, Option, None, Some}
+use Rattle.assembler.specs.Assembly.{AssemblyView}
 use Rattle.loading.specs.Asked.{FileAsked, map_of}
 use Rattle.loading.specs.declared.loaded.LoadFault.{LoadFault}
 use Rattle.loading.specs.declared.loaded.LoadFault.TheVariants.{LooksLikeTape, Refused}
+use Rattle.model.specs.Layout.{extents_of}
 use Rattle.model.specs.Source.{Denotes, HasFault}
 use Rattle.model.specs.State.{Map, has_port_byte, is_map}
 use Rattle.model.specs.TapePieces.{IsReadInPieces, IsRefusedInPieces}
@@ -57,12 +59,22 @@ EndsOnMap bus_map (Refused fault) = IsBadMap bus_map fault
 abbrev pub EndsLoad : FileAsked → LoadFault → Type 0
 EndsLoad asked fault = EndsOnMap (map_of asked) fault ⊎ EndsFile asked.is_tape (map_of asked) fault
 
--- Some source or some tape denotes an image.
-abbrev pub IsImageOf : Bool → Map → List (Option ℕ) → Type 0
-IsImageOf true bus_map image = (text : List ℕ) × IsReadInPieces text image
-IsImageOf false bus_map image = (source : List ℕ) × Denotes bus_map source image
+-- A source was assembled: it denotes the image, and the names and the places of the lines are those
+-- of the source.
+pub record IsAssembled (bus_map : Map) (a : AssemblyView) : Type 0 where
+  pub denotes : Denotes bus_map a.source a.image
+  pub names : a.names ≡ denotes.all.names
+  pub places : a.places ≡ extents_of denotes.placed
 
--- What is loaded: the port and the ROM make a map, and the image is one that a file can have.
-abbrev pub IsLoaded : FileAsked → List (Option ℕ) → Type 0
-IsLoaded asked image = (is_map asked.rom asked.port ≡ true)
-    × IsImageOf asked.is_tape (map_of asked) image
+-- Some tape denotes an image, which has no assembly; or it is that of some source's assembly.
+abbrev pub IsImageOf : Bool → Map → List (Option ℕ) → Option AssemblyView → Type 0
+IsImageOf true bus_map image None = (text : List ℕ) × IsReadInPieces text image
+IsImageOf true bus_map image (Some a) = ⊥
+IsImageOf false bus_map image None = ⊥
+IsImageOf false bus_map image (Some a) = IsAssembled bus_map a × (image ≡ a.image)
+
+-- What is loaded: the port and the ROM make a map, and the image is one that a file can have, with
+-- the assembly of a source.
+abbrev pub IsLoaded : FileAsked → List (Option ℕ) → Option AssemblyView → Type 0
+IsLoaded asked image assembly = (is_map asked.rom asked.port ≡ true)
+    × IsImageOf asked.is_tape (map_of asked) image assembly

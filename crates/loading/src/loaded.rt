@@ -1,16 +1,16 @@
 //! A file loaded into a session.
 
-ghost use Rattle.std.specs.Prelude.{◌≡◌, ◌≤◌, ◌⊎◌, ℕ, List, Option, Err, IfErr, IfOk, false, true};
+ghost use Rattle.std.specs.Prelude.{◌≡◌, ◌≤◌, ◌⊎◌, ℕ, List, Option, Err, IfErr, IfOk, Some, false};
+ghost use Rattle.std.specs.Prelude.{true};
 ghost use Rattle.engine.specs.Refusals.{of_session, of_source, of_tape_read};
 ghost use Rattle.loading.specs.Asked.{map_of};
 ghost use Rattle.loading.specs.Loads.{EndsFile, EndsLoad, EndsNames, EndsSource};
-ghost use Rattle.loading.specs.Loads.{IsBadMap, IsImageOf, IsLoaded, IsUnread};
+ghost use Rattle.loading.specs.Loads.{IsAssembled, IsBadMap, IsImageOf, IsLoaded, IsUnread};
 ghost use Rattle.loading.specs.Statuses.{status_of_load};
 ghost use Rattle.loading.specs.Views.{file_view};
 ghost use Rattle.loading.specs.declared.loaded.LoadFault.TheVariants.{Refused};
 ghost use Rattle.model.specs.Event.{start};
 ghost use Rattle.model.specs.Session.{new_session};
-ghost use Rattle.model.specs.Source.{Denotes};
 ghost use Rattle.model.specs.State.{has_port_byte, is_map};
 ghost use Rattle.model.specs.TapePieces.{IsReadInPieces};
 ghost use Rattle.model.specs.declared.bus_fault.BusFault.TheVariants.{BadMap};
@@ -138,7 +138,7 @@ fn of_session(fault: SessionFault) -> Refusal
 ///
 /// Errors: `Source` with its fault, `OutOfMemory` if an allocation fails.
 fn assembled(alloc: Global, source: &[u8], map: &MapSpec) -> Result<Assembly, Refusal>
-    ensures denoted { IfOk result (λ a. Denotes map.now source.now a.image) }
+    ensures assembled { IfOk result (IsAssembled map.now) }
     ensures spared { IfOk result (λ a. has_port_byte map.now a.image ≡ false) }
     ensures refused { IfErr result (EndsSource map.now) }
 {
@@ -150,7 +150,7 @@ fn assembled(alloc: Global, source: &[u8], map: &MapSpec) -> Result<Assembly, Re
 
 /// Assembles a source on a map, unless it begins with a record of a tape.
 fn assembled_source(alloc: Global, source: &[u8], map: &MapSpec) -> Result<Assembly, LoadFault>
-    ensures denoted { IfOk result (λ a. Denotes map.now source.now a.image) }
+    ensures assembled { IfOk result (IsAssembled map.now) }
     ensures spared { IfOk result (λ a. has_port_byte map.now a.image ≡ false) }
     ensures refused { IfErr result (EndsFile false map.now) }
 {
@@ -175,6 +175,7 @@ fn start_source(
     requires spared { has_port_byte map assembly.image ≡ false }
     ensures started { IfOk result
         (λ loaded. loaded.session ≡ new_session history (start map assembly.image)) }
+    ensures assembly { IfOk result (λ loaded. loaded.assembly ≡ Some assembly) }
     ensures refused { IfErr result (λ fault. fault ≡ Refused (Refusal.OutOfMemory)) }
 {
     match Session::new(alloc, map, assembly.image(), history) {
@@ -195,7 +196,8 @@ fn load_source<H: Files + AllocGlobal>(
 ) -> Result<Loaded, LoadFault>
     requires { history ≤ 65536 }
     ensures started { IfOk result (λ loaded. (image : List (Option ℕ))
-        × IsImageOf false map image × (loaded.session ≡ new_session history (start map image))) }
+        × IsImageOf false map image loaded.assembly
+        × (loaded.session ≡ new_session history (start map image))) }
     ensures refused { IfErr result (EndsFile false map) }
 {
     let source = read_source(rt, words.file)?;
@@ -207,7 +209,9 @@ fn load_source<H: Files + AllocGlobal>(
 ///
 /// Errors: `Read` if the file cannot be read, `Tape` with the tape's fault, `OutOfMemory` if an
 /// allocation fails.
-fn image_of_tape<H: Files + AllocGlobal>(rt: &H, path: &str) -> Result<Image, Refusal>
+pub fn image_of_tape<H: Files + AllocGlobal>(rt: &H, path: &str) -> Result<Image, Refusal>
+    // The image is one that some tape denotes, and a fault of a tape is one that some tape has: no
+    // clause can say what is in a file.
     ensures denoted { IfOk result (λ image. (text : List ℕ) × IsReadInPieces text image) }
     ensures refused { IfErr result IsUnread }
 {
@@ -232,7 +236,8 @@ fn load_tape<H: Files + AllocGlobal>(
 ) -> Result<Loaded, LoadFault>
     requires { history ≤ 65536 }
     ensures started { IfOk result (λ loaded. (image : List (Option ℕ))
-        × IsImageOf true map image × (loaded.session ≡ new_session history (start map image))) }
+        × IsImageOf true map image loaded.assembly
+        × (loaded.session ≡ new_session history (start map image))) }
     ensures refused { IfErr result (EndsFile true map) }
 {
     let image = image_of_tape(rt, words.file)?;
@@ -256,7 +261,7 @@ fn load_tape<H: Files + AllocGlobal>(
 /// an allocation fails.
 pub fn load<H: Files + AllocGlobal>(rt: &H, words: &FileWords<'_>) -> Result<Loaded, LoadFault>
     ensures started { IfOk result (λ loaded. (image : List (Option ℕ))
-        × IsLoaded (file_view words.now) image
+        × IsLoaded (file_view words.now) image loaded.assembly
         × (loaded.session ≡ new_session 0 (start (map_of (file_view words.now)) image))) }
     ensures bad_map { is_map words.now.rom words.now.port ≡ false
         → result ≡ Err (Refused (Refusal.Map BadMap)) }
@@ -278,7 +283,7 @@ pub fn load_with_history<H: Files + AllocGlobal>(
 ) -> Result<Loaded, LoadFault>
     requires { history ≤ 65536 }
     ensures started { IfOk result (λ loaded. (image : List (Option ℕ))
-        × IsLoaded (file_view words.now) image
+        × IsLoaded (file_view words.now) image loaded.assembly
         × (loaded.session ≡ new_session history (start (map_of (file_view words.now)) image))) }
     ensures bad_map { is_map words.now.rom words.now.port ≡ false
         → result ≡ Err (Refused (Refusal.Map BadMap)) }
@@ -307,8 +312,7 @@ pub fn load_names<H: Files + AllocGlobal>(
     words: &FileWords<'_>,
     path: &str,
 ) -> Result<Assembly, Refusal>
-    ensures denoted { IfOk result
-        (λ a. (source : List ℕ) × Denotes (map_of (file_view words.now)) source a.image) }
+    ensures assembled { IfOk result (IsAssembled (map_of (file_view words.now))) }
     ensures refused { IfErr result (EndsNames (file_view words.now)) }
 {
     let map = map_of(words)?;

@@ -1,17 +1,20 @@
 -- How a session begins.
-use Rattle.std.proofs.Common.{◌≡◌, ℕ, List, Option, subst, Result, Ok, Err, IfOk}
+use Rattle.std.proofs.Common.{◌≡◌, ◌∙◌, ℕ, List, Option, ap, subst, Result, Ok, Err, IfOk}
+use Rattle.assembler.specs.Assembly.{AssemblyView}
 use Rattle.loading.specs.Asked.{map_of}
 use Rattle.loading.specs.Loads.{IsLoaded}
 use Rattle.loading.specs.declared.loaded.LoadFault.{LoadFault}
 use Rattle.model.specs.Event.{start}
 use Rattle.model.specs.Session.{Session, new_session}
-use Rattle.mon.specs.Done.{IsNewDesk, StartsMon}
+use Rattle.mon.specs.Done.{AreNamed, IsNewDesk, StartsMon, places_in, with_names}
 use Rattle.mon_desk.specs.declared.desk.Desk.{Desk}
 use Rattle.mon_words.specs.Asked.{MonAsked}
 
 -- The session of a new desk is the one that was loaded.
-pub named_starts : (asked : MonAsked) (session : Session) (r : Result Desk LoadFault)
-    → (image : List (Option ℕ)) × IsLoaded asked.file image × (session ≡ new_session asked.history (start (map_of asked.file) image))
-    → IfOk r (IsNewDesk session asked.history) → IfOk r (StartsMon asked)
-named_starts asked session (Ok desk) loaded new = (loaded.0, loaded.1, subst (λ s. IsNewDesk s asked.history desk) loaded.2 new)
-named_starts asked session (Err fault) loaded new = tt
+pub named_starts : (asked : MonAsked) (session : Session) (assembly : Option AssemblyView) (r : Result Desk LoadFault)
+    → (image : List (Option ℕ)) × IsLoaded asked.file image assembly × (session ≡ new_session asked.history (start (map_of asked.file) image))
+    → IfOk r (λ desk. (names : Option AssemblyView) × AreNamed asked.symbols asked.file names × IsNewDesk session asked.history (with_names names (places_in asked.file.file assembly)) desk)
+    → IfOk r (StartsMon asked)
+named_starts asked session assembly (Ok desk) loaded new =
+    (loaded.0, assembly, loaded.1, new.0, new.1, subst (λ s. IsNewDesk s asked.history (with_names new.0 (places_in asked.file.file assembly)) desk) loaded.2 new.2)
+named_starts asked session assembly (Err fault) loaded new = tt

@@ -1,8 +1,9 @@
 -- What the word `mon` did, by its exit status. What is written for a line is tested. Source: mos65.
-use Rattle.std.specs.Prelude.{◌≡◌, ◌⊎◌, ⊤, ℕ, List, [], Option, Some, None}
+use Rattle.std.specs.Prelude.{◌≡◌, ◌⊎◌, ⊤, ℕ, List, [], ◌++◌, Option, Some, None}
+use Rattle.assembler.specs.Assembly.{AssemblyView}
 use Rattle.clap.specs.Words.{Text}
 use Rattle.loading.specs.Asked.{FileAsked, map_of}
-use Rattle.loading.specs.Loads.{EndsLoad, EndsNames, IsLoaded}
+use Rattle.loading.specs.Loads.{EndsLoad, EndsNames, IsAssembled, IsLoaded}
 use Rattle.loading.specs.Statuses.{status_of_load}
 use Rattle.loading.specs.declared.loaded.LoadFault.{LoadFault}
 use Rattle.loading.specs.declared.loaded.LoadFault.TheVariants.{LooksLikeTape, Refused}
@@ -11,6 +12,8 @@ use Rattle.model.specs.Session.{Session, new_session}
 use Rattle.mon.specs.Attended.{IsAttended}
 use Rattle.mon_desk.specs.declared.desk.Desk.{Desk}
 use Rattle.mon_words.specs.Asked.{MonAsked}
+use Rattle.places.specs.Lines.{PlacesView, places_of}
+use Rattle.places.specs.Names.{names_of}
 use Rattle.program.specs.declared.refusal.Refusal.{Refusal}
 use Rattle.program.specs.declared.refusal.Refusal.TheVariants.{OutOfMemory, Read, Write}
 
@@ -42,17 +45,41 @@ EndsAnswer fault = ⊥
 abbrev pub IsEnded : ℕ → Type 0
 IsEnded status = (status ≡ 0) ⊎ ((status ≡ 3) ⊎ (status ≡ 4))
 
--- A desk at which no line was served: no event has happened, and no break and no watch is set.
-abbrev pub IsNewDesk : Session → ℕ → Desk → Type 0
-IsNewDesk session history desk = (desk.session ≡ session)
-    × (desk.events ≡ record { made = []; undone = []; room = history })
-    × (desk.stops.breaks.items ≡ []) × (desk.stops.watches.items ≡ [])
-    × (desk.stops.changes.items ≡ [])
+-- The names and the lines of a file: of a source those of its assembly, of a tape none.
+abbrev pub places_in : Text → Option AssemblyView → PlacesView
+places_in file None = record { names = []; lines = []; file = [] }
+places_in file (Some assembly) = places_of file assembly
 
--- A desk with a session at the start of an image that the file can have.
+-- With the names of a file of names, if there is one.
+abbrev pub with_names : Option AssemblyView → PlacesView → PlacesView
+with_names None places = places
+with_names (Some names) places
+    = record places { names = places.names ++ names_of names.image names.names }
+
+-- A file of names is assembled if one is named.
+abbrev pub AreNamed : Option Text → FileAsked → Option AssemblyView → Type 0
+AreNamed None file names = names ≡ None
+AreNamed (Some path) file None = ⊥
+AreNamed (Some path) file (Some names) = IsAssembled (map_of file) names
+
+-- A desk at which no line was served: no event has happened, and no break and no watch is set.
+pub record IsNewDesk (session : Session) (history : ℕ) (places : PlacesView) (desk : Desk)
+    : Type 0 where
+  pub session : desk.session ≡ session
+  pub events : desk.events ≡ record { made = []; undone = []; room = history }
+  pub breaks : desk.stops.breaks.items ≡ []
+  pub watches : desk.stops.watches.items ≡ []
+  pub changes : desk.stops.changes.items ≡ []
+  pub places : desk.places ≡ places
+
+-- A desk with a session at the start of an image that the file can have, with the names and lines of
+-- its source and the names of a file of names.
 abbrev pub StartsMon : MonAsked → Desk → Type 0
-StartsMon asked desk = (image : List (Option ℕ)) × IsLoaded asked.file image
-    × IsNewDesk (new_session asked.history (start (map_of asked.file) image)) asked.history desk
+StartsMon asked desk = (image : List (Option ℕ)) × (assembly : Option AssemblyView)
+    × IsLoaded asked.file image assembly
+    × (names : Option AssemblyView) × AreNamed asked.symbols asked.file names
+    × IsNewDesk (new_session asked.history (start (map_of asked.file) image)) asked.history
+    (with_names names (places_in asked.file.file assembly)) desk
 
 -- A session ended at a desk. With the status 0 the lines of the input were served at it.
 abbrev pub EndsAt : Desk → Option (List ℕ) → Option (List ℕ) → ℕ → Type 0

@@ -1,7 +1,8 @@
 //! What the word `mon` does.
 
 ghost use Rattle.std.specs.Prelude.{◌≡◌, ◌≤◌, ◌⊎◌, ◌∷◌, [], ℕ, List, Option, None, Some, Err, IfErr, IfOk, false};
-ghost use Rattle.std.specs.Prelude.{map, option_map};
+ghost use Rattle.std.specs.Prelude.{OnOk, map, option_map};
+ghost use Rattle.assembler.specs.Assembly.{AssemblyView};
 ghost use Rattle.clap.specs.Words.{IsAmong, fault_of};
 ghost use Rattle.clap.specs.declared.error.kind.ErrorKind.TheVariants.{DisplayHelp};
 ghost use Rattle.loading.specs.Asked.{map_of};
@@ -11,8 +12,8 @@ ghost use Rattle.loading.specs.declared.loaded.LoadFault.TheVariants.{Refused};
 ghost use Rattle.model.specs.State.{is_map};
 ghost use Rattle.model.specs.declared.bus_fault.BusFault.TheVariants.{BadMap};
 ghost use Rattle.mon.specs.Attended.{IsAttended, IsAttendedSoFar};
-ghost use Rattle.mon.specs.Done.{EndsAt, EndsMon, EndsNamed, EndsSession, IsDone, IsNewDesk};
-ghost use Rattle.mon.specs.Done.{StartsMon};
+ghost use Rattle.mon.specs.Done.{AreNamed, EndsAt, EndsMon, EndsNamed, EndsSession, IsDone};
+ghost use Rattle.mon.specs.Done.{IsNewDesk, StartsMon, places_in, with_names};
 ghost use Rattle.mon_words.specs.Asked.{MonAsked, asked};
 ghost use Rattle.mon_words.specs.CommandLine.{mon};
 ghost use Rattle.mon_words.specs.Views.{mon_view};
@@ -42,7 +43,8 @@ fn or_memory<T>(made: Result<T, AllocError>) -> Result<T, LoadFault>
 
 /// Returns the places of what was loaded.
 fn places_of(alloc: Global, file: &str, loaded: &Loaded) -> Result<Places, LoadFault>
-    ensures { IfErr result (λ fault. fault ≡ Refused (Refusal.OutOfMemory)) }
+    ensures places { IfOk result (λ p. p ≡ places_in file.now loaded.now.assembly) }
+    ensures refused { IfErr result (λ fault. fault ≡ Refused (Refusal.OutOfMemory)) }
 {
     match &loaded.assembly {
         Some(assembly) => or_memory(Places::of_source(alloc, file.as_bytes(), assembly)),
@@ -56,7 +58,10 @@ fn add_names<H: Files + AllocGlobal>(
     words: &MonWords<'_>,
     places: &mut Places,
 ) -> Result<(), LoadFault>
-    ensures { IfErr result (λ fault. (fault ≡ Refused (Refusal.OutOfMemory))
+    ensures named { OnOk result ((names : Option AssemblyView)
+        × AreNamed (mon_view words.now).symbols (file_view words.now.file) names
+        × (places.new ≡ with_names names places.old)) }
+    ensures refused { IfErr result (λ fault. (fault ≡ Refused (Refusal.OutOfMemory))
         ⊎ EndsNamed (mon_view words.now).symbols (file_view words.now.file) fault) }
 {
     match words.symbols {
@@ -74,7 +79,10 @@ fn named_desk<H: Files + AllocGlobal>(
     words: &MonWords<'_>,
     loaded: Loaded,
 ) -> Result<Desk, LoadFault>
-    ensures made { IfOk result (λ desk. IsNewDesk loaded.session words.now.history desk) }
+    ensures made { IfOk result (λ desk. (names : Option AssemblyView)
+        × AreNamed (mon_view words.now).symbols (file_view words.now.file) names
+        × IsNewDesk loaded.session words.now.history
+        (with_names names (places_in words.now.file.file.now loaded.assembly)) desk) }
     ensures refused { IfErr result (λ fault. (fault ≡ Refused (Refusal.OutOfMemory))
         ⊎ EndsNamed (mon_view words.now).symbols (file_view words.now.file) fault) }
 {

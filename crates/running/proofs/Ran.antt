@@ -1,6 +1,7 @@
 -- How a run ended, from what `play` says of it.
 use Rattle.std.proofs.Common.{◌≡◌, ◌∙◌, ◌++◌, ℕ, Bool, true, false, List, [], Option, Some, None, Result, Ok, Err, IfOk, refl, sym, ap, subst, if◌then◌else◌, inl, inr}
 use Rattle.std.specs.Io.KnownBytes.{Appends}
+use Rattle.assembler.specs.Assembly.{AssemblyView}
 use Rattle.console.specs.Playing.{Outcome, begun, played}
 use Rattle.console.specs.Written.{AreBytesOf, RanAs}
 use Rattle.console.specs.declared.ending.Ending.{Ending}
@@ -9,11 +10,11 @@ use Rattle.console.specs.declared.ending.PlayFault.{PlayFault}
 use Rattle.console.specs.declared.ending.Played.{Played}
 use Rattle.loading.specs.Asked.{FileAsked, map_of}
 use Rattle.loading.specs.Loads.{EndsFile, EndsLoad, IsLoaded}
+use Rattle.loading.specs.Place.{names_of}
 use Rattle.loading.specs.declared.loaded.LoadFault.TheVariants.{Refused as NotLoaded}
 use Rattle.model.specs.Event.{start}
 use Rattle.model.specs.State.{Map}
 use Rattle.program.specs.declared.refusal.Refusal.TheVariants.{OutOfMemory}
-use Rattle.model.specs.Names.{Definitions}
 use Rattle.model.specs.Session.{Session, new_session}
 use Rattle.model.specs.Writers.{AppendsFront}
 use Rattle.program.specs.Statuses.{status_of}
@@ -59,10 +60,10 @@ pub failed_to : (a : RunAsked) (until : Option ℕ) (s t : Session) (streams : S
 failed_to a until s t streams fault status written is = (Err fault, (written.2.0, written.2.3), is)
 
 -- A file that was loaded.
-pub ran_file : (a : RunAsked) (s : Session) (names : Definitions) (image : List (Option ℕ)) (streams : Streams) (status : ℕ) (Alone : Type 0) → IsLoaded a.file image
-    → s ≡ new_session 0 (start (map_of a.file) image) → RanIfFound a (place_asked names a.until) s streams status Alone → IsDone a streams status Alone
-ran_file a s names image streams status A loaded begins ran =
-    inr (image, loaded, names, subst (λ (t : Session). RanIfFound a (place_asked names a.until) t streams status A) begins ran)
+pub ran_file : (a : RunAsked) (s : Session) (assembly : Option AssemblyView) (image : List (Option ℕ)) (streams : Streams) (status : ℕ) (Alone : Type 0) → IsLoaded a.file image assembly
+    → s ≡ new_session 0 (start (map_of a.file) image) → RanIfFound a (place_asked (names_of assembly) a.until) s streams status Alone → IsDone a streams status Alone
+ran_file a s assembly image streams status A loaded begins ran =
+    inr (image, assembly, loaded, subst (λ (t : Session). RanIfFound a (place_asked (names_of assembly) a.until) t streams status A) begins ran)
 
 -- Memory may run out for any words.
 memory_by : (is_tape : Bool) (bus_map : Map) → EndsFile is_tape bus_map (NotLoaded OutOfMemory)

@@ -5,12 +5,13 @@ use Rattle.std.specs.Io.KnownBytes.{Appends}
 use Rattle.console.specs.Playing.{Outcome, begun, played}
 use Rattle.console.specs.Written.{AreBytesOf}
 use Rattle.console.specs.declared.ending.PlayFault.{PlayFault}
+use Rattle.assembler.specs.Assembly.{AssemblyView}
 use Rattle.loading.specs.Asked.{FileAsked, map_of}
 use Rattle.loading.specs.Loads.{EndsLoad, IsLoaded}
+use Rattle.loading.specs.Place.{names_of}
 use Rattle.loading.specs.Statuses.{status_of_load}
 use Rattle.loading.specs.declared.loaded.LoadFault.{LoadFault}
 use Rattle.model.specs.Event.{start}
-use Rattle.model.specs.Names.{Definitions}
 use Rattle.model.specs.Session.{Session, new_session}
 use Rattle.program.specs.Statuses.{status_of}
 use Rattle.running.specs.Asked.{RunAsked}
@@ -57,12 +58,11 @@ IsUnloaded file status Alone = (fault : LoadFault) × EndsLoad file fault
     × (status ≡ status_of_load fault) × Alone
 
 -- A file was loaded: from the start of an image that it can have, on the map of the words and with
--- the names of some source, a session ran.
+-- the names of the image's source, a session ran.
 abbrev pub RanFile : RunAsked → Streams → ℕ → Type 0 → Type 0
-RanFile a streams status Alone = (image : List (Option ℕ)) × IsLoaded a.file image
-    × (names : Definitions)
-    × RanIfFound a (place_asked names a.until) (new_session 0 (start (map_of a.file) image))
-    streams status Alone
+RanFile a streams status Alone = (image : List (Option ℕ)) × (assembly : Option AssemblyView)
+    × IsLoaded a.file image assembly × RanIfFound a (place_asked (names_of assembly) a.until)
+    (new_session 0 (start (map_of a.file) image)) streams status Alone
 
 -- What was done for words.
 abbrev pub IsDone : RunAsked → Streams → ℕ → Type 0 → Type 0

@@ -32,7 +32,7 @@ pub fn load_at_start<H: Files + AllocGlobal>(
     words: &FileWords<'_>,
 ) -> Result<Loaded, LoadFault>
     ensures started { IfOk result (λ loaded. (image : List (Option ℕ))
-        × IsLoaded (file_view words.now) image
+        × IsLoaded (file_view words.now) image loaded.assembly
         × (loaded.session ≡ new_session 0 (start (map_of (file_view words.now)) image))) }
     ensures idle { IfOk result (λ loaded. input_waits loaded.session.current.bus ≡ false) }
     ensures silent { IfOk result (λ loaded. loaded.session.current.bus.out ≡ []) }

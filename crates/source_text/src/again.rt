@@ -47,6 +47,8 @@ pub fn assembled_again(
 ) -> Result<Assembly, AsmFault>
     requires { has_port_byte map.now image.now ≡ false }
     ensures same { IfOk result (λ a. a.image ≡ image.now) }
+    ensures source { IfOk result
+        (λ a. a.source ≡ source_of map.now.profile image.now marks.now) }
     ensures only { IfErr result (λ f. f ≡ out_of_memory) }
 {
     match source_text(alloc, map.profile(), image, marks) {

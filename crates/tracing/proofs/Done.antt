@@ -1,14 +1,15 @@
 -- What was done for the words of `trace`, from what was traced.
 use Rattle.std.proofs.Common.{◌≡◌, ◌∙◌, ℕ, Bool, true, false, List, Option, Some, Result, Ok, Err, inr, refl, ap, subst}
+use Rattle.assembler.specs.Assembly.{AssemblyView}
 use Rattle.console.specs.Playing.{Outcome, begun}
 use Rattle.console.specs.Written.{AreBytesOf, RanAs}
 use Rattle.console.specs.declared.ending.Ending.{Ending}
 use Rattle.console.specs.declared.ending.Played.{Played}
 use Rattle.loading.specs.Asked.{FileAsked, map_of}
 use Rattle.loading.specs.Loads.{EndsFile, EndsLoad, IsLoaded}
+use Rattle.loading.specs.Place.{names_of}
 use Rattle.loading.specs.declared.loaded.LoadFault.TheVariants.{Refused as NotLoaded}
 use Rattle.model.specs.Event.{start}
-use Rattle.model.specs.Names.{Definitions}
 use Rattle.model.specs.Session.{Session, new_session}
 use Rattle.model.specs.State.{Map}
 use Rattle.program.specs.Statuses.{status_of}
@@ -18,52 +19,52 @@ use Rattle.running.specs.Places.{place_asked}
 use Rattle.running.specs.Runs.{Streams}
 use Rattle.running.specs.Statuses.{status_of_ending}
 use Rattle.trace_words.specs.Asked.{TraceAsked}
-use Rattle.tracing.specs.Traces.{IsDone, TracedIfFound, TracedTo, WroteNotes, trace_noted, traced}
+use Rattle.tracing.specs.Traces.{BreaksOff, IsDone, TracedIfFound, TracedTo, WroteNotes, trace_noted, traced}
 
-abbrev TracedAs : TraceAsked → Option ℕ → Option ℕ → Session → Streams → Session → Played → Type 0
-TracedAs a from to s streams now end = (input : List ℕ) × (rest : List ℕ) × AreBytesOf streams.given input × AreBytesOf streams.left rest
-    × RanAs (traced from to a.steps (begun s input)) end now rest × WroteNotes a (λ g. trace_noted from to a.steps g (begun s input)) streams.held streams.now
+abbrev TracedAs : TraceAsked → Option AssemblyView → Option ℕ → Option ℕ → Session → Streams → Session → Played → Type 0
+TracedAs a assembly from to s streams now end = (input : List ℕ) × (rest : List ℕ) × AreBytesOf streams.given input × AreBytesOf streams.left rest
+    × RanAs (traced from to a.steps (begun s input)) end now rest × WroteNotes a assembly (λ g. trace_noted from to a.steps g (begun s input)) streams.held streams.now
 
-pub traced_to : (a : TraceAsked) (from to : Option ℕ) (s t : Session) (streams : Streams) (end : Played) (status : ℕ)
-    → TracedAs a from to s streams t end → status ≡ status_of_ending end.ending 0 → TracedTo a from to s streams status
-traced_to a from to s t streams end status run is =
+pub traced_to : (a : TraceAsked) (assembly : Option AssemblyView) (from to : Option ℕ) (s t : Session) (streams : Streams) (end : Played) (status : ℕ)
+    → TracedAs a assembly from to s streams t end → status ≡ status_of_ending end.ending 0 → TracedTo a assembly from to s streams status
+traced_to a assembly from to s t streams end status run is =
     let outcome : Outcome = traced from to a.steps (begun s run.0) in
     let same : RanAs outcome end t run.1 = run.4 in
     let B : List ℕ → Type 0 = λ bytes. AreBytesOf streams.left bytes in
     (Ok outcome, (run.0, refl, run.2, subst B same.left run.3, run.5), is ∙ ap (λ (why : Ending). status_of_ending why 0) same.ending)
 
-pub cut_off : (a : TraceAsked) (from to : Option ℕ) (s : Session) (streams : Streams) (refusal : Refusal) (status : ℕ) → status ≡ status_of refusal → TracedTo a from to s streams status
-cut_off a from to s streams refusal status is = (Err refusal, tt, is)
+pub cut_off : (a : TraceAsked) (assembly : Option AssemblyView) (from to : Option ℕ) (s : Session) (streams : Streams) (refusal : Refusal) (status : ℕ) → BreaksOff a assembly refusal → status ≡ status_of refusal → TracedTo a assembly from to s streams status
+cut_off a assembly from to s streams refusal status why is = (Err refusal, why, is)
 
-pub traced_between : (asked : TraceAsked) (from to : Option ℕ) (a b : Result (Option ℕ) ℕ) (s : Session) (streams : Streams) (status : ℕ) (Alone : Type 0)
-    → Ok from ≡ a → Ok to ≡ b → TracedTo asked from to s streams status → TracedIfFound asked a b s streams status Alone
-traced_between asked from to a b s streams status A is_from is_to done =
-    let F : Result (Option ℕ) ℕ → Type 0 = λ r. TracedIfFound asked r b s streams status A in
-    let T : Result (Option ℕ) ℕ → Type 0 = λ r. TracedIfFound asked (Ok from) r s streams status A in
+pub traced_between : (asked : TraceAsked) (assembly : Option AssemblyView) (from to : Option ℕ) (a b : Result (Option ℕ) ℕ) (s : Session) (streams : Streams) (status : ℕ) (Alone : Type 0)
+    → Ok from ≡ a → Ok to ≡ b → TracedTo asked assembly from to s streams status → TracedIfFound asked assembly a b s streams status Alone
+traced_between asked assembly from to a b s streams status A is_from is_to done =
+    let F : Result (Option ℕ) ℕ → Type 0 = λ r. TracedIfFound asked assembly r b s streams status A in
+    let T : Result (Option ℕ) ℕ → Type 0 = λ r. TracedIfFound asked assembly (Ok from) r s streams status A in
     subst F is_from (subst T is_to done)
 
 pub one_asked : (o : Option TraceAsked) (a b : TraceAsked) → o ≡ Some a → o ≡ Some b → a ≡ b
 one_asked o a b x y = cc
 
 -- A place that is not found.
-pub unfound_from : (asked : TraceAsked) (a b : Result (Option ℕ) ℕ) (s : Session) (streams : Streams) (status : ℕ) (Alone : Type 0)
-    → Err status ≡ a → Alone → TracedIfFound asked a b s streams status Alone
-unfound_from asked a b s streams status A is alone =
-    let F : Result (Option ℕ) ℕ → Type 0 = λ r. TracedIfFound asked r b s streams status A in subst F is (refl, alone)
+pub unfound_from : (asked : TraceAsked) (assembly : Option AssemblyView) (a b : Result (Option ℕ) ℕ) (s : Session) (streams : Streams) (status : ℕ) (Alone : Type 0)
+    → Err status ≡ a → Alone → TracedIfFound asked assembly a b s streams status Alone
+unfound_from asked assembly a b s streams status A is alone =
+    let F : Result (Option ℕ) ℕ → Type 0 = λ r. TracedIfFound asked assembly r b s streams status A in subst F is (refl, alone)
 
-pub unfound_to : (asked : TraceAsked) (from : Option ℕ) (a b : Result (Option ℕ) ℕ) (s : Session) (streams : Streams) (status : ℕ) (Alone : Type 0)
-    → Ok from ≡ a → Err status ≡ b → Alone → TracedIfFound asked a b s streams status Alone
-unfound_to asked from a b s streams status A is_from is alone =
-    let F : Result (Option ℕ) ℕ → Type 0 = λ r. TracedIfFound asked r b s streams status A in
-    let T : Result (Option ℕ) ℕ → Type 0 = λ r. TracedIfFound asked (Ok from) r s streams status A in
+pub unfound_to : (asked : TraceAsked) (assembly : Option AssemblyView) (from : Option ℕ) (a b : Result (Option ℕ) ℕ) (s : Session) (streams : Streams) (status : ℕ) (Alone : Type 0)
+    → Ok from ≡ a → Err status ≡ b → Alone → TracedIfFound asked assembly a b s streams status Alone
+unfound_to asked assembly from a b s streams status A is_from is alone =
+    let F : Result (Option ℕ) ℕ → Type 0 = λ r. TracedIfFound asked assembly r b s streams status A in
+    let T : Result (Option ℕ) ℕ → Type 0 = λ r. TracedIfFound asked assembly (Ok from) r s streams status A in
     subst F is_from (subst T is (refl, alone))
 
 -- A file that was loaded.
-pub traced_file : (a : TraceAsked) (s : Session) (names : Definitions) (image : List (Option ℕ)) (streams : Streams) (status : ℕ) (Alone : Type 0)
-    → IsLoaded a.file image → s ≡ new_session 0 (start (map_of a.file) image)
-    → TracedIfFound a (place_asked names a.from) (place_asked names a.to) s streams status Alone → IsDone a streams status Alone
-traced_file a s names image streams status A loaded begins done =
-    inr (image, loaded, names, subst (λ (t : Session). TracedIfFound a (place_asked names a.from) (place_asked names a.to) t streams status A) begins done)
+pub traced_file : (a : TraceAsked) (s : Session) (assembly : Option AssemblyView) (image : List (Option ℕ)) (streams : Streams) (status : ℕ) (Alone : Type 0)
+    → IsLoaded a.file image assembly → s ≡ new_session 0 (start (map_of a.file) image)
+    → TracedIfFound a assembly (place_asked (names_of assembly) a.from) (place_asked (names_of assembly) a.to) s streams status Alone → IsDone a streams status Alone
+traced_file a s assembly image streams status A loaded begins done =
+    inr (image, assembly, loaded, subst (λ (t : Session). TracedIfFound a assembly (place_asked (names_of assembly) a.from) (place_asked (names_of assembly) a.to) t streams status A) begins done)
 
 -- Memory may run out for any words.
 memory_by : (is_tape : Bool) (bus_map : Map) → EndsFile is_tape bus_map (NotLoaded OutOfMemory)

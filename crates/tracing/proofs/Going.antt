@@ -1,6 +1,7 @@
 -- Parts of a run, one after another.
 use Rattle.std.proofs.Common.{◌≡◌, ◌∙◌, ◌++◌, ℕ, Bool, false, true, List, [], Option, None, Some, Result, Ok, Err, IfOk, OnOk, refl, sym, ap, ap₂, append_assoc, subst}
 use Rattle.std.proofs.KnownBytes.{Appends-trans, Consumes-nil, Consumes-trans}
+use Rattle.assembler.specs.Assembly.{AssemblyView}
 use Rattle.console.proofs.Turning.{ran_as, whole_input}
 use Rattle.console.specs.Playing.{Outcome, Play, begun, no_memo, played}
 use Rattle.console.specs.Turns.{EndsOnce, MayCome, play_at}
@@ -14,9 +15,9 @@ use Rattle.console.specs.declared.memo.Memo.{Memo}
 use Rattle.model.specs.Session.{Session}
 use Rattle.program.specs.declared.refusal.Refusal.{Refusal}
 use Rattle.std.specs.Io.KnownBytes.{Appends}
-use Rattle.std.specs.Prelude.{is_some}
 use Rattle.trace_rows.specs.declared.sites.Sites.{Sites}
 use Rattle.trace_words.specs.Asked.{TraceAsked}
+use Rattle.tracing.specs.Beginnings.{AreSites, AreWritten}
 use Rattle.tracing.specs.Gathered.{Gathered, Gathers, none_gathered, text_at_end}
 use Rattle.tracing.specs.Texts.{GotText, Noted, by_steps, no_text, note_step, pass_step}
 use Rattle.tracing.specs.Traces.{EndsAt, WentOn, WroteNotes, gathered_at, is_begun, noted_after, reached, trace_noted, traced, traced_after}
@@ -152,17 +153,17 @@ got_text held mid now before sheet text g none gathers ended = (
 )
 
 -- A trace that is as long as was asked for.
-pub as_long : (a : TraceAsked) (from to : Option ℕ) (limit steps : ℕ) (s t : Session) (given left held now : Option (List ℕ)) (end : Played) → limit ≡ steps
-    → ((input : List ℕ) × (rest : List ℕ) × AreBytesOf given input × AreBytesOf left rest × RanAs (traced from to limit (begun s input)) end t rest × WroteNotes a (λ g. trace_noted from to limit g (begun s input)) held now)
-    → (input : List ℕ) × (rest : List ℕ) × AreBytesOf given input × AreBytesOf left rest × RanAs (traced from to steps (begun s input)) end t rest × WroteNotes a (λ g. trace_noted from to steps g (begun s input)) held now
-as_long a from to limit steps s t given left held now end same run =
-    subst (λ n. (input : List ℕ) × (rest : List ℕ) × AreBytesOf given input × AreBytesOf left rest × RanAs (traced from to n (begun s input)) end t rest × WroteNotes a (λ g. trace_noted from to n g (begun s input)) held now) same run
+pub as_long : (a : TraceAsked) (assembly : Option AssemblyView) (from to : Option ℕ) (limit steps : ℕ) (s t : Session) (given left held now : Option (List ℕ)) (end : Played) → limit ≡ steps
+    → ((input : List ℕ) × (rest : List ℕ) × AreBytesOf given input × AreBytesOf left rest × RanAs (traced from to limit (begun s input)) end t rest × WroteNotes a assembly (λ g. trace_noted from to limit g (begun s input)) held now)
+    → (input : List ℕ) × (rest : List ℕ) × AreBytesOf given input × AreBytesOf left rest × RanAs (traced from to steps (begun s input)) end t rest × WroteNotes a assembly (λ g. trace_noted from to steps g (begun s input)) held now
+as_long a assembly from to limit steps s t given left held now end same run =
+    subst (λ n. (input : List ℕ) × (rest : List ℕ) × AreBytesOf given input × AreBytesOf left rest × RanAs (traced from to n (begun s input)) end t rest × WroteNotes a assembly (λ g. trace_noted from to n g (begun s input)) held now) same run
 
 -- Nothing was gathered before the trace of a file.
-pub wrote_notes : (a : TraceAsked) (from to : Option ℕ) (limit : ℕ) (s t : Session) (given left held now : Option (List ℕ)) (g : Gathered) (r : Result Played Refusal)
-    → ((sites : Sites) × (written : Option (List Bool)) × (is_some written ≡ a.finds_unwritten) × (g ≡ none_gathered a sites written))
+pub wrote_notes : (a : TraceAsked) (assembly : Option AssemblyView) (from to : Option ℕ) (limit : ℕ) (s t : Session) (given left held now : Option (List ℕ)) (g : Gathered) (r : Result Played Refusal)
+    → ((sites : Sites) × AreSites assembly sites × (written : Option (List Bool)) × AreWritten a.finds_unwritten assembly written × (g ≡ none_gathered a sites written))
     → IfOk r (λ end. (input : List ℕ) × (rest : List ℕ) × AreBytesOf given input × AreBytesOf left rest × RanAs (traced from to limit (begun s input)) end t rest × GotText (trace_noted from to limit g (begun s input)) held now)
-    → IfOk r (λ end. (input : List ℕ) × (rest : List ℕ) × AreBytesOf given input × AreBytesOf left rest × RanAs (traced from to limit (begun s input)) end t rest × WroteNotes a (λ h. trace_noted from to limit h (begun s input)) held now)
-wrote_notes a from to limit s t given left held now g (Err refusal) new run = tt
-wrote_notes a from to limit s t given left held now g (Ok end) new run =
-    (run.0, run.1, run.2, run.3, run.4, (new.0, new.1, new.2, subst (λ h. GotText (trace_noted from to limit h (begun s run.0)) held now) new.3 run.5))
+    → IfOk r (λ end. (input : List ℕ) × (rest : List ℕ) × AreBytesOf given input × AreBytesOf left rest × RanAs (traced from to limit (begun s input)) end t rest × WroteNotes a assembly (λ h. trace_noted from to limit h (begun s input)) held now)
+wrote_notes a assembly from to limit s t given left held now g (Err refusal) new run = tt
+wrote_notes a assembly from to limit s t given left held now g (Ok end) new run =
+    (run.0, run.1, run.2, run.3, run.4, (new.0, new.1, new.2, new.3, subst (λ h. GotText (trace_noted from to limit h (begun s run.0)) held now) new.4 run.5))

@@ -1,3 +1,4 @@
+pub mod Beginnings
 pub mod Traces
 pub mod Notes
 pub mod Gathered

@@ -1,7 +1,8 @@
 -- Where a trace leads, what it writes, and how its exit status tells of it. No clause can say which image and names a
 -- file stands for. Source: mos65.
-use Rattle.std.specs.Prelude.{◌≡◌, ◌⊎◌, ⊤, ℕ, true, Bool, if◌then◌else◌, List, [], ◌++◌, Option, Some, None, Result, Ok, Err, is_some}
+use Rattle.std.specs.Prelude.{◌≡◌, ◌⊎◌, ⊤, ℕ, true, Bool, if◌then◌else◌, List, [], ◌++◌, Option, Some, None, Result, Ok, Err}
 use Rattle.std.specs.Io.KnownBytes.{Consumes, IsAtEnd}
+use Rattle.assembler.specs.Assembly.{AssemblyView}
 use Rattle.console.specs.Playing.{Outcome, Play, begun, is_at, played}
 use Rattle.console.specs.Turns.{EndsOnce, MayCome, play_at}
 use Rattle.console.specs.Written.{AreBytesOf}
@@ -10,18 +11,20 @@ use Rattle.console.specs.declared.ending.Ending.TheVariants.{Until}
 use Rattle.console.specs.declared.ending.Played.{Played}
 use Rattle.console.specs.declared.turn.Player.{Player}
 use Rattle.loading.specs.Asked.{map_of}
-use Rattle.loading.specs.Loads.{IsLoaded}
+use Rattle.loading.specs.Loads.{IsLoaded, IsUnread}
+use Rattle.loading.specs.Place.{names_of}
 use Rattle.model.specs.Event.{start}
-use Rattle.model.specs.Names.{Definitions}
 use Rattle.model.specs.Session.{Session, new_session}
 use Rattle.model.specs.State.{State}
 use Rattle.program.specs.Statuses.{status_of}
 use Rattle.program.specs.declared.refusal.Refusal.{Refusal}
+use Rattle.program.specs.declared.refusal.Refusal.TheVariants.{OutOfMemory, Read, Write}
 use Rattle.running.specs.Places.{place_asked}
 use Rattle.running.specs.Runs.{IsUnloaded, Streams}
 use Rattle.running.specs.Statuses.{status_of_ending}
 use Rattle.trace_rows.specs.declared.sites.Sites.{Sites}
 use Rattle.trace_words.specs.Asked.{TraceAsked}
+use Rattle.tracing.specs.Beginnings.{AreSites, AreWritten}
 use Rattle.tracing.specs.Gathered.{Gathered, none_gathered}
 use Rattle.tracing.specs.Texts.{GotText, Noted, by_steps, no_text, note_step, pass_step}
 
@@ -92,23 +95,37 @@ pub record WentOn {A : Type 0} (part : Play → Outcome) (makes : Play → A) (s
 
 -- ---- what the word does
 
--- A writer got the text that a trace notes, by some sites, and by some addresses that count as
--- written if reads of others are asked for.
-abbrev pub WroteNotes : TraceAsked → (Gathered → Option Noted) → Option (List ℕ)
-    → Option (List ℕ) → Type 0
-WroteNotes a notes held now = (sites : Sites) × (written : Option (List Bool))
-    × (is_some written ≡ a.finds_unwritten)
+-- A writer got the text that a trace notes, by the sites of the source and by the addresses that
+-- count as written.
+abbrev pub WroteNotes : TraceAsked → Option AssemblyView → (Gathered → Option Noted)
+    → Option (List ℕ) → Option (List ℕ) → Type 0
+WroteNotes a assembly notes held now = (sites : Sites) × AreSites assembly sites
+    × (written : Option (List Bool)) × AreWritten a.finds_unwritten assembly written
     × GotText (notes (none_gathered a sites written)) held now
+
+-- Memory ran out, or a stream failed.
+abbrev pub IsOfStreams : Refusal → Type 0
+IsOfStreams OutOfMemory = ⊤
+IsOfStreams Read = ⊤
+IsOfStreams Write = ⊤
+IsOfStreams refusal = ⊥
+
+-- Why a trace does not come to its end: memory runs out or a stream fails; or a tape is not read
+-- once more, which is done where reads of addresses that nobody wrote are asked for.
+abbrev pub BreaksOff : TraceAsked → Option AssemblyView → Refusal → Type 0
+BreaksOff a assembly refusal = IsOfStreams refusal
+    ⊎ ((a.finds_unwritten ≡ true) × (assembly ≡ None) × IsUnread refusal)
 
 -- A session was traced by the definition of a trace over some input, which is the reader's if its
 -- bytes are known: what was not asked for is left, and what was noted was written.
-abbrev pub IsTraced : TraceAsked → Session → Option ℕ → Option ℕ → Streams
-    → Result Outcome Refusal → Type 0
-IsTraced a s from to streams (Ok end) = (input : List ℕ)
+abbrev pub IsTraced : TraceAsked → Option AssemblyView → Session → Option ℕ → Option ℕ
+    → Streams → Result Outcome Refusal → Type 0
+IsTraced a assembly s from to streams (Ok end) = (input : List ℕ)
     × (end ≡ traced from to a.steps (begun s input))
     × AreBytesOf streams.given input × AreBytesOf streams.left end.play.input
-    × WroteNotes a (λ g. trace_noted from to a.steps g (begun s input)) streams.held streams.now
-IsTraced a s from to streams (Err refusal) = ⊤
+    × WroteNotes a assembly (λ g. trace_noted from to a.steps g (begun s input))
+    streams.held streams.now
+IsTraced a assembly s from to streams (Err refusal) = BreaksOff a assembly refusal
 
 -- The exit status of a trace: 0 where the program came to its end, or to the end of the trace.
 abbrev pub status_of_trace : Result Outcome Refusal → ℕ
@@ -116,23 +133,28 @@ status_of_trace (Ok end) = status_of_ending end.ending 0
 status_of_trace (Err refusal) = status_of refusal
 
 -- A session was traced from one place to another.
-abbrev pub TracedTo : TraceAsked → Option ℕ → Option ℕ → Session → Streams → ℕ → Type 0
-TracedTo a from to s streams status = (outcome : Result Outcome Refusal)
-    × IsTraced a s from to streams outcome × (status ≡ status_of_trace outcome)
+abbrev pub TracedTo : TraceAsked → Option AssemblyView → Option ℕ → Option ℕ → Session
+    → Streams → ℕ → Type 0
+TracedTo a assembly from to s streams status = (outcome : Result Outcome Refusal)
+    × IsTraced a assembly s from to streams outcome × (status ≡ status_of_trace outcome)
 
 -- A session was traced between the places of the words, if they are found; else the streams were
 -- left alone, `Alone`.
-abbrev pub TracedIfFound : TraceAsked → Result (Option ℕ) ℕ → Result (Option ℕ) ℕ → Session
-    → Streams → ℕ → Type 0 → Type 0
-TracedIfFound a (Ok from) (Ok to) s streams status Alone = TracedTo a from to s streams status
-TracedIfFound a (Ok from) (Err refused) s streams status Alone = (status ≡ refused) × Alone
-TracedIfFound a (Err refused) to s streams status Alone = (status ≡ refused) × Alone
+abbrev pub TracedIfFound : TraceAsked → Option AssemblyView → Result (Option ℕ) ℕ
+    → Result (Option ℕ) ℕ → Session → Streams → ℕ → Type 0 → Type 0
+TracedIfFound a assembly (Ok from) (Ok to) s streams status Alone
+    = TracedTo a assembly from to s streams status
+TracedIfFound a assembly (Ok from) (Err refused) s streams status Alone
+    = (status ≡ refused) × Alone
+TracedIfFound a assembly (Err refused) to s streams status Alone
+    = (status ≡ refused) × Alone
 
 -- What was done for words: a file was not loaded, and the streams were left alone; or from the start
--- of an image that it can have, on the map of the words and with the names of some source, a session
--- was traced.
+-- of an image that it can have, on the map of the words and with the names of the image's source, a
+-- session was traced.
 abbrev pub IsDone : TraceAsked → Streams → ℕ → Type 0 → Type 0
 IsDone a streams status Alone = IsUnloaded a.file status Alone
-    ⊎ ((image : List (Option ℕ)) × IsLoaded a.file image × (names : Definitions)
-    × TracedIfFound a (place_asked names a.from) (place_asked names a.to)
+    ⊎ ((image : List (Option ℕ)) × (assembly : Option AssemblyView)
+    × IsLoaded a.file image assembly × TracedIfFound a assembly
+    (place_asked (names_of assembly) a.from) (place_asked (names_of assembly) a.to)
     (new_session 0 (start (map_of a.file) image)) streams status Alone)

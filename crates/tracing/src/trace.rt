@@ -1,7 +1,7 @@
 //! What the word `trace` does.
 
-ghost use Rattle.std.specs.Prelude.{◌≡◌, ◌≤◌, ◌⊎◌, [], ◌∷◌, ℕ, List, None, IfOk, OnOk};
-ghost use Rattle.std.specs.Prelude.{Bool, Option, Some, false, is_some, map};
+ghost use Rattle.std.specs.Prelude.{◌≡◌, ◌≤◌, ◌⊎◌, [], ◌∷◌, ℕ, List, None, IfErr, IfOk, OnOk};
+ghost use Rattle.std.specs.Prelude.{Bool, Option, Some, false, map};
 ghost use Rattle.clap.specs.Words.{IsAmong, fault_of};
 ghost use Rattle.clap.specs.declared.error.kind.ErrorKind.TheVariants.{DisplayHelp};
 ghost use Rattle.console.specs.Playing.{begun, is_at, played};
@@ -15,22 +15,22 @@ ghost use Rattle.trace_rows.specs.declared.sites.Sites.{Sites};
 ghost use Rattle.trace_words.specs.Asked.{TraceAsked, asked};
 ghost use Rattle.trace_words.specs.CommandLine.{trace};
 ghost use Rattle.trace_words.specs.Views.{trace_view};
+ghost use Rattle.tracing.specs.Beginnings.{AreSites, AreWritten};
 ghost use Rattle.tracing.specs.Gathered.{Gathers, gathered, none_gathered};
 ghost use Rattle.tracing.specs.Texts.{GotText, Noted, by_steps, no_text, note_step, noted_in};
 ghost use Rattle.tracing.specs.Texts.{pass_step};
-ghost use Rattle.tracing.specs.Traces.{EndsAt, IsDone, TracedIfFound, TracedTo, WentOn};
+ghost use Rattle.tracing.specs.Traces.{BreaksOff, EndsAt, IsDone, IsOfStreams, TracedIfFound};
+ghost use Rattle.tracing.specs.Traces.{TracedTo, WentOn};
 ghost use Rattle.tracing.specs.Traces.{WroteNotes, gathered_at, is_begun, reached, trace_noted, traced};
 
 use crate::tracer::Tracer;
 use console::{Ending, PlayFault, Played, Player, begin, take_turn};
 use debugger::Session;
 use footprint::Written;
-use loading::Loaded;
-use papertape::read_tape_from;
+use loading::{Loaded, image_of_tape};
 use program::{Refusal, refuse, refused_words};
 use running::{load_at_start, place_named, refusal_of, status_of_ending, tell_ending};
 use std::alloc::Global;
-use std::fs::File;
 use std::io::{Read, Write};
 use std::rt::Files;
 use trace_rows::Sites;
@@ -151,6 +151,7 @@ fn run_noting<R: Read, O: Write, E: Write>(
         end session.new player.new (noted_in tracer.new text)
         × Gathers (O.contents output.old) (O.contents output.new)
         tracer.old.sheet.text.items tracer.new.sheet.text.items text) }
+    ensures fault { IfErr result IsOfStreams }
     ensures over { OnOk result (EndsAt player.new.is_over (R.remaining input.new)) }
 {
     for steps in 0..limit {
@@ -181,20 +182,18 @@ fn written_of<H: Files + AllocGlobal>(
     words: &TraceWords<'_>,
     loaded: &Loaded,
 ) -> Result<Option<Written>, Refusal>
-    ensures { IfOk result (λ written. is_some written ≡ words.now.finds_unwritten) }
+    ensures written { IfOk result (AreWritten words.now.finds_unwritten loaded.now.assembly) }
+    ensures fault { IfErr result (BreaksOff (trace_view words.now) loaded.now.assembly) }
 {
     if !words.finds_unwritten {
         return Ok(None);
     }
     let written = match &loaded.assembly {
         Some(assembly) => Written::of_image(rt.alloc(), assembly.image()),
-        None => {
-            let mut tape = File::open(rt, words.file.file).map_err(|error| Refusal::unreadable(
-                &error,
-            ))?;
-            let image = read_tape_from(rt.alloc(), &mut tape)?;
-            Written::of_image(rt.alloc(), &image)
-        }
+        None => match image_of_tape(rt, words.file.file) {
+            Ok(image) => Written::of_image(rt.alloc(), &image),
+            Err(refusal) => return Err(refusal),
+        },
     };
     match written {
         Ok(written) => Ok(Some(written)),
@@ -208,17 +207,22 @@ fn make_tracer<'a, H: Files + AllocGlobal>(
     words: &TraceWords<'a>,
     loaded: &Loaded,
 ) -> Result<Tracer<'a>, Refusal>
-    ensures nothing { IfOk result (λ t. (sites : Sites) × (written : Option (List Bool))
-        × (is_some written ≡ words.now.finds_unwritten)
+    ensures nothing { IfOk result (λ t. (sites : Sites) × AreSites loaded.now.assembly sites
+        × (written : Option (List Bool))
+        × AreWritten words.now.finds_unwritten loaded.now.assembly written
         × (gathered t ≡ none_gathered (trace_view words.now) sites written)) }
     ensures sheet { IfOk result (λ t. t.sheet.text.items ≡ []) }
+    ensures fault { IfErr result (BreaksOff (trace_view words.now) loaded.now.assembly) }
 {
     let alloc = rt.alloc();
     let sites = match &loaded.assembly {
         None => Ok(Sites::new(alloc)),
         Some(assembly) => Sites::of_source(alloc, assembly),
     };
-    let written = written_of(rt, words, loaded)?;
+    let written = match written_of(rt, words, loaded) {
+        Ok(written) => written,
+        Err(refusal) => return Err(refusal),
+    };
     let Ok(sites) = sites else {
         return Err(Refusal::OutOfMemory);
     };
@@ -247,6 +251,7 @@ fn trace_on<R: Read, O: Write, E: Write>(
         session.old player.old (R.remaining input.old) (R.remaining input.new)
         end session.new player.new noted
         × GotText (Some noted) (O.contents output.old) (O.contents output.new)) }
+    ensures fault { IfErr result IsOfStreams }
     ensures over { OnOk result (EndsAt player.new.is_over (R.remaining input.new)) }
 {
     let played = run_noting(
@@ -276,11 +281,12 @@ fn trace_between<R: Read, O: Write, E: Write>(
     requires sheet { tracer.old.sheet.text.items ≡ [] }
     // The trace is the definition's over some input, which is the reader's if its bytes are known;
     // what it did not ask for is left. The writer got what the definition notes.
-    ensures { IfOk result (λ end. (told : List ℕ) × (left : List ℕ)
+    ensures ok { IfOk result (λ end. (told : List ℕ) × (left : List ℕ)
         × AreBytesOf (R.remaining input.old) told × AreBytesOf (R.remaining input.new) left
         × RanAs (traced span.from span.to span.limit (begun session.old told)) end session.new
         left × GotText (trace_noted span.from span.to span.limit (gathered tracer.old)
         (begun session.old told)) (O.contents output.old) (O.contents output.new)) }
+    ensures fault { IfErr result IsOfStreams }
 {
     let mut player = begin(session);
     let reached = match run_to_start(tracer, session, &mut player, span.from, input, errors) {
@@ -316,14 +322,18 @@ fn trace_span<H: Files + AllocGlobal, R: Read, O: Write, E: Write>(
     errors: &mut E,
 ) -> Result<Played, Refusal>
     requires { input_waits loaded.old.session.current.bus ≡ false }
-    ensures { IfOk result (λ end. (told : List ℕ) × (left : List ℕ)
+    ensures ok { IfOk result (λ end. (told : List ℕ) × (left : List ℕ)
         × AreBytesOf (R.remaining input.old) told × AreBytesOf (R.remaining input.new) left
         × RanAs (traced span.from span.to span.limit (begun loaded.old.session told)) end
-        loaded.new.session left × WroteNotes (trace_view words.now)
+        loaded.new.session left × WroteNotes (trace_view words.now) loaded.old.assembly
         (λ g. trace_noted span.from span.to span.limit g (begun loaded.old.session told))
         (O.contents output.old) (O.contents output.new)) }
+    ensures fault { IfErr result (BreaksOff (trace_view words.now) loaded.old.assembly) }
 {
-    let mut tracer = make_tracer(rt, words, loaded)?;
+    let mut tracer = match make_tracer(rt, words, loaded) {
+        Ok(tracer) => tracer,
+        Err(refusal) => return Err(refusal),
+    };
     let session = &mut loaded.session;
     trace_between(
         rt.alloc(),
@@ -348,12 +358,13 @@ fn trace_told<H: Files + AllocGlobal, R: Read, O: Write, E: Write>(
 ) -> u8
     requires idle { input_waits loaded.old.session.current.bus ≡ false }
     requires limit { span.limit ≡ words.now.steps }
-    ensures { TracedTo (trace_view words.now) span.from span.to loaded.old.session (record {
-      given = R.remaining input.old;
-      left = R.remaining input.new;
-      held = O.contents output.old;
-      now = O.contents output.new;
-    }) result }
+    ensures { TracedTo (trace_view words.now) loaded.old.assembly span.from span.to
+        loaded.old.session (record {
+          given = R.remaining input.old;
+          left = R.remaining input.new;
+          held = O.contents output.old;
+          now = O.contents output.new;
+        }) result }
 {
     match trace_span(rt, words, loaded, span, input, output, errors) {
         Ok(played) => {
@@ -374,7 +385,7 @@ fn trace_loaded<H: Files + AllocGlobal, R: Read, O: Write, E: Write>(
     errors: &mut E,
 ) -> u8
     requires { input_waits loaded.old.session.current.bus ≡ false }
-    ensures { TracedIfFound (trace_view words.now)
+    ensures { TracedIfFound (trace_view words.now) loaded.old.assembly
         (place_asked (names_of loaded.old.assembly) (trace_view words.now).from)
         (place_asked (names_of loaded.old.assembly) (trace_view words.now).to)
         loaded.old.session (record {

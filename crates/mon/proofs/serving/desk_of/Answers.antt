@@ -4,7 +4,7 @@ use Rattle.mon_words.specs.Views.{mon_view}
 use Rattle.mon.proofs.serving.desk_of.Goals as goal
 
 pub returns-in-Ok-clause-made : goal.returns-in-Ok-clause-made
-returns-in-Ok-clause-made g c = named_starts (mon_view c.args.words.now) c.in-Ok.loaded.session c.named_desk.result c.in-Ok.ensures.started c.named_desk.ensures.made
+returns-in-Ok-clause-made g c = named_starts (mon_view c.args.words.now) c.in-Ok.loaded.session c.in-Ok.loaded.assembly c.named_desk.result c.in-Ok.ensures.started c.named_desk.ensures.made
 
 pub returns-in-Ok-clause-refused : goal.returns-in-Ok-clause-refused
 returns-in-Ok-clause-refused g c = named_ends (mon_view c.args.words.now) c.named_desk.result c.named_desk.ensures.refused

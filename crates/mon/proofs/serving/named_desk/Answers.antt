@@ -1,4 +1,19 @@
+use Rattle.std.proofs.Common.{◌∙◌, ap}
+use Rattle.mon.specs.Done.{with_names}
 use Rattle.mon.proofs.serving.named_desk.Goals as goal
 
 pub returns-in-Ok-clause-made : goal.returns-in-Ok-clause-made
-returns-in-Ok-clause-made g c = let e = c.in-Ok.ensures in (e.session, e.events, e.breaks, e.watches, e.changes)
+returns-in-Ok-clause-made g c =
+    let e = c.in-Ok.ensures in
+    let named = c.in_ok-add_names.ensures.named in (
+      named.0,
+      named.1,
+      record {
+        session = e.session;
+        events = e.events;
+        breaks = e.breaks;
+        watches = e.watches;
+        changes = e.changes;
+        places = e.places ∙ (named.2 ∙ ap (with_names named.0) c.in_ok-places.ensures.places);
+      },
+    )

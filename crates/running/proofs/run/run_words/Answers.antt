@@ -1,12 +1,11 @@
 use Rattle.std.proofs.Common.{◌≡◌}
-use Rattle.loading.specs.Place.{names_of}
 use Rattle.running.proofs.Ran.{ran_file}
 use Rattle.running.specs.Views.{run_view}
 use Rattle.running.proofs.run.run_words.Goals as goal
 
 pub returns-in-Ok-clause-done : goal.returns-in-Ok-clause-done
 returns-in-Ok-clause-done g c =
-    ran_file (run_view c.args.words.now) c.in-Ok.loaded.session (names_of c.in-Ok.loaded.assembly) c.in-Ok.ensures.started.0 (record {
+    ran_file (run_view c.args.words.now) c.in-Ok.loaded.session c.in-Ok.loaded.assembly c.in-Ok.ensures.started.0 (record {
       given = g.R.Read.remaining c.args.input.now;
       left = g.R.Read.remaining c.run_loaded.new.input;
       held = g.O.Write.contents c.args.output.now;

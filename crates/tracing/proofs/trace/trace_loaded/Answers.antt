@@ -8,7 +8,7 @@ use Rattle.tracing.proofs.trace.trace_loaded.Goals as goal
 pub returns-in-Err : goal.returns-in-Err
 returns-in-Err g c =
     let names = names_of c.args.loaded.now.assembly in let a = trace_view c.args.words.now in
-    unfound_from a (place_asked names a.from) (place_asked names a.to) c.args.loaded.now.session (record {
+    unfound_from a c.args.loaded.now.assembly (place_asked names a.from) (place_asked names a.to) c.args.loaded.now.session (record {
       given = g.R.Read.remaining c.args.input.now;
       left = g.R.Read.remaining c.args.input.now;
       held = g.O.Write.contents c.args.output.now;
@@ -19,7 +19,7 @@ returns-in-Err g c =
 pub returns-in-Err-place_named : goal.returns-in-Err-place_named
 returns-in-Err-place_named g c =
     let names = names_of c.args.loaded.now.assembly in let a = trace_view c.args.words.now in
-    unfound_to a c.in-Ok.from (place_asked names a.from) (place_asked names a.to) c.args.loaded.now.session (record {
+    unfound_to a c.args.loaded.now.assembly c.in-Ok.from (place_asked names a.from) (place_asked names a.to) c.args.loaded.now.session (record {
       given = g.R.Read.remaining c.args.input.now;
       left = g.R.Read.remaining c.args.input.now;
       held = g.O.Write.contents c.args.output.now;
@@ -30,7 +30,7 @@ returns-in-Err-place_named g c =
 pub returns : goal.returns
 returns g c =
     let names = names_of c.args.loaded.now.assembly in let a = trace_view c.args.words.now in
-    traced_between a c.in-Ok.from c.in-Ok-place_named.to (place_asked names a.from) (place_asked names a.to) c.args.loaded.now.session (record {
+    traced_between a c.args.loaded.now.assembly c.in-Ok.from c.in-Ok-place_named.to (place_asked names a.from) (place_asked names a.to) c.args.loaded.now.session (record {
       given = g.R.Read.remaining c.args.input.now;
       left = g.R.Read.remaining c.trace_told.new.input;
       held = g.O.Write.contents c.args.output.now;

@@ -1,12 +1,11 @@
 use Rattle.std.proofs.Common.{◌≡◌}
-use Rattle.loading.specs.Place.{names_of}
 use Rattle.trace_words.specs.Views.{trace_view}
 use Rattle.tracing.proofs.Done.{traced_file}
 use Rattle.tracing.proofs.trace.trace_words.Goals as goal
 
 pub returns-in-Ok-clause-done : goal.returns-in-Ok-clause-done
 returns-in-Ok-clause-done g c =
-    traced_file (trace_view c.args.words.now) c.in-Ok.loaded.session (names_of c.in-Ok.loaded.assembly) c.in-Ok.ensures.started.0 (record {
+    traced_file (trace_view c.args.words.now) c.in-Ok.loaded.session c.in-Ok.loaded.assembly c.in-Ok.ensures.started.0 (record {
       given = g.R.Read.remaining c.args.input.now;
       left = g.R.Read.remaining c.trace_loaded.new.input;
       held = g.O.Write.contents c.args.output.now;

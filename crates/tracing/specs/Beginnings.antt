@@ -1,0 +1,39 @@
+-- What a trace begins with: the labels and the lines of the source, and the addresses that count as
+-- written. Source: mos65.
+use Rattle.std.specs.Prelude.{◌≡◌, ℕ, Bool, true, false, is_some, List, [], map, Option, None, Some}
+use Rattle.assembler.specs.Assembly.{AssemblyView, listing_of}
+use Rattle.model.specs.TapePieces.{IsReadInPieces}
+use Rattle.trace_rows.specs.Listed.{lines_in, listed}
+use Rattle.trace_rows.specs.Sites.{IsTable, label_for, labelled, labels_in, line_for}
+use Rattle.trace_rows.specs.declared.sites.Sites.{Sites}
+
+-- A program without a source has no labels and no lines.
+pub record HasNone (sites : Sites) : Type 0 where
+  pub labels : sites.labels.items ≡ []
+  pub lines : sites.lines.items ≡ []
+  pub label_of : sites.label_of.items ≡ []
+  pub line_of : sites.line_of.items ≡ []
+
+-- The labels and the lines of a source, and which of them each address belongs to.
+pub record HasThose (assembly : AssemblyView) (sites : Sites) : Type 0 where
+  pub labels : map labelled sites.labels.items ≡ labels_in assembly
+  pub lines : map listed sites.lines.items ≡ lines_in (listing_of assembly)
+  pub label_of : IsTable sites.label_of.items (label_for assembly)
+  pub line_of : IsTable sites.line_of.items (line_for assembly)
+
+abbrev pub AreSites : Option AssemblyView → Sites → Type 0
+AreSites None sites = HasNone sites
+AreSites (Some assembly) sites = HasThose assembly sites
+
+-- The addresses at which a file has a byte: those of a source's image, or of some tape's, which is
+-- read once more.
+abbrev pub HasBytesAt : Option AssemblyView → List Bool → Type 0
+HasBytesAt None written = (text : List ℕ) × (image : List (Option ℕ))
+    × IsReadInPieces text image × (written ≡ map is_some image)
+HasBytesAt (Some assembly) written = written ≡ map is_some assembly.image
+
+-- They are there where reads of other addresses are asked for.
+abbrev pub AreWritten : Bool → Option AssemblyView → Option (List Bool) → Type 0
+AreWritten false assembly written = written ≡ None
+AreWritten true assembly None = ⊥
+AreWritten true assembly (Some written) = HasBytesAt assembly written
