@@ -1,6 +1,7 @@
 //! The lines of the input, and the loop that serves them.
 
-ghost use Rattle.std.specs.Prelude.{◌≡◌, ◌∷◌, [], ℕ, List, Bool, Ok, Err, IfErr, IfOk};
+ghost use Rattle.std.specs.Prelude.{◌≡◌, ◌∷◌, ◌++◌, [], ℕ, List, Bool, Ok, Err, IfErr, IfOk, OnOk};
+ghost use Rattle.std.specs.Prelude.{if◌then◌else◌};
 ghost use Rattle.std.specs.Io.BufRead.{strip_last};
 ghost use Rattle.std.specs.Io.KnownBytes.{Appends};
 ghost use Rattle.mon.specs.Attended.{IsAttended, IsAttendedSoFar, ServesLine, ServesLines};
@@ -53,6 +54,8 @@ pub fn of_memory<T>(made: Result<T, AllocError>) -> Result<T, Refusal>
 /// Says something if it is asked for.
 pub fn say_if(desk: &mut Desk, is_asked: bool, words: &str) -> Result<(), Refusal>
     ensures shows { ShowsOnly desk.old desk.new }
+    ensures said { OnOk result
+        (desk.new.text.items ≡ desk.old.text.items ++ (if is_asked then words.now else [])) }
     ensures refused { IfErr result EndsAnswer }
 {
     if is_asked {

@@ -1,10 +1,12 @@
 //! What a session of `mon` has: the machine, its events, its stops, its places, and the text that
 //! is to be written.
 
-ghost use Rattle.std.specs.Prelude.{◌≡◌, ◌<◌, ◌≤◌, [], IfOk, OnErr, false, is_ok, length};
+ghost use Rattle.std.specs.Prelude.{◌≡◌, ◌<◌, ◌≤◌, [], ◌++◌, IfOk, OnErr, OnOk, false, is_ok, length};
 ghost use Rattle.model.specs.Event.{event_of};
 ghost use Rattle.mon_desk.specs.Lines.{Follows, Serves, read_at};
 ghost use Rattle.mon_desk.specs.Served.{KeepsStops, ShowsOnly, course_of, happened};
+ghost use Rattle.mon_views.specs.Instructions.{next_line};
+ghost use Rattle.mon_views.specs.Registers.{state_line};
 
 use model::EventFault;
 use mon_lines::{decimal_address, read_line};
@@ -99,14 +101,18 @@ impl Desk {
 
     /// Says something.
     pub fn say(&mut self, words: &str) -> Result<(), AllocError>
-        ensures { ShowsOnly self.old self.new }
+        ensures shows { ShowsOnly self.old self.new }
+        ensures text { OnOk result (self.new.text.items ≡ self.old.text.items ++ words.now) }
     {
         push_text(&mut self.text, words)
     }
 
     /// Shows the registers and what comes next.
     pub fn show(&mut self, cycles_before: Option<u64>) -> Result<(), AllocError>
-        ensures { ShowsOnly self.old self.new }
+        ensures shows { ShowsOnly self.old self.new }
+        ensures text { OnOk result (self.new.text.items ≡ self.old.text.items
+            ++ state_line self.old.session.current self.old.places.names cycles_before
+            ++ next_line self.old.session.current self.old.places.names) }
     {
         push_state(&mut self.text, &self.session, &self.places, cycles_before)?;
         push_next(&mut self.text, &self.session, &self.places)

@@ -1,3 +1,4 @@
+mod Beginning
 mod Done
 mod Gathering
 mod Going

@@ -110,11 +110,17 @@ IsOfStreams Read = ⊤
 IsOfStreams Write = ⊤
 IsOfStreams refusal = ⊥
 
--- Why a trace does not come to its end: memory runs out or a stream fails; or a tape is not read
--- once more, which is done where reads of addresses that nobody wrote are asked for.
+-- Why the addresses at which a file has a byte are not known: memory runs out, or a tape is not read
+-- once more.
+abbrev pub IsNotRead : Option AssemblyView → Refusal → Type 0
+IsNotRead None refusal = IsUnread refusal
+IsNotRead (Some assembly) refusal = refusal ≡ OutOfMemory
+
+-- Why a trace does not come to its end: memory runs out or a stream fails; or these addresses are
+-- not known, where reads of others are asked for.
 abbrev pub BreaksOff : TraceAsked → Option AssemblyView → Refusal → Type 0
 BreaksOff a assembly refusal = IsOfStreams refusal
-    ⊎ ((a.finds_unwritten ≡ true) × (assembly ≡ None) × IsUnread refusal)
+    ⊎ ((a.finds_unwritten ≡ true) × IsNotRead assembly refusal)
 
 -- A session was traced by the definition of a trace over some input, which is the reader's if its
 -- bytes are known: what was not asked for is left, and what was noted was written.

@@ -1,7 +1,7 @@
 //! What the word `trace` does.
 
 ghost use Rattle.std.specs.Prelude.{◌≡◌, ◌≤◌, ◌⊎◌, [], ◌∷◌, ℕ, List, None, IfErr, IfOk, OnOk};
-ghost use Rattle.std.specs.Prelude.{Bool, Option, Some, false, map};
+ghost use Rattle.std.specs.Prelude.{Bool, Option, Some, false, is_some, map};
 ghost use Rattle.clap.specs.Words.{IsAmong, fault_of};
 ghost use Rattle.clap.specs.declared.error.kind.ErrorKind.TheVariants.{DisplayHelp};
 ghost use Rattle.console.specs.Playing.{begun, is_at, played};
@@ -15,22 +15,23 @@ ghost use Rattle.trace_rows.specs.declared.sites.Sites.{Sites};
 ghost use Rattle.trace_words.specs.Asked.{TraceAsked, asked};
 ghost use Rattle.trace_words.specs.CommandLine.{trace};
 ghost use Rattle.trace_words.specs.Views.{trace_view};
-ghost use Rattle.tracing.specs.Beginnings.{AreSites, AreWritten};
+ghost use Rattle.tracing.specs.Beginnings.{AreSites, AreWritten, HasBytesAt};
 ghost use Rattle.tracing.specs.Gathered.{Gathers, gathered, none_gathered};
 ghost use Rattle.tracing.specs.Texts.{GotText, Noted, by_steps, no_text, note_step, noted_in};
 ghost use Rattle.tracing.specs.Texts.{pass_step};
-ghost use Rattle.tracing.specs.Traces.{BreaksOff, EndsAt, IsDone, IsOfStreams, TracedIfFound};
-ghost use Rattle.tracing.specs.Traces.{TracedTo, WentOn};
+ghost use Rattle.tracing.specs.Traces.{BreaksOff, EndsAt, IsDone, IsNotRead, IsOfStreams};
+ghost use Rattle.tracing.specs.Traces.{TracedIfFound, TracedTo, WentOn};
 ghost use Rattle.tracing.specs.Traces.{WroteNotes, gathered_at, is_begun, reached, trace_noted, traced};
 
 use crate::tracer::Tracer;
+use bus::Image;
 use console::{Ending, PlayFault, Played, Player, begin, take_turn};
 use debugger::Session;
 use footprint::Written;
 use loading::{Loaded, image_of_tape};
 use program::{Refusal, refuse, refused_words};
 use running::{load_at_start, place_named, refusal_of, status_of_ending, tell_ending};
-use std::alloc::Global;
+use std::alloc::{AllocError, Global};
 use std::io::{Read, Write};
 use std::rt::Files;
 use trace_rows::Sites;
@@ -175,8 +176,42 @@ fn run_noting<R: Read, O: Write, E: Write>(
     })
 }
 
-/// Returns the addresses where the file of the words has a byte, if they are asked for. A tape is
-/// read once more.
+/// Returns the addresses where an image has a byte.
+///
+/// Errors: `OutOfMemory` if an allocation fails.
+fn bytes_of(alloc: Global, image: &Image) -> Result<Written, Refusal>
+    ensures written { IfOk result (λ written. written ≡ map is_some image.now) }
+    ensures fault { IfErr result (λ refusal. refusal ≡ Refusal.OutOfMemory) }
+{
+    match Written::of_image(alloc, image) {
+        Ok(written) => Ok(written),
+        Err(_) => Err(Refusal::OutOfMemory),
+    }
+}
+
+/// Returns the addresses where the file of the words has a byte. A tape is read once more.
+///
+/// Errors: those of `image_of_tape`.
+fn bytes_of_file<H: Files + AllocGlobal>(
+    rt: &H,
+    words: &TraceWords<'_>,
+    loaded: &Loaded,
+) -> Result<Written, Refusal>
+    ensures written { IfOk result (HasBytesAt loaded.now.assembly) }
+    ensures fault { IfErr result (IsNotRead loaded.now.assembly) }
+{
+    match &loaded.assembly {
+        Some(assembly) => bytes_of(rt.alloc(), assembly.image()),
+        None => match image_of_tape(rt, words.file.file) {
+            Ok(image) => bytes_of(rt.alloc(), &image),
+            Err(refusal) => Err(refusal),
+        },
+    }
+}
+
+/// Returns the addresses where the file of the words has a byte, if they are asked for.
+///
+/// Errors: those of `image_of_tape`.
 fn written_of<H: Files + AllocGlobal>(
     rt: &H,
     words: &TraceWords<'_>,
@@ -188,20 +223,27 @@ fn written_of<H: Files + AllocGlobal>(
     if !words.finds_unwritten {
         return Ok(None);
     }
-    let written = match &loaded.assembly {
-        Some(assembly) => Written::of_image(rt.alloc(), assembly.image()),
-        None => match image_of_tape(rt, words.file.file) {
-            Ok(image) => Written::of_image(rt.alloc(), &image),
-            Err(refusal) => return Err(refusal),
-        },
-    };
-    match written {
+    match bytes_of_file(rt, words, loaded) {
         Ok(written) => Ok(Some(written)),
-        Err(_) => Err(Refusal::OutOfMemory),
+        Err(refusal) => Err(refusal),
+    }
+}
+
+/// Returns the labels and the lines of what was loaded.
+///
+/// Errors: `AllocError` if an allocation fails.
+fn sites_of(alloc: Global, loaded: &Loaded) -> Result<Sites, AllocError>
+    ensures { IfOk result (AreSites loaded.now.assembly) }
+{
+    match &loaded.assembly {
+        None => Ok(Sites::new(alloc)),
+        Some(assembly) => Sites::of_source(alloc, assembly),
     }
 }
 
 /// Makes the tracer of the words.
+///
+/// Errors: those of `image_of_tape`.
 fn make_tracer<'a, H: Files + AllocGlobal>(
     rt: &H,
     words: &TraceWords<'a>,
@@ -215,10 +257,7 @@ fn make_tracer<'a, H: Files + AllocGlobal>(
     ensures fault { IfErr result (BreaksOff (trace_view words.now) loaded.now.assembly) }
 {
     let alloc = rt.alloc();
-    let sites = match &loaded.assembly {
-        None => Ok(Sites::new(alloc)),
-        Some(assembly) => Sites::of_source(alloc, assembly),
-    };
+    let sites = sites_of(alloc, loaded);
     let written = match written_of(rt, words, loaded) {
         Ok(written) => written,
         Err(refusal) => return Err(refusal),
