@@ -2,7 +2,6 @@
 use Rattle.std.proofs.Common.{◌≡◌, ℕ, ◌<◌, ◌||◌, Bool, List, [], ◌∷◌, length, Option, Some, None, Result, Ok, Err, false, true, is_some, subst, sym, arith}
 use Rattle.std.specs.Prelude.{IfOk}
 use Rattle.model.specs.Image.{cell_at}
-use Rattle.model.specs.Layout.{Context, PlacedLine, first_context}
 use Rattle.model.specs.Names.{Definitions}
 use Rattle.model.specs.Source.{Denotes}
 use Rattle.model.specs.State.{Map, has_port_byte}

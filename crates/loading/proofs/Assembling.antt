@@ -2,8 +2,8 @@
 use Rattle.std.proofs.Common.{◌≡◌, ℕ, List, Option, None, Some, refl, sym, subst, false}
 use Rattle.assembler.specs.Assembly.{AssemblyView}
 use Rattle.loading.specs.Loads.{IsAssembled, IsImageOf}
-use Rattle.model.specs.Layout.{Context, IsLaidOut, PlacedLine, extents_of, first_context, read_lines}
-use Rattle.model.specs.Source.{Denotes}
+use Rattle.model.specs.Layout.{Context, IsLaidOut, PlacedLine, extents_of}
+use Rattle.model.specs.Source.{Denotes, first_context, read_lines}
 use Rattle.model.specs.State.{Map}
 
 abbrev SaysNames : Map → AssemblyView → List ℕ → Type 0

@@ -7,4 +7,4 @@ pub returns-then-held-eq0-clause-course : goal.returns-then-held-eq0-clause-cour
 returns-then-held-eq0-clause-course c =
     let before = course_of c.args.self.now in
     let none : length before.0.earlier ≡ 0 = omega (arith, c.held-held.ensures.held, c.if-held-eq0.true) in
-    c.say-then-held-eq0.ensures.0 ∙ sym (none_by_watches c.args.self.now.stops.changes.items before none)
+    c.say-then-held-eq0.ensures.shows.0 ∙ sym (none_by_watches c.args.self.now.stops.changes.items before none)
