@@ -2,8 +2,9 @@
 use Rattle.std.proofs.Common.{◌≡◌, ℕ, ◌<◌, ◌||◌, Bool, List, [], ◌∷◌, length, Option, Some, None, Result, Ok, Err, false, true, is_some, subst, sym, arith}
 use Rattle.std.specs.Prelude.{IfOk}
 use Rattle.model.specs.Image.{cell_at}
+use Rattle.model.specs.Layout.{Context, IsLaidOut, PlacedLine}
 use Rattle.model.specs.Names.{Definitions}
-use Rattle.model.specs.Source.{Denotes}
+use Rattle.model.specs.Source.{Denotes, first_context, read_lines}
 use Rattle.model.specs.State.{Map, has_port_byte}
 use Rattle.model.specs.declared.instruction.Profile.{Profile}
 use Rattle.reached.specs.Reached.{AreFollowed, vectors}
@@ -11,6 +12,7 @@ use Rattle.source_rows.specs.Rows.{mark_at}
 use Rattle.source_rows.specs.declared.mark.Mark.{Mark}
 use Rattle.dis_source.specs.Asked.{SourceAsked}
 use Rattle.dis_source.specs.Marks.{cell_between, mark_of}
+use Rattle.dis_source.specs.Word.{AreNames, names_map}
 use Rattle.dis_source.specs.Written.{AreMarked, AreMarkedBy, IsSourceOfPart, IsText, starts_of}
 
 pub source_is : {X E : Type 0} (items : X → List ℕ) (asked : SourceAsked) (image : List (Option ℕ)) (names : Option Definitions) (part : List (Option ℕ)) (marks : List Mark) (r : Result X E) → ((a : ℕ) → a < 65536 → cell_at part a ≡ cell_between image asked.first asked.last a)
@@ -28,3 +30,13 @@ from_vectors profile part marks (start ∷ starts) now none f = absurd (omega (a
 pub from_starts : (profile : Profile) (part : List (Option ℕ)) (marks : List Mark) (starts : List ℕ) (now : List Mark) → 0 < length starts → AreFollowed profile part marks starts now → AreFollowed profile part marks (starts_of part starts) now
 from_starts profile part marks [] now some f = absurd (omega (arith, some))
 from_starts profile part marks (start ∷ starts) now some f = f
+
+-- the names of an assembly are those of its source
+abbrev SaysNames : Map → List ℕ → Definitions → Type 0
+SaysNames bus_map source names = (placed : List PlacedLine) (all : Context) → IsLaidOut (first_context bus_map.profile) (read_lines bus_map.profile source) placed all → names ≡ all.names
+
+pub are_named : (profile : Profile) (bus_map : Map) (source : List ℕ) (image : List (Option ℕ)) (names : Definitions) → bus_map ≡ names_map profile → Denotes bus_map source image → SaysNames bus_map source names → AreNames profile names
+are_named profile bus_map source image names is denotes says =
+    let d = subst (λ m. Denotes m source image) is denotes in
+    let n = subst (λ m. SaysNames m source names) is says in
+    record { source = source; image = image; denotes = d; same = n d.placed d.all d.laid }

@@ -1,8 +1,8 @@
 //! The source that the words ask for.
 
-ghost use Rattle.std.specs.Prelude.{◌≡◌, IfErr, IfOk, false, option_map};
+ghost use Rattle.std.specs.Prelude.{◌≡◌, IfErr, IfOk, IfSome, IsSome, false, option_map};
 ghost use Rattle.dis_source.specs.Views.{source_view};
-ghost use Rattle.dis_source.specs.Word.{AreNames, EndsNames};
+ghost use Rattle.dis_source.specs.Word.{AreNames, EndsNames, names_map};
 ghost use Rattle.dis_source.specs.Written.{AreMarkedBy, IsSourceOfPart, IsText, starts_of};
 ghost use Rattle.model.specs.Source.{Denotes};
 ghost use Rattle.model.specs.State.{Map, has_port_byte};
@@ -20,19 +20,29 @@ use reached::{followed_marks, vectors};
 use source_text::{Mark, source_text};
 use std::alloc::{AllocError, Global};
 
+/// Returns the map by which a source of names is read.
+#[tactic(auto, unfolding(model::specs::State::is_map))]
+fn map_of_names(profile: Profile) -> Option<MapSpec>
+    ensures map { IfSome result (λ map. map ≡ names_map profile) }
+    ensures some { IsSome result }
+{
+    let Ok(map) = MapSpec::new(None, 0xf000) else {
+        return None;
+    };
+    match profile {
+        Profile::N => Some(map),
+        Profile::C => Some(map.profile_c()),
+    }
+}
+
 /// Returns what a source with names for addresses defines. Its fault, or that memory ran out, is
 /// why not.
-#[tactic(auto, unfolding(model::specs::State::is_map))]
 pub fn defined(alloc: Global, profile: Profile, source: &[u8]) -> Result<Assembly, Refusal>
     ensures named { IfOk result (λ a. AreNames profile a.names) }
     ensures refused { IfErr result (EndsNames profile source.now) }
 {
-    let Ok(map) = MapSpec::new(None, 0xf000) else {
+    let Some(map) = map_of_names(profile) else {
         return Err(Refusal::Words);
-    };
-    let map = match profile {
-        Profile::N => map,
-        Profile::C => map.profile_c(),
     };
     match assemble(alloc, source, &map) {
         Ok(names) => Ok(names),
