@@ -1,8 +1,8 @@
 -- How a session begins.
-use Rattle.std.proofs.Common.{◌≡◌, ◌∙◌, ℕ, List, Option, ap, subst, Result, Ok, Err, IfOk}
+use Rattle.std.proofs.Common.{◌≡◌, ℕ, List, Option, Some, option_map, subst, sym, Result, Ok, Err, IfOk, Bor}
 use Rattle.assembler.specs.Assembly.{AssemblyView}
-use Rattle.loading.specs.Asked.{map_of}
-use Rattle.loading.specs.Loads.{IsLoaded}
+use Rattle.loading.specs.Asked.{FileAsked, map_of}
+use Rattle.loading.specs.Loads.{IsAssembled, IsLoaded}
 use Rattle.loading.specs.declared.loaded.LoadFault.{LoadFault}
 use Rattle.model.specs.Event.{start}
 use Rattle.model.specs.Session.{Session, new_session}
@@ -18,3 +18,8 @@ pub named_starts : (asked : MonAsked) (session : Session) (assembly : Option Ass
 named_starts asked session assembly (Ok desk) loaded new =
     (loaded.0, assembly, loaded.1, new.0, new.1, subst (λ s. IsNewDesk s asked.history (with_names new.0 (places_in asked.file.file assembly)) desk) loaded.2 new.2)
 named_starts asked session assembly (Err fault) loaded new = tt
+
+-- A file of names that was assembled is the one that is named.
+pub named_with : (symbols : Option (Bor (List ℕ))) (path : Bor (List ℕ)) (file : FileAsked) (names : AssemblyView) → symbols ≡ Some path → IsAssembled (map_of file) names
+    → AreNamed (option_map (λ s. s.now) symbols) file (Some names)
+named_with symbols path file names is assembled = subst (λ o. AreNamed (option_map (λ s. s.now) o) file (Some names)) (sym is) assembled

@@ -63,14 +63,14 @@ AreNamed (Some path) file None = ⊥
 AreNamed (Some path) file (Some names) = IsAssembled (map_of file) names
 
 -- A desk at which no line was served: no event has happened, and no break and no watch is set.
-pub record IsNewDesk (session : Session) (history : ℕ) (places : PlacesView) (desk : Desk)
+pub record IsNewDesk (begun : Session) (history : ℕ) (known : PlacesView) (desk : Desk)
     : Type 0 where
-  pub session : desk.session ≡ session
+  pub session : desk.session ≡ begun
   pub events : desk.events ≡ record { made = []; undone = []; room = history }
   pub breaks : desk.stops.breaks.items ≡ []
   pub watches : desk.stops.watches.items ≡ []
   pub changes : desk.stops.changes.items ≡ []
-  pub places : desk.places ≡ places
+  pub places : desk.places ≡ known
 
 -- A desk with a session at the start of an image that the file can have, with the names and lines of
 -- its source and the names of a file of names.

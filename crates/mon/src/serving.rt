@@ -24,22 +24,12 @@ use mon_desk::Desk;
 use mon_words::{MonWords, read_words};
 use places::Places;
 use program::{Refusal, refuse, refused_words};
-use std::alloc::{AllocError, Global};
+use std::alloc::Global;
 use std::io::{IsTerminal, Read, Write};
 use std::rt::Files;
 
 /// What is written first, if a prompt is asked for.
 const GREETING: &str = "mos65 mon: help lists the words, an empty line steps, quit ends\n";
-
-/// Returns what was made, or that an allocation failed.
-fn or_memory<T>(made: Result<T, AllocError>) -> Result<T, LoadFault>
-    ensures { IfErr result (λ fault. fault ≡ Refused (Refusal.OutOfMemory)) }
-{
-    match made {
-        Ok(value) => Ok(value),
-        Err(_) => Err(LoadFault::Refused(Refusal::OutOfMemory)),
-    }
-}
 
 /// Returns the places of what was loaded.
 fn places_of(alloc: Global, file: &str, loaded: &Loaded) -> Result<Places, LoadFault>
@@ -47,7 +37,10 @@ fn places_of(alloc: Global, file: &str, loaded: &Loaded) -> Result<Places, LoadF
     ensures refused { IfErr result (λ fault. fault ≡ Refused (Refusal.OutOfMemory)) }
 {
     match &loaded.assembly {
-        Some(assembly) => or_memory(Places::of_source(alloc, file.as_bytes(), assembly)),
+        Some(assembly) => match Places::of_source(alloc, file.as_bytes(), assembly) {
+            Ok(places) => Ok(places),
+            Err(_) => Err(LoadFault::Refused(Refusal::OutOfMemory)),
+        },
         None => Ok(Places::new(alloc)),
     }
 }
@@ -67,7 +60,10 @@ fn add_names<H: Files + AllocGlobal>(
     match words.symbols {
         None => Ok(()),
         Some(path) => match load_names(rt, &words.file, path) {
-            Ok(names) => or_memory(places.add_names(rt.alloc(), &names)),
+            Ok(names) => match places.add_names(rt.alloc(), &names) {
+                Ok(()) => Ok(()),
+                Err(_) => Err(LoadFault::Refused(Refusal::OutOfMemory)),
+            },
             Err(refusal) => Err(LoadFault::Refused(refusal)),
         },
     }
