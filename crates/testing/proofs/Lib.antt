@@ -1,3 +1,4 @@
+mod Paths
 mod Facts
 mod Ends
 mod Words

@@ -1,3 +1,4 @@
 pub mod Tested
 pub mod Statuses
 pub mod Ends
+pub mod Paths

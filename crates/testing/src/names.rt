@@ -1,10 +1,12 @@
 //! Files by their names.
 
-ghost use Rattle.std.specs.Prelude.{◌≤◌, IfErr, IfOk, vec_len};
+ghost use Rattle.std.specs.Prelude.{◌≡◌, ◌≤◌, ◌⊎◌, ◌++◌, IfErr, IfOk, length, string_bytes, vec_len};
+ghost use Rattle.std.specs.Str.{IsUtf8};
 ghost use Rattle.testing.specs.Ends.{EndsTest};
+ghost use Rattle.testing.specs.Paths.{begins_at_root, folder_for, name_start, source_path};
 
 use crate::fault::TestFault;
-use std::alloc::Global;
+use std::alloc::{AllocError, Global};
 use std::fs::File;
 use std::io;
 use std::io::Read;
@@ -36,12 +38,49 @@ pub fn read_rows_text<H: Files + AllocGlobal>(rt: &H, path: &str) -> Result<Vec<
     }
 }
 
-/// Returns the part of a path before the name of its file, with the `/`.
-fn folder_of(path: &[u8]) -> &[u8] {
-    match path.iter().rposition(|byte| *byte == b'/') {
-        Some(at) => path.split_at((at + 1).min(path.len())).0,
-        None => b"",
+/// Returns where the name of the file begins in its path: after the last `/`, if there is one.
+fn name_start(path: &[u8]) -> usize
+    ensures start { result ≡ name_start 0 0 path.now }
+    ensures within { result ≤ length path.now }
+{
+    let mut start = 0usize;
+    for (at, byte) in path.iter().enumerate() {
+        if *byte == b'/' {
+            start = at + 1;
+        }
     }
+    start
+}
+
+/// Returns whether a name begins with `/`.
+fn begins_at_root(name: &[u8]) -> bool
+    ensures { result ≡ begins_at_root name.now }
+{
+    match name {
+        [first, ..] => *first == b'/',
+        [] => false,
+    }
+}
+
+/// Returns the folder in which a name is looked for, with the `/`: that of the file of rows, unless
+/// the name begins with `/`.
+fn folder_for<'a>(file: &'a [u8], name: &[u8]) -> &'a [u8]
+    ensures { result.now ≡ folder_for file.now name.now }
+{
+    if begins_at_root(name) {
+        return &file[..0];
+    }
+    &file[..name_start(file)]
+}
+
+/// Returns two texts, one after the other.
+fn joined(alloc: Global, front: &[u8], back: &[u8]) -> Result<Vec<u8>, AllocError>
+    ensures { IfOk result (λ text. text.items ≡ front.now ++ back.now) }
+{
+    let mut text = Vec::new(alloc);
+    text.extend_from_slice(front)?;
+    text.extend_from_slice(back)?;
+    Ok(text)
 }
 
 /// Returns the path of a source that a file of rows names: from the folder of that file, if it does
@@ -49,17 +88,17 @@ fn folder_of(path: &[u8]) -> &[u8] {
 ///
 /// Errors: `Read` if the name is no text of UTF-8; `OutOfMemory`.
 pub fn source_path(alloc: Global, file: &str, name: &[u8]) -> Result<String, TestFault>
+    ensures path { IfOk result (λ path. string_bytes path ≡ source_path file.now name.now) }
+    ensures fault { IfErr result (λ fault. (fault ≡ TestFault.OutOfMemory)
+        ⊎ ((fault ≡ TestFault.Read) × ¬ IsUtf8 (source_path file.now name.now))) }
     ensures refused { IfErr result EndsTest }
 {
-    let mut path = Vec::new(alloc);
-    if !name.starts_with(b"/") && path.extend_from_slice(folder_of(file.as_bytes())).is_err() {
-        return Err(TestFault::OutOfMemory);
-    }
-    if path.extend_from_slice(name).is_err() {
-        return Err(TestFault::OutOfMemory);
-    }
-    match String::from_utf8(path) {
-        Ok(path) => Ok(path),
-        Err(_) => Err(TestFault::Read),
+    let folder = folder_for(file.as_bytes(), name);
+    match joined(alloc, folder, name) {
+        Ok(path) => match String::from_utf8(path) {
+            Ok(path) => Ok(path),
+            Err(_) => Err(TestFault::Read),
+        },
+        Err(_) => Err(TestFault::OutOfMemory),
     }
 }
