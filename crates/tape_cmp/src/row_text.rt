@@ -1,6 +1,8 @@
 //! The differences as rows of text.
 
-ghost use Rattle.std.specs.Prelude.{◌≡◌, ◌<◌, IfOk, OnOk, length, string_bytes};
+ghost use Rattle.std.specs.Prelude.{◌≡◌, ◌<◌, ◌++◌, IfOk, OnOk, length, string_bytes};
+ghost use Rattle.tape_cmp.specs.Rows.{byte_text, has, instruction_text, starts_of};
+ghost use Rattle.tape_cmp.specs.Sides.{side_view};
 ghost use Rattle.tape_words.specs.Answers.{EndsLine};
 
 use memory_map::Image;
@@ -19,7 +21,9 @@ pub struct Side<'a> {
 
 /// Returns for each address that at which the instruction begins that has its byte; each range is
 /// read as instructions from its first address on.
-fn starts_of(alloc: Global, profile: Profile, image: &Image) -> Result<Vec<u16>, AllocError> {
+fn starts_of(alloc: Global, profile: Profile, image: &Image) -> Result<Vec<u16>, AllocError>
+    ensures { IfOk result (λ starts. starts.items ≡ starts_of profile image.now) }
+{
     let mut starts = Vec::new(alloc);
     let mut start = 0u16;
     let mut left = 0u8;
@@ -43,7 +47,10 @@ impl<'a> Side<'a> {
         image: Image,
         profile: Profile,
     ) -> Result<Side<'a>, AllocError>
-        ensures { IfOk result (λ side. side.image ≡ image) }
+        ensures name { IfOk result (λ side. side.name.now ≡ name.now) }
+        ensures image { IfOk result (λ side. side.image ≡ image) }
+        ensures starts { IfOk result (λ side. side.starts.items ≡ starts_of profile image) }
+        ensures profile { IfOk result (λ side. side.profile ≡ profile) }
     {
         let starts = starts_of(alloc, profile, &image)?;
         Ok(Side {
@@ -62,12 +69,17 @@ impl<'a> Side<'a> {
     }
 
     /// Returns whether there is a byte at an address.
-    fn has(&self, address: u16) -> bool {
+    fn has(&self, address: u16) -> bool
+        ensures { result ≡ has (side_view self.now) address }
+    {
         self.image.get(address).is_some()
     }
 
     /// Appends the byte at an address.
-    fn push_byte(&self, words: &mut String, address: u16) -> Result<(), AllocError> {
+    fn push_byte(&self, words: &mut String, address: u16) -> Result<(), AllocError>
+        ensures { OnOk result (string_bytes words.new
+            ≡ string_bytes words.old ++ byte_text (side_view self.now) address) }
+    {
         match self.image.get(address) {
             Some(byte) => write!(words, "{byte:02X}"),
             None => words.push_str("--"),
@@ -75,7 +87,10 @@ impl<'a> Side<'a> {
     }
 
     /// Appends the instruction that has the byte at an address.
-    fn push_instruction(&self, words: &mut String, address: u16) -> Result<(), AllocError> {
+    fn push_instruction(&self, words: &mut String, address: u16) -> Result<(), AllocError>
+        ensures { OnOk result (string_bytes words.new
+            ≡ string_bytes words.old ++ instruction_text (side_view self.now) address) }
+    {
         let start = self
             .starts
             .get(address as usize)
