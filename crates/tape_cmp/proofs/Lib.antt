@@ -1,2 +1,4 @@
 pub mod Below
+pub mod Rows
+pub mod Starts
 pub mod Word

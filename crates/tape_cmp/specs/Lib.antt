@@ -1,2 +1,4 @@
 pub mod Differences
+pub mod Rows
+pub mod Sides
 pub mod Word

@@ -1,8 +1,11 @@
 //! What the word `cmp` does.
 
 ghost use Rattle.std.specs.Prelude.{◌≡◌, ◌≤◌, ◌⊎◌, IfErr, IfOk, None, false, map, true};
+ghost use Rattle.tape_cmp.specs.Rows.{side_of};
+ghost use Rattle.tape_cmp.specs.Sides.{side_view};
 ghost use Rattle.tape_cmp.specs.Word.{Asks, HasTapeFault, IsAnswerOf, IsOfTape, IsSaid};
-ghost use Rattle.tape_words.specs.Asked.{cmp_asked};
+ghost use Rattle.tape_cmp.specs.Word.{TellsAsked, TellsAskedFront};
+ghost use Rattle.tape_words.specs.Asked.{cmp_asked, cmp_view};
 ghost use Rattle.tape_words.specs.CommandLines.{cmp};
 ghost use Rattle.tape_words.specs.Unread.{EndsReading};
 ghost use Rattle.word_streams.specs.Streams.{Tells, TellsFront};
@@ -21,6 +24,8 @@ fn side_of<'a, H: Files + AllocGlobal>(
     name: &'a str,
 ) -> Result<Side<'a>, (&'a str, Refusal)>
     ensures tape { IfOk result (λ side. IsOfTape side.image) }
+    ensures side { IfOk result
+        (λ side. side_view side ≡ side_of name.now side.image words.now.profile) }
     ensures refused { IfErr result (λ why. EndsReading why.1) }
 {
     match image_of(rt, name) {
@@ -34,7 +39,7 @@ fn side_of<'a, H: Files + AllocGlobal>(
 
 /// Returns the rows of the differences between two sides.
 fn compared<H: AllocGlobal>(rt: &H, one: &Side<'_>, other: &Side<'_>) -> Result<Answer, Refusal>
-    ensures rows { IfOk result (IsAnswerOf one.now.image other.now.image) }
+    ensures rows { IfOk result (IsAnswerOf (side_view one.now) (side_view other.now)) }
     ensures only { IfErr result (λ r. r ≡ Refusal.OutOfMemory) }
 {
     let alloc = rt.alloc();
@@ -89,12 +94,13 @@ fn done<H: Files + AllocGlobal, O: Write, E: Write>(
     ensures status { result ≤ 4 }
     ensures quiet { result ≡ 0 → errors.new ≡ errors.old }
     ensures untouched { 2 ≤ result → result ≤ 3 → output.new ≡ output.old }
-    ensures right { result ≡ 0 → Tells IsSaid true (O.contents output.old) (O.contents output.new) }
-    ensures wrong { result ≡ 1
-        → Tells IsSaid false (O.contents output.old) (O.contents output.new) }
+    ensures right { result ≡ 0 → Tells (IsSaid (cmp_view words.now)) true
+        (O.contents output.old) (O.contents output.new) }
+    ensures wrong { result ≡ 1 → Tells (IsSaid (cmp_view words.now)) false
+        (O.contents output.old) (O.contents output.new) }
     ensures fault { result ≡ 2 → HasTapeFault }
     ensures begun { result ≡ 4
-        → TellsFront IsSaid (O.contents output.old) (O.contents output.new)
+        → TellsFront (IsSaid (cmp_view words.now)) (O.contents output.old) (O.contents output.new)
         ⊎ (output.new ≡ output.old) }
 {
     let one = match side_of(rt, words, words.tape) {
@@ -126,11 +132,11 @@ pub fn tape_cmp<H: Files + AllocGlobal, O: Write, E: Write>(
     // 0 means that two tapes were found equal, with nothing to write, or that the help that is
     // asked for was written.
     ensures right { result ≡ 0 → AsksForHelp cmp (map (λ s. s.now) words.entry.now)
-        ⊎ (Asks (map (λ s. s.now) words.entry.now)
-        × Tells IsSaid true (O.contents output.old) (O.contents output.new)) }
-    // 1 means that two tapes differ, and rows were written.
-    ensures wrong { result ≡ 1 → Asks (map (λ s. s.now) words.entry.now)
-        × Tells IsSaid false (O.contents output.old) (O.contents output.new) }
+        ⊎ TellsAsked (map (λ s. s.now) words.entry.now) true
+        (O.contents output.old) (O.contents output.new) }
+    // 1 means that two tapes differ, and the rows of their differences were written.
+    ensures wrong { result ≡ 1 → TellsAsked (map (λ s. s.now) words.entry.now) false
+        (O.contents output.old) (O.contents output.new) }
     // 2 means that the words do not fit, that a value is wrong, or that a tape has a fault.
     ensures refused { result ≡ 2 → Misfits cmp (map (λ s. s.now) words.entry.now)
         ⊎ ((Fits cmp (map (λ s. s.now) words.entry.now)
@@ -138,8 +144,9 @@ pub fn tape_cmp<H: Files + AllocGlobal, O: Write, E: Write>(
         ⊎ (Asks (map (λ s. s.now) words.entry.now) × HasTapeFault)) }
     // 4 means that a beginning of the rows was written, or nothing; or help is asked for.
     ensures begun { result ≡ 4 → AsksForHelp cmp (map (λ s. s.now) words.entry.now)
-        ⊎ (Asks (map (λ s. s.now) words.entry.now) × (TellsFront IsSaid
-        (O.contents output.old) (O.contents output.new) ⊎ (output.new ≡ output.old))) }
+        ⊎ (TellsAskedFront (map (λ s. s.now) words.entry.now)
+        (O.contents output.old) (O.contents output.new)
+        ⊎ (Asks (map (λ s. s.now) words.entry.now) × (output.new ≡ output.old))) }
 {
     match read_cmp_words(rt.alloc(), words) {
         Ok(words) => done(rt, &words, output, errors),

@@ -1,16 +1,24 @@
-use Rattle.std.proofs.Common.{◌≡◌, ◌⊎◌, ◌<◌, ℕ, List, inl, inr, arith}
-use Rattle.tape_words.specs.Answers.{EndsLine}
+use Rattle.std.proofs.Common.{◌≡◌, ◌∙◌, ℕ, ◌+◌, ◌++◌, List, ap, arith, drop, get_or}
+use Rattle.std.specs.Prelude.{string_bytes}
+use Rattle.tape_cmp.specs.Rows.{told_of}
+use Rattle.tape_cmp.specs.Sides.{side_view}
+use Rattle.tape_cmp.proofs.Rows.{one_row_more, rest_of, rows_done, all_end}
 use Rattle.tape_cmp.proofs.row_text.rows.Goals as goal
-use Rattle.tape_cmp.proofs.row_text.rows.Goals.{then-until-place+in_ok-until, else-until-place}
-
--- a row stands already where a later place is awaited
-started : (place until : ℕ) (text : List ℕ) → ((place ≡ 0) × (until ≡ 0)) ⊎ EndsLine text → place < until → EndsLine text
-started place until text (inl begun) awaited = absurd (omega (arith, begun.0, begun.1, awaited))
-started place until text (inr ends) awaited = ends
 
 pub loop-place-preserved : goal.loop-place-preserved
 loop-place-preserved c =
-    elim c.if-until-place.branch [
-      | then-until-place+in_ok-until w ↦ inr (rw w.words-is w.in_ok-until.ensures)
-      | else-until-place w ↦ inr (rw w.words-is (started c.loop-place.place c.loop-place.until _ c.loop-place.invariant w.if-until-place.false))
-    ]
+    let one = side_view c.args.one.now in
+    let other = side_view c.args.other.now in
+    let all = c.args.differences.now in
+    let place = c.loop-place.place in
+    let grown : string_bytes c.push_next.new.words ≡ string_bytes c.loop-place.words ++ told_of one other c.loop-place.before (get_or all place 0) (drop (place + 1) all) =
+    c.in_ok-push_next.ensures ∙ ap (λ (more : List ℕ). string_bytes c.loop-place.words ++ told_of one other c.loop-place.before (get_or all place 0) more) (rest_of all (place + 1)) in
+    one_row_more one other c.loop-place.before all place _ _ _ (omega arith) grown c.loop-place.invariant
+
+pub returns-clause-text : goal.returns-clause-text
+returns-clause-text c = rows_done (side_view c.args.one.now) (side_view c.args.other.now) c.loop-place.before c.args.differences.now c.loop-place.place _ _ (omega arith) c.loop-place.invariant
+
+pub returns-clause-lines : goal.returns-clause-lines
+returns-clause-lines c =
+    let same = rows_done (side_view c.args.one.now) (side_view c.args.other.now) c.loop-place.before c.args.differences.now c.loop-place.place _ _ (omega arith) c.loop-place.invariant in
+    rw same (all_end (side_view c.args.one.now) (side_view c.args.other.now) c.args.differences.now c.requires)
