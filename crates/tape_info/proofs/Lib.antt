@@ -1,3 +1,4 @@
+pub mod Appended
 pub mod RangesByAddress
 pub mod Semicolons
 pub mod Word

@@ -1,11 +1,13 @@
 -- What `info` says of a tape. Source: mos65. No clause can say which tape a file has.
-use Rattle.std.specs.Prelude.{◌≡◌, ℕ, ◌++◌, ◌∷◌, [], codes, length, List, Option}
+use Rattle.std.specs.Prelude.{◌≡◌, ℕ, List, Option}
 use Rattle.model.specs.State.{memory_of}
 use Rattle.model.specs.Tape.{FirstFault, TapeDenotes}
+use Rattle.model.specs.declared.instruction.Profile.{Profile}
 use Rattle.model.specs.declared.tape.TapeFaultKind.{TapeFaultKind}
-use Rattle.tape_words.specs.Answers.{Begins, TellsFault, counted}
+use Rattle.tape_words.specs.Answers.{TellsFault}
 use Rattle.tape_words.specs.Asked.{InfoAsked}
 use Rattle.tape_info.specs.Facts.{bytes_among, checksums_of, data_records, largest_gap, ranges_of, vector_at}
+use Rattle.tape_info.specs.Rows.{rows_of}
 use Rattle.tape_info.specs.declared.fact_list.Facts.{Facts}
 
 -- The facts of an image, with those of a map's port.
@@ -21,24 +23,19 @@ pub record AreFacts (image : List (Option ℕ)) (port : ℕ) (f : Facts) : Type 
   pub reset : f.reset ≡ vector_at image 65532
   pub irq : f.irq ≡ vector_at image 65534
 
--- The first row: how many bytes, ranges and records a tape has.
-abbrev pub tape_row : Facts → ℕ → List ℕ
-tape_row facts records = codes "tape    " ++ counted facts.bytes (codes "byte") (codes "bytes")
-    ++ codes " in " ++ counted (length facts.ranges.items) (codes "range") (codes "ranges")
-    ++ codes " and " ++ counted records (codes "record") (codes "records") ++ 10 ∷ []
-
--- The rows of an image's facts: the first says how much there is.
-pub record AreRows (image : List (Option ℕ)) (port records : ℕ) (said : List ℕ) : Type 0 where
+-- The rows of an image's facts, for a profile and a port.
+pub record AreRows (profile : Profile) (image : List (Option ℕ)) (port records : ℕ) (said : List ℕ)
+    : Type 0 where
   pub facts : Facts
   pub are : AreFacts image port facts
-  pub rows : Begins (tape_row facts records) said
+  pub rows : said ≡ rows_of profile image port facts records
 
 -- What is said of some right tape.
 pub record IsRightTape (asked : InfoAsked) (said : List ℕ) : Type 0 where
   pub text : List ℕ
   pub image : List (Option ℕ)
   pub denotes : TapeDenotes text image
-  pub rows : AreRows image asked.port (data_records text) said
+  pub rows : AreRows asked.profile image asked.port (data_records text) said
 
 -- What is said of some tape with a fault: its first one.
 pub record IsWrongTape (asked : InfoAsked) (said : List ℕ) : Type 0 where

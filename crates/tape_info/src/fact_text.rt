@@ -1,10 +1,13 @@
 //! The facts of an image as text.
 
 ghost use Rattle.std.specs.Prelude.{◌≡◌, ◌++◌, IfOk, OnOk, string_bytes};
-ghost use Rattle.tape_info.specs.Told.{tape_row};
-ghost use Rattle.tape_words.specs.Answers.{Begins};
+ghost use Rattle.tape_info.specs.Rows.{amount_text, byte_count, gap_row, known_gap_row, part_row};
+ghost use Rattle.tape_info.specs.Rows.{part_rows, range_row, range_rows, rows_of, stretch_text};
+ghost use Rattle.tape_info.specs.Rows.{sum_text, tape_row, target_text, vector_rows};
 
 use crate::fact_list::Facts;
+use crate::gaps::Gap;
+use crate::ranges::Range;
 use memory_map::Image;
 use model::Profile;
 use std::alloc::{AllocError, Global};
@@ -24,38 +27,82 @@ fn push_tape(words: &mut String, facts: &Facts, records: usize) -> Result<(), Al
     words.push_str("\n")
 }
 
+/// Appends two addresses behind words.
+#[tactic(auto, unfolding(crate::specs::Rows::stretch_text))]
+fn push_stretch(words: &mut String, front: &str, first: u32, last: u32) -> Result<(), AllocError>
+    ensures { OnOk result (string_bytes words.new
+        ≡ string_bytes words.old ++ stretch_text front.now first last) }
+{
+    write!(words, "{front}{first:04X}-{last:04X}  ")
+}
+
+/// Appends how many bytes there are.
+fn push_bytes(words: &mut String, count: u64) -> Result<(), AllocError>
+    ensures { OnOk result (string_bytes words.new ≡ string_bytes words.old ++ byte_count count) }
+{
+    push_count(words, count, "byte", "bytes")
+}
+
+/// Appends a CRC-32, and ends the row.
+#[tactic(auto, unfolding(crate::specs::Rows::sum_text))]
+fn push_sum(words: &mut String, sum: u32) -> Result<(), AllocError>
+    ensures { OnOk result (string_bytes words.new ≡ string_bytes words.old ++ sum_text sum) }
+{
+    writeln!(words, "  CRC-32 {sum:08x}")
+}
+
+/// Appends the row of a range: its addresses, its size and its CRC-32.
+#[tactic(auto, unfolding(crate::specs::Rows::range_row))]
+fn push_range(words: &mut String, range: Range, sum: u32) -> Result<(), AllocError>
+    ensures { OnOk result (string_bytes words.new
+        ≡ string_bytes words.old ++ range_row (range, sum)) }
+{
+    push_stretch(words, "range   ", range.first as u32, range.last as u32)?;
+    push_bytes(words, range.last.saturating_sub(range.first) as u64 + 1)?;
+    push_sum(words, sum)
+}
+
 /// Appends a row for each range: its addresses, its size and its CRC-32.
-fn push_ranges(words: &mut String, facts: &Facts) -> Result<(), AllocError> {
+fn push_ranges(words: &mut String, facts: &Facts) -> Result<(), AllocError>
+    ensures { OnOk result (string_bytes words.new
+        ≡ string_bytes words.old ++ range_rows facts.now) }
+{
     for (range, sum) in facts.ranges.iter().zip(facts.checksums.iter()) {
-        write!(words, "range   {:04X}-{:04X}  ", range.first, range.last)?;
-        let count = range.last.saturating_sub(range.first) as u64 + 1;
-        push_count(words, count, "byte", "bytes")?;
-        writeln!(words, "  CRC-32 {sum:08x}")?;
+        push_range(words, *range, *sum)?;
     }
     Ok(())
 }
 
-/// Appends the row of the largest gap, if there is one.
-fn push_gap(words: &mut String, facts: &Facts) -> Result<(), AllocError> {
-    let Some(gap) = facts.gap else {
-        return Ok(());
-    };
-    let first = gap.after.saturating_add(1);
+/// Appends the row of a gap: its addresses and its size.
+fn push_known_gap(words: &mut String, gap: Gap) -> Result<(), AllocError>
+    ensures { OnOk result (string_bytes words.new ≡ string_bytes words.old ++ known_gap_row gap) }
+{
     let last = gap.before.saturating_sub(1);
-    write!(words, "gap     {first:04X}-{last:04X}  ")?;
-    push_count(words, gap.size() as u64, "byte", "bytes")?;
+    push_stretch(words, "gap     ", gap.after as u32 + 1, last as u32)?;
+    push_bytes(words, gap.size() as u64)?;
     words.push_str("\n")
 }
 
-/// Appends the row of a vector: its address, and its target with the instruction there.
-fn push_vector(
+/// Appends the row of the largest gap, if there is one.
+fn push_gap(words: &mut String, gap: Option<Gap>) -> Result<(), AllocError>
+    ensures { OnOk result (string_bytes words.new ≡ string_bytes words.old ++ gap_row gap) }
+{
+    match gap {
+        None => Ok(()),
+        Some(gap) => push_known_gap(words, gap),
+    }
+}
+
+/// Appends where a vector points to, with the instruction there.
+fn push_target(
     words: &mut String,
-    name: &str,
-    target: Option<u16>,
     profile: Profile,
     image: &Image,
-) -> Result<(), AllocError> {
-    words.push_str(name)?;
+    target: Option<u16>,
+) -> Result<(), AllocError>
+    ensures { OnOk result (string_bytes words.new
+        ≡ string_bytes words.old ++ target_text profile image.now target) }
+{
     match target {
         None => words.push_str("nothing\n"),
         Some(target) => {
@@ -66,46 +113,86 @@ fn push_vector(
     }
 }
 
-/// Appends how many bytes stand in a part of memory.
-fn push_part(words: &mut String, name: &str, bytes: u32) -> Result<(), AllocError> {
+/// Appends the row of a vector: its address, and its target with the instruction there.
+fn push_vector(
+    words: &mut String,
+    name: &str,
+    profile: Profile,
+    image: &Image,
+    target: Option<u16>,
+) -> Result<(), AllocError>
+    ensures { OnOk result (string_bytes words.new
+        ≡ string_bytes words.old ++ (name.now ++ target_text profile image.now target)) }
+{
     words.push_str(name)?;
-    match bytes {
-        0 => words.push_str("nothing\n"),
-        _ => {
-            push_count(words, bytes as u64, "byte", "bytes")?;
-            words.push_str("\n")
-        }
+    push_target(words, profile, image, target)
+}
+
+/// Appends the rows of the three vectors.
+#[tactic(auto, unfolding(crate::specs::Rows::vector_rows))]
+fn push_vectors(
+    words: &mut String,
+    profile: Profile,
+    image: &Image,
+    facts: &Facts,
+) -> Result<(), AllocError>
+    ensures { OnOk result (string_bytes words.new
+        ≡ string_bytes words.old ++ vector_rows profile image.now facts.now) }
+{
+    push_vector(words, "NMI     FFFA  ", profile, image, facts.nmi)?;
+    push_vector(words, "reset   FFFC  ", profile, image, facts.reset)?;
+    push_vector(words, "IRQ     FFFE  ", profile, image, facts.irq)
+}
+
+/// Appends how many bytes stand in a part of memory, and ends the row.
+fn push_amount(words: &mut String, bytes: u32) -> Result<(), AllocError>
+    ensures { OnOk result (string_bytes words.new ≡ string_bytes words.old ++ amount_text bytes) }
+{
+    if bytes == 0 {
+        words.push_str("nothing\n")
+    } else {
+        push_bytes(words, bytes as u64)?;
+        words.push_str("\n")
     }
 }
 
-/// Returns the rows after the first: the ranges, the largest gap, the vectors, and what stands in
-/// pages 0 and 1 and at the port.
-fn more_rows(
-    alloc: Global,
-    profile: Profile,
-    image: &Image,
-    port: u16,
-    facts: &Facts,
-) -> Result<String, AllocError> {
-    let mut words = String::new(alloc);
-    push_ranges(&mut words, facts)?;
-    push_gap(&mut words, facts)?;
-    push_vector(&mut words, "NMI     FFFA  ", facts.nmi, profile, image)?;
-    push_vector(&mut words, "reset   FFFC  ", facts.reset, profile, image)?;
-    push_vector(&mut words, "IRQ     FFFE  ", facts.irq, profile, image)?;
-    push_part(&mut words, "page 0  0000-00FF  ", facts.in_page_0)?;
-    push_part(&mut words, "page 1  0100-01FF  ", facts.in_page_1)?;
-    let last = port.saturating_add(3);
-    write!(words, "port    {port:04X}-{last:04X}  ")?;
-    push_part(&mut words, "", facts.at_port)?;
-    Ok(words)
+/// Appends the row of a part of memory: its addresses, and how many bytes stand there.
+fn push_part(
+    words: &mut String,
+    name: &str,
+    first: u32,
+    last: u32,
+    bytes: u32,
+) -> Result<(), AllocError>
+    ensures { OnOk result (string_bytes words.new
+        ≡ string_bytes words.old ++ part_row name.now first last bytes) }
+{
+    push_stretch(words, name, first, last)?;
+    push_amount(words, bytes)
+}
+
+/// Appends the rows of pages 0 and 1 and of the port.
+#[tactic(auto, unfolding(crate::specs::Rows::part_rows))]
+fn push_parts(words: &mut String, port: u16, facts: &Facts) -> Result<(), AllocError>
+    ensures { OnOk result (string_bytes words.new
+        ≡ string_bytes words.old ++ part_rows port facts.now) }
+{
+    push_part(words, "page 0  ", 0x0000, 0x00ff, facts.in_page_0)?;
+    push_part(words, "page 1  ", 0x0100, 0x01ff, facts.in_page_1)?;
+    push_part(
+        words,
+        "port    ",
+        port as u32,
+        port as u32 + 3,
+        facts.at_port,
+    )
 }
 
 /// Returns the rows of `info`: the tape, its ranges, the largest gap, the vectors, and what stands
 /// in pages 0 and 1 and at the port.
 ///
-/// What the rows after the first say is tested, and not proved. Errors: `AllocError` if an
-/// allocation fails.
+/// Errors: `AllocError` if an allocation fails.
+#[tactic(auto, unfolding(crate::specs::Rows::rows_of))]
 pub fn image_text(
     alloc: Global,
     profile: Profile,
@@ -114,11 +201,14 @@ pub fn image_text(
     facts: &Facts,
     records: usize,
 ) -> Result<String, AllocError>
-    ensures { IfOk result (λ words. Begins (tape_row facts.now records) (string_bytes words)) }
+    ensures { IfOk result (λ words. string_bytes words
+        ≡ rows_of profile image.now port facts.now records) }
 {
     let mut words = String::new(alloc);
     push_tape(&mut words, facts, records)?;
-    let more = more_rows(alloc, profile, image, port, facts)?;
-    words.push_str(more.as_str())?;
+    push_ranges(&mut words, facts)?;
+    push_gap(&mut words, facts.gap)?;
+    push_vectors(&mut words, profile, image, facts)?;
+    push_parts(&mut words, port, facts)?;
     Ok(words)
 }

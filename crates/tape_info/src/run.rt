@@ -34,12 +34,12 @@ fn right_tape(
     text: &[u8],
     image: &Image,
 ) -> Result<String, AllocError>
-    ensures { IfOk result (λ said. AreRows image.now map.now.port (data_records text.now)
-        (string_bytes said)) }
+    ensures { IfOk result (λ said. AreRows words.now.profile image.now map.now.port
+        (data_records text.now) (string_bytes said)) }
 {
     let facts = facts_of(alloc, image, map)?;
     let records = data_records(text);
-    let said = image_text(alloc, words.profile, image, words.port, &facts, records)?;
+    let said = image_text(alloc, words.profile, image, map.port(), &facts, records)?;
     Ok(said)
 }
 

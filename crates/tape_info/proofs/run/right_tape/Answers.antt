@@ -1,8 +1,13 @@
-use Rattle.std.proofs.Common.{ℕ, subst}
-use Rattle.std.specs.Prelude.{string_bytes}
-use Rattle.tape_info.specs.Told.{tape_row}
-use Rattle.tape_words.specs.Answers.{Begins}
+use Rattle.std.proofs.Common.{◌≡◌, ◌∙◌, ap, ℕ, List, Option}
+use Rattle.model.specs.declared.instruction.Profile.{Profile}
+use Rattle.tape_info.specs.Rows.{rows_of}
+use Rattle.tape_info.specs.declared.fact_list.Facts.{Facts}
 use Rattle.tape_info.proofs.run.right_tape.Goals as goal
+
+same_rows : (said : List ℕ) (profile : Profile) (image : List (Option ℕ)) (facts : Facts) (p q m n : ℕ) → p ≡ q → m ≡ n
+    → said ≡ rows_of profile image p facts m → said ≡ rows_of profile image q facts n
+same_rows said profile image facts p q m n port records rows =
+    rows ∙ (ap (λ k. rows_of profile image k facts m) port ∙ ap (λ k. rows_of profile image q facts k) records)
 
 pub returns : goal.returns
 returns c = record {
@@ -19,5 +24,5 @@ returns c = record {
     reset = c.in_ok-facts.ensures.reset;
     irq = c.in_ok-facts.ensures.irq;
   };
-  rows = subst (λ (n : ℕ). Begins (tape_row c.in_ok-facts.facts n) (string_bytes c.in_ok-said.said)) c.data_records-records.ensures.count c.in_ok-said.ensures;
+  rows = same_rows _ _ _ _ _ _ _ _ c.port.ensures.value c.data_records-records.ensures.count c.in_ok-said.ensures;
 }

@@ -1,0 +1,102 @@
+-- The rows in which `info` tells an image's facts. Source: mos65.
+use Rattle.std.specs.Prelude.{ℕ, ◌+◌, ◌-◌, ◌^◌, ◌==◌, Bool, true, false, if◌then◌else◌, List, [], ◌∷◌, ◌++◌, Option, Some, None, codes, encode_utf8_all, length}
+use Rattle.std.specs.Fmt.{digits, format_spec, padded_integral}
+use Rattle.std.specs.List.{flat_map, zip}
+use Rattle.model.specs.declared.instruction.Profile.{Profile}
+use Rattle.tape_words.specs.Answers.{counted}
+use Rattle.tape_words.specs.Instructions.{row_at, text_by}
+use Rattle.tape_info.specs.Facts.{gap_size}
+use Rattle.tape_info.specs.declared.fact_list.Facts.{Facts}
+use Rattle.tape_info.specs.declared.gaps.Gap.{Gap}
+use Rattle.tape_info.specs.declared.ranges.Range.{Range}
+
+-- ---- words of the rows
+
+-- So many hex digits, more where a number has more. They are capital letters, or small ones.
+abbrev pub hex_digits : Bool → ℕ → ℕ → List ℕ
+hex_digits capital width number = padded_integral (format_spec 32 0 4 width (2 ^ 64 - 1)) false []
+    (digits 16 capital number)
+
+-- An address as four hex digits.
+abbrev pub address_text : ℕ → List ℕ
+address_text address = hex_digits true 4 address
+
+-- Two addresses behind words, as `range   0200-02FF  `.
+unfoldable pub stretch_text : List ℕ → ℕ → ℕ → List ℕ
+stretch_text words first last
+    = words ++ address_text first ++ codes "-" ++ address_text last ++ codes "  "
+
+-- How many bytes there are.
+abbrev pub byte_count : ℕ → List ℕ
+byte_count count = counted count (codes "byte") (codes "bytes")
+
+-- ---- the tape
+
+-- The first row: how many bytes, ranges and records a tape has.
+abbrev pub tape_row : Facts → ℕ → List ℕ
+tape_row facts records = codes "tape    " ++ counted facts.bytes (codes "byte") (codes "bytes")
+    ++ codes " in " ++ counted (length facts.ranges.items) (codes "range") (codes "ranges")
+    ++ codes " and " ++ counted records (codes "record") (codes "records") ++ 10 ∷ []
+
+-- ---- ranges and gaps
+
+-- A check sum as eight hex digits behind words.
+unfoldable pub sum_text : ℕ → List ℕ
+sum_text sum = codes "  CRC-32 " ++ hex_digits false 8 sum ++ codes "\n"
+
+-- The row of a range and its check sum: `range   0200-02FF  256 bytes  CRC-32 0123abcd`.
+unfoldable pub range_row : Range × ℕ → List ℕ
+range_row summed = stretch_text (codes "range   ") summed.0.first summed.0.last
+    ++ byte_count (summed.0.last - summed.0.first + 1) ++ sum_text summed.1
+
+-- A row for each range with its check sum.
+abbrev pub range_rows : Facts → List ℕ
+range_rows facts = flat_map range_row (zip facts.ranges.items facts.checksums.items)
+
+-- The row of a gap, from the address after the range before it to the one before the range after it.
+abbrev pub known_gap_row : Gap → List ℕ
+known_gap_row gap = stretch_text (codes "gap     ") (gap.after + 1) (gap.before - 1)
+    ++ byte_count (gap_size gap) ++ codes "\n"
+
+-- The row of the largest gap, if there is one.
+abbrev pub gap_row : Option Gap → List ℕ
+gap_row None = []
+gap_row (Some gap) = known_gap_row gap
+
+-- ---- vectors
+
+-- Where a vector points to, and the instruction there as a profile has it.
+abbrev pub target_text : Profile → List (Option ℕ) → Option ℕ → List ℕ
+target_text profile image None = codes "nothing\n"
+target_text profile image (Some target) = address_text target ++ codes "  "
+    ++ encode_utf8_all (text_by (row_at profile image target)) ++ codes "\n"
+
+-- The rows of the three vectors.
+unfoldable pub vector_rows : Profile → List (Option ℕ) → Facts → List ℕ
+vector_rows profile image facts
+    = (codes "NMI     FFFA  " ++ target_text profile image facts.nmi)
+    ++ (codes "reset   FFFC  " ++ target_text profile image facts.reset)
+    ++ (codes "IRQ     FFFE  " ++ target_text profile image facts.irq)
+
+-- ---- parts of memory
+
+-- How many bytes stand in a part of memory, or `nothing`.
+abbrev pub amount_text : ℕ → List ℕ
+amount_text bytes = (if bytes == 0 then codes "nothing" else byte_count bytes) ++ codes "\n"
+
+-- The row of a part of memory, from one address to another.
+abbrev pub part_row : List ℕ → ℕ → ℕ → ℕ → List ℕ
+part_row words first last bytes = stretch_text words first last ++ amount_text bytes
+
+-- The rows of page 0, of page 1 and of the port's four addresses.
+unfoldable pub part_rows : ℕ → Facts → List ℕ
+part_rows port facts = part_row (codes "page 0  ") 0 255 facts.in_page_0
+    ++ part_row (codes "page 1  ") 256 511 facts.in_page_1
+    ++ part_row (codes "port    ") port (port + 3) facts.at_port
+
+-- ---- all rows
+
+-- All rows of an image's facts, for a profile, a port and so many records.
+unfoldable pub rows_of : Profile → List (Option ℕ) → ℕ → Facts → ℕ → List ℕ
+rows_of profile image port facts records = tape_row facts records ++ range_rows facts
+    ++ gap_row facts.gap ++ vector_rows profile image facts ++ part_rows port facts
