@@ -5,7 +5,8 @@ use Rattle.model.specs.declared.source_fault.AsmFault.{AsmFault}
 use Rattle.warning_notes.specs.Blocks.{IsWarnedText}
 use Rattle.warnings.specs.declared.kinds.Warning.{Warning}
 
--- The faults are written, or the warnings if there is no fault.
-abbrev pub IsCheckedText : List ℕ → List AsmFault → List Warning → List ℕ → Type 0
-IsCheckedText file [] warnings text = IsWarnedText file warnings text
-IsCheckedText file (fault ∷ faults) warnings text = IsTold file (fault ∷ faults) text
+-- The faults of a source are written, or the warnings if there is no fault.
+abbrev pub IsCheckedText : List ℕ → List ℕ → List AsmFault → List Warning → List ℕ → Type 0
+IsCheckedText file source [] warnings text = IsWarnedText file source warnings text
+IsCheckedText file source (fault ∷ faults) warnings text
+    = IsTold file source (fault ∷ faults) text

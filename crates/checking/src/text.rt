@@ -32,10 +32,11 @@ pub fn checked_text(
     source: &[u8],
     map: &MapSpec,
 ) -> Result<CheckedText, AllocError>
-    // A block for each of the first 50 faults, with its line, its name and its number; or for each
-    // of the first 50 warnings, with its line and its kind.
-    ensures told { IfOk result (λ c. IsCheckedText file.now (faults_of map.now source.now)
-        (warnings_of map.now source.now) c.text.items) }
+    // A block for each of the first 50 faults, with its line's number, its name, its number and the
+    // source's own line; or for each of the first 50 warnings, with its kind in place of the name
+    // and the number.
+    ensures told { IfOk result (λ c. IsCheckedText file.now source.now
+        (faults_of map.now source.now) (warnings_of map.now source.now) c.text.items) }
     // Whether a fault is told.
     ensures faulty { IfOk result
         (λ c. c.is_faulty ≡ not (length (faults_of map.now source.now) == 0)) }

@@ -1,9 +1,12 @@
 -- What is written of the faults of a source: a block for each. Source: mos65.
-use Rattle.std.specs.Prelude.{◌≡◌, ℕ, nat_lt, ◌==◌, if◌then◌else◌, List, [], ◌∷◌, ◌++◌, length, take, codes}
+use Rattle.std.specs.Prelude.{◌≡◌, ℕ, ◌+◌, ◌-◌, ◌%◌, nat_lt, ◌==◌, if◌then◌else◌, List, [], ◌∷◌, ◌++◌, length, take, codes, Option, slice_get}
 use Rattle.std.specs.Fmt.{decimal}
 use Rattle.std.specs.List.Sorted.{IsNonDecreasingBy, IsPermutation}
 use Rattle.notes.specs.Places.{place_of}
+use Rattle.notes.specs.Shown.{after_head}
+use Rattle.notes.specs.declared.words.Note.{Note}
 use Rattle.model.specs.FaultNames.{source_fault_name, source_fault_number}
+use Rattle.model.specs.TextLines.{lines_of}
 use Rattle.model.specs.declared.source_fault.AsmFault.{AsmFault}
 use Rattle.model.specs.declared.source_fault.AsmFaultKind.{AsmFaultKind}
 
@@ -16,40 +19,46 @@ kind_text kind
 abbrev pub head_of : List ℕ → AsmFault → ℕ → List ℕ
 head_of file fault column = place_of file fault.line column ++ kind_text fault.kind
 
--- A block: its head, and then words, the line and a mark.
-pub record IsBlock (file : List ℕ) (fault : AsmFault) (block : List ℕ) : Type 0 where
-  pub column : ℕ
-  pub rest : List ℕ
-  pub text : block ≡ head_of file fault column ++ rest
+-- The line of this number among lines, counted from 1, if there is one. 0 counts as 1.
+abbrev pub line_of : List (List ℕ) → ℕ → Option (List ℕ)
+line_of lines number = slice_get lines (number - 1)
 
--- A text with a block of this fault after it.
-pub record IsBlockAfter (file : List ℕ) (fault : AsmFault) (before after : List ℕ) : Type 0 where
-  pub block : List ℕ
-  pub is : IsBlock file fault block
-  pub text : after ≡ before ++ block
+-- A block: its head, and then a note's words and the line with a mark, if there is a line. Only the
+-- note is open: its words, and which bytes of the line it means. The column is that of the first of
+-- these bytes, counted from 1; 65,536 bytes further it begins again.
+pub record IsBlock (file : List ℕ) (lines : List (List ℕ)) (fault : AsmFault)
+    (block : List ℕ) : Type 0 where
+  pub note : Note
+  pub text : block ≡ head_of file fault (note.start % 65536 + 1)
+      ++ after_head (line_of lines fault.line) note
 
 -- A block for each of some faults, one after another.
-abbrev pub AreBlocks : List ℕ → List AsmFault → List ℕ → Type 0
-AreBlocks file [] text = text ≡ []
-AreBlocks file (fault ∷ faults) text = (block : List ℕ) × (rest : List ℕ)
-    × IsBlock file fault block × (text ≡ block ++ rest) × AreBlocks file faults rest
+abbrev pub AreBlocks : List ℕ → List (List ℕ) → List AsmFault → List ℕ → Type 0
+AreBlocks file lines [] text = text ≡ []
+AreBlocks file lines (fault ∷ faults) text = (block : List ℕ) × (rest : List ℕ)
+    × IsBlock file lines fault block × (text ≡ block ++ rest) × AreBlocks file lines faults rest
 
 -- How many faults there are, and before it whether there are more than are told.
 abbrev pub end_of : ℕ → List ℕ
 end_of count = (if nat_lt 50 count then codes "and more\n" else []) ++ decimal count
     ++ (if count == 1 then codes " fault\n" else codes " faults\n")
 
--- What is written of faults: a block for each of the first 50, in the order of their lines, and how
--- many faults there are.
-pub record IsTold (file : List ℕ) (faults : List AsmFault) (text : List ℕ) : Type 0 where
+-- The lines of a source that are shown: all, and none of a source that is too long to be read.
+abbrev pub shown_lines : List ℕ → List (List ℕ)
+shown_lines source = if nat_lt 1048576 (length source) then [] else lines_of source
+
+-- What is written of faults of a source: a block for each of the first 50, in the order of their
+-- lines and with the source's own line, and how many faults there are.
+pub record IsTold (file source : List ℕ) (faults : List AsmFault) (text : List ℕ)
+    : Type 0 where
   pub first : List AsmFault
   pub all : IsPermutation (take 50 faults) first
   pub ordered : IsNonDecreasingBy (λ f. f.line) first
   pub blocks : List ℕ
-  pub each : AreBlocks file first blocks
+  pub each : AreBlocks file (shown_lines source) first blocks
   pub written : text ≡ blocks ++ end_of (length faults)
 
 -- Nothing is written without a fault.
-abbrev pub IsToldText : List ℕ → List AsmFault → List ℕ → Type 0
-IsToldText file [] text = text ≡ []
-IsToldText file (fault ∷ faults) text = IsTold file (fault ∷ faults) text
+abbrev pub IsToldText : List ℕ → List ℕ → List AsmFault → List ℕ → Type 0
+IsToldText file source [] text = text ≡ []
+IsToldText file source (fault ∷ faults) text = IsTold file source (fault ∷ faults) text

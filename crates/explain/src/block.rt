@@ -1,8 +1,13 @@
 //! The blocks of all faults.
 
-ghost use Rattle.std.specs.Prelude.{◌≡◌, ◌++◌, IfOk, OnOk, take};
+ghost use Rattle.std.specs.Prelude.{◌≡◌, ◌++◌, ◌+◌, ◌%◌, [], IfOk, OnOk, take};
 ghost use Rattle.std.specs.List.Sorted.{IsNonDecreasingBy, IsPermutation};
-ghost use Rattle.explain.specs.Blocks.{AreBlocks, IsBlockAfter, IsToldText, end_of, head_of, kind_text};
+ghost use Rattle.std.specs.Option.{option_map};
+ghost use Rattle.model.specs.TextLines.{lines_of};
+ghost use Rattle.notes.specs.Lines.{texts_of};
+ghost use Rattle.notes.specs.Shown.{after_head};
+ghost use Rattle.explain.specs.Blocks.{AreBlocks, IsToldText, end_of, head_of, kind_text, line_of};
+ghost use Rattle.explain.specs.Blocks.{shown_lines};
 
 use crate::note::{Context, note_of};
 use bus::MapSpec;
@@ -56,7 +61,9 @@ fn push_block(
     line: Option<&[u8]>,
     note: &Note,
 ) -> Result<(), AllocError>
-    ensures { OnOk result (IsBlockAfter file.now fault text.old.items text.new.items) }
+    ensures { OnOk result (text.new.items ≡ text.old.items
+        ++ (head_of file.now fault (note.now.start % 65536 + 1)
+        ++ after_head (option_map (λ line. line.now) line.entry) note.now)) }
 {
     let column = (note.start % 65536) as u32 + 1;
     let rest = after_head(alloc, line, note)?;
@@ -98,7 +105,7 @@ fn by_line(alloc: Global, faults: &[AsmFault]) -> Result<Vec<AsmFault>, AllocErr
 
 /// Returns the blocks of faults of a source that is too long to be read.
 fn large_blocks(alloc: Global, file: &[u8], faults: &[AsmFault]) -> Result<Vec<u8>, AllocError>
-    ensures { IfOk result (λ text. AreBlocks file.now faults.now text.items) }
+    ensures { IfOk result (λ text. AreBlocks file.now [] faults.now text.items) }
 {
     let mut text = Vec::new(alloc);
     for fault in faults {
@@ -106,6 +113,21 @@ fn large_blocks(alloc: Global, file: &[u8], faults: &[AsmFault]) -> Result<Vec<u
         push_block(alloc, &mut text, file, *fault, None, &noted(0, 1, words))?;
     }
     Ok(text)
+}
+
+/// Returns all lines of a source.
+#[tactic(auto, using(crate::proofs::Told::every_line))]
+fn every_line<'a>(alloc: Global, source: &'a [u8]) -> Result<Vec<&'a [u8]>, AllocError>
+    ensures { IfOk result (λ lines. texts_of lines.items ≡ lines_of source.now) }
+{
+    lines_of(alloc, source, source.len())
+}
+
+/// Returns the line of this number, counted from 1, if there is one.
+fn line_of<'a>(lines: &[&'a [u8]], number: u32) -> Option<&'a [u8]>
+    ensures { option_map (λ line. line.now) result ≡ line_of (texts_of lines.now) number }
+{
+    lines.get((number as usize).saturating_sub(1)).copied()
 }
 
 /// Returns the blocks of faults of a source whose lines are these.
@@ -116,11 +138,11 @@ fn line_blocks(
     context: &Context<'_, '_>,
     faults: &[AsmFault],
 ) -> Result<Vec<u8>, AllocError>
-    ensures { IfOk result (λ text. AreBlocks file.now faults.now text.items) }
+    ensures { IfOk result (λ text. AreBlocks file.now (texts_of lines.now) faults.now text.items) }
 {
     let mut text = Vec::new(alloc);
     for fault in faults {
-        let line = lines.get((fault.line as usize).saturating_sub(1)).copied();
+        let line = line_of(lines, fault.line);
         let shown = match line {
             Some(line) => line,
             None => &[],
@@ -139,7 +161,8 @@ fn blocks_of(
     map: &MapSpec,
     faults: &[AsmFault],
 ) -> Result<Vec<u8>, AllocError>
-    ensures { IfOk result (λ text. AreBlocks file.now faults.now text.items) }
+    ensures { IfOk result
+        (λ text. AreBlocks file.now (shown_lines source.now) faults.now text.items) }
 {
     if source.len() > SOURCE_SIZE {
         return large_blocks(alloc, file, faults);
@@ -147,8 +170,8 @@ fn blocks_of(
     let mut symbols = Symbols::new(alloc);
     let profile = map.profile();
     let found = lay_out(alloc, profile, Mending::Smallest, &mut symbols, source)?;
-    let lines = lines_of(alloc, source, found.len())?;
-    let names = names_of(alloc, &lines)?;
+    let lines = every_line(alloc, source)?;
+    let names = names_of(alloc, &lines[..found.len().min(lines.len())])?;
     let context = Context {
         profile,
         port: map.port(),
@@ -173,8 +196,10 @@ pub fn faults_text(
     map: &MapSpec,
     faults: &[AsmFault],
 ) -> Result<Vec<u8>, AllocError>
-    // A block for each of the first 50 faults, with its line, its name and its number.
-    ensures told { IfOk result (λ text. IsToldText file.now faults.now text.items) }
+    // A block for each of the first 50 faults, with its line's number, its name, its number and the
+    // source's own line. Which words it has, and which bytes of the line it means, is open.
+    ensures told { IfOk result
+        (λ text. IsToldText file.now source.now faults.now text.items) }
 {
     if faults.is_empty() {
         return Ok(Vec::new(alloc));

@@ -1,8 +1,9 @@
 //! What a person needs of each fault of a source: where it stands, a reason in words, the nearest
 //! name, by how much a value misses.
 //!
-//! `faults_text` writes a block for each fault. It begins with the fault's line, name and number;
-//! what the words after these say is tested and not proved.
+//! `faults_text` writes a block for each fault: the fault's line, name and number, words, and the
+//! source's own line with a mark. What the words say and where the mark stands is tested and not
+//! proved.
 #![tactic(auto)]
 
 mod block;

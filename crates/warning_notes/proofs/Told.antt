@@ -1,32 +1,49 @@
--- Blocks, one after another.
-use Rattle.std.proofs.Common.{◌≡◌, ℕ, ◌+◌, ◌<◌, ◌≤◌, List, [], ◌∷◌, ◌++◌, length, take, get_or, Result, Ok, Err, refl, sym, ap, ◌∙◌, append_assoc, append-nil, arith}
-use Rattle.std.specs.Prelude.{OnOk}
+-- Blocks, one after another, and the lines of a source.
+use Rattle.std.proofs.Common.{◌≡◌, ℕ, ◌+◌, ◌%◌, ◌<◌, ◌≤◌, List, [], ◌∷◌, ◌++◌, length, take, get_or, Option, refl, sym, ap, ◌∙◌, append_assoc, append-nil, arith}
 use Rattle.std.proofs.lemmas.List.{take_more, take_all}
+use Rattle.std.proofs.lemmas.Bool.Decides.{nat_tests}
+use Rattle.std.proofs.lemmas.Grind.{common_steps}
+use Rattle.model.specs.TextLines.{last_line, lines_from, lines_of}
+use Rattle.notes.specs.Shown.{after_head}
+use Rattle.notes.specs.declared.words.Note.{Note}
 use Rattle.warnings.specs.declared.kinds.Warning.{Warning}
-use Rattle.warning_notes.specs.Blocks.{AreBlocks, IsBlock, IsBlockAfter, head_of}
+use Rattle.warning_notes.specs.Blocks.{AreBlocks, IsBlock, head_of, line_of}
+
+-- a text has at most as many lines as bytes
+few_lines : (begun text : List ℕ) → length (lines_from last_line begun text) ≤ length begun + length text
+unfolding lines_from
+few_lines [] [] = omega arith
+few_lines (b ∷ begun) [] = omega arith
+few_lines begun (b ∷ text) =
+    let ends : length (lines_from last_line [] text) ≤ length text = omega (arith, few_lines [] text) in
+    let goes = few_lines (begun ++ b ∷ []) text in
+    grind (arith, nat_tests, common_steps)
+
+-- all lines of a text
+pub every_line : (text : List ℕ) → take (length text) (lines_of text) ≡ lines_of text
+every_line text = take_all (length text) (lines_of text) (omega (arith, few_lines [] text))
 
 -- one block more
-more : (file : List ℕ) (warnings : List Warning) (warning : Warning) (text block : List ℕ) → AreBlocks file warnings text → IsBlock file warning block → AreBlocks file (warnings ++ warning ∷ []) (text ++ block)
-more file [] warning text block e is = (block, [], is, rw e (sym (append-nil block)), refl)
-more file (first ∷ warnings) warning text block h is =
-    (h.0, h.1 ++ block, h.2, ap (λ (x : List ℕ). x ++ block) h.3 ∙ append_assoc h.0 h.1 block, more file warnings warning h.1 block h.4 is)
+more : (file : List ℕ) (lines : List (List ℕ)) (warnings : List Warning) (warning : Warning) (text block : List ℕ) → AreBlocks file lines warnings text → IsBlock file lines warning block → AreBlocks file lines (warnings ++ warning ∷ []) (text ++ block)
+more file lines [] warning text block e is = (block, [], is, rw e (sym (append-nil block)), refl)
+more file lines (first ∷ warnings) warning text block h is =
+    (h.0, h.1 ++ block, h.2, ap (λ (x : List ℕ). x ++ block) h.3 ∙ append_assoc h.0 h.1 block, more file lines warnings warning h.1 block h.4 is)
 
 -- a block after those of the warnings so far
-pub block_done : (file : List ℕ) (warnings : List Warning) (i : ℕ) (d : Warning) (text new : List ℕ) → i < length warnings
-    → AreBlocks file (take i warnings) text → IsBlockAfter file (get_or warnings i d) text new → AreBlocks file (take (i + 1) warnings) new
-block_done file warnings i d text new within so_far b =
-    rw (take_more warnings i d within, b.text) (more file (take i warnings) (get_or warnings i d) text b.block so_far b.is)
+pub block_done : (file : List ℕ) (lines : List (List ℕ)) (warnings : List Warning) (i : ℕ) (d : Warning) (text new : List ℕ) (line : Option (List ℕ)) (note : Note)
+    → i < length warnings → AreBlocks file lines (take i warnings) text
+    → line ≡ line_of lines (get_or warnings i d).line
+    → new ≡ text ++ (head_of file (get_or warnings i d) (note.start % 65536 + 1) ++ after_head line note)
+    → AreBlocks file lines (take (i + 1) warnings) new
+block_done file lines warnings i d text new line note within so_far found e =
+    let warning = get_or warnings i d in
+    let block : List ℕ = head_of file warning (note.start % 65536 + 1) ++ after_head line note in
+    let is : IsBlock file lines warning block = record {
+      note = note;
+      text = ap (λ (l : Option (List ℕ)). head_of file warning (note.start % 65536 + 1) ++ after_head l note) found;
+    } in
+    rw (take_more warnings i d within, e) (more file lines (take i warnings) warning text block so_far is)
 
 -- no warning is left
-pub all_done : (file : List ℕ) (warnings : List Warning) (i : ℕ) (text : List ℕ) → length warnings ≤ i → AreBlocks file (take i warnings) text → AreBlocks file warnings text
-all_done file warnings i text past h = rw (take_all i warnings past) at h
-
--- a text after which a block was written
-pub written : {X E : Type 0} (result : Result X E) (file : List ℕ) (warning : Warning) (column : ℕ) (before rest new : List ℕ)
-    → OnOk result (new ≡ before ++ (head_of file warning column ++ rest)) → OnOk result (IsBlockAfter file warning before new)
-written (Ok x) file warning column before rest new e = record {
-  block = head_of file warning column ++ rest;
-  is = record { column = column; rest = rest; text = refl };
-  text = e;
-}
-written (Err e) file warning column before rest new h = tt
+pub all_done : (file : List ℕ) (lines : List (List ℕ)) (warnings : List Warning) (i : ℕ) (text : List ℕ) → length warnings ≤ i → AreBlocks file lines (take i warnings) text → AreBlocks file lines warnings text
+all_done file lines warnings i text past h = rw (take_all i warnings past) at h

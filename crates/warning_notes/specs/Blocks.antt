@@ -1,7 +1,10 @@
 -- What is written of the warnings of a source: a block for each. Source: mos65.
-use Rattle.std.specs.Prelude.{◌≡◌, ℕ, nat_lt, ◌==◌, if◌then◌else◌, List, [], ◌∷◌, ◌++◌, length, take, codes}
+use Rattle.std.specs.Prelude.{◌≡◌, ℕ, ◌+◌, ◌-◌, ◌%◌, nat_lt, ◌==◌, if◌then◌else◌, List, [], ◌∷◌, ◌++◌, length, take, codes, Option, slice_get}
 use Rattle.std.specs.Fmt.{decimal}
+use Rattle.model.specs.TextLines.{lines_of}
 use Rattle.notes.specs.Places.{place_of}
+use Rattle.notes.specs.Shown.{after_head}
+use Rattle.notes.specs.declared.words.Note.{Note}
 use Rattle.warnings.specs.declared.kinds.Warning.{Warning}
 use Rattle.warnings.specs.declared.kinds.WarningKind.{WarningKind}
 use Rattle.warnings.specs.declared.kinds.WarningKind.TheVariants.{PlainNumber, UnusedName, LongForm, LetterCase, NoBytes, AfterEnd}
@@ -19,36 +22,40 @@ abbrev pub head_of : List ℕ → Warning → ℕ → List ℕ
 head_of file w column
     = place_of file w.line column ++ (codes "warning: " ++ (kind_name w.kind ++ codes ": "))
 
--- A block: its head, and then words, the line and a mark.
-pub record IsBlock (file : List ℕ) (warning : Warning) (block : List ℕ) : Type 0 where
-  pub column : ℕ
-  pub rest : List ℕ
-  pub text : block ≡ head_of file warning column ++ rest
+-- The line of this number among lines, counted from 1, if there is one. 0 counts as 1.
+abbrev pub line_of : List (List ℕ) → ℕ → Option (List ℕ)
+line_of lines number = slice_get lines (number - 1)
 
--- A text with a block of this warning after it.
-pub record IsBlockAfter (file : List ℕ) (warning : Warning) (before after : List ℕ) : Type 0 where
-  pub block : List ℕ
-  pub is : IsBlock file warning block
-  pub text : after ≡ before ++ block
+-- A block: its head, and then a note's words and the line with a mark, if there is a line. Only the
+-- note is open: its words, and which bytes of the line it means. The column is that of the first of
+-- these bytes, counted from 1; 65,536 bytes further it begins again.
+pub record IsBlock (file : List ℕ) (lines : List (List ℕ)) (warning : Warning)
+    (block : List ℕ) : Type 0 where
+  pub note : Note
+  pub text : block ≡ head_of file warning (note.start % 65536 + 1)
+      ++ after_head (line_of lines warning.line) note
 
 -- A block for each of some warnings, one after another.
-abbrev pub AreBlocks : List ℕ → List Warning → List ℕ → Type 0
-AreBlocks file [] text = text ≡ []
-AreBlocks file (warning ∷ warnings) text = (block : List ℕ) × (rest : List ℕ)
-    × IsBlock file warning block × (text ≡ block ++ rest) × AreBlocks file warnings rest
+abbrev pub AreBlocks : List ℕ → List (List ℕ) → List Warning → List ℕ → Type 0
+AreBlocks file lines [] text = text ≡ []
+AreBlocks file lines (warning ∷ warnings) text = (block : List ℕ) × (rest : List ℕ)
+    × IsBlock file lines warning block × (text ≡ block ++ rest)
+    × AreBlocks file lines warnings rest
 
 -- How many warnings there are, and before it whether there are more than are told.
 abbrev pub end_of : ℕ → List ℕ
 end_of count = (if nat_lt 50 count then codes "and more\n" else []) ++ decimal count
     ++ (if count == 1 then codes " warning\n" else codes " warnings\n")
 
--- What is written of warnings: a block for each of the first 50, and how many there are.
-pub record IsWarned (file : List ℕ) (warnings : List Warning) (text : List ℕ) : Type 0 where
+-- What is written of warnings of a source: a block for each of the first 50, with the source's own
+-- line, and how many there are.
+pub record IsWarned (file source : List ℕ) (warnings : List Warning) (text : List ℕ)
+    : Type 0 where
   pub blocks : List ℕ
-  pub each : AreBlocks file (take 50 warnings) blocks
+  pub each : AreBlocks file (lines_of source) (take 50 warnings) blocks
   pub written : text ≡ blocks ++ end_of (length warnings)
 
 -- Nothing is written without a warning.
-abbrev pub IsWarnedText : List ℕ → List Warning → List ℕ → Type 0
-IsWarnedText file [] text = text ≡ []
-IsWarnedText file (warning ∷ warnings) text = IsWarned file (warning ∷ warnings) text
+abbrev pub IsWarnedText : List ℕ → List ℕ → List Warning → List ℕ → Type 0
+IsWarnedText file source [] text = text ≡ []
+IsWarnedText file source (warning ∷ warnings) text = IsWarned file source (warning ∷ warnings) text

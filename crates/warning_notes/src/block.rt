@@ -1,8 +1,12 @@
 //! The blocks of all warnings.
 
-ghost use Rattle.std.specs.Prelude.{◌≡◌, ◌++◌, IfOk, OnOk, take};
-ghost use Rattle.warning_notes.specs.Blocks.{AreBlocks, IsBlockAfter, IsWarnedText, end_of, head_of};
-ghost use Rattle.warning_notes.specs.Blocks.{kind_name};
+ghost use Rattle.std.specs.Prelude.{◌≡◌, ◌++◌, ◌+◌, ◌%◌, IfOk, OnOk, take};
+ghost use Rattle.std.specs.Option.{option_map};
+ghost use Rattle.model.specs.TextLines.{lines_of};
+ghost use Rattle.notes.specs.Lines.{texts_of};
+ghost use Rattle.notes.specs.Shown.{after_head};
+ghost use Rattle.warning_notes.specs.Blocks.{AreBlocks, IsWarnedText, end_of, head_of};
+ghost use Rattle.warning_notes.specs.Blocks.{kind_name, line_of};
 
 use crate::note::note_of;
 use itoa::Buffer;
@@ -55,7 +59,9 @@ fn push_block(
     line: Option<&[u8]>,
     note: &Note,
 ) -> Result<(), AllocError>
-    ensures { OnOk result (IsBlockAfter file.now warning text.old.items text.new.items) }
+    ensures { OnOk result (text.new.items ≡ text.old.items
+        ++ (head_of file.now warning (note.now.start % 65536 + 1)
+        ++ after_head (option_map (λ line. line.now) line.entry) note.now)) }
 {
     let column = (note.start % 65536) as u32 + 1;
     let rest = after_head(alloc, line, note)?;
@@ -85,6 +91,21 @@ fn first_told(warnings: &[Warning]) -> &[Warning]
     &warnings[..MOST_TOLD.min(warnings.len())]
 }
 
+/// Returns all lines of a source.
+#[tactic(auto, using(crate::proofs::Told::every_line))]
+fn every_line<'a>(alloc: Global, source: &'a [u8]) -> Result<Vec<&'a [u8]>, AllocError>
+    ensures { IfOk result (λ lines. texts_of lines.items ≡ lines_of source.now) }
+{
+    lines_of(alloc, source, source.len())
+}
+
+/// Returns the line of this number, counted from 1, if there is one.
+fn line_of<'a>(lines: &[&'a [u8]], number: u32) -> Option<&'a [u8]>
+    ensures { option_map (λ line. line.now) result ≡ line_of (texts_of lines.now) number }
+{
+    lines.get((number as usize).saturating_sub(1)).copied()
+}
+
 /// Returns the blocks of warnings of a source whose lines are these.
 fn line_blocks(
     alloc: Global,
@@ -93,13 +114,12 @@ fn line_blocks(
     names: &[Name<'_>],
     warnings: &[Warning],
 ) -> Result<Vec<u8>, AllocError>
-    ensures { IfOk result (λ text. AreBlocks file.now warnings.now text.items) }
+    ensures { IfOk result
+        (λ text. AreBlocks file.now (texts_of lines.now) warnings.now text.items) }
 {
     let mut text = Vec::new(alloc);
     for warning in warnings {
-        let line = lines
-            .get((warning.line as usize).saturating_sub(1))
-            .copied();
+        let line = line_of(lines, warning.line);
         let shown = match line {
             Some(line) => line,
             None => &[],
@@ -123,13 +143,15 @@ pub fn warnings_text(
     source: &[u8],
     warnings: &[Warning],
 ) -> Result<Vec<u8>, AllocError>
-    // A block for each of the first 50 warnings, with its line and its kind.
-    ensures told { IfOk result (λ text. IsWarnedText file.now warnings.now text.items) }
+    // A block for each of the first 50 warnings, with its line's number, its kind and the source's
+    // own line. Which words it has, and which bytes of the line it means, is open.
+    ensures told { IfOk result
+        (λ text. IsWarnedText file.now source.now warnings.now text.items) }
 {
     if warnings.is_empty() {
         return Ok(Vec::new(alloc));
     }
-    let lines = lines_of(alloc, source, source.len())?;
+    let lines = every_line(alloc, source)?;
     let names = names_of(alloc, &lines)?;
     let mut text = line_blocks(alloc, file, &lines, &names, first_told(warnings))?;
     push_end(&mut text, warnings.len())?;

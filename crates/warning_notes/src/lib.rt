@@ -1,7 +1,8 @@
 //! The warnings of a source as text, a block for each.
 //!
-//! `warnings_text` writes a block for each warning. It begins with the warning's line and kind;
-//! what the words after these say is tested and not proved.
+//! `warnings_text` writes a block for each warning: the warning's line and kind, words, and the
+//! source's own line with a mark. What the words say and where the mark stands is tested and not
+//! proved.
 #![tactic(auto)]
 
 mod block;

@@ -1,9 +1,10 @@
 use Rattle.std.proofs.Common.{arith}
+use Rattle.notes.specs.Lines.{texts_of}
 use Rattle.explain.proofs.Told.{all_done, block_done}
 use Rattle.explain.proofs.block.line_blocks.Goals as goal
 
 pub loop-fault-preserved : goal.loop-fault-preserved
-loop-fault-preserved c = block_done c.args.file.now c.args.faults.now c.loop-fault.fault-index _ c.loop-fault.text.items _ (omega (arith, c.loop-fault-test.true)) c.loop-fault.invariant c.in_ok-push_block.ensures
+loop-fault-preserved c = block_done c.args.file.now (texts_of c.args.lines.now) c.args.faults.now c.loop-fault.fault-index _ c.loop-fault.text.items _ _ _ (omega (arith, c.loop-fault-test.true)) c.loop-fault.invariant c.line_of-line.ensures c.in_ok-push_block.ensures
 
 pub returns : goal.returns
-returns c = all_done c.args.file.now c.args.faults.now c.loop-fault.fault-index c.loop-fault.text.items (omega (arith, c.loop-fault-test.false)) c.loop-fault.invariant
+returns c = all_done c.args.file.now (texts_of c.args.lines.now) c.args.faults.now c.loop-fault.fault-index c.loop-fault.text.items (omega (arith, c.loop-fault-test.false)) c.loop-fault.invariant

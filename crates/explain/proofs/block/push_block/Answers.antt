@@ -1,5 +1,0 @@
-use Rattle.explain.proofs.Told.{written}
-use Rattle.explain.proofs.block.push_block.Goals as goal
-
-pub returns : goal.returns
-returns c = written c.push_block_text.result _ _ _ _ _ _ c.push_block_text.ensures
