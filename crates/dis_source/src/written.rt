@@ -38,7 +38,9 @@ fn map_of_names(profile: Profile) -> Option<MapSpec>
 /// Returns what a source with names for addresses defines. Its fault, or that memory ran out, is
 /// why not.
 pub fn defined(alloc: Global, profile: Profile, source: &[u8]) -> Result<Assembly, Refusal>
+    ensures denoted { IfOk result (λ a. Denotes (names_map profile) source.now a.image) }
     ensures named { IfOk result (λ a. AreNames profile a.names) }
+    ensures kept { IfOk result (λ a. a.source ≡ source.now) }
     ensures refused { IfErr result (EndsNames profile source.now) }
 {
     let Some(map) = map_of_names(profile) else {

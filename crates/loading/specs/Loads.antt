@@ -1,5 +1,5 @@
--- Which image and assembly a file is loaded with, and why it is not loaded. No clause can say whether memory is
--- there, nor what is in a file. Source: mos65.
+-- Which image and assembly a file is loaded with, and why it is not loaded. No clause can say
+-- whether memory is there, nor what is in a file. Source: mos65.
 use Rattle.std.specs.Prelude.{◌≡◌, ◌⊎◌, ⊤, ℕ, true, false, Bool, List, Option, None, Some}
 use Rattle.assembler.specs.Assembly.{AssemblyView}
 use Rattle.loading.specs.Asked.{FileAsked, map_of}

@@ -139,6 +139,7 @@ fn of_session(fault: SessionFault) -> Refusal
 /// Errors: `Source` with its fault, `OutOfMemory` if an allocation fails.
 fn assembled(alloc: Global, source: &[u8], map: &MapSpec) -> Result<Assembly, Refusal>
     ensures assembled { IfOk result (IsAssembled map.now) }
+    ensures kept { IfOk result (λ a. a.source ≡ source.now) }
     ensures spared { IfOk result (λ a. has_port_byte map.now a.image ≡ false) }
     ensures refused { IfErr result (EndsSource map.now) }
 {
@@ -151,6 +152,7 @@ fn assembled(alloc: Global, source: &[u8], map: &MapSpec) -> Result<Assembly, Re
 /// Assembles a source on a map, unless it begins with a record of a tape.
 fn assembled_source(alloc: Global, source: &[u8], map: &MapSpec) -> Result<Assembly, LoadFault>
     ensures assembled { IfOk result (IsAssembled map.now) }
+    ensures kept { IfOk result (λ a. a.source ≡ source.now) }
     ensures spared { IfOk result (λ a. has_port_byte map.now a.image ≡ false) }
     ensures refused { IfErr result (EndsFile false map.now) }
 {
