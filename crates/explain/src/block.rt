@@ -3,17 +3,18 @@
 ghost use Rattle.std.specs.Prelude.{◌≡◌, ◌++◌, ◌+◌, ◌%◌, [], IfOk, OnOk, take};
 ghost use Rattle.std.specs.List.Sorted.{IsNonDecreasingBy, IsPermutation};
 ghost use Rattle.std.specs.Option.{option_map};
-ghost use Rattle.model.specs.TextLines.{lines_of};
 ghost use Rattle.notes.specs.Lines.{texts_of};
 ghost use Rattle.notes.specs.Shown.{after_head};
-ghost use Rattle.explain.specs.Blocks.{AreBlocks, IsToldText, end_of, head_of, kind_text, line_of};
+ghost use Rattle.explain.specs.Blocks.{AreBlocks, IsToldText, end_of, head_of, kind_text};
 ghost use Rattle.explain.specs.Blocks.{shown_lines};
 
 use crate::note::{Context, note_of};
 use bus::MapSpec;
 use itoa::Buffer;
 use model::{AsmFault, AsmFaultKind};
-use notes::{Note, after_head, lines_of, names_of, noted, push_count, push_place, said};
+use notes::{
+    Note, after_head, every_line, line_of, names_of, noted, push_count, push_place, said,
+};
 use source_faults::{Mending, lay_out};
 use std::alloc::{AllocError, Global};
 use symbols::Symbols;
@@ -113,21 +114,6 @@ fn large_blocks(alloc: Global, file: &[u8], faults: &[AsmFault]) -> Result<Vec<u
         push_block(alloc, &mut text, file, *fault, None, &noted(0, 1, words))?;
     }
     Ok(text)
-}
-
-/// Returns all lines of a source.
-#[tactic(auto, using(crate::proofs::Told::every_line))]
-fn every_line<'a>(alloc: Global, source: &'a [u8]) -> Result<Vec<&'a [u8]>, AllocError>
-    ensures { IfOk result (λ lines. texts_of lines.items ≡ lines_of source.now) }
-{
-    lines_of(alloc, source, source.len())
-}
-
-/// Returns the line of this number, counted from 1, if there is one.
-fn line_of<'a>(lines: &[&'a [u8]], number: u32) -> Option<&'a [u8]>
-    ensures { option_map (λ line. line.now) result ≡ line_of (texts_of lines.now) number }
-{
-    lines.get((number as usize).saturating_sub(1)).copied()
 }
 
 /// Returns the blocks of faults of a source whose lines are these.

@@ -1,2 +1,3 @@
+pub mod EveryLine
 pub mod LineSteps
 pub mod MarkSteps

@@ -1,5 +1,5 @@
--- The names that lines of a source begin with. Source: mos65.
-use Rattle.std.specs.Prelude.{ℕ, ◌+◌, ◌==◌, ◌||◌, min, Bool, false, if◌then◌else◌, List, [], ◌∷◌, Option, None, Some, drop, map, take}
+-- The lines of a source, and the names that they begin with. Source: mos65.
+use Rattle.std.specs.Prelude.{ℕ, ◌+◌, ◌-◌, ◌==◌, ◌||◌, min, Bool, false, if◌then◌else◌, List, [], ◌∷◌, Option, None, Some, drop, map, slice_get, take}
 use Rattle.std.specs.Borrow.{Bor}
 use Rattle.std.specs.List.{prefix_len}
 use Rattle.model.specs.Token.{is_blank, is_word_byte}
@@ -8,6 +8,10 @@ use Rattle.notes.specs.declared.lines.Name.{Name}
 -- Texts behind references.
 abbrev pub texts_of : List (Bor (List ℕ)) → List (List ℕ)
 texts_of slices = map (λ slice. slice.now) slices
+
+-- The line of this number among lines, counted from 1, if there is one. 0 counts as 1.
+abbrev pub line_of : List (List ℕ) → ℕ → Option (List ℕ)
+line_of lines number = slice_get lines (number - 1)
 
 abbrev pub without_blanks : List ℕ → List ℕ
 without_blanks text = drop (prefix_len is_blank text) text

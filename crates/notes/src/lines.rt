@@ -3,8 +3,8 @@
 ghost use Rattle.std.specs.Prelude.{◌≡◌, ◌++◌, [], IfOk, OnOk, map, take};
 ghost use Rattle.std.specs.Option.{option_map};
 ghost use Rattle.model.specs.TextLines.{lines_of};
-ghost use Rattle.notes.specs.Lines.{defines, name_of, name_view, names_of, texts_of};
-ghost use Rattle.notes.specs.Lines.{with_name, without_blanks};
+ghost use Rattle.notes.specs.Lines.{defines, line_of, name_of, name_view, names_of};
+ghost use Rattle.notes.specs.Lines.{texts_of, with_name, without_blanks};
 
 use crate::runs::{after, blank_run, word_run};
 use source_lines::next_line;
@@ -36,6 +36,21 @@ pub fn lines_of<'a>(
         rest = behind;
     }
     Ok(lines)
+}
+
+/// Returns all lines of a source.
+#[tactic(auto, using(crate::proofs::EveryLine::every_line))]
+pub fn every_line<'a>(alloc: Global, source: &'a [u8]) -> Result<Vec<&'a [u8]>, AllocError>
+    ensures { IfOk result (λ lines. texts_of lines.items ≡ lines_of source.now) }
+{
+    lines_of(alloc, source, source.len())
+}
+
+/// Returns the line of this number, counted from 1, if there is one.
+pub fn line_of<'a>(lines: &[&'a [u8]], number: u32) -> Option<&'a [u8]>
+    ensures { option_map (λ line. line.now) result ≡ line_of (texts_of lines.now) number }
+{
+    lines.get((number as usize).saturating_sub(1)).copied()
 }
 
 /// Returns a text from its first byte on that is no blank.

@@ -1,27 +1,11 @@
 -- Blocks, one after another, and the lines of a source.
 use Rattle.std.proofs.Common.{◌≡◌, ℕ, ◌+◌, ◌%◌, ◌<◌, ◌≤◌, List, [], ◌∷◌, ◌++◌, length, take, get_or, Option, refl, sym, ap, ◌∙◌, append_assoc, append-nil, arith}
 use Rattle.std.proofs.lemmas.List.{take_more, take_all}
-use Rattle.std.proofs.lemmas.Bool.Decides.{nat_tests}
-use Rattle.std.proofs.lemmas.Grind.{common_steps}
-use Rattle.model.specs.TextLines.{last_line, lines_from, lines_of}
+use Rattle.notes.specs.Lines.{line_of}
 use Rattle.notes.specs.Shown.{after_head}
 use Rattle.notes.specs.declared.words.Note.{Note}
 use Rattle.warnings.specs.declared.kinds.Warning.{Warning}
-use Rattle.warning_notes.specs.Blocks.{AreBlocks, IsBlock, head_of, line_of}
-
--- a text has at most as many lines as bytes
-few_lines : (begun text : List ℕ) → length (lines_from last_line begun text) ≤ length begun + length text
-unfolding lines_from
-few_lines [] [] = omega arith
-few_lines (b ∷ begun) [] = omega arith
-few_lines begun (b ∷ text) =
-    let ends : length (lines_from last_line [] text) ≤ length text = omega (arith, few_lines [] text) in
-    let goes = few_lines (begun ++ b ∷ []) text in
-    grind (arith, nat_tests, common_steps)
-
--- all lines of a text
-pub every_line : (text : List ℕ) → take (length text) (lines_of text) ≡ lines_of text
-every_line text = take_all (length text) (lines_of text) (omega (arith, few_lines [] text))
+use Rattle.warning_notes.specs.Blocks.{AreBlocks, IsBlock, head_of}
 
 -- one block more
 more : (file : List ℕ) (lines : List (List ℕ)) (warnings : List Warning) (warning : Warning) (text block : List ℕ) → AreBlocks file lines warnings text → IsBlock file lines warning block → AreBlocks file lines (warnings ++ warning ∷ []) (text ++ block)

@@ -1,7 +1,8 @@
 -- What is written of the warnings of a source: a block for each. Source: mos65.
-use Rattle.std.specs.Prelude.{◌≡◌, ℕ, ◌+◌, ◌-◌, ◌%◌, nat_lt, ◌==◌, if◌then◌else◌, List, [], ◌∷◌, ◌++◌, length, take, codes, Option, slice_get}
+use Rattle.std.specs.Prelude.{◌≡◌, ℕ, ◌+◌, ◌%◌, nat_lt, ◌==◌, if◌then◌else◌, List, [], ◌∷◌, ◌++◌, length, take, codes}
 use Rattle.std.specs.Fmt.{decimal}
 use Rattle.model.specs.TextLines.{lines_of}
+use Rattle.notes.specs.Lines.{line_of}
 use Rattle.notes.specs.Places.{place_of}
 use Rattle.notes.specs.Shown.{after_head}
 use Rattle.notes.specs.declared.words.Note.{Note}
@@ -21,10 +22,6 @@ kind_name AfterEnd = codes "AfterEnd"
 abbrev pub head_of : List ℕ → Warning → ℕ → List ℕ
 head_of file w column
     = place_of file w.line column ++ (codes "warning: " ++ (kind_name w.kind ++ codes ": "))
-
--- The line of this number among lines, counted from 1, if there is one. 0 counts as 1.
-abbrev pub line_of : List (List ℕ) → ℕ → Option (List ℕ)
-line_of lines number = slice_get lines (number - 1)
 
 -- A block: its head, and then a note's words and the line with a mark, if there is a line. Only the
 -- note is open: its words, and which bytes of the line it means. The column is that of the first of

@@ -2,15 +2,14 @@
 
 ghost use Rattle.std.specs.Prelude.{◌≡◌, ◌++◌, ◌+◌, ◌%◌, IfOk, OnOk, take};
 ghost use Rattle.std.specs.Option.{option_map};
-ghost use Rattle.model.specs.TextLines.{lines_of};
 ghost use Rattle.notes.specs.Lines.{texts_of};
 ghost use Rattle.notes.specs.Shown.{after_head};
 ghost use Rattle.warning_notes.specs.Blocks.{AreBlocks, IsWarnedText, end_of, head_of};
-ghost use Rattle.warning_notes.specs.Blocks.{kind_name, line_of};
+ghost use Rattle.warning_notes.specs.Blocks.{kind_name};
 
 use crate::note::note_of;
 use itoa::Buffer;
-use notes::{Name, Note, after_head, lines_of, names_of, push_place};
+use notes::{Name, Note, after_head, every_line, line_of, names_of, push_place};
 use std::alloc::{AllocError, Global};
 use warnings::{Warning, WarningKind};
 
@@ -89,21 +88,6 @@ fn first_told(warnings: &[Warning]) -> &[Warning]
     ensures { result.now ≡ take 50 warnings.now }
 {
     &warnings[..MOST_TOLD.min(warnings.len())]
-}
-
-/// Returns all lines of a source.
-#[tactic(auto, using(crate::proofs::Told::every_line))]
-fn every_line<'a>(alloc: Global, source: &'a [u8]) -> Result<Vec<&'a [u8]>, AllocError>
-    ensures { IfOk result (λ lines. texts_of lines.items ≡ lines_of source.now) }
-{
-    lines_of(alloc, source, source.len())
-}
-
-/// Returns the line of this number, counted from 1, if there is one.
-fn line_of<'a>(lines: &[&'a [u8]], number: u32) -> Option<&'a [u8]>
-    ensures { option_map (λ line. line.now) result ≡ line_of (texts_of lines.now) number }
-{
-    lines.get((number as usize).saturating_sub(1)).copied()
 }
 
 /// Returns the blocks of warnings of a source whose lines are these.
