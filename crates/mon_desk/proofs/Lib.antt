@@ -1,4 +1,5 @@
 mod Runs
+pub mod Named
 pub mod Stepped
 mod Stopped
 mod Bytes

@@ -12,7 +12,7 @@ use Rattle.mon_stops.specs.declared.breaks.Break.{Break}
 use Rattle.mon_stops.specs.declared.watches.Watch.{Watch}
 use Rattle.mon_desk.specs.Served.{Course, KeepsStops, ShowsOnly, course_of, happened, most_remade, remade}
 use Rattle.mon_desk.specs.StopLines.{can_watch, changes_left, is_set, or_same, with_break, with_watch, without_stops}
-use Rattle.mon_desk.specs.ByteLines.{IsAssembled, all_happened, bytes_put, inputs}
+use Rattle.mon_desk.specs.ByteLines.{all_happened, assembled, bytes_put, inputs, without_names}
 use Rattle.mon_desk.specs.BackLines.{history_shown, undone_by, undone_by_watches}
 use Rattle.mon_desk.specs.Steps.{KeepsWatches, Stand, ran_by, ran_until, returned, some_steps, stand_of, stepped_over, watches_of}
 use Rattle.mon_desk.specs.declared.desk.Desk.{Desk}
@@ -83,8 +83,8 @@ Does (line.Delete address) old new = Deletes address old new
 Does (line.Set setting) old new = Becomes (happened (event.Set setting) (course_of old)) old new
 Does (line.Put address bytes) old new
     = Becomes (bytes_put address bytes.items (course_of old)) old new
-Does (line.Asm address text) old new = IsAssembled address (course_of old) (course_of new)
-    × KeepsStops old new
+Does (line.Asm address text) old new
+    = Becomes (assembled address (without_names old.places.names text.now) (course_of old)) old new
 Does (line.Type bytes) old new
     = Becomes (all_happened (inputs bytes.items) (course_of old)) old new
 Does (line.Irq level) old new = Becomes (happened (event.Irq level) (course_of old)) old new

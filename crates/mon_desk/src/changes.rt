@@ -4,10 +4,11 @@ ghost use Rattle.std.specs.Prelude.{◌≡◌, ◌≤◌, ◌+◌, ◌⊎◌, �
 ghost use Rattle.std.specs.Prelude.{OnOk, if◌then◌else◌, is_none, length};
 ghost use Rattle.model.specs.Breakpoints.{break_set, watch_set};
 ghost use Rattle.model.specs.declared.event.Event.TheVariants.{Irq, Nmi, Patch, Reset, Set};
+ghost use Rattle.model.specs.Token.{is_word_byte};
 ghost use Rattle.mon_stops.specs.Stops.{first_with, new_changes, without};
 ghost use Rattle.mon_stops.specs.Stops.{without_first_with};
-ghost use Rattle.mon_desk.specs.ByteLines.{IsAssembled, all_happened, assembled, bytes_put, inputs};
-ghost use Rattle.mon_desk.specs.ByteLines.{patches};
+ghost use Rattle.mon_desk.specs.ByteLines.{all_happened, assembled, bytes_put, inputs};
+ghost use Rattle.mon_desk.specs.ByteLines.{operand_text, patches, without_names, word_text};
 ghost use Rattle.mon_desk.specs.Served.{KeepsStops, ShowsOnly, course_of, happened};
 ghost use Rattle.mon_desk.specs.StopLines.{IsEither, all_unwatched, all_watched, can_watch};
 ghost use Rattle.mon_desk.specs.StopLines.{changes_left, is_set, or_same, stretch_unwatched};
@@ -28,14 +29,56 @@ use std::alloc::{AllocError, Global};
 /// The most bytes that are watched for changes.
 const MOST_WATCHED: u16 = 256;
 
-/// Counts the letters, digits and `_` at the front.
-fn word_bytes(bytes: &[u8]) -> usize
-    ensures { result ≤ length bytes.now }
+/// Returns whether a byte is a letter, a digit or `_`.
+fn is_word_byte(byte: u8) -> bool
+    ensures { result ≡ is_word_byte byte }
 {
-    bytes
-        .iter()
-        .take_while(|byte| matches!(**byte, b'A'..=b'Z' | b'a'..=b'z' | b'0'..=b'9' | b'_'))
-        .count()
+    matches!(byte, b'A'..=b'Z' | b'a'..=b'z' | b'0'..=b'9' | b'_')
+}
+
+/// Appends an address as an operand has it.
+fn push_operand(text: &mut Vec<u8>, address: u16) -> Result<(), AllocError>
+    ensures { OnOk result (text.new.items ≡ text.old.items ++ operand_text address) }
+{
+    text.push(b'$')?;
+    if address < 256 {
+        text.extend_from_slice(&digits_of(address as u8))
+    } else {
+        text.extend_from_slice(&digits_of_address(address))
+    }
+}
+
+/// Appends a word of an instruction, or the address of the name that it is.
+fn push_word(text: &mut Vec<u8>, word: &[u8], places: &Places) -> Result<(), AllocError>
+    ensures { OnOk result (text.new.items
+        ≡ text.old.items ++ word_text places.now.names text.old.items word.now) }
+{
+    if text.is_empty() || word.len() < 2 {
+        return text.extend_from_slice(word);
+    }
+    match places.names().address_of(word) {
+        Some(address) => push_operand(text, address),
+        None => text.extend_from_slice(word),
+    }
+}
+
+/// Returns an instruction with addresses in place of the names.
+fn without_names(alloc: Global, line: &[u8], places: &Places) -> Result<Vec<u8>, AllocError>
+    ensures { IfOk result (λ text. text.items ≡ without_names places.now.names line.now) }
+{
+    let mut text = Vec::new(alloc);
+    let mut word = Vec::new(alloc);
+    for byte in line {
+        if is_word_byte(*byte) {
+            word.push(*byte)?;
+        } else {
+            push_word(&mut text, word.as_slice(), places)?;
+            text.push(*byte)?;
+            word.clear();
+        }
+    }
+    push_word(&mut text, word.as_slice(), places)?;
+    Ok(text)
 }
 
 /// Appends breaks and watches, each on a line.
@@ -384,34 +427,6 @@ impl Desk {
         self.say("\n")
     }
 
-    /// A line of assembly with addresses in place of the names.
-    fn without_names(&self, alloc: Global, line: &[u8]) -> Result<Vec<u8>, AllocError> {
-        let mut text = Vec::new(alloc);
-        let mut rest = line;
-        for _ in 0..line.len() {
-            let (word, behind) = rest.split_at(word_bytes(rest));
-            match self.places.names().address_of(word) {
-                Some(address) if !text.is_empty() && word.len() > 1 => {
-                    text.push(b'$')?;
-                    if address < 256 {
-                        text.extend_from_slice(&digits_of((address % 256) as u8))?;
-                    } else {
-                        text.extend_from_slice(&digits_of_address(address))?;
-                    }
-                }
-                _ => text.extend_from_slice(word)?,
-            }
-            match behind {
-                [byte, behind @ ..] => {
-                    text.push(*byte)?;
-                    rest = behind;
-                }
-                [] => return Ok(text),
-            }
-        }
-        Ok(text)
-    }
-
     /// Puts an assembled line into memory, and shows it.
     fn put_line(&mut self, address: u16, line: Line) -> Result<(), AllocError>
         ensures course { course_of self.new
@@ -462,13 +477,14 @@ impl Desk {
 
     /// Assembles an instruction into memory. Names in it stand for their addresses.
     pub fn assemble(&mut self, alloc: Global, address: u16, line: &[u8]) -> Result<(), AllocError>
-        ensures course { OnOk result
-            (IsAssembled address (course_of self.old) (course_of self.new)) }
-        ensures memory { OnErr result ((course_of self.new ≡ course_of self.old)
-            ⊎ IsAssembled address (course_of self.old) (course_of self.new)) }
+        ensures course { OnOk result (course_of self.new ≡ assembled address
+            (without_names self.old.places.names line.now) (course_of self.old)) }
+        ensures memory { OnErr result (IsEither (course_of self.new) (course_of self.old)
+            (assembled address (without_names self.old.places.names line.now)
+            (course_of self.old))) }
         ensures stops { KeepsStops self.old self.new }
     {
-        let text = self.without_names(alloc, line)?;
+        let text = without_names(alloc, line, &self.places)?;
         self.assemble_text(alloc, address, &text)
     }
 
