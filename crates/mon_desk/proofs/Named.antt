@@ -11,7 +11,7 @@ pub more_of_word : (names : List Named) (before word new line now : List ℕ) (i
 unfolding text_from
 more_of_word names before word new line now i d so_far inside is e =
     rw (e, add-one) (so_far ∙ ap (text_from names before word) (drop-cons line i d inside)
-        ∙ ap (λ b. cond b (text_from names before (word ++ get_or line i d ∷ []) (drop (suc i) line)) (text_from names ((before ++ word_text names before word) ++ get_or line i d ∷ []) [] (drop (suc i) line))) is)
+    ∙ ap (λ b. cond b (text_from names before (word ++ get_or line i d ∷ []) (drop (suc i) line)) (text_from names ((before ++ word_text names before word) ++ get_or line i d ∷ []) [] (drop (suc i) line))) is)
 
 -- a byte behind a word
 pub word_ends : (names : List Named) (before word new none line now : List ℕ) (i d : ℕ) → now ≡ text_from names before word (drop i line) → i < length line
@@ -19,7 +19,7 @@ pub word_ends : (names : List Named) (before word new none line now : List ℕ) 
 unfolding text_from
 word_ends names before word new none line now i d so_far inside is e empty =
     rw (e, empty, add-one) (so_far ∙ ap (text_from names before word) (drop-cons line i d inside)
-        ∙ ap (λ b. cond b (text_from names before (word ++ get_or line i d ∷ []) (drop (suc i) line)) (text_from names ((before ++ word_text names before word) ++ get_or line i d ∷ []) [] (drop (suc i) line))) is)
+    ∙ ap (λ b. cond b (text_from names before (word ++ get_or line i d ∷ []) (drop (suc i) line)) (text_from names ((before ++ word_text names before word) ++ get_or line i d ∷ []) [] (drop (suc i) line))) is)
 
 -- no byte is left
 pub line_ends : (names : List Named) (before word new line now : List ℕ) (i : ℕ) → now ≡ text_from names before word (drop i line) → length line ≤ i

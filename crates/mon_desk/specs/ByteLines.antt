@@ -9,7 +9,6 @@ use Rattle.model.specs.declared.source_fault.AsmFaultKind.{AsmFaultKind}
 use Rattle.model.specs.declared.event.Event.{Event}
 use Rattle.model.specs.declared.event.Event.TheVariants.{Input, Patch}
 use Rattle.places.specs.Names.{Named, address_of}
-
 use Rattle.mon_desk.specs.Served.{Course, happened}
 
 -- Events one after another, up to the first that is rejected, which changes nothing.
