@@ -12,9 +12,7 @@ use crate::note::{Context, note_of};
 use bus::MapSpec;
 use itoa::Buffer;
 use model::{AsmFault, AsmFaultKind};
-use notes::{
-    Note, after_head, every_line, line_of, names_of, noted, push_count, push_place, said,
-};
+use notes::{Note, after_head, every_line, line_of, names_of, noted, push_count, push_place, said};
 use source_faults::{Mending, lay_out};
 use std::alloc::{AllocError, Global};
 use symbols::Symbols;
