@@ -1,5 +1,5 @@
 mod Runs
-pub mod Named
+pub mod Naming
 pub mod Stepped
 mod Stopped
 mod Bytes

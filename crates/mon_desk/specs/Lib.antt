@@ -4,3 +4,4 @@ pub mod StopLines
 pub mod ByteLines
 pub mod BackLines
 pub mod Lines
+pub mod Named

@@ -12,7 +12,8 @@ use Rattle.mon_stops.specs.declared.breaks.Break.{Break}
 use Rattle.mon_stops.specs.declared.watches.Watch.{Watch}
 use Rattle.mon_desk.specs.Served.{Course, KeepsStops, ShowsOnly, course_of, happened, most_remade, remade}
 use Rattle.mon_desk.specs.StopLines.{can_watch, changes_left, is_set, or_same, with_break, with_watch, without_stops}
-use Rattle.mon_desk.specs.ByteLines.{all_happened, assembled, bytes_put, inputs, without_names}
+use Rattle.mon_desk.specs.ByteLines.{all_happened, assembled, bytes_put, inputs}
+use Rattle.mon_desk.specs.Named.{without_names}
 use Rattle.mon_desk.specs.BackLines.{history_shown, undone_by, undone_by_watches}
 use Rattle.mon_desk.specs.Steps.{KeepsWatches, Stand, ran_by, ran_until, returned, some_steps, stand_of, stepped_over, watches_of}
 use Rattle.mon_desk.specs.declared.desk.Desk.{Desk}

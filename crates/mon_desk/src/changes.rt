@@ -4,11 +4,11 @@ ghost use Rattle.std.specs.Prelude.{◌≡◌, ◌≤◌, ◌+◌, ◌⊎◌, �
 ghost use Rattle.std.specs.Prelude.{OnOk, if◌then◌else◌, is_none, length};
 ghost use Rattle.model.specs.Breakpoints.{break_set, watch_set};
 ghost use Rattle.model.specs.declared.event.Event.TheVariants.{Irq, Nmi, Patch, Reset, Set};
-ghost use Rattle.model.specs.Token.{is_word_byte};
 ghost use Rattle.mon_stops.specs.Stops.{first_with, new_changes, without};
 ghost use Rattle.mon_stops.specs.Stops.{without_first_with};
 ghost use Rattle.mon_desk.specs.ByteLines.{all_happened, assembled, bytes_put, inputs};
-ghost use Rattle.mon_desk.specs.ByteLines.{operand_text, patches, without_names, word_text};
+ghost use Rattle.mon_desk.specs.ByteLines.{patches};
+ghost use Rattle.mon_desk.specs.Named.{without_names};
 ghost use Rattle.mon_desk.specs.Served.{KeepsStops, ShowsOnly, course_of, happened};
 ghost use Rattle.mon_desk.specs.StopLines.{IsEither, all_unwatched, all_watched, can_watch};
 ghost use Rattle.mon_desk.specs.StopLines.{changes_left, is_set, or_same, stretch_unwatched};
@@ -16,8 +16,8 @@ ghost use Rattle.mon_desk.specs.StopLines.{stretch_watched, unwatched, with_brea
 ghost use Rattle.mon_desk.specs.StopLines.{without_stops};
 
 use crate::desk::Desk;
+use crate::named::without_names;
 use assembler::{Line, assemble_line_in};
-use formatting::{digits_of, digits_of_address};
 use model::{AsmFaultKind, Setting};
 use mon_lines::{Stretch, WatchKind};
 use mon_stops::{Break, Stops, Watch};
@@ -28,58 +28,6 @@ use std::alloc::{AllocError, Global};
 
 /// The most bytes that are watched for changes.
 const MOST_WATCHED: u16 = 256;
-
-/// Returns whether a byte is a letter, a digit or `_`.
-fn is_word_byte(byte: u8) -> bool
-    ensures { result ≡ is_word_byte byte }
-{
-    matches!(byte, b'A'..=b'Z' | b'a'..=b'z' | b'0'..=b'9' | b'_')
-}
-
-/// Appends an address as an operand has it.
-fn push_operand(text: &mut Vec<u8>, address: u16) -> Result<(), AllocError>
-    ensures { OnOk result (text.new.items ≡ text.old.items ++ operand_text address) }
-{
-    text.push(b'$')?;
-    if address < 256 {
-        text.extend_from_slice(&digits_of(address as u8))
-    } else {
-        text.extend_from_slice(&digits_of_address(address))
-    }
-}
-
-/// Appends a word of an instruction, or the address of the name that it is.
-fn push_word(text: &mut Vec<u8>, word: &[u8], places: &Places) -> Result<(), AllocError>
-    ensures { OnOk result (text.new.items
-        ≡ text.old.items ++ word_text places.now.names text.old.items word.now) }
-{
-    if text.is_empty() || word.len() < 2 {
-        return text.extend_from_slice(word);
-    }
-    match places.names().address_of(word) {
-        Some(address) => push_operand(text, address),
-        None => text.extend_from_slice(word),
-    }
-}
-
-/// Returns an instruction with addresses in place of the names.
-fn without_names(alloc: Global, line: &[u8], places: &Places) -> Result<Vec<u8>, AllocError>
-    ensures { IfOk result (λ text. text.items ≡ without_names places.now.names line.now) }
-{
-    let mut text = Vec::new(alloc);
-    let mut word = Vec::new(alloc);
-    for byte in line {
-        if is_word_byte(*byte) {
-            word.push(*byte)?;
-        } else {
-            push_word(&mut text, word.as_slice(), places)?;
-            text.push(*byte)?;
-            word.clear();
-        }
-    }
-    push_word(&mut text, word.as_slice(), places)?;
-    Ok(text)
-}
 
 /// Appends breaks and watches, each on a line.
 fn push_stops(text: &mut Vec<u8>, stops: &Stops, places: &Places) -> Result<(), AllocError> {

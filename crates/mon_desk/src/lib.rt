@@ -12,5 +12,6 @@ mod changes;
 mod desk;
 mod looks;
 mod moves;
+mod named;
 mod past;
 mod told;
