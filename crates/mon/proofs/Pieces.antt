@@ -1,84 +1,136 @@
 -- Bytes one after another are served as the lines that they make.
-use Rattle.std.proofs.Common.{◌≡◌, ◌≤◌, ◌<◌, ◌∙◌, ℕ, ◌+◌, Bool, true, false, eqb, List, [], ◌∷◌, ◌++◌, refl, sym, ap, subst, length, take, arith, append_assoc, append-nil, length-append, length-take, Result, Ok, Err, IfOk, get_or, drop, drop-cons, take-append-drop, add-one}
+use Rattle.std.proofs.Common.{◌≡◌, ◌≤◌, ◌<◌, ◌∙◌, ℕ, ◌+◌, Bool, true, false, eqb, List, [], ◌∷◌, ◌++◌, refl, sym, ap, subst, length, take, arith, append_assoc, append-nil, length-append, length-take, Result, Ok, Err, IfOk, get_or, drop, drop-cons, take-append-drop, take-suc, add-one}
 use Rattle.std.proofs.lemmas.Bool.{ne_eqb}
 use Rattle.std.proofs.lemmas.List.{take_all, take-append-le}
 use Rattle.std.specs.Io.BufRead.{strip_last}
 use Rattle.model.specs.TextLines.{ended_lines_of, lines_from, no_line}
-use Rattle.mon.specs.Attended.{ServesLine, ServesLines, input_lines, line_at_end}
-use Rattle.mon.specs.Pieces.{Feeds, GoesOn, IsOver}
+use Rattle.mon.specs.Attended.{EndsLines, ServesLine, ServesLines, input_lines, line_at_end}
+use Rattle.mon.specs.Pieces.{Feeds, GoesOn, IsOver, unless_over}
 use Rattle.mon.proofs.LinesServed.{line_alone, line_kept, line_on, line_over, lines_more, lines_then, no_lines}
 use Rattle.mon_desk.specs.Served.{ShowsOnly}
 use Rattle.mon_desk.specs.declared.desk.Desk.{Desk}
 use Rattle.program.specs.declared.refusal.Refusal.{Refusal}
 
-pub begins : (first : Desk) → GoesOn [] [] first first
-begins first = record { lines = []; begun = []; cut = λ ending rest. refl; front = refl; served = no_lines first }
+pub begins : (prompt : List ℕ) (first : Desk) → GoesOn prompt [] [] first first []
+begins prompt first = record {
+  lines = [];
+  begun = [];
+  cut = λ ending rest. refl;
+  front = refl;
+  served = no_lines prompt first;
+}
 
 -- ---- the lines of one more byte
 
-from_line : (ending : List ℕ → List (List ℕ)) (begun rest : List ℕ) → lines_from ending begun (10 ∷ rest) ≡ strip_last 13 begun ∷ lines_from ending [] rest
+from_line : (ending : List ℕ → List (List ℕ)) (begun rest : List ℕ)
+    → lines_from ending begun (10 ∷ rest) ≡ strip_last 13 begun ∷ lines_from ending [] rest
 unfolding lines_from
 from_line ending begun rest = refl
 
-from_byte : (ending : List ℕ → List (List ℕ)) (begun rest : List ℕ) (b : ℕ) → eqb b 10 ≡ false → lines_from ending begun (b ∷ rest) ≡ lines_from ending (begun ++ b ∷ []) rest
+from_byte : (ending : List ℕ → List (List ℕ)) (begun rest : List ℕ) (b : ℕ) → eqb b 10 ≡ false
+    → lines_from ending begun (b ∷ rest) ≡ lines_from ending (begun ++ b ∷ []) rest
 unfolding lines_from
 from_byte ending begun rest b e = rw e refl
 
-from_none : (ending : List ℕ → List (List ℕ)) (begun : List ℕ) → lines_from ending begun [] ≡ ending begun
+from_none : (ending : List ℕ → List (List ℕ)) (begun : List ℕ)
+    → lines_from ending begun [] ≡ ending begun
 unfolding lines_from
 from_none ending begun = refl
 
-module _ (told kept : List ℕ) (first now : Desk) (g : GoesOn told kept first now) where
-  more_cut : (bytes : List ℕ) (ending : List ℕ → List (List ℕ)) (rest : List ℕ) → lines_from ending [] ((told ++ bytes) ++ rest) ≡ g.lines ++ lines_from ending g.begun (bytes ++ rest)
-  more_cut bytes ending rest = ap (lines_from ending []) (append_assoc told bytes rest) ∙ g.cut ending (bytes ++ rest)
+module _ (prompt told kept : List ℕ) (first now : Desk) (before : List ℕ)
+    (g : GoesOn prompt told kept first now before) where
+  more_cut : (bytes : List ℕ) (ending : List ℕ → List (List ℕ)) (rest : List ℕ)
+      → lines_from ending [] ((told ++ bytes) ++ rest)
+      ≡ g.lines ++ lines_from ending g.begun (bytes ++ rest)
+  more_cut bytes ending rest =
+      ap (lines_from ending []) (append_assoc told bytes rest) ∙ g.cut ending (bytes ++ rest)
 
   -- only the text changes
-  pub shown_on : (new : Desk) → ShowsOnly now new → GoesOn told kept first new
-  shown_on new p = record { lines = g.lines; begun = g.begun; cut = g.cut; front = g.front; served = lines_then g.lines false first now new g.served p }
-
-  -- a byte of a line
-  pub byte_on : (b : ℕ) (more : List ℕ) → (b ≡ 10 → ⊥) → more ≡ take 257 (g.begun ++ b ∷ []) → GoesOn (told ++ b ∷ []) more first now
-  byte_on b more ne h = let e = ne_eqb b 10 ne in record {
+  pub shown_on : (new : Desk) → ShowsOnly now new → GoesOn prompt told kept first new before
+  shown_on new p = record {
     lines = g.lines;
-    begun = g.begun ++ b ∷ [];
-    cut = λ ending rest. more_cut (b ∷ []) ending rest ∙ ap (λ l. g.lines ++ l) (from_byte ending g.begun rest b e);
-    front = h;
-    served = g.served;
+    begun = g.begun;
+    cut = g.cut;
+    front = g.front;
+    served = lines_then prompt g.lines false first now new before g.served p;
   }
 
+  -- a byte of a line
+  pub byte_on : (b : ℕ) (more : List ℕ) → (b ≡ 10 → ⊥) → more ≡ take 257 (g.begun ++ b ∷ [])
+      → GoesOn prompt (told ++ b ∷ []) more first now (before ++ [])
+  byte_on b more ne h =
+      let e = ne_eqb b 10 ne in record {
+        lines = g.lines;
+        begun = g.begun ++ b ∷ [];
+        cut = λ ending rest. more_cut (b ∷ []) ending rest ∙ ap (λ l. g.lines ++ l) (from_byte ending g.begun rest b e);
+        front = h;
+        served = subst (λ w. ServesLines prompt g.lines false first now w) (sym (append-nil before)) g.served;
+      }
+
   -- a line that has ended
-  pub line_goes : (new : Desk) → ServesLine (strip_last 13 kept) false now new → GoesOn (told ++ 10 ∷ []) [] first new
-  line_goes new p = record {
+  pub line_goes : (new : Desk) (said : List ℕ) → ServesLine (strip_last 13 kept) false now new said
+      → GoesOn prompt (told ++ 10 ∷ []) [] first new (before ++ (said ++ prompt))
+  line_goes new said p = record {
     lines = g.lines ++ strip_last 13 g.begun ∷ [];
     begun = [];
     cut = λ ending rest. more_cut (10 ∷ []) ending rest ∙ ap (λ l. g.lines ++ l) (from_line ending g.begun rest) ∙ sym (append_assoc g.lines (strip_last 13 g.begun ∷ []) (lines_from ending [] rest));
     front = refl;
-    served = lines_more g.lines (strip_last 13 g.begun ∷ []) false first now new g.served (line_on (strip_last 13 g.begun) now new (line_kept g.begun false now new (subst (λ k. ServesLine (strip_last 13 k) false now new) g.front p)));
+    served = lines_more prompt g.lines (strip_last 13 g.begun ∷ []) false first now new before (said ++ prompt) g.served
+        (line_on prompt (strip_last 13 g.begun) now new said (line_kept g.begun false now new said (subst (λ k. ServesLine (strip_last 13 k) false now new said) g.front p)));
   }
 
-  pub line_ends : (new : Desk) → ServesLine (strip_last 13 kept) true now new → IsOver (told ++ 10 ∷ []) first new
-  line_ends new p ending rest = subst (λ l. ServesLines l true first new) (sym (more_cut (10 ∷ []) ending rest ∙ ap (λ l. g.lines ++ l) (from_line ending g.begun rest)))
-      (lines_more g.lines (strip_last 13 g.begun ∷ lines_from ending [] rest) true first now new g.served (line_over (strip_last 13 g.begun) (lines_from ending [] rest) now new (line_kept g.begun true now new (subst (λ k. ServesLine (strip_last 13 k) true now new) g.front p))))
+  pub line_ends : (new : Desk) (said : List ℕ) → ServesLine (strip_last 13 kept) true now new said
+      → IsOver prompt (told ++ 10 ∷ []) first new (before ++ (said ++ []))
+  line_ends new said p ending rest = subst (λ l. ServesLines prompt l true first new (before ++ (said ++ []))) (sym (more_cut (10 ∷ []) ending rest ∙ ap (λ l. g.lines ++ l) (from_line ending g.begun rest)))
+      (subst (λ w. ServesLines prompt (g.lines ++ strip_last 13 g.begun ∷ lines_from ending [] rest) true first new (before ++ w)) (sym (append-nil said))
+      (lines_more prompt g.lines (strip_last 13 g.begun ∷ lines_from ending [] rest) true first now new before said g.served
+      (line_over prompt (strip_last 13 g.begun) (lines_from ending [] rest) now new said (line_kept g.begun true now new said (subst (λ k. ServesLine (strip_last 13 k) true now new said) g.front p)))))
+
+  ended : ended_lines_of told ≡ g.lines
+  ended = ap ended_lines_of (sym (append-nil told)) ∙ g.cut no_line []
+      ∙ ap (λ l. g.lines ++ l) (from_none no_line g.begun) ∙ append-nil g.lines
 
   -- the complete lines
-  pub so_far : ServesLines (ended_lines_of told) false first now
-  so_far = subst (λ l. ServesLines l false first now) (sym (ap ended_lines_of (sym (append-nil told)) ∙ g.cut no_line [] ∙ ap (λ l. g.lines ++ l) (from_none no_line g.begun) ∙ append-nil g.lines)) g.served
+  pub so_far : ServesLines prompt (ended_lines_of told) false first now before
+  so_far = subst (λ l. ServesLines prompt l false first now before) (sym ended) g.served
 
-  whole : input_lines told ≡ g.lines ++ line_at_end g.begun
-  whole = ap input_lines (sym (append-nil told)) ∙ g.cut line_at_end [] ∙ ap (λ l. g.lines ++ l) (from_none line_at_end g.begun)
+  whole : input_lines told ≡ ended_lines_of told ++ line_at_end g.begun
+  whole = ap input_lines (sym (append-nil told)) ∙ g.cut line_at_end []
+      ∙ ap (λ l. g.lines ++ l) (from_none line_at_end g.begun)
+      ∙ ap (λ l. l ++ line_at_end g.begun) (sym ended)
 
   -- at the end no line is begun
-  pub ends_none : kept ≡ [] → ServesLines (input_lines told) false first now
-  ends_none e = subst (λ l. ServesLines l false first now) (sym (whole ∙ ap (λ b. g.lines ++ line_at_end b) (none g.begun (sym g.front ∙ e)) ∙ append-nil g.lines)) g.served
+  pub ends_none : (line_end : List ℕ) → kept ≡ []
+      → EndsLines prompt line_end told false first now (before ++ (line_end ++ []))
+  ends_none line_end e = (
+    [],
+    whole ∙ ap (λ b. ended_lines_of told ++ line_at_end b) (none g.begun (sym g.front ∙ e)),
+    now,
+    before,
+    [],
+    so_far,
+    no_lines [] now,
+    refl,
+  )
     where
       none : (begun : List ℕ) → take 257 begun ≡ [] → begun ≡ []
       none [] h = refl
       none (b ∷ bs) h = absurd (omega (arith, ap length h, length-take 257 (b ∷ bs)))
 
   -- or the line begun is the last
-  pub ends_line : (is_over : Bool) (new : Desk) → 0 < length kept → ServesLine (strip_last 13 kept) is_over now new → ServesLines (input_lines told) is_over first new
-  ends_line is_over new h p = subst (λ l. ServesLines l is_over first new) (sym (whole ∙ ap (λ l. g.lines ++ l) (some g.begun g.front)))
-      (lines_more g.lines (strip_last 13 g.begun ∷ []) is_over first now new g.served (line_alone (strip_last 13 g.begun) is_over now new (line_kept g.begun is_over now new (subst (λ k. ServesLine (strip_last 13 k) is_over now new) g.front p))))
+  pub ends_line : (line_end : List ℕ) (is_over : Bool) (new : Desk) (said : List ℕ) → 0 < length kept
+      → ServesLine (strip_last 13 kept) is_over now new said
+      → EndsLines prompt line_end told is_over first new (before ++ (line_end ++ said))
+  ends_line line_end is_over new said h p = (
+    strip_last 13 g.begun ∷ [],
+    whole ∙ ap (λ l. ended_lines_of told ++ l) (some g.begun g.front),
+    now,
+    before,
+    said,
+    so_far,
+    line_alone (strip_last 13 g.begun) is_over now new said (line_kept g.begun is_over now new said (subst (λ k. ServesLine (strip_last 13 k) is_over now new said) g.front p)),
+    refl,
+  )
     where
       some : (begun : List ℕ) → kept ≡ take 257 begun → line_at_end begun ≡ strip_last 13 begun ∷ []
       some [] f = absurd (omega (arith, ap length f))
@@ -87,21 +139,46 @@ module _ (told kept : List ℕ) (first now : Desk) (g : GoesOn told kept first n
 -- ---- one more byte, and the beginning that is kept
 
 -- an LF, by whether the line ends the session
-pub line_fed : (r : Result Bool Refusal) (byte : ℕ) (kept more : List ℕ) (old new : Desk) → byte ≡ 10 → IfOk r (λ is_over. ServesLine (strip_last 13 kept) is_over old new) → IfOk r (λ _. more ≡ [])
-    → IfOk r (λ is_over. Feeds (byte ∷ []) is_over kept old more new)
-line_fed (Ok true) byte kept more old new e p none = λ told first g. subst (λ b. IsOver (told ++ b ∷ []) first new) (sym e) (line_ends told kept first old g new p)
-line_fed (Ok false) byte kept more old new e p none = λ told first g. subst (λ b. GoesOn (told ++ b ∷ []) more first new) (sym e) (subst (λ k. GoesOn (told ++ 10 ∷ []) k first new) (sym none) (line_goes told kept first old g new p))
-line_fed (Err fault) byte kept more old new e p none = tt
+pub line_fed : (prompt : List ℕ) (is_over : Bool) (byte : ℕ) (kept more : List ℕ) (old new : Desk)
+    (said : List ℕ) → byte ≡ 10 → ServesLine (strip_last 13 kept) is_over old new said → more ≡ []
+    → Feeds prompt (byte ∷ []) is_over kept old more new (said ++ unless_over is_over prompt)
+line_fed prompt true byte kept more old new said e p none = λ told first before g.
+    subst (λ b. IsOver prompt (told ++ b ∷ []) first new (before ++ (said ++ []))) (sym e) (line_ends prompt told kept first old before g new said p)
+line_fed prompt false byte kept more old new said e p none = λ told first before g.
+    subst (λ b. GoesOn prompt (told ++ b ∷ []) more first new (before ++ (said ++ prompt))) (sym e) (subst (λ k. GoesOn prompt (told ++ 10 ∷ []) k first new (before ++ (said ++ prompt))) (sym none) (line_goes prompt told kept first old before g new said p))
 
-pub kept_room : (begun : List ℕ) (b : ℕ) → length (take 257 begun) < 257 → take 257 begun ++ b ∷ [] ≡ take 257 (begun ++ b ∷ [])
-kept_room begun b h = let all : take 257 begun ≡ begun = take_all 257 begun (omega (arith, length-take 257 begun)) in
+pub fed_of : (prompt : List ℕ) (r : Result Bool Refusal) (byte : ℕ) (kept more : List ℕ)
+    (old new : Desk) (Wrote : List ℕ → Type 0) → byte ≡ 10
+    → IfOk r (λ is_over. (said : List ℕ) × ServesLine (strip_last 13 kept) is_over old new said
+    × Wrote (old.text.items ++ (said ++ unless_over is_over prompt)))
+    → IfOk r (λ _. more ≡ [])
+    → IfOk r (λ is_over. (x : List ℕ) × Feeds prompt (byte ∷ []) is_over kept old more new x
+    × (old.text.items ≡ [] → Wrote x))
+fed_of prompt (Ok is_over) byte kept more old new Wrote e p none = (
+  p.0 ++ unless_over is_over prompt,
+  line_fed prompt is_over byte kept more old new p.0 e p.1 none,
+  λ empty. subst (λ t. Wrote (t ++ (p.0 ++ unless_over is_over prompt))) empty p.2,
+)
+fed_of prompt (Err fault) byte kept more old new Wrote e p none = tt
+
+pub kept_room : (begun : List ℕ) (b : ℕ) → length (take 257 begun) < 257
+    → take 257 begun ++ b ∷ [] ≡ take 257 (begun ++ b ∷ [])
+kept_room begun b h =
+    let all : take 257 begun ≡ begun = take_all 257 begun (omega (arith, length-take 257 begun)) in
     rw all (sym (take_all 257 (begun ++ b ∷ []) (omega (arith, length-take 257 begun, length-append begun (b ∷ [])))))
 
-pub kept_full : (begun : List ℕ) (b : ℕ) → 257 ≤ length (take 257 begun) → take 257 begun ≡ take 257 (begun ++ b ∷ [])
+pub kept_full : (begun : List ℕ) (b : ℕ) → 257 ≤ length (take 257 begun)
+    → take 257 begun ≡ take 257 (begun ++ b ∷ [])
 kept_full begun b h = sym (take-append-le 257 begun (b ∷ []) (omega (arith, length-take 257 begun)))
 
+pub one_taken : (told bytes : List ℕ) (i : ℕ) → i < length bytes
+    → told ++ (take i bytes ++ get_or bytes i 0 ∷ []) ≡ told ++ take (i + 1) bytes
+one_taken told bytes i h = rw add-one (ap (λ t. told ++ t) (sym (take-suc bytes i 0 h)))
+
 -- a byte in the middle of some bytes
-pub around : (told bytes rest : List ℕ) (i : ℕ) → i < length bytes → ((told ++ take i bytes) ++ get_or bytes i 0 ∷ []) ++ (drop (i + 1) bytes ++ rest) ≡ (told ++ bytes) ++ rest
+pub around : (told bytes rest : List ℕ) (i : ℕ) → i < length bytes
+    → ((told ++ take i bytes) ++ get_or bytes i 0 ∷ []) ++ (drop (i + 1) bytes ++ rest)
+    ≡ (told ++ bytes) ++ rest
 around told bytes rest i h =
     let all : take i bytes ++ (get_or bytes i 0 ∷ drop (i + 1) bytes) ≡ bytes = rw (add-one i, ← drop-cons bytes i 0 h) (take-append-drop i bytes) in
     append_assoc (told ++ take i bytes) (get_or bytes i 0 ∷ []) (drop (i + 1) bytes ++ rest) ∙ append_assoc told (take i bytes) (get_or bytes i 0 ∷ drop (i + 1) bytes ++ rest)

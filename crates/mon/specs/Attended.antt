@@ -1,9 +1,10 @@
--- Which lines of its input a session of `mon` serves, and in which order. Source: mos65.
-use Rattle.std.specs.Prelude.{ℕ, ◌≡◌, ◌<◌, ◌≤◌, ◌⊎◌, Bool, true, false, List, [], ◌∷◌, length, Option}
+-- Which lines of its input a session of `mon` serves, in which order, and what it writes.
+-- Source: mos65.
+use Rattle.std.specs.Prelude.{ℕ, ◌≡◌, ◌<◌, ◌≤◌, ◌⊎◌, Bool, true, false, if◌then◌else◌, List, [], ◌∷◌, ◌++◌, length, Option, codes}
 use Rattle.std.specs.Io.BufRead.{strip_last}
 use Rattle.std.specs.Io.KnownBytes.{Consumes, IsAtEnd}
 use Rattle.model.specs.TextLines.{ended_lines_of, lines_from}
-use Rattle.mon_desk.specs.Lines.{Serves, read_at}
+use Rattle.mon_answers.specs.Lines.{IsTooLong, Says, Serves}
 use Rattle.mon_desk.specs.Served.{ShowsOnly}
 use Rattle.mon_desk.specs.declared.desk.Desk.{Desk}
 
@@ -19,34 +20,64 @@ line_at_end (b ∷ bs) = strip_last 13 (b ∷ bs) ∷ []
 abbrev pub input_lines : List ℕ → List (List ℕ)
 input_lines input = lines_from line_at_end [] input
 
--- ---- lines that are served
+-- ---- one line
 
--- A line of at most 255 bytes does what it asks for. A longer one only shows something, and the
--- session goes on.
-abbrev pub ServesLine : List ℕ → Bool → Desk → Desk → Type 0
-ServesLine line is_over old new
-    = (length line ≤ 255 → Serves (read_at old line) is_over old new)
-    × (255 < length line → (is_over ≡ false) × ShowsOnly old new)
+-- A line of at most 255 bytes does what it asks for. A longer one asks for nothing.
+abbrev pub AnswersLine : List ℕ → Bool → Desk → Desk → Type 0
+AnswersLine line is_over old new = (length line ≤ 255 → Serves line is_over old new)
+    × (255 < length line → IsTooLong is_over old new)
+
+-- A line is answered, and so much is said. Then only the text changes, which is written.
+abbrev pub ServesLine : List ℕ → Bool → Desk → Desk → List ℕ → Type 0
+ServesLine line is_over old new said = (answered : Desk) × AnswersLine line is_over old answered
+    × Says said old answered × ShowsOnly answered new
+
+-- ---- lines one after another
 
 -- Lines are served one after another, up to one that ends the session. `is_over` says whether there
--- is such a line. Between lines only the text changes.
-unfoldable pub ServesLines : List (List ℕ) → Bool → Desk → Desk → Type 0
-ServesLines [] is_over old new = (is_over ≡ false) × ShowsOnly old new
-ServesLines (line ∷ lines) is_over old new = (begun : Desk) × ShowsOnly old begun
-    × (((is_over ≡ true) × ServesLine line true begun new)
-    ⊎ ((between : Desk) × ServesLine line false begun between
-    × ServesLines lines is_over between new))
+-- is such a line. Between lines only the text changes. What is said of each line is written, and a
+-- prompt behind it unless the session is over.
+unfoldable pub ServesLines : List ℕ → List (List ℕ) → Bool → Desk → Desk → List ℕ → Type 0
+ServesLines prompt [] is_over old new written
+    = (is_over ≡ false) × ShowsOnly old new × (written ≡ [])
+ServesLines prompt (line ∷ lines) is_over old new written = (begun : Desk) × ShowsOnly old begun
+    × (said : List ℕ)
+    × (((is_over ≡ true) × ServesLine line true begun new said × (written ≡ said))
+    ⊎ ((between : Desk) × (rest : List ℕ) × ServesLine line false begun between said
+    × ServesLines prompt lines is_over between new rest
+    × (written ≡ said ++ (prompt ++ rest))))
+
+-- At the end of the input a line end is written if prompts are. Then a last line that has no LF is
+-- served, behind which no prompt is written.
+abbrev pub EndsLines : List ℕ → List ℕ → List ℕ → Bool → Desk → Desk → List ℕ → Type 0
+EndsLines prompt line_end told is_over old new written = (last : List (List ℕ))
+    × (input_lines told ≡ ended_lines_of told ++ last)
+    × (between : Desk) × (first : List ℕ) × (rest : List ℕ)
+    × ServesLines prompt (ended_lines_of told) false old between first
+    × ServesLines [] last is_over between new rest
+    × (written ≡ first ++ (line_end ++ rest))
 
 -- ---- a session
 
--- Of what a reader gave, the complete lines were served up to one that ended the session; or it gave
--- its whole input, and the lines of that were served.
-abbrev pub IsAttended : Option (List ℕ) → Option (List ℕ) → Desk → Desk → Type 0
-IsAttended given left old new = (told : List ℕ) × Consumes given left told
-    × (ServesLines (ended_lines_of told) true old new
-    ⊎ ((is_over : Bool) × IsAtEnd left × ServesLines (input_lines told) is_over old new))
+-- What is written if prompts are asked for: before each line, and at the end of the input.
+abbrev pub prompt_of : Bool → List ℕ
+prompt_of prompts = if prompts then codes "mon> " else []
+
+abbrev pub line_end_of : Bool → List ℕ
+line_end_of prompts = if prompts then codes "\n" else []
+
+-- Of what a reader gave, the complete lines were served up to one that ended the session; or it
+-- gave its whole input, and the lines of that were served.
+abbrev pub IsAttended : Bool → Option (List ℕ) → Option (List ℕ) → Desk → Desk → List ℕ → Type 0
+IsAttended prompts given left old new written = (told : List ℕ) × Consumes given left told
+    × (rest : List ℕ) × (written ≡ prompt_of prompts ++ rest)
+    × (ServesLines (prompt_of prompts) (ended_lines_of told) true old new rest
+    ⊎ ((is_over : Bool) × IsAtEnd left
+    × EndsLines (prompt_of prompts) (line_end_of prompts) told is_over old new rest))
 
 -- The complete lines that were read so far were served, and none of them ended the session.
-abbrev pub IsAttendedSoFar : Option (List ℕ) → Option (List ℕ) → Desk → Desk → Type 0
-IsAttendedSoFar given left old new = (told : List ℕ) × Consumes given left told
-    × ServesLines (ended_lines_of told) false old new
+abbrev pub IsAttendedSoFar : Bool → Option (List ℕ) → Option (List ℕ) → Desk → Desk → List ℕ
+    → Type 0
+IsAttendedSoFar prompts given left old new written = (told : List ℕ) × Consumes given left told
+    × (rest : List ℕ) × (written ≡ prompt_of prompts ++ rest)
+    × ServesLines (prompt_of prompts) (ended_lines_of told) false old new rest

@@ -1,5 +1,6 @@
--- What the word `mon` did, by its exit status. What is written for a line is tested. Source: mos65.
-use Rattle.std.specs.Prelude.{◌≡◌, ◌⊎◌, ⊤, ℕ, List, [], ◌++◌, Option, Some, None}
+-- What the word `mon` did, by its exit status. Source: mos65.
+use Rattle.std.specs.Prelude.{◌≡◌, ◌⊎◌, ⊤, ℕ, Bool, true, if◌then◌else◌, List, [], ◌++◌, Option, Some, None, codes}
+use Rattle.std.specs.Io.KnownBytes.{Appends}
 use Rattle.assembler.specs.Assembly.{AssemblyView}
 use Rattle.clap.specs.Words.{Text}
 use Rattle.loading.specs.Asked.{FileAsked, map_of}
@@ -10,6 +11,7 @@ use Rattle.loading.specs.declared.loaded.LoadFault.TheVariants.{LooksLikeTape, R
 use Rattle.model.specs.Event.{start}
 use Rattle.model.specs.Session.{Session, new_session}
 use Rattle.mon.specs.Attended.{IsAttended}
+use Rattle.mon_desk.specs.Texts.{shown_text}
 use Rattle.mon_desk.specs.declared.desk.Desk.{Desk}
 use Rattle.mon_words.specs.Asked.{MonAsked}
 use Rattle.places.specs.Lines.{PlacesView, places_of}
@@ -71,9 +73,10 @@ pub record IsNewDesk (begun : Session) (history : ℕ) (known : PlacesView) (des
   pub watches : desk.stops.watches.items ≡ []
   pub changes : desk.stops.changes.items ≡ []
   pub places : desk.places ≡ known
+  pub text : desk.text.items ≡ []
 
--- A desk with a session at the start of an image that the file can have, with the names and lines of
--- its source and the names of a file of names.
+-- A desk with a session at the start of an image that the file can have, with the names and lines
+-- of its source and the names of a file of names.
 abbrev pub StartsMon : MonAsked → Desk → Type 0
 StartsMon asked desk = (image : List (Option ℕ)) × (assembly : Option AssemblyView)
     × IsLoaded asked.file image assembly
@@ -81,14 +84,28 @@ StartsMon asked desk = (image : List (Option ℕ)) × (assembly : Option Assembl
     × IsNewDesk (new_session asked.history (start (map_of asked.file) image)) asked.history
     (with_names names (places_in asked.file.file assembly)) desk
 
--- A session ended at a desk. With the status 0 the lines of the input were served at it.
-abbrev pub EndsAt : Desk → Option (List ℕ) → Option (List ℕ) → ℕ → Type 0
-EndsAt first given left status = IsEnded status
-    × (status ≡ 0 → (last : Desk) × IsAttended given left first last)
+-- What is written first, if prompts are.
+abbrev pub greeting_of : Bool → List ℕ
+greeting_of prompts = if prompts
+    then codes "mos65 mon: help lists the words, an empty line steps, quit ends\n" else []
+
+-- A session ended at a desk. With the status 0 the lines of the input were served at it, and the
+-- output, whose bytes were `old`, got what is said of them: first the greeting and the state.
+abbrev pub EndsAt : Bool → Desk → Option (List ℕ) → Option (List ℕ) → Option (List ℕ)
+    → Option (List ℕ) → ℕ → Type 0
+EndsAt prompts first given left old new status = IsEnded status
+    × (status ≡ 0 → (last : Desk) × (written : List ℕ)
+    × IsAttended prompts given left first last written
+    × Appends old new (first.text.items ++ (greeting_of prompts
+    ++ (shown_text first.session.current first.places.names None ++ written))))
 
 -- What was done for words: no session began, and the streams were left alone, `Alone`; or one began
--- at its desk, with some input given, and ended so, with some input left.
-abbrev pub IsDone : MonAsked → Option (List ℕ) → Option (List ℕ) → ℕ → Type 0 → Type 0
-IsDone asked given left status Alone =
+-- at its desk, with some input given, and ended so, with some input left. Prompts are written if
+-- the words ask for them, or if the input is a terminal.
+abbrev pub IsDone : MonAsked → Option (List ℕ) → Option (List ℕ) → Option (List ℕ)
+    → Option (List ℕ) → ℕ → Type 0 → Type 0
+IsDone asked given left old new status Alone =
     ((fault : LoadFault) × EndsMon asked fault × (status ≡ status_of_load fault) × Alone)
-    ⊎ ((desk : Desk) × StartsMon asked desk × EndsAt desk given left status)
+    ⊎ ((desk : Desk) × StartsMon asked desk × (prompts : Bool)
+    × (asked.prompts ≡ true → prompts ≡ true)
+    × EndsAt prompts desk given left old new status)

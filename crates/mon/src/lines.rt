@@ -4,14 +4,15 @@ ghost use Rattle.std.specs.Prelude.{◌≡◌, ◌∷◌, ◌++◌, [], ℕ, Lis
 ghost use Rattle.std.specs.Prelude.{if◌then◌else◌};
 ghost use Rattle.std.specs.Io.BufRead.{strip_last};
 ghost use Rattle.std.specs.Io.KnownBytes.{Appends};
-ghost use Rattle.mon.specs.Attended.{IsAttended, IsAttendedSoFar, ServesLine, ServesLines};
-ghost use Rattle.mon.specs.Attended.{input_lines};
+ghost use Rattle.mon.specs.Attended.{AnswersLine, EndsLines, IsAttended, IsAttendedSoFar};
+ghost use Rattle.mon.specs.Attended.{ServesLine, line_end_of, prompt_of};
 ghost use Rattle.mon.specs.Done.{EndsAnswer, EndsSession};
-ghost use Rattle.mon.specs.Pieces.{Feeds, GoesOn};
+ghost use Rattle.mon.specs.Pieces.{Feeds, GoesOn, unless_over};
 ghost use Rattle.mon_desk.specs.Served.{ShowsOnly};
 ghost use Rattle.mon_desk.specs.declared.desk.Desk.{Desk};
 
 use arrayvec::ArrayVec;
+use mon_answers::serve;
 use mon_desk::Desk;
 use program::Refusal;
 use std::alloc::{AllocError, Global};
@@ -76,10 +77,23 @@ fn line_of(begun: &Begun) -> &[u8]
 
 /// Does what a line asks for, and returns whether the session is to end.
 fn serve_line(alloc: Global, desk: &mut Desk, line: &[u8]) -> Result<bool, Refusal>
-    ensures served { IfOk result (λ is_over. ServesLine line.now is_over desk.old desk.new) }
+    ensures served { IfOk result (λ is_over. AnswersLine line.now is_over desk.old desk.new) }
     ensures refused { IfErr result EndsAnswer }
 {
-    of_memory(desk.serve(alloc, line))
+    of_memory(serve(desk, alloc, line))
+}
+
+/// Says that the next line may come, if prompts are asked for and the session is not over.
+fn say_prompt(desk: &mut Desk, prompts: bool, is_over: bool) -> Result<(), Refusal>
+    ensures shows { ShowsOnly desk.old desk.new }
+    ensures said { OnOk result (desk.new.text.items
+        ≡ desk.old.text.items ++ unless_over is_over (prompt_of prompts)) }
+    ensures refused { IfErr result EndsAnswer }
+{
+    if is_over {
+        return Ok(());
+    }
+    say_if(desk, prompts, PROMPT)
 }
 
 /// Serves a line that has ended, and begins the next one. Returns whether the session is to end.
@@ -90,15 +104,17 @@ fn serve_begun<W: Write>(
     begun: &mut Begun,
     writer: &mut W,
 ) -> Result<bool, Refusal>
-    ensures served { IfOk result (λ is_over.
-        ServesLine (strip_last 13 begun.old.items) is_over desk.old desk.new) }
+    ensures served { IfOk result (λ is_over. (said : List ℕ)
+        × ServesLine (strip_last 13 begun.old.items) is_over desk.old desk.new said
+        × Appends (W.contents writer.old) (W.contents writer.new) (desk.old.text.items
+        ++ (said ++ unless_over is_over (prompt_of prompts)))) }
     ensures cleared { IfOk result (λ _. begun.new.items ≡ []) }
     ensures written { IfOk result (λ _. desk.new.text.items ≡ []) }
     ensures refused { IfErr result EndsAnswer }
 {
     let is_over = serve_line(alloc, desk, line_of(begun))?;
     begun.clear();
-    say_if(desk, prompts && !is_over, PROMPT)?;
+    say_prompt(desk, prompts, is_over)?;
     put_text(desk, writer)?;
     Ok(is_over)
 }
@@ -112,8 +128,10 @@ fn serve_byte<W: Write>(
     byte: u8,
     writer: &mut W,
 ) -> Result<bool, Refusal>
-    ensures fed { IfOk result (λ is_over.
-        Feeds (byte ∷ []) is_over begun.old.items desk.old begun.new.items desk.new) }
+    ensures fed { IfOk result (λ is_over. (more : List ℕ) × Feeds (prompt_of prompts) (byte ∷ [])
+        is_over begun.old.items desk.old begun.new.items desk.new more
+        × (desk.old.text.items ≡ []
+        → Appends (W.contents writer.old) (W.contents writer.new) more)) }
     ensures written { IfOk result
         (λ _. desk.old.text.items ≡ [] → desk.new.text.items ≡ []) }
     ensures refused { IfErr result EndsAnswer }
@@ -136,8 +154,10 @@ fn serve_bytes<W: Write>(
     bytes: &[u8],
     writer: &mut W,
 ) -> Result<bool, Refusal>
-    ensures fed { IfOk result (λ is_over.
-        Feeds bytes.now is_over begun.old.items desk.old begun.new.items desk.new) }
+    ensures fed { IfOk result (λ is_over. (more : List ℕ) × Feeds (prompt_of prompts) bytes.now
+        is_over begun.old.items desk.old begun.new.items desk.new more
+        × (desk.old.text.items ≡ []
+        → Appends (W.contents writer.old) (W.contents writer.new) more)) }
     ensures written { IfOk result
         (λ _. desk.old.text.items ≡ [] → desk.new.text.items ≡ []) }
     ensures refused { IfErr result EndsAnswer }
@@ -158,9 +178,13 @@ fn serve_last<W: Write>(
     begun: &mut Begun,
     writer: &mut W,
 ) -> Result<(), Refusal>
-    ensures served { IfOk result (λ _. (told : List ℕ) (first : Desk)
-        → GoesOn told begun.old.items first desk.old
-        → (is_over : Bool) × ServesLines (input_lines told) is_over first desk.new) }
+    ensures served { IfOk result (λ _. (rest : List ℕ)
+        × Appends (W.contents writer.old) (W.contents writer.new)
+        (desk.old.text.items ++ (line_end_of prompts ++ rest))
+        × ((told : List ℕ) (first : Desk) (before : List ℕ)
+        → GoesOn (prompt_of prompts) told begun.old.items first desk.old before
+        → (is_over : Bool) × EndsLines (prompt_of prompts) (line_end_of prompts) told is_over
+        first desk.new (before ++ (line_end_of prompts ++ rest)))) }
     ensures written { IfOk result (λ _. desk.new.text.items ≡ []) }
     ensures refused { IfErr result EndsAnswer }
 {
@@ -187,10 +211,16 @@ pub fn attend<R: Read, W: Write>(
     reader: &mut R,
     writer: &mut W,
 ) -> Result<(), Refusal>
-    ensures attended { IfOk result (λ _.
-        IsAttended (R.remaining reader.old) (R.remaining reader.new) desk.old desk.new) }
-    ensures unread { result ≡ Err (Refusal.Read) → IsAttendedSoFar (R.remaining reader.old)
-        (R.remaining reader.new) desk.old desk.new }
+    ensures attended { IfOk result (λ _. (written : List ℕ)
+        × IsAttended prompts (R.remaining reader.old) (R.remaining reader.new) desk.old desk.new
+        written
+        × Appends (W.contents writer.old) (W.contents writer.new)
+        (desk.old.text.items ++ written)) }
+    ensures unread { result ≡ Err (Refusal.Read) → (written : List ℕ)
+        × IsAttendedSoFar prompts (R.remaining reader.old) (R.remaining reader.new) desk.old
+        desk.new written
+        × Appends (W.contents writer.old) (W.contents writer.new)
+        (desk.old.text.items ++ written) }
     ensures written { IfOk result (λ _. desk.new.text.items ≡ []) }
     ensures refused { IfErr result EndsSession }
 {

@@ -1,7 +1,7 @@
 //! What the word `mon` does.
 
 ghost use Rattle.std.specs.Prelude.{◌≡◌, ◌≤◌, ◌⊎◌, ◌∷◌, [], ℕ, List, Option, None, Some, Err, IfErr, IfOk, false};
-ghost use Rattle.std.specs.Prelude.{OnOk, map, option_map};
+ghost use Rattle.std.specs.Prelude.{◌++◌, OnOk, map, option_map, true};
 ghost use Rattle.assembler.specs.Assembly.{AssemblyView};
 ghost use Rattle.clap.specs.Words.{IsAmong, fault_of};
 ghost use Rattle.clap.specs.declared.error.kind.ErrorKind.TheVariants.{DisplayHelp};
@@ -13,7 +13,9 @@ ghost use Rattle.model.specs.State.{is_map};
 ghost use Rattle.model.specs.declared.bus_fault.BusFault.TheVariants.{BadMap};
 ghost use Rattle.mon.specs.Attended.{IsAttended, IsAttendedSoFar};
 ghost use Rattle.mon.specs.Done.{AreNamed, EndsAt, EndsMon, EndsNamed, EndsSession, IsDone};
-ghost use Rattle.mon.specs.Done.{IsNewDesk, StartsMon, places_in, with_names};
+ghost use Rattle.mon.specs.Done.{IsNewDesk, StartsMon, greeting_of, places_in, with_names};
+ghost use Rattle.mon_desk.specs.Texts.{shown_text};
+ghost use Rattle.std.specs.Io.KnownBytes.{Appends};
 ghost use Rattle.mon_words.specs.Asked.{MonAsked, asked};
 ghost use Rattle.mon_words.specs.CommandLine.{mon};
 ghost use Rattle.mon_words.specs.Views.{mon_view};
@@ -111,10 +113,18 @@ fn serve<R: Read, O: Write>(
     input: &mut R,
     output: &mut O,
 ) -> Result<(), Refusal>
-    ensures attended { IfOk result (λ _.
-        IsAttended (R.remaining input.old) (R.remaining input.new) desk.old desk.new) }
-    ensures unread { result ≡ Err (Refusal.Read) → IsAttendedSoFar (R.remaining input.old)
-        (R.remaining input.new) desk.old desk.new }
+    ensures attended { IfOk result (λ _. (written : List ℕ)
+        × IsAttended prompts (R.remaining input.old) (R.remaining input.new) desk.old desk.new
+        written
+        × Appends (O.contents output.old) (O.contents output.new)
+        (desk.old.text.items ++ (greeting_of prompts ++ (shown_text desk.old.session.current
+        desk.old.places.names None ++ written)))) }
+    ensures unread { result ≡ Err (Refusal.Read) → (written : List ℕ)
+        × IsAttendedSoFar prompts (R.remaining input.old) (R.remaining input.new) desk.old
+        desk.new written
+        × Appends (O.contents output.old) (O.contents output.new)
+        (desk.old.text.items ++ (greeting_of prompts ++ (shown_text desk.old.session.current
+        desk.old.places.names None ++ written))) }
     ensures written { IfOk result (λ _. desk.new.text.items ≡ []) }
     ensures refused { IfErr result EndsSession }
 {
@@ -132,13 +142,21 @@ fn served<R: Read, O: Write, E: Write>(
     output: &mut O,
     errors: &mut E,
 ) -> u8
-    ensures ended { EndsAt desk.old (R.remaining input.old) (R.remaining input.new) result }
+    ensures ended { EndsAt prompts desk.old (R.remaining input.old) (R.remaining input.new)
+        (O.contents output.old) (O.contents output.new) result }
     ensures quiet { result ≡ 0 → errors.new ≡ errors.old }
 {
     match serve(alloc, desk, prompts, input, output) {
         Ok(()) => 0,
         Err(refusal) => refuse(refusal, errors),
     }
+}
+
+/// Returns whether prompts are written: if they are asked for, or if the input is a terminal.
+fn wants_prompts<R: IsTerminal>(is_asked: bool, input: &R) -> bool
+    ensures { is_asked ≡ true → result ≡ true }
+{
+    is_asked || input.is_terminal()
 }
 
 /// Does what words that fit the command line ask for, and returns the exit status.
@@ -150,11 +168,12 @@ fn mon_words<H: Files + AllocGlobal, R: Read + IsTerminal, O: Write, E: Write>(
     errors: &mut E,
 ) -> u8
     ensures done { IsDone (mon_view words.now) (R.remaining input.old) (R.remaining input.new)
-        result ((input.new ≡ input.old) × (output.new ≡ output.old)) }
+        (O.contents output.old) (O.contents output.new) result
+        ((input.new ≡ input.old) × (output.new ≡ output.old)) }
     ensures bad_map { is_map words.now.file.rom words.now.file.port ≡ false → result ≡ 2 }
     ensures quiet { result ≡ 0 → errors.new ≡ errors.old }
 {
-    let prompts = words.prompts || input.is_terminal();
+    let prompts = wants_prompts(words.prompts, input);
     match desk_of(rt, words) {
         Ok(desk) => {
             let mut desk = desk;
@@ -182,10 +201,11 @@ pub fn mon<H: Files + AllocGlobal, R: Read + IsTerminal, O: Write, E: Write>(
 ) -> u8
     // Words that fit the command line, with right values: a session began on their file and ended,
     // or none began and the streams are unchanged, as the status says. At 0 the session has served
-    // the lines of the input.
+    // the lines of the input, and has written what is said of them and nothing else.
     ensures done { (a : MonAsked) → asked (map (λ s. s.now) words.entry.now) ≡ Some a
         → IsTakenBy mon (map (λ s. s.now) words.entry.now)
-        → IsDone a (R.remaining input.old) (R.remaining input.new) result
+        → IsDone a (R.remaining input.old) (R.remaining input.new)
+        (O.contents output.old) (O.contents output.new) result
         ((input.new ≡ input.old) × (output.new ≡ output.old)) }
     // Other words read nothing, and write nothing on the output but help.
     ensures untaken { ¬ IsTakenBy mon (map (λ s. s.now) words.entry.now)

@@ -1,17 +1,19 @@
 //! What a session of `mon` has: the machine, its events, its stops, its places, and the text that
 //! is to be written.
 
-ghost use Rattle.std.specs.Prelude.{◌≡◌, ◌<◌, ◌≤◌, [], ◌++◌, IfOk, OnErr, OnOk, false, is_ok, length};
+ghost use Rattle.std.specs.Prelude.{◌≡◌, ◌++◌, [], Err, IfErr, IfOk, Ok, OnErr, OnOk, drop, false, is_ok};
+ghost use Rattle.std.specs.Prelude.{take};
 ghost use Rattle.model.specs.Event.{event_of};
-ghost use Rattle.mon_desk.specs.Lines.{Follows, Serves, read_at};
+ghost use Rattle.model.specs.State.{State};
 ghost use Rattle.mon_desk.specs.Served.{KeepsStops, ShowsOnly, course_of, happened};
-ghost use Rattle.mon_views.specs.Instructions.{next_line};
-ghost use Rattle.mon_views.specs.Registers.{state_line};
+ghost use Rattle.mon_desk.specs.Texts.{count_text, entry_text, event_text, rejected_text};
+ghost use Rattle.mon_desk.specs.Texts.{row_or_entry, shown_text};
+ghost use Rattle.mon_views.specs.Instructions.{instruction_at, instruction_line};
 
 use model::EventFault;
-use mon_lines::{decimal_address, read_line};
+use mon_runs::is_entry;
 use mon_stops::Stops;
-use mon_views::{push_fault, push_next, push_slip, push_state, push_text};
+use mon_views::{push_count, push_fault, push_next, push_place, push_row, push_state, push_text};
 use monitor::{Event, Session};
 use past_events::Events;
 use places::Places;
@@ -25,6 +27,16 @@ pub struct Desk {
     pub stops: Stops,
     pub places: Places,
     pub text: Vec<u8>,
+}
+
+/// Appends where an interrupt has led to.
+fn push_entry(text: &mut Vec<u8>, places: &Places, pc: u16) -> Result<(), AllocError>
+    ensures { OnOk result (text.new.items ≡ text.old.items ++ entry_text places.now.names pc) }
+{
+    push_text(text, "interrupt: on to ")?;
+    push_place(text, places, pc)?;
+    push_text(text, "\n")?;
+    Ok(())
 }
 
 impl Desk {
@@ -53,52 +65,6 @@ impl Desk {
         })
     }
 
-    /// Does what a line asks for, or says what is missing in it. Returns whether the session is to
-    /// end.
-    fn follow(&mut self, alloc: Global, line: &[u8]) -> Result<bool, AllocError>
-        ensures { IfOk result
-            (λ is_over. Follows (read_at self.old line.now) is_over self.old self.new) }
-    {
-        let pc = self.session.regs().pc;
-        match read_line(line, &self.places, pc) {
-            Ok(command) => self.execute(alloc, command),
-            Err(slip) => {
-                push_slip(&mut self.text, slip)?;
-                Ok(false)
-            }
-        }
-    }
-
-    /// Says so if a line has a decimal number where an address is wanted.
-    fn tell_decimal(&mut self, line: &[u8]) -> Result<(), AllocError>
-        ensures { ShowsOnly self.old self.new }
-    {
-        if let Some(word) = decimal_address(line) {
-            self.text.extend_from_slice(word)?;
-            self.say(" is a decimal number; $")?;
-            self.text.extend_from_slice(word)?;
-            self.say(" is hex\n")?;
-        }
-        Ok(())
-    }
-
-    /// Does what a line asks for, or says what is missing in it. Returns whether the session is to
-    /// end. A line of more than 255 bytes asks for nothing.
-    pub fn serve(&mut self, alloc: Global, line: &[u8]) -> Result<bool, AllocError>
-        ensures served { length line.now ≤ 255 → IfOk result
-            (λ is_over. Serves (read_at self.old line.now) is_over self.old self.new) }
-        ensures long { 255 < length line.now → IfOk result
-            (λ is_over. (is_over ≡ false) × ShowsOnly self.old self.new) }
-    {
-        if line.len() > 255 {
-            self.say("a line has at most 255 bytes\n")?;
-            return Ok(false);
-        }
-        let is_over = self.follow(alloc, line)?;
-        self.tell_decimal(line)?;
-        Ok(is_over)
-    }
-
     /// Says something.
     pub fn say(&mut self, words: &str) -> Result<(), AllocError>
         ensures shows { ShowsOnly self.old self.new }
@@ -107,21 +73,82 @@ impl Desk {
         push_text(&mut self.text, words)
     }
 
+    /// Says a number of things, each of which has a name for one and for more.
+    pub fn count(&mut self, number: u64, one: &str, more: &str) -> Result<(), AllocError>
+        ensures shows { ShowsOnly self.old self.new }
+        ensures text { OnOk result (self.new.text.items ≡ self.old.text.items
+            ++ count_text number one.now more.now) }
+    {
+        push_count(&mut self.text, number)?;
+        self.say(if number == 1 { one } else { more })
+    }
+
     /// Shows the registers and what comes next.
     pub fn show(&mut self, cycles_before: Option<u64>) -> Result<(), AllocError>
         ensures shows { ShowsOnly self.old self.new }
         ensures text { OnOk result (self.new.text.items ≡ self.old.text.items
-            ++ state_line self.old.session.current self.old.places.names cycles_before
-            ++ next_line self.old.session.current self.old.places.names) }
+            ++ shown_text self.old.session.current self.old.places.names cycles_before) }
     {
         push_state(&mut self.text, &self.session, &self.places, cycles_before)?;
         push_next(&mut self.text, &self.session, &self.places)
     }
 
+    /// Shows the instruction at an address, and returns how many bytes it has.
+    pub fn show_row(&mut self, address: u16) -> Result<u8, AllocError>
+        ensures shows { ShowsOnly self.old self.new }
+        ensures text { OnOk result (self.new.text.items ≡ self.old.text.items
+            ++ instruction_line self.old.session.current self.old.places address) }
+        ensures len { IfOk result
+            (λ len. len ≡ (instruction_at self.old.session.current address).len) }
+    {
+        push_row(&mut self.text, &self.session, &self.places, address)
+    }
+
+    /// Shows the instruction that comes next.
+    pub fn show_next(&mut self) -> Result<(), AllocError>
+        ensures shows { ShowsOnly self.old self.new }
+        ensures text { OnOk result (self.new.text.items ≡ self.old.text.items
+            ++ instruction_line self.old.session.current self.old.places
+            self.old.session.current.regs.pc) }
+    {
+        let pc = self.session.regs().pc;
+        let _ = self.show_row(pc)?;
+        Ok(())
+    }
+
+    /// Says why an event was rejected.
+    pub fn reject(&mut self, fault: EventFault) -> Result<(), AllocError>
+        ensures shows { ShowsOnly self.old self.new }
+        ensures text { OnOk result (self.new.text.items ≡ self.old.text.items
+            ++ rejected_text self.old.places.names fault) }
+    {
+        push_fault(&mut self.text, &self.places, fault)?;
+        self.say("\n")
+    }
+
+    /// Says that a step was the entry of an interrupt, in place of the row from `length` on, if it
+    /// was one.
+    pub fn tell_entry(&mut self, length: usize, stack: u8, cycles: u64) -> Result<(), AllocError>
+        ensures shows { ShowsOnly self.old self.new }
+        ensures text { OnOk result (self.new.text.items ≡ take length self.old.text.items
+            ++ row_or_entry stack cycles self.old.session.current self.old.places.names
+            (drop length self.old.text.items)) }
+    {
+        if is_entry(&self.session, stack, cycles) {
+            self.text.truncate(length);
+            return push_entry(&mut self.text, &self.places, self.session.regs().pc);
+        }
+        Ok(())
+    }
+
     /// Makes an event that is no step. Errors: those of the session; nothing is changed then.
     fn make(&mut self, event: Event) -> Result<(), EventFault>
         ensures course { course_of self.new ≡ happened event (course_of self.old) }
-        ensures accepted { is_ok result ≡ is_ok (event_of self.old.session.current event) }
+        ensures ok { OnOk result ((state : State)
+            × (event_of self.old.session.current event ≡ Ok state)) }
+        ensures fault { IfErr result
+            (λ fault. event_of self.old.session.current event ≡ Err fault) }
+        ensures text { self.new.text ≡ self.old.text }
         ensures stops { KeepsStops self.old self.new }
     {
         match self.session.event(event) {
@@ -135,18 +162,20 @@ impl Desk {
 
     /// Makes an event that is no step, and returns whether it was accepted. Otherwise it says why
     /// not. Nothing is changed if memory runs out for that.
+    #[tactic(auto, unfolding(crate::specs::Texts::event_text))]
     pub fn happen(&mut self, event: Event) -> Result<bool, AllocError>
         ensures course { course_of self.new ≡ happened event (course_of self.old) }
         ensures accepted { IfOk result
             (λ is_accepted. is_accepted ≡ is_ok (event_of self.old.session.current event)) }
         ensures memory { OnErr result (is_ok (event_of self.old.session.current event) ≡ false) }
+        ensures text { OnOk result (self.new.text.items ≡ self.old.text.items
+            ++ event_text self.old.places.names event (course_of self.old) []) }
         ensures stops { KeepsStops self.old self.new }
     {
         match self.make(event) {
             Ok(()) => Ok(true),
             Err(fault) => {
-                push_fault(&mut self.text, &self.places, fault)?;
-                self.say("\n")?;
+                self.reject(fault)?;
                 Ok(false)
             }
         }

@@ -1,10 +1,13 @@
-use Rattle.std.proofs.Common.{◌≡◌, [], List, ℕ}
-use Rattle.std.specs.Io.KnownBytes.{Consumes}
+use Rattle.std.proofs.Common.{◌≡◌, ◌++◌, [], List, ℕ}
+use Rattle.std.specs.Io.KnownBytes.{Appends, Consumes}
+use Rattle.mon.specs.Attended.{prompt_of}
 use Rattle.mon.specs.Pieces.{GoesOn}
 use Rattle.mon.proofs.lines.attend.Given as goal
 
 -- the lines that have ended in what was read were served, and what was said then was written
 abbrev pub invariant-loop : goal.invariant-loop
 invariant-loop g l =
-    (told : List ℕ) × Consumes (g.R.Read.remaining l.fn.reader) (g.R.Read.remaining l.reader) told × GoesOn told l.begun.items l.fn.desk l.desk
+    (told : List ℕ) × Consumes (g.R.Read.remaining l.fn.reader) (g.R.Read.remaining l.reader) told
+    × (before : List ℕ) × GoesOn (prompt_of l.fn.prompts) told l.begun.items l.fn.desk l.desk before
+    × Appends (g.W.Write.contents l.fn.writer) (g.W.Write.contents l.writer) (l.fn.desk.text.items ++ (prompt_of l.fn.prompts ++ before))
     × (l.desk.text.items ≡ [])

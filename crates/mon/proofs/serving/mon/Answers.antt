@@ -11,7 +11,7 @@ use Rattle.mon.proofs.serving.mon.Goals as goal
 pub returns-in-Ok-clause-done : goal.returns-in-Ok-clause-done
 returns-in-Ok-clause-done g c a h taken =
     let same : mon_view c.in-Ok.words ≡ a = ap (λ o. unwrap_or o (mon_view c.in-Ok.words)) (sym c.in-Ok.ensures.asked ∙ h) in
-    subst (λ asked. IsDone asked (g.R.Read.remaining c.args.input.now) (g.R.Read.remaining c.mon_words.new.input) c.mon_words.result ((c.mon_words.new.input ≡ c.args.input.now)
+    subst (λ asked. IsDone asked (g.R.Read.remaining c.args.input.now) (g.R.Read.remaining c.mon_words.new.input) (g.O.Write.contents c.args.output.now) (g.O.Write.contents c.mon_words.new.output) c.mon_words.result ((c.mon_words.new.input ≡ c.args.input.now)
     × (c.mon_words.new.output ≡ c.args.output.now))) same c.mon_words.ensures.done
 
 -- The words were right, so memory ran out.

@@ -14,6 +14,7 @@ returns-in-Ok-clause-made g c =
         breaks = e.breaks;
         watches = e.watches;
         changes = e.changes;
+        text = e.text;
         places = e.places ∙ (named.2 ∙ ap (with_names named.0) c.in_ok-places.ensures.places);
       },
     )

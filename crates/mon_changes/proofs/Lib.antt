@@ -1,0 +1,2 @@
+pub mod Made
+mod Naming

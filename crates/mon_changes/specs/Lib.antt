@@ -1,0 +1,3 @@
+pub mod ByteLines
+pub mod Named
+pub mod Texts

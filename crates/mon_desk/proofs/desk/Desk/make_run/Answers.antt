@@ -1,6 +1,0 @@
-use Rattle.mon_desk.specs.Served.{course_of}
-use Rattle.mon_desk.proofs.Runs.{run_one}
-use Rattle.mon_desk.proofs.desk.Desk.make_run.Goals as goal
-
-pub returns-clause-course : goal.returns-clause-course
-returns-clause-course c = run_one c.go-end.result.did _ _ (c.go-end.ensures.steps, c.note_steps.ensures)

@@ -1,0 +1,7 @@
+//! Lines of `mon` that only look.
+#![tactic(auto)]
+
+pub use looks::look;
+
+mod finding;
+mod looks;

@@ -1,0 +1,3 @@
+mod Chains
+pub mod Stepped
+mod Rows

@@ -1,0 +1,2 @@
+mod Course
+mod Shown

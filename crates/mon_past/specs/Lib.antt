@@ -1,0 +1,2 @@
+pub mod BackLines
+pub mod Texts
