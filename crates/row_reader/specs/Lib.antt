@@ -1,2 +1,3 @@
 pub mod HeadText
 pub mod RowText
+pub mod FaultWords

@@ -1,6 +1,7 @@
 //! Why a line is no row.
 
-ghost use Rattle.std.specs.Prelude.{◌≡◌};
+ghost use Rattle.std.specs.Prelude.{◌≡◌, Some};
+ghost use Rattle.row_reader.specs.FaultWords.{fault_words};
 
 use std::fmt;
 
@@ -23,9 +24,12 @@ pub enum RowFaultKind {
     OutOfMemory,
 }
 
-impl fmt::Display for RowFaultKind {
-    fn fmt<W: fmt::Write>(&self, f: &mut fmt::Formatter<W>) -> fmt::Result {
-        let text = match self {
+impl RowFaultKind {
+    /// Returns the words of the fault.
+    pub fn words(&self) -> &'static str
+        ensures { result.now ≡ fault_words self.now }
+    {
+        match self {
             RowFaultKind::Syntax => "something else has to stand here",
             RowFaultKind::UndefinedName => "the source does not define this name",
             RowFaultKind::AddressRange => "this is no address",
@@ -33,7 +37,15 @@ impl fmt::Display for RowFaultKind {
             RowFaultKind::SecondSource => "a file has one source",
             RowFaultKind::NoSource => "a file names its source first",
             RowFaultKind::OutOfMemory => "out of memory",
-        };
+        }
+    }
+}
+
+impl fmt::Display for RowFaultKind {
+    ghost output = { λ kind. Some (fault_words kind) };
+
+    fn fmt<W: fmt::Write>(&self, f: &mut fmt::Formatter<W>) -> fmt::Result {
+        let text = self.words();
         write!(f, "{text}")
     }
 }
