@@ -1,5 +1,5 @@
 -- The names and numbers of the engine's faults. Source: mos65.
-use Rattle.std.specs.Prelude.{ℕ, List, codes}
+use Rattle.std.specs.Prelude.{ℕ, List, ◌∷◌, ◌++◌, codes, decimal}
 use Rattle.engine.specs.declared.fault.EngineFault.{EngineFault}
 use Rattle.engine.specs.declared.fault.EngineFault.TheVariants.{Source, Tape, Session, Read, Write, OutOfMemory}
 
@@ -18,3 +18,7 @@ engine_fault_name (Session fault) = codes "Session"
 engine_fault_name Read = codes "Read"
 engine_fault_name Write = codes "Write"
 engine_fault_name OutOfMemory = codes "OutOfMemory"
+
+-- What a fault prints: its name, a space and its number.
+abbrev pub engine_fault_text : EngineFault → List ℕ
+engine_fault_text fault = engine_fault_name fault ++ 32 ∷ decimal (engine_fault_number fault)

@@ -1,7 +1,7 @@
 //! Why the engine ends before its input does.
 
-ghost use Rattle.std.specs.Prelude.{◌≡◌};
-ghost use Rattle.engine.specs.FaultNames.{engine_fault_name, engine_fault_number};
+ghost use Rattle.std.specs.Prelude.{Some, ◌≡◌};
+ghost use Rattle.engine.specs.FaultNames.{engine_fault_name, engine_fault_number, engine_fault_text};
 ghost use Rattle.engine.specs.Refusals.{of_session, of_source, of_tape, of_tape_read};
 
 use model::{AsmFault, AsmFaultKind, SessionFault, TapeFault, TapeFaultKind};
@@ -27,6 +27,8 @@ pub enum EngineFault {
 }
 
 impl fmt::Display for EngineFault {
+    ghost output = { λ fault. Some (engine_fault_text fault) };
+
     /// Its name and its number.
     fn fmt<W: fmt::Write>(&self, f: &mut fmt::Formatter<W>) -> fmt::Result {
         write!(f, "{} {}", self.name(), self.number())

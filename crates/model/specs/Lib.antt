@@ -1,4 +1,5 @@
 pub mod FaultNames
+pub mod FaultTexts
 pub mod Image
 pub mod State
 pub mod OpcodeTable

@@ -1,7 +1,8 @@
 //! Why a call of the bus is rejected.
 
-ghost use Rattle.std.specs.Prelude.{◌≡◌};
+ghost use Rattle.std.specs.Prelude.{Some, ◌≡◌};
 ghost use Rattle.model.specs.FaultNames.{bus_fault_name, bus_fault_number};
+ghost use Rattle.model.specs.FaultTexts.{bus_fault_text};
 
 use std::fmt;
 use thiserror::Error;
@@ -22,6 +23,8 @@ pub enum BusFault {
 }
 
 impl fmt::Display for BusFault {
+    ghost output = { λ fault. Some (bus_fault_text fault) };
+
     /// Writes the name and the number, as the program prints them.
     fn fmt<W: fmt::Write>(&self, f: &mut fmt::Formatter<W>) -> fmt::Result {
         write!(f, "{} {}", self.name(), self.number())

@@ -1,7 +1,8 @@
 //! Events of the machine, and why one is rejected.
 
-ghost use Rattle.std.specs.Prelude.{◌≡◌};
+ghost use Rattle.std.specs.Prelude.{Some, ◌≡◌};
 ghost use Rattle.model.specs.FaultNames.{event_fault_name, event_fault_number};
+ghost use Rattle.model.specs.FaultTexts.{event_fault_text};
 
 use std::fmt;
 use thiserror::Error;
@@ -26,6 +27,8 @@ pub enum EventFault {
 }
 
 impl fmt::Display for EventFault {
+    ghost output = { λ fault. Some (event_fault_text fault) };
+
     /// Writes the name and the number, as the program prints them.
     fn fmt<W: fmt::Write>(&self, f: &mut fmt::Formatter<W>) -> fmt::Result {
         write!(f, "{} {}", self.name(), self.number())

@@ -1,8 +1,9 @@
 //! The parts of tokens and expressions, and the faults of both.
 
-ghost use Rattle.std.specs.Prelude.{◌≡◌};
+ghost use Rattle.std.specs.Prelude.{Some, ◌≡◌};
 ghost use Rattle.model.specs.FaultNames.{expression_fault_name, expression_fault_number};
 ghost use Rattle.model.specs.FaultNames.{line_fault_name, line_fault_number};
+ghost use Rattle.model.specs.FaultTexts.{line_fault_text, expression_fault_text};
 
 use std::alloc::{AllocError, AllocFailed};
 use std::fmt;
@@ -54,6 +55,8 @@ pub enum LineFault {
 }
 
 impl fmt::Display for LineFault {
+    ghost output = { λ fault. Some (line_fault_text fault) };
+
     /// Writes the name and the number, as the program prints them.
     fn fmt<W: fmt::Write>(&self, f: &mut fmt::Formatter<W>) -> fmt::Result {
         write!(f, "{} {}", self.name(), self.number())
@@ -122,6 +125,8 @@ pub enum ExprFault {
 }
 
 impl fmt::Display for ExprFault {
+    ghost output = { λ fault. Some (expression_fault_text fault) };
+
     /// Writes the name and the number, as the program prints them.
     fn fmt<W: fmt::Write>(&self, f: &mut fmt::Formatter<W>) -> fmt::Result {
         write!(f, "{} {}", self.name(), self.number())

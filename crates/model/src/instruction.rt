@@ -1,5 +1,8 @@
 //! What the opcode table says of an instruction.
 
+ghost use Rattle.std.specs.Prelude.{◌≡◌, ◌+◌, ◌%◌};
+ghost use Rattle.model.specs.Operand.{indexed, moved_from, straight, target};
+
 /// Which processor a machine has; its assembler, its listings and its session follow it.
 #[derive(Clone, Copy, Debug, PartialEq, Eq)]
 pub enum Profile {
@@ -136,4 +139,49 @@ pub struct EffectiveAddress {
     pub address: u16,
     /// Whether the effective address and its base have different high bytes.
     pub crossed: bool,
+}
+
+impl EffectiveAddress {
+    /// Returns an address for which no page was crossed.
+    #[inline(always)]
+    pub fn straight(address: u16) -> EffectiveAddress
+        ensures { result ≡ straight address }
+    {
+        EffectiveAddress {
+            address,
+            crossed: false,
+        }
+    }
+
+    /// Returns a base with an index added.
+    #[inline(always)]
+    pub fn indexed(base: u16, index: u8) -> EffectiveAddress
+        ensures { result ≡ indexed base index }
+    {
+        EffectiveAddress::moved(base, base.wrapping_add(index as u16))
+    }
+
+    /// Returns a branch's target: the next instruction's address plus a signed byte.
+    #[inline(always)]
+    pub fn branch_target(next: u16, byte: u8) -> EffectiveAddress
+        ensures { result ≡ target next byte }
+    {
+        let distance = if byte < 128 {
+            byte as u16
+        } else {
+            byte as u16 + 0xff00
+        };
+        EffectiveAddress::moved(next, next.wrapping_add(distance))
+    }
+
+    /// Returns an address that was reached from a base.
+    #[inline(always)]
+    fn moved(base: u16, address: u16) -> EffectiveAddress
+        ensures { result ≡ moved_from base address }
+    {
+        EffectiveAddress {
+            address,
+            crossed: base >> 8 != address >> 8,
+        }
+    }
 }

@@ -1,7 +1,8 @@
 //! Why a call of the session is rejected.
 
-ghost use Rattle.std.specs.Prelude.{◌≡◌};
+ghost use Rattle.std.specs.Prelude.{Some, ◌≡◌};
 ghost use Rattle.model.specs.FaultNames.{session_fault_name, session_fault_number};
+ghost use Rattle.model.specs.FaultTexts.{session_fault_text};
 
 use std::fmt;
 use thiserror::Error;
@@ -24,6 +25,8 @@ pub enum SessionFault {
 }
 
 impl fmt::Display for SessionFault {
+    ghost output = { λ fault. Some (session_fault_text fault) };
+
     /// Writes the name and the number, as the program prints them.
     fn fmt<W: fmt::Write>(&self, f: &mut fmt::Formatter<W>) -> fmt::Result {
         write!(f, "{} {}", self.name(), self.number())

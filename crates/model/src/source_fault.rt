@@ -1,7 +1,8 @@
 //! Why a source is rejected.
 
-ghost use Rattle.std.specs.Prelude.{◌≡◌};
+ghost use Rattle.std.specs.Prelude.{Some, ◌≡◌};
 ghost use Rattle.model.specs.FaultNames.{source_fault_name, source_fault_number};
+ghost use Rattle.model.specs.FaultTexts.{source_fault_text};
 
 use std::fmt;
 use thiserror::Error;
@@ -63,6 +64,8 @@ pub enum AsmFaultKind {
 }
 
 impl fmt::Display for AsmFaultKind {
+    ghost output = { λ fault. Some (source_fault_text fault) };
+
     /// Writes the name and the number, as the program prints them.
     fn fmt<W: fmt::Write>(&self, f: &mut fmt::Formatter<W>) -> fmt::Result {
         write!(f, "{} {}", self.name(), self.number())

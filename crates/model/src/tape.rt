@@ -30,6 +30,11 @@ pub enum TapeFaultKind {
 }
 
 impl fmt::Display for TapeFaultKind {
+    ghost use Rattle.std.specs.Prelude.{Some};
+    ghost use Rattle.model.specs.FaultTexts.{tape_fault_text};
+
+    ghost output = { λ fault. Some (tape_fault_text fault) };
+
     /// Writes the name and the number, as the program prints them.
     fn fmt<W: fmt::Write>(&self, f: &mut fmt::Formatter<W>) -> fmt::Result {
         write!(f, "{} {}", self.name(), self.number())

@@ -5,8 +5,7 @@
 #![tactic(auto)]
 
 ghost use Rattle.std.specs.Prelude.{◌≡◌, ◌+◌, ◌%◌};
-ghost use Rattle.model.specs.Operand.{indexed, jump_target, effective_address, straight, target};
-ghost use Rattle.model.specs.Operand.{address_at, address_in_page};
+ghost use Rattle.model.specs.Operand.{address_at, address_in_page, effective_address, jump_target};
 
 use bus::{Bus, Profile};
 pub use model::{EffectiveAddress, Mode, Regs};
@@ -26,22 +25,25 @@ pub fn resolve(bus: &Bus, regs: &Regs, mode: Mode) -> Place
 {
     let next = regs.pc.wrapping_add(1);
     match mode {
-        Mode::Imp | Mode::Acc => straight(0),
-        Mode::Imm => straight(next),
-        Mode::Zp => straight(bus.peek(next) as u16),
-        Mode::ZpX => straight(bus.peek(next).wrapping_add(regs.x) as u16),
-        Mode::ZpY => straight(bus.peek(next).wrapping_add(regs.y) as u16),
-        Mode::Abs => straight(address_at(bus, next)),
-        Mode::AbsX => indexed(address_at(bus, next), regs.x),
-        Mode::AbsY => indexed(address_at(bus, next), regs.y),
+        Mode::Imp | Mode::Acc => EffectiveAddress::straight(0),
+        Mode::Imm => EffectiveAddress::straight(next),
+        Mode::Zp => EffectiveAddress::straight(bus.peek(next) as u16),
+        Mode::ZpX => EffectiveAddress::straight(bus.peek(next).wrapping_add(regs.x) as u16),
+        Mode::ZpY => EffectiveAddress::straight(bus.peek(next).wrapping_add(regs.y) as u16),
+        Mode::Abs => EffectiveAddress::straight(address_at(bus, next)),
+        Mode::AbsX => EffectiveAddress::indexed(address_at(bus, next), regs.x),
+        Mode::AbsY => EffectiveAddress::indexed(address_at(bus, next), regs.y),
         Mode::IndX => {
             let pointer = bus.peek(next).wrapping_add(regs.x);
-            straight(address_in_page(bus, pointer as u16))
+            EffectiveAddress::straight(address_in_page(bus, pointer as u16))
         }
-        Mode::IndY => indexed(address_in_page(bus, bus.peek(next) as u16), regs.y),
-        Mode::Ind => straight(jump_target(bus, address_at(bus, next))),
-        Mode::Rel => target(regs.pc.wrapping_add(2), bus.peek(next)),
-        Mode::IndZ => straight(address_in_page(bus, bus.peek(next) as u16)),
+        Mode::IndY => EffectiveAddress::indexed(
+            address_in_page(bus, bus.peek(next) as u16),
+            regs.y,
+        ),
+        Mode::Ind => EffectiveAddress::straight(jump_target(bus, address_at(bus, next))),
+        Mode::Rel => EffectiveAddress::branch_target(regs.pc.wrapping_add(2), bus.peek(next)),
+        Mode::IndZ => EffectiveAddress::straight(address_in_page(bus, bus.peek(next) as u16)),
     }
 }
 
@@ -78,45 +80,5 @@ fn jump_target(bus: &Bus, pointer: u16) -> u16
     match bus.profile() {
         Profile::N => address_in_page(bus, pointer),
         Profile::C => address_at(bus, pointer),
-    }
-}
-
-/// Returns an address for which no page was crossed.
-#[inline(always)]
-fn straight(address: u16) -> EffectiveAddress
-    ensures { result ≡ straight address }
-{
-    EffectiveAddress {
-        address,
-        crossed: false,
-    }
-}
-
-/// Returns a base with an index added.
-#[inline(always)]
-fn indexed(base: u16, index: u8) -> EffectiveAddress
-    ensures { result ≡ indexed base index }
-{
-    let address = base.wrapping_add(index as u16);
-    EffectiveAddress {
-        address,
-        crossed: base >> 8 != address >> 8,
-    }
-}
-
-/// Returns a branch's target: the next instruction's address plus a signed byte.
-#[inline(always)]
-fn target(next: u16, byte: u8) -> EffectiveAddress
-    ensures { result ≡ target next byte }
-{
-    let distance = if byte < 128 {
-        byte as u16
-    } else {
-        byte as u16 + 0xff00
-    };
-    let address = next.wrapping_add(distance);
-    EffectiveAddress {
-        address,
-        crossed: next >> 8 != address >> 8,
     }
 }

@@ -3,8 +3,7 @@
 //! Each function is `modes`' own over a session in place of a bus.
 
 ghost use Rattle.std.specs.Prelude.{◌≡◌, ◌+◌, ◌%◌};
-ghost use Rattle.model.specs.Operand.{address_at, address_in_page, effective_address, indexed};
-ghost use Rattle.model.specs.Operand.{jump_target, straight, target};
+ghost use Rattle.model.specs.Operand.{address_at, address_in_page, effective_address, jump_target};
 
 use debugger::Session;
 use model::{EffectiveAddress, Mode, Profile};
@@ -22,22 +21,28 @@ pub fn place_here(session: &Session, mode: Mode) -> EffectiveAddress
     let regs = session.regs();
     let next = regs.pc.wrapping_add(1);
     match mode {
-        Mode::Imp | Mode::Acc => straight(0),
-        Mode::Imm => straight(next),
-        Mode::Zp => straight(session.peek(next) as u16),
-        Mode::ZpX => straight(session.peek(next).wrapping_add(regs.x) as u16),
-        Mode::ZpY => straight(session.peek(next).wrapping_add(regs.y) as u16),
-        Mode::Abs => straight(address_at(session, next)),
-        Mode::AbsX => indexed(address_at(session, next), regs.x),
-        Mode::AbsY => indexed(address_at(session, next), regs.y),
+        Mode::Imp | Mode::Acc => EffectiveAddress::straight(0),
+        Mode::Imm => EffectiveAddress::straight(next),
+        Mode::Zp => EffectiveAddress::straight(session.peek(next) as u16),
+        Mode::ZpX => EffectiveAddress::straight(session.peek(next).wrapping_add(regs.x) as u16),
+        Mode::ZpY => EffectiveAddress::straight(session.peek(next).wrapping_add(regs.y) as u16),
+        Mode::Abs => EffectiveAddress::straight(address_at(session, next)),
+        Mode::AbsX => EffectiveAddress::indexed(address_at(session, next), regs.x),
+        Mode::AbsY => EffectiveAddress::indexed(address_at(session, next), regs.y),
         Mode::IndX => {
             let pointer = session.peek(next).wrapping_add(regs.x);
-            straight(address_in_page(session, pointer as u16))
+            EffectiveAddress::straight(address_in_page(session, pointer as u16))
         }
-        Mode::IndY => indexed(address_in_page(session, session.peek(next) as u16), regs.y),
-        Mode::Ind => straight(jump_target(session, address_at(session, next))),
-        Mode::Rel => target(regs.pc.wrapping_add(2), session.peek(next)),
-        Mode::IndZ => straight(address_in_page(session, session.peek(next) as u16)),
+        Mode::IndY => EffectiveAddress::indexed(
+            address_in_page(session, session.peek(next) as u16),
+            regs.y,
+        ),
+        Mode::Ind => EffectiveAddress::straight(jump_target(session, address_at(session, next))),
+        Mode::Rel => EffectiveAddress::branch_target(regs.pc.wrapping_add(2), session.peek(next)),
+        Mode::IndZ => EffectiveAddress::straight(address_in_page(
+            session,
+            session.peek(next) as u16,
+        )),
     }
 }
 
@@ -75,45 +80,5 @@ fn jump_target(session: &Session, pointer: u16) -> u16
     match session.profile() {
         Profile::N => address_in_page(session, pointer),
         Profile::C => address_at(session, pointer),
-    }
-}
-
-/// Returns an address for which no page was crossed.
-#[inline(always)]
-fn straight(address: u16) -> EffectiveAddress
-    ensures { result ≡ straight address }
-{
-    EffectiveAddress {
-        address,
-        crossed: false,
-    }
-}
-
-/// Returns a base with an index added.
-#[inline(always)]
-fn indexed(base: u16, index: u8) -> EffectiveAddress
-    ensures { result ≡ indexed base index }
-{
-    let address = base.wrapping_add(index as u16);
-    EffectiveAddress {
-        address,
-        crossed: base >> 8 != address >> 8,
-    }
-}
-
-/// Returns a branch's target: the next instruction's address plus a signed byte.
-#[inline(always)]
-fn target(next: u16, byte: u8) -> EffectiveAddress
-    ensures { result ≡ target next byte }
-{
-    let distance = if byte < 128 {
-        byte as u16
-    } else {
-        byte as u16 + 0xff00
-    };
-    let address = next.wrapping_add(distance);
-    EffectiveAddress {
-        address,
-        crossed: next >> 8 != address >> 8,
     }
 }

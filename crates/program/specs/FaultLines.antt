@@ -1,7 +1,6 @@
 -- The fault lines of the program. Source: mos65.
 use Rattle.std.specs.Prelude.{◌≡◌, ◌≤◌, ⊤, ℕ, List, [], ◌∷◌, ◌++◌, codes, decimal, Option}
-use Rattle.model.specs.FaultNames.{bus_fault_name, bus_fault_number, session_fault_name, session_fault_number, source_fault_name, source_fault_number}
-use Rattle.model.specs.TapeFault.{tape_fault_name, tape_fault_number}
+use Rattle.model.specs.FaultTexts.{bus_fault_text, session_fault_text, source_fault_text, tape_fault_text}
 use Rattle.model.specs.Writers.{AppendsFront}
 use Rattle.program.specs.Statuses.{status_of}
 use Rattle.program.specs.declared.refusal.Refusal.{Refusal}
@@ -22,12 +21,10 @@ place_part Write = codes "WRITE"
 
 -- The fault's name and number, if it has them.
 unfoldable pub name_part : Refusal → List ℕ
-name_part (Map fault) = bus_fault_name fault ++ 32 ∷ decimal (bus_fault_number fault)
-name_part (Source fault)
-    = source_fault_name fault.kind ++ 32 ∷ decimal (source_fault_number fault.kind)
-name_part (Tape fault) = tape_fault_name fault.kind ++ 32 ∷ decimal (tape_fault_number fault.kind)
-name_part (Session fault)
-    = session_fault_name fault ++ 32 ∷ decimal (session_fault_number fault)
+name_part (Map fault) = bus_fault_text fault
+name_part (Source fault) = source_fault_text fault.kind
+name_part (Tape fault) = tape_fault_text fault.kind
+name_part (Session fault) = session_fault_text fault
 name_part refusal = []
 
 -- The line that says why the program ends, for example `mos65: SOURCE line 2 Syntax 4`.
