@@ -1,3 +1,2 @@
-pub mod EveryLine
 pub mod LineSteps
 pub mod MarkSteps

@@ -1,5 +1,5 @@
 -- The way along the lines of a source.
-use Rattle.std.proofs.Common.{◌≡◌, ◌∙◌, ℕ, zero, suc, ◌+◌, ◌<◌, ◌≤◌, List, [], ◌∷◌, ◌++◌, length, take, drop, refl, sym, ap, arith, append_assoc, append-nil, get_or, add-one, drop-cons, Option, None, Some}
+use Rattle.std.proofs.Common.{◌≡◌, ◌∙◌, ℕ, ◌+◌, ◌<◌, ◌≤◌, List, [], ◌∷◌, ◌++◌, length, drop, refl, sym, ap, arith, append_assoc, append-nil, get_or, add-one, drop-cons, Option, None, Some}
 use Rattle.std.proofs.Math.ListN.{drop_of_length-le}
 use Rattle.std.specs.Borrow.{Bor}
 use Rattle.std.proofs.lemmas.List.Sums.{prefix_len-le-length}
@@ -13,29 +13,19 @@ pub texts-append : (xs ys : List (Bor (List ℕ))) → texts_of (xs ++ ys) ≡ t
 texts-append [] ys = refl
 texts-append (x ∷ xs) ys = ap (λ t. x.now ∷ t) (texts-append xs ys)
 
-pub no_lines : lines_of [] ≡ []
-unfolding lines_from
-no_lines = refl
-
-take_none : (n : ℕ) → take n (lines_of []) ≡ []
-unfolding lines_from
-take_none zero = refl
-take_none (suc n) = refl
-
 pub none_left : (xs : List ℕ) → length xs ≡ 0 → xs ≡ []
 none_left [] h = refl
 none_left (x ∷ xs) h = absurd (omega (arith, h))
 
-pub lines_end : (xs : List (Bor (List ℕ))) (n : ℕ) (rest : List ℕ) → rest ≡ [] → texts_of xs ++ take n (lines_of rest) ≡ texts_of xs
-lines_end xs n rest e =
-    ap (λ r. texts_of xs ++ take n (lines_of r)) e ∙ (ap (λ t. texts_of xs ++ t) (take_none n) ∙ append-nil (texts_of xs))
+-- no line is left
+pub lines_end : (xs : List (Bor (List ℕ))) (rest : List ℕ) → rest ≡ [] → texts_of xs ++ lines_of rest ≡ texts_of xs
+unfolding lines_from
+lines_end xs rest e = ap (λ r. texts_of xs ++ lines_of r) e ∙ append-nil (texts_of xs)
 
-pub line_more : (n m : ℕ) (xs ys : List (Bor (List ℕ))) (line : Bor (List ℕ)) (all behind : List (List ℕ)) → n ≡ m + 1 → ys ≡ xs ++ line ∷ []
-    → all ≡ line.now ∷ behind → texts_of ys ++ take m behind ≡ texts_of xs ++ take n all
-line_more zero m xs ys line all behind e f g = absurd (omega (arith, e))
-line_more (suc n) m xs ys line all behind e f g =
-    let same : n ≡ m = omega (arith, e) in
-    rw (f, g, texts-append, same, append_assoc) refl
+-- one line more
+pub line_more : (xs ys : List (Bor (List ℕ))) (line : Bor (List ℕ)) (all behind : List (List ℕ)) → ys ≡ xs ++ line ∷ []
+    → all ≡ line.now ∷ behind → texts_of ys ++ behind ≡ texts_of xs ++ all
+line_more xs ys line all behind f g = rw (f, g, texts-append, append_assoc) refl
 
 with_one : (name : Option (List ℕ)) (number : ℕ) (names : List (List ℕ × ℕ)) → with_name name number [] ++ names ≡ with_name name number names
 with_one None number names = refl

@@ -1,6 +1,6 @@
 //! The lines of a source that are read, and the names that they begin with.
 
-ghost use Rattle.std.specs.Prelude.{◌≡◌, ◌++◌, [], IfOk, OnOk, map, take};
+ghost use Rattle.std.specs.Prelude.{◌≡◌, ◌++◌, [], IfOk, OnOk, map};
 ghost use Rattle.std.specs.Option.{option_map};
 ghost use Rattle.model.specs.TextLines.{lines_of};
 ghost use Rattle.notes.specs.Lines.{defines, line_of, name_of, name_view, names_of};
@@ -17,33 +17,20 @@ pub struct Name<'a> {
     pub line: u32,
 }
 
-/// Returns the first lines of a text, so many at most.
-pub fn lines_of<'a>(
-    alloc: Global,
-    source: &'a [u8],
-    most: usize,
-) -> Result<Vec<&'a [u8]>, AllocError>
-    ensures { IfOk result (λ lines. texts_of lines.items ≡ take most (lines_of source.now)) }
+/// Returns the lines of a source, in their order.
+///
+/// Errors: `AllocError` if an allocation fails.
+pub fn every_line<'a>(alloc: Global, source: &'a [u8]) -> Result<Vec<&'a [u8]>, AllocError>
+    ensures { IfOk result (λ lines. texts_of lines.items ≡ lines_of source.now) }
 {
     let mut lines = Vec::new(alloc);
     let mut rest = source;
-    for _ in 0..most {
-        if rest.is_empty() {
-            return Ok(lines);
-        }
+    while !rest.is_empty() {
         let (line, behind) = next_line(rest);
         lines.push(line)?;
         rest = behind;
     }
     Ok(lines)
-}
-
-/// Returns all lines of a source.
-#[tactic(auto, using(crate::proofs::EveryLine::every_line))]
-pub fn every_line<'a>(alloc: Global, source: &'a [u8]) -> Result<Vec<&'a [u8]>, AllocError>
-    ensures { IfOk result (λ lines. texts_of lines.items ≡ lines_of source.now) }
-{
-    lines_of(alloc, source, source.len())
 }
 
 /// Returns the line of this number, counted from 1, if there is one.
