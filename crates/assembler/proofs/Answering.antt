@@ -11,7 +11,7 @@ use Rattle.model.specs.Names.{number_in}
 use Rattle.model.specs.Source.{Denotes, HasFault, OneAssignment, first_context, read_lines}
 use Rattle.model.specs.declared.source_fault.AsmFault.{AsmFault}
 use Rattle.law_sources.specs.Judging.{DenotedIsJudged, FaultIsJudged, Judgement, JudgedIsMeant, Says, judgement, judgement_as, ◌>>=◌}
-use Rattle.assembler.specs.Assembly.{AnswersSource, AssemblyView, IsImageOrMemory, Verdict, listing_of, out_of_memory, verdict_view, verdict, verdict_of}
+use Rattle.assembler.specs.Assembly.{AnswersSource, AssemblyView, IsAssembled, IsImageOrMemory, Verdict, listing_of, out_of_memory, verdict_view, verdict, verdict_of}
 use Rattle.assembler.proofs.RowsRead.{rows_of_read}
 
 abbrev Cells : Type 0
@@ -75,6 +75,24 @@ names_from meant one m source (Ok a) h = λ placed all laid.
     let same : x.judgement.all ≡ all = (one (read_lines m.profile source) (first_context m.profile) x.judgement.placed placed x.judgement.all all x.laid laid).1 in
     sym (ap (λ (v : Verdict). v.names) x.shown) ∙ ap (λ (f : Context). f.names) same
 names_from meant one m source (Err f) h = tt
+
+record Laid (m : Map) (a : AssemblyView) (source : List ℕ) : Type 0 where
+  denotes : Denotes m source a.image
+  names : a.names ≡ denotes.all.names
+  places : a.places ≡ extents_of denotes.placed
+
+assembled_by : (m : Map) (source : List ℕ) (a : AssemblyView) → a.source ≡ source → Laid m a source → IsAssembled m a
+assembled_by m source a kept laid =
+    let of_its_source = subst (Laid m a) (sym kept) laid in
+    record { denotes = of_its_source.denotes; names = of_its_source.names; places = of_its_source.places }
+
+pub assembled_from : JudgedIsMeant → OneAssignment → (m : Map) (source : List ℕ) (r : Given) → AnswersSource verdict_view r (verdict m source) → IfOk r (λ a. a.source ≡ source) → IfOk r (IsAssembled m)
+assembled_from meant one m source (Ok a) h kept =
+    let d = denoted_from meant m source (Ok a) h in
+    let names = names_from meant one m source (Ok a) h d.placed d.all d.laid in
+    let places = places_from meant one m source (Ok a) h d.placed d.all d.laid in
+    assembled_by m source a kept (record { denotes = d; names = names; places = places })
+assembled_from meant one m source (Err f) h kept = tt
 
 pub only_from : DenotedIsJudged → (m : Map) (source : List ℕ) (r : Given) → AnswersSource verdict_view r (verdict m source) → (image : Cells) → Denotes m source image → IsImageOrMemory r image
 only_from denoted m source (Ok a) h image d =

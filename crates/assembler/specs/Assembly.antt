@@ -6,6 +6,7 @@ use Rattle.model.specs.Layout.{extents_of}
 use Rattle.model.specs.TextLines.{lines_of}
 use Rattle.model.specs.Listing.{listing_text, address_and_bytes}
 use Rattle.law_sources.specs.Judging.{Judgement, judgement, ◌>>=◌}
+use Rattle.model.specs.Source.{Denotes}
 use Rattle.model.specs.State.{Map}
 use Rattle.model.specs.declared.source_fault.AsmFault.{AsmFault}
 
@@ -17,6 +18,13 @@ pub record AssemblyView : Type 0 where
   pub source : List ℕ
   pub places : List (ℕ × ℕ)
   pub names : Definitions
+
+-- An assembly is that of its source: the source denotes the image, and the names and the places of
+-- the lines are those of its layout.
+pub record IsAssembled (bus_map : Map) (a : AssemblyView) : Type 0 where
+  pub denotes : Denotes bus_map a.source a.image
+  pub names : a.names ≡ denotes.all.names
+  pub places : a.places ≡ extents_of denotes.placed
 
 -- What of it the source decides.
 pub record Verdict : Type 0 where

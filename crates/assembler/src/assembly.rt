@@ -2,7 +2,7 @@
 
 ghost use Rattle.std.specs.Prelude.{◌≡◌, ◌<◌, ◌⊎◌, ℕ, List, Option, Err, IfOk, IfErr, false, length};
 ghost use Rattle.std.specs.Prelude.{slice_get};
-ghost use Rattle.assembler.specs.Assembly.{AnswersSource, IsImageOrMemory, listing_of};
+ghost use Rattle.assembler.specs.Assembly.{AnswersSource, IsAssembled, IsImageOrMemory, listing_of};
 ghost use Rattle.assembler.specs.Assembly.{out_of_memory, verdict_view, verdict};
 ghost use Rattle.model.specs.Layout.{Context, IsLaidOut, PlacedLine, extents_of};
 ghost use Rattle.model.specs.Listing.{IsListing};
@@ -149,6 +149,8 @@ pub fn assemble(alloc: Global, source: &[u8], map: &MapSpec) -> Result<Assembly,
     ensures names { IfOk result
         (λ a. (placed : List PlacedLine) (all : Context) → IsLaidOut (first_context map.now.profile)
         (read_lines map.now.profile source.now) placed all → a.names ≡ all.names) }
+    // All of these are one assembly of the source that is kept.
+    ensures assembled { IfOk result (IsAssembled map.now) }
     // The listing of these is that of the source.
     ensures listed { IfOk result (λ a. IsListing map.now source.now (listing_of a)) }
 {

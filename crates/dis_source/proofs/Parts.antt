@@ -1,10 +1,10 @@
 -- A source of a part is one of what an image has between two addresses, with marks and names.
-use Rattle.std.proofs.Common.{◌≡◌, ℕ, ◌<◌, ◌||◌, Bool, List, [], ◌∷◌, length, Option, Some, None, Result, Ok, Err, false, true, is_some, subst, sym, arith}
+use Rattle.std.proofs.Common.{◌≡◌, ℕ, ◌<◌, ◌||◌, Bool, List, [], ◌∷◌, length, Option, Some, None, Result, Ok, Err, false, true, is_some, refl, subst, sym, arith}
 use Rattle.std.specs.Prelude.{IfOk}
+use Rattle.assembler.specs.Assembly.{AssemblyView, IsAssembled}
 use Rattle.model.specs.Image.{cell_at}
-use Rattle.model.specs.Layout.{Context, IsLaidOut, PlacedLine}
 use Rattle.model.specs.Names.{Definitions}
-use Rattle.model.specs.Source.{Denotes, first_context, read_lines}
+use Rattle.model.specs.Source.{Denotes}
 use Rattle.model.specs.State.{Map, has_port_byte}
 use Rattle.model.specs.declared.instruction.Profile.{Profile}
 use Rattle.reached.specs.Reached.{AreFollowed, vectors}
@@ -31,12 +31,8 @@ pub from_starts : (profile : Profile) (part : List (Option ℕ)) (marks : List M
 from_starts profile part marks [] now some f = absurd (omega (arith, some))
 from_starts profile part marks (start ∷ starts) now some f = f
 
--- the names of an assembly are those of its source
-abbrev SaysNames : Map → List ℕ → Definitions → Type 0
-SaysNames bus_map source names = (placed : List PlacedLine) (all : Context) → IsLaidOut (first_context bus_map.profile) (read_lines bus_map.profile source) placed all → names ≡ all.names
-
-pub are_named : (profile : Profile) (bus_map : Map) (source : List ℕ) (image : List (Option ℕ)) (names : Definitions) → bus_map ≡ names_map profile → Denotes bus_map source image → SaysNames bus_map source names → AreNames profile names
-are_named profile bus_map source image names is denotes says =
-    let d = subst (λ m. Denotes m source image) is denotes in
-    let n = subst (λ m. SaysNames m source names) is says in
-    record { source = source; image = image; denotes = d; same = n d.placed d.all d.laid }
+-- the names of an assembly on the map of names
+pub are_named : (profile : Profile) (bus_map : Map) (a : AssemblyView) → bus_map ≡ names_map profile → IsAssembled bus_map a → AreNames profile a.names
+are_named profile bus_map a is assembled =
+    let A : Map → Type 0 = λ m. IsAssembled m a in
+    (a, subst A is assembled, refl)

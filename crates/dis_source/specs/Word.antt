@@ -1,12 +1,13 @@
 -- What `dis --source` has done. Source: mos65. No clause can say what a file has.
 use Rattle.std.specs.Prelude.{◌≡◌, ⊤, ℕ, Bool, List, Option, Some, None}
+use Rattle.assembler.specs.Assembly.{AssemblyView, IsAssembled}
 use Rattle.clap.specs.Words.{Text}
 use Rattle.dis_source.specs.Asked.{SourceAsked}
 use Rattle.dis_source.specs.Written.{IsSourceOfPart}
 use Rattle.dis_source.specs.declared.refusal.Refusal.{Refusal}
 use Rattle.dis_source.specs.declared.refusal.Refusal.TheVariants.{Words, Tape, Symbols, OutOfMemory, Read, Write}
 use Rattle.model.specs.Names.{Definitions}
-use Rattle.model.specs.Source.{Denotes, HasFault}
+use Rattle.model.specs.Source.{HasFault}
 use Rattle.model.specs.State.{Map}
 use Rattle.model.specs.TapePieces.{IsReadInPieces, IsRefusedInPieces}
 use Rattle.model.specs.declared.source_fault.AsmFault.{AsmFault}
@@ -22,11 +23,8 @@ abbrev pub names_map : Profile → Map
 names_map profile = record { profile = profile; rom = None; port = 61440 }
 
 -- Names that some source defines.
-pub record AreNames (profile : Profile) (names : Definitions) : Type 0 where
-  pub source : List ℕ
-  pub image : List (Option ℕ)
-  pub denotes : Denotes (names_map profile) source image
-  pub same : names ≡ denotes.all.names
+abbrev pub AreNames : Profile → Definitions → Type 0
+AreNames profile names = (a : AssemblyView) × IsAssembled (names_map profile) a × (names ≡ a.names)
 
 -- There are names where a source of names is asked for.
 abbrev pub AreGiven : Option Text → Profile → Option Definitions → Type 0

@@ -4,5 +4,6 @@ pub mod Loads
 pub mod Place
 pub mod Refused
 pub mod Statuses
+pub mod Told
 pub mod Values
 pub mod Views

@@ -1,12 +1,11 @@
 -- Which image and assembly a file is loaded with, and why it is not loaded. No clause can say
 -- whether memory is there, nor what is in a file. Source: mos65.
 use Rattle.std.specs.Prelude.{◌≡◌, ◌⊎◌, ⊤, ℕ, true, false, Bool, List, Option, None, Some}
-use Rattle.assembler.specs.Assembly.{AssemblyView}
+use Rattle.assembler.specs.Assembly.{AssemblyView, IsAssembled}
 use Rattle.loading.specs.Asked.{FileAsked, map_of}
 use Rattle.loading.specs.declared.loaded.LoadFault.{LoadFault}
 use Rattle.loading.specs.declared.loaded.LoadFault.TheVariants.{LooksLikeTape, Refused}
-use Rattle.model.specs.Layout.{extents_of}
-use Rattle.model.specs.Source.{Denotes, HasFault}
+use Rattle.model.specs.Source.{HasFault}
 use Rattle.model.specs.State.{Map, has_port_byte, is_map}
 use Rattle.model.specs.TapePieces.{IsReadInPieces, IsRefusedInPieces}
 use Rattle.model.specs.declared.bus_fault.BusFault.TheVariants.{BadMap}
@@ -58,13 +57,6 @@ EndsOnMap bus_map (Refused fault) = IsBadMap bus_map fault
 -- Why a file is not loaded.
 abbrev pub EndsLoad : FileAsked → LoadFault → Type 0
 EndsLoad asked fault = EndsOnMap (map_of asked) fault ⊎ EndsFile asked.is_tape (map_of asked) fault
-
--- A source was assembled: it denotes the image, and the names and the places of the lines are those
--- of the source.
-pub record IsAssembled (bus_map : Map) (a : AssemblyView) : Type 0 where
-  pub denotes : Denotes bus_map a.source a.image
-  pub names : a.names ≡ denotes.all.names
-  pub places : a.places ≡ extents_of denotes.placed
 
 -- Some tape denotes an image, which has no assembly; or it is that of some source's assembly.
 abbrev pub IsImageOf : Bool → Map → List (Option ℕ) → Option AssemblyView → Type 0

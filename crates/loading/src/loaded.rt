@@ -2,17 +2,20 @@
 
 ghost use Rattle.std.specs.Prelude.{◌≡◌, ◌≤◌, ◌⊎◌, ℕ, List, Option, Err, IfErr, IfOk, Some, false};
 ghost use Rattle.std.specs.Prelude.{true};
+ghost use Rattle.assembler.specs.Assembly.{IsAssembled};
 ghost use Rattle.engine.specs.Refusals.{of_session, of_source, of_tape_read};
 ghost use Rattle.loading.specs.Asked.{map_of};
 ghost use Rattle.loading.specs.Loads.{EndsFile, EndsLoad, EndsNames, EndsSource};
-ghost use Rattle.loading.specs.Loads.{IsAssembled, IsBadMap, IsImageOf, IsLoaded, IsUnread};
+ghost use Rattle.loading.specs.Loads.{IsBadMap, IsImageOf, IsLoaded, IsUnread};
 ghost use Rattle.loading.specs.Statuses.{status_of_load};
+ghost use Rattle.loading.specs.Told.{load_line};
 ghost use Rattle.loading.specs.Views.{file_view};
 ghost use Rattle.loading.specs.declared.loaded.LoadFault.TheVariants.{Refused};
 ghost use Rattle.model.specs.Event.{start};
 ghost use Rattle.model.specs.Session.{new_session};
 ghost use Rattle.model.specs.State.{has_port_byte, is_map};
 ghost use Rattle.model.specs.TapePieces.{IsReadInPieces};
+ghost use Rattle.model.specs.Writers.{AppendsFront};
 ghost use Rattle.model.specs.declared.bus_fault.BusFault.TheVariants.{BadMap};
 ghost use Rattle.program.specs.Refusals.{of_engine};
 
@@ -23,7 +26,7 @@ use debugger::Session;
 use engine::EngineFault;
 use model::{AsmFault, Profile, SessionFault};
 use papertape::{TapeReadFault, read_tape_from};
-use program::{Refusal, refuse};
+use program::{Refusal, put_three, refuse};
 use std::alloc::Global;
 use std::fs::File;
 use std::io;
@@ -62,12 +65,16 @@ impl From<Refusal> for LoadFault {
 impl LoadFault {
     /// Writes why the file was not loaded, and returns the exit status, even if the line cannot be
     /// written. It is 2 for a tape that is given as a source.
+    #[tactic(auto, unfolding(crate::specs::Told::load_line))]
     pub fn tell<E: Write>(self, file: &str, errors: &mut E) -> u8
-        ensures { result ≡ status_of_load self }
+        ensures status { result ≡ status_of_load self }
+        ensures told { AppendsFront (E.contents errors.old) (E.contents errors.new)
+            (load_line self file.now) }
     {
         match self {
             LoadFault::LooksLikeTape => {
-                let _ = writeln!(errors, "mos65: {file} looks like a tape: use --tape");
+                let end = b" looks like a tape: use --tape\n";
+                put_three(b"mos65: ", file.as_bytes(), end, errors);
                 2
             }
             LoadFault::Refused(refusal) => refuse(refusal, errors),

@@ -1,8 +1,8 @@
 -- How a session begins.
 use Rattle.std.proofs.Common.{◌≡◌, ℕ, List, Option, Some, option_map, subst, sym, Result, Ok, Err, IfOk, Bor}
-use Rattle.assembler.specs.Assembly.{AssemblyView}
+use Rattle.assembler.specs.Assembly.{AssemblyView, IsAssembled}
 use Rattle.loading.specs.Asked.{FileAsked, map_of}
-use Rattle.loading.specs.Loads.{IsAssembled, IsLoaded}
+use Rattle.loading.specs.Loads.{IsLoaded}
 use Rattle.loading.specs.declared.loaded.LoadFault.{LoadFault}
 use Rattle.model.specs.Event.{start}
 use Rattle.model.specs.Session.{Session, new_session}

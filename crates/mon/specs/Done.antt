@@ -1,10 +1,10 @@
 -- What the word `mon` did, by its exit status. Source: mos65.
 use Rattle.std.specs.Prelude.{◌≡◌, ◌⊎◌, ⊤, ℕ, Bool, true, if◌then◌else◌, List, [], ◌++◌, Option, Some, None, codes}
 use Rattle.std.specs.Io.KnownBytes.{Appends}
-use Rattle.assembler.specs.Assembly.{AssemblyView}
+use Rattle.assembler.specs.Assembly.{AssemblyView, IsAssembled}
 use Rattle.clap.specs.Words.{Text}
 use Rattle.loading.specs.Asked.{FileAsked, map_of}
-use Rattle.loading.specs.Loads.{EndsLoad, EndsNames, IsAssembled, IsLoaded}
+use Rattle.loading.specs.Loads.{EndsLoad, EndsNames, IsLoaded}
 use Rattle.loading.specs.Statuses.{status_of_load}
 use Rattle.loading.specs.declared.loaded.LoadFault.{LoadFault}
 use Rattle.loading.specs.declared.loaded.LoadFault.TheVariants.{LooksLikeTape, Refused}

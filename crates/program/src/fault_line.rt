@@ -65,14 +65,37 @@ fn name_text(refusal: Refusal) -> Text
     text
 }
 
+/// Writes a line of two parts, or a beginning of it if a write fails.
+pub fn put_two<E: Write>(first: &[u8], second: &[u8], errors: &mut E)
+    ensures { AppendsFront (E.contents errors.old) (E.contents errors.new)
+        (first.now ++ second.now) }
+{
+    match put(errors, first) {
+        Ok(()) => {
+            let _ = put(errors, second);
+        }
+        Err(_) => {}
+    }
+}
+
+/// Writes a line of three parts, or a beginning of it if a write fails.
+pub fn put_three<E: Write>(first: &[u8], second: &[u8], third: &[u8], errors: &mut E)
+    ensures { AppendsFront (E.contents errors.old) (E.contents errors.new)
+        (first.now ++ second.now ++ third.now) }
+{
+    match put(errors, first) {
+        Ok(()) => put_two(second, third, errors),
+        Err(_) => {}
+    }
+}
+
 /// Writes the fault line of a refusal, or a beginning of it if a write fails.
 pub fn put_fault_line<E: Write>(refusal: Refusal, errors: &mut E)
     ensures { AppendsFront (E.contents errors.old) (E.contents errors.new) (fault_line refusal) }
 {
-    match put(errors, place_text(refusal).as_slice()) {
-        Ok(()) => {
-            let _ = put(errors, name_text(refusal).as_slice());
-        }
-        Err(_) => {}
-    }
+    put_two(
+        place_text(refusal).as_slice(),
+        name_text(refusal).as_slice(),
+        errors,
+    );
 }

@@ -1,7 +1,7 @@
 //! What a word that runs a program needs besides the run: the program at its start, a place that a
 //! word names, and what a stream that failed means.
 
-ghost use Rattle.std.specs.Prelude.{◌≡◌, ℕ, List, [], Option, Err, IfErr, IfOk, OnOk, false};
+ghost use Rattle.std.specs.Prelude.{◌≡◌, ℕ, List, [], Option, Err, IfErr, IfOk, OnErr, OnOk, false};
 ghost use Rattle.std.specs.Prelude.{option_map};
 ghost use Rattle.loading.specs.Asked.{map_of};
 ghost use Rattle.loading.specs.Loads.{EndsLoad, IsLoaded};
@@ -11,13 +11,15 @@ ghost use Rattle.loading.specs.declared.loaded.LoadFault.TheVariants.{Refused};
 ghost use Rattle.model.specs.Event.{start};
 ghost use Rattle.model.specs.Session.{new_session};
 ghost use Rattle.model.specs.State.{input_waits, is_map};
+ghost use Rattle.model.specs.Writers.{AppendsFront};
 ghost use Rattle.model.specs.declared.bus_fault.BusFault.TheVariants.{BadMap};
 ghost use Rattle.running.specs.Places.{place_asked};
 ghost use Rattle.running.specs.Statuses.{refusal_of};
+ghost use Rattle.running.specs.Told.{unplaced_line};
 
 use console::PlayFault;
 use loading::{FileWords, LoadFault, Loaded, load, place_of};
-use program::Refusal;
+use program::{Refusal, put_three};
 use std::io::Write;
 use std::rt::Files;
 
@@ -60,16 +62,16 @@ pub fn place_named<E: Write>(
     ensures place { result
         ≡ place_asked (names_of loaded.now.assembly) (option_map (λ w. w.now) word.entry) }
     ensures quiet { OnOk result (errors.new ≡ errors.old) }
+    ensures told { OnErr result (AppendsFront (E.contents errors.old) (E.contents errors.new)
+        (unplaced_line (option_map (λ w. w.now) word.entry))) }
 {
     match word {
         None => Ok(None),
         Some(word) => match place_of(loaded.assembly.as_ref(), word.as_bytes()) {
             Some(address) => Ok(Some(address)),
             None => {
-                let _ = writeln!(
-                    errors,
-                    "mos65: {word} is no name of the source and no address"
-                );
+                let end = b" is no name of the source and no address\n";
+                put_three(b"mos65: ", word.as_bytes(), end, errors);
                 Err(2)
             }
         },

@@ -4,12 +4,12 @@ use Rattle.model.specs.State.{Map, is_map}
 use Rattle.model.specs.TextLines.{lines_of}
 use Rattle.row_reader.specs.HeadText.{SeenHead, head_from}
 use Rattle.row_reader.specs.declared.fault.TextFault.{TextFault}
-use Rattle.testing.specs.Ends.{EndsRows, EndsSource, EndsTest, HasNames, HeadedFile, IsUntested}
+use Rattle.testing.specs.Ends.{EndsRows, EndsSource, EndsTest, HeadedFile, IsUntested}
 use Rattle.testing.specs.Statuses.{status_of}
-use Rattle.testing.specs.Tested.{IsAssembled, map_of}
+use Rattle.testing.specs.Tested.{map_of}
 use Rattle.testing.specs.declared.fault.TestFault.{TestFault}
 use Rattle.testing.specs.declared.fault.TestFault.TheVariants.{Rows, Source, TooLarge, Map as NoMap, OutOfMemory, Read}
-use Rattle.assembler.specs.Assembly.{AssemblyView}
+use Rattle.assembler.specs.Assembly.{AssemblyView, IsAssembled}
 
 pub head_ends : (text : List ℕ) (fault : TextFault) → head_from 1 (lines_of text) ≡ Err fault → EndsTest (Rows fault)
 head_ends text fault refused = inl (text, refused)
@@ -38,11 +38,11 @@ source_ends text head next lines bus_map Read headed is ends = tt
 pub rows_end : (text : List ℕ) (head : SeenHead) (next : ℕ) (lines : List (List ℕ)) (bus_map : Map) (assembly : AssemblyView) (fault : TestFault)
     → head_from 1 (lines_of text) ≡ Ok (head, next, lines) → bus_map ≡ map_of head → IsAssembled bus_map assembly → EndsRows assembly.names next lines fault → EndsTest fault
 rows_end text head next lines bus_map assembly (Rows fault) headed is a ends =
-    let N : Map → Type 0 = λ m. HasNames m assembly.names in
+    let A : Map → Type 0 = λ m. IsAssembled m assembly in
     inr (record {
       file = headed_file text head next lines headed;
-      names = assembly.names;
-      named = subst N is (record { source = a.source; image = assembly.image; denoted = a.denoted; named = a.named });
+      assembly = assembly;
+      assembled = subst A is a;
       refused = ends;
     })
 rows_end text head next lines bus_map assembly (Source fault) headed is a ends = absurd ends

@@ -2,7 +2,7 @@
 use Rattle.std.proofs.Common.{◌≡◌, ℕ, ◌+◌, Bool, true, List, [], ◌∷◌, map, Option, refl, sym, ap, ◌∙◌, subst, arith}
 use Rattle.std.specs.Prelude.{◌&&◌, Ok, is_none}
 use Rattle.std.specs.List.{list_all}
-use Rattle.model.specs.Source.{Denotes}
+use Rattle.assembler.specs.Assembly.{IsAssembled}
 use Rattle.model.specs.State.{Map}
 use Rattle.model.specs.TextLines.{lines_of}
 use Rattle.row_reader.specs.HeadText.{SeenHead, head_from}
@@ -10,7 +10,7 @@ use Rattle.row_reader.specs.RowText.{SeenRow, numbered_view, rows_from}
 use Rattle.row_runner.specs.Passes.{Pair}
 use Rattle.row_runner.specs.Start.{fresh}
 use Rattle.row_verdicts.specs.Verdicts.{failures}
-use Rattle.testing.specs.Tested.{AreNamesOf, AreTested, IsAssembled, IsPrepared, IsTested, map_of, passes}
+use Rattle.testing.specs.Tested.{AreTested, IsPrepared, IsTested, map_of, passes}
 use Rattle.testing.specs.declared.prepared.Prepared.{Prepared}
 
 pub ready : (prepared : Prepared) (text : List ℕ) (head : SeenHead) (next : ℕ) (lines : List (List ℕ))
@@ -19,8 +19,7 @@ pub ready : (prepared : Prepared) (text : List ℕ) (head : SeenHead) (next : �
     → rows_from prepared.assembly.names next lines ≡ Ok (map numbered_view prepared.rows.items)
     → IsPrepared prepared
 ready prepared text head next lines headed mapped assembled read =
-    let D : Map → Type 0 = λ m. Denotes m assembled.source prepared.assembly.image in
-    let N : Map → Type 0 = λ m. AreNamesOf m assembled.source prepared.assembly.names in
+    let A : Map → Type 0 = λ m. IsAssembled m prepared.assembly in
     record {
       file = record {
         text = text;
@@ -28,11 +27,8 @@ ready prepared text head next lines headed mapped assembled read =
         next = next;
         lines = lines;
         headed = headed;
-        source = assembled.source;
-        image = prepared.assembly.image;
-        denoted = subst D mapped assembled.denoted;
-        names = prepared.assembly.names;
-        named = subst N mapped assembled.named;
+        assembly = prepared.assembly;
+        assembled = subst A mapped assembled;
         rows = map numbered_view prepared.rows.items;
         read = read;
       };
@@ -52,7 +48,7 @@ tested prepared found all p is same =
     let file = p.file in
     record {
       file = file;
-      all_is = ap (λ (m : Map). all_of m file.image file.rows) p.map_is
+      all_is = ap (λ (m : Map). all_of m file.assembly.image file.rows) p.map_is
           ∙ (ap (λ (i : List (Option ℕ)). all_of prepared.map i file.rows) p.image_is
           ∙ (ap (λ (r : List (ℕ × SeenRow)). all_of prepared.map prepared.assembly.image r) p.rows_are
           ∙ (ap (list_all is_none) (sym is) ∙ sym same)));

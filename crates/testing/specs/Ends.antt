@@ -1,15 +1,16 @@
 -- Why a file of rows cannot be tested. No clause can say whether memory is there, nor what is in a
 -- file. Source: mos65.
 use Rattle.std.specs.Prelude.{◌≡◌, ◌⊎◌, ⊤, ℕ, false, List, Option, Ok, Err}
+use Rattle.assembler.specs.Assembly.{AssemblyView, IsAssembled}
 use Rattle.model.specs.Names.{Definitions}
-use Rattle.model.specs.Source.{Denotes, HasFault}
+use Rattle.model.specs.Source.{HasFault}
 use Rattle.model.specs.State.{Map, is_map}
 use Rattle.model.specs.TextLines.{lines_of}
 use Rattle.row_reader.specs.HeadText.{SeenHead, head_from}
 use Rattle.row_reader.specs.RowText.{rows_from}
 use Rattle.row_reader.specs.declared.fault.TextFault.{TextFault}
 use Rattle.testing.specs.Statuses.{status_of}
-use Rattle.testing.specs.Tested.{AreNamesOf, map_of}
+use Rattle.testing.specs.Tested.{map_of}
 use Rattle.testing.specs.declared.fault.FileFault.{FileFault}
 use Rattle.testing.specs.declared.fault.FileFault.TheVariants.{InRows, InSource}
 use Rattle.testing.specs.declared.fault.TestFault.{TestFault}
@@ -23,19 +24,12 @@ pub record HeadedFile : Type 0 where
   pub lines : List (List ℕ)
   pub headed : head_from 1 (lines_of text) ≡ Ok (head, next, lines)
 
--- Some source denotes an image on a map, and has these names.
-pub record HasNames (bus_map : Map) (names : Definitions) : Type 0 where
-  pub source : List ℕ
-  pub image : List (Option ℕ)
-  pub denoted : Denotes bus_map source image
-  pub named : AreNamesOf bus_map source names
-
 -- The rows of some file have this fault, under the names of some source on its map.
 pub record IsRowFault (fault : TextFault) : Type 0 where
   pub file : HeadedFile
-  pub names : Definitions
-  pub named : HasNames (map_of file.head) names
-  pub refused : rows_from names file.next file.lines ≡ Err fault
+  pub assembly : AssemblyView
+  pub assembled : IsAssembled (map_of file.head) assembly
+  pub refused : rows_from assembly.names file.next file.lines ≡ Err fault
 
 -- Why a file cannot be tested: its head or a row has this fault, or its source, on the map of its
 -- head; or its head asks for a map that is none.

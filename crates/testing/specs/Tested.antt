@@ -1,10 +1,7 @@
 -- What a file of rows is that was tested, and whether its rows pass. Source: mos65.
 use Rattle.std.specs.Prelude.{◌≡◌, ℕ, Bool, List, Option, Ok, length, map}
 use Rattle.std.specs.List.{list_all}
-use Rattle.assembler.specs.Assembly.{AssemblyView}
-use Rattle.model.specs.Layout.{Context, PlacedLine, IsLaidOut}
-use Rattle.model.specs.Names.{Definitions}
-use Rattle.model.specs.Source.{Denotes, first_context, read_lines}
+use Rattle.assembler.specs.Assembly.{AssemblyView, IsAssembled}
 use Rattle.model.specs.State.{Map}
 use Rattle.model.specs.TextLines.{lines_of}
 use Rattle.row_reader.specs.HeadText.{SeenHead, head_from}
@@ -17,43 +14,28 @@ use Rattle.testing.specs.declared.prepared.Prepared.{Prepared}
 abbrev pub map_of : SeenHead → Map
 map_of head = record { profile = head.profile; rom = head.rom; port = head.port }
 
--- The names of a source with the numbers that its layout gives them.
-abbrev pub AreNamesOf : Map → List ℕ → Definitions → Type 0
-AreNamesOf bus_map source names = (placed : List PlacedLine) (all : Context)
-    → IsLaidOut (first_context bus_map.profile) (read_lines bus_map.profile source) placed all
-    → names ≡ all.names
-
--- An assembly has the image that some source denotes, and the names of that source.
-pub record IsAssembled (bus_map : Map) (assembly : AssemblyView) : Type 0 where
-  pub source : List ℕ
-  pub denoted : Denotes bus_map source assembly.image
-  pub named : AreNamesOf bus_map source assembly.names
-
--- The text of a file, its head, its source and what that denotes, and its rows, which are read
--- under the source's names.
+-- The text of a file, its head, its source and what that is assembled to, and its rows, which are
+-- read under the source's names.
 pub record TestedFile : Type 0 where
   pub text : List ℕ
   pub head : SeenHead
   pub next : ℕ
   pub lines : List (List ℕ)
   pub headed : head_from 1 (lines_of text) ≡ Ok (head, next, lines)
-  pub source : List ℕ
-  pub image : List (Option ℕ)
-  pub denoted : Denotes (map_of head) source image
-  pub names : Definitions
-  pub named : AreNamesOf (map_of head) source names
+  pub assembly : AssemblyView
+  pub assembled : IsAssembled (map_of head) assembly
   pub rows : List (ℕ × SeenRow)
-  pub read : rows_from names next lines ≡ Ok rows
+  pub read : rows_from assembly.names next lines ≡ Ok rows
 
 -- All rows of a file pass from the start of its source's machine.
 abbrev pub passes : TestedFile → Bool
-passes file = all_pass (fresh (map_of file.head) file.image) file.rows
+passes file = all_pass (fresh (map_of file.head) file.assembly.image) file.rows
 
 -- What was prepared of a file is what the file says.
 pub record IsPrepared (prepared : Prepared) : Type 0 where
   pub file : TestedFile
   pub map_is : map_of file.head ≡ prepared.map
-  pub image_is : file.image ≡ prepared.assembly.image
+  pub image_is : file.assembly.image ≡ prepared.assembly.image
   pub rows_are : file.rows ≡ map numbered_view prepared.rows.items
 
 -- Some file was tested, and all of its rows pass, or not.

@@ -1,12 +1,13 @@
 //! A file of rows with its source, read.
 
 ghost use Rattle.std.specs.Prelude.{◌≡◌, ◌≤◌, ◌<◌, ◌+◌, IfErr, IfOk, Ok, false, length, map};
+ghost use Rattle.assembler.specs.Assembly.{IsAssembled};
 ghost use Rattle.model.specs.State.{is_map};
 ghost use Rattle.model.specs.TextLines.{lines_of};
 ghost use Rattle.row_reader.specs.HeadText.{head_from, head_view};
 ghost use Rattle.row_reader.specs.RowText.{numbered_view, rows_from};
 ghost use Rattle.testing.specs.Ends.{EndsRows, EndsSource, EndsTest, fault_in};
-ghost use Rattle.testing.specs.Tested.{IsAssembled, IsPrepared, map_of};
+ghost use Rattle.testing.specs.Tested.{IsPrepared, map_of};
 
 use crate::fault::{FileFault, TestFault};
 use crate::names::{read_most, read_rows_text, source_path};
