@@ -41,6 +41,8 @@ fn push_entry(text: &mut Vec<u8>, places: &Places, pc: u16) -> Result<(), AllocE
 
 impl Desk {
     /// Makes a desk for a session that holds so many events.
+    ///
+    /// Errors: `AllocError` if an allocation fails.
     pub fn new(
         alloc: Global,
         session: Session,
@@ -65,7 +67,9 @@ impl Desk {
         })
     }
 
-    /// Says something.
+    /// Appends words to the text.
+    ///
+    /// Errors: `AllocError` if an allocation fails.
     pub fn say(&mut self, words: &str) -> Result<(), AllocError>
         ensures shows { ShowsOnly self.old self.new }
         ensures text { OnOk result (self.new.text.items ≡ self.old.text.items ++ words.now) }
@@ -73,7 +77,9 @@ impl Desk {
         push_text(&mut self.text, words)
     }
 
-    /// Says a number of things, each of which has a name for one and for more.
+    /// Appends a number of things, which have a name for one and a name for more.
+    ///
+    /// Errors: `AllocError` if an allocation fails.
     pub fn count(&mut self, number: u64, one: &str, more: &str) -> Result<(), AllocError>
         ensures shows { ShowsOnly self.old self.new }
         ensures text { OnOk result (self.new.text.items ≡ self.old.text.items
@@ -83,7 +89,10 @@ impl Desk {
         self.say(if number == 1 { one } else { more })
     }
 
-    /// Shows the registers and what comes next.
+    /// Appends the registers and the instruction that comes next. With a count of cycles before, the
+    /// cycles since then are appended too.
+    ///
+    /// Errors: `AllocError` if an allocation fails.
     pub fn show(&mut self, cycles_before: Option<u64>) -> Result<(), AllocError>
         ensures shows { ShowsOnly self.old self.new }
         ensures text { OnOk result (self.new.text.items ≡ self.old.text.items
@@ -93,7 +102,9 @@ impl Desk {
         push_next(&mut self.text, &self.session, &self.places)
     }
 
-    /// Shows the instruction at an address, and returns how many bytes it has.
+    /// Appends the instruction at an address, and returns how many bytes it has, 1 to 3.
+    ///
+    /// Errors: `AllocError` if an allocation fails.
     pub fn show_row(&mut self, address: u16) -> Result<u8, AllocError>
         ensures shows { ShowsOnly self.old self.new }
         ensures text { OnOk result (self.new.text.items ≡ self.old.text.items
@@ -104,7 +115,9 @@ impl Desk {
         push_row(&mut self.text, &self.session, &self.places, address)
     }
 
-    /// Shows the instruction that comes next.
+    /// Appends the instruction that comes next.
+    ///
+    /// Errors: `AllocError` if an allocation fails.
     pub fn show_next(&mut self) -> Result<(), AllocError>
         ensures shows { ShowsOnly self.old self.new }
         ensures text { OnOk result (self.new.text.items ≡ self.old.text.items
@@ -116,7 +129,9 @@ impl Desk {
         Ok(())
     }
 
-    /// Says why an event was rejected.
+    /// Appends why an event was rejected.
+    ///
+    /// Errors: `AllocError` if an allocation fails.
     pub fn reject(&mut self, fault: EventFault) -> Result<(), AllocError>
         ensures shows { ShowsOnly self.old self.new }
         ensures text { OnOk result (self.new.text.items ≡ self.old.text.items
@@ -126,8 +141,10 @@ impl Desk {
         self.say("\n")
     }
 
-    /// Says that a step was the entry of an interrupt, in place of the row from `length` on, if it
-    /// was one.
+    /// Puts the entry of an interrupt in place of the text from the byte `length` on, if a step was
+    /// one. `stack` and `cycles` are the stack pointer and the cycle count before the step.
+    ///
+    /// Errors: `AllocError` if an allocation fails.
     pub fn tell_entry(&mut self, length: usize, stack: u8, cycles: u64) -> Result<(), AllocError>
         ensures shows { ShowsOnly self.old self.new }
         ensures text { OnOk result (self.new.text.items ≡ take length self.old.text.items
@@ -160,8 +177,10 @@ impl Desk {
         }
     }
 
-    /// Makes an event that is no step, and returns whether it was accepted. Otherwise it says why
-    /// not. Nothing is changed if memory runs out for that.
+    /// Makes an event that is no step, and returns whether it was accepted. If it was rejected, the
+    /// text says why, and nothing else has changed.
+    ///
+    /// Errors: `AllocError` if an allocation for that text fails.
     #[tactic(auto, unfolding(crate::specs::Texts::event_text))]
     pub fn happen(&mut self, event: Event) -> Result<bool, AllocError>
         ensures course { course_of self.new ≡ happened event (course_of self.old) }

@@ -9,23 +9,23 @@ use Rattle.mon_desk.specs.Served.{Course}
 use Rattle.mon_desk.specs.Texts.{shown_text}
 use Rattle.places.specs.Lines.{PlacesView}
 use Rattle.mon_past.specs.BackLines.{remade, undone}
-use Rattle.mon_past.specs.Texts.{events_text, is_at, one_remade_text, remade_text}
+use Rattle.mon_past.specs.Texts.{events_text, is_this, one_remade_text, remade_text}
 
 -- ---- breaks one by one
 
 here : (a : ℕ) (xs : List ℕ) (i : ℕ) → i < length xs → list_any (nat_eq a) (drop i xs)
-    ≡ (is_at a (slice_get xs i) || list_any (nat_eq a) (drop (suc i) xs))
+    ≡ (is_this a (slice_get xs i) || list_any (nat_eq a) (drop (suc i) xs))
 here a xs i h = ap (list_any (nat_eq a)) (drop-cons xs i 0 h)
-    ∙ ap (λ o. is_at a o || list_any (nat_eq a) (drop (suc i) xs)) (sym (slice_get-get_or xs i 0 h))
+    ∙ ap (λ o. is_this a o || list_any (nat_eq a) (drop (suc i) xs)) (sym (slice_get-get_or xs i 0 h))
 
 pub found : (a : ℕ) (xs : List ℕ) (i : ℕ) (b whole : Bool)
-    → whole ≡ list_any (nat_eq a) (drop i xs) → i < length xs → b ≡ is_at a (slice_get xs i)
+    → whole ≡ list_any (nat_eq a) (drop i xs) → i < length xs → b ≡ is_this a (slice_get xs i)
     → b ≡ true → true ≡ whole
 found a xs i b whole so_far h is met = sym (so_far ∙ here a xs i h
     ∙ ap (λ x. x || list_any (nat_eq a) (drop (suc i) xs)) (sym is ∙ met))
 
 pub not_here : (a : ℕ) (xs : List ℕ) (i : ℕ) (b whole : Bool)
-    → whole ≡ list_any (nat_eq a) (drop i xs) → i < length xs → b ≡ is_at a (slice_get xs i)
+    → whole ≡ list_any (nat_eq a) (drop i xs) → i < length xs → b ≡ is_this a (slice_get xs i)
     → b ≡ false → whole ≡ list_any (nat_eq a) (drop (i + 1) xs)
 not_here a xs i b whole so_far h is unmet = rw add-one (so_far ∙ here a xs i h
     ∙ ap (λ x. x || list_any (nat_eq a) (drop (suc i) xs)) (sym is ∙ unmet))

@@ -61,9 +61,9 @@ undo_text undoing names course = if length course.0.earlier == 0 then none_held
 -- ---- back to a stop
 
 -- Whether an address is this one, and whether the program counter is at a break.
-abbrev pub is_at : ℕ → Option ℕ → Bool
-is_at address None = false
-is_at address (Some at) = nat_eq address at
+abbrev pub is_this : ℕ → Option ℕ → Bool
+is_this address None = false
+is_this address (Some at) = nat_eq address at
 
 unfoldable pub is_at_break : Session → Bool
 is_at_break s = list_any (nat_eq s.current.regs.pc) s.breaks

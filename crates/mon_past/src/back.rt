@@ -5,7 +5,7 @@ ghost use Rattle.model.specs.Back.{back_of};
 ghost use Rattle.mon_desk.specs.Served.{KeepsStops, ShowsOnly, course_of};
 ghost use Rattle.mon_past.specs.BackLines.{undone, undone_by, undone_by_watches, undone_over};
 ghost use Rattle.mon_past.specs.BackLines.{undone_to_stop};
-ghost use Rattle.mon_past.specs.Texts.{at_break_text, back_text, is_at, is_at_break, only_text, over_text, stop_text, undo_text};
+ghost use Rattle.mon_past.specs.Texts.{at_break_text, back_text, is_this, is_at_break, only_text, over_text, stop_text, undo_text};
 ghost use Rattle.mon_past.specs.Texts.{undo_to_stop_text, undone_text, way_text};
 ghost use Rattle.mon_runs.specs.Back.{back_over};
 ghost use Rattle.mon_views.specs.Places.{place_text};
@@ -121,7 +121,7 @@ pub fn undo(desk: &mut Desk, undoing: Undoing) -> Result<(), AllocError>
 
 /// Returns whether a break of the session is at an address.
 fn is_break(desk: &Desk, index: u32, address: u16) -> bool
-    ensures { result ≡ is_at address (slice_get desk.now.session.breaks index) }
+    ensures { result ≡ is_this address (slice_get desk.now.session.breaks index) }
 {
     match desk.session.break_at(index) {
         Some(at) => at == address,

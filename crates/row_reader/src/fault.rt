@@ -26,7 +26,7 @@ pub enum RowFaultKind {
 
 impl RowFaultKind {
     /// Returns the words of the fault.
-    pub fn words(&self) -> &'static str
+    fn words(&self) -> &'static str
         ensures { result.now ≡ fault_words self.now }
     {
         match self {
