@@ -89,8 +89,8 @@ impl Desk {
         self.say(if number == 1 { one } else { more })
     }
 
-    /// Appends the registers and the instruction that comes next. With a count of cycles, the cycles
-    /// since then are appended too.
+    /// Appends the registers and the instruction that comes next. With a count of cycles before, it
+    /// also appends how many there were since.
     ///
     /// Errors: `AllocError` if an allocation fails.
     pub fn show(&mut self, cycles_before: Option<u64>) -> Result<(), AllocError>
