@@ -6,6 +6,6 @@ use Rattle.program.proofs.fault_line.put_fault_line.Goals as goal
 pub returns : goal.returns
 returns g c =
     let place = c.as_slice.ensures.value ∙ c.place_text.ensures in
-    let name = c.as_slice-name_text.ensures.value ∙ c.name_text.ensures in
+    let name = c.as_slice-2.ensures.value ∙ c.name_text.ensures in
     let written = rw (place, name) at c.put_two.ensures in
     subst (λ line. AppendsFront (g.E.Write.contents c.args.errors.now) (g.E.Write.contents c.put_two.new.errors) line) (sym (append_assoc (codes "mos65: " ++ place_part c.args.refusal) (name_part c.args.refusal) (10 ∷ []))) written
