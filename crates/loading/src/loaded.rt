@@ -8,7 +8,7 @@ ghost use Rattle.loading.specs.Asked.{map_of};
 ghost use Rattle.loading.specs.Loads.{EndsFile, EndsLoad, EndsNames, EndsSource};
 ghost use Rattle.loading.specs.Loads.{IsBadMap, IsImageOf, IsLoaded, IsUnread};
 ghost use Rattle.loading.specs.Statuses.{status_of_load};
-ghost use Rattle.loading.specs.Told.{load_line};
+ghost use Rattle.loading.specs.Told.{load_line, tape_line};
 ghost use Rattle.loading.specs.Views.{file_view};
 ghost use Rattle.loading.specs.declared.loaded.LoadFault.TheVariants.{Refused};
 ghost use Rattle.model.specs.Event.{start};
@@ -62,6 +62,15 @@ impl From<Refusal> for LoadFault {
     }
 }
 
+/// Writes that a file that is given as a source looks like a tape.
+fn tell_tape<E: Write>(file: &str, errors: &mut E)
+    ensures { AppendsFront (E.contents errors.old) (E.contents errors.new)
+        (tape_line file.now) }
+{
+    let end = b" looks like a tape: use --tape\n";
+    put_three(b"mos65: ", file.as_bytes(), end, errors);
+}
+
 impl LoadFault {
     /// Writes why the file was not loaded, and returns the exit status, even if the line cannot be
     /// written. It is 2 for a tape that is given as a source.
@@ -73,8 +82,7 @@ impl LoadFault {
     {
         match self {
             LoadFault::LooksLikeTape => {
-                let end = b" looks like a tape: use --tape\n";
-                put_three(b"mos65: ", file.as_bytes(), end, errors);
+                tell_tape(file, errors);
                 2
             }
             LoadFault::Refused(refusal) => refuse(refusal, errors),

@@ -81,7 +81,7 @@ pub fn put_two<E: Write>(first: &[u8], second: &[u8], errors: &mut E)
 /// Writes a line of three parts, or a beginning of it if a write fails.
 pub fn put_three<E: Write>(first: &[u8], second: &[u8], third: &[u8], errors: &mut E)
     ensures { AppendsFront (E.contents errors.old) (E.contents errors.new)
-        (first.now ++ second.now ++ third.now) }
+        (first.now ++ (second.now ++ third.now)) }
 {
     match put(errors, first) {
         Ok(()) => put_two(second, third, errors),

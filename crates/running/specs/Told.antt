@@ -20,23 +20,23 @@ stop_text pc = codes "mos65: stopped at " ++ hex_address pc
 unfoldable pub refused_line : EventFault → ℕ → List ℕ
 refused_line ConsoleFull pc
     = stop_text pc ++ codes ": the console is full, with 65536 bytes of output\n"
-refused_line (Undocumented opcode at) pc = stop_text at ++ codes ": " ++ hex_byte opcode
-    ++ codes " is no instruction of this processor\n"
-refused_line fault pc = stop_text pc ++ codes ": " ++ event_fault_text fault ++ codes "\n"
+refused_line (Undocumented opcode at) pc = stop_text at
+    ++ (codes ": " ++ hex_byte opcode ++ codes " is no instruction of this processor\n")
+refused_line fault pc = stop_text pc ++ (codes ": " ++ event_fault_text fault ++ codes "\n")
 
 -- Why a run did not come to its end.
 unfoldable pub ending_line : Ending → ℕ → ℕ → List ℕ
-ending_line Limit steps pc = stop_text pc ++ codes " after " ++ decimal steps ++ step_word steps
+ending_line Limit steps pc = stop_text pc ++ (codes " after " ++ decimal steps ++ step_word steps)
 ending_line (Refused fault) steps pc = refused_line fault pc
 ending_line ending steps pc = []
 
 -- How many cycles and steps a run took.
 abbrev pub cycles_line : ℕ → ℕ → List ℕ
 cycles_line cycles steps = codes "mos65: " ++ decimal cycles ++ codes " cycles, "
-    ++ decimal steps ++ step_word steps
+    ++ (decimal steps ++ step_word steps)
 
 -- A word that stands for no place.
 abbrev pub unplaced_line : Option Text → List ℕ
 unplaced_line None = []
-unplaced_line (Some word) = codes "mos65: " ++ word
-    ++ codes " is no name of the source and no address\n"
+unplaced_line (Some word) = codes "mos65: "
+    ++ (word ++ codes " is no name of the source and no address\n")

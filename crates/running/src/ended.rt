@@ -153,7 +153,6 @@ fn steps_text(steps: u64) -> Text
 }
 
 /// Writes the cycles and steps of a run, or a beginning of that line if a write fails.
-#[tactic(auto, using(std::proofs::Common::append_assoc))]
 pub fn tell_cycles<E: Write>(played: Played, session: &Session, errors: &mut E)
     ensures { AppendsFront (E.contents errors.old) (E.contents errors.new)
         (cycles_line session.now.current.cycles played.steps) }
