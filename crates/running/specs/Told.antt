@@ -36,7 +36,10 @@ cycles_line cycles steps = codes "mos65: " ++ decimal cycles ++ codes " cycles, 
     ++ (decimal steps ++ step_word steps)
 
 -- A word that stands for no place.
+abbrev pub no_place_line : List ℕ → List ℕ
+no_place_line word
+    = codes "mos65: " ++ (word ++ codes " is no name of the source and no address\n")
+
 abbrev pub unplaced_line : Option Text → List ℕ
 unplaced_line None = []
-unplaced_line (Some word) = codes "mos65: "
-    ++ (word ++ codes " is no name of the source and no address\n")
+unplaced_line (Some word) = no_place_line word

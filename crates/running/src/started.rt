@@ -15,7 +15,7 @@ ghost use Rattle.model.specs.Writers.{AppendsFront};
 ghost use Rattle.model.specs.declared.bus_fault.BusFault.TheVariants.{BadMap};
 ghost use Rattle.running.specs.Places.{place_asked};
 ghost use Rattle.running.specs.Statuses.{refusal_of};
-ghost use Rattle.running.specs.Told.{unplaced_line};
+ghost use Rattle.running.specs.Told.{no_place_line, unplaced_line};
 
 use console::PlayFault;
 use loading::{FileWords, LoadFault, Loaded, load, place_of};
@@ -48,6 +48,15 @@ pub fn load_at_start<H: Files + AllocGlobal>(
     }
 }
 
+/// Writes that a word stands for no place.
+fn tell_no_place<E: Write>(word: &str, errors: &mut E)
+    ensures { AppendsFront (E.contents errors.old) (E.contents errors.new)
+        (no_place_line word.now) }
+{
+    let end = b" is no name of the source and no address\n";
+    put_three(b"mos65: ", word.as_bytes(), end, errors);
+}
+
 /// Returns the address of the place that a word names, or `None` if there is no word.
 ///
 /// # Errors
@@ -70,8 +79,7 @@ pub fn place_named<E: Write>(
         Some(word) => match place_of(loaded.assembly.as_ref(), word.as_bytes()) {
             Some(address) => Ok(Some(address)),
             None => {
-                let end = b" is no name of the source and no address\n";
-                put_three(b"mos65: ", word.as_bytes(), end, errors);
+                tell_no_place(word, errors);
                 Err(2)
             }
         },
