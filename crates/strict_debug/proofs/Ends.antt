@@ -39,3 +39,7 @@ pub ended_of : (status result : ℕ) → (1 ≤ status → result ≡ status) �
 ended_of zero result failed four done = refl
 ended_of (suc n) result failed four (inl is) = absurd (omega (arith, failed (omega arith), is))
 ended_of (suc n) result failed four (inr is) = absurd (omega (arith, failed (omega arith), is, four))
+
+pub not_done : (status : ℕ) → status ≡ 3 → IsDone status → ⊥
+not_done status three (inl is) = omega (arith, three, is)
+not_done status three (inr is) = omega (arith, three, is)

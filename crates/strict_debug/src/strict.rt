@@ -9,7 +9,8 @@ ghost use Rattle.model.specs.Event.{start};
 ghost use Rattle.model.specs.Session.{new_session};
 ghost use Rattle.model.specs.State.{is_map};
 ghost use Rattle.model.specs.Transcript.{transcript};
-ghost use Rattle.program.specs.FaultLines.{IsTold};
+ghost use Rattle.program.specs.FaultLines.{IsTold, IsToldOfWords};
+ghost use Rattle.program.specs.Statuses.{IsStatusOf};
 ghost use Rattle.program.specs.Streams.{IsServed};
 ghost use Rattle.program.specs.declared.refusal.Refusal.{Refusal};
 ghost use Rattle.program_words.specs.Asked.{DebugAsked, asked, debug};
@@ -18,7 +19,8 @@ ghost use Rattle.program_words.specs.Refused.{IsTaken};
 ghost use Rattle.strict_debug.specs.Strict.{IsDone, IsStrictStatus, plain_words, strict_status};
 
 use crate::words::plain_words;
-use program::{Refusal, program, refuse};
+use program::{Refusal, program, refuse, refused_words};
+use program_words::{WordsFault, read_words};
 use reply_watch::Watch;
 use std::io::{Read, Write};
 use std::rt::Files;
@@ -30,6 +32,126 @@ fn status_of_replies(status: u8, has_fault: bool) -> u8
     ensures failed { 1 ≤ status → result ≡ status }
 {
     if status == 0 && has_fault { 5 } else { status }
+}
+
+/// Serves the session of words that fit, and returns the exit status and the writer of the replies.
+fn watched<H: Files + AllocGlobal, R: Read, O: Write, E: Write>(
+    rt: &H,
+    plain: &[&str],
+    input: &mut R,
+    output: O,
+    errors: &mut E,
+) -> (u8, O)
+    ensures status { result.0 ≤ 5 }
+    ensures quiet { IsDone result.0 → errors.new ≡ errors.old }
+    ensures told { 1 ≤ result.0 → result.0 ≤ 4
+        → IsTaken (map (λ s. s.now) plain.entry.now) ⊎ (3 ≤ result.0)
+        → IsTold result.0 (E.contents errors.old) (E.contents errors.new) }
+    ensures untouched { 1 ≤ result.0 → result.0 ≤ 2
+        → (input.new ≡ input.old) × (result.1 ≡ output) }
+    ensures debug_map { (d : DebugAsked)
+        → asked (map (λ s. s.now) plain.entry.now) ≡ Some (debug d)
+        → IsTaken (map (λ s. s.now) plain.entry.now) → is_map d.rom d.port ≡ false
+        → (result.0 ≡ 2) ⊎ (result.0 ≡ 3) }
+    ensures debug_right { (d : DebugAsked)
+        → asked (map (λ s. s.now) plain.entry.now) ≡ Some (debug d)
+        → IsTaken (map (λ s. s.now) plain.entry.now) → is_map d.rom d.port ≡ true
+        → ¬ (result.0 ≡ 2) }
+    ensures debugged { (d : DebugAsked)
+        → asked (map (λ s. s.now) plain.entry.now) ≡ Some (debug d)
+        → IsTaken (map (λ s. s.now) plain.entry.now)
+        → (outcome : Result ⊤ Refusal) × IsStrictStatus outcome result.0 × IsServed
+        (record { profile = d.profile; rom = d.rom; port = d.port })
+        d.history (R.remaining input.old) (R.remaining input.new) (O.contents output)
+        (O.contents result.1) outcome ((input.new ≡ input.old) × (result.1 ≡ output)) }
+    ensures served { IsDone result.0 → (d : DebugAsked)
+        → asked (map (λ s. s.now) plain.entry.now) ≡ Some (debug d)
+        → IsTaken (map (λ s. s.now) plain.entry.now)
+        → (image : List (Option ℕ)) × IfSome (R.remaining input.old)
+        (λ given. Appends (O.contents output) (O.contents result.1) (transcript
+        (new_session d.history (start (record { profile = d.profile; rom = d.rom; port = d.port })
+        image)) given).written
+        × (result.0 ≡ strict_status (transcript (new_session d.history (start
+        (record { profile = d.profile; rom = d.rom; port = d.port }) image)) given).written)) }
+{
+    let mut watch = Watch::over(output);
+    let status = program(rt, plain, input, &mut watch, errors);
+    let (has_fault, output) = watch.finish();
+    (status_of_replies(status, has_fault), output)
+}
+
+/// Writes why words are rejected, or the help that they ask for, and returns the exit status and the
+/// writer.
+fn refused<O: Write, E: Write>(fault: WordsFault, output: O, errors: &mut E) -> (u8, O)
+    ensures status { IsStatusOf fault result.0 }
+    ensures untouched { 1 ≤ result.0 → result.0 ≤ 3 → result.1 ≡ output }
+    ensures quiet { result.0 ≡ 0 → errors.new ≡ errors.old }
+    ensures told { IsToldOfWords fault result.0 (E.contents errors.old) (E.contents errors.new) }
+{
+    let mut output = output;
+    let status = refused_words(fault, &mut output, errors);
+    (status, output)
+}
+
+/// Does what the words of a plain `debug` ask for, and returns the exit status with `--strict` and
+/// the writer of the replies.
+fn serve<H: Files + AllocGlobal, R: Read, O: Write, E: Write>(
+    rt: &H,
+    plain: &[&str],
+    input: &mut R,
+    output: O,
+    errors: &mut E,
+) -> (u8, O)
+    ensures status { result.0 ≤ 5 }
+    ensures quiet { IsDone result.0 → errors.new ≡ errors.old }
+    ensures told { 1 ≤ result.0 → result.0 ≤ 4
+        → IsTaken (map (λ s. s.now) plain.entry.now) ⊎ (3 ≤ result.0)
+        → IsTold result.0 (E.contents errors.old) (E.contents errors.new) }
+    ensures untouched { 1 ≤ result.0 → result.0 ≤ 2
+        → (input.new ≡ input.old) × (result.1 ≡ output) }
+    ensures unasked { asked (map (λ s. s.now) plain.entry.now) ≡ None
+        → 1 ≤ result.0 → result.0 ≤ 3 → (input.new ≡ input.old) × (result.1 ≡ output) }
+    ensures untaken { ¬ IsTaken (map (λ s. s.now) plain.entry.now)
+        → 1 ≤ result.0 → result.0 ≤ 3 → (input.new ≡ input.old) × (result.1 ≡ output) }
+    ensures unread { ¬ IsTaken (map (λ s. s.now) plain.entry.now)
+        → input.new ≡ input.old }
+    ensures usage { ¬ IsTaken (map (λ s. s.now) plain.entry.now)
+        → ¬ IsAmong DisplayHelp (fault_of mos65 (map (λ s. s.now) plain.entry.now))
+        → (result.0 ≡ 2) ⊎ (result.0 ≡ 3) }
+    ensures help { fault_of mos65 (map (λ s. s.now) plain.entry.now)
+        ≡ DisplayHelp ∷ [] → (result.0 ≡ 0) ⊎ (result.0 ≡ 3) ⊎ (result.0 ≡ 4) }
+    ensures value { IsTaken (map (λ s. s.now) plain.entry.now)
+        → asked (map (λ s. s.now) plain.entry.now) ≡ None
+        → (result.0 ≡ 2) ⊎ (result.0 ≡ 3) }
+    ensures debug_map { (d : DebugAsked)
+        → asked (map (λ s. s.now) plain.entry.now) ≡ Some (debug d)
+        → IsTaken (map (λ s. s.now) plain.entry.now) → is_map d.rom d.port ≡ false
+        → (result.0 ≡ 2) ⊎ (result.0 ≡ 3) }
+    ensures debug_right { (d : DebugAsked)
+        → asked (map (λ s. s.now) plain.entry.now) ≡ Some (debug d)
+        → IsTaken (map (λ s. s.now) plain.entry.now) → is_map d.rom d.port ≡ true
+        → ¬ (result.0 ≡ 2) }
+    ensures debugged { (d : DebugAsked)
+        → asked (map (λ s. s.now) plain.entry.now) ≡ Some (debug d)
+        → IsTaken (map (λ s. s.now) plain.entry.now)
+        → (outcome : Result ⊤ Refusal) × IsStrictStatus outcome result.0 × IsServed
+        (record { profile = d.profile; rom = d.rom; port = d.port })
+        d.history (R.remaining input.old) (R.remaining input.new) (O.contents output)
+        (O.contents result.1) outcome ((input.new ≡ input.old) × (result.1 ≡ output)) }
+    ensures served { IsDone result.0 → (d : DebugAsked)
+        → asked (map (λ s. s.now) plain.entry.now) ≡ Some (debug d)
+        → IsTaken (map (λ s. s.now) plain.entry.now)
+        → (image : List (Option ℕ)) × IfSome (R.remaining input.old)
+        (λ given. Appends (O.contents output) (O.contents result.1) (transcript
+        (new_session d.history (start (record { profile = d.profile; rom = d.rom; port = d.port })
+        image)) given).written
+        × (result.0 ≡ strict_status (transcript (new_session d.history (start
+        (record { profile = d.profile; rom = d.rom; port = d.port }) image)) given).written)) }
+{
+    match read_words(rt.alloc(), plain) {
+        Ok(_) => watched(rt, plain, input, output, errors),
+        Err(fault) => refused(fault, output, errors),
+    }
 }
 
 /// Does what the words after `debug` ask for where `--strict` is among them, and returns the exit
@@ -63,12 +185,12 @@ pub fn strict_debug<H: Files + AllocGlobal, R: Read, O: Write, E: Write>(
     ensures unread { ¬ IsTaken (plain_words (map (λ s. s.now) words.entry.now))
         → input.new ≡ input.old }
     // Words that fit nothing have the status 2, unless they ask for help or memory runs out. Help
-    // that is asked for has 0 or 5 if it was written.
+    // that is asked for has 0 if it was written.
     ensures usage { ¬ IsTaken (plain_words (map (λ s. s.now) words.entry.now))
         → ¬ IsAmong DisplayHelp (fault_of mos65 (plain_words (map (λ s. s.now) words.entry.now)))
         → (result.0 ≡ 2) ⊎ (result.0 ≡ 3) }
     ensures help { fault_of mos65 (plain_words (map (λ s. s.now) words.entry.now))
-        ≡ DisplayHelp ∷ [] → IsDone result.0 ⊎ (result.0 ≡ 3) ⊎ (result.0 ≡ 4) }
+        ≡ DisplayHelp ∷ [] → (result.0 ≡ 0) ⊎ (result.0 ≡ 3) ⊎ (result.0 ≡ 4) }
     // A wrong value has the status 2, unless memory runs out, and so has a wrong map.
     ensures value { IsTaken (plain_words (map (λ s. s.now) words.entry.now))
         → asked (plain_words (map (λ s. s.now) words.entry.now)) ≡ None
@@ -103,12 +225,7 @@ pub fn strict_debug<H: Files + AllocGlobal, R: Read, O: Write, E: Write>(
         (record { profile = d.profile; rom = d.rom; port = d.port }) image)) given).written)) }
 {
     match plain_words(rt.alloc(), words) {
-        Ok(plain) => {
-            let mut watch = Watch::over(output);
-            let status = program(rt, plain.as_slice(), input, &mut watch, errors);
-            let (has_fault, output) = watch.finish();
-            (status_of_replies(status, has_fault), output)
-        }
+        Ok(plain) => serve(rt, plain.as_slice(), input, output, errors),
         Err(_) => (refuse(Refusal::OutOfMemory, errors), output),
     }
 }
