@@ -80,8 +80,8 @@ fn watched<H: Files + AllocGlobal, R: Read, O: Write, E: Write>(
     (status_of_replies(status, has_fault), output)
 }
 
-/// Writes why words are rejected, or the help that they ask for, and returns the exit status and the
-/// writer.
+/// Writes why words are rejected, or the help that they ask for, and returns the exit status and
+/// the writer.
 fn refused<O: Write, E: Write>(fault: WordsFault, output: O, errors: &mut E) -> (u8, O)
     ensures status { IsStatusOf fault result.0 }
     ensures untouched { 1 ≤ result.0 → result.0 ≤ 3 → result.1 ≡ output }
