@@ -1,3 +1,3 @@
 pub mod Starts
 mod Found
-mod Ran
+pub mod Ran

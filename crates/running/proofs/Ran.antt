@@ -1,5 +1,5 @@
 -- How a run ended, from what `play` says of it.
-use Rattle.std.proofs.Common.{◌≡◌, ◌∙◌, ◌++◌, ℕ, Bool, true, false, List, [], Option, Some, None, Result, Ok, Err, IfOk, refl, sym, ap, subst, if◌then◌else◌, inl, inr}
+use Rattle.std.proofs.Common.{◌≡◌, ◌∙◌, ◌++◌, ℕ, Bool, true, false, List, [], Option, Some, None, Result, Ok, Err, IfOk, refl, sym, ap, subst, if◌then◌else◌, inl, inr, arith}
 use Rattle.std.specs.Io.KnownBytes.{Appends}
 use Rattle.assembler.specs.Assembly.{AssemblyView}
 use Rattle.console.specs.Playing.{Outcome, begun, played}
@@ -11,15 +11,20 @@ use Rattle.console.specs.declared.ending.Played.{Played}
 use Rattle.loading.specs.Asked.{FileAsked, map_of}
 use Rattle.loading.specs.Loads.{EndsFile, EndsLoad, IsLoaded}
 use Rattle.loading.specs.Place.{names_of}
+use Rattle.loading.specs.Told.{load_line}
 use Rattle.loading.specs.declared.loaded.LoadFault.TheVariants.{Refused as NotLoaded}
 use Rattle.model.specs.Event.{start}
-use Rattle.model.specs.State.{Map}
-use Rattle.program.specs.declared.refusal.Refusal.TheVariants.{OutOfMemory}
+use Rattle.model.specs.State.{Map, State}
+use Rattle.program.specs.declared.refusal.Refusal.{Refusal}
+use Rattle.program.specs.declared.refusal.Refusal.TheVariants.{Words, Map as NoMap, Source, Tape, Session as NoSession, OutOfMemory, Read, Write}
+use Rattle.program_words.specs.declared.fault.WordsFault.{WordsFault}
+use Rattle.program_words.specs.declared.fault.WordsFault.TheVariants as words_fault
 use Rattle.model.specs.Session.{Session, new_session}
 use Rattle.model.specs.Writers.{AppendsFront}
+use Rattle.program.specs.FaultLines.{IsToldOfWords, fault_line}
 use Rattle.program.specs.Statuses.{status_of}
 use Rattle.running.specs.Asked.{RunAsked}
-use Rattle.running.specs.Runs.{IsDone, RanIfFound, RanTo, Streams}
+use Rattle.running.specs.Runs.{Heard, IsDone, RanIfFound, RanTo, Streams, Tells, TellsEnd}
 use Rattle.running.specs.Places.{place_asked}
 use Rattle.running.specs.Statuses.{refusal_of, status_of_ending}
 
@@ -34,13 +39,23 @@ AllWritten s t held now = (text : List ℕ) × (t.current.bus.out ≡ s.current.
 abbrev FrontWritten : Session → Session → Option (List ℕ) → Option (List ℕ) → Type 0
 FrontWritten s t held now = (text : List ℕ) × (t.current.bus.out ≡ s.current.bus.out ++ text) × AppendsFront held now text
 
-pub ran_to : (a : RunAsked) (until : Option ℕ) (s t : Session) (streams : Streams) (end : Played) (status : ℕ)
+-- What was told of a run is told of its outcome.
+told_of : (is_told : Bool) (heard : Heard) (ending why : Ending) (steps count : ℕ) (state now : State) → ending ≡ why → steps ≡ count → state ≡ now
+    → TellsEnd is_told heard ending steps state → TellsEnd is_told heard why count now
+told_of is_told heard ending why steps count state now e n s told =
+    let E : Ending → Type 0 = λ x. TellsEnd is_told heard x count now in
+    let N : ℕ → Type 0 = λ x. TellsEnd is_told heard ending x now in
+    let S : State → Type 0 = λ x. TellsEnd is_told heard ending steps x in
+    subst E e (subst N n (subst S s told))
+
+pub ran_to : (a : RunAsked) (until : Option ℕ) (s t : Session) (streams : Streams) (heard : Heard) (end : Played) (status : ℕ)
     → s.current.bus.out ≡ []
     → PlayedOf until a.steps s streams.given streams.left t end
     → AllWritten s t streams.held streams.now
     → status ≡ status_of_ending end.ending (if a.is_status_of_a then t.current.regs.a else 0)
-    → RanTo a until s streams status
-ran_to a until s t streams end status silent run written is =
+    → TellsEnd a.tells_cycles heard end.ending end.steps t.current
+    → RanTo a until s streams heard status
+ran_to a until s t streams heard end status silent run written is told =
     let outcome : Outcome = played until a.steps (begun s run.0) in
     let same : RanAs outcome end t run.1 = run.4 in
     let B : List ℕ → Type 0 = λ bytes. AreBytesOf streams.left bytes in
@@ -51,19 +66,21 @@ ran_to a until s t streams end status silent run written is =
       Ok outcome,
       (run.0, refl, run.2, subst B same.left run.3, subst W text_is written.2),
       is ∙ ap (λ (why : Ending). ended why t) same.ending ∙ ap (λ (now : Session). ended outcome.ending now) same.session,
+      told_of a.tells_cycles heard end.ending outcome.ending end.steps outcome.steps t.current outcome.play.session.current same.ending same.steps (ap (λ (now : Session). now.current) same.session) told,
     )
 
-pub failed_to : (a : RunAsked) (until : Option ℕ) (s t : Session) (streams : Streams) (fault : PlayFault) (status : ℕ)
+pub failed_to : (a : RunAsked) (until : Option ℕ) (s t : Session) (streams : Streams) (heard : Heard) (fault : PlayFault) (status : ℕ)
     → FrontWritten s t streams.held streams.now
     → status ≡ status_of (refusal_of fault)
-    → RanTo a until s streams status
-failed_to a until s t streams fault status written is = (Err fault, (written.2.0, written.2.3), is)
+    → Tells heard (fault_line (refusal_of fault))
+    → RanTo a until s streams heard status
+failed_to a until s t streams heard fault status written is told = (Err fault, (written.2.0, written.2.3), is, told)
 
 -- A file that was loaded.
-pub ran_file : (a : RunAsked) (s : Session) (assembly : Option AssemblyView) (image : List (Option ℕ)) (streams : Streams) (status : ℕ) (Alone : Type 0) → IsLoaded a.file image assembly
-    → s ≡ new_session 0 (start (map_of a.file) image) → RanIfFound a (place_asked (names_of assembly) a.until) s streams status Alone → IsDone a streams status Alone
-ran_file a s assembly image streams status A loaded begins ran =
-    inr (image, assembly, loaded, subst (λ (t : Session). RanIfFound a (place_asked (names_of assembly) a.until) t streams status A) begins ran)
+pub ran_file : (a : RunAsked) (s : Session) (assembly : Option AssemblyView) (image : List (Option ℕ)) (streams : Streams) (heard : Heard) (status : ℕ) (Alone : Type 0) → IsLoaded a.file image assembly
+    → s ≡ new_session 0 (start (map_of a.file) image) → RanIfFound a (place_asked (names_of assembly) a.until) s streams heard status Alone → IsDone a streams heard status Alone
+ran_file a s assembly image streams heard status A loaded begins ran =
+    inr (image, assembly, loaded, subst (λ (t : Session). RanIfFound a (place_asked (names_of assembly) a.until) t streams heard status A) begins ran)
 
 -- Memory may run out for any words.
 memory_by : (is_tape : Bool) (bus_map : Map) → EndsFile is_tape bus_map (NotLoaded OutOfMemory)
@@ -72,3 +89,22 @@ memory_by false bus_map = tt
 
 pub memory_ends : (asked : FileAsked) → EndsLoad asked (NotLoaded OutOfMemory)
 memory_ends asked = inr (memory_by asked.is_tape (map_of asked))
+
+-- The status 3 is that of memory alone.
+memory_alone : (refusal : Refusal) → status_of refusal ≡ 3 → refusal ≡ OutOfMemory
+memory_alone Words is = absurd (omega (arith, is))
+memory_alone (NoMap fault) is = absurd (omega (arith, is))
+memory_alone (Source fault) is = absurd (omega (arith, is))
+memory_alone (Tape fault) is = absurd (omega (arith, is))
+memory_alone (NoSession fault) is = absurd (omega (arith, is))
+memory_alone OutOfMemory is = refl
+memory_alone Read is = absurd (omega (arith, is))
+memory_alone Write is = absurd (omega (arith, is))
+
+-- What was told of words for which memory ran out is the line of a file for which it did.
+pub told_memory : (fault : WordsFault) (held now : Option (List ℕ)) (status : ℕ) (file : List ℕ) → fault ≡ words_fault.OutOfMemory → status ≡ 3
+    → IsToldOfWords fault status held now → AppendsFront held now (load_line (NotLoaded OutOfMemory) file)
+unfolding load_line
+told_memory fault held now status file is three told =
+    let line = subst (λ f. IsToldOfWords f status held now) is told (omega (arith, three)) in
+    subst (λ r. AppendsFront held now (fault_line r)) (memory_alone line.0 (sym line.1 ∙ three)) line.2

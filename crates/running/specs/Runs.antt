@@ -1,22 +1,28 @@
 -- What `run` does to its streams, and its exit status. No clause can say which image and names a file
 -- stands for. Source: mos65.
-use Rattle.std.specs.Prelude.{◌≡◌, ◌⊎◌, ℕ, Bool, if◌then◌else◌, List, Option, Result, Ok, Err}
+use Rattle.std.specs.Prelude.{◌≡◌, ◌⊎◌, ℕ, Bool, true, false, if◌then◌else◌, List, Option, Result, Ok, Err}
 use Rattle.std.specs.Io.KnownBytes.{Appends}
 use Rattle.console.specs.Playing.{Outcome, begun, played}
 use Rattle.console.specs.Written.{AreBytesOf}
+use Rattle.console.specs.declared.ending.Ending.{Ending}
 use Rattle.console.specs.declared.ending.PlayFault.{PlayFault}
 use Rattle.assembler.specs.Assembly.{AssemblyView}
 use Rattle.loading.specs.Asked.{FileAsked, map_of}
 use Rattle.loading.specs.Loads.{EndsLoad, IsLoaded}
 use Rattle.loading.specs.Place.{names_of}
 use Rattle.loading.specs.Statuses.{status_of_load}
+use Rattle.loading.specs.Told.{load_line}
 use Rattle.loading.specs.declared.loaded.LoadFault.{LoadFault}
 use Rattle.model.specs.Event.{start}
 use Rattle.model.specs.Session.{Session, new_session}
+use Rattle.model.specs.State.{State}
+use Rattle.model.specs.Writers.{AppendsFront}
+use Rattle.program.specs.FaultLines.{fault_line}
 use Rattle.program.specs.Statuses.{status_of}
 use Rattle.running.specs.Asked.{RunAsked}
 use Rattle.running.specs.Places.{place_asked}
 use Rattle.running.specs.Statuses.{refusal_of, status_of_ending}
+use Rattle.running.specs.Told.{cycles_line, ending_line, unplaced_line}
 
 -- What is known of the input and of the output, before and after.
 pub record Streams : Type 0 where
@@ -35,6 +41,28 @@ Ran s until limit streams (Ok end) = (input : List ℕ)
     × Appends streams.held streams.now end.play.session.current.bus.out
 Ran s until limit streams (Err fault) = (text : List ℕ) × Appends streams.held streams.now text
 
+-- What is known of the error stream, before and after.
+pub record Heard : Type 0 where
+  pub held : Option (List ℕ)
+  pub now : Option (List ℕ)
+
+-- The error stream got a line, or a beginning of it where a write failed.
+abbrev pub Tells : Heard → List ℕ → Type 0
+Tells heard line = AppendsFront heard.held heard.now line
+
+-- The error stream got why a run did not come to its end, and then its cycles if they are asked for.
+abbrev pub TellsEnd : Bool → Heard → Ending → ℕ → State → Type 0
+TellsEnd false heard ending steps state = Tells heard (ending_line ending steps state.regs.pc)
+TellsEnd true heard ending steps state = (between : Option (List ℕ))
+    × AppendsFront heard.held between (ending_line ending steps state.regs.pc)
+    × AppendsFront between heard.now (cycles_line state.cycles steps)
+
+-- The error stream got how a run ended, or that a stream failed.
+abbrev pub TellsRun : RunAsked → Heard → Result Outcome PlayFault → Type 0
+TellsRun a heard (Ok end)
+    = TellsEnd a.tells_cycles heard end.ending end.steps end.play.session.current
+TellsRun a heard (Err fault) = Tells heard (fault_line (refusal_of fault))
+
 -- The exit status of a run: 0 at its end, or the value of A there if that is asked for.
 abbrev pub status_of_run : Bool → Result Outcome PlayFault → ℕ
 status_of_run is_of_a (Ok end) = status_of_ending end.ending
@@ -42,28 +70,33 @@ status_of_run is_of_a (Ok end) = status_of_ending end.ending
 status_of_run is_of_a (Err fault) = status_of (refusal_of fault)
 
 -- A session ran up to a place.
-abbrev pub RanTo : RunAsked → Option ℕ → Session → Streams → ℕ → Type 0
-RanTo a until s streams status = (outcome : Result Outcome PlayFault)
+abbrev pub RanTo : RunAsked → Option ℕ → Session → Streams → Heard → ℕ → Type 0
+RanTo a until s streams heard status = (outcome : Result Outcome PlayFault)
     × Ran s until a.steps streams outcome × (status ≡ status_of_run a.is_status_of_a outcome)
+    × TellsRun a heard outcome
 
 -- A session ran up to the place of the words, if it is found; else the streams were left alone,
--- `Alone`.
-abbrev pub RanIfFound : RunAsked → Result (Option ℕ) ℕ → Session → Streams → ℕ → Type 0 → Type 0
-RanIfFound a (Ok until) s streams status Alone = RanTo a until s streams status
-RanIfFound a (Err refused) s streams status Alone = (status ≡ refused) × Alone
+-- `Alone`, and the error stream got that it is no place.
+abbrev pub RanIfFound : RunAsked → Result (Option ℕ) ℕ → Session → Streams → Heard → ℕ → Type 0
+    → Type 0
+RanIfFound a (Ok until) s streams heard status Alone = RanTo a until s streams heard status
+RanIfFound a (Err refused) s streams heard status Alone = (status ≡ refused)
+    × Tells heard (unplaced_line a.until) × Alone
 
--- The file was not loaded, and the streams were left alone.
-abbrev pub IsUnloaded : FileAsked → ℕ → Type 0 → Type 0
-IsUnloaded file status Alone = (fault : LoadFault) × EndsLoad file fault
-    × (status ≡ status_of_load fault) × Alone
+-- The file was not loaded, the error stream got why, and the others were left alone.
+abbrev pub IsUnloaded : FileAsked → Heard → ℕ → Type 0 → Type 0
+IsUnloaded file heard status Alone = (fault : LoadFault) × EndsLoad file fault
+    × (status ≡ status_of_load fault) × Tells heard (load_line fault file.file) × Alone
 
 -- A file was loaded: from the start of an image that it can have, on the map of the words and with
 -- the names of the image's source, a session ran.
-abbrev pub RanFile : RunAsked → Streams → ℕ → Type 0 → Type 0
-RanFile a streams status Alone = (image : List (Option ℕ)) × (assembly : Option AssemblyView)
-    × IsLoaded a.file image assembly × RanIfFound a (place_asked (names_of assembly) a.until)
-    (new_session 0 (start (map_of a.file) image)) streams status Alone
+abbrev pub RanFile : RunAsked → Streams → Heard → ℕ → Type 0 → Type 0
+RanFile a streams heard status Alone = (image : List (Option ℕ))
+    × (assembly : Option AssemblyView) × IsLoaded a.file image assembly
+    × RanIfFound a (place_asked (names_of assembly) a.until)
+    (new_session 0 (start (map_of a.file) image)) streams heard status Alone
 
 -- What was done for words.
-abbrev pub IsDone : RunAsked → Streams → ℕ → Type 0 → Type 0
-IsDone a streams status Alone = IsUnloaded a.file status Alone ⊎ RanFile a streams status Alone
+abbrev pub IsDone : RunAsked → Streams → Heard → ℕ → Type 0 → Type 0
+IsDone a streams heard status Alone
+    = IsUnloaded a.file heard status Alone ⊎ RanFile a streams heard status Alone

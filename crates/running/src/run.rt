@@ -10,7 +10,7 @@ ghost use Rattle.model.specs.State.{input_waits, is_map};
 ghost use Rattle.running.specs.Asked.{RunAsked, asked};
 ghost use Rattle.running.specs.CommandLine.{run};
 ghost use Rattle.running.specs.Places.{place_asked};
-ghost use Rattle.running.specs.Runs.{IsDone, RanIfFound, RanTo};
+ghost use Rattle.running.specs.Runs.{IsDone, RanIfFound, RanTo, TellsEnd};
 ghost use Rattle.running.specs.Statuses.{status_of_ending};
 ghost use Rattle.running.specs.Views.{run_view};
 
@@ -24,18 +24,37 @@ use program::{refuse, refused_words};
 use std::io::{Read, Write};
 use std::rt::Files;
 
+/// Writes how a run ended, and then its cycles and steps if they are asked for.
+fn tell_end<E: Write>(tells_cycles: bool, played: Played, session: &Session, errors: &mut E)
+    ensures told { TellsEnd tells_cycles (record {
+      held = E.contents errors.old;
+      now = E.contents errors.new;
+    }) played.ending played.steps session.now.current }
+    ensures quiet { tells_cycles ≡ false → status_of_ending played.ending 0 ≡ 0
+        → errors.new ≡ errors.old }
+{
+    tell_ending(played, session.regs().pc, errors);
+    if tells_cycles {
+        tell_cycles(played, session, errors);
+    }
+}
+
 /// Tells how a run ended, and returns the exit status.
 fn ended<E: Write>(words: &RunWords<'_>, played: Played, session: &Session, errors: &mut E) -> u8
     ensures status { result ≡ status_of_ending played.ending
         (if words.now.is_status_of_a then session.now.current.regs.a else 0) }
+    ensures told { TellsEnd words.now.tells_cycles (record {
+      held = E.contents errors.old;
+      now = E.contents errors.new;
+    }) played.ending played.steps session.now.current }
     ensures quiet { words.now.tells_cycles ≡ false → result ≡ 0 → errors.new ≡ errors.old }
 {
-    let regs = session.regs();
-    tell_ending(played, regs.pc, errors);
-    if words.tells_cycles {
-        tell_cycles(played, session, errors);
-    }
-    let status = if words.is_status_of_a { regs.a } else { 0 };
+    tell_end(words.tells_cycles, played, session, errors);
+    let status = if words.is_status_of_a {
+        session.regs().a
+    } else {
+        0
+    };
     status_of_ending(played.ending, status)
 }
 
@@ -55,6 +74,9 @@ fn run_to<R: Read, O: Write, E: Write>(
       left = R.remaining input.new;
       held = O.contents output.old;
       now = O.contents output.new;
+    }) (record {
+      held = E.contents errors.old;
+      now = E.contents errors.new;
     }) result }
     ensures quiet { words.now.tells_cycles ≡ false → result ≡ 0 → errors.new ≡ errors.old }
 {
@@ -81,6 +103,9 @@ fn run_loaded<R: Read, O: Write, E: Write>(
           left = R.remaining input.new;
           held = O.contents output.old;
           now = O.contents output.new;
+        }) (record {
+          held = E.contents errors.old;
+          now = E.contents errors.new;
         }) result ((input.new ≡ input.old) × (output.new ≡ output.old)) }
     ensures quiet { words.now.tells_cycles ≡ false → result ≡ 0 → errors.new ≡ errors.old }
 {
@@ -103,6 +128,9 @@ fn run_words<H: Files + AllocGlobal, R: Read, O: Write, E: Write>(
       left = R.remaining input.new;
       held = O.contents output.old;
       now = O.contents output.new;
+    }) (record {
+      held = E.contents errors.old;
+      now = E.contents errors.new;
     }) result ((input.new ≡ input.old) × (output.new ≡ output.old)) }
     ensures bad_map { is_map words.now.file.rom words.now.file.port ≡ false → result ≡ 2 }
     ensures quiet { words.now.tells_cycles ≡ false → result ≡ 0 → errors.new ≡ errors.old }
@@ -134,13 +162,17 @@ pub fn run_program<H: Files + AllocGlobal, R: Read, O: Write, E: Write>(
     errors: &mut E,
 ) -> u8
     // Words that fit the command line, with right values: their file was loaded and ran by the
-    // definition of a run, or it was not and the streams are unchanged, as the status says.
+    // definition of a run, or it was not and the streams are unchanged, as the status says. The
+    // error stream gets why, or how the run ended.
     ensures done { (a : RunAsked) → asked (map (λ s. s.now) words.entry.now) ≡ Some a
         → IsTakenBy run (map (λ s. s.now) words.entry.now) → IsDone a (record {
           given = R.remaining input.old;
           left = R.remaining input.new;
           held = O.contents output.old;
           now = O.contents output.new;
+        }) (record {
+          held = E.contents errors.old;
+          now = E.contents errors.new;
         }) result ((input.new ≡ input.old) × (output.new ≡ output.old)) }
     // Other words read nothing, and write nothing on the output but help.
     ensures untaken { ¬ IsTakenBy run (map (λ s. s.now) words.entry.now)

@@ -16,7 +16,7 @@ use Rattle.program.specs.Statuses.{status_of}
 use Rattle.program.specs.declared.refusal.Refusal.{Refusal}
 use Rattle.program.specs.declared.refusal.Refusal.TheVariants.{OutOfMemory}
 use Rattle.running.specs.Places.{place_asked}
-use Rattle.running.specs.Runs.{Streams}
+use Rattle.running.specs.Runs.{Heard, Streams}
 use Rattle.running.specs.Statuses.{status_of_ending}
 use Rattle.trace_words.specs.Asked.{TraceAsked}
 use Rattle.tracing.specs.Traces.{BreaksOff, IsDone, TracedIfFound, TracedTo, WroteNotes, trace_noted, traced}
@@ -60,10 +60,10 @@ unfound_to asked assembly from a b s streams status A is_from is alone =
     subst F is_from (subst T is (refl, alone))
 
 -- A file that was loaded.
-pub traced_file : (a : TraceAsked) (s : Session) (assembly : Option AssemblyView) (image : List (Option ℕ)) (streams : Streams) (status : ℕ) (Alone : Type 0)
+pub traced_file : (a : TraceAsked) (s : Session) (assembly : Option AssemblyView) (image : List (Option ℕ)) (streams : Streams) (heard : Heard) (status : ℕ) (Alone : Type 0)
     → IsLoaded a.file image assembly → s ≡ new_session 0 (start (map_of a.file) image)
-    → TracedIfFound a assembly (place_asked (names_of assembly) a.from) (place_asked (names_of assembly) a.to) s streams status Alone → IsDone a streams status Alone
-traced_file a s assembly image streams status A loaded begins done =
+    → TracedIfFound a assembly (place_asked (names_of assembly) a.from) (place_asked (names_of assembly) a.to) s streams status Alone → IsDone a streams heard status Alone
+traced_file a s assembly image streams heard status A loaded begins done =
     inr (image, assembly, loaded, subst (λ (t : Session). TracedIfFound a assembly (place_asked (names_of assembly) a.from) (place_asked (names_of assembly) a.to) t streams status A) begins done)
 
 -- Memory may run out for any words.

@@ -20,7 +20,7 @@ use Rattle.program.specs.Statuses.{status_of}
 use Rattle.program.specs.declared.refusal.Refusal.{Refusal}
 use Rattle.program.specs.declared.refusal.Refusal.TheVariants.{OutOfMemory, Read, Write}
 use Rattle.running.specs.Places.{place_asked}
-use Rattle.running.specs.Runs.{IsUnloaded, Streams}
+use Rattle.running.specs.Runs.{Heard, IsUnloaded, Streams}
 use Rattle.running.specs.Statuses.{status_of_ending}
 use Rattle.trace_rows.specs.declared.sites.Sites.{Sites}
 use Rattle.trace_words.specs.Asked.{TraceAsked}
@@ -155,11 +155,11 @@ TracedIfFound a assembly (Ok from) (Err refused) s streams status Alone
 TracedIfFound a assembly (Err refused) to s streams status Alone
     = (status ≡ refused) × Alone
 
--- What was done for words: a file was not loaded, and the streams were left alone; or from the start
--- of an image that it can have, on the map of the words and with the names of the image's source, a
--- session was traced.
-abbrev pub IsDone : TraceAsked → Streams → ℕ → Type 0 → Type 0
-IsDone a streams status Alone = IsUnloaded a.file status Alone
+-- What was done for words: a file was not loaded, the error stream got why, and the others were left
+-- alone; or from the start of an image that it can have, on the map of the words and with the names
+-- of the image's source, a session was traced.
+abbrev pub IsDone : TraceAsked → Streams → Heard → ℕ → Type 0 → Type 0
+IsDone a streams heard status Alone = IsUnloaded a.file heard status Alone
     ⊎ ((image : List (Option ℕ)) × (assembly : Option AssemblyView)
     × IsLoaded a.file image assembly × TracedIfFound a assembly
     (place_asked (names_of assembly) a.from) (place_asked (names_of assembly) a.to)

@@ -463,6 +463,9 @@ fn trace_words<H: Files + AllocGlobal, R: Read, O: Write, E: Write>(
       left = R.remaining input.new;
       held = O.contents output.old;
       now = O.contents output.new;
+    }) (record {
+      held = E.contents errors.old;
+      now = E.contents errors.new;
     }) result ((input.new ≡ input.old) × (output.new ≡ output.old)) }
     ensures bad_map { is_map words.now.file.rom words.now.file.port ≡ false → result ≡ 2 }
 {
@@ -495,6 +498,9 @@ pub fn trace_program<H: Files + AllocGlobal, R: Read, O: Write, E: Write>(
           left = R.remaining input.new;
           held = O.contents output.old;
           now = O.contents output.new;
+        }) (record {
+          held = E.contents errors.old;
+          now = E.contents errors.new;
         }) result ((input.new ≡ input.old) × (output.new ≡ output.old)) }
     // Other words read nothing, and write nothing on the output but help.
     ensures untaken { ¬ IsTakenBy trace (map (λ s. s.now) words.entry.now)

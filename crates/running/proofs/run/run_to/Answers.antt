@@ -11,7 +11,10 @@ returns-in-Ok-clause-ran g c =
       left = g.R.Read.remaining c.play.new.reader;
       held = g.O.Write.contents c.args.output.now;
       now = g.O.Write.contents c.play.new.writer;
-    }) c.in-Ok.played c.ended.result c.requires.silent c.in-Ok.ensures.ok c.in-Ok.ensures.output c.ended.ensures.status
+    }) (record {
+      held = g.E.Write.contents c.args.errors.now;
+      now = g.E.Write.contents c.ended.new.errors;
+    }) c.in-Ok.played c.ended.result c.requires.silent c.in-Ok.ensures.ok c.in-Ok.ensures.output c.ended.ensures.status c.ended.ensures.told
 
 pub returns-in-Err-clause-ran : goal.returns-in-Err-clause-ran
 returns-in-Err-clause-ran g c =
@@ -20,5 +23,8 @@ returns-in-Err-clause-ran g c =
       left = g.R.Read.remaining c.play.new.reader;
       held = g.O.Write.contents c.args.output.now;
       now = g.O.Write.contents c.play.new.writer;
+    }) (record {
+      held = g.E.Write.contents c.args.errors.now;
+      now = g.E.Write.contents c.refuse.new.errors;
     }) c.in-Err.fault c.refuse.result c.in-Err.ensures.output
-    (c.refuse.ensures.status ∙ ap status_of c.refusal_of.ensures)
+    (c.refuse.ensures.status ∙ ap status_of c.refusal_of.ensures) (rw c.refusal_of.ensures at c.refuse.ensures.told)

@@ -6,6 +6,7 @@ use Rattle.trace_words.specs.Asked.{TraceAsked}
 use Rattle.trace_words.specs.Views.{trace_view}
 use Rattle.tracing.specs.Traces.{IsDone}
 use Rattle.tracing.proofs.Done.{memory_ends, one_asked}
+use Rattle.running.proofs.Ran.{told_memory}
 use Rattle.tracing.proofs.trace.trace_program.Goals as goal
 
 pub returns-in-Ok-clause-done : goal.returns-in-Ok-clause-done
@@ -15,6 +16,9 @@ returns-in-Ok-clause-done g c a h taken =
       left = g.R.Read.remaining c.trace_words.new.input;
       held = g.O.Write.contents c.args.output.now;
       now = g.O.Write.contents c.trace_words.new.output;
+    }) (record {
+      held = g.E.Write.contents c.args.errors.now;
+      now = g.E.Write.contents c.trace_words.new.errors;
     }) c.trace_words.result
     ((c.trace_words.new.input ≡ c.args.input.now) × (c.trace_words.new.output ≡ c.args.output.now)))
     (one_asked _ (trace_view c.in-Ok.words) a c.in-Ok.ensures.asked h) c.trace_words.ensures.done
@@ -24,7 +28,8 @@ pub returns-in-Err-clause-done : goal.returns-in-Err-clause-done
 returns-in-Err-clause-done g c a h taken =
     let memory = c.in-Err.ensures.served a taken h in
     let three : c.refused_words.result ≡ 3 = subst (λ f. IsStatusOf f c.refused_words.result) memory c.refused_words.ensures.status in
-    inl (Refused OutOfMemory, memory_ends a.file, three, (refl, c.refused_words.ensures.untouched (omega (arith, three)) (omega (arith, three))))
+    let told = told_memory c.in-Err.fault (g.E.Write.contents c.args.errors.now) (g.E.Write.contents c.refused_words.new.errors) c.refused_words.result a.file.file memory three c.refused_words.ensures.told in
+    inl (Refused OutOfMemory, memory_ends a.file, three, told, (refl, c.refused_words.ensures.untouched (omega (arith, three)) (omega (arith, three))))
 
 pub returns-in-Err-clause-bad_map : goal.returns-in-Err-clause-bad_map
 returns-in-Err-clause-bad_map g c a h taken bad =

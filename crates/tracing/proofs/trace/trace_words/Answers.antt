@@ -10,5 +10,8 @@ returns-in-Ok-clause-done g c =
       left = g.R.Read.remaining c.trace_loaded.new.input;
       held = g.O.Write.contents c.args.output.now;
       now = g.O.Write.contents c.trace_loaded.new.output;
+    }) (record {
+      held = g.E.Write.contents c.args.errors.now;
+      now = g.E.Write.contents c.trace_loaded.new.errors;
     }) c.trace_loaded.result
     ((c.trace_loaded.new.input ≡ c.args.input.now) × (c.trace_loaded.new.output ≡ c.args.output.now)) c.in-Ok.ensures.started.1 c.in-Ok.ensures.started.2 c.trace_loaded.ensures
