@@ -1,6 +1,6 @@
 //! The words that name a file and its map.
 
-ghost use Rattle.std.specs.Prelude.{◌≡◌, IfErr, IfOk, codes, false, option_map};
+ghost use Rattle.std.specs.Prelude.{◌≡◌, IfErr, IfOk, Some, codes, false, option_map};
 ghost use Rattle.clap.specs.Words.{app_of, first_value, found_of, kind_of, rule_of};
 ghost use Rattle.loading.specs.Asked.{file_asked};
 ghost use Rattle.loading.specs.CommandLine.{with_file};
@@ -50,10 +50,11 @@ fn tape_flag<'a>(alloc: Global) -> Arg<'a>
         .help("FILE is a tape, not a source")
 }
 
-/// Returns an option with one value.
+/// Returns an option with one value. Help calls the value `value`, and says `help` of the option.
 pub fn option<'a>(alloc: Global, name: &'a str, value: &'a str, help: &'a str) -> Arg<'a>
     ensures rule { rule_of result ≡ option_rule name.entry.now }
     ensures local { result.global ≡ false }
+    ensures help { result.help ≡ Some help.entry }
 {
     Arg::new(alloc, name)
         .long(name)
