@@ -76,22 +76,18 @@ names_from meant one m source (Ok a) h = λ placed all laid.
     sym (ap (λ (v : Verdict). v.names) x.shown) ∙ ap (λ (f : Context). f.names) same
 names_from meant one m source (Err f) h = tt
 
-record Laid (m : Map) (a : AssemblyView) (source : List ℕ) : Type 0 where
-  denotes : Denotes m source a.image
-  names : a.names ≡ denotes.all.names
-  places : a.places ≡ extents_of denotes.placed
-
-assembled_by : (m : Map) (source : List ℕ) (a : AssemblyView) → a.source ≡ source → Laid m a source → IsAssembled m a
-assembled_by m source a kept laid =
-    let of_its_source = subst (Laid m a) (sym kept) laid in
-    record { denotes = of_its_source.denotes; names = of_its_source.names; places = of_its_source.places }
+assembled_by : (m : Map) (source : List ℕ) (a : AssemblyView) → a.source ≡ source → (d : Denotes m source a.image) → a.names ≡ d.all.names → a.places ≡ extents_of d.placed
+    → IsAssembled m a
+assembled_by m source a kept d names places =
+    let of_its_source = subst (λ text. (e : Denotes m text a.image) × (a.names ≡ e.all.names) × (a.places ≡ extents_of e.placed)) (sym kept) (d, names, places) in
+    record { denotes = of_its_source.0; names = of_its_source.1; places = of_its_source.2 }
 
 pub assembled_from : JudgedIsMeant → OneAssignment → (m : Map) (source : List ℕ) (r : Given) → AnswersSource verdict_view r (verdict m source) → IfOk r (λ a. a.source ≡ source) → IfOk r (IsAssembled m)
 assembled_from meant one m source (Ok a) h kept =
     let d = denoted_from meant m source (Ok a) h in
     let names = names_from meant one m source (Ok a) h d.placed d.all d.laid in
     let places = places_from meant one m source (Ok a) h d.placed d.all d.laid in
-    assembled_by m source a kept (record { denotes = d; names = names; places = places })
+    assembled_by m source a kept d names places
 assembled_from meant one m source (Err f) h kept = tt
 
 pub only_from : DenotedIsJudged → (m : Map) (source : List ℕ) (r : Given) → AnswersSource verdict_view r (verdict m source) → (image : Cells) → Denotes m source image → IsImageOrMemory r image
