@@ -1,4 +1,5 @@
-pub mod Runs
 pub mod Fronts
-pub mod Steps
+pub mod Runs
 pub mod Slices
+pub mod Steps
+pub mod Strays

@@ -1,1 +1,2 @@
 pub mod Lexing
+pub mod Stray

@@ -98,9 +98,11 @@ fn string(bytes: &[u8]) -> Option<(TokenKind, &[u8])>
     Some((TokenKind::Str, &bytes[..inside + 2]))
 }
 
-/// Returns the token at the front of some bytes, if there is one.
+/// Returns the token at the front of some bytes, if there is one: what it is, and its bytes.
+///
+/// Blanks and comments are none. Source: mos65.
 #[tactic(auto, unfolding(model::specs::Token::token_at))]
-fn first_token(bytes: &[u8]) -> Option<(TokenKind, &[u8])>
+pub fn first_token(bytes: &[u8]) -> Option<(TokenKind, &[u8])>
     ensures { found_of result ≡ token_at bytes.now }
 {
     let (first, rest) = bytes.split_first()?;
