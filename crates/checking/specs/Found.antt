@@ -15,8 +15,8 @@ use Rattle.word_streams.specs.Words.{Fits}
 -- it has. No clause can say which source a file stands for.
 pub record IsFound (asked : CheckAsked) (found : CheckedText) : Type 0 where
   pub source : List ℕ
-  pub told : IsCheckedText asked.source source (faults_of (map_asked asked) source)
-      (warnings_of (map_asked asked) source) found.text.items
+  pub told : IsCheckedText asked.source source asked.profile
+      (faults_of (map_asked asked) source) (warnings_of (map_asked asked) source) found.text.items
   pub faulty : found.is_faulty ≡ not (length (faults_of (map_asked asked) source) == 0)
   pub warned : found.is_warned ≡ ((length (faults_of (map_asked asked) source) == 0)
       && not (length (warnings_of (map_asked asked) source) == 0))

@@ -33,9 +33,9 @@ pub fn checked_text(
     map: &MapSpec,
 ) -> Result<CheckedText, AllocError>
     // A block for each of the first 50 faults, with its line's number, its name, its number and the
-    // source's own line; or for each of the first 50 warnings, with its kind in place of the name
-    // and the number.
-    ensures told { IfOk result (λ c. IsCheckedText file.now source.now
+    // source's own line with a mark; or for each of the first 50 warnings, with its kind in place
+    // of the name and the number, and with its words.
+    ensures told { IfOk result (λ c. IsCheckedText file.now source.now map.now.profile
         (faults_of map.now source.now) (warnings_of map.now source.now) c.text.items) }
     // Whether a fault is told.
     ensures faulty { IfOk result

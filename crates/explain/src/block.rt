@@ -1,18 +1,24 @@
 //! The blocks of all faults.
 
-ghost use Rattle.std.specs.Prelude.{◌≡◌, ◌++◌, ◌+◌, ◌%◌, [], IfOk, OnOk, take};
+ghost use Rattle.std.specs.Prelude.{◌≡◌, ◌≤◌, ◌++◌, ◌+◌, ◌%◌, [], IfOk, OnOk, length, map, take};
 ghost use Rattle.std.specs.List.Sorted.{IsNonDecreasingBy, IsPermutation};
 ghost use Rattle.std.specs.Option.{option_map};
-ghost use Rattle.notes.specs.Lines.{texts_of};
-ghost use Rattle.notes.specs.Shown.{after_head};
 ghost use Rattle.explain.specs.Blocks.{AreBlocks, IsToldText, end_of, head_of, kind_text};
+ghost use Rattle.explain.specs.Blocks.{known_in, means_first, means_in};
 ghost use Rattle.explain.specs.Blocks.{shown_lines};
+ghost use Rattle.explain.specs.Marks.{IsMeant, known_of};
+ghost use Rattle.model.specs.TextLines.{lines_of};
+ghost use Rattle.notes.specs.Lines.{name_view, names_of, texts_of};
+ghost use Rattle.notes.specs.Shown.{after_head};
 
 use crate::note::{Context, note_of};
 use bus::MapSpec;
 use itoa::Buffer;
 use model::{AsmFault, AsmFaultKind};
-use notes::{Note, after_head, every_line, line_of, names_of, noted, push_count, push_place, said};
+use notes::{
+    Name, Note, after_head, every_line, line_of, line_or_none, names_of, noted, push_count,
+    push_place, said,
+};
 use source_faults::{Mending, lay_out};
 use std::alloc::{AllocError, Global};
 use symbols::Symbols;
@@ -104,7 +110,7 @@ fn by_line(alloc: Global, faults: &[AsmFault]) -> Result<Vec<AsmFault>, AllocErr
 
 /// Returns the blocks of faults of a source that is too long to be read.
 fn large_blocks(alloc: Global, file: &[u8], faults: &[AsmFault]) -> Result<Vec<u8>, AllocError>
-    ensures { IfOk result (λ text. AreBlocks file.now [] faults.now text.items) }
+    ensures { IfOk result (λ text. AreBlocks file.now [] means_first faults.now text.items) }
 {
     let mut text = Vec::new(alloc);
     for fault in faults {
@@ -122,19 +128,56 @@ fn line_blocks(
     context: &Context<'_, '_>,
     faults: &[AsmFault],
 ) -> Result<Vec<u8>, AllocError>
-    ensures { IfOk result (λ text. AreBlocks file.now (texts_of lines.now) faults.now text.items) }
+    ensures { IfOk result (λ text. AreBlocks file.now (texts_of lines.now)
+        (IsMeant (known_of context.now)) faults.now text.items) }
 {
     let mut text = Vec::new(alloc);
     for fault in faults {
         let line = line_of(lines, fault.line);
-        let shown = match line {
-            Some(line) => line,
-            None => &[],
-        };
-        let note = note_of(alloc, context, *fault, shown)?;
+        let note = note_of(alloc, context, *fault, line_or_none(line))?;
         push_block(alloc, &mut text, file, *fault, line, &note)?;
     }
     Ok(text)
+}
+
+/// Returns the names that the lines of a source begin with, as many lines as were read.
+#[tactic(auto, using(std::proofs::lemmas::List::take_min))]
+fn names_read<'a>(
+    alloc: Global,
+    lines: &[&'a [u8]],
+    count: usize,
+) -> Result<Vec<Name<'a>>, AllocError>
+    ensures { IfOk result
+        (λ names. map name_view names.items ≡ names_of (texts_of (take count lines.now))) }
+{
+    names_of(alloc, &lines[..count.min(lines.len())])
+}
+
+/// Returns the blocks of faults of a source that is not too long.
+fn source_blocks(
+    alloc: Global,
+    file: &[u8],
+    source: &[u8],
+    map: &MapSpec,
+    faults: &[AsmFault],
+) -> Result<Vec<u8>, AllocError>
+    requires { length source.now ≤ 1048576 }
+    ensures { IfOk result (λ text. AreBlocks file.now (lines_of source.now)
+        (IsMeant (known_in map.now.profile source.now)) faults.now text.items) }
+{
+    let mut symbols = Symbols::new(alloc);
+    let profile = map.profile();
+    let found = lay_out(alloc, profile, Mending::Smallest, &mut symbols, source)?;
+    let lines = every_line(alloc, source)?;
+    let names = names_read(alloc, &lines, found.len())?;
+    let context = Context {
+        profile,
+        port: map.port(),
+        names: &names,
+        symbols: &symbols,
+        found: &found,
+    };
+    line_blocks(alloc, file, &lines, &context, faults)
 }
 
 /// Returns the blocks of faults of a source.
@@ -145,25 +188,14 @@ fn blocks_of(
     map: &MapSpec,
     faults: &[AsmFault],
 ) -> Result<Vec<u8>, AllocError>
-    ensures { IfOk result
-        (λ text. AreBlocks file.now (shown_lines source.now) faults.now text.items) }
+    ensures { IfOk result (λ text. AreBlocks file.now (shown_lines source.now)
+        (means_in map.now.profile source.now) faults.now text.items) }
 {
     if source.len() > SOURCE_SIZE {
-        return large_blocks(alloc, file, faults);
+        large_blocks(alloc, file, faults)
+    } else {
+        source_blocks(alloc, file, source, map, faults)
     }
-    let mut symbols = Symbols::new(alloc);
-    let profile = map.profile();
-    let found = lay_out(alloc, profile, Mending::Smallest, &mut symbols, source)?;
-    let lines = every_line(alloc, source)?;
-    let names = names_of(alloc, &lines[..found.len().min(lines.len())])?;
-    let context = Context {
-        profile,
-        port: map.port(),
-        names: &names,
-        symbols: &symbols,
-        found: &found,
-    };
-    line_blocks(alloc, file, &lines, &context, faults)
 }
 
 /// Returns the text of faults of a source: for each of the first 50, by line,
@@ -181,9 +213,9 @@ pub fn faults_text(
     faults: &[AsmFault],
 ) -> Result<Vec<u8>, AllocError>
     // A block for each of the first 50 faults, with its line's number, its name, its number and the
-    // source's own line. Which words it has, and which bytes of the line it means, is open.
+    // source's own line with a mark under the bytes that are meant. Only its words are open.
     ensures told { IfOk result
-        (λ text. IsToldText file.now source.now faults.now text.items) }
+        (λ text. IsToldText file.now source.now map.now.profile faults.now text.items) }
 {
     if faults.is_empty() {
         return Ok(Vec::new(alloc));

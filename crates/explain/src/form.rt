@@ -1,9 +1,18 @@
 //! Why the tokens of a line are none of the grammar.
 
+ghost use Rattle.std.specs.Prelude.{◌≡◌, IfOk};
+ghost use Rattle.std.specs.Option.{option_map};
+ghost use Rattle.explain.specs.Marks.{closed_place, count_of, expression_place, first_of, first_or};
+ghost use Rattle.explain.specs.Marks.{form_place, inside_place, is_directive, is_word};
+ghost use Rattle.explain.specs.Marks.{may_be_defined, note_place, operation_place, token_place};
+ghost use Rattle.explain.specs.Marks.{unclosed, whole, wrong_operand_place};
+ghost use Rattle.line_parts.specs.Lexemes.{lexemes};
+ghost use Rattle.notes.specs.Operands.{end_of};
+
 use crate::near::is_near;
 use line_parts::Token;
 use model::{LineFault, Profile, TokenKind};
-use notes::{Note, after_label, is_symbol, joined, named, noted, said};
+use notes::{Note, is_symbol, joined, named, noted, said};
 use optable::mnemonic_in;
 use parser::parse_expr;
 use std::alloc::{AllocError, Global};
@@ -18,32 +27,44 @@ const MNEMONICS: [&[u8]; 62] = [
     b"PLY", b"STZ",
 ];
 
-/// Words about one token.
-fn about(token: &Token<'_>, words: Vec<u8>) -> Note {
+/// Returns a note about one token.
+pub fn about(token: &Token<'_>, words: Vec<u8>) -> Note
+    ensures { note_place result ≡ token_place token.now }
+{
     noted(token.start, token.text.len(), words)
 }
 
-/// The first byte after some tokens.
-fn end_of(tokens: &[Token<'_>]) -> usize {
-    match tokens.last() {
-        Some(token) => token.start.saturating_add(token.text.len()),
-        None => 0,
-    }
+/// Returns the index of the first byte behind a token.
+fn behind(token: &Token<'_>) -> usize
+    ensures { result ≡ end_of token.now }
+{
+    token.start.saturating_add(token.text.len())
 }
 
-/// How often a symbol stands among some tokens.
-fn count_of(tokens: &[Token<'_>], symbol: u8) -> usize {
+/// Returns whether a token is a word.
+pub fn is_word(token: &Token<'_>) -> bool
+    ensures { result ≡ is_word token.now.kind }
+{
+    matches!(token.kind, TokenKind::Word)
+}
+
+/// Returns how often a symbol stands among some tokens.
+fn count_of(symbol: u8, tokens: &[Token<'_>]) -> usize
+    ensures { result ≡ count_of symbol tokens.now }
+{
     let mut count = 0usize;
     for token in tokens {
         if is_symbol(token, symbol) {
-            count = count.saturating_add(1);
+            count += 1;
         }
     }
     count
 }
 
-/// The first token that is a symbol.
-fn first_of<'t, 'a>(tokens: &'t [Token<'a>], symbol: u8) -> Option<&'t Token<'a>> {
+/// Returns the first token that is a symbol.
+fn first_of<'t, 'a>(symbol: u8, tokens: &'t [Token<'a>]) -> Option<&'t Token<'a>>
+    ensures { option_map (λ token. token.now) result ≡ first_of symbol tokens.now }
+{
     for token in tokens {
         if is_symbol(token, symbol) {
             return Some(token);
@@ -52,7 +73,18 @@ fn first_of<'t, 'a>(tokens: &'t [Token<'a>], symbol: u8) -> Option<&'t Token<'a>
     None
 }
 
-/// What to write in place of a directive of another assembler.
+/// Returns the first opening bracket, if more are opened than closed.
+fn unclosed<'t, 'a>(opening: u8, closing: u8, tokens: &'t [Token<'a>]) -> Option<&'t Token<'a>>
+    ensures { option_map (λ token. token.now) result ≡ unclosed opening closing tokens.now }
+{
+    if count_of(opening, tokens) > count_of(closing, tokens) {
+        first_of(opening, tokens)
+    } else {
+        None
+    }
+}
+
+/// Returns what to write in place of a directive of another assembler.
 fn directive_hint(text: &[u8]) -> Option<&'static [u8]> {
     const HINTS: [(&[u8], &[u8]); 17] = [
         (b".ORG", b"write *= and the address"),
@@ -81,13 +113,13 @@ fn directive_hint(text: &[u8]) -> Option<&'static [u8]> {
     None
 }
 
-/// Why a word that is no mnemonic begins no operation.
-fn word_note(
+/// Returns why a word that is no mnemonic begins no operation.
+fn word_words(
     alloc: Global,
     profile: Profile,
     word: &Token<'_>,
     rest: &[Token<'_>],
-) -> Result<Note, AllocError> {
+) -> Result<Vec<u8>, AllocError> {
     if let Some(next) = rest.first() {
         let begins = match next.kind {
             TokenKind::Word => mnemonic_in(profile, next.text).is_some(),
@@ -96,50 +128,64 @@ fn word_note(
         };
         if begins {
             let pieces: [&[u8]; 3] = [b"a label ends with a colon: ", word.text, b":"];
-            return Ok(about(word, joined(alloc, &pieces)?));
+            return joined(alloc, &pieces);
         }
     }
     for name in &MNEMONICS {
         if name.eq_ignore_ascii_case(word.text) {
-            let pieces: [&[u8]; 2] = [word.text, b" is a mnemonic of profile C (--profile C)"];
-            return Ok(about(word, joined(alloc, &pieces)?));
+            return named(
+                alloc,
+                word.text,
+                " is a mnemonic of profile C (--profile C)",
+            );
         }
     }
     for name in &MNEMONICS {
         if is_near(name, word.text) && mnemonic_in(profile, name).is_some() {
             let pieces: [&[u8]; 4] = [word.text, b" is no mnemonic; ", name, b" is"];
-            return Ok(about(word, joined(alloc, &pieces)?));
+            return joined(alloc, &pieces);
         }
     }
-    let pieces: [&[u8]; 2] = [word.text, b" is no mnemonic"];
-    Ok(about(word, joined(alloc, &pieces)?))
+    named(alloc, word.text, " is no mnemonic")
 }
 
-/// Why an expression, or what stands after it, is wrong.
-fn expression_note(alloc: Global, start: usize, tokens: &[Token<'_>]) -> Result<Note, AllocError> {
+/// Returns what is said of the tokens behind an expression, or of their want.
+fn left_note(alloc: Global, index: usize, rest: &[Token<'_>]) -> Result<Note, AllocError>
+    ensures { IfOk result (λ note. note_place note ≡ first_or index (lexemes rest.now)) }
+{
+    match rest {
+        [token, ..] => Ok(about(
+            token,
+            named(alloc, token.text, " is left over after the operand")?,
+        )),
+        [] => Ok(noted(index, 1, said(alloc, "something is missing here")?)),
+    }
+}
+
+/// Returns what is said of tokens that begin with no expression.
+fn no_value_note(alloc: Global, index: usize, tokens: &[Token<'_>]) -> Result<Note, AllocError>
+    ensures { IfOk result (λ note. note_place note ≡ first_or index (lexemes tokens.now)) }
+{
+    match tokens {
+        [token, ..] => Ok(about(token, said(alloc, "no value can be read here")?)),
+        [] => Ok(noted(index, 1, said(alloc, "an operand is missing")?)),
+    }
+}
+
+/// Returns why an expression, or what stands after it, is wrong.
+fn expression_note(alloc: Global, index: usize, tokens: &[Token<'_>]) -> Result<Note, AllocError>
+    ensures { IfOk result (λ note. note_place note ≡ expression_place index tokens.now) }
+{
     match parse_expr(alloc, tokens) {
-        Ok((value, taken)) => {
-            drop(value);
-            match tokens.get(taken) {
-                Some(token) => {
-                    let pieces: [&[u8]; 2] = [token.text, b" is left over after the operand"];
-                    Ok(about(token, joined(alloc, &pieces)?))
-                }
-                None => Ok(noted(start, 1, said(alloc, "something is missing here")?)),
-            }
-        }
+        Ok((_, taken)) => left_note(alloc, index, tokens.split_at(taken).1),
         Err(LineFault::OutOfMemory) => Err(AllocError),
-        Err(LineFault::Syntax) => match tokens.first() {
-            Some(token) => Ok(about(token, said(alloc, "no value can be read here")?)),
-            None => Ok(noted(start, 1, said(alloc, "an operand is missing")?)),
-        },
+        Err(LineFault::Syntax) => no_value_note(alloc, index, tokens),
     }
 }
 
-/// Why an operand that begins with a round bracket is wrong.
-fn pointer_note(alloc: Global, open: &Token<'_>, tokens: &[Token<'_>]) -> Result<Note, AllocError> {
-    let whole = end_of(tokens).saturating_sub(open.start);
-    let words: &str = match tokens {
+/// Returns why an operand that begins with a round bracket is wrong.
+fn pointer_words(tokens: &[Token<'_>]) -> &'static str {
+    match tokens {
         [.., close, comma, index]
             if is_symbol(close, b')')
                 && is_symbol(comma, b',')
@@ -152,91 +198,142 @@ fn pointer_note(alloc: Global, open: &Token<'_>, tokens: &[Token<'_>]) -> Result
                 && index.text.eq_ignore_ascii_case(b"Y") => {
             "no instruction has the form (..,Y); there are (..,X) and (..),Y"
         }
-        _ => "round brackets stand round a pointer; in an expression write [ and ]",
+        _ => BRACKETS,
+    }
+}
+
+/// What is said of round brackets in an expression.
+const BRACKETS: &str = "round brackets stand round a pointer; in an expression write [ and ]";
+
+/// Returns a note about tokens from the first to the last.
+fn whole_note(tokens: &[Token<'_>], words: Vec<u8>) -> Note
+    ensures { note_place result ≡ whole tokens.now }
+{
+    match (tokens.first(), tokens.last()) {
+        (Some(first), Some(last)) => {
+            noted(first.start, behind(last).saturating_sub(first.start), words)
+        }
+        _ => noted(0, 1, words),
+    }
+}
+
+/// Returns what is said of an expression, which may have a round bracket in it.
+fn inside_note(alloc: Global, index: usize, tokens: &[Token<'_>]) -> Result<Note, AllocError>
+    ensures { IfOk result
+        (λ note. note_place note ≡ inside_place index tokens.now (first_of 40 tokens.now)) }
+{
+    match first_of(b'(', tokens) {
+        Some(bracket) => Ok(about(bracket, said(alloc, BRACKETS)?)),
+        None => expression_note(alloc, index, tokens),
+    }
+}
+
+/// Returns what is said of an operand whose brackets are closed.
+fn closed_note(alloc: Global, index: usize, tokens: &[Token<'_>]) -> Result<Note, AllocError>
+    ensures { IfOk result (λ note. note_place note ≡ closed_place index tokens.now) }
+{
+    let [first, rest @ ..] = tokens else {
+        return expression_note(alloc, index, &[]);
     };
-    Ok(noted(open.start, whole, said(alloc, words)?))
+    if is_symbol(first, b'(') {
+        let words = said(alloc, pointer_words(tokens))?;
+        return Ok(whole_note(tokens, words));
+    }
+    if is_symbol(first, b'#') || is_symbol(first, b'!') {
+        return expression_note(alloc, behind(first), rest);
+    }
+    inside_note(alloc, index, tokens)
 }
 
-/// Why the operand of an instruction is wrong.
-fn operand_note(alloc: Global, start: usize, tokens: &[Token<'_>]) -> Result<Note, AllocError> {
-    if count_of(tokens, b'(') > count_of(tokens, b')') {
-        if let Some(open) = first_of(tokens, b'(') {
-            return Ok(about(open, said(alloc, "this bracket is not closed")?));
-        }
+/// Returns why the operand of an instruction is wrong, which stands behind this index.
+fn wrong_operand_note(alloc: Global, index: usize, tokens: &[Token<'_>]) -> Result<Note, AllocError>
+    ensures { IfOk result (λ note. note_place note ≡ wrong_operand_place index tokens.now) }
+{
+    if let Some(bracket) = unclosed(b'(', b')', tokens) {
+        return Ok(about(bracket, said(alloc, "this bracket is not closed")?));
     }
-    if count_of(tokens, b'[') > count_of(tokens, b']') {
-        if let Some(open) = first_of(tokens, b'[') {
-            return Ok(about(open, said(alloc, "this bracket is not closed")?));
-        }
+    if let Some(bracket) = unclosed(b'[', b']', tokens) {
+        return Ok(about(bracket, said(alloc, "this bracket is not closed")?));
     }
-    match tokens {
-        [open, ..] if is_symbol(open, b'(') => pointer_note(alloc, open, tokens),
-        [mark, rest @ ..] if is_symbol(mark, b'#') || is_symbol(mark, b'!') => {
-            expression_note(alloc, mark.start.saturating_add(1), rest)
+    closed_note(alloc, index, tokens)
+}
+
+/// Returns whether a text is one of the five directives.
+fn is_directive(text: &[u8]) -> bool
+    ensures { result ≡ is_directive text.now }
+{
+    text.eq_ignore_ascii_case(b".BYTE")
+        || text.eq_ignore_ascii_case(b".WORD")
+        || text.eq_ignore_ascii_case(b".DBYTE")
+        || text.eq_ignore_ascii_case(b".RES")
+        || text.eq_ignore_ascii_case(b".END")
+}
+
+/// Returns words about a text that is none of the five directives.
+fn directive_words(alloc: Global, text: &[u8]) -> Result<Vec<u8>, AllocError> {
+    match directive_hint(text) {
+        Some(hint) => {
+            let mut words = named(alloc, text, " is no directive here; ")?;
+            words.extend_from_slice(hint)?;
+            Ok(words)
         }
-        _ => match first_of(tokens, b'(') {
-            Some(open) => pointer_note(alloc, open, &[]),
-            None => expression_note(alloc, start, tokens),
-        },
+        None => named(
+            alloc,
+            text,
+            " is no directive; there are .BYTE .WORD .DBYTE .RES .END",
+        ),
     }
 }
 
-/// Why a directive is wrong.
-fn directive_note(
-    alloc: Global,
-    directive: &Token<'_>,
-    rest: &[Token<'_>],
-) -> Result<Note, AllocError> {
-    if let Some(hint) = directive_hint(directive.text) {
-        let mut words = named(alloc, directive.text, " is no directive here; ")?;
-        words.extend_from_slice(hint)?;
-        return Ok(about(directive, words));
-    }
-    const KNOWN: [&[u8]; 5] = [b".BYTE", b".WORD", b".DBYTE", b".RES", b".END"];
-    for known in &KNOWN {
-        if known.eq_ignore_ascii_case(directive.text) {
-            let end = directive.start.saturating_add(directive.text.len());
-            return expression_note(alloc, end, rest);
-        }
-    }
-    let pieces: [&[u8]; 2] = [
-        directive.text,
-        b" is no directive; there are .BYTE .WORD .DBYTE .RES .END",
-    ];
-    Ok(about(directive, joined(alloc, &pieces)?))
-}
-
-/// Returns why the tokens of a line are none of the grammar.
-pub fn form_note(
+/// Returns why an operation that begins with this token is wrong.
+fn operation_note(
     alloc: Global,
     profile: Profile,
-    tokens: &[Token<'_>],
-) -> Result<Note, AllocError> {
-    match after_label(tokens) {
-        [name, equals, rest @ ..] if name.kind == TokenKind::Word && is_symbol(equals, b'=') => {
-            expression_note(alloc, equals.start.saturating_add(1), rest)
-        }
-        [star, equals, rest @ ..] if is_symbol(star, b'*') && is_symbol(equals, b'=') => {
-            expression_note(alloc, equals.start.saturating_add(1), rest)
-        }
-        [first, rest @ ..] => match first.kind {
-            TokenKind::Word => {
-                if mnemonic_in(profile, first.text).is_some() {
-                    let end = first.start.saturating_add(first.text.len());
-                    operand_note(alloc, end, rest)
-                } else {
-                    word_note(alloc, profile, first, rest)
-                }
+    first: &Token<'_>,
+    rest: &[Token<'_>],
+) -> Result<Note, AllocError>
+    ensures { IfOk result (λ note. note_place note
+        ≡ operation_place profile first.now.kind first.now rest.now) }
+{
+    match first.kind {
+        TokenKind::Word => {
+            if mnemonic_in(profile, first.text).is_some() {
+                return wrong_operand_note(alloc, behind(first), rest);
             }
-            TokenKind::Directive => directive_note(alloc, first, rest),
-            _ => Ok(about(
-                first,
-                said(
-                    alloc,
-                    "a line begins with a label, a name and =, a mnemonic, a directive or *=",
-                )?,
-            )),
-        },
+            Ok(about(first, word_words(alloc, profile, first, rest)?))
+        }
+        TokenKind::Directive => {
+            if is_directive(first.text) {
+                return expression_note(alloc, behind(first), rest);
+            }
+            Ok(about(first, directive_words(alloc, first.text)?))
+        }
+        _ => {
+            let words = said(
+                alloc,
+                "a line begins with a label, a name and =, a mnemonic, a directive or *=",
+            )?;
+            Ok(about(first, words))
+        }
+    }
+}
+
+/// Returns whether a token may stand before the `=` of a definition or of `*=`.
+fn may_be_defined(token: &Token<'_>) -> bool
+    ensures { result ≡ may_be_defined token.now }
+{
+    is_word(token) || is_symbol(token, b'*')
+}
+
+/// Returns why the tokens of a line behind its label are none of the grammar.
+pub fn form_note(alloc: Global, profile: Profile, tokens: &[Token<'_>]) -> Result<Note, AllocError>
+    ensures { IfOk result (λ note. note_place note ≡ form_place profile tokens.now) }
+{
+    match tokens {
+        [first, second, rest @ ..] if is_symbol(second, b'=') && may_be_defined(first) => {
+            expression_note(alloc, behind(second), rest)
+        }
+        [first, rest @ ..] => operation_note(alloc, profile, first, rest),
         [] => Ok(noted(0, 1, said(alloc, "the line says nothing that can be read")?)),
     }
 }

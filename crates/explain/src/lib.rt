@@ -2,8 +2,8 @@
 //! name, by how much a value misses.
 //!
 //! `faults_text` writes a block for each fault: the fault's line, name and number, words, and the
-//! source's own line with a mark. What the words say and where the mark stands is tested and not
-//! proved.
+//! source's own line with a mark under the bytes that are meant. What the words say is tested and
+//! not proved.
 #![tactic(auto)]
 
 mod block;

@@ -13,6 +13,11 @@ texts_of slices = map (λ slice. slice.now) slices
 abbrev pub line_of : List (List ℕ) → ℕ → Option (List ℕ)
 line_of lines number = slice_get lines (number - 1)
 
+-- A line, empty where there is none.
+abbrev pub line_or_none : Option (List ℕ) → List ℕ
+line_or_none None = []
+line_or_none (Some line) = line
+
 abbrev pub without_blanks : List ℕ → List ℕ
 without_blanks text = drop (prefix_len is_blank text) text
 

@@ -11,7 +11,7 @@ mod runs;
 mod shown;
 mod words;
 
-pub use lines::{Name, every_line, line_of, names_of};
+pub use lines::{Name, every_line, line_of, line_or_none, names_of};
 pub use operands::{about_operand, after_label, is_symbol, operand_of};
 pub use runs::{Class, after, blank_run, run_of, word_run};
 pub use shown::{after_head, push_place};

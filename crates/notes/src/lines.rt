@@ -3,8 +3,8 @@
 ghost use Rattle.std.specs.Prelude.{◌≡◌, ◌++◌, [], IfOk, OnOk, map};
 ghost use Rattle.std.specs.Option.{option_map};
 ghost use Rattle.model.specs.TextLines.{lines_of};
-ghost use Rattle.notes.specs.Lines.{defines, line_of, name_of, name_view, names_of};
-ghost use Rattle.notes.specs.Lines.{texts_of, with_name, without_blanks};
+ghost use Rattle.notes.specs.Lines.{defines, line_of, line_or_none, name_of, name_view};
+ghost use Rattle.notes.specs.Lines.{names_of, texts_of, with_name, without_blanks};
 
 use crate::runs::{after, blank_run, word_run};
 use source_lines::next_line;
@@ -38,6 +38,16 @@ pub fn line_of<'a>(lines: &[&'a [u8]], number: u32) -> Option<&'a [u8]>
     ensures { option_map (λ line. line.now) result ≡ line_of (texts_of lines.now) number }
 {
     lines.get((number as usize).saturating_sub(1)).copied()
+}
+
+/// Returns a line, empty where there is none.
+pub fn line_or_none(line: Option<&[u8]>) -> &[u8]
+    ensures { result.now ≡ line_or_none (option_map (λ line. line.now) line.entry) }
+{
+    match line {
+        Some(line) => line,
+        None => &[],
+    }
 }
 
 /// Returns a text from its first byte on that is no blank.
