@@ -2,10 +2,11 @@
 use Rattle.std.specs.Prelude.{◌≡◌, ℕ, ◌+◌, ◌%◌, nat_lt, ◌==◌, if◌then◌else◌, List, [], ◌∷◌, ◌++◌, length, take, codes}
 use Rattle.std.specs.Fmt.{decimal}
 use Rattle.model.specs.TextLines.{lines_of}
-use Rattle.notes.specs.Lines.{line_of}
+use Rattle.notes.specs.Lines.{line_of, line_or_none, names_of}
 use Rattle.notes.specs.Places.{place_of}
 use Rattle.notes.specs.Shown.{after_head}
 use Rattle.notes.specs.declared.words.Note.{Note}
+use Rattle.warning_notes.specs.Notes.{IsNote}
 use Rattle.warnings.specs.declared.kinds.Warning.{Warning}
 use Rattle.warnings.specs.declared.kinds.WarningKind.{WarningKind}
 use Rattle.warnings.specs.declared.kinds.WarningKind.TheVariants.{PlainNumber, UnusedName, LongForm, LetterCase, NoBytes, AfterEnd}
@@ -23,12 +24,14 @@ abbrev pub head_of : List ℕ → Warning → ℕ → List ℕ
 head_of file w column
     = place_of file w.line column ++ (codes "warning: " ++ (kind_name w.kind ++ codes ": "))
 
--- A block: its head, and then a note's words and the line with a mark, if there is a line. Only the
--- note is open: its words, and which bytes of the line it means. The column is that of the first of
--- these bytes, counted from 1; 65,536 bytes further it begins again.
+-- A block: its head, and then its note's words and the line with a mark, if there is a line. The
+-- column is that of the first byte that the note means, counted from 1; 65,536 bytes further it
+-- begins again.
 pub record IsBlock (file : List ℕ) (lines : List (List ℕ)) (warning : Warning)
     (block : List ℕ) : Type 0 where
   pub note : Note
+  pub said : IsNote (names_of lines) warning.kind warning.line
+      (line_or_none (line_of lines warning.line)) note
   pub text : block ≡ head_of file warning (note.start % 65536 + 1)
       ++ after_head (line_of lines warning.line) note
 

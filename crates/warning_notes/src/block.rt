@@ -1,15 +1,15 @@
 //! The blocks of all warnings.
 
-ghost use Rattle.std.specs.Prelude.{◌≡◌, ◌++◌, ◌+◌, ◌%◌, IfOk, OnOk, take};
+ghost use Rattle.std.specs.Prelude.{◌≡◌, ◌++◌, ◌+◌, ◌%◌, IfOk, OnOk, map, take};
 ghost use Rattle.std.specs.Option.{option_map};
-ghost use Rattle.notes.specs.Lines.{texts_of};
+ghost use Rattle.notes.specs.Lines.{name_view, names_of, texts_of};
 ghost use Rattle.notes.specs.Shown.{after_head};
 ghost use Rattle.warning_notes.specs.Blocks.{AreBlocks, IsWarnedText, end_of, head_of};
 ghost use Rattle.warning_notes.specs.Blocks.{kind_name};
 
 use crate::note::note_of;
 use itoa::Buffer;
-use notes::{Name, Note, after_head, every_line, line_of, names_of, push_place};
+use notes::{Name, Note, after_head, every_line, line_of, line_or_none, names_of, push_place};
 use std::alloc::{AllocError, Global};
 use warnings::{Warning, WarningKind};
 
@@ -90,7 +90,7 @@ fn first_told(warnings: &[Warning]) -> &[Warning]
     &warnings[..MOST_TOLD.min(warnings.len())]
 }
 
-/// Returns the blocks of warnings of a source whose lines are these.
+/// Returns the blocks of warnings of a source whose lines are these and begin with these names.
 fn line_blocks(
     alloc: Global,
     file: &[u8],
@@ -98,16 +98,14 @@ fn line_blocks(
     names: &[Name<'_>],
     warnings: &[Warning],
 ) -> Result<Vec<u8>, AllocError>
+    requires { map name_view names.now ≡ names_of (texts_of lines.now) }
     ensures { IfOk result
         (λ text. AreBlocks file.now (texts_of lines.now) warnings.now text.items) }
 {
     let mut text = Vec::new(alloc);
     for warning in warnings {
         let line = line_of(lines, warning.line);
-        let shown = match line {
-            Some(line) => line,
-            None => &[],
-        };
+        let shown = line_or_none(line);
         let note = note_of(alloc, names, warning.kind, warning.line, shown)?;
         push_block(alloc, &mut text, file, *warning, line, &note)?;
     }
@@ -127,8 +125,8 @@ pub fn warnings_text(
     source: &[u8],
     warnings: &[Warning],
 ) -> Result<Vec<u8>, AllocError>
-    // A block for each of the first 50 warnings, with its line's number, its kind and the source's
-    // own line. Which words it has, and which bytes of the line it means, is open.
+    // A block for each of the first 50 warnings, with its line's number, its kind, its words and
+    // the source's own line with a mark under what is meant.
     ensures told { IfOk result
         (λ text. IsWarnedText file.now source.now warnings.now text.items) }
 {

@@ -1,8 +1,7 @@
 //! The warnings of a source as text, a block for each.
 //!
 //! `warnings_text` writes a block for each warning: the warning's line and kind, words, and the
-//! source's own line with a mark. What the words say and where the mark stands is tested and not
-//! proved.
+//! source's own line with a mark under what the words are about.
 #![tactic(auto)]
 
 mod block;

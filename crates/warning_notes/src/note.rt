@@ -1,82 +1,154 @@
 //! What is said of each kind of warning.
 
+ghost use Rattle.std.specs.Prelude.{◌≡◌, ◌++◌, IfOk, OnOk, map};
+ghost use Rattle.std.specs.List.{find};
+ghost use Rattle.std.specs.Option.{option_map};
+ghost use Rattle.std.specs.Str.{str_eq_ignore_ascii_case};
+ghost use Rattle.notes.specs.Lines.{name_view};
+ghost use Rattle.warning_notes.specs.Notes.{AreTokens, IsNote, case_words, first_word, is_like};
+ghost use Rattle.warning_notes.specs.Notes.{last_text, like_words, plain_words, word_place};
+
 use lexer::tokens;
+use line_parts::Token;
 use model::LineFault;
 use notes::{
-    Name, Note, about_operand, blank_run, joined, named, noted, operand_of, push_count, said,
+    Name, Note, about_operand, after, blank_run, named, noted, operand_of, push_count, said,
     word_run,
 };
 use std::alloc::{AllocError, Global};
 use warnings::WarningKind;
 
-/// A note about the word with which a line begins.
-fn about_word(line: &[u8], words: Vec<u8>) -> Note {
+/// Returns a note about the word with which a line begins.
+fn about_word(line: &[u8], words: Vec<u8>) -> Note
+    ensures { let place = word_place line.now in
+        result ≡ record { start = place.0; width = place.1; words = words } }
+{
     let start = blank_run(line);
-    let width = match line.get(start..) {
-        Some(rest) => word_run(rest).max(1),
-        None => 1,
-    };
-    noted(start, width, words)
+    noted(start, word_run(after(line, start)).max(1), words)
 }
 
-/// The word with which a line begins.
-fn first_word(line: &[u8]) -> &[u8] {
-    match line.get(blank_run(line)..) {
-        Some(rest) => match rest.get(..word_run(rest)) {
-            Some(word) => word,
-            None => rest,
-        },
+/// Returns the word with which a line begins.
+#[tactic(auto, using(crate::proofs::Words::word_steps))]
+fn first_word(line: &[u8]) -> &[u8]
+    ensures { result.now ≡ first_word line.now }
+{
+    let rest = after(line, blank_run(line));
+    &rest[..word_run(rest)]
+}
+
+/// Returns the tokens of a line; none of a line that is not made of tokens.
+fn tokens_or_none<'a>(alloc: Global, line: &'a [u8]) -> Result<Vec<Token<'a>>, AllocError>
+    ensures { IfOk result (λ tokens. AreTokens line.now tokens.items) }
+{
+    match tokens(alloc, line) {
+        Ok(found) => Ok(found),
+        Err(LineFault::OutOfMemory) => Err(AllocError),
+        Err(LineFault::Syntax) => Ok(Vec::new(alloc)),
+    }
+}
+
+/// Returns the text of the last of some tokens.
+fn last_text<'a>(tokens: &[Token<'a>]) -> &'a [u8]
+    ensures { result.now ≡ last_text tokens.now }
+{
+    match tokens.last() {
+        Some(token) => token.text,
         None => &[],
     }
 }
 
-/// Words about an operand.
-fn operand_note(alloc: Global, kind: WarningKind, line: &[u8]) -> Result<Note, AllocError> {
-    let found = match tokens(alloc, line) {
-        Ok(found) => found,
-        Err(LineFault::OutOfMemory) => return Err(AllocError),
-        Err(LineFault::Syntax) => Vec::new(alloc),
-    };
-    let number: &[u8] = match operand_of(&found).last() {
-        Some(token) => token.text,
-        None => &[],
-    };
-    let words = match kind {
-        WarningKind::PlainNumber => joined(
-            alloc,
-            &[
-                number,
-                b" is an address, and nothing writes there; the number is #",
-                number,
-            ],
-        )?,
-        _ => said(
-            alloc,
-            "below 256, but known only later: it takes two bytes here",
-        )?,
-    };
-    Ok(about_operand(line, &found, words))
+/// Returns words about a number that is an address.
+fn plain_words(alloc: Global, number: &[u8]) -> Result<Vec<u8>, AllocError>
+    ensures { IfOk result (λ words. words.items ≡ plain_words number.now) }
+{
+    let what = " is an address, and nothing writes there; the number is #";
+    let mut words = named(alloc, number, what)?;
+    words.extend_from_slice(number)?;
+    Ok(words)
 }
 
-/// Words about a name that differs from another one only in letter case.
-fn case_note(
+/// Returns a note about a number that is an address.
+fn plain_note(
     alloc: Global,
     names: &[Name<'_>],
     number: u32,
     line: &[u8],
-) -> Result<Note, AllocError> {
-    let word = first_word(line);
-    let mut words = named(alloc, word, " differs only in letter case from ")?;
+) -> Result<Note, AllocError>
+    ensures { IfOk result
+        (IsNote (map name_view names.now) WarningKind.PlainNumber number line.now) }
+{
+    let found = tokens_or_none(alloc, line)?;
+    let words = plain_words(alloc, last_text(operand_of(&found)))?;
+    Ok(about_operand(line, &found, words))
+}
+
+/// Returns a note about an operand that takes two bytes.
+fn long_note(
+    alloc: Global,
+    names: &[Name<'_>],
+    number: u32,
+    line: &[u8],
+) -> Result<Note, AllocError>
+    ensures { IfOk result
+        (IsNote (map name_view names.now) WarningKind.LongForm number line.now) }
+{
+    let found = tokens_or_none(alloc, line)?;
+    let words = said(
+        alloc,
+        "below 256, but known only later: it takes two bytes here",
+    )?;
+    Ok(about_operand(line, &found, words))
+}
+
+/// Returns whether two words are the same but for capitals.
+fn is_same_word(one: &[u8], other: &[u8]) -> bool
+    ensures { result ≡ str_eq_ignore_ascii_case one.now other.now }
+{
+    one.eq_ignore_ascii_case(other)
+}
+
+/// Returns the first name of a line before this one that has the letters of a word, in capitals or
+/// not.
+fn like_name<'a>(names: &[Name<'a>], number: u32, word: &[u8]) -> Option<Name<'a>>
+    ensures { option_map name_view result ≡ find (is_like number word.now)
+        (map name_view names.now) }
+{
     for name in names {
-        if name.line < number && name.text.eq_ignore_ascii_case(word) {
-            words.extend_from_slice(name.text)?;
-            words.extend_from_slice(b", on line ")?;
-            push_count(&mut words, name.line)?;
-            return Ok(about_word(line, words));
+        if name.line < number && is_same_word(name.text, word) {
+            return Some(*name);
         }
     }
-    words.extend_from_slice(b"another name")?;
-    Ok(about_word(line, words))
+    None
+}
+
+/// Appends a name and its line.
+fn push_like(words: &mut Vec<u8>, name: Option<Name<'_>>) -> Result<(), AllocError>
+    ensures { OnOk result (words.new.items
+        ≡ words.old.items ++ like_words (option_map name_view name.entry)) }
+{
+    match name {
+        None => words.extend_from_slice(b"another name"),
+        Some(name) => {
+            words.extend_from_slice(name.text)?;
+            words.extend_from_slice(b", on line ")?;
+            push_count(words, name.line)
+        }
+    }
+}
+
+/// Returns words about a name that differs from another one only in letter case.
+fn case_words(
+    alloc: Global,
+    names: &[Name<'_>],
+    number: u32,
+    word: &[u8],
+) -> Result<Vec<u8>, AllocError>
+    ensures { IfOk result
+        (λ words. words.items ≡ case_words (map name_view names.now) number word.now) }
+{
+    let mut words = named(alloc, word, " differs only in letter case from ")?;
+    push_like(&mut words, like_name(names, number, word))?;
+    Ok(words)
 }
 
 /// Returns what is said of a warning of a line, by its number.
@@ -86,14 +158,20 @@ pub fn note_of(
     kind: WarningKind,
     number: u32,
     line: &[u8],
-) -> Result<Note, AllocError> {
+) -> Result<Note, AllocError>
+    ensures { IfOk result (IsNote (map name_view names.now) kind number line.now) }
+{
     match kind {
-        WarningKind::PlainNumber | WarningKind::LongForm => operand_note(alloc, kind, line),
+        WarningKind::PlainNumber => plain_note(alloc, names, number, line),
+        WarningKind::LongForm => long_note(alloc, names, number, line),
         WarningKind::UnusedName => {
             let words = named(alloc, first_word(line), " is never used")?;
             Ok(about_word(line, words))
         }
-        WarningKind::LetterCase => case_note(alloc, names, number, line),
+        WarningKind::LetterCase => {
+            let words = case_words(alloc, names, number, first_word(line))?;
+            Ok(about_word(line, words))
+        }
         WarningKind::NoBytes => {
             let words = said(
                 alloc,
