@@ -1,4 +1,5 @@
 pub mod Appended
+pub mod Found
 pub mod Read
 pub mod Stripped
 pub mod Word

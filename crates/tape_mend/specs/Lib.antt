@@ -1,2 +1,3 @@
 pub mod Mending
+pub mod Reported
 pub mod Word

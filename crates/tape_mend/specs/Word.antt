@@ -7,6 +7,7 @@ use Rattle.model.specs.declared.tape.TapeFault.{TapeFault}
 use Rattle.model.specs.declared.tape.TapeFaultKind.{TapeFaultKind}
 use Rattle.model.specs.declared.tape.TapeFaultKind.TheVariants.{Truncated}
 use Rattle.tape_mend.specs.Mending.{HasRecords, IsMendedText, mended_text}
+use Rattle.tape_mend.specs.Reported.{faults_text}
 use Rattle.tape_words.specs.Answers.{TellsFault}
 use Rattle.tape_words.specs.Asked.{MendAsked, mend_asked}
 use Rattle.tape_words.specs.CommandLines.{mend}
@@ -16,10 +17,10 @@ use Rattle.tape_words.specs.declared.refusal.Refusal.{Refusal}
 use Rattle.tape_words.specs.declared.refusal.Refusal.TheVariants.{Words, Map, Tape, OutOfMemory, Read, Write}
 use Rattle.word_streams.specs.Words.{Fits}
 
--- Where nothing was wrong, this is said.
-abbrev pub IsReport : Option TapeFault → List ℕ → Type 0
-IsReport None said = said ≡ codes "nothing was wrong\n"
-IsReport (Some fault) said = ⊤
+-- What is said of a text that had this first fault, or none.
+abbrev pub IsReport : List ℕ → Option TapeFault → List ℕ → Type 0
+IsReport text None said = said ≡ codes "nothing was wrong\n"
+IsReport text (Some fault) said = said ≡ faults_text text
 
 -- What is said of a tape that is mended.
 pub record IsMended (said : List ℕ) : Type 0 where
@@ -30,7 +31,7 @@ pub record IsMended (said : List ℕ) : Type 0 where
   pub mended : IsMendedText text out fault
   pub denotes : TapeDenotes out image
   pub records : HasRecords text image
-  pub report : IsReport fault said
+  pub report : IsReport text fault said
 
 -- What is said of a tape that is not: the first fault that its mended text still has, or that the
 -- tape is cut short there.

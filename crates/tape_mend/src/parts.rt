@@ -12,7 +12,7 @@ use formatting::digits_of;
 use std::alloc::{AllocError, Global};
 
 /// Returns whether a byte is neither a line end, $00 nor $13.
-fn is_kept(byte: u8) -> bool
+pub fn is_kept(byte: u8) -> bool
     ensures { result ≡ is_kept byte }
 {
     !(byte == 0 || byte == 13 || byte == 10 || byte == 19)

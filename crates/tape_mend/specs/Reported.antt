@@ -1,0 +1,61 @@
+-- What `mend` says of a tape where something was wrong. Source: mos65.
+use Rattle.std.specs.Prelude.{ℕ, ◌+◌, ◌-◌, ◌==◌, ◌&&◌, nat_le, Bool, if◌then◌else◌, List, [], ◌∷◌, ◌++◌, length, slice_index, codes}
+use Rattle.std.specs.List.{list_any}
+use Rattle.model.specs.Tape.{is_skipped}
+use Rattle.tape_mend.specs.Mending.{kept, records_in}
+use Rattle.tape_words.specs.Answers.{counted}
+use Rattle.tape_words.specs.Meanings.{there_text}
+use Rattle.tape_words.specs.Records.{end_record}
+use Rattle.tape_words.specs.declared.records.EndRecord.{EndRecord}
+use Rattle.tape_words.specs.declared.records.EndRecord.TheVariants.{Missing, Right, CountTwice, WrongSum, WrongCount}
+
+-- How many line ends, $00 and $13 of a text are followed by a byte that is none of these and no
+-- `;`, if so many come directly before the text.
+unfoldable pub within_from : ℕ → List ℕ → ℕ
+within_from skipped [] = 0
+within_from skipped (b ∷ text) = if is_skipped b then within_from (skipped + 1) text
+    else if b == 59 then within_from 0 text else skipped + within_from 0 text
+
+-- How many line ends, $00 and $13 stand within the records of a text.
+abbrev pub within_records : List ℕ → ℕ
+within_records text = within_from 0 text
+
+-- The last record of some kept bytes, from its `;` on; all of them if there is no `;`.
+unfoldable pub last_record : List ℕ → List ℕ
+last_record [] = []
+last_record (b ∷ bytes) = if list_any (λ b. b == 59) bytes then last_record bytes
+    else b ∷ bytes
+
+-- A record that begins with `;00` is meant as an end record.
+abbrev pub is_end : List ℕ → Bool
+is_end bytes = nat_le 3 (length bytes) && slice_index bytes 0 == 59
+    && slice_index bytes 1 == 48 && slice_index bytes 2 == 48
+
+-- How many data records some kept bytes have.
+abbrev pub data_records : List ℕ → ℕ
+data_records bytes
+    = if is_end (last_record bytes) then records_in bytes - 1 else records_in bytes
+
+-- What is to be said of the end record of some kept bytes.
+abbrev pub end_of : List ℕ → EndRecord
+end_of bytes = if is_end (last_record bytes)
+    then end_record (last_record bytes) 0 (data_records bytes) else Missing
+
+abbrev pub within_text : ℕ → List ℕ
+within_text count = if count == 0 then [] else counted count
+    (codes "line end or NUL within a record\n") (codes "line ends or NULs within records\n")
+
+-- What was wrong with an end record, after so many data records.
+abbrev pub end_text : EndRecord → ℕ → List ℕ
+end_text Right records = []
+end_text Missing records = codes "end record: it was missing\n"
+end_text CountTwice records
+    = codes "end record: the sum is the record count twice, as srec_cat writes it\n"
+end_text WrongSum records = codes "end record: its sum was wrong\n"
+end_text (WrongCount count) records = codes "end record: it counted "
+    ++ (counted count (codes "record") (codes "records") ++ (there_text records ++ 10 ∷ []))
+
+-- A line for each thing that was wrong with a text.
+abbrev pub faults_text : List ℕ → List ℕ
+faults_text text = within_text (within_records text)
+    ++ end_text (end_of (kept text)) (data_records (kept text))
