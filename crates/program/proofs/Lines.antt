@@ -4,6 +4,7 @@ use Rattle.clap.specs.Words.{IsAmong, Text, kind_of}
 use Rattle.model.specs.Writers.{AppendsFront, Writes}
 use Rattle.program.specs.FaultLines.{IsTold, IsToldOfWords}
 use Rattle.program.specs.Statuses.{IsStatusOf}
+use Rattle.program.specs.declared.refusal.Refusal.TheVariants as refusal
 use Rattle.program_words.specs.Refused.{IsRightRefusal, IsTaken}
 use Rattle.program_words.specs.declared.fault.WordsFault.{WordsFault}
 use Rattle.program_words.specs.declared.fault.WordsFault.TheVariants.{Help, Usage, Value, OutOfMemory}
@@ -16,8 +17,11 @@ front_of a b xs (Err e) p = p
 -- Rejected words have a fault line, unless they do not fit the command line and the status is 2.
 pub told_of_words : (fault : WordsFault) (words : List Text) (status : ℕ) (held now : Option (List ℕ)) → IsRightRefusal words fault → IsStatusOf fault status
     → IsToldOfWords fault status held now → 1 ≤ status → IsTaken words ⊎ (3 ≤ status) → IsTold status held now
-told_of_words (Help text) words status held now right is told some which = told some
+told_of_words (Help text) words status held now right is told some which = elim is [
+  | inl none ↦ absurd (omega (arith, none, some))
+  | inr four ↦ (refusal.Write, four, told some)
+]
 told_of_words (Usage text) words status held now right is told some (inl taken) = absurd (subst (λ faults. IsAmong (kind_of text) faults) taken right.1)
 told_of_words (Usage text) words status held now right is told some (inr three) = absurd (omega (arith, is, three))
-told_of_words Value words status held now right is told some which = told some
-told_of_words OutOfMemory words status held now right is told some which = told some
+told_of_words Value words status held now right is told some which = (refusal.Words, is, told)
+told_of_words OutOfMemory words status held now right is told some which = (refusal.OutOfMemory, is, told)

@@ -6,7 +6,8 @@ use Rattle.program.specs.Statuses.{status_of}
 use Rattle.program.specs.declared.refusal.Refusal.{Refusal}
 use Rattle.program.specs.declared.refusal.Refusal.TheVariants.{Words, Map, Source, Tape, Session, OutOfMemory, Read, Write}
 use Rattle.program_words.specs.declared.fault.WordsFault.{WordsFault}
-use Rattle.program_words.specs.declared.fault.WordsFault.TheVariants.{Usage}
+use Rattle.program_words.specs.declared.fault.WordsFault.TheVariants.{Help, Usage, Value}
+use Rattle.program_words.specs.declared.fault.WordsFault.TheVariants as words_fault
 
 -- What is rejected, and where the fault is in it.
 unfoldable pub place_part : Refusal → List ℕ
@@ -37,8 +38,12 @@ abbrev pub IsTold : ℕ → Option (List ℕ) → Option (List ℕ) → Type 0
 IsTold status held now = (refusal : Refusal) × (status ≡ status_of refusal)
     × AppendsFront held now (fault_line refusal)
 
--- What the error stream got of rejected words: a fault line, but for those that do not fit the
--- command line, of which the text is `clap`'s.
+-- What the error stream got of rejected words, or a beginning of it: the fault line of what is
+-- wrong with them, and of help that could not be written. Words that do not fit the command line
+-- get the text of `clap`, which no clause can name.
 abbrev pub IsToldOfWords : WordsFault → ℕ → Option (List ℕ) → Option (List ℕ) → Type 0
+IsToldOfWords (Help text) status held now = 1 ≤ status → AppendsFront held now (fault_line Write)
 IsToldOfWords (Usage text) status held now = ⊤
-IsToldOfWords fault status held now = 1 ≤ status → IsTold status held now
+IsToldOfWords Value status held now = AppendsFront held now (fault_line Words)
+IsToldOfWords words_fault.OutOfMemory status held now
+    = AppendsFront held now (fault_line OutOfMemory)

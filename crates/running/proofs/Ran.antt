@@ -1,5 +1,5 @@
 -- How a run ended, from what `play` says of it.
-use Rattle.std.proofs.Common.{◌≡◌, ◌∙◌, ◌++◌, ℕ, Bool, true, false, List, [], Option, Some, None, Result, Ok, Err, IfOk, refl, sym, ap, subst, if◌then◌else◌, inl, inr, arith}
+use Rattle.std.proofs.Common.{◌≡◌, ◌∙◌, ◌++◌, ℕ, Bool, true, false, List, [], Option, Some, None, Result, Ok, Err, IfOk, refl, sym, ap, subst, if◌then◌else◌, inl, inr}
 use Rattle.std.specs.Io.KnownBytes.{Appends}
 use Rattle.assembler.specs.Assembly.{AssemblyView}
 use Rattle.console.specs.Playing.{Outcome, begun, played}
@@ -11,17 +11,14 @@ use Rattle.console.specs.declared.ending.Played.{Played}
 use Rattle.loading.specs.Asked.{FileAsked, map_of}
 use Rattle.loading.specs.Loads.{EndsFile, EndsLoad, IsLoaded}
 use Rattle.loading.specs.Place.{names_of}
-use Rattle.loading.specs.Told.{load_line}
 use Rattle.loading.specs.declared.loaded.LoadFault.TheVariants.{Refused as NotLoaded}
 use Rattle.model.specs.Event.{start}
 use Rattle.model.specs.State.{Map, State}
 use Rattle.program.specs.declared.refusal.Refusal.{Refusal}
-use Rattle.program.specs.declared.refusal.Refusal.TheVariants.{Words, Map as NoMap, Source, Tape, Session as NoSession, OutOfMemory, Read, Write}
-use Rattle.program_words.specs.declared.fault.WordsFault.{WordsFault}
-use Rattle.program_words.specs.declared.fault.WordsFault.TheVariants as words_fault
+use Rattle.program.specs.declared.refusal.Refusal.TheVariants.{OutOfMemory}
 use Rattle.model.specs.Session.{Session, new_session}
 use Rattle.model.specs.Writers.{AppendsFront}
-use Rattle.program.specs.FaultLines.{IsToldOfWords, fault_line}
+use Rattle.program.specs.FaultLines.{fault_line}
 use Rattle.program.specs.Statuses.{status_of}
 use Rattle.running.specs.Asked.{RunAsked}
 use Rattle.running.specs.Runs.{Heard, IsDone, RanIfFound, RanTo, Streams, Tells, TellsEnd}
@@ -89,22 +86,3 @@ memory_by false bus_map = tt
 
 pub memory_ends : (asked : FileAsked) → EndsLoad asked (NotLoaded OutOfMemory)
 memory_ends asked = inr (memory_by asked.is_tape (map_of asked))
-
--- The status 3 is that of memory alone.
-memory_alone : (refusal : Refusal) → status_of refusal ≡ 3 → refusal ≡ OutOfMemory
-memory_alone Words is = absurd (omega (arith, is))
-memory_alone (NoMap fault) is = absurd (omega (arith, is))
-memory_alone (Source fault) is = absurd (omega (arith, is))
-memory_alone (Tape fault) is = absurd (omega (arith, is))
-memory_alone (NoSession fault) is = absurd (omega (arith, is))
-memory_alone OutOfMemory is = refl
-memory_alone Read is = absurd (omega (arith, is))
-memory_alone Write is = absurd (omega (arith, is))
-
--- What was told of words for which memory ran out is the line of a file for which it did.
-pub told_memory : (fault : WordsFault) (held now : Option (List ℕ)) (status : ℕ) (file : List ℕ) → fault ≡ words_fault.OutOfMemory → status ≡ 3
-    → IsToldOfWords fault status held now → AppendsFront held now (load_line (NotLoaded OutOfMemory) file)
-unfolding load_line
-told_memory fault held now status file is three told =
-    let line = subst (λ f. IsToldOfWords f status held now) is told (omega (arith, three)) in
-    subst (λ r. AppendsFront held now (fault_line r)) (memory_alone line.0 (sym line.1 ∙ three)) line.2

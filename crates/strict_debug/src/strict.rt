@@ -34,52 +34,6 @@ fn status_of_replies(status: u8, has_fault: bool) -> u8
     if status == 0 && has_fault { 5 } else { status }
 }
 
-/// Serves the session of words that fit, and returns the exit status and the writer of the replies.
-fn watched<H: Files + AllocGlobal, R: Read, O: Write, E: Write>(
-    rt: &H,
-    plain: &[&str],
-    input: &mut R,
-    output: O,
-    errors: &mut E,
-) -> (u8, O)
-    ensures status { result.0 ≤ 5 }
-    ensures quiet { IsDone result.0 → errors.new ≡ errors.old }
-    ensures told { 1 ≤ result.0 → result.0 ≤ 4
-        → IsTaken (map (λ s. s.now) plain.entry.now) ⊎ (3 ≤ result.0)
-        → IsTold result.0 (E.contents errors.old) (E.contents errors.new) }
-    ensures untouched { 1 ≤ result.0 → result.0 ≤ 2
-        → (input.new ≡ input.old) × (result.1 ≡ output) }
-    ensures debug_map { (d : DebugAsked)
-        → asked (map (λ s. s.now) plain.entry.now) ≡ Some (debug d)
-        → IsTaken (map (λ s. s.now) plain.entry.now) → is_map d.rom d.port ≡ false
-        → (result.0 ≡ 2) ⊎ (result.0 ≡ 3) }
-    ensures debug_right { (d : DebugAsked)
-        → asked (map (λ s. s.now) plain.entry.now) ≡ Some (debug d)
-        → IsTaken (map (λ s. s.now) plain.entry.now) → is_map d.rom d.port ≡ true
-        → ¬ (result.0 ≡ 2) }
-    ensures debugged { (d : DebugAsked)
-        → asked (map (λ s. s.now) plain.entry.now) ≡ Some (debug d)
-        → IsTaken (map (λ s. s.now) plain.entry.now)
-        → (outcome : Result ⊤ Refusal) × IsStrictStatus outcome result.0 × IsServed
-        (record { profile = d.profile; rom = d.rom; port = d.port })
-        d.history (R.remaining input.old) (R.remaining input.new) (O.contents output)
-        (O.contents result.1) outcome ((input.new ≡ input.old) × (result.1 ≡ output)) }
-    ensures served { IsDone result.0 → (d : DebugAsked)
-        → asked (map (λ s. s.now) plain.entry.now) ≡ Some (debug d)
-        → IsTaken (map (λ s. s.now) plain.entry.now)
-        → (image : List (Option ℕ)) × IfSome (R.remaining input.old)
-        (λ given. Appends (O.contents output) (O.contents result.1) (transcript
-        (new_session d.history (start (record { profile = d.profile; rom = d.rom; port = d.port })
-        image)) given).written
-        × (result.0 ≡ strict_status (transcript (new_session d.history (start
-        (record { profile = d.profile; rom = d.rom; port = d.port }) image)) given).written)) }
-{
-    let mut watch = Watch::over(output);
-    let status = program(rt, plain, input, &mut watch, errors);
-    let (has_fault, output) = watch.finish();
-    (status_of_replies(status, has_fault), output)
-}
-
 /// Writes why words are rejected, or the help that they ask for, and returns the exit status and
 /// the writer.
 fn refused<O: Write, E: Write>(fault: WordsFault, output: O, errors: &mut E) -> (u8, O)
@@ -149,7 +103,12 @@ fn serve<H: Files + AllocGlobal, R: Read, O: Write, E: Write>(
         (record { profile = d.profile; rom = d.rom; port = d.port }) image)) given).written)) }
 {
     match read_words(rt.alloc(), plain) {
-        Ok(_) => watched(rt, plain, input, output, errors),
+        Ok(_) => {
+            let mut watch = Watch::over(output);
+            let status = program(rt, plain, input, &mut watch, errors);
+            let (has_fault, output) = watch.finish();
+            (status_of_replies(status, has_fault), output)
+        }
         Err(fault) => refused(fault, output, errors),
     }
 }

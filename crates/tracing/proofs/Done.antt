@@ -12,12 +12,14 @@ use Rattle.loading.specs.declared.loaded.LoadFault.TheVariants.{Refused as NotLo
 use Rattle.model.specs.Event.{start}
 use Rattle.model.specs.Session.{Session, new_session}
 use Rattle.model.specs.State.{Map}
+use Rattle.model.specs.Writers.{AppendsFront}
 use Rattle.program.specs.Statuses.{status_of}
 use Rattle.program.specs.declared.refusal.Refusal.{Refusal}
 use Rattle.program.specs.declared.refusal.Refusal.TheVariants.{OutOfMemory}
 use Rattle.running.specs.Places.{place_asked}
-use Rattle.running.specs.Runs.{Heard, Streams}
+use Rattle.running.specs.Runs.{Heard, Streams, Tells}
 use Rattle.running.specs.Statuses.{status_of_ending}
+use Rattle.running.specs.Told.{unplaced_line}
 use Rattle.trace_words.specs.Asked.{TraceAsked}
 use Rattle.tracing.specs.Traces.{BreaksOff, IsDone, TracedIfFound, TracedTo, WroteNotes, trace_noted, traced}
 
@@ -36,35 +38,40 @@ traced_to a assembly from to s t streams end status run is =
 pub cut_off : (a : TraceAsked) (assembly : Option AssemblyView) (from to : Option ℕ) (s : Session) (streams : Streams) (refusal : Refusal) (status : ℕ) → BreaksOff a assembly refusal → status ≡ status_of refusal → TracedTo a assembly from to s streams status
 cut_off a assembly from to s streams refusal status why is = (Err refusal, why, is)
 
-pub traced_between : (asked : TraceAsked) (assembly : Option AssemblyView) (from to : Option ℕ) (a b : Result (Option ℕ) ℕ) (s : Session) (streams : Streams) (status : ℕ) (Alone : Type 0)
-    → Ok from ≡ a → Ok to ≡ b → TracedTo asked assembly from to s streams status → TracedIfFound asked assembly a b s streams status Alone
-traced_between asked assembly from to a b s streams status A is_from is_to done =
-    let F : Result (Option ℕ) ℕ → Type 0 = λ r. TracedIfFound asked assembly r b s streams status A in
-    let T : Result (Option ℕ) ℕ → Type 0 = λ r. TracedIfFound asked assembly (Ok from) r s streams status A in
+pub traced_between : (asked : TraceAsked) (assembly : Option AssemblyView) (from to : Option ℕ) (a b : Result (Option ℕ) ℕ) (s : Session) (streams : Streams) (heard : Heard) (status : ℕ) (Alone : Type 0)
+    → Ok from ≡ a → Ok to ≡ b → TracedTo asked assembly from to s streams status → TracedIfFound asked assembly a b s streams heard status Alone
+traced_between asked assembly from to a b s streams heard status A is_from is_to done =
+    let F : Result (Option ℕ) ℕ → Type 0 = λ r. TracedIfFound asked assembly r b s streams heard status A in
+    let T : Result (Option ℕ) ℕ → Type 0 = λ r. TracedIfFound asked assembly (Ok from) r s streams heard status A in
     subst F is_from (subst T is_to done)
 
 pub one_asked : (o : Option TraceAsked) (a b : TraceAsked) → o ≡ Some a → o ≡ Some b → a ≡ b
 one_asked o a b x y = cc
 
 -- A place that is not found.
-pub unfound_from : (asked : TraceAsked) (assembly : Option AssemblyView) (a b : Result (Option ℕ) ℕ) (s : Session) (streams : Streams) (status : ℕ) (Alone : Type 0)
-    → Err status ≡ a → Alone → TracedIfFound asked assembly a b s streams status Alone
-unfound_from asked assembly a b s streams status A is alone =
-    let F : Result (Option ℕ) ℕ → Type 0 = λ r. TracedIfFound asked assembly r b s streams status A in subst F is (refl, alone)
+pub unfound_from : (asked : TraceAsked) (assembly : Option AssemblyView) (a b : Result (Option ℕ) ℕ) (s : Session) (streams : Streams) (heard : Heard) (status : ℕ) (Alone : Type 0)
+    → Err status ≡ a → Tells heard (unplaced_line asked.from) → Alone → TracedIfFound asked assembly a b s streams heard status Alone
+unfound_from asked assembly a b s streams heard status A is told alone =
+    let F : Result (Option ℕ) ℕ → Type 0 = λ r. TracedIfFound asked assembly r b s streams heard status A in subst F is (refl, told, alone)
 
-pub unfound_to : (asked : TraceAsked) (assembly : Option AssemblyView) (from : Option ℕ) (a b : Result (Option ℕ) ℕ) (s : Session) (streams : Streams) (status : ℕ) (Alone : Type 0)
-    → Ok from ≡ a → Err status ≡ b → Alone → TracedIfFound asked assembly a b s streams status Alone
-unfound_to asked assembly from a b s streams status A is_from is alone =
-    let F : Result (Option ℕ) ℕ → Type 0 = λ r. TracedIfFound asked assembly r b s streams status A in
-    let T : Result (Option ℕ) ℕ → Type 0 = λ r. TracedIfFound asked assembly (Ok from) r s streams status A in
-    subst F is_from (subst T is (refl, alone))
+pub unfound_to : (asked : TraceAsked) (assembly : Option AssemblyView) (from : Option ℕ) (a b : Result (Option ℕ) ℕ) (s : Session) (streams : Streams) (heard : Heard) (status : ℕ) (Alone : Type 0)
+    → Ok from ≡ a → Err status ≡ b → Tells heard (unplaced_line asked.to) → Alone → TracedIfFound asked assembly a b s streams heard status Alone
+unfound_to asked assembly from a b s streams heard status A is_from is told alone =
+    let F : Result (Option ℕ) ℕ → Type 0 = λ r. TracedIfFound asked assembly r b s streams heard status A in
+    let T : Result (Option ℕ) ℕ → Type 0 = λ r. TracedIfFound asked assembly (Ok from) r s streams heard status A in
+    subst F is_from (subst T is (refl, told, alone))
+
+-- What is told of the second place, where nothing was told of the first.
+pub told_second : {E : Type 0} (contents : E → Option (List ℕ)) (first middle last : E) (line : List ℕ) → middle ≡ first → AppendsFront (contents middle) (contents last) line
+    → AppendsFront (contents first) (contents last) line
+told_second contents first middle last line quiet told = subst (λ e. AppendsFront (contents e) (contents last) line) quiet told
 
 -- A file that was loaded.
 pub traced_file : (a : TraceAsked) (s : Session) (assembly : Option AssemblyView) (image : List (Option ℕ)) (streams : Streams) (heard : Heard) (status : ℕ) (Alone : Type 0)
     → IsLoaded a.file image assembly → s ≡ new_session 0 (start (map_of a.file) image)
-    → TracedIfFound a assembly (place_asked (names_of assembly) a.from) (place_asked (names_of assembly) a.to) s streams status Alone → IsDone a streams heard status Alone
+    → TracedIfFound a assembly (place_asked (names_of assembly) a.from) (place_asked (names_of assembly) a.to) s streams heard status Alone → IsDone a streams heard status Alone
 traced_file a s assembly image streams heard status A loaded begins done =
-    inr (image, assembly, loaded, subst (λ (t : Session). TracedIfFound a assembly (place_asked (names_of assembly) a.from) (place_asked (names_of assembly) a.to) t streams status A) begins done)
+    inr (image, assembly, loaded, subst (λ (t : Session). TracedIfFound a assembly (place_asked (names_of assembly) a.from) (place_asked (names_of assembly) a.to) t streams heard status A) begins done)
 
 -- Memory may run out for any words.
 memory_by : (is_tape : Bool) (bus_map : Map) → EndsFile is_tape bus_map (NotLoaded OutOfMemory)

@@ -20,8 +20,9 @@ use Rattle.program.specs.Statuses.{status_of}
 use Rattle.program.specs.declared.refusal.Refusal.{Refusal}
 use Rattle.program.specs.declared.refusal.Refusal.TheVariants.{OutOfMemory, Read, Write}
 use Rattle.running.specs.Places.{place_asked}
-use Rattle.running.specs.Runs.{Heard, IsUnloaded, Streams}
+use Rattle.running.specs.Runs.{Heard, IsUnloaded, Streams, Tells}
 use Rattle.running.specs.Statuses.{status_of_ending}
+use Rattle.running.specs.Told.{unplaced_line}
 use Rattle.trace_rows.specs.declared.sites.Sites.{Sites}
 use Rattle.trace_words.specs.Asked.{TraceAsked}
 use Rattle.tracing.specs.Beginnings.{AreSites, AreWritten}
@@ -145,15 +146,15 @@ TracedTo a assembly from to s streams status = (outcome : Result Outcome Refusal
     × IsTraced a assembly s from to streams outcome × (status ≡ status_of_trace outcome)
 
 -- A session was traced between the places of the words, if they are found; else the streams were
--- left alone, `Alone`.
+-- left alone, `Alone`, and the error stream got which word is no place.
 abbrev pub TracedIfFound : TraceAsked → Option AssemblyView → Result (Option ℕ) ℕ
-    → Result (Option ℕ) ℕ → Session → Streams → ℕ → Type 0 → Type 0
-TracedIfFound a assembly (Ok from) (Ok to) s streams status Alone
+    → Result (Option ℕ) ℕ → Session → Streams → Heard → ℕ → Type 0 → Type 0
+TracedIfFound a assembly (Ok from) (Ok to) s streams heard status Alone
     = TracedTo a assembly from to s streams status
-TracedIfFound a assembly (Ok from) (Err refused) s streams status Alone
-    = (status ≡ refused) × Alone
-TracedIfFound a assembly (Err refused) to s streams status Alone
-    = (status ≡ refused) × Alone
+TracedIfFound a assembly (Ok from) (Err refused) s streams heard status Alone
+    = (status ≡ refused) × Tells heard (unplaced_line a.to) × Alone
+TracedIfFound a assembly (Err refused) to s streams heard status Alone
+    = (status ≡ refused) × Tells heard (unplaced_line a.from) × Alone
 
 -- What was done for words: a file was not loaded, the error stream got why, and the others were left
 -- alone; or from the start of an image that it can have, on the map of the words and with the names
@@ -163,4 +164,4 @@ IsDone a streams heard status Alone = IsUnloaded a.file heard status Alone
     ⊎ ((image : List (Option ℕ)) × (assembly : Option AssemblyView)
     × IsLoaded a.file image assembly × TracedIfFound a assembly
     (place_asked (names_of assembly) a.from) (place_asked (names_of assembly) a.to)
-    (new_session 0 (start (map_of a.file) image)) streams status Alone)
+    (new_session 0 (start (map_of a.file) image)) streams heard status Alone)

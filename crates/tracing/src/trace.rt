@@ -432,6 +432,9 @@ fn trace_loaded<H: Files + AllocGlobal, R: Read, O: Write, E: Write>(
           left = R.remaining input.new;
           held = O.contents output.old;
           now = O.contents output.new;
+        }) (record {
+          held = E.contents errors.old;
+          now = E.contents errors.new;
         }) result ((input.new ≡ input.old) × (output.new ≡ output.old)) }
 {
     let from = match place_named(loaded, words.from, errors) {

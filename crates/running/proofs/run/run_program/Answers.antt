@@ -1,12 +1,14 @@
 use Rattle.std.proofs.Common.{◌≡◌, arith, inl, inr, refl, subst}
 use Rattle.loading.specs.declared.loaded.LoadFault.TheVariants.{Refused}
+use Rattle.loading.specs.Told.{load_line}
+use Rattle.program.specs.FaultLines.{IsToldOfWords}
 use Rattle.program.specs.Statuses.{IsStatusOf}
 use Rattle.program.specs.declared.refusal.Refusal.TheVariants.{OutOfMemory}
 use Rattle.running.specs.Asked.{RunAsked}
 use Rattle.running.specs.Runs.{IsDone}
 use Rattle.running.specs.Views.{run_view}
 use Rattle.running.proofs.Found.{one_asked}
-use Rattle.running.proofs.Ran.{memory_ends, told_memory}
+use Rattle.running.proofs.Ran.{memory_ends}
 use Rattle.running.proofs.run.run_program.Goals as goal
 
 pub returns-in-Ok-clause-done : goal.returns-in-Ok-clause-done
@@ -24,10 +26,11 @@ returns-in-Ok-clause-done g c a h taken =
 
 -- The words were right, so memory ran out.
 pub returns-in-Err-clause-done : goal.returns-in-Err-clause-done
+unfolding load_line
 returns-in-Err-clause-done g c a h taken =
     let memory = c.in-Err.ensures.served a taken h in
     let three : c.refused_words.result ≡ 3 = subst (λ f. IsStatusOf f c.refused_words.result) memory c.refused_words.ensures.status in
-    let told = told_memory c.in-Err.fault (g.E.Write.contents c.args.errors.now) (g.E.Write.contents c.refused_words.new.errors) c.refused_words.result a.file.file memory three c.refused_words.ensures.told in
+    let told = subst (λ f. IsToldOfWords f c.refused_words.result (g.E.Write.contents c.args.errors.now) (g.E.Write.contents c.refused_words.new.errors)) memory c.refused_words.ensures.told in
     inl (Refused OutOfMemory, memory_ends a.file, three, told, (refl, c.refused_words.ensures.untouched (omega (arith, three)) (omega (arith, three))))
 
 pub returns-in-Err-clause-bad_map : goal.returns-in-Err-clause-bad_map

@@ -2,7 +2,7 @@ use Rattle.std.proofs.Common.{◌≡◌, refl}
 use Rattle.loading.specs.Place.{names_of}
 use Rattle.running.specs.Places.{place_asked}
 use Rattle.trace_words.specs.Views.{trace_view}
-use Rattle.tracing.proofs.Done.{traced_between, unfound_from, unfound_to}
+use Rattle.tracing.proofs.Done.{told_second, traced_between, unfound_from, unfound_to}
 use Rattle.tracing.proofs.trace.trace_loaded.Goals as goal
 
 pub returns-in-Err : goal.returns-in-Err
@@ -13,8 +13,11 @@ returns-in-Err g c =
       left = g.R.Read.remaining c.args.input.now;
       held = g.O.Write.contents c.args.output.now;
       now = g.O.Write.contents c.args.output.now;
+    }) (record {
+      held = g.E.Write.contents c.args.errors.now;
+      now = g.E.Write.contents c.place_named.new.errors;
     })
-    c.in-Err.status ((c.args.input.now ≡ c.args.input.now) × (c.args.output.now ≡ c.args.output.now)) c.in-Err.ensures.place (refl, refl)
+    c.in-Err.status ((c.args.input.now ≡ c.args.input.now) × (c.args.output.now ≡ c.args.output.now)) c.in-Err.ensures.place c.in-Err.ensures.told (refl, refl)
 
 pub returns-in-Err-place_named : goal.returns-in-Err-place_named
 returns-in-Err-place_named g c =
@@ -24,8 +27,11 @@ returns-in-Err-place_named g c =
       left = g.R.Read.remaining c.args.input.now;
       held = g.O.Write.contents c.args.output.now;
       now = g.O.Write.contents c.args.output.now;
+    }) (record {
+      held = g.E.Write.contents c.args.errors.now;
+      now = g.E.Write.contents c.place_named-2.new.errors;
     })
-    c.in-Err-place_named.status ((c.args.input.now ≡ c.args.input.now) × (c.args.output.now ≡ c.args.output.now)) c.in-Ok.ensures.place c.in-Err-place_named.ensures.place (refl, refl)
+    c.in-Err-place_named.status ((c.args.input.now ≡ c.args.input.now) × (c.args.output.now ≡ c.args.output.now)) c.in-Ok.ensures.place c.in-Err-place_named.ensures.place (told_second g.E.Write.contents _ _ _ _ c.in-Ok.ensures.quiet c.in-Err-place_named.ensures.told) (refl, refl)
 
 pub returns : goal.returns
 returns g c =
@@ -35,5 +41,8 @@ returns g c =
       left = g.R.Read.remaining c.trace_told.new.input;
       held = g.O.Write.contents c.args.output.now;
       now = g.O.Write.contents c.trace_told.new.output;
+    }) (record {
+      held = g.E.Write.contents c.args.errors.now;
+      now = g.E.Write.contents c.trace_told.new.errors;
     }) c.trace_told.result
     ((c.trace_told.new.input ≡ c.args.input.now) × (c.trace_told.new.output ≡ c.args.output.now)) c.in-Ok.ensures.place c.in-Ok-place_named.ensures.place c.trace_told.ensures
