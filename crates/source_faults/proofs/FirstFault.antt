@@ -1,6 +1,6 @@
 -- The first fault that is told is the source's, and of a source that denotes an image none is told.
-use Rattle.std.proofs.Common.{◌≡◌, ℕ, ◌+◌, ◌≤◌, Bool, true, false, List, [], ◌∷◌, ◌++◌, length, Option, Some, None, Result, Ok, Err, refl, sym, ◌∙◌, ap}
-use Rattle.std.specs.Prelude.{IfOk, if◌then◌else◌, slice_get, ◌==◌, nat_lt}
+use Rattle.std.proofs.Common.{◌≡◌, ℕ, ◌+◌, Bool, true, false, List, [], ◌∷◌, ◌++◌, length, Option, Some, None, Result, Ok, Err, refl, sym, ◌∙◌, ap}
+use Rattle.std.specs.Prelude.{IfOk, if◌then◌else◌, slice_get, nat_lt}
 use Rattle.std.specs.declared.alloc.AllocError.{AllocError}
 use Rattle.std.specs.declared.alloc.Global.{Global}
 use Rattle.std.specs.declared.vec.Vec.{Vec}
@@ -15,7 +15,7 @@ use Rattle.model.specs.Source.{Denotes, HasFault, most_bytes, first_context, rea
 use Rattle.model.specs.FaultNames.{source_fault_number}
 use Rattle.model.specs.declared.source_fault.AsmFault.{AsmFault}
 use Rattle.model.specs.declared.source_fault.AsmFaultKind.{AsmFaultKind}
-use Rattle.model.specs.AllFaults.{Found, Judged, Made, Mending, before_told, but_of_place, faults_of, fixed_after, fixed_by, found_line, found_lines, image_after, in_both, judged_found, judged_line, judged_lines, largest, layout_told, made_after, nothing_made, smallest, told, told_by, value_kind, value_told}
+use Rattle.model.specs.AllFaults.{Found, Judged, Made, Mending, faults_of, fixed_after, fixed_by, found_line, found_lines, image_after, in_both, judged_found, judged_lines, largest, layout_told, nothing_made, smallest, told, told_by, value_kind, value_told}
 use Rattle.law_sources.specs.Judging.{DenotedIsJudged, FaultIsJudged, judgement_as, judgement, layout_from, image_from, on_line, image_with_line, too_large, ◌>>=◌}
 use Rattle.law_sources.specs.Judging as judging
 

@@ -1,5 +1,5 @@
 -- The layout, line by line.
-use Rattle.std.proofs.Common.{◌≡◌, ℕ, ◌+◌, true, false, List, [], ◌∷◌, ◌++◌, length, map, refl, sym, ◌∙◌, ap, length-append}
+use Rattle.std.proofs.Common.{◌≡◌, ℕ, ◌+◌, true, false, List, [], ◌∷◌, ◌++◌, length, refl, sym, ◌∙◌, ap, arith, subst, length-append}
 use Rattle.std.proofs.lemmas.List.{nil_from_length}
 use Rattle.model.specs.TextLines.{lines_from, lines_of}
 use Rattle.model.specs.declared.instruction.Profile.{Profile}
@@ -10,7 +10,7 @@ use Rattle.model.specs.Layout.{Context, layout_of}
 use Rattle.model.specs.Names.{Definitions}
 use Rattle.model.specs.Source.{is_end, up_to_end, first_context, read_lines}
 use Rattle.source_faults.specs.declared.found.Found.{Found}
-use Rattle.source_faults.specs.Views.{found_all, found_view}
+use Rattle.source_faults.specs.Views.{AreNumbered, HasNumber, found_all, found_view}
 
 -- the lines that are still to be read
 abbrev pub lines_left : Profile → List ℕ → List (List ℕ)
@@ -79,3 +79,20 @@ fixed_starts m profile names source none = rw none refl
 -- one more is as many as lines
 pub counted : (fs new : List Found) (f : Found) (n : ℕ) → new ≡ fs ++ f ∷ [] → length fs + 1 ≡ n → length new + 1 ≡ n + 1
 counted fs new f n is so_far = rw (is, length-append fs (f ∷ []), so_far) refl
+
+-- and the last one has the number of its line
+abbrev nothing : List Found
+nothing = []
+
+all_numbered : (n : ℕ) (fs : List Found) (f : Found) → AreNumbered n fs → HasNumber (n + length fs) f → AreNumbered n (fs ++ f ∷ [])
+all_numbered n [] f so_far is =
+    let none : n + length (nothing) ≡ n = omega arith in
+    (subst (λ m. HasNumber m f) none is, tt)
+all_numbered n (x ∷ xs) f so_far is =
+    let one : n + length (x ∷ xs) ≡ n + 1 + length xs = omega arith in
+    (so_far.0, all_numbered (n + 1) xs f so_far.1 (subst (λ m. HasNumber m f) one is))
+
+pub one_numbered : (fs new : List Found) (f : Found) (n : ℕ) → new ≡ fs ++ f ∷ [] → length fs + 1 ≡ n → AreNumbered 1 fs → HasNumber n f → AreNumbered 1 new
+one_numbered fs new f n is count so_far numbered =
+    let at : n ≡ 1 + length fs = omega (arith, count) in
+    rw is (all_numbered 1 fs f so_far (subst (λ m. HasNumber m f) at numbered))

@@ -1,5 +1,5 @@
 -- The crate's values, seen as the definitions see them.
-use Rattle.std.specs.Prelude.{◌≡◌, ℕ, ⊤, Bool, true, false, List, map, Some, None, Option, Result, Ok, Err}
+use Rattle.std.specs.Prelude.{◌≡◌, ℕ, ◌+◌, ⊤, Bool, false, List, [], ◌∷◌, map, Some, None, Option, Result, Ok, Err}
 use Rattle.std.specs.declared.alloc.AllocError.{AllocError}
 use Rattle.model.specs.declared.instruction.Profile.{Profile}
 use Rattle.model.specs.declared.source_fault.AsmFaultKind.{AsmFaultKind}
@@ -39,6 +39,17 @@ found_view (Plain address begins) = record {
   begins = begins;
 }
 found_view (Bytes k) = record { kind = None; place = placed_line_of k; begins = false }
+
+-- A line that denotes bytes has this number.
+abbrev pub HasNumber : ℕ → Found → Type 0
+HasNumber number (Refused address kind) = ⊤
+HasNumber number (Plain address begins) = ⊤
+HasNumber number (Bytes k) = k.number ≡ number
+
+-- The lines are numbered from this number on.
+abbrev pub AreNumbered : ℕ → List Found → Type 0
+AreNumbered number [] = ⊤
+AreNumbered number (first ∷ found) = HasNumber number first × AreNumbered (number + 1) found
 
 abbrev pub ends_line : Line → Bool
 ends_line (labelled label s) = is_finish s

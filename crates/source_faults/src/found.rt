@@ -5,7 +5,7 @@ ghost use Rattle.line_parts.specs.Contents.{content_by, line_content};
 ghost use Rattle.line_parts.specs.LineViews.{statement_view, line_view};
 ghost use Rattle.model.specs.AllFaults.{begins_line, is_origin};
 ghost use Rattle.model.specs.Layout.{no_bytes, size_of};
-ghost use Rattle.source_faults.specs.Views.{found_view};
+ghost use Rattle.source_faults.specs.Views.{HasNumber, found_view};
 
 use layout::Placement;
 use line_parts::{Code, KeptLine, Line, Statement};
@@ -46,7 +46,7 @@ pub fn found_at<'a>(number: u32, address: u32, line: Line<'a>, placement: Placem
     requires near { address < 2 ^ 31 - 510 }
     requires small { placement.count ≤ 510 }
     requires sized { placement.count ≡ size_of (line_content placement.code (line_view line)) }
-    ensures { found_view result ≡ record {
+    ensures found { found_view result ≡ record {
       kind = None;
       place = record {
         address = address;
@@ -54,6 +54,7 @@ pub fn found_at<'a>(number: u32, address: u32, line: Line<'a>, placement: Placem
       };
       begins = begins_line (line_view line.entry);
     } }
+    ensures numbered { HasNumber number result }
 {
     match line {
         Line::Labelled(_, statement) => match without_bytes(placement.code, &statement) {

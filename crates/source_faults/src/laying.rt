@@ -1,13 +1,13 @@
 //! The layout of all lines, those with a fault mended.
 
-ghost use Rattle.std.specs.Prelude.{◌≡◌, ◌+◌, ◌-◌, ◌<◌, ◌≤◌, ◌^◌, [], Ok, max, length, IfOk, OnOk};
+ghost use Rattle.std.specs.Prelude.{◌≡◌, ◌+◌, ◌-◌, ◌<◌, ◌≤◌, ◌^◌, ℕ, [], Ok, max, length, IfOk, OnOk};
 ghost use Rattle.line_parts.specs.FewBytes.{IsSmallLine};
 ghost use Rattle.line_parts.specs.LineViews.{line_view};
 ghost use Rattle.model.specs.AllFaults.{first_word, fixed_by, found_lines, with_word};
 ghost use Rattle.model.specs.SourceLine.{read_line};
 ghost use Rattle.model.specs.Source.{first_context, read_lines};
-ghost use Rattle.source_faults.specs.Views.{Lays, ends_line, mending_of, refused_at, found_all};
-ghost use Rattle.source_faults.specs.Views.{found_view};
+ghost use Rattle.source_faults.specs.Views.{AreNumbered, HasNumber, Lays, ends_line, found_all};
+ghost use Rattle.source_faults.specs.Views.{found_view, mending_of, refused_at};
 
 use crate::found::{Found, found_at};
 use crate::mending::{Mending, number_word};
@@ -54,6 +54,7 @@ fn mend<'a>(
     ensures next { IfOk result (λ laid. laid.next ≡ address + (mending_of mending).bytes) }
     ensures near { IfOk result (λ laid. laid.next ≤ address + 3) }
     ensures end { IfOk result (λ laid. laid.ended ≡ ended) }
+    ensures numbered { IfOk result (λ laid. (number : ℕ) → HasNumber number laid.found) }
 {
     number_word(alloc, mending, symbols, text)?;
     Ok(Laid {
@@ -81,6 +82,7 @@ fn lay_read<'a>(
     ensures exact { Lays (mending_of mending) profile address symbols.old text.now result
         symbols.new }
     ensures near { IfOk result (λ laid. laid.next ≤ max (address + 510) 65536) }
+    ensures numbered { IfOk result (λ laid. HasNumber number laid.found) }
 {
     let ended = ends(&line);
     match place_line(alloc, profile, symbols, address, &line) {
@@ -116,6 +118,7 @@ fn lay_line<'a>(
     ensures exact { Lays (mending_of mending) profile address symbols.old text.now result
         symbols.new }
     ensures near { IfOk result (λ laid. laid.next ≤ max (address + 510) 65536) }
+    ensures numbered { IfOk result (λ laid. HasNumber number laid.found) }
 {
     match read_line_with(alloc, profile, room, text) {
         Ok(line) => lay_read(
@@ -141,6 +144,8 @@ pub fn lay_out<'a>(
         (first_context profile) (read_lines profile source.now)) }
     ensures names { OnOk result (symbols.new ≡ (fixed_by (mending_of mending)
         (first_context profile) (read_lines profile source.now)).names) }
+    // A line that denotes bytes has its own number, counted from 1.
+    ensures numbered { IfOk result (λ found. AreNumbered 1 found.items) }
     ensures few { IfOk result (λ found. length found.items ≤ 1048576) }
 {
     let mut found = Vec::new(alloc);

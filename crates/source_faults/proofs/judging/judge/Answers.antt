@@ -1,4 +1,3 @@
-use Rattle.std.proofs.Common.{arith, length-append, ◌∷◌, []}
 use Rattle.model.specs.Names.{number_in}
 use Rattle.source_faults.specs.Views.{made_view}
 use Rattle.source_faults.proofs.ValuesOfLines.{counted, goes_on}

@@ -1,4 +1,3 @@
-use Rattle.std.proofs.Common.{sym, ◌∙◌}
 use Rattle.model.specs.Names.{number_in}
 use Rattle.source_faults.specs.Views.{made_view}
 use Rattle.source_faults.proofs.ValuesOfLines.{begins_made, plain_judged, plain_made, refused_judged, refused_made}
