@@ -1,12 +1,12 @@
 -- What is found of a text where something is wrong.
-use Rattle.std.proofs.Common.{◌≡◌, ◌≢◌, ◌<◌, ◌≤◌, ◌+◌, ◌++◌, ◌∙◌, ℕ, Result, Ok, Err, OnOk, append_assoc, Bool, true, false, List, [], ◌∷◌, drop, length, slice_index, if◌then◌else◌, ◌==◌, refl, sym, ap, inl, inr, arith, add-one, drop-cons}
+use Rattle.std.proofs.Common.{◌≡◌, ◌≢◌, ◌<◌, ◌≤◌, ◌+◌, ◌-◌, ◌++◌, ◌∙◌, ℕ, Result, Ok, Err, OnOk, append_assoc, Bool, true, false, List, [], ◌∷◌, drop, length, slice_index, if◌then◌else◌, ◌==◌, refl, sym, ap, inl, inr, arith, add-one, drop-cons}
 use Rattle.std.proofs.lemmas.Bool.{cases_Bool}
-use Rattle.std.proofs.lemmas.Bool.Decides.{eqb_tells}
+use Rattle.std.proofs.lemmas.Bool.Decides.{eqb_tells, leb_tells}
 use Rattle.std.specs.List.{list_any}
 use Rattle.std.proofs.Math.ListN.{drop_of_length-le}
 use Rattle.model.specs.Tape.{is_skipped}
 use Rattle.tape_mend.specs.Mending.{is_kept}
-use Rattle.tape_mend.specs.Reported.{last_record, within_from}
+use Rattle.tape_mend.specs.Reported.{ends_before, last_record, place_from, within_from}
 
 cut : (bytes : List ℕ) (i : ℕ) → i < length bytes → drop i bytes ≡ slice_index bytes i ∷ drop (i + 1) bytes
 cut bytes i h = rw (add-one, drop-cons bytes i 0) refl
@@ -128,3 +128,48 @@ pub three_put : {X E : Type 0} (result : Result X E) (old one two new first seco
     → OnOk result (new ≡ two ++ third) → OnOk result (new ≡ old ++ (first ++ (second ++ third)))
 three_put (Ok done) old one two new first second third f s is = is ∙ rw (s, f) (append_assoc (old ++ first) second third ∙ append_assoc old first (second ++ third))
 three_put (Err fault) old one two new first second third f s is = tt
+
+-- ---- the place of a fault
+
+module _ (left : ℕ) (is_first : Bool) (place : ℕ) (b : ℕ) (text : List ℕ) where
+  abbrev ends : ℕ
+  ends = ends_before is_first b
+
+  of_reached : is_kept b ≡ true → left ≤ ends → place_from left is_first place (b ∷ text) ≡ place
+  unfolding place_from
+  of_reached keep few = elim (leb_tells left ends) [
+    | inl t ↦ rw (keep, t.0) refl
+    | inr f ↦ absurd (omega (arith, few, f.1))
+  ]
+
+  of_passed : is_kept b ≡ true → ends < left → place_from left is_first place (b ∷ text) ≡ place_from (left - (ends + 1)) false (place + 1) text
+  unfolding place_from
+  of_passed keep more = elim (leb_tells left ends) [
+    | inl t ↦ absurd (omega (arith, more, t.1))
+    | inr f ↦ rw (keep, f.0) refl
+  ]
+
+  of_gap : is_kept b ≡ false → place_from left is_first place (b ∷ text) ≡ place_from left is_first (place + 1) text
+  unfolding place_from
+  of_gap gone = rw gone refl
+
+module _ (text : List ℕ) (left : ℕ) (is_first : Bool) (place whole : ℕ) (there : place < length text) (so_far : place_from left is_first place (drop place text) ≡ whole) where
+  from_here : place_from left is_first place (slice_index text place ∷ drop (place + 1) text) ≡ whole
+  from_here = rw (cut text place there) at so_far
+
+  pub place_reached : is_kept (slice_index text place) ≡ true → left ≤ ends_before is_first (slice_index text place) → place ≡ whole
+  place_reached keep few = sym (of_reached left is_first place (slice_index text place) (drop (place + 1) text) keep few) ∙ from_here
+
+  pub place_passed : (now : ℕ) (first : Bool) → is_kept (slice_index text place) ≡ true → ends_before is_first (slice_index text place) < left
+      → now ≡ left - (ends_before is_first (slice_index text place) + 1) → first ≡ false → place_from now first (place + 1) (drop (place + 1) text) ≡ whole
+  place_passed now first keep more n f = rw (n, f) (sym (of_passed left is_first place (slice_index text place) (drop (place + 1) text) keep more) ∙ from_here)
+
+  pub place_skipped : (now : ℕ) (first : Bool) → is_kept (slice_index text place) ≡ false → now ≡ left → first ≡ is_first → place_from now first (place + 1) (drop (place + 1) text) ≡ whole
+  place_skipped now first gone n f = rw (n, f) (sym (of_gap left is_first place (slice_index text place) (drop (place + 1) text) gone) ∙ from_here)
+
+pub place_at_end : (text : List ℕ) (left : ℕ) (is_first : Bool) (place whole : ℕ) → length text ≤ place → place ≤ length text → place_from left is_first place (drop place text) ≡ whole → length text ≡ whole
+unfolding place_from
+place_at_end text left is_first place whole past within so_far =
+    let ended : drop place text ≡ [] = drop_of_length-le text past in
+    let at : place ≡ whole = rw ended at so_far in
+    omega (arith, past, within, at)

@@ -1,8 +1,11 @@
 -- What `mend` says of a tape where something was wrong. Source: mos65.
-use Rattle.std.specs.Prelude.{ℕ, ◌+◌, ◌-◌, ◌==◌, ◌&&◌, nat_le, Bool, if◌then◌else◌, List, [], ◌∷◌, ◌++◌, length, slice_index, codes}
+use Rattle.std.specs.Prelude.{ℕ, ◌+◌, ◌-◌, ◌==◌, ◌&&◌, nat_le, not, Bool, true, false, if◌then◌else◌, List, [], ◌∷◌, ◌++◌, length, slice_index, codes}
 use Rattle.std.specs.List.{list_any}
 use Rattle.model.specs.Tape.{is_skipped}
-use Rattle.tape_mend.specs.Mending.{kept, records_in}
+use Rattle.model.specs.declared.tape.TapeFault.{TapeFault}
+use Rattle.model.specs.declared.tape.TapeFaultKind.{TapeFaultKind}
+use Rattle.model.specs.declared.tape.TapeFaultKind.TheVariants.{Truncated}
+use Rattle.tape_mend.specs.Mending.{is_kept, kept, records_in}
 use Rattle.tape_words.specs.Answers.{counted}
 use Rattle.tape_words.specs.Meanings.{there_text}
 use Rattle.tape_words.specs.Records.{end_record}
@@ -59,3 +62,31 @@ end_text (WrongCount count) records = codes "end record: it counted "
 abbrev pub faults_text : List ℕ → List ℕ
 faults_text text = within_text (within_records text)
     ++ end_text (end_of (kept text)) (data_records (kept text))
+
+-- ---- a tape that is not mended
+
+-- How many bytes of the mended text come directly before a byte: CR LF before each `;` but the first
+-- byte.
+abbrev pub ends_before : Bool → ℕ → ℕ
+ends_before is_first b = if b == 59 && not is_first then 2 else 0
+
+-- From a place of a text on, whose next byte may be the first that is kept: the place of the byte
+-- before which so many bytes of the mended text are left, or of the one that comes next.
+unfoldable pub place_from : ℕ → Bool → ℕ → List ℕ → ℕ
+place_from left is_first place [] = place
+place_from left is_first place (b ∷ text) =
+    if is_kept b then (if nat_le left (ends_before is_first b) then place
+    else place_from (left - (ends_before is_first b + 1)) false (place + 1) text)
+    else place_from left is_first (place + 1) text
+
+-- The place in a text of the byte that has this place in its mended text, or that comes next.
+abbrev pub place_in : List ℕ → ℕ → ℕ
+place_in text made = place_from made true 0 text
+
+-- A fault of a mended text as one of the text that it was made of: where that ends, a record is cut
+-- short.
+abbrev pub moved : List ℕ → TapeFaultKind → ℕ → TapeFault
+moved text kind offset = record {
+  offset = place_in text offset;
+  kind = if place_in text offset == length text then Truncated else kind;
+}

@@ -1,16 +1,15 @@
 -- What `mend` has done. Source: mos65. No clause can say which tape a file has, nor that OUT has
 -- the mended text.
-use Rattle.std.specs.Prelude.{◌≡◌, ◌⊎◌, ⊤, ℕ, Bool, true, false, List, Option, Some, None, codes, string_bytes}
+use Rattle.std.specs.Prelude.{◌≡◌, ⊤, ℕ, Bool, true, false, List, Option, Some, None, codes, string_bytes}
 use Rattle.clap.specs.Words.{Text}
 use Rattle.model.specs.Tape.{FirstFault, TapeDenotes}
 use Rattle.model.specs.declared.tape.TapeFault.{TapeFault}
 use Rattle.model.specs.declared.tape.TapeFaultKind.{TapeFaultKind}
-use Rattle.model.specs.declared.tape.TapeFaultKind.TheVariants.{Truncated}
 use Rattle.tape_mend.specs.Mending.{HasRecords, IsMendedText, mended_text}
-use Rattle.tape_mend.specs.Reported.{faults_text}
-use Rattle.tape_words.specs.Answers.{TellsFault}
+use Rattle.tape_mend.specs.Reported.{faults_text, moved}
 use Rattle.tape_words.specs.Asked.{MendAsked, mend_asked}
 use Rattle.tape_words.specs.CommandLines.{mend}
+use Rattle.tape_words.specs.Meanings.{fault_line}
 use Rattle.tape_words.specs.Unread.{too_long_file}
 use Rattle.tape_words.specs.declared.answer.Answer.{Answer}
 use Rattle.tape_words.specs.declared.refusal.Refusal.{Refusal}
@@ -33,16 +32,14 @@ pub record IsMended (said : List ℕ) : Type 0 where
   pub records : HasRecords text image
   pub report : IsReport text fault said
 
--- What is said of a tape that is not: the first fault that its mended text still has, or that the
--- tape is cut short there.
+-- What is said of a tape that is not: the first fault that its mended text still has, where it
+-- stands in the tape.
 pub record IsNotMended (asked : MendAsked) (said : List ℕ) : Type 0 where
   pub text : List ℕ
   pub kind : TapeFaultKind
   pub offset : ℕ
   pub first : FirstFault (mended_text text) kind offset
-  pub shown : TapeFaultKind
-  pub is : (shown ≡ kind) ⊎ (shown ≡ Truncated)
-  pub told : TellsFault asked.tape shown said
+  pub told : said ≡ fault_line asked.tape text (moved text kind offset)
 
 abbrev pub IsSaid : MendAsked → Bool → List ℕ → Type 0
 IsSaid asked true said = IsMended said

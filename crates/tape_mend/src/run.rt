@@ -3,8 +3,8 @@
 ghost use Rattle.std.specs.Prelude.{◌≡◌, ◌≤◌, ◌⊎◌, IfErr, IfOk, None, false, map, true};
 ghost use Rattle.model.specs.Tape.{FirstFault, TapeDenotes};
 ghost use Rattle.model.specs.TapeFault.{out_of_memory};
-ghost use Rattle.model.specs.declared.tape.TapeFaultKind.TheVariants.{Truncated};
 ghost use Rattle.tape_mend.specs.Mending.{HasRecords, IsMendedText, mended_text};
+ghost use Rattle.tape_mend.specs.Reported.{ends_before, moved, place_in};
 ghost use Rattle.tape_mend.specs.Word.{Asks, EndsMend, IsAbout, IsSaid};
 ghost use Rattle.tape_words.specs.Asked.{mend_asked, mend_view};
 ghost use Rattle.tape_words.specs.CommandLines.{mend};
@@ -12,6 +12,7 @@ ghost use Rattle.word_streams.specs.Streams.{Tells, TellsFront};
 ghost use Rattle.word_streams.specs.Words.{AsksForHelp, Fits, Misfits};
 
 use crate::mending::{Mended, mend_text};
+use crate::parts::is_kept;
 use crate::reporting::report;
 use model::{TapeFault, TapeFaultKind};
 use std::alloc::Global;
@@ -22,24 +23,30 @@ use tape_words::{
     write_file,
 };
 
+/// Returns how many bytes of a mended text come directly before a byte: CR LF before each `;` but
+/// the first byte.
+fn ends_before(is_first: bool, byte: u8) -> u64
+    ensures { result ≡ ends_before is_first byte }
+{
+    if byte == b';' && !is_first { 2 } else { 0 }
+}
+
 /// Returns the place in a text of the byte that has a place in its mended text, or that comes next:
 /// there line ends, $00 and $13 are left out, and CR LF comes before each `;` but the first.
-fn place_of(text: &[u8], made: u64) -> u64 {
-    let mut so_far = 0u64;
+fn place_in(text: &[u8], made: u64) -> u64
+    ensures { result ≡ place_in text.now made }
+{
+    let mut left = made;
+    let mut is_first = true;
     for (place, byte) in text.iter().enumerate() {
-        match *byte {
-            0 | b'\r' | b'\n' | 0x13 => continue,
-            b';' => {
-                if so_far > 0 {
-                    so_far = so_far.saturating_add(2);
-                }
+        if is_kept(*byte) {
+            let ends = ends_before(is_first, *byte);
+            if left <= ends {
+                return place as u64;
             }
-            _ => {}
+            left -= ends + 1;
+            is_first = false;
         }
-        if made <= so_far {
-            return place as u64;
-        }
-        so_far = so_far.saturating_add(1);
     }
     text.len() as u64
 }
@@ -47,9 +54,9 @@ fn place_of(text: &[u8], made: u64) -> u64 {
 /// Returns a fault of a mended text as one of the text that it was made of: where that ends, a
 /// record is cut short.
 fn moved(text: &[u8], made: TapeFault) -> TapeFault
-    ensures { (result.kind ≡ made.kind) ⊎ (result.kind ≡ Truncated) }
+    ensures { result ≡ moved text.now made.kind made.offset }
 {
-    let offset = place_of(text, made.offset);
+    let offset = place_in(text, made.offset);
     let kind = if offset == text.len() as u64 {
         TapeFaultKind::Truncated
     } else {
