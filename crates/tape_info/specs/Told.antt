@@ -1,11 +1,12 @@
 -- What `info` says of a tape. Source: mos65. No clause can say which tape a file has.
-use Rattle.std.specs.Prelude.{◌≡◌, ℕ, List, Option}
+use Rattle.std.specs.Prelude.{◌≡◌, ◌⊎◌, ℕ, List, [], ◌++◌, codes, Option}
 use Rattle.model.specs.State.{memory_of}
 use Rattle.model.specs.Tape.{FirstFault, TapeDenotes}
 use Rattle.model.specs.declared.instruction.Profile.{Profile}
-use Rattle.model.specs.declared.tape.TapeFaultKind.{TapeFaultKind}
-use Rattle.tape_words.specs.Answers.{TellsFault}
+use Rattle.model.specs.declared.tape.TapeFault.{TapeFault}
+use Rattle.tape_mend.specs.Mending.{IsMendedText, mended_text}
 use Rattle.tape_words.specs.Asked.{InfoAsked}
+use Rattle.tape_words.specs.Meanings.{fault_line}
 use Rattle.tape_info.specs.Facts.{bytes_among, checksums_of, data_records, largest_gap, ranges_of, vector_at}
 use Rattle.tape_info.specs.Rows.{rows_of}
 use Rattle.tape_info.specs.declared.fact_list.Facts.{Facts}
@@ -37,10 +38,28 @@ pub record IsRightTape (asked : InfoAsked) (said : List ℕ) : Type 0 where
   pub denotes : TapeDenotes text image
   pub rows : AreRows asked.profile image asked.port (data_records text) said
 
+-- `mend` makes a right tape of a text.
+abbrev pub IsMendable : List ℕ → Type 0
+IsMendable text = (out : List ℕ) × (image : List (Option ℕ)) × (fault : Option TapeFault)
+    × IsMendedText text out fault × TapeDenotes out image
+
+-- The mended text still has a fault.
+abbrev pub IsBeyondMending : List ℕ → Type 0
+IsBeyondMending text = (fault : TapeFault) × FirstFault (mended_text text) fault.kind fault.offset
+
+-- Whether `mend` mends a text.
+abbrev pub IsHint : List ℕ → List ℕ → Type 0
+IsHint text hint = ((hint ≡ codes "`mend` mends it\n") × IsMendable text)
+    ⊎ ((hint ≡ []) × IsBeyondMending text)
+
+-- The line that says a tape's fault, and whether `mend` mends the tape.
+abbrev pub IsFaultText : List ℕ → List ℕ → TapeFault → List ℕ → Type 0
+IsFaultText file text fault said = (hint : List ℕ) × IsHint text hint
+    × (said ≡ fault_line file text fault ++ hint)
+
 -- What is said of some tape with a fault: its first one.
 pub record IsWrongTape (asked : InfoAsked) (said : List ℕ) : Type 0 where
   pub text : List ℕ
-  pub kind : TapeFaultKind
-  pub offset : ℕ
-  pub first : FirstFault text kind offset
-  pub told : TellsFault asked.tape kind said
+  pub fault : TapeFault
+  pub first : FirstFault text fault.kind fault.offset
+  pub told : IsFaultText asked.tape text fault said

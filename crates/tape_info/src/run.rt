@@ -5,9 +5,8 @@ ghost use Rattle.std.specs.Prelude.{true};
 ghost use Rattle.model.specs.State.{is_map};
 ghost use Rattle.model.specs.Tape.{FirstFault, TapeDenotes};
 ghost use Rattle.tape_info.specs.Facts.{data_records};
-ghost use Rattle.tape_info.specs.Told.{AreRows};
+ghost use Rattle.tape_info.specs.Told.{AreRows, IsFaultText, IsHint};
 ghost use Rattle.tape_info.specs.Word.{Asks, EndsInfo, IsAbout, IsSaid};
-ghost use Rattle.tape_words.specs.Answers.{TellsFault};
 ghost use Rattle.tape_words.specs.Asked.{info_asked, info_view};
 ghost use Rattle.tape_words.specs.CommandLines.{info};
 ghost use Rattle.word_streams.specs.Streams.{Tells, TellsFront};
@@ -44,7 +43,9 @@ fn right_tape(
 }
 
 /// Returns what is to be said of `mend`: that it mends a text, or nothing.
-fn mend_hint(alloc: Global, text: &[u8]) -> Result<&'static str, AllocError> {
+fn mend_hint(alloc: Global, text: &[u8]) -> Result<&'static str, AllocError>
+    ensures { IfOk result (λ hint. IsHint text.now hint.now) }
+{
     match mend_text(alloc, text) {
         Ok(_) => Ok("`mend` mends it\n"),
         Err(fault) => match fault.kind {
@@ -61,7 +62,8 @@ fn wrong_tape(
     text: &[u8],
     fault: TapeFault,
 ) -> Result<String, AllocError>
-    ensures { IfOk result (λ said. TellsFault words.now.tape.now fault.kind (string_bytes said)) }
+    ensures { IfOk result
+        (λ said. IsFaultText words.now.tape.now text.now fault (string_bytes said)) }
 {
     let mut said = fault_text(alloc, words.tape, text, fault)?;
     let hint = mend_hint(alloc, text)?;
