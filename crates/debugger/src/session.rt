@@ -20,7 +20,7 @@ use crate::course::{Course, go_back, new_course, note_event, note_step, run_quie
 use crate::pages::Pages;
 use crate::stops::{Stretch, break_at, stop_after};
 use crate::trail::happen;
-use bus::{BusFault, Image, MapSpec};
+use bus::{Bus, BusFault, Image, MapSpec};
 use cpu::Machine;
 use model::{Event, EventFault, Profile, Regs, RunEnd, SessionFault, Why};
 use std::alloc::Global;
@@ -361,6 +361,13 @@ impl Session {
         ensures { result ≡ self.now.current.regs }
     {
         self.machine.regs()
+    }
+
+    /// Returns the current state's bus, to look at.
+    pub fn bus(&self) -> &Bus
+        ensures { result.now ≡ self.now.current.bus }
+    {
+        self.machine.bus()
     }
 
     /// Returns the current state's cycles since load.

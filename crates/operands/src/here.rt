@@ -5,9 +5,9 @@ ghost use Rattle.model.specs.Effect.{operation_of};
 ghost use Rattle.operands.specs.Access.{access_here, access_of, row_here};
 
 use crate::access::Access;
-use crate::place::place_here;
 use debugger::Session;
 use model::{Mode, Operation, Row};
+use modes::resolve;
 use optable::{decode_in, operation};
 
 /// Returns the row of the instruction at PC, or `None` if its opcode is not documented.
@@ -70,7 +70,7 @@ pub fn access_here(session: &Session) -> Access
         Some(row) => access_of(
             operation(row.mnemonic),
             row.mode,
-            place_here(session, row.mode).address,
+            resolve(session.bus(), &session.regs(), row.mode).address,
         ),
     }
 }

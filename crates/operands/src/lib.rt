@@ -9,4 +9,3 @@ pub use here::{access_here, row_here};
 
 mod access;
 mod here;
-mod place;
