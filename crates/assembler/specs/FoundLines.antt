@@ -8,7 +8,7 @@ use Rattle.line_parts.specs.declared.fault.LineError.TheVariants as errors
 use Rattle.assembler.specs.declared.found.Lines.{Lines}
 use Rattle.line_parts.specs.KeptLines.{numbered_lines}
 use Rattle.line_parts.specs.LineFaults.{out_of_memory}
-use Rattle.source_lines.specs.Spans.{pairs_of}
+use Rattle.line_parts.specs.Spans.{pairs_of}
 use Rattle.assembler.specs.Found.{Found}
 use Rattle.model.specs.Names.{Definitions}
 use Rattle.model.specs.SourceLine.{Line, labelled, definition, read_line}

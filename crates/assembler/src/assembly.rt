@@ -17,11 +17,10 @@ ghost use Rattle.symbols.specs.Entries.{entry_view};
 use crate::first_pass::lay_out;
 use emission::make_image;
 use law_sources::{judging_is_right, one_assignment};
-use line_parts::OUT_OF_MEMORY;
+use line_parts::{OUT_OF_MEMORY, Span};
+use listing::listing_of;
 use memory_map::{Image, MapSpec};
 use model::{AsmFault, AsmFaultKind};
-use source_lines::Span;
-use source_listing::listing_of;
 use std::alloc::Global;
 use std::marker::Model;
 use symbols::Symbols;
@@ -40,7 +39,7 @@ pub struct Assembly {
 
 impl Model for Assembly {
     ghost use Rattle.assembler.specs.Assembly.{AssemblyView};
-    ghost use Rattle.source_lines.specs.Spans.{pairs_of};
+    ghost use Rattle.line_parts.specs.Spans.{pairs_of};
 
     ghost Value = { AssemblyView };
 

@@ -10,9 +10,8 @@ ghost use Rattle.model.specs.Source.{is_finish, first_context, read_lines};
 use crate::found::Lines;
 use asm_line::read_line_with;
 use layout::place_line;
-use line_parts::{Line, LineError, OUT_OF_MEMORY, Statement, Token, fault_on_line};
+use line_parts::{Line, LineError, OUT_OF_MEMORY, Statement, Token, fault_on_line, next_line};
 use model::{AsmFault, Profile};
-use source_lines::next_line;
 use std::alloc::Global;
 use symbols::Symbols;
 

@@ -7,11 +7,10 @@ ghost use Rattle.line_parts.specs.LineViews.{statement_view, line_view};
 ghost use Rattle.line_parts.specs.Contents.{content_by, line_content};
 ghost use Rattle.line_parts.specs.KeptLines.{numbered_lines};
 ghost use Rattle.model.specs.Layout.{size_of};
-ghost use Rattle.source_lines.specs.Spans.{pairs_of};
+ghost use Rattle.line_parts.specs.Spans.{pairs_of};
 
 use layout::Placement;
-use line_parts::{Code, KeptLine, Line, Statement};
-use source_lines::Span;
+use line_parts::{Code, KeptLine, Line, Span, Statement};
 use std::alloc::{AllocError, Global};
 
 /// The address of each line, and the lines that denote bytes.

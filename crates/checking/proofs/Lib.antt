@@ -1,2 +1,4 @@
 pub mod Read
 pub mod Said
+pub mod Told
+pub mod KindWords

@@ -13,13 +13,13 @@ use crate::text::{CheckedText, checked_text};
 use crate::words::{CheckWords, read_words};
 use bus::MapSpec;
 use model::Profile;
+use papertape::looks_like_tape;
 use program_words::WordsFault;
 use std::alloc::Global;
 use std::fs::File;
 use std::io;
 use std::io::{Read, Write};
 use std::rt::Files;
-use tape_hint::looks_like_tape;
 use word_streams::write_text;
 
 /// One byte more than the longest source.

@@ -20,9 +20,9 @@ use Rattle.model.specs.declared.operation.StoreOp.{StoreOp}
 use Rattle.model.specs.declared.operation.ModifyOp.{ModifyOp}
 use Rattle.model.specs.declared.operation.BranchOp.{BranchOp}
 use Rattle.model.specs.declared.event.EventFault.TheVariants.{CyclesFull, ConsoleFull}
-use Rattle.operands.specs.Access.{access_of, access_by, access_here, no_access}
+use Rattle.accesses.specs.Access.{access_of, access_by, access_here, no_access}
 use Rattle.console.specs.Taking.{take_count, counted}
-use Rattle.operands.specs.declared.access.Access.{Access}
+use Rattle.accesses.specs.declared.access.Access.{Access}
 
 -- a bus that has given n bytes of input to the program, and may have more output
 pub record Leads (n : ℕ) (before after : Bus) : Type 0 where

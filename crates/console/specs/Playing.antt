@@ -8,7 +8,7 @@ use Rattle.model.specs.Transcript.{after_input}
 use Rattle.model.specs.declared.event.EventFault.{EventFault}
 use Rattle.model.specs.declared.registers.Regs.{Regs}
 use Rattle.model.specs.declared.registers.Flags.{Flags}
-use Rattle.operands.specs.Access.{access_here, puts_byte}
+use Rattle.accesses.specs.Access.{access_here, puts_byte}
 use Rattle.console.specs.Line.{line_at, room_of}
 use Rattle.console.specs.declared.memo.Memo.{Memo}
 use Rattle.console.specs.declared.ending.Ending.{Ending}

@@ -8,7 +8,7 @@ ghost use Rattle.model.specs.Step.{step};
 ghost use Rattle.model.specs.State.{input_waits, State};
 ghost use Rattle.model.specs.Transcript.{after_input};
 ghost use Rattle.model.specs.Writers.{Writes};
-ghost use Rattle.operands.specs.Access.{access_here};
+ghost use Rattle.accesses.specs.Access.{access_here};
 ghost use Rattle.console.specs.Given.{given_to};
 ghost use Rattle.console.specs.Line.{room_of};
 ghost use Rattle.console.specs.Playing.{asks, came as is_some_line, ending_before, is_idle, looks};
@@ -22,9 +22,9 @@ use crate::ending::{Ending, PlayFault};
 use crate::input::hand_in_line;
 use crate::memo::Memo;
 use crate::output::{flush, put_output};
+use accesses::{Access, access_here};
 use debugger::Session;
 use model::{Event, Flags, Regs};
-use operands::{Access, access_here};
 use std::io::{Read, Write};
 
 /// What a run knows besides its session.

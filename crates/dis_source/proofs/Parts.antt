@@ -8,8 +8,8 @@ use Rattle.model.specs.Source.{Denotes}
 use Rattle.model.specs.State.{Map, has_port_byte}
 use Rattle.model.specs.declared.instruction.Profile.{Profile}
 use Rattle.reached.specs.Reached.{AreFollowed, vectors}
-use Rattle.source_rows.specs.Rows.{mark_at}
-use Rattle.source_rows.specs.declared.mark.Mark.{Mark}
+use Rattle.source_forms.specs.Rows.{mark_at}
+use Rattle.source_forms.specs.declared.mark.Mark.{Mark}
 use Rattle.dis_source.specs.Asked.{SourceAsked}
 use Rattle.dis_source.specs.Marks.{cell_between, mark_of}
 use Rattle.dis_source.specs.Word.{AreNames, names_map}

@@ -1,8 +1,8 @@
 -- What is marked, and the part of an image that is written. Source: mos65.
 use Rattle.std.specs.Prelude.{ℕ, nat_le, ◌&&◌, ◌||◌, Bool, false, if◌then◌else◌, List, [], ◌∷◌, Option, Some, None, slice_set}
 use Rattle.model.specs.Image.{cell_at}
-use Rattle.source_rows.specs.declared.mark.Mark.{Mark}
-use Rattle.source_rows.specs.declared.mark.Mark.TheVariants.{Code, Data, Text}
+use Rattle.source_forms.specs.declared.mark.Mark.{Mark}
+use Rattle.source_forms.specs.declared.mark.Mark.TheVariants.{Code, Data, Text}
 
 abbrev pub lies_in : ℕ × ℕ → ℕ → Bool
 lies_in range address = nat_le range.0 address && nat_le address range.1

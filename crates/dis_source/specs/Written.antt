@@ -4,10 +4,10 @@ use Rattle.model.specs.Image.{cell_at}
 use Rattle.model.specs.Names.{Definitions}
 use Rattle.model.specs.Source.{Denotes}
 use Rattle.model.specs.State.{Map, has_port_byte}
-use Rattle.source_rows.specs.Rows.{mark_at, source_of}
-use Rattle.source_rows.specs.declared.mark.Mark.{Mark}
-use Rattle.label_rows.specs.Labels.{labelled_source}
-use Rattle.named_text.specs.NamedText.{IsNamedText}
+use Rattle.source_forms.specs.Rows.{mark_at, source_of}
+use Rattle.source_forms.specs.declared.mark.Mark.{Mark}
+use Rattle.source_forms.specs.Labels.{labelled_source}
+use Rattle.named_source.specs.NamedText.{IsNamedText}
 use Rattle.reached.specs.Reached.{AreFollowed, vectors}
 use Rattle.dis_source.specs.Asked.{SourceAsked}
 use Rattle.dis_source.specs.Marks.{cell_between, mark_of}

@@ -5,7 +5,7 @@ ghost use Rattle.dis_source.specs.Marks.{cell_between, lies_in, lies_in_one, mar
 ghost use Rattle.dis_source.specs.Marks.{with_cell};
 
 use bus::Image;
-use source_text::Mark;
+use round_trips::Mark;
 use std::alloc::{AllocError, Global};
 
 /// Whether an address lies in a range.

@@ -13,11 +13,10 @@ use crate::marks::{between, marks_of};
 use crate::refusal::Refusal;
 use assembler::{AsmFaultKind, Assembly, assemble};
 use bus::{Image, MapSpec};
-use label_text::labelled_text;
 use model::Profile;
-use named_text::named_text;
+use named_source::named_text;
 use reached::{followed_marks, vectors};
-use source_text::{Mark, source_text};
+use round_trips::{Mark, labelled_text, source_text};
 use std::alloc::{AllocError, Global};
 
 /// Returns the map by which a source of names is read.

@@ -22,13 +22,12 @@ ghost use Rattle.model.specs.declared.source_fault.AsmFaultKind.TheVariants.{Pas
 ghost use Rattle.model.specs.Image.{has_byte, with_bytes};
 ghost use Rattle.model.specs.Value.{eval_of};
 
-use evaluator::eval;
 use line_parts::{Code, Expr, Item, KeptLine, LineError, Statement, term_of};
 use memory_map::{Image, MapSpec};
 use model::{AsmFaultKind, ExprFault, Mode};
 use std::alloc::{AllocError, Global};
 use std::marker::Model;
-use symbols::Symbols;
+use symbols::{Symbols, eval};
 
 /// The bytes of one expression.
 #[derive(Clone, Copy, Debug, PartialEq, Eq)]

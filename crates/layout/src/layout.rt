@@ -13,9 +13,9 @@ ghost use Rattle.model.specs.Value.{eval_of};
 ghost use Rattle.model.specs.SourceLine.{instruction};
 
 use crate::forms::{Form, form_of};
-use evaluator::{Names, eval};
 use line_parts::{Code, Expr, Item, Operand, Statement, term_of};
 use model::{AsmFaultKind, ExprFault, Mnemonic, Mode, Profile};
+use symbols::{Names, eval};
 
 /// How a line's instruction is encoded, if it has one, its byte count, and the next line's address.
 #[derive(Clone, Copy)]

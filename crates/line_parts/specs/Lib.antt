@@ -5,3 +5,4 @@ pub mod FewBytes
 pub mod Contents
 pub mod KeptLines
 pub mod LineFaults
+pub mod Spans

@@ -3,12 +3,16 @@
 //! They are tokens, expressions, operands, statements, and what is kept of a line that denotes
 //! bytes. Nothing runs here but `located`, which makes a fault of an error and a line number, and
 //! `term_of`, which looks at an operand's expression.
+//!
+//! The lines of a source: cut from its text one after another, and the place of each.
 #![tactic(auto)]
 
 mod code;
 mod fault;
 mod kept_line;
+mod line;
 mod refusal;
+mod span;
 mod statement;
 mod token;
 mod tree;
@@ -16,7 +20,9 @@ mod tree;
 pub use code::Code;
 pub use fault::LineError;
 pub use kept_line::KeptLine;
+pub use line::next_line;
 pub use refusal::{OUT_OF_MEMORY, fault_on_line};
+pub use span::Span;
 pub use statement::{Item, Line, Operand, Statement, term_of};
 pub use token::Token;
 pub use tree::Expr;

@@ -12,7 +12,7 @@ use Rattle.model.specs.declared.bus_fault.BusFault.TheVariants.{BadMap}
 use Rattle.model.specs.declared.session_fault.SessionFault.TheVariants.{PortAddress}
 use Rattle.program.specs.declared.refusal.Refusal.{Refusal}
 use Rattle.program.specs.declared.refusal.Refusal.TheVariants as refusal
-use Rattle.tape_hint.specs.Hint.{BeginsTape}
+use Rattle.papertape.specs.Hint.{BeginsTape}
 
 -- A port and a ROM that make no map are rejected for that.
 abbrev pub IsBadMap : Map → Refusal → Type 0

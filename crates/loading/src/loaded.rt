@@ -25,14 +25,13 @@ use bus::{Image, MapSpec};
 use debugger::Session;
 use engine::EngineFault;
 use model::{AsmFault, Profile, SessionFault};
-use papertape::{TapeReadFault, read_tape_from};
+use papertape::{TapeReadFault, looks_like_tape, read_tape_from};
 use program::{Refusal, put_three, refuse};
 use std::alloc::Global;
 use std::fs::File;
 use std::io;
 use std::io::{Read, Write};
 use std::rt::Files;
-use tape_hint::looks_like_tape;
 
 /// One byte more than the longest source.
 const MOST_READ: u64 = 1_048_577;

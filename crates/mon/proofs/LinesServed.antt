@@ -5,13 +5,13 @@ use Rattle.std.proofs.lemmas.List.{take_all}
 use Rattle.std.specs.Io.BufRead.{ends_with_byte, strip_last}
 use Rattle.model.specs.TextLines.{ended_lines_of}
 use Rattle.mon.specs.Attended.{AnswersLine, IsAttended, prompt_of, IsAttendedSoFar, ServesLine, ServesLines}
-use Rattle.mon_answers.specs.Lines.{Follows, Says, read_at}
-use Rattle.mon_answers.specs.Texts.{decimal_text, line_text, slip_line, too_long}
+use Rattle.mon_dispatch.specs.Lines.{Follows, Says, read_at}
+use Rattle.mon_dispatch.specs.Texts.{decimal_text, line_text, slip_line, too_long}
 use Rattle.mon_lines.specs.Lines.{SeenCommand}
-use Rattle.mon_topics.specs.declared.topic.Topic.{Topic}
-use Rattle.mon_values.specs.Reading.{SeenWhy}
-use Rattle.mon_desk.specs.Served.{ShowsOnly}
-use Rattle.mon_desk.specs.declared.desk.Desk.{Desk}
+use Rattle.mon_line_parts.specs.declared.topic.Topic.{Topic}
+use Rattle.mon_line_parts.specs.Reading.{SeenWhy}
+use Rattle.mon_session.specs.Served.{ShowsOnly}
+use Rattle.mon_session.specs.declared.desk.Desk.{Desk}
 
 pub shows_then : (a b c : Desk) → ShowsOnly a b → ShowsOnly b c → ShowsOnly a c
 shows_then a b c p q = (q.0 ∙ p.0, q.1 ∙ p.1, q.2 ∙ p.2, q.3 ∙ p.3)

@@ -7,8 +7,8 @@ use Rattle.model.specs.TextLines.{ended_lines_of, lines_from, no_line}
 use Rattle.mon.specs.Attended.{EndsLines, ServesLine, ServesLines, input_lines, line_at_end}
 use Rattle.mon.specs.Pieces.{Feeds, GoesOn, IsOver, unless_over}
 use Rattle.mon.proofs.LinesServed.{line_alone, line_kept, line_on, line_over, lines_more, lines_then, no_lines}
-use Rattle.mon_desk.specs.Served.{ShowsOnly}
-use Rattle.mon_desk.specs.declared.desk.Desk.{Desk}
+use Rattle.mon_session.specs.Served.{ShowsOnly}
+use Rattle.mon_session.specs.declared.desk.Desk.{Desk}
 use Rattle.program.specs.declared.refusal.Refusal.{Refusal}
 
 pub begins : (prompt : List ℕ) (first : Desk) → GoesOn prompt [] [] first first []

@@ -7,7 +7,7 @@ use Rattle.loading.specs.declared.loaded.LoadFault.{LoadFault}
 use Rattle.model.specs.Event.{start}
 use Rattle.model.specs.Session.{Session, new_session}
 use Rattle.mon.specs.Done.{AreNamed, IsNewDesk, StartsMon, places_in, with_names}
-use Rattle.mon_desk.specs.declared.desk.Desk.{Desk}
+use Rattle.mon_session.specs.declared.desk.Desk.{Desk}
 use Rattle.mon_words.specs.Asked.{MonAsked}
 
 -- The session of a new desk is the one that was loaded.

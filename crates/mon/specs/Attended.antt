@@ -4,9 +4,9 @@ use Rattle.std.specs.Prelude.{ℕ, ◌≡◌, ◌<◌, ◌≤◌, ◌⊎◌, Boo
 use Rattle.std.specs.Io.BufRead.{strip_last}
 use Rattle.std.specs.Io.KnownBytes.{Consumes, IsAtEnd}
 use Rattle.model.specs.TextLines.{ended_lines_of, lines_from}
-use Rattle.mon_answers.specs.Lines.{IsTooLong, Says, Serves}
-use Rattle.mon_desk.specs.Served.{ShowsOnly}
-use Rattle.mon_desk.specs.declared.desk.Desk.{Desk}
+use Rattle.mon_dispatch.specs.Lines.{IsTooLong, Says, Serves}
+use Rattle.mon_session.specs.Served.{ShowsOnly}
+use Rattle.mon_session.specs.declared.desk.Desk.{Desk}
 
 -- ---- the lines of an input
 

@@ -11,11 +11,11 @@ use Rattle.loading.specs.declared.loaded.LoadFault.TheVariants.{LooksLikeTape, R
 use Rattle.model.specs.Event.{start}
 use Rattle.model.specs.Session.{Session, new_session}
 use Rattle.mon.specs.Attended.{IsAttended}
-use Rattle.mon_desk.specs.Texts.{shown_text}
-use Rattle.mon_desk.specs.declared.desk.Desk.{Desk}
+use Rattle.mon_session.specs.Texts.{shown_text}
+use Rattle.mon_session.specs.declared.desk.Desk.{Desk}
 use Rattle.mon_words.specs.Asked.{MonAsked}
-use Rattle.places.specs.Lines.{PlacesView, places_of}
-use Rattle.places.specs.Names.{names_of}
+use Rattle.source_map.specs.Lines.{PlacesView, places_of}
+use Rattle.source_map.specs.Names.{names_of}
 use Rattle.program.specs.declared.refusal.Refusal.{Refusal}
 use Rattle.program.specs.declared.refusal.Refusal.TheVariants.{OutOfMemory, Read, Write}
 

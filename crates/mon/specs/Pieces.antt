@@ -3,7 +3,7 @@
 use Rattle.std.specs.Prelude.{ℕ, ◌≡◌, Bool, true, false, List, [], ◌++◌, take}
 use Rattle.model.specs.TextLines.{lines_from}
 use Rattle.mon.specs.Attended.{ServesLines}
-use Rattle.mon_desk.specs.declared.desk.Desk.{Desk}
+use Rattle.mon_session.specs.declared.desk.Desk.{Desk}
 
 -- The lines that have ended in some bytes were served, and none of them ended the session. Of the
 -- line begun after them no more than 257 bytes are kept: 255, one CR, and one that makes the line

@@ -8,12 +8,12 @@ ghost use Rattle.mon.specs.Attended.{AnswersLine, EndsLines, IsAttended, IsAtten
 ghost use Rattle.mon.specs.Attended.{ServesLine, line_end_of, prompt_of};
 ghost use Rattle.mon.specs.Done.{EndsAnswer, EndsSession};
 ghost use Rattle.mon.specs.Pieces.{Feeds, GoesOn, unless_over};
-ghost use Rattle.mon_desk.specs.Served.{ShowsOnly};
-ghost use Rattle.mon_desk.specs.declared.desk.Desk.{Desk};
+ghost use Rattle.mon_session.specs.Served.{ShowsOnly};
+ghost use Rattle.mon_session.specs.declared.desk.Desk.{Desk};
 
 use arrayvec::ArrayVec;
-use mon_answers::serve;
-use mon_desk::Desk;
+use mon_dispatch::serve;
+use mon_session::Desk;
 use program::Refusal;
 use std::alloc::{AllocError, Global};
 use std::io::{Read, Write};

@@ -2,20 +2,20 @@
 use Rattle.std.specs.Prelude.{ℕ, ◌==◌, ◌&&◌, ◌||◌, is_some, Bool, true, false, codes, if◌then◌else◌, List, [], length, Option, Some, None, unwrap_or, Result, Ok, Err}
 use Rattle.std.specs.Str.{byte}
 use Rattle.model.specs.declared.event.Setting.{Setting}
-use Rattle.places.specs.Names.{Named}
-use Rattle.mon_values.specs.Reading.{Reads, SeenWhy, unknown, several, missing, behind, after, after_word, and_then, is_empty, is_next, is_word, number_in, skip, word_of}
-use Rattle.mon_values.specs.Values.{bytes_of, count_of}
+use Rattle.source_map.specs.Names.{Named}
+use Rattle.mon_line_parts.specs.Reading.{Reads, SeenWhy, unknown, several, missing, behind, after, after_word, and_then, is_empty, is_next, is_word, number_in, skip, word_of}
+use Rattle.mon_line_parts.specs.Values.{bytes_of, count_of}
 use Rattle.mon_lines.specs.Parts.{address_at, kind_of, level_of, setting_of, shown_of, stretch_of, tests_of, times_of, undoing_of}
-use Rattle.mon_topics.specs.Topics.{topic_of}
+use Rattle.mon_line_parts.specs.Topics.{topic_of}
 use Rattle.mon_lines.specs.declared.command.Command.{Command}
 use Rattle.mon_lines.specs.declared.command.Command.TheVariants as command
 use Rattle.mon_lines.specs.declared.command.Stretch.{Stretch}
 use Rattle.mon_lines.specs.declared.command.Test.{Test}
 use Rattle.mon_lines.specs.declared.command.Undoing.{Undoing}
 use Rattle.mon_lines.specs.declared.command.WatchKind.{WatchKind}
-use Rattle.mon_values.specs.declared.slip.Lack.TheVariants as lacking
-use Rattle.mon_topics.specs.declared.topic.Topic.{Topic}
-use Rattle.mon_topics.specs.declared.topic.Topic.TheVariants as topic
+use Rattle.mon_line_parts.specs.declared.slip.Lack.TheVariants as lacking
+use Rattle.mon_line_parts.specs.declared.topic.Topic.{Topic}
+use Rattle.mon_line_parts.specs.declared.topic.Topic.TheVariants as topic
 
 -- What a line asks for: each command with what it is told.
 pub data SeenCommand : Type 0 where

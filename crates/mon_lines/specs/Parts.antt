@@ -3,9 +3,9 @@ use Rattle.std.specs.Prelude.{ℕ, zero, suc, ◌+◌, ◌-◌, ◌==◌, ◌&&�
 use Rattle.std.specs.Str.{byte, bytes_eq}
 use Rattle.model.specs.declared.event.Setting.{Setting}
 use Rattle.model.specs.declared.event.Setting.TheVariants as setting
-use Rattle.places.specs.Names.{Named}
-use Rattle.mon_values.specs.Reading.{Reads, missing, unreadable, many, after, after_word, and_then, is_empty, is_next, is_word, past, word_of}
-use Rattle.mon_values.specs.Values.{count_of, sum_of}
+use Rattle.source_map.specs.Names.{Named}
+use Rattle.mon_line_parts.specs.Reading.{Reads, missing, unreadable, many, after, after_word, and_then, is_empty, is_next, is_word, past, word_of}
+use Rattle.mon_line_parts.specs.Values.{count_of, sum_of}
 use Rattle.mon_lines.specs.declared.command.Compare.{Compare}
 use Rattle.mon_lines.specs.declared.command.Compare.TheVariants.{Equal, Other, Less, LessOrEqual, More, MoreOrEqual}
 use Rattle.mon_lines.specs.declared.command.Left.{Left}
@@ -18,8 +18,8 @@ use Rattle.mon_lines.specs.declared.command.Undoing.{Undoing}
 use Rattle.mon_lines.specs.declared.command.Undoing.TheVariants.{Events, Over}
 use Rattle.mon_lines.specs.declared.command.WatchKind.{WatchKind}
 use Rattle.mon_lines.specs.declared.command.WatchKind.TheVariants.{Change, Read, Write}
-use Rattle.mon_values.specs.declared.slip.Lack.TheVariants as lacking
-use Rattle.mon_values.specs.declared.values.Kind.TheVariants.{Address, Byte, Word}
+use Rattle.mon_line_parts.specs.declared.slip.Lack.TheVariants as lacking
+use Rattle.mon_line_parts.specs.declared.values.Kind.TheVariants.{Address, Byte, Word}
 
 -- An address, and a value of 16 bits.
 abbrev pub address_at : List Named → ℕ → List ℕ → Reads ℕ

@@ -2,7 +2,7 @@
 
 use arrayvec::ArrayVec;
 use debugger::Setting;
-use mon_topics::Topic;
+use mon_line_parts::Topic;
 
 /// A register whose value a test may look at.
 #[derive(Clone, Copy)]

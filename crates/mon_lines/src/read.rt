@@ -2,25 +2,24 @@
 
 ghost use Rattle.std.specs.Prelude.{◌≡◌, IfErr, IfOk};
 ghost use Rattle.std.specs.Option.{option_copied};
-ghost use Rattle.mon_values.specs.Reading.{why_view};
+ghost use Rattle.mon_line_parts.specs.Reading.{why_view};
 ghost use Rattle.mon_lines.specs.Parts.{level_of, setting_by, setting_of, undoing_of, value_of};
 ghost use Rattle.mon_lines.specs.Lines.{assembled_from, break_from, command_view, decimal_address};
 ghost use Rattle.mon_lines.specs.Lines.{going_from, helped_from, instructions_from, line_of};
 ghost use Rattle.mon_lines.specs.Lines.{has_address, is_short_decimal, line_by, put_from, putting};
 ghost use Rattle.mon_lines.specs.Lines.{moving, seeing, until_from, watched_from, whole_line};
-ghost use Rattle.mon_topics.specs.Topics.{topic_of};
+ghost use Rattle.mon_line_parts.specs.Topics.{topic_of};
 
 use crate::command::{Command, Register, Undoing};
 use crate::slip::Slip;
 use crate::stretches::{kind_of, shown_of, stretch_of};
 use crate::tests::{register_of, tests_of, times_of};
 use debugger::Setting;
-use mon_topics::{Topic, topic_of};
-use mon_values::{
-    Lack, Why, address_of, after, after_word, byte_of, bytes_of, count_of, is_empty, is_next,
-    is_word, number_in, past, skip, word_of,
+use mon_line_parts::{
+    Lack, Topic, Why, address_of, after, after_word, byte_of, bytes_of, count_of, is_empty,
+    is_next, is_word, number_in, past, skip, topic_of, word_of,
 };
-use places::{Names, Places};
+use source_map::{Names, Places};
 
 /// Reads `WHERE [if TESTS] [times N]`.
 fn break_at<'a>(names: &Names, pc: u16, text: &'a [u8]) -> Result<(Command<'a>, &'a [u8]), Why<'a>>

@@ -1,7 +1,6 @@
 //! What is missing or wrong in a line, and what the line is about.
 
-use mon_topics::Topic;
-use mon_values::Why;
+use mon_line_parts::{Topic, Why};
 
 /// A slip in a line, and what the line is about.
 #[derive(Clone, Copy)]

@@ -1,15 +1,15 @@
 //! Stretches of memory.
 
 ghost use Rattle.std.specs.Prelude.{◌≡◌, ◌≤◌, IfErr, IfOk};
-ghost use Rattle.mon_values.specs.Reading.{and_then, why_view};
+ghost use Rattle.mon_line_parts.specs.Reading.{and_then, why_view};
 ghost use Rattle.mon_lines.specs.Parts.{by_count, counted_from, from_to, kind_of, last_of, second_of};
 ghost use Rattle.mon_lines.specs.Parts.{shown_of, so_many_from, stretch_of};
 
 use crate::command::{Stretch, WatchKind};
-use mon_values::{
+use mon_line_parts::{
     Lack, Why, address_of, after, after_word, count_of, is_empty, is_next, is_word, word_of,
 };
-use places::Names;
+use source_map::Names;
 
 /// The addresses from the first to so many behind it, none past $FFFF.
 fn so_many_from(first: u16, count: u32) -> Stretch

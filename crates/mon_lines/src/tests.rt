@@ -2,16 +2,16 @@
 
 ghost use Rattle.std.specs.Prelude.{◌≡◌, ◌≤◌, [], IfErr, IfOk};
 ghost use Rattle.std.specs.Str.{bytes_eq};
-ghost use Rattle.mon_values.specs.Reading.{after_word, and_then, why_view, word_of};
+ghost use Rattle.mon_line_parts.specs.Reading.{after_word, and_then, why_view, word_of};
 ghost use Rattle.mon_lines.specs.Parts.{byte_left, comparison_of, left_by, left_of, register_of};
 ghost use Rattle.mon_lines.specs.Parts.{test_of, tests_of, tests_within, times_of, times_or, with_test};
 
 use crate::command::{Compare, Left, Register, Test};
 use arrayvec::ArrayVec;
-use mon_values::{
+use mon_line_parts::{
     Lack, Why, address_of, after, after_word, count_of, is_next, is_word, past, word_of, word_value,
 };
-use places::Names;
+use source_map::Names;
 
 fn is_text(word: &[u8], text: &[u8]) -> bool
     ensures { result ≡ bytes_eq word.now text.now }

@@ -3,3 +3,7 @@ pub mod Apart
 pub mod Looked
 pub mod Past
 pub mod Way
+pub mod Steps
+pub mod Again
+pub mod Rounds
+pub mod Found

@@ -8,7 +8,7 @@ use Rattle.mon_runs.specs.declared.led.Goal.{Goal}
 use Rattle.mon_lines.specs.declared.command.WatchKind.TheVariants as kind
 use Rattle.mon_stops.specs.Stops.{has_access}
 use Rattle.mon_stops.specs.declared.watches.Watch.{Watch}
-use Rattle.monitor.specs.declared.led.LedWhy.TheVariants as led_why
+use Rattle.mon_runs.specs.declared.goal_run.LedWhy.TheVariants as led_why
 
 -- An arrival so many steps later.
 pub later-none : (a : Arrival) → a ≡ later 0 a

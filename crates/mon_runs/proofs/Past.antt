@@ -7,9 +7,9 @@ use Rattle.mon_runs.specs.Looked.{Arrival, Place, after_stretch, ended_or, later
 use Rattle.mon_runs.specs.Past.{after_piece, as_stopped, ended_at, gone_on, run_past, sum_of, why_of_go, why_of_stretch}
 use Rattle.mon_runs.specs.declared.ended.EndWhy.TheVariants as end_why
 use Rattle.mon_runs.proofs.Looked.{later-more, later-none}
-use Rattle.monitor.specs.Goals.{go_of}
-use Rattle.monitor.specs.declared.led.LedWhy.{LedWhy}
-use Rattle.monitor.specs.declared.led.LedWhy.TheVariants as led_why
+use Rattle.mon_runs.specs.Goals.{go_of}
+use Rattle.mon_runs.specs.declared.goal_run.LedWhy.{LedWhy}
+use Rattle.mon_runs.specs.declared.goal_run.LedWhy.TheVariants as led_why
 
 -- ---- pieces
 

@@ -3,7 +3,7 @@ use Rattle.std.proofs.Common.{◌≡◌, ℕ, ◌+◌, ◌-◌, zero, suc, Bool,
 use Rattle.std.proofs.lemmas.Bool.Decides.{nat_tests}
 use Rattle.model.specs.Session.{Session}
 use Rattle.model.specs.Back.{without_last}
-use Rattle.monitor.specs.Recall.{one_more}
+use Rattle.mon_runs.specs.Recall.{one_more}
 use Rattle.mon_runs.specs.Back.{back_over, gone_over, is_call, was_return}
 use Rattle.mon_runs.specs.Runs.{gone_back}
 

@@ -4,8 +4,8 @@ use Rattle.std.specs.Prelude.{ℕ, ◌+◌, ◌-◌, ◌==◌, ◌&&◌, zero, s
 use Rattle.model.specs.State.{State}
 use Rattle.model.specs.Session.{Session}
 use Rattle.model.specs.Back.{without_last}
-use Rattle.monitor.specs.Goals.{opcode_at_pc}
-use Rattle.monitor.specs.Recall.{one_more}
+use Rattle.mon_runs.specs.Goals.{opcode_at_pc}
+use Rattle.mon_runs.specs.Recall.{one_more}
 
 -- Whether an event that leads from one state to another was the step of an RTS, which takes 6
 -- cycles. The entry of an interrupt in its place takes 7, as a reset does, and all other events take

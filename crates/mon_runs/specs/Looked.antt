@@ -16,10 +16,10 @@ use Rattle.mon_runs.specs.declared.led.Sight.{Sight}
 use Rattle.mon_stops.specs.Stops.{has_access}
 use Rattle.mon_stops.specs.declared.breaks.Break.{Break}
 use Rattle.mon_stops.specs.declared.watches.Watch.{Watch}
-use Rattle.monitor.specs.Goals.{is_behind, has_left, is_jump_to_itself, opcode_at_pc}
-use Rattle.monitor.specs.declared.led.LedWhy.TheVariants as led_why
-use Rattle.operands.specs.Access.{access_here}
-use Rattle.operands.specs.declared.access.Access.{Access}
+use Rattle.mon_runs.specs.Goals.{is_behind, has_left, is_jump_to_itself, opcode_at_pc}
+use Rattle.mon_runs.specs.declared.goal_run.LedWhy.TheVariants as led_why
+use Rattle.accesses.specs.Access.{access_here}
+use Rattle.accesses.specs.declared.access.Access.{Access}
 
 -- ---- what ends a run after a step
 

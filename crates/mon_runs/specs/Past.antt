@@ -19,11 +19,11 @@ use Rattle.mon_runs.specs.declared.led.Goal.TheVariants.{Behind, Left, Stuck, Ne
 use Rattle.mon_stops.specs.Stops.{is_change, is_plain_break}
 use Rattle.mon_stops.specs.declared.breaks.Break.{Break}
 use Rattle.mon_stops.specs.declared.watches.Watch.{Watch}
-use Rattle.monitor.specs.Goals.{go_of, out_of, over_of, is_jump_to_itself, opcode_at_pc, until_of, without_break}
-use Rattle.monitor.specs.Led.{Outcome}
-use Rattle.monitor.specs.declared.led.LedEnd.{LedEnd}
-use Rattle.monitor.specs.declared.led.LedWhy.{LedWhy}
-use Rattle.monitor.specs.declared.led.LedWhy.TheVariants as led_why
+use Rattle.mon_runs.specs.Goals.{go_of, out_of, over_of, is_jump_to_itself, opcode_at_pc, until_of, without_break}
+use Rattle.mon_runs.specs.Led.{Outcome}
+use Rattle.mon_runs.specs.declared.goal_run.LedEnd.{LedEnd}
+use Rattle.mon_runs.specs.declared.goal_run.LedWhy.{LedWhy}
+use Rattle.mon_runs.specs.declared.goal_run.LedWhy.TheVariants as led_why
 
 -- ---- pieces: runs of `monitor`, one after another
 

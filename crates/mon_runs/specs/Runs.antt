@@ -4,8 +4,8 @@ use Rattle.model.specs.Session.{Session}
 use Rattle.model.specs.Run.{after_steps}
 use Rattle.model.specs.Back.{states, without_last}
 use Rattle.model.specs.declared.session_fault.SessionFault.{SessionFault}
-use Rattle.monitor.specs.Led.{Outcome}
-use Rattle.monitor.specs.declared.led.LedEnd.{LedEnd}
+use Rattle.mon_runs.specs.Led.{Outcome}
+use Rattle.mon_runs.specs.declared.goal_run.LedEnd.{LedEnd}
 use Rattle.mon_runs.specs.declared.ended.EndWhy.TheVariants.{Led}
 use Rattle.mon_runs.specs.declared.ended.Ended.{Ended}
 

@@ -3,12 +3,12 @@
 ghost use Rattle.std.specs.Prelude.{◌≡◌};
 ghost use Rattle.mon_runs.specs.Runs.{ended_of};
 
-use monitor::{LedEnd, LedWhy};
+use crate::{LedEnd, LedWhy};
 
 /// Why a run ends.
 #[derive(Clone, Copy)]
 pub enum EndWhy {
-    /// As a run of `monitor` does.
+    /// As a run of `goals` does.
     Led(LedWhy),
     /// The last step's instruction read a byte at an address that is watched for reads.
     Read(u16),
@@ -24,7 +24,7 @@ pub struct Ended {
 }
 
 impl Ended {
-    /// Returns how a run of `monitor` ended.
+    /// Returns how a run of `goals` ended.
     pub fn of(end: LedEnd) -> Ended
         ensures { result ≡ ended_of end }
     {

@@ -8,12 +8,12 @@ ghost use Rattle.mon_runs.specs.Looked.{after_stretch, end_between, goal_met, if
 ghost use Rattle.mon_runs.specs.Looked.{if_stored, looked_run, pushed_at, pushed_to, sight_of};
 ghost use Rattle.mon_runs.specs.Looked.{watched, watched_between, why_of_step};
 
+use crate::LedWhy;
 use crate::ended::{EndWhy, Ended};
+use accesses::{Access, access_here};
 use debugger::{Regs, Session, Why};
 use mon_lines::WatchKind;
 use mon_stops::Stops;
-use monitor::LedWhy;
-use operands::{Access, access_here};
 
 /// What a run of single steps is led to.
 #[derive(Clone, Copy)]

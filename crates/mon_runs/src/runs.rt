@@ -5,18 +5,18 @@ ghost use Rattle.std.specs.Prelude.{IsOk, Ok};
 ghost use Rattle.model.specs.Breakpoints.{break_set};
 ghost use Rattle.model.specs.Run.{after_steps};
 ghost use Rattle.model.specs.Back.{states};
-ghost use Rattle.monitor.specs.Goals.{go_of, out_of, over_of, until_of, without_break};
+ghost use Rattle.mon_runs.specs.Goals.{go_of, out_of, over_of, until_of, without_break};
 ghost use Rattle.mon_stops.specs.Stops.{is_plain};
 ghost use Rattle.mon_runs.specs.Past.{count_run, go_run, if_all, out_run, over_looked};
 ghost use Rattle.mon_runs.specs.Past.{over_run, run_to, until_run};
 ghost use Rattle.mon_runs.specs.Runs.{HasMade, HasMadeStates, IsLed, IsLedTo};
 
+use crate::LedWhy;
 use crate::ended::{EndWhy, Ended};
 use crate::led::{Goal, lead};
 use crate::pieces::{MOST_LED, go_on, go_once, out_once, over_once, run_on, until_once};
 use debugger::{Session, SessionFault, Why};
 use mon_stops::Stops;
-use monitor::LedWhy;
 
 /// The opcode of JSR.
 const JSR: u8 = 0x20;
@@ -40,7 +40,7 @@ fn over_looked(session: &mut Session, stops: &mut Stops) -> Ended
     }
 }
 
-/// Makes a JSR as one, or one step: as `monitor::over` does, for up to 10,000,000 steps.
+/// Makes a JSR as one, or one step: as `crate::over` does, for up to 10,000,000 steps.
 #[tactic(auto, unfolding(crate::specs::Past::over_run))]
 pub fn over(session: &mut Session, stops: &mut Stops) -> Ended
     ensures steps { session.new ≡ after_steps result.did session.old }
@@ -57,7 +57,7 @@ pub fn over(session: &mut Session, stops: &mut Stops) -> Ended
     over_looked(session, stops)
 }
 
-/// Steps until the subroutine that is running has returned: as `monitor::out` does, for up to
+/// Steps until the subroutine that is running has returned: as `crate::out` does, for up to
 /// 10,000,000 steps.
 #[tactic(auto, unfolding(crate::specs::Past::out_run))]
 pub fn out(session: &mut Session, stops: &mut Stops) -> Ended
@@ -76,7 +76,7 @@ pub fn out(session: &mut Session, stops: &mut Stops) -> Ended
     lead(session, stops, Goal::Left { stack }, None, MOST_LED)
 }
 
-/// Runs to a stop or until nothing is left to do: as `monitor::go` does, for up to 4,096 and then
+/// Runs to a stop or until nothing is left to do: as `crate::go` does, for up to 4,096 and then
 /// 262,144 times 4,096 steps. Where reads or writes are watched it makes at most 10,000,000.
 #[tactic(auto, unfolding(crate::specs::Past::go_run))]
 pub fn go(session: &mut Session, stops: &mut Stops) -> Ended
@@ -188,7 +188,7 @@ pub fn until(session: &mut Session, stops: &mut Stops, address: u16) -> Result<E
 }
 
 /// Clears a breakpoint, if it is set.
-#[tactic(auto, unfolding(monitor::specs::Goals::without_break))]
+#[tactic(auto, unfolding(crate::specs::Goals::without_break))]
 fn clear_break(session: &mut Session, address: u16)
     ensures states { states session.new ≡ states session.old }
     ensures cleared { session.new ≡ without_break address session.old }

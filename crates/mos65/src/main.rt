@@ -11,10 +11,9 @@ use running::run_program;
 use std::process::ExitCode;
 use std::{env, io};
 use strict_debug::{is_strict, strict_debug};
-use tape_cmp::tape_cmp;
-use tape_info::tape_info;
+use t65::test;
+use tape_info::{tape_cmp, tape_info};
 use tape_mend::tape_mend;
-use testing::test;
 use tracing::trace_program;
 
 /// Serves `debug --strict`, and returns the exit status.

@@ -17,3 +17,4 @@ pub mod Pieces
 pub mod Told
 pub mod Skipped
 pub mod Streaming
+mod Going

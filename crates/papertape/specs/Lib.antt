@@ -7,3 +7,4 @@ pub use Rattle.model.specs.Tape
 pub use Rattle.model.specs.TapePieces
 pub use Rattle.model.specs.TapeText
 pub use Rattle.model.specs.TapeFault
+pub mod Hint

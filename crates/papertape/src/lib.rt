@@ -5,9 +5,12 @@
 //! proof goes by a reading machine, in `specs/Reading.antt`, which is shown to have seen what the
 //! grammar says, in `proofs/Grammar.antt`, from both sides. It is longer than the code, since first
 //! faults, the writer's cuts and pieces each need an induction.
+//!
+//! Whether a text that is given as a source is a tape, which a source has as comments.
 #![tactic(auto)]
 
 mod claim;
+mod hint;
 mod law;
 mod piece;
 mod reader;
@@ -16,6 +19,7 @@ mod record;
 mod stream;
 mod writer;
 
+pub use hint::looks_like_tape;
 pub use law::{
     each_text_has_one_reading, one_digit_is_refused, pieces_are_the_whole, pieces_have_one_reading,
     read_pieces, through_tape, written_is_read,

@@ -3,8 +3,8 @@ use Rattle.std.proofs.Common.{◌≡◌, ℕ, ◌+◌, ◌<◌, List, [], ◌∷
 use Rattle.std.proofs.lemmas.List.{get_or_append_left}
 use Rattle.std.proofs.Math.Seq.{get_or-append_seam}
 use borrow.Author.Count.{below_more}
-use Rattle.source_rows.specs.declared.mark.Mark.{Mark}
-use Rattle.source_rows.specs.declared.mark.Mark.TheVariants.{Code}
+use Rattle.source_forms.specs.declared.mark.Mark.{Mark}
+use Rattle.source_forms.specs.declared.mark.Mark.TheVariants.{Code}
 
 -- one mark more
 pub more : (items new : List Mark) (n : ℕ) (f : ℕ → Mark) (m : Mark) → length items ≡ n → new ≡ items ++ m ∷ [] → ((a : ℕ) → a < n → get_or items a Code ≡ f a) → m ≡ f n

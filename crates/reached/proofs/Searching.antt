@@ -5,7 +5,7 @@ use Rattle.std.proofs.lemmas.List.{length-set, get_or_append_left}
 use Rattle.std.proofs.Math.Seq.{get_or-append_seam}
 use Rattle.std.proofs.lemmas.Bool.Decides.{eqb_tells}
 use Rattle.model.specs.declared.instruction.Profile.{Profile}
-use Rattle.source_rows.specs.declared.mark.Mark.{Mark}
+use Rattle.source_forms.specs.declared.mark.Mark.{Mark}
 use Rattle.reached.specs.Reached.{IsAmong, IsReached, LeadTo, Reaches, is_reached, ways_at}
 use Rattle.reached.specs.declared.ways.Ways.{Ways}
 use Rattle.reached.specs.Search.{AreUnset, IsSearch, Seen, unset, with_address}

@@ -10,9 +10,9 @@ use Rattle.model.specs.declared.instruction.Row.{Row}
 use Rattle.model.specs.OpcodeTable.{row_at}
 use Rattle.model.specs.InstructionText.{target_of}
 use Rattle.model.specs.Image.{cell_at}
-use Rattle.source_rows.specs.declared.mark.Mark.{Mark}
-use Rattle.source_rows.specs.declared.mark.Mark.TheVariants.{Code, Data, Text}
-use Rattle.source_rows.specs.Rows.{mark_at, stretch}
+use Rattle.source_forms.specs.declared.mark.Mark.{Mark}
+use Rattle.source_forms.specs.declared.mark.Mark.TheVariants.{Code, Data, Text}
+use Rattle.source_forms.specs.Rows.{mark_at, stretch}
 use Rattle.reached.specs.declared.ways.Ways.{Ways}
 
 -- ---- where control goes from an instruction

@@ -1,7 +1,7 @@
 -- A search as it goes: which addresses are flagged, and these in the order in which they were found.
 use Rattle.std.specs.Prelude.{◌≡◌, ℕ, suc, ◌+◌, ◌<◌, ◌≤◌, Bool, true, false, if◌then◌else◌, List, [], ◌∷◌, ◌++◌, length, Option, Some, None, slice_index, slice_set}
 use Rattle.model.specs.declared.instruction.Profile.{Profile}
-use Rattle.source_rows.specs.declared.mark.Mark.{Mark}
+use Rattle.source_forms.specs.declared.mark.Mark.{Mark}
 use Rattle.reached.specs.Reached.{is_reached, IsAmong, LeadTo, Reaches, ways_at}
 use Rattle.reached.specs.declared.search.Search.{Search}
 

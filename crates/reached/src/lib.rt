@@ -14,4 +14,4 @@ mod ways;
 pub use entries::vectors;
 pub use marking::followed_marks;
 pub use search::reached;
-pub use source_rows::Mark;
+pub use source_forms::Mark;

@@ -7,7 +7,7 @@ use crate::search::{is_reached, reached};
 use crate::ways::instruction_len;
 use bus::Image;
 use model::Profile;
-use source_rows::Mark;
+use source_forms::Mark;
 use source_writer::stretch::mark_at;
 use std::alloc::{AllocError, Global};
 

@@ -7,7 +7,7 @@ ghost use Rattle.reached.specs.Search.{AreUnset, IsSearch, seen_of, with_address
 use crate::ways::ways_at;
 use bus::Image;
 use model::Profile;
-use source_rows::Mark;
+use source_forms::Mark;
 use std::alloc::{AllocError, Global};
 
 /// The addresses that were found: a flag for each address, and these addresses in order.

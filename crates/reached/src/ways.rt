@@ -2,13 +2,13 @@
 
 ghost use Rattle.std.specs.Prelude.{◌≡◌, length, slice_index};
 ghost use Rattle.model.specs.InstructionText.{target_of};
-ghost use Rattle.source_rows.specs.Rows.{stretch};
+ghost use Rattle.source_forms.specs.Rows.{stretch};
 ghost use Rattle.reached.specs.Reached.{comes_after, fits, instruction_len, jumps};
 ghost use Rattle.reached.specs.Reached.{target_by, ways_at, ways_from};
 
 use model::{Mnemonic, Mode, Profile, Row};
 use optable::decode_in;
-use source_rows::Mark;
+use source_forms::Mark;
 use source_writer::stretch::{Bytes, stretch};
 
 /// The addresses to which control can go from an instruction: that which it names, and the one

@@ -13,9 +13,8 @@ use crate::found::{Found, found_at};
 use crate::mending::{Mending, number_word};
 use asm_line::read_line_with;
 use layout::place_line;
-use line_parts::{Line, LineError, Statement, Token};
+use line_parts::{Line, LineError, Statement, Token, next_line};
 use model::{AsmFaultKind, Profile};
-use source_lines::next_line;
 use std::alloc::{AllocError, Global};
 use symbols::Symbols;
 

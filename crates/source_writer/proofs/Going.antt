@@ -3,8 +3,8 @@ use Rattle.std.proofs.Common.{◌≡◌, ℕ, suc, ◌+◌, List, [], ◌∷◌,
 use Rattle.std.specs.List.{flat_map}
 use Rattle.model.specs.declared.instruction.Profile.{Profile}
 use Rattle.model.specs.Image.{cell_at}
-use Rattle.source_rows.specs.Rows.{opened, origin_line, ended, row_at, lines_of_image}
-use Rattle.source_rows.specs.declared.mark.Mark.{Mark}
+use Rattle.source_forms.specs.Rows.{opened, origin_line, ended, row_at, lines_of_image}
+use Rattle.source_forms.specs.declared.mark.Mark.{Mark}
 
 abbrev pub text_from : Profile → List (Option ℕ) → List Mark → ℕ → ℕ → Bool → List ℕ
 text_from profile cells marks n a ends = flat_map ended (lines_of_image profile cells marks n a ends)

@@ -1,9 +1,9 @@
 -- A stretch, a byte at a time.
 use Rattle.std.proofs.Common.{◌≡◌, ℕ, zero, suc, ◌+◌, ◌-◌, ◌<◌, List, [], ◌∷◌, ◌++◌, length, Option, Some, sym, ap, ◌∙◌, arith, append_assoc, append-nil}
 use Rattle.model.specs.Image.{cell_at}
-use Rattle.source_rows.specs.Rows.{stretch, byte_before, is_kind, kind_of, mark_at}
-use Rattle.source_rows.specs.declared.mark.Mark.{Mark}
-use Rattle.source_rows.specs.declared.mark.Mark.TheVariants.{Code}
+use Rattle.source_forms.specs.Rows.{stretch, byte_before, is_kind, kind_of, mark_at}
+use Rattle.source_forms.specs.declared.mark.Mark.{Mark}
+use Rattle.source_forms.specs.declared.mark.Mark.TheVariants.{Code}
 
 -- what a byte adds to a stretch
 abbrev pub Adds : List (Option ℕ) → List Mark → Mark → ℕ → (List ℕ → List ℕ) → Type 0

@@ -4,14 +4,14 @@ ghost use Rattle.std.specs.Prelude.{◌≡◌, ℕ, ◌+◌, ◌<◌, ◌≤◌,
 ghost use Rattle.std.specs.Prelude.{codes, Some, IfOk, OnOk};
 ghost use Rattle.model.specs.Image.{cell_at};
 ghost use Rattle.model.specs.InstructionText.{byte_text};
-ghost use Rattle.source_rows.specs.Rows.{bytes_text, ended, kind_of, mark_at, more_bytes};
-ghost use Rattle.source_rows.specs.Rows.{origin_line, row_at, row_by};
+ghost use Rattle.source_forms.specs.Rows.{bytes_text, ended, kind_of, mark_at, more_bytes};
+ghost use Rattle.source_forms.specs.Rows.{origin_line, row_at, row_by};
 
 use crate::stretch::{kind_of, mark_at, stretch};
 use disasm::line_in;
 use formatting::{digits_of, digits_of_address};
 use model::Profile;
-use source_rows::Mark;
+use source_forms::Mark;
 use std::alloc::AllocError;
 
 /// Appends `*=` and an address as a line. The only error is that a request for memory was refused.
@@ -126,7 +126,7 @@ fn push_string(
 }
 
 /// Appends the row that begins at an address, where there is a byte, and how many bytes it has.
-#[tactic(auto, unfolding(source_rows::specs::Rows::row_at))]
+#[tactic(auto, unfolding(source_forms::specs::Rows::row_at))]
 pub fn push_row(
     out: &mut Vec<u8>,
     profile: Profile,

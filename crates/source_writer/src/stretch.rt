@@ -4,10 +4,10 @@ ghost use Rattle.std.specs.Prelude.{◌≡◌, ℕ, ◌+◌, ◌<◌, ◌≤◌,
 ghost use Rattle.std.specs.Prelude.{IfSome};
 ghost use Rattle.model.specs.Image.{cell_at};
 ghost use Rattle.model.specs.Token.{is_string_byte};
-ghost use Rattle.source_rows.specs.Rows.{byte_before, is_kind, kind_of, mark_at, stretch};
+ghost use Rattle.source_forms.specs.Rows.{byte_before, is_kind, kind_of, mark_at, stretch};
 
 use arrayvec::ArrayVec;
-use source_rows::Mark;
+use source_forms::Mark;
 
 /// The bytes of a row: at most 32.
 pub type Bytes = ArrayVec<u8, 32>;

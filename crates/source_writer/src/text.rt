@@ -2,13 +2,13 @@
 
 ghost use Rattle.std.specs.Prelude.{◌≡◌, ℕ, suc, ◌+◌, ◌≤◌, ◌++◌, length, max, false, IfOk, OnOk};
 ghost use Rattle.std.specs.List.{flat_map};
-ghost use Rattle.source_rows.specs.Rows.{ended, lines_of_image, opened, source_of};
+ghost use Rattle.source_forms.specs.Rows.{ended, lines_of_image, opened, source_of};
 
 use crate::rows::{push_origin, push_row};
 use crate::stretch::cell_at;
 use bus::Image;
 use model::Profile;
-use source_rows::Mark;
+use source_forms::Mark;
 use std::alloc::{AllocError, Global};
 
 /// `*=` and an address, where no row ends there.
@@ -76,7 +76,7 @@ fn push_lines(
 /// instruction whose bytes are all marked as code, and `.BYTE` for what is none and for what is
 /// marked as data or as text. An address without a mark is code. The only error is that a request
 /// for memory was refused. Source: mos65.
-#[tactic(auto, unfolding(source_rows::specs::Rows::source_of))]
+#[tactic(auto, unfolding(source_forms::specs::Rows::source_of))]
 pub fn write_source(
     alloc: Global,
     profile: Profile,

@@ -1,3 +1,6 @@
 pub mod Left
 pub mod Passing
 pub mod Ends
+pub mod Made
+pub mod Seeing
+pub mod Telling

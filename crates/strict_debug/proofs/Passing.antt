@@ -12,8 +12,8 @@ use Rattle.engine.specs.declared.fault.EngineFault.TheVariants as engine_fault
 use Rattle.program.specs.Streams.{IsServed}
 use Rattle.program.specs.declared.refusal.Refusal.{Refusal}
 use Rattle.program.specs.declared.refusal.Refusal.TheVariants.{Words, Map, Source, Tape, Session as session_refusal, OutOfMemory, Read, Write}
-use Rattle.reply_watch.specs.Seen.{seen_in}
-use Rattle.reply_watch.specs.Told.{known_framed}
+use Rattle.strict_debug.specs.Seen.{seen_in}
+use Rattle.strict_debug.specs.Told.{known_framed}
 use Rattle.strict_debug.specs.Strict.{strict_status}
 
 -- What was written between two states of a watch went on to its writer, and was seen.

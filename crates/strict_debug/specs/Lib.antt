@@ -1,1 +1,3 @@
 pub mod Strict
+pub mod Seen
+pub mod Told

@@ -3,7 +3,7 @@ use Rattle.std.specs.Prelude.{◌≡◌, ◌⊎◌, ⊤, ℕ, Bool, true, false,
 use Rattle.clap.specs.Words.{Text}
 use Rattle.program.specs.Statuses.{status_of}
 use Rattle.program.specs.declared.refusal.Refusal.{Refusal}
-use Rattle.reply_watch.specs.Seen.{seen_in}
+use Rattle.strict_debug.specs.Seen.{seen_in}
 
 -- `--strict` stands before `--`, after which no word is an option.
 abbrev pub is_strict : List Text → Bool

@@ -18,10 +18,10 @@ ghost use Rattle.program_words.specs.CommandLine.{mos65};
 ghost use Rattle.program_words.specs.Refused.{IsTaken};
 ghost use Rattle.strict_debug.specs.Strict.{IsDone, IsStrictStatus, plain_words, strict_status};
 
-use crate::words::plain_words;
+use crate::Watch;
+use crate::asked::plain_words;
 use program::{Refusal, program, refuse, refused_words};
 use program_words::{WordsFault, read_words};
-use reply_watch::Watch;
 use std::io::{Read, Write};
 use std::rt::Files;
 

@@ -4,7 +4,7 @@ ghost use Rattle.std.specs.Prelude.{◌≡◌, ◌∷◌, ◌++◌, [], None, On
 ghost use Rattle.model.specs.Names.{number_in};
 ghost use Rattle.symbols.specs.Entries.{entry_view};
 
-use evaluator::Names;
+use crate::Names;
 use indexmap::IndexMap;
 use std::alloc::{AllocError, Global};
 use std::marker::Model;

@@ -2,16 +2,27 @@
 //!
 //! `facts_of` has the facts of an image, each by its definition in `specs/Facts.antt`, and
 //! `data_records` the number of a tape's records. `tape_info` is the word: it writes them as text.
+//!
+//! `cmp TAPE OTHER`: in which bytes two tapes differ, with the instructions there.
+//!
+//! `differences` has the theorem: the addresses at which two images differ, and none exactly if
+//! they are equal. `rows` has their text, as `specs/Rows.antt` defines it. `tape_info` is the word:
+//! it reads its words and both tapes, and writes the rows of their differences.
 #![tactic(auto)]
 
 mod checksum;
+mod compare;
+mod comparing;
 mod fact_list;
 mod fact_text;
 mod gaps;
 mod ranges;
+mod row_text;
 mod run;
 
 pub use checksum::crc_32;
+pub use compare::tape_cmp;
+pub use comparing::differences;
 pub use fact_list::{Facts, data_records, facts_of};
 pub use gaps::Gap;
 pub use ranges::Range;

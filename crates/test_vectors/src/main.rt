@@ -1,9 +1,13 @@
-//! Compares the opcode table and single steps of the machine with what the tools of others gave.
+//! Compares the opcode table and single steps of the machine with what the tools of others gave;
+//! lists and assembles again.
 #![tactic(auto)]
+
+mod listing_counts;
 
 use anyhow::Result;
 use bus::{Image, MapSpec};
 use cpu::{Flags, Machine, Regs};
+use listing_counts::write_counts;
 use model::Setting;
 use optable::{decode, encode, mnemonic_of};
 use std::alloc::Global;
@@ -169,5 +173,5 @@ fn main(rt: HostRuntime) -> Result<()> {
         }
     }
     println!(rt; "steps: {count} compared")?;
-    Ok(())
+    write_counts(rt)
 }

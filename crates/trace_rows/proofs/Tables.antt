@@ -4,8 +4,8 @@ use Rattle.std.proofs.lemmas.List.{append-nil}
 use Rattle.std.specs.Prelude.{if◌then◌else◌, slice_index, slice_index_or}
 use Rattle.std.proofs.Math.ListN.{drop_of_length-le}
 use Rattle.std.specs.List.{flat_map}
-use Rattle.footprint.specs.Tallies.{Counts}
-use Rattle.footprint.specs.declared.tally.Count.{Count}
+use Rattle.accesses.specs.Tallies.{Counts}
+use Rattle.accesses.specs.declared.tally.Count.{Count}
 use Rattle.trace_rows.specs.declared.lines.SourceLine.{SourceLine}
 use Rattle.trace_rows.specs.declared.sites.Label.{Label}
 use Rattle.trace_rows.specs.declared.sites.Sites.{Sites}

@@ -2,8 +2,8 @@
 use Rattle.std.specs.Prelude.{ℕ, zero, suc, ◌+◌, ◌-◌, ◌%◌, ◌==◌, nat_lt, Bool, false, ◌&&◌, ◌||◌, if◌then◌else◌, List, [], ◌∷◌, ◌++◌, Option, None, Some, codes, map, slice_index, slice_index_or, slice_set, is_none}
 use Rattle.std.specs.List.{flat_map}
 use Rattle.model.specs.Text.{hex_address}
-use Rattle.footprint.specs.Tallies.{Counts, count_at, saturated}
-use Rattle.footprint.specs.declared.tally.Count.{Count}
+use Rattle.accesses.specs.Tallies.{Counts, count_at, saturated}
+use Rattle.accesses.specs.declared.tally.Count.{Count}
 use Rattle.trace_rows.specs.declared.lines.SourceLine.{SourceLine}
 use Rattle.trace_rows.specs.declared.sites.Label.{Label}
 use Rattle.trace_rows.specs.declared.sites.Sites.{Sites}

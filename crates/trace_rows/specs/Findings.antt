@@ -2,7 +2,7 @@
 use Rattle.std.specs.Prelude.{ℕ, Bool, true, false, List, ◌++◌, codes}
 use Rattle.model.specs.State.{State}
 use Rattle.model.specs.Text.{hex_address}
-use Rattle.footprint.specs.declared.moment.Moment.{Moment}
+use Rattle.accesses.specs.declared.moment.Moment.{Moment}
 use Rattle.trace_rows.specs.declared.sites.Sites.{Sites}
 use Rattle.trace_rows.specs.declared.unwritten.Finding.{Finding}
 use Rattle.trace_rows.specs.declared.unwritten.Part.{Part}

@@ -8,7 +8,7 @@ use Rattle.model.specs.InstructionText.{TextRow, row_of}
 use Rattle.model.specs.declared.instruction.Profile.{Profile}
 use Rattle.model.specs.declared.registers.Flags.{Flags}
 use Rattle.model.specs.declared.registers.Regs.{Regs}
-use Rattle.footprint.specs.declared.moment.Moment.{Moment}
+use Rattle.accesses.specs.declared.moment.Moment.{Moment}
 use Rattle.trace_rows.specs.declared.sites.Sites.{Sites}
 use Rattle.trace_rows.specs.declared.words.SiteColumns.{SiteColumns}
 use Rattle.trace_rows.specs.declared.steps.Step.{Step}

@@ -12,7 +12,7 @@ ghost use Rattle.trace_rows.specs.Counts.{with_unreached};
 use crate::lines::SourceLine;
 use crate::sites::{Label, Sites};
 use crate::words::{push_address, push_count};
-use footprint::{Count, Tally};
+use accesses::{Count, Tally};
 use std::alloc::{AllocError, Global};
 
 /// The columns of visits.

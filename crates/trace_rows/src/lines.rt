@@ -9,7 +9,7 @@ ghost use Rattle.trace_rows.specs.Listed.{line_of, lines_in, listed, place_in, w
 ghost use Rattle.trace_rows.specs.Listed.{without_label};
 
 use commands::address_of;
-use source_lines::next_line;
+use line_parts::next_line;
 use std::alloc::{AllocError, Global};
 
 /// A line of a source that has bytes.

@@ -11,9 +11,9 @@ ghost use Rattle.trace_rows.specs.Steps.{with_stores};
 
 use crate::sites::Sites;
 use crate::words::{SiteColumns, push_address, push_blanks, push_byte, push_front, push_row_end};
+use accesses::{Addresses, Moment};
 use debugger::Session;
 use disasm::{TextLine, line_in};
-use footprint::{Addresses, Moment};
 use model::{Flags, Regs};
 use std::alloc::AllocError;
 

@@ -6,8 +6,8 @@ ghost use Rattle.trace_rows.specs.Findings.{finding_front, finding_row, read_tex
 use crate::sites::Sites;
 use crate::steps::push_executed;
 use crate::words::{SiteColumns, push_address, push_blanks, push_front, push_row_end};
+use accesses::Moment;
 use debugger::Session;
-use footprint::Moment;
 use std::alloc::AllocError;
 
 /// What a step reads a byte for.

@@ -7,7 +7,7 @@ ghost use Rattle.trace_rows.specs.Words.{count_text, padded, with_label, with_li
 
 use crate::lines::SourceLine;
 use crate::sites::Sites;
-use footprint::Moment;
+use accesses::Moment;
 use formatting::{digits_of, digits_of_address};
 use itoa::Buffer;
 use std::alloc::AllocError;

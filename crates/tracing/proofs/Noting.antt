@@ -1,8 +1,8 @@
 -- What a tracer gathers of a step, one part after another.
 use Rattle.std.proofs.Common.{◌≡◌, ◌∙◌, ◌++◌, ℕ, Bool, true, false, List, [], ◌∷◌, Option, Result, OnOk, refl, sym, ap, subst, append-nil}
 use Rattle.std.proofs.lemmas.Grind.{flat_map-append}
-use Rattle.footprint.specs.Moments.{entered}
-use Rattle.footprint.specs.declared.moment.Moment.{Moment}
+use Rattle.accesses.specs.Moments.{entered}
+use Rattle.accesses.specs.declared.moment.Moment.{Moment}
 use Rattle.model.specs.State.{State}
 use Rattle.program.specs.declared.refusal.Refusal.{Refusal}
 use Rattle.trace_rows.specs.Findings.{finding_row}

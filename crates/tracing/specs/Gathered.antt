@@ -3,12 +3,12 @@
 use Rattle.std.specs.Prelude.{◌≡◌, ℕ, ◌+◌, ◌-◌, Bool, true, false, not, ◌&&◌, ◌||◌, if◌then◌else◌, List, [], ◌∷◌, ◌++◌, Option, None, Some, is_some, slice_set, option_map}
 use Rattle.std.specs.Io.KnownBytes.{Appends}
 use Rattle.std.specs.List.{flat_map}
-use Rattle.footprint.specs.Footprint.{reads_here, stores_here}
-use Rattle.footprint.specs.Moments.{entered, moment_of}
-use Rattle.footprint.specs.Tallies.{Counts, no_counts, noted, saturated}
-use Rattle.footprint.specs.Writing.{is_written}
-use Rattle.footprint.specs.declared.moment.Moment.{Moment}
-use Rattle.footprint.specs.declared.tally.Count.{Count}
+use Rattle.accesses.specs.Footprint.{reads_here, stores_here}
+use Rattle.accesses.specs.Moments.{entered, moment_of}
+use Rattle.accesses.specs.Tallies.{Counts, no_counts, noted, saturated}
+use Rattle.accesses.specs.Writing.{is_written}
+use Rattle.accesses.specs.declared.moment.Moment.{Moment}
+use Rattle.accesses.specs.declared.tally.Count.{Count}
 use Rattle.loading.specs.Asked.{FileAsked}
 use Rattle.model.specs.State.{Map, State, is_port}
 use Rattle.trace_rows.specs.Counts.{with_counts}

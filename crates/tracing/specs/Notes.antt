@@ -3,8 +3,8 @@ use Rattle.std.specs.Prelude.{ℕ, ◌+◌, ◌%◌, ◌==◌, Bool, true, false
 use Rattle.loading.specs.Asked.{FileAsked}
 use Rattle.model.specs.State.{Map, State, is_port, lies_in}
 use Rattle.model.specs.declared.instruction.Row.{Row}
-use Rattle.footprint.specs.Footprint.{below}
-use Rattle.footprint.specs.declared.moment.Moment.{Moment}
+use Rattle.accesses.specs.Footprint.{below}
+use Rattle.accesses.specs.declared.moment.Moment.{Moment}
 use Rattle.tracing.specs.declared.notes.Ahead.{Ahead}
 
 -- Addresses that are left out unless they are asked for.

@@ -2,7 +2,7 @@
 //! of its steps did.
 //!
 //! The program is run turn by turn, as the word `run` runs it. `trace_rows` writes the rows,
-//! `footprint` says what a step is about to touch and keeps what was counted.
+//! `accesses` says what a step is about to touch and keeps what was counted.
 #![tactic(auto)]
 
 mod notes;

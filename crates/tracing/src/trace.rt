@@ -24,10 +24,10 @@ ghost use Rattle.tracing.specs.Traces.{TracedIfFound, TracedTo, WentOn};
 ghost use Rattle.tracing.specs.Traces.{WroteNotes, gathered_at, is_begun, reached, trace_noted, traced};
 
 use crate::tracer::Tracer;
+use accesses::Written;
 use bus::Image;
 use console::{Ending, PlayFault, Played, Player, begin, take_turn};
 use debugger::Session;
-use footprint::Written;
 use loading::{Loaded, image_of_tape};
 use program::{Refusal, refuse, refused_words};
 use running::{load_at_start, place_named, refusal_of, status_of_ending, tell_ending};

@@ -13,8 +13,8 @@ ghost use Rattle.tracing.specs.Gathered.{with_told, with_written};
 
 use crate::notes::{Ahead, code_of, entry_reads, left_at, look_ahead};
 use crate::sheet::Sheet;
+use accesses::{Addresses, Count, Moment, Tally, Written};
 use debugger::Session;
-use footprint::{Addresses, Count, Moment, Tally, Written};
 use program::Refusal;
 use std::alloc::{AllocError, Global};
 use std::io::Write;

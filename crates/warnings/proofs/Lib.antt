@@ -1,1 +1,4 @@
 pub mod Looking
+pub mod Placing
+pub mod Using
+pub mod Reaching

@@ -11,9 +11,9 @@ use Rattle.model.specs.declared.instruction.Profile.{Profile}
 use Rattle.model.specs.AllFaults as all
 use Rattle.source_faults.specs.Views.{found_all, found_view}
 use Rattle.source_faults.specs.declared.found.Found.{Found}
-use Rattle.warned_lines.specs.Placed.{Placed, placed_lines, said}
-use Rattle.warned_lines.specs.Views.{placed_view, placed_views}
-use Rattle.warned_lines.specs.declared.line.PlacedLine.{PlacedLine}
+use Rattle.warnings.specs.Placed.{Placed, placed_lines, said}
+use Rattle.warnings.specs.Views.{placed_view, placed_views}
+use Rattle.warnings.specs.declared.placed_line.PlacedLine.{PlacedLine}
 use Rattle.warnings.specs.Warnings.{Known, cut_off, has_bytes, is_alike, is_short_direct, is_silenced, lines_warnings, name_in, one_if, says_bytes, warnings_found, warnings_in, warnings_with, with_capitals}
 use Rattle.warnings.specs.declared.kinds.Warning.{Warning}
 use Rattle.warnings.specs.declared.kinds.WarningKind.TheVariants.{AfterEnd}

@@ -1,1 +1,5 @@
 pub mod Warnings
+pub mod Placed
+pub mod Views
+pub mod Uses
+pub mod Reaches

@@ -17,10 +17,10 @@ use Rattle.model.specs.declared.expression.ExprFault.{ExprFault}
 use Rattle.model.specs.declared.instruction.Mnemonic.{Mnemonic}
 use Rattle.model.specs.declared.instruction.Profile.{Profile}
 use Rattle.model.specs.declared.line.Index.{Index}
-use Rattle.names_used.specs.Uses.{used_by}
-use Rattle.plain_numbers.specs.Reaches.{is_plain, reaches}
-use Rattle.plain_numbers.specs.declared.written.Reach.{Reach}
-use Rattle.warned_lines.specs.Placed.{Placed, placed_lines, said}
+use Rattle.warnings.specs.Uses.{used_by}
+use Rattle.warnings.specs.Reaches.{is_plain, reaches}
+use Rattle.warnings.specs.declared.written_numbers.Reach.{Reach}
+use Rattle.warnings.specs.Placed.{Placed, placed_lines, said}
 use Rattle.warnings.specs.declared.kinds.Warning.{Warning}
 use Rattle.warnings.specs.declared.kinds.WarningKind.{WarningKind}
 use Rattle.warnings.specs.declared.kinds.WarningKind.TheVariants.{PlainNumber, UnusedName, LongForm, LetterCase, NoBytes, AfterEnd}

@@ -1,5 +1,5 @@
 use Rattle.std.proofs.Common.{◌≡◌, ◌≤◌, arith, sym, ap, ◌∙◌, length, drop}
-use Rattle.operands.specs.Access.{access_here}
+use Rattle.accesses.specs.Access.{access_here}
 use Rattle.console.specs.Playing.{memo_after}
 use Rattle.console.specs.Taking.{counted, take_count}
 use Rattle.console.proofs.Steps.{step_leads}

@@ -1,5 +1,5 @@
 use Rattle.std.proofs.Common.{◌≡◌, ℕ, ◌<◌, vec_len, get_or}
-use Rattle.source_rows.specs.declared.mark.Mark.TheVariants.{Code}
+use Rattle.source_forms.specs.declared.mark.Mark.TheVariants.{Code}
 use Rattle.dis_source.specs.Marks.{mark_of}
 use Rattle.dis_source.proofs.marks.marks_of.Given as goal
 

@@ -1,5 +1,5 @@
 use Rattle.std.proofs.Common.{◌≡◌, ◌+◌, ◌-◌, length, suc, ap, ◌∙◌, arith}
-use Rattle.monitor.proofs.Found.{length-back_one}
+use Rattle.mon_runs.proofs.Found.{length-back_one}
 use Rattle.mon_runs.specs.Runs.{gone_back}
 use Rattle.mon_runs.proofs.Counts.{gone-none, gone-more}
 use Rattle.mon_runs.proofs.Way.{over-begin, over-ends, over-goes, over-over}

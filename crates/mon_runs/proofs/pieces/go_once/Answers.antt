@@ -1,4 +1,4 @@
-use Rattle.monitor.specs.Goals.{go_of}
+use Rattle.mon_runs.specs.Goals.{go_of}
 use Rattle.mon_runs.proofs.Counts.{paired, go-leads}
 use Rattle.mon_runs.proofs.pieces.go_once.Goals as goal
 

@@ -1,4 +1,4 @@
-use Rattle.monitor.specs.Goals.{out_of}
+use Rattle.mon_runs.specs.Goals.{out_of}
 use Rattle.mon_runs.proofs.Counts.{paired, out-leads}
 use Rattle.mon_runs.proofs.pieces.out_once.Goals as goal
 

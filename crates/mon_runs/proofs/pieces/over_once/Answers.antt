@@ -1,4 +1,4 @@
-use Rattle.monitor.specs.Goals.{over_of}
+use Rattle.mon_runs.specs.Goals.{over_of}
 use Rattle.mon_runs.proofs.Counts.{paired, over-leads}
 use Rattle.mon_runs.proofs.pieces.over_once.Goals as goal
 

@@ -1,5 +1,5 @@
 use Rattle.std.proofs.Common.{◌≡◌, ◌+◌, length, ◌∙◌, refl, arith}
-use Rattle.source_rows.specs.Rows.{mark_at}
+use Rattle.source_forms.specs.Rows.{mark_at}
 use Rattle.reached.specs.Reached.{followed_mark, is_followed}
 use Rattle.reached.proofs.Marked.{more}
 use Rattle.reached.proofs.marking.followed_marks.Goals as goal

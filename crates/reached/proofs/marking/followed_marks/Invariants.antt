@@ -1,6 +1,6 @@
 use Rattle.std.proofs.Common.{◌≡◌, ℕ, ◌<◌, length, get_or}
-use Rattle.source_rows.specs.declared.mark.Mark.TheVariants.{Code}
-use Rattle.source_rows.specs.Rows.{mark_at}
+use Rattle.source_forms.specs.declared.mark.Mark.TheVariants.{Code}
+use Rattle.source_forms.specs.Rows.{mark_at}
 use Rattle.reached.specs.Reached.{followed_mark, is_followed}
 use Rattle.reached.proofs.marking.followed_marks.Given as goal
 

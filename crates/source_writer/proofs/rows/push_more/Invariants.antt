@@ -1,5 +1,5 @@
 use Rattle.std.proofs.Common.{◌≡◌, ◌++◌, drop}
-use Rattle.source_rows.specs.Rows.{more_bytes}
+use Rattle.source_forms.specs.Rows.{more_bytes}
 use Rattle.source_writer.proofs.rows.push_more.Given as goal
 
 abbrev pub invariant-loop-byte : goal.invariant-loop-byte

@@ -1,5 +1,5 @@
 use Rattle.std.proofs.Common.{◌≡◌, ◌+◌, ◌≤◌, ◌++◌, length}
-use Rattle.source_rows.specs.Rows.{stretch}
+use Rattle.source_forms.specs.Rows.{stretch}
 use Rattle.source_writer.proofs.stretch.stretch.Given as goal
 
 abbrev pub invariant-loop-left : goal.invariant-loop-left

@@ -1,5 +1,5 @@
 use Rattle.std.proofs.Common.{◌≡◌, ◌∙◌, sym, ap, arith}
-use Rattle.footprint.specs.declared.tally.Count.{Count}
+use Rattle.accesses.specs.declared.tally.Count.{Count}
 use Rattle.trace_rows.specs.Counts.{add_cycles, counts_below}
 use Rattle.trace_rows.specs.Sites.{index_at}
 use Rattle.trace_rows.proofs.Tables.{next_address}

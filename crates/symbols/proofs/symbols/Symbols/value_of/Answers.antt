@@ -1,6 +1,6 @@
 use Rattle.std.proofs.Common.{ap, ◌∙◌, List, ℕ, ℤ}
 use Rattle.model.specs.Names.{Definitions, number_in}
-use Rattle.symbols.proofs.Names.{lookup_named}
+use Rattle.symbols.proofs.Lookups.{lookup_named}
 use Rattle.symbols.proofs.symbols.Symbols.value_of.Goals as goal
 
 pub returns : goal.returns

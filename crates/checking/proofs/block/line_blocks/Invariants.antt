@@ -1,0 +1,7 @@
+use Rattle.std.proofs.Common.{take}
+use Rattle.source_notes.specs.Lines.{texts_of}
+use Rattle.checking.specs.Blocks.{AreBlocks}
+use Rattle.checking.proofs.block.line_blocks.Given as goal
+
+abbrev pub invariant-loop-warning : goal.invariant-loop-warning
+invariant-loop-warning l = AreBlocks l.file (texts_of l.lines) (take l.warning-index l.warnings) l.text.items

@@ -1,0 +1,86 @@
+-- What is said of a warning, and which bytes of its line it means. Source: mos65.
+use Rattle.std.specs.Prelude.{◌≡◌, ◌⊎◌, ℕ, ◌-◌, nat_lt, ◌&&◌, max, Bool, List, [], ◌++◌, length, take, codes, slice_get, Option, Some, None}
+use Rattle.std.specs.Fmt.{decimal}
+use Rattle.std.specs.List.{find, prefix_len}
+use Rattle.std.specs.Str.{str_eq_ignore_ascii_case}
+use Rattle.line_parts.specs.Lexemes.{lexemes}
+use Rattle.line_parts.specs.declared.token.Token.{Token}
+use Rattle.model.specs.Token.{is_blank, is_word_byte, tokens_of}
+use Rattle.source_notes.specs.Lines.{without_blanks}
+use Rattle.source_notes.specs.Operands.{operand_of, operand_place}
+use Rattle.source_notes.specs.declared.words.Note.{Note}
+use Rattle.warnings.specs.declared.kinds.WarningKind.{WarningKind}
+use Rattle.warnings.specs.declared.kinds.WarningKind.TheVariants.{PlainNumber, UnusedName, LongForm, LetterCase, NoBytes, AfterEnd}
+
+-- How many letters, digits and `_` stand after the blanks with which a line begins.
+abbrev pub word_length : List ℕ → ℕ
+word_length line = prefix_len is_word_byte (without_blanks line)
+
+-- The word with which a line begins, after its blanks.
+abbrev pub first_word : List ℕ → List ℕ
+first_word line = take (word_length line) (without_blanks line)
+
+-- Where it starts in the line, counted from 0, and how many bytes it has. One byte is meant where
+-- there is no word.
+abbrev pub word_place : List ℕ → ℕ × ℕ
+word_place line = (prefix_len is_blank line, max (word_length line) 1)
+
+-- A note means these bytes and has these words.
+pub record Says (place : ℕ × ℕ) (words : List ℕ) (note : Note) : Type 0 where
+  pub start : note.start ≡ place.0
+  pub width : note.width ≡ place.1
+  pub said : note.words.items ≡ words
+
+-- ---- operands
+
+-- The tokens of a line; none of a line that is not made of tokens.
+abbrev pub AreTokens : List ℕ → List Token → Type 0
+AreTokens line tokens = (tokens_of line ≡ Some (lexemes tokens))
+    ⊎ ((tokens_of line ≡ None) × (tokens ≡ []))
+
+abbrev pub text_of : Option Token → List ℕ
+text_of None = []
+text_of (Some token) = token.text.now
+
+-- The text of the last of some tokens.
+abbrev pub last_text : List Token → List ℕ
+last_text tokens = text_of (slice_get tokens (length tokens - 1))
+
+abbrev pub plain_words : List ℕ → List ℕ
+plain_words number
+    = number ++ codes " is an address, and nothing writes there; the number is #" ++ number
+
+abbrev pub long_words : List ℕ
+long_words = codes "below 256, but known only later: it takes two bytes here"
+
+-- ---- letter case
+
+-- A name of an earlier line that has the letters of a word, in capitals or not.
+abbrev pub is_like : ℕ → List ℕ → List ℕ × ℕ → Bool
+is_like number word name = nat_lt name.1 number && str_eq_ignore_ascii_case name.0 word
+
+abbrev pub like_words : Option (List ℕ × ℕ) → List ℕ
+like_words None = codes "another name"
+like_words (Some name) = name.0 ++ codes ", on line " ++ decimal name.1
+
+-- A word, and the first name that it is like.
+abbrev pub case_words : List (List ℕ × ℕ) → ℕ → List ℕ → List ℕ
+case_words names number word = word ++ codes " differs only in letter case from "
+    ++ like_words (find (is_like number word) names)
+
+-- ---- a warning
+
+-- A note of a warning of this line, among names with their lines' numbers.
+abbrev pub IsNote : List (List ℕ × ℕ) → WarningKind → ℕ → List ℕ → Note → Type 0
+IsNote names PlainNumber number line note = (tokens : List Token) × AreTokens line tokens
+    × Says (operand_place line tokens) (plain_words (last_text (operand_of tokens))) note
+IsNote names LongForm number line note = (tokens : List Token) × AreTokens line tokens
+    × Says (operand_place line tokens) long_words note
+IsNote names UnusedName number line note
+    = Says (word_place line) (first_word line ++ codes " is never used") note
+IsNote names LetterCase number line note
+    = Says (word_place line) (case_words names number (first_word line)) note
+IsNote names NoBytes number line note = Says (word_place line)
+    (codes "the source has names, but neither an instruction nor a byte") note
+IsNote names AfterEnd number line note = Says (word_place line)
+    (codes "this line is not read: .END stands before it") note

@@ -1,8 +1,0 @@
-use Rattle.std.proofs.Common.{take}
-use Rattle.notes.specs.Lines.{texts_of}
-use Rattle.explain.specs.Blocks.{AreBlocks}
-use Rattle.explain.specs.Marks.{IsMeant, known_of}
-use Rattle.explain.proofs.block.line_blocks.Given as goal
-
-abbrev pub invariant-loop-fault : goal.invariant-loop-fault
-invariant-loop-fault l = AreBlocks l.file (texts_of l.lines) (IsMeant (known_of l.context)) (take l.fault-index l.faults) l.text.items

@@ -1,8 +1,0 @@
-use Rattle.std.proofs.Common.{◌≡◌, drop}
-use Rattle.std.specs.List.{find}
-use Rattle.explain.specs.Marks.{is_unknown, known_of}
-use Rattle.explain.proofs.note.unknown_token.Given as goal
-
-abbrev pub invariant-loop-token : goal.invariant-loop-token
-invariant-loop-token l = find (is_unknown (known_of l.context) l.at_once l.number l.tokens) l.operand
-    ≡ find (is_unknown (known_of l.context) l.at_once l.number l.tokens) (drop l.token-index l.operand)

@@ -1,0 +1,103 @@
+-- What is marked of a line.
+use Rattle.std.proofs.Common.{◌≡◌, ℕ, suc, ◌∙◌, Bool, List, [], ◌∷◌, ◌++◌, length, drop, take, Some, None, Result, Ok, Err, IfOk, refl, sym, ap, subst, inl, inr}
+use Rattle.std.proofs.lemmas.Bool.{cases_Bool}
+use Rattle.std.proofs.lemmas.List.{drop-map, take-map}
+use Rattle.std.specs.Borrow.{Bor}
+use Rattle.std.specs.List.{find}
+use Rattle.line_parts.specs.Lexemes.{lexeme_of, lexemes}
+use Rattle.line_parts.specs.declared.token.Token.{Token}
+use Rattle.model.specs.AllFaults.{Mending, fixed_after, found_lines}
+use Rattle.model.specs.Expression.{Term}
+use Rattle.model.specs.Layout.{Context, layout_of}
+use Rattle.model.specs.Names.{Definitions}
+use Rattle.model.specs.Reading.{expression_of}
+use Rattle.model.specs.Source.{is_end, read_lines, up_to_end}
+use Rattle.model.specs.SourceLine.{read_line}
+use Rattle.model.specs.TextLines.{lines_of}
+use Rattle.model.specs.declared.instruction.Profile.{Profile}
+use Rattle.model.specs.declared.source_fault.AsmFault.{AsmFault}
+use Rattle.source_notes.specs.Lines.{texts_of}
+use Rattle.source_notes.specs.declared.words.Note.{Note}
+use Rattle.fault_notes.specs.Blocks.{AreBlocks}
+use Rattle.fault_notes.specs.Marks.{IsMeant, Known, Place, expression_place, first_or, note_place, unless_read}
+
+-- the tokens behind an expression
+behind_expression : (index taken : ℕ) (tokens : List Token) → first_or index (lexemes (drop taken tokens)) ≡ first_or index (drop taken (lexemes tokens))
+behind_expression index taken tokens = ap (first_or index) (sym (drop-map lexeme_of taken tokens))
+
+pub left_marked : (index taken : ℕ) (tokens rest : List Token) (term : Term) → rest ≡ drop taken tokens → expression_of (lexemes tokens) ≡ Some (term, drop taken (lexemes tokens))
+    → first_or index (lexemes rest) ≡ expression_place index tokens
+left_marked index taken tokens rest term e found =
+    ap (λ (r : List Token). first_or index (lexemes r)) e
+    ∙ behind_expression index taken tokens
+    ∙ ap (unless_read index (lexemes tokens)) (sym found)
+
+pub none_marked : (index : ℕ) (tokens : List Token) → expression_of (lexemes tokens) ≡ None → first_or index (lexemes tokens) ≡ expression_place index tokens
+none_marked index tokens none = ap (unless_read index (lexemes tokens)) (sym none)
+
+pub marked_as : {E : Type 0} (result made : Result Note E) (place same : Place) → result ≡ made → place ≡ same → IfOk made (λ note. note_place note ≡ place) → IfOk result (λ note. note_place note ≡ same)
+marked_as result (Ok note) place same is e marked = rw is (marked ∙ e)
+marked_as result (Err fault) place same is e marked = rw is tt
+
+pub not_marked : {E : Type 0} (result : Result Note E) (fault : E) (place : Place) → result ≡ Err fault → IfOk result (λ note. note_place note ≡ place)
+not_marked result fault place is = rw is tt
+
+-- ---- the first among two lists
+
+pub found_first : (passes : Token → Bool) (xs ys : List Token) (token : Token) → find passes xs ≡ Some token → find passes (xs ++ ys) ≡ Some token
+found_first passes [] ys token found = absurd cc
+found_first passes (x ∷ xs) ys token found = elim (cases_Bool (passes x)) [
+  | inl t ↦ rw t (rw t at found)
+  | inr f ↦ rw f (found_first passes xs ys token (rw f at found))
+]
+
+pub found_behind : (passes : Token → Bool) (xs ys : List Token) → find passes xs ≡ None → find passes (xs ++ ys) ≡ find passes ys
+found_behind passes [] ys none = refl
+found_behind passes (x ∷ xs) ys none = elim (cases_Bool (passes x)) [
+  | inl t ↦ let some : Some x ≡ None = rw t at none in absurd cc
+  | inr f ↦ rw f (found_behind passes xs ys (rw f at none))
+]
+
+pub third_found : (passes : Token → Bool) (a b c xs ys zs : List Token) → a ≡ xs → b ≡ ys → c ≡ zs → find passes a ≡ None → find passes b ≡ None
+    → find passes c ≡ find passes (xs ++ (ys ++ zs))
+third_found passes a b c xs ys zs x y z no_a no_b =
+    let first : find passes xs ≡ None = ap (find passes) (sym x) ∙ no_a in
+    let second : find passes ys ≡ None = ap (find passes) (sym y) ∙ no_b in
+    ap (find passes) z ∙ sym (found_behind passes xs (ys ++ zs) first ∙ found_behind passes ys zs second)
+
+-- ---- the lines that are read
+
+found_length : (m : Mending) (before : Context) (lines : List (List ℕ)) → length (found_lines m before lines) ≡ length lines
+found_length m before [] = refl
+found_length m before (line ∷ lines) = ap suc (found_length m (fixed_after m before line (layout_of before line)) lines)
+
+read_front : (profile : Profile) (lines : List (List ℕ)) → take (length (up_to_end profile lines)) lines ≡ up_to_end profile lines
+read_front profile [] = refl
+read_front profile (line ∷ lines) = elim (cases_Bool (is_end (read_line profile line))) [
+  | inl t ↦ rw t refl
+  | inr f ↦ rw f (ap (λ (rest : List (List ℕ)). line ∷ rest) (read_front profile lines))
+]
+
+-- as many lines as were laid out are those that are read
+pub lines_read : (m : Mending) (before : Context) (profile : Profile) (source : List ℕ) (count : ℕ) (lines : List (Bor (List ℕ))) → texts_of lines ≡ lines_of source
+    → count ≡ length (found_lines m before (read_lines profile source)) → texts_of (take count lines) ≡ read_lines profile source
+unfolding read_lines
+lines_read m before profile source count lines same e =
+    sym (take-map (λ slice. slice.now) count lines)
+    ∙ ap (λ (all : List (List ℕ)). take count all) same
+    ∙ ap (λ (n : ℕ). take n (lines_of source)) (e ∙ found_length m before (up_to_end profile (lines_of source)))
+    ∙ read_front profile (lines_of source)
+
+-- ---- what is known of a source
+
+abbrev known : Profile → List (List ℕ × ℕ) → Definitions → Known
+known profile names numbers = record { profile = profile; names = names; numbers = numbers }
+
+pub known_same : (profile : Profile) (names ns : List (List ℕ × ℕ)) (numbers ds : Definitions) → names ≡ ns → numbers ≡ ds → known profile names numbers ≡ known profile ns ds
+known_same profile names ns numbers ds n d = rw (n, d) refl
+
+pub blocks_as : {X E : Type 0} (items : X → List ℕ) (result : Result X E) (file : List ℕ) (lines same : List (List ℕ)) (one other : Known) (faults : List AsmFault) → lines ≡ same → one ≡ other
+    → IfOk result (λ x. AreBlocks file lines (IsMeant one) faults (items x)) → IfOk result (λ x. AreBlocks file same (IsMeant other) faults (items x))
+blocks_as items result file lines same one other faults l k blocks =
+    subst (λ (ls : List (List ℕ)). IfOk result (λ x. AreBlocks file ls (IsMeant other) faults (items x))) l
+    (subst (λ (kn : Known). IfOk result (λ x. AreBlocks file lines (IsMeant kn) faults (items x))) k blocks)

@@ -1,0 +1,97 @@
+//! Where a line is no longer made of tokens, and why.
+
+ghost use Rattle.std.specs.Prelude.{◌≡◌, ◌+◌, IfOk, drop};
+ghost use Rattle.std.specs.List.{prefix_len};
+ghost use Rattle.fault_notes.specs.Marks.{note_place, stray_place};
+ghost use Rattle.lexer.specs.Stray.{first_stray};
+ghost use Rattle.model.specs.Token.{is_word_byte};
+
+use lexer::first_stray;
+use source_notes::{Class, Note, after, blank_run, noted, run_of, said, word_run};
+use std::alloc::{AllocError, Global};
+
+/// Returns why a number after its mark is none, where so many of its bytes are digits.
+fn number_reason(bytes: &[u8], count: usize) -> &'static str {
+    match bytes {
+        [b'0', b'x', ..] | [b'0', b'X', ..] => "a hex number is written $FF, not 0xFF",
+        _ => {
+            if count == 0 {
+                "digits are missing after the mark of a number"
+            } else {
+                "a number ends in a byte that is none of its digits"
+            }
+        }
+    }
+}
+
+/// Returns why a binary number after its mark is none.
+fn binary_reason(bytes: &[u8]) -> &'static str {
+    if word_run(bytes) > 0 {
+        "a binary number has the digits 0 and 1 alone"
+    } else {
+        "digits are missing after the mark of a number"
+    }
+}
+
+/// Returns why the bytes after a `'` are no character.
+fn character_reason(bytes: &[u8]) -> &'static str {
+    match bytes {
+        [b'\t', b'\'', ..] => "a tab is no character here: write $09",
+        _ => "a character stands between two quotes, as 'A'; here one is missing",
+    }
+}
+
+/// Returns why the bytes after a `"` are no string.
+fn string_reason(bytes: &[u8]) -> &'static str {
+    let inside = run_of(Class::Unquoted, bytes);
+    if after(bytes, inside).is_empty() {
+        "the string has no quote at its end"
+    } else if inside == 0 {
+        "a string has at least one byte"
+    } else {
+        "a string has no tab: end it before, and write $09"
+    }
+}
+
+/// Returns why no token begins with some bytes.
+fn reason_of(bytes: &[u8]) -> &'static str {
+    let Some(first) = bytes.first() else {
+        return "this byte has no meaning here";
+    };
+    let rest = after(bytes, 1);
+    match *first {
+        b'A'..=b'Z' | b'a'..=b'z' => "a name has at most 31 bytes",
+        b'0'..=b'9' => number_reason(bytes, run_of(Class::Decimal, bytes)),
+        b'$' => number_reason(rest, run_of(Class::Hex, rest)),
+        b'%' => binary_reason(rest),
+        b'\'' => character_reason(rest),
+        b'"' => string_reason(rest),
+        b'.' => "a directive's letters are missing after the point",
+        _ => "this byte has no meaning here",
+    }
+}
+
+/// Returns how many bytes are meant where no token begins with the first of some bytes.
+#[tactic(auto, using(crate::proofs::Told::word_steps))]
+fn stray_width(bytes: &[u8]) -> usize
+    ensures { result ≡ prefix_len is_word_byte (drop 1 bytes.now) + 1 }
+{
+    word_run(after(bytes, 1)) + 1
+}
+
+/// Returns what is said of a line that is not made of tokens.
+pub fn text_note(alloc: Global, line: &[u8]) -> Result<Note, AllocError>
+    ensures { IfOk result (λ note. note_place note ≡ stray_place line.now (first_stray line.now)) }
+{
+    match first_stray(line) {
+        Some(start) => {
+            let bytes = after(line, start);
+            let words = said(alloc, reason_of(bytes))?;
+            Ok(noted(start, stray_width(bytes), words))
+        }
+        None => {
+            let words = said(alloc, "the line is none of the grammar")?;
+            Ok(noted(blank_run(line), 1, words))
+        }
+    }
+}

@@ -1,5 +1,0 @@
-use Rattle.std.proofs.Common.{◌≡◌, ℕ, replicate}
-use Rattle.footprint.proofs.tally.zeros.Given as goal
-
-abbrev pub invariant-loop : goal.invariant-loop
-invariant-loop l = l.zeros.items ≡ replicate l.counter 0

@@ -1,4 +1,0 @@
-pub mod Footprint
-pub mod Moments
-pub mod Tallies
-pub mod Writing

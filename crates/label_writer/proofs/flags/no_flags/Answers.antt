@@ -1,6 +1,0 @@
-use Rattle.std.proofs.Common.{◌∙◌, arith}
-use Rattle.label_writer.proofs.Withins.{flags_are}
-use Rattle.label_writer.proofs.flags.no_flags.Goals as goal
-
-pub returns-clause-none : goal.returns-clause-none
-returns-clause-none c = c.loop.invariant.none ∙ flags_are _ (omega arith)

@@ -1,5 +1,0 @@
-pub mod Places
-pub mod Referring
-pub mod Standing
-pub mod Numbered
-pub mod Filled

@@ -1,0 +1,12 @@
+pub mod Cells
+pub mod Cut
+pub mod Stands
+pub mod Data
+pub mod Instructions
+pub mod Listed
+pub mod Filling
+pub mod Places
+pub mod Referring
+pub mod Standing
+pub mod Numbered
+pub mod Filled

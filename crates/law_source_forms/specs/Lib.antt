@@ -1,0 +1,2 @@
+pub mod RowsLaw
+pub mod LabelsLaw

@@ -1,8 +1,0 @@
-use Rattle.std.proofs.Common.{◌≡◌, ◌++◌, drop}
-use Rattle.std.specs.List.{flat_map}
-use Rattle.mon_breaks.specs.Texts.{break_text}
-use Rattle.mon_breaks.proofs.deleting.push_breaks.Given as goal
-
-abbrev pub invariant-loop-stop : goal.invariant-loop-stop
-invariant-loop-stop l = l.text.items ++ flat_map (break_text l.places.names) (drop l.stop-index l.breaks)
-    ≡ l.initial.text.items ++ flat_map (break_text l.places.names) l.breaks

@@ -1,2 +1,0 @@
-pub mod StopLines
-pub mod Texts

@@ -1,3 +1,0 @@
-pub mod ByteLines
-pub mod Named
-pub mod Texts

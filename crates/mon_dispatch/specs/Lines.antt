@@ -1,0 +1,123 @@
+-- What each kind of line does. Source: mos65.
+use Rattle.std.specs.Prelude.{ℕ, ◌≡◌, Bool, true, false, if◌then◌else◌, List, [], ◌∷◌, ◌++◌, Option, Result, Ok, Err}
+use Rattle.model.specs.Breakpoints.{break_set}
+use Rattle.model.specs.declared.event.Event.TheVariants as event
+use Rattle.mon_lines.specs.Lines.{SeenCommand, command_view, line_of}
+use Rattle.mon_line_parts.specs.Reading.{SeenWhy}
+use Rattle.mon_lines.specs.declared.command.Command.{Command}
+use Rattle.mon_lines.specs.declared.command.Command.TheVariants as line
+use Rattle.mon_line_parts.specs.declared.topic.Topic.{Topic}
+use Rattle.mon_stops.specs.Stops.{first_with, new_changes, without, without_first_with}
+use Rattle.mon_stops.specs.declared.breaks.Break.{Break}
+use Rattle.mon_stops.specs.declared.watches.Watch.{Watch}
+use Rattle.mon_session.specs.Served.{Course, KeepsStops, ShowsOnly, course_of, happened}
+use Rattle.mon_settings.specs.StopLines.{can_watch, changes_left, is_set, or_same, with_break, with_watch, without_stops}
+use Rattle.mon_settings.specs.ByteLines.{all_happened, assembled, bytes_put, inputs}
+use Rattle.mon_settings.specs.Named.{without_names}
+use Rattle.mon_steps.specs.BackLines.{history_shown, most_remade, remade, undone_by, undone_by_watches}
+use Rattle.mon_steps.specs.Steps.{KeepsWatches, Stand, ran_by, ran_until, returned, some_steps, stand_of, stepped_over, watches_of}
+use Rattle.mon_session.specs.declared.desk.Desk.{Desk}
+use Rattle.mon_dispatch.specs.Texts.{decimal_text, line_text, slip_line, too_long}
+
+-- So much was written for a line.
+abbrev pub Says : List ℕ → Desk → Desk → Type 0
+Says text old new = new.text.items ≡ old.text.items ++ text
+
+-- The events and the places are what they were.
+abbrev pub KeepsPast : Desk → Desk → Type 0
+KeepsPast old new = (new.events ≡ old.events) × (new.places ≡ old.places)
+
+-- A break is set.
+abbrev pub SetsBreak : Break → Desk → Desk → Type 0
+SetsBreak stop old new = let given = break_set stop.address old.session in
+    (new.session ≡ or_same old.session given)
+    × (new.stops.breaks.items ≡ (if is_set given then with_break stop old.stops.breaks.items
+    else old.stops.breaks.items))
+    × (new.stops.watches ≡ old.stops.watches) × (new.stops.changes ≡ old.stops.changes)
+    × KeepsPast old new
+
+-- A watch is set.
+abbrev pub SetsWatch : Watch → Desk → Desk → Type 0
+SetsWatch watch old new = let watches = old.stops.watches.items in
+    let can = can_watch watch old.session in
+    (new.session ≡ with_watch watch watches old.session)
+    × (new.stops.watches.items ≡ (if can then watches ++ watch ∷ [] else watches))
+    × (new.stops.changes.items ≡ (if can then old.stops.changes.items ++ new_changes watches watch
+    else old.stops.changes.items))
+    × (new.stops.breaks ≡ old.stops.breaks) × KeepsPast old new
+
+-- The break and the first watch at an address are cleared.
+abbrev pub Deletes : ℕ → Desk → Desk → Type 0
+Deletes address old new = let watches = old.stops.watches.items in
+    let left = without_first_with address watches in
+    (new.session ≡ without_stops address watches old.session)
+    × (new.stops.breaks.items ≡ without address old.stops.breaks.items)
+    × (new.stops.watches.items ≡ left)
+    × (new.stops.changes.items
+    ≡ changes_left left old.stops.changes.items (first_with address watches))
+    × KeepsPast old new
+
+-- A run leads the session, its events and its breaks there, and all else stays.
+abbrev pub Arrives : Stand → Desk → Desk → Type 0
+Arrives stand old new = (stand_of new ≡ stand) × KeepsWatches old new
+
+-- The session and its events become others, and all else stays.
+abbrev pub Becomes : Course → Desk → Desk → Type 0
+Becomes course old new = (course_of new ≡ course) × KeepsStops old new
+
+-- What a line does that asks for something. Most lines only look.
+abbrev pub Does : Command → Desk → Desk → Type 0
+Does line.Nothing old new = Arrives (some_steps 1 (watches_of old) (stand_of old)) old new
+Does (line.Step count) old new
+    = Arrives (some_steps count (watches_of old) (stand_of old)) old new
+Does line.Over old new = Arrives (stepped_over (watches_of old) (stand_of old)) old new
+Does line.Out old new = Arrives (returned (watches_of old) (stand_of old)) old new
+Does (line.Until address) old new
+    = Arrives (ran_until address (watches_of old) (stand_of old)) old new
+Does (line.Go count) old new = Arrives (ran_by count (watches_of old) (stand_of old)) old new
+Does (line.Back undoing) old new = Becomes (undone_by undoing (course_of old)) old new
+Does line.Rback old new
+    = Becomes (undone_by_watches old.stops.changes.items (course_of old)) old new
+Does (line.Redo count) old new
+    = Becomes (remade (most_remade count old.events.undone) (course_of old)) old new
+Does (line.History count) old new = Becomes (history_shown count (course_of old)) old new
+Does (line.Break address tests times) old new = (stop : Break) × (stop.address ≡ address)
+    × (stop.tests ≡ tests) × (stop.times ≡ times) × (stop.visits ≡ 0) × SetsBreak stop old new
+Does (line.Watch stretch kind) old new
+    = SetsWatch (record { stretch = stretch; kind = kind }) old new
+Does (line.Delete address) old new = Deletes address old new
+Does (line.Set setting) old new = Becomes (happened (event.Set setting) (course_of old)) old new
+Does (line.Put address bytes) old new
+    = Becomes (bytes_put address bytes.items (course_of old)) old new
+Does (line.Asm address text) old new
+    = Becomes (assembled address (without_names old.places.names text.now) (course_of old)) old new
+Does (line.Type bytes) old new
+    = Becomes (all_happened (inputs bytes.items) (course_of old)) old new
+Does (line.Irq level) old new = Becomes (happened (event.Irq level) (course_of old)) old new
+Does line.Nmi old new = Becomes (happened event.Nmi (course_of old)) old new
+Does line.Reset old new = Becomes (happened event.Reset (course_of old)) old new
+Does command old new = ShowsOnly old new
+
+-- Whether the session ends with a line.
+abbrev pub is_quit : Command → Bool
+is_quit line.Quit = true
+is_quit command = false
+
+-- What a line asks for at a desk, or what is missing in it.
+abbrev pub read_at : Desk → List ℕ → Result SeenCommand (Option Topic × SeenWhy)
+read_at desk line = line_of desk.places.names desk.session.current.regs.pc line
+
+-- A line that can be read does what it asks for, and says so. Any other only says what is wrong.
+abbrev pub Follows : Result SeenCommand (Option Topic × SeenWhy) → Bool → Desk → Desk → Type 0
+Follows (Ok seen) is_over old new = (command : Command) × (command_view command ≡ seen)
+    × (is_over ≡ is_quit command) × Does command old new × Says (line_text command old) old new
+Follows (Err slip) is_over old new = (is_over ≡ false) × ShowsOnly old new
+    × Says (slip_line slip) old new
+
+-- A line of at most 255 bytes does what it asks for. A longer one asks for nothing.
+abbrev pub Serves : List ℕ → Bool → Desk → Desk → Type 0
+Serves line is_over old new = (between : Desk) × Follows (read_at old line) is_over old between
+    × ShowsOnly between new × Says (decimal_text line) between new
+
+abbrev pub IsTooLong : Bool → Desk → Desk → Type 0
+IsTooLong is_over old new = (is_over ≡ false) × ShowsOnly old new × Says too_long old new

@@ -1,0 +1,88 @@
+//! Bytes that are looked for in memory.
+
+ghost use Rattle.std.specs.Prelude.{◌≡◌, ◌≤◌, ◌+◌, ◌++◌, [], IfOk, OnOk, length};
+ghost use Rattle.std.specs.Prelude.{if◌then◌else◌, nat_lt};
+ghost use Rattle.mon_session.specs.Served.{ShowsOnly};
+ghost use Rattle.mon_dispatch.specs.LookTexts.{find_text, found_line, stands_at};
+
+use mon_session::{Desk, Session};
+use mon_texts::{push_place, push_text};
+use source_map::Places;
+use std::alloc::AllocError;
+
+/// The most places that `find` shows.
+const MOST_FOUND: u32 = 16;
+
+/// Returns how many bytes memory has.
+fn memory_size(session: &Session) -> u32
+    ensures size { result ≡ length session.now.current.bus.memory }
+    ensures within { result ≤ 65536 }
+{
+    let _ = session.peek(0);
+    65536
+}
+
+/// Returns whether bytes stand at an address.
+fn stands_at(session: &Session, bytes: &[u8], address: u16) -> bool
+    ensures { result ≡ stands_at session.now.current.bus.memory bytes.now address }
+{
+    let mut at = address;
+    for byte in bytes {
+        if session.peek(at) != *byte {
+            return false;
+        }
+        at = at.wrapping_add(1);
+    }
+    true
+}
+
+/// Appends the line of a place at which bytes were found.
+fn push_found(text: &mut Vec<u8>, places: &Places, address: u16) -> Result<(), AllocError>
+    ensures { OnOk result (text.new.items ≡ text.old.items
+        ++ found_line places.now.names address) }
+{
+    push_place(text, places, address)?;
+    push_text(text, "\n")
+}
+
+/// Shows an address if bytes stand there and fewer than 16 places were shown. Returns how many
+/// there are with it.
+fn show_if_found(desk: &mut Desk, bytes: &[u8], address: u16, count: u32) -> Result<u32, AllocError>
+    requires { count ≤ 16 }
+    ensures shows { ShowsOnly desk.old desk.new }
+    ensures count { IfOk result (λ new. new ≡ count
+        + (if stands_at desk.old.session.current.bus.memory bytes.now address then 1 else 0)) }
+    ensures text { OnOk result (desk.new.text.items ≡ desk.old.text.items
+        ++ (if stands_at desk.old.session.current.bus.memory bytes.now address
+        then (if nat_lt count 16 then found_line desk.old.places.names address else [])
+        else [])) }
+{
+    if !stands_at(&desk.session, bytes, address) {
+        return Ok(count);
+    }
+    if count < MOST_FOUND {
+        push_found(&mut desk.text, &desk.places, address)?;
+    }
+    Ok(count + 1)
+}
+
+/// Shows where bytes stand, at most 16 places.
+///
+/// Errors: `AllocError` if an allocation fails.
+pub fn find(desk: &mut Desk, bytes: &[u8]) -> Result<(), AllocError>
+    ensures shows { ShowsOnly desk.old desk.new }
+    ensures text { OnOk result (desk.new.text.items ≡ desk.old.text.items
+        ++ find_text desk.old.session.current.bus.memory bytes.now desk.old.places.names) }
+{
+    let mut count = 0u32;
+    for address in 0..memory_size(&desk.session) {
+        count = show_if_found(desk, bytes, address as u16, count)?;
+        if count > MOST_FOUND {
+            return desk.say("and more\n");
+        }
+    }
+    if count == 0 {
+        return desk.say("nowhere\n");
+    }
+    Ok(())
+}

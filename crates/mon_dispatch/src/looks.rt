@@ -1,0 +1,64 @@
+//! What each line shows that only looks.
+
+ghost use Rattle.std.specs.Prelude.{◌≡◌, ◌++◌, OnOk};
+ghost use Rattle.mon_session.specs.Served.{ShowsOnly};
+ghost use Rattle.mon_dispatch.specs.LookTexts.{instructions_text, look_text, rows_text};
+
+use crate::finding::find;
+use mon_lines::Command;
+use mon_session::Desk;
+use mon_texts::{
+    push_calls, push_flags, push_help, push_memory, push_screen, push_stack, push_state,
+};
+use std::alloc::AllocError;
+
+/// The most instructions that are shown at once.
+const MOST_ROWS: u32 = 256;
+
+/// Shows so many instructions from an address on, up to the one that ends at FFFF or goes past it.
+fn show_rows(desk: &mut Desk, address: u16, count: u32) -> Result<(), AllocError>
+    ensures shows { ShowsOnly desk.old desk.new }
+    ensures text { OnOk result (desk.new.text.items ≡ desk.old.text.items
+        ++ rows_text count desk.old.session.current desk.old.places address) }
+{
+    let mut at = address;
+    for _ in 0..count {
+        let length = desk.show_row(at)?;
+        match at.checked_add(length as u16) {
+            Some(next) => at = next,
+            None => return Ok(()),
+        }
+    }
+    Ok(())
+}
+
+/// Shows instructions from an address on, at most 256 of them.
+fn show_instructions(desk: &mut Desk, address: u16, count: u32) -> Result<(), AllocError>
+    ensures shows { ShowsOnly desk.old desk.new }
+    ensures text { OnOk result (desk.new.text.items ≡ desk.old.text.items
+        ++ instructions_text count desk.old.session.current desk.old.places address) }
+{
+    show_rows(desk, address, count.min(MOST_ROWS))
+}
+
+/// Shows what a line asks for that changes nothing. Other lines show nothing here.
+///
+/// Errors: `AllocError` if an allocation fails.
+pub fn look(desk: &mut Desk, command: Command<'_>) -> Result<(), AllocError>
+    ensures shows { ShowsOnly desk.old desk.new }
+    ensures text { OnOk result (desk.new.text.items ≡ desk.old.text.items
+        ++ look_text command.entry desk.old.session.current desk.old.places) }
+{
+    match command {
+        Command::Where => push_calls(&mut desk.text, &desk.session, &desk.places),
+        Command::Regs => push_state(&mut desk.text, &desk.session, &desk.places, None),
+        Command::Flags => push_flags(&mut desk.text, &desk.session),
+        Command::Mem(stretch) => push_memory(&mut desk.text, &desk.session, stretch),
+        Command::Dis { address, count } => show_instructions(desk, address, count),
+        Command::Find(bytes) => find(desk, bytes.as_slice()),
+        Command::Stack => push_stack(&mut desk.text, &desk.session),
+        Command::Screen => push_screen(&mut desk.text, &desk.session),
+        Command::Help(topic) => push_help(&mut desk.text, topic),
+        _ => Ok(()),
+    }
+}

@@ -1,0 +1,3 @@
+pub mod Begun
+pub mod Capped
+pub mod Sums

@@ -1,0 +1,4 @@
+pub mod Topics
+pub mod Told
+pub mod Reading
+pub mod Values

@@ -1,0 +1,117 @@
+-- What stands in a line, read from left to right. Source: mos65.
+use Rattle.std.specs.Prelude.{ℕ, ◌+◌, ◌==◌, not, nat_lt, Bool, min, if◌then◌else◌, List, [], ◌∷◌, length, take, drop, Option, Some, None, Result, Ok, Err}
+use Rattle.std.specs.List.{prefix_len}
+use Rattle.std.specs.Option.{option_and_then, option_map}
+use Rattle.std.specs.Str.{byte, str_eq_ignore_ascii_case}
+use Rattle.model.specs.Digits.{hex_value, number_from}
+use Rattle.model.specs.Token.{begins, is_blank, is_word_byte}
+use Rattle.mon_line_parts.specs.declared.slip.Lack.{Lack}
+use Rattle.mon_line_parts.specs.declared.slip.Why.{Why}
+use Rattle.mon_line_parts.specs.declared.slip.Why.TheVariants.{Unknown, Several, Missing, Unreadable, Behind, NoName, Range, Many}
+
+-- Why a line asks for nothing that can be done: no word or more than one word begins so; something
+-- is missing; a piece cannot be read there, is left over, or is no name; a number is not between two
+-- others; there are more than fit.
+pub data SeenWhy : Type 0 where
+  unknown : List ℕ → SeenWhy
+  several : List ℕ → SeenWhy
+  missing : Lack → SeenWhy
+  unreadable : List ℕ → SeenWhy
+  behind : List ℕ → SeenWhy
+  no_name : List ℕ → SeenWhy
+  range : ℕ → ℕ → SeenWhy
+  many : SeenWhy
+
+-- The same without where its pieces lie in memory.
+abbrev pub why_view : Why → SeenWhy
+why_view (Unknown word) = unknown word.now
+why_view (Several word) = several word.now
+why_view (Missing lack) = missing lack
+why_view (Unreadable piece) = unreadable piece.now
+why_view (Behind piece) = behind piece.now
+why_view (NoName word) = no_name word.now
+why_view (Range least most) = range least most
+why_view Many = many
+
+-- What was read and the text after it, or why it is nothing.
+abbrev pub Reads : Type 0 → Type 0
+Reads X = Result (X × List ℕ) SeenWhy
+
+-- What is read next, from the text after what was read.
+abbrev pub and_then : {X Y : Type 0} → Reads X → (X → List ℕ → Reads Y) → Reads Y
+and_then (Ok read) next = next read.0 read.1
+and_then (Err why) next = Err why
+
+-- ---- words and signs; blanks may come after each
+
+abbrev pub is_empty : List ℕ → Bool
+is_empty text = length text == 0
+
+-- `;` begins a comment, which counts as nothing.
+abbrev pub without_comment : List ℕ → List ℕ
+without_comment [] = []
+without_comment (b ∷ text) = if b == byte ";" then [] else b ∷ text
+
+-- A text without the blanks in front of it.
+abbrev pub skip : List ℕ → List ℕ
+skip text = without_comment (drop (prefix_len is_blank text) text)
+
+abbrev pub after : ℕ → List ℕ → List ℕ
+after count text = skip (drop count text)
+
+-- Whether a sign comes next.
+abbrev pub is_next : ℕ → List ℕ → Bool
+is_next sign text = begins (λ b. b == sign) text
+
+-- The text after a sign, if the sign comes next.
+abbrev pub past : ℕ → List ℕ → List ℕ
+past sign text = if is_next sign text then after 1 text else text
+
+-- The letters, digits and `_` at the front, and the text after them.
+abbrev pub word_of : List ℕ → List ℕ
+word_of text = take (prefix_len is_word_byte text) text
+
+abbrev pub after_word : List ℕ → List ℕ
+after_word text = after (prefix_len is_word_byte text) text
+
+-- Whether a word comes next, capitals or not.
+abbrev pub is_word : List ℕ → List ℕ → Bool
+is_word word text = str_eq_ignore_ascii_case (word_of text) word
+
+abbrev pub without_quote : List ℕ → List ℕ
+without_quote [] = []
+without_quote (b ∷ text) = if b == 39 then text else b ∷ text
+
+-- A character between two `'`, the second of which may be missing, and the text after it.
+abbrev pub character_of : List ℕ → Option (ℕ × List ℕ)
+character_of [] = None
+character_of (quote ∷ []) = None
+character_of (quote ∷ b ∷ text) = if quote == 39 then Some (b, skip (without_quote text)) else None
+
+abbrev pub is_no_quote : ℕ → Bool
+is_no_quote b = not (b == 34)
+
+-- The bytes behind a `"` and before the next one, which may be missing, and the text after it.
+abbrev pub string_of : List ℕ → List ℕ
+string_of text = take (prefix_len is_no_quote (drop 1 text)) (drop 1 text)
+
+abbrev pub after_string : List ℕ → List ℕ
+after_string text = after (prefix_len is_no_quote (drop 1 text) + 1) (drop 1 text)
+
+-- ---- numbers
+
+abbrev pub if_below : ℕ → ℕ → Option ℕ
+if_below base digit = if nat_lt digit base then Some digit else None
+
+-- The value of a digit of a base.
+abbrev pub digit_in : ℕ → ℕ → Option ℕ
+digit_in base b = option_and_then (if_below base) (hex_value b)
+
+-- The highest number that is told apart from those above it.
+abbrev pub at_most_32_bits : ℕ → ℕ
+at_most_32_bits number = min 4294967295 number
+
+-- The number that digits to a base write, if there is a digit; at most 2^32 - 1.
+unfoldable pub number_in : ℕ → List ℕ → Option ℕ
+number_in base digits = if is_empty digits then None
+    else option_map at_most_32_bits (number_from (digit_in base) base 0 digits)

@@ -1,0 +1,145 @@
+-- The words with which a line begins, and what they are about. Source: mos65.
+use Rattle.std.specs.Prelude.{ℕ, ◌==◌, ◌&&◌, nat_le, Bool, true, false, codes, if◌then◌else◌, List, [], ◌∷◌, length, take, Option, Some, None}
+use Rattle.std.specs.Borrow.{Bor}
+use Rattle.std.specs.List.{list_all}
+use Rattle.std.specs.Str.{bytes_eq, str_eq_ignore_ascii_case}
+use Rattle.mon_line_parts.specs.declared.topic.Topic.{Topic}
+use Rattle.mon_line_parts.specs.declared.topic.Topic.TheVariants as topic
+
+-- A word, and what a line is about that begins with it.
+abbrev pub TopicWord : Type 0
+TopicWord = List ℕ × Topic
+
+-- The same without where the word lies in memory.
+abbrev pub row_view : Bor (List ℕ) × Topic → TopicWord
+row_view row = (row.0.now, row.1)
+
+-- The words, but for `?`, and for `exit`, which is not to be shortened. A word of one letter is an
+-- abbreviation that two words would have in common.
+unfoldable pub words : List TopicWord
+words =
+    (codes "step", topic.Step) ∷
+    (codes "s", topic.Step) ∷
+    (codes "over", topic.Over) ∷
+    (codes "next", topic.Over) ∷
+    (codes "out", topic.Out) ∷
+    (codes "until", topic.Until) ∷
+    (codes "go", topic.Go) ∷
+    (codes "continue", topic.Go) ∷
+    (codes "run", topic.Go) ∷
+    (codes "back", topic.Back) ∷
+    (codes "rback", topic.Rback) ∷
+    (codes "redo", topic.Redo) ∷
+    (codes "where", topic.Where) ∷
+    (codes "history", topic.History) ∷
+    (codes "break", topic.Break) ∷
+    (codes "b", topic.Break) ∷
+    (codes "watch", topic.Watch) ∷
+    (codes "w", topic.Watch) ∷
+    (codes "list", topic.List) ∷
+    (codes "delete", topic.Delete) ∷
+    (codes "unbreak", topic.Delete) ∷
+    (codes "regs", topic.Regs) ∷
+    (codes "registers", topic.Regs) ∷
+    (codes "r", topic.Regs) ∷
+    (codes "flags", topic.Flags) ∷
+    (codes "mem", topic.Mem) ∷
+    (codes "dis", topic.Dis) ∷
+    (codes "d", topic.Dis) ∷
+    (codes "find", topic.Find) ∷
+    (codes "stack", topic.Stack) ∷
+    (codes "set", topic.Set) ∷
+    (codes "put", topic.Put) ∷
+    (codes "poke", topic.Put) ∷
+    (codes "asm", topic.Asm) ∷
+    (codes "type", topic.«Type») ∷
+    (codes "in", topic.«Type») ∷
+    (codes "screen", topic.Screen) ∷
+    (codes "irq", topic.Irq) ∷
+    (codes "nmi", topic.Nmi) ∷
+    (codes "reset", topic.Reset) ∷
+    (codes "help", topic.Help) ∷
+    (codes "h", topic.Help) ∷
+    (codes "quit", topic.Quit) ∷
+    (codes "q", topic.Quit) ∷
+    (codes "trace", topic.Trace) ∷
+    []
+
+-- ---- the topic of a first word
+
+-- What the first word is about that is a text, capitals or not.
+abbrev pub whole : List ℕ → List TopicWord → Option Topic
+whole text [] = None
+whole text (row ∷ rows) = if str_eq_ignore_ascii_case row.0 text then Some row.1
+    else whole text rows
+
+-- Whether a word begins with a text, capitals or not.
+abbrev pub begins_with : List ℕ → List ℕ → Bool
+begins_with word text = nat_le (length text) (length word)
+    && str_eq_ignore_ascii_case (take (length text) word) text
+
+-- What the words are about that begin with a text.
+abbrev pub begun : List ℕ → List TopicWord → List Topic
+begun text [] = []
+begun text (row ∷ rows) = if begins_with row.0 text then row.1 ∷ begun text rows
+    else begun text rows
+
+-- The topics, counted from 0.
+abbrev pub place_of : Topic → ℕ
+place_of topic.Step = 0
+place_of topic.Over = 1
+place_of topic.Out = 2
+place_of topic.Until = 3
+place_of topic.Go = 4
+place_of topic.Back = 5
+place_of topic.Rback = 6
+place_of topic.Redo = 7
+place_of topic.Where = 8
+place_of topic.History = 9
+place_of topic.Break = 10
+place_of topic.Watch = 11
+place_of topic.List = 12
+place_of topic.Delete = 13
+place_of topic.Regs = 14
+place_of topic.Flags = 15
+place_of topic.Mem = 16
+place_of topic.Dis = 17
+place_of topic.Find = 18
+place_of topic.Stack = 19
+place_of topic.Set = 20
+place_of topic.Put = 21
+place_of topic.Asm = 22
+place_of topic.«Type» = 23
+place_of topic.Screen = 24
+place_of topic.Irq = 25
+place_of topic.Nmi = 26
+place_of topic.Reset = 27
+place_of topic.Help = 28
+place_of topic.Quit = 29
+place_of topic.Trace = 30
+
+abbrev pub is_same : Topic → Topic → Bool
+is_same one other = place_of one == place_of other
+
+-- The topic that all of some have in common, and whether there are topics that have none.
+abbrev pub common : List Topic → Option Topic × Bool
+common [] = (None, false)
+common (first ∷ others) = if list_all (is_same first) others then (Some first, false)
+    else (None, true)
+
+abbrev pub or_common : Option Topic → List Topic → Option Topic × Bool
+or_common (Some one) topics = (Some one, false)
+or_common None topics = common topics
+
+-- The topic of the word that a text is, otherwise of the words that it begins, if they have one in
+-- common; and whether they have more than one.
+abbrev pub by_words : List ℕ → List TopicWord → Option Topic × Bool
+by_words text rows = or_common (whole text rows) (begun text rows)
+
+-- The topic of a first word. A text without a byte begins none.
+unfoldable pub topic_of : List ℕ → Option Topic × Bool
+topic_of text =
+    if bytes_eq text (codes "?") then (Some topic.Help, false)
+    else if length text == 0 then (None, false)
+    else if str_eq_ignore_ascii_case text (codes "exit") then (Some topic.Quit, false)
+    else by_words text words

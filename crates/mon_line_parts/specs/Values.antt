@@ -1,0 +1,139 @@
+-- Values: numbers, names, and sums of them. Source: mos65.
+use Rattle.std.specs.Prelude.{ℕ, zero, suc, ◌+◌, ℤ, pos, negsuc, ◌+ℤ◌, ◌-ℤ◌, ◌==◌, ◌||◌, nat_le, Bool, codes, if◌then◌else◌, List, [], ◌∷◌, ◌++◌, length, Option, Some, None, Ok, Err}
+use Rattle.std.specs.Int.{saturate_signed, w64}
+use Rattle.std.specs.Option.{option_or}
+use Rattle.std.specs.Str.{byte, str_eq_ignore_ascii_case}
+use Rattle.source_map.specs.Names.{Named, address_of}
+use Rattle.mon_line_parts.specs.Reading.{Reads, SeenWhy, missing, unreadable, no_name, range, many, after, after_string, after_word, and_then, character_of, is_empty, is_next, number_in, past, string_of, word_of}
+use Rattle.mon_line_parts.specs.declared.slip.Lack.{Lack}
+use Rattle.mon_line_parts.specs.declared.slip.Lack.TheVariants as lacking
+use Rattle.mon_line_parts.specs.declared.values.Kind.{Kind}
+use Rattle.mon_line_parts.specs.declared.values.Kind.TheVariants.{Address, Byte, Word, Count}
+
+-- What is missing where no value of a kind stands, and the highest value of the kind.
+abbrev pub lack_of : Kind → Lack
+lack_of (Address pc) = lacking.Address
+lack_of Byte = lacking.Value
+lack_of Word = lacking.Value
+lack_of Count = lacking.Number
+
+abbrev pub most_counted : ℕ
+most_counted = 1000000000
+
+abbrev pub most_of : Kind → ℕ
+most_of (Address pc) = 65535
+most_of Byte = 255
+most_of Word = 65535
+most_of Count = most_counted
+
+-- ---- one number or name
+
+-- Where an address is meant, `PC` is the program counter, and four hex digits are an address.
+abbrev pub address_word : Kind → List ℕ → Option ℕ
+address_word (Address pc) word =
+    if str_eq_ignore_ascii_case word (codes "PC") then Some pc
+    else if length word == 4 then number_in 16 word
+    else None
+address_word Byte word = None
+address_word Word word = None
+address_word Count word = None
+
+-- The number of a word: of a name, of what is an address alone, of decimal digits.
+abbrev pub number_of : List Named → Kind → List ℕ → Option ℕ
+number_of names kind word
+    = option_or (address_of names word) (option_or (address_word kind word) (number_in 10 word))
+
+-- A number that was read, or what is missing.
+abbrev pub number_or : SeenWhy → Option ℕ → List ℕ → Reads ℤ
+number_or why (Some number) rest = Ok (pos number, rest)
+number_or why None rest = Err why
+
+abbrev pub named_number : List Named → Kind → Lack → List ℕ → Reads ℤ
+named_number names kind lack text =
+    if is_empty text then Err (missing lack)
+    else if is_empty (word_of text) then Err (unreadable text)
+    else number_or (no_name (word_of text)) (number_of names kind (word_of text)) (after_word text)
+
+abbrev pub character_or : Option (ℕ × List ℕ) → Reads ℤ → Reads ℤ
+character_or (Some read) other = Ok (pos read.0, read.1)
+character_or None other = other
+
+-- Hex digits after `$`, binary digits after `%`, a character, or a word.
+unfoldable pub atom_of : List Named → Kind → Lack → List ℕ → Reads ℤ
+atom_of names kind lack text =
+    if is_next (byte "$") text
+    then number_or (missing lacking.HexDigits) (number_in 16 (word_of (after 1 text))) (after_word (after 1 text))
+    else if is_next (byte "%") text
+    then number_or (missing lacking.BinaryDigits) (number_in 2 (word_of (after 1 text))) (after_word (after 1 text))
+    else character_or (character_of text) (named_number names kind lack text)
+
+-- ---- sums
+
+abbrev pub is_sign : List ℕ → Bool
+is_sign text = is_next (byte "+") text || is_next (byte "-") text
+
+-- A sum stays within 64 bits.
+abbrev pub plus : ℤ → ℤ → List ℕ → Reads ℤ
+plus total number rest = Ok (saturate_signed w64 (total +ℤ number), rest)
+
+abbrev pub minus : ℤ → ℤ → List ℕ → Reads ℤ
+minus total number rest = Ok (saturate_signed w64 (total -ℤ number), rest)
+
+-- A sign and a number, added to what comes before or taken from it.
+unfoldable pub term_of : List Named → Kind → ℤ → List ℕ → Reads ℤ
+term_of names kind total text =
+    if is_next (byte "+") text
+    then and_then (atom_of names kind lacking.Addend (after 1 text)) (plus total)
+    else and_then (atom_of names kind lacking.Subtrahend (after 1 text)) (minus total)
+
+-- The terms behind a first one; so many at most. Each has a byte at least, so as many as there are
+-- bytes are enough.
+unfoldable pub terms_of : ℕ → List Named → Kind → ℤ → List ℕ → Reads ℤ
+terms_of zero names kind total text = Ok (total, text)
+terms_of (suc n) names kind total text = if is_sign text
+    then and_then (term_of names kind total text) (λ sum rest. terms_of n names kind sum rest)
+    else Ok (total, text)
+
+abbrev pub within : ℕ → ℤ → List ℕ → Reads ℕ
+within most (pos n) rest = if nat_le n most then Ok (n, rest) else Err (range 0 most)
+within most (negsuc n) rest = Err (range 0 most)
+
+-- A sum that is a value of a kind.
+unfoldable pub sum_of : List Named → Kind → List ℕ → Reads ℕ
+sum_of names kind text = and_then (atom_of names kind (lack_of kind) text) (λ first rest.
+    and_then (terms_of (length rest) names kind first rest) (within (most_of kind)))
+
+-- ---- counts, and bytes
+
+abbrev pub not_zero : ℕ → List ℕ → Reads (Option ℕ)
+not_zero number rest = if number == 0 then Err (range 1 most_counted) else Ok (Some number, rest)
+
+-- A count, if something is left.
+abbrev pub count_of : List Named → List ℕ → Reads (Option ℕ)
+count_of names text = if is_empty text then Ok (None, text)
+    else and_then (sum_of names Count text) not_zero
+
+-- Bytes that were found, and a text between quotes or one byte more: 256 at most.
+abbrev pub with_piece : List ℕ → List ℕ → List ℕ → Reads (List ℕ)
+with_piece found piece rest = if nat_le (length found + length piece) 256
+    then Ok (found ++ piece, rest) else Err many
+
+unfoldable pub piece_of : List Named → List ℕ → List ℕ → Reads (List ℕ)
+piece_of names found text =
+    if is_next 34 text then with_piece found (string_of text) (after_string text)
+    else and_then (sum_of names Byte text) (λ b rest. with_piece found (b ∷ []) rest)
+
+-- Pieces to the end of a line, which a comma may separate; so many at most. Each has a byte at
+-- least, but that there is none is seen by one more.
+unfoldable pub pieces_of : ℕ → List Named → List ℕ → List ℕ → Reads (List ℕ)
+pieces_of zero names found text = Ok (found, text)
+pieces_of (suc n) names found text = and_then (piece_of names found text) (λ more rest.
+    if is_empty (past (byte ",") rest) then Ok (more, past (byte ",") rest)
+    else pieces_of n names more (past (byte ",") rest))
+
+abbrev pub some_bytes : List ℕ → List ℕ → Reads (List ℕ)
+some_bytes found rest = if is_empty found then Err (missing lacking.Text) else Ok (found, rest)
+
+-- Bytes and texts: one byte at least.
+unfoldable pub bytes_of : List Named → List ℕ → Reads (List ℕ)
+bytes_of names text = and_then (pieces_of (length text + 1) names [] text) some_bytes

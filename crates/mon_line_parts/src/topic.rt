@@ -1,0 +1,297 @@
+//! The words that a line begins with.
+
+ghost use Rattle.std.specs.Prelude.{◌≡◌, ◌≤◌, map};
+ghost use Rattle.mon_line_parts.specs.Told.{effect_of, example_of, form_of};
+ghost use Rattle.mon_line_parts.specs.Topics.{begins_with, begun, by_words, common, is_same, row_view};
+ghost use Rattle.mon_line_parts.specs.Topics.{topic_of, whole, words};
+
+use source_map::is_same_word;
+
+/// What a line is about.
+#[derive(Clone, Copy)]
+pub enum Topic {
+    Step,
+    Over,
+    Out,
+    Until,
+    Go,
+    Back,
+    Rback,
+    Redo,
+    Where,
+    History,
+    Break,
+    Watch,
+    List,
+    Delete,
+    Regs,
+    Flags,
+    Mem,
+    Dis,
+    Find,
+    Stack,
+    Set,
+    Put,
+    Asm,
+    Type,
+    Screen,
+    Irq,
+    Nmi,
+    Reset,
+    Help,
+    Quit,
+    Trace,
+}
+
+/// The first words, each with its topic, but for `exit`, which is not to be shortened. A word of
+/// one letter is an abbreviation that two words would have in common.
+const WORDS: [(&[u8], Topic); 45] = [
+    (b"step", Topic::Step),
+    (b"s", Topic::Step),
+    (b"over", Topic::Over),
+    (b"next", Topic::Over),
+    (b"out", Topic::Out),
+    (b"until", Topic::Until),
+    (b"go", Topic::Go),
+    (b"continue", Topic::Go),
+    (b"run", Topic::Go),
+    (b"back", Topic::Back),
+    (b"rback", Topic::Rback),
+    (b"redo", Topic::Redo),
+    (b"where", Topic::Where),
+    (b"history", Topic::History),
+    (b"break", Topic::Break),
+    (b"b", Topic::Break),
+    (b"watch", Topic::Watch),
+    (b"w", Topic::Watch),
+    (b"list", Topic::List),
+    (b"delete", Topic::Delete),
+    (b"unbreak", Topic::Delete),
+    (b"regs", Topic::Regs),
+    (b"registers", Topic::Regs),
+    (b"r", Topic::Regs),
+    (b"flags", Topic::Flags),
+    (b"mem", Topic::Mem),
+    (b"dis", Topic::Dis),
+    (b"d", Topic::Dis),
+    (b"find", Topic::Find),
+    (b"stack", Topic::Stack),
+    (b"set", Topic::Set),
+    (b"put", Topic::Put),
+    (b"poke", Topic::Put),
+    (b"asm", Topic::Asm),
+    (b"type", Topic::Type),
+    (b"in", Topic::Type),
+    (b"screen", Topic::Screen),
+    (b"irq", Topic::Irq),
+    (b"nmi", Topic::Nmi),
+    (b"reset", Topic::Reset),
+    (b"help", Topic::Help),
+    (b"h", Topic::Help),
+    (b"quit", Topic::Quit),
+    (b"q", Topic::Quit),
+    (b"trace", Topic::Trace),
+];
+
+/// The topics, in the order in which `help` tells them.
+pub const TOPICS: [Topic; 30] = [
+    Topic::Step,
+    Topic::Over,
+    Topic::Out,
+    Topic::Until,
+    Topic::Go,
+    Topic::Back,
+    Topic::Rback,
+    Topic::Redo,
+    Topic::Where,
+    Topic::History,
+    Topic::Break,
+    Topic::Watch,
+    Topic::List,
+    Topic::Delete,
+    Topic::Regs,
+    Topic::Flags,
+    Topic::Mem,
+    Topic::Dis,
+    Topic::Find,
+    Topic::Stack,
+    Topic::Set,
+    Topic::Put,
+    Topic::Asm,
+    Topic::Type,
+    Topic::Screen,
+    Topic::Irq,
+    Topic::Nmi,
+    Topic::Reset,
+    Topic::Help,
+    Topic::Quit,
+];
+
+impl Topic {
+    /// Returns how a line about it is written, and what it does.
+    pub fn form(self) -> (&'static str, &'static str)
+        ensures form { result.0.now ≡ form_of self }
+        ensures effect { result.1.now ≡ effect_of self }
+    {
+        match self {
+            Topic::Step => ("step [N]", "makes N steps, or 1"),
+            Topic::Over => ("over", "makes a JSR as one step"),
+            Topic::Out => ("out", "steps until this subroutine has returned"),
+            Topic::Until => ("until WHERE", "runs to an address"),
+            Topic::Go => ("go [N]", "runs to a break, a watch or a fault, or N steps"),
+            Topic::Back => ("back [N]", "undoes N steps, or 1; back over: a whole JSR"),
+            Topic::Rback => ("rback", "goes back to the last break or change at a watch"),
+            Topic::Redo => ("redo [N]", "makes N undone steps again, or all"),
+            Topic::Where => ("where", "shows the calls on the stack"),
+            Topic::History => ("history [N]", "shows the last N steps, or 10"),
+            Topic::Break => ("break WHERE [if TESTS] [times N]", "stops a run there"),
+            Topic::Watch => (
+                "watch WHERE[..WHERE] [read|write]",
+                "stops a run when a byte there changes, is read or written",
+            ),
+            Topic::List => ("list", "shows breaks and watches"),
+            Topic::Delete => ("delete WHERE", "clears the break or the watch there"),
+            Topic::Regs => ("regs", "shows the registers"),
+            Topic::Flags => ("flags", "shows the flags by name"),
+            Topic::Mem => ("mem WHERE [N]", "shows N bytes of memory, or 64"),
+            Topic::Dis => ("dis [WHERE] [N]", "shows N instructions, or 10"),
+            Topic::Find => ("find BYTES", "shows where bytes or \"text\" stand"),
+            Topic::Stack => ("stack", "shows the bytes on the stack"),
+            Topic::Set => ("set REGISTER VALUE", "sets A, X, Y, S, P or PC"),
+            Topic::Put => ("put WHERE BYTES", "puts bytes or \"text\" into memory"),
+            Topic::Asm => ("asm WHERE TEXT", "assembles an instruction into memory"),
+            Topic::Type => ("type \"TEXT\"", "hands text to the console's input"),
+            Topic::Screen => ("screen", "shows the console's output"),
+            Topic::Irq => ("irq on|off", "sets the interrupt line"),
+            Topic::Nmi => ("nmi", "asks for a nonmaskable interrupt"),
+            Topic::Reset => ("reset", "resets the processor"),
+            Topic::Help => ("help [WORD]", "shows the words, or one of them"),
+            Topic::Quit => ("quit", "ends"),
+            Topic::Trace => ("mos65 trace FILE", "is a word of mos65, not of mon"),
+        }
+    }
+
+    /// Returns a line about it, as an example.
+    pub fn example(self) -> &'static str
+        ensures { result.now ≡ example_of self }
+    {
+        match self {
+            Topic::Step => "step 3",
+            Topic::Over => "over",
+            Topic::Out => "out",
+            Topic::Until => "until $0210",
+            Topic::Go => "go",
+            Topic::Back => "back 3",
+            Topic::Rback => "rback",
+            Topic::Redo => "redo",
+            Topic::Where => "where",
+            Topic::History => "history 5",
+            Topic::Break => "break main, break $0200, break $0200 if A=$41 and X>3",
+            Topic::Watch => "watch $0010, watch $0010..$001F write",
+            Topic::List => "list",
+            Topic::Delete => "delete $0200",
+            Topic::Regs => "regs",
+            Topic::Flags => "flags",
+            Topic::Mem => "mem $0200 32",
+            Topic::Dis => "dis main 5",
+            Topic::Find => "find $A9 $00, find \"HELLO\"",
+            Topic::Stack => "stack",
+            Topic::Set => "set A $41, set PC $0200",
+            Topic::Put => "put $0300 1 2 $FF, put $0300 \"HELLO\"",
+            Topic::Asm => "asm $0300 LDA #1",
+            Topic::Type => "type \"HELLO\"",
+            Topic::Screen => "screen",
+            Topic::Irq => "irq on",
+            Topic::Nmi => "nmi",
+            Topic::Reset => "reset",
+            Topic::Help => "help break",
+            Topic::Quit => "quit",
+            Topic::Trace => "history 5",
+        }
+    }
+}
+
+/// Whether a word begins with some text, capitals or not.
+fn begins_with(word: &[u8], text: &[u8]) -> bool
+    ensures { result ≡ begins_with word.now text.now }
+{
+    text.len() <= word.len() && word[..text.len()].eq_ignore_ascii_case(text)
+}
+
+/// Whether two topics are the same.
+#[tactic(auto, using(crate::proofs::Begun::place_is))]
+fn is_same(one: Topic, other: Topic) -> bool
+    ensures { result ≡ is_same one other }
+{
+    one as u8 == other as u8
+}
+
+/// Returns the topic of the first word that a text is, capitals or not.
+fn whole(text: &[u8], words: &[(&[u8], Topic)]) -> Option<Topic>
+    ensures { result ≡ whole text.now (map row_view words.now) }
+{
+    for (word, topic) in words {
+        if is_same_word(word, text) {
+            return Some(*topic);
+        }
+    }
+    None
+}
+
+/// Returns the topic of the words that begin with a text. `None` and `false` if there is none,
+/// `None` and `true` if they have more than one topic.
+fn begun(text: &[u8], words: &[(&[u8], Topic)]) -> (Option<Topic>, bool)
+    ensures { result ≡ common (begun text.now (map row_view words.now)) }
+{
+    let mut found: Option<Topic> = None;
+    for (word, topic) in words {
+        if begins_with(word, text) {
+            match found {
+                None => found = Some(*topic),
+                Some(other) => {
+                    if !is_same(other, *topic) {
+                        return (None, true);
+                    }
+                }
+            }
+        }
+    }
+    (found, false)
+}
+
+/// The words of the table.
+#[tactic(auto, unfolding(crate::specs::Topics::words))]
+fn all_words() -> &'static [(&'static [u8], Topic)]
+    ensures { map row_view result.now ≡ words }
+{
+    &WORDS
+}
+
+/// Returns the topic of the word that a text is, otherwise of the words that it begins.
+fn by_words(text: &[u8], words: &[(&[u8], Topic)]) -> (Option<Topic>, bool)
+    ensures { result ≡ by_words text.now (map row_view words.now) }
+{
+    match whole(text, words) {
+        Some(topic) => (Some(topic), false),
+        None => begun(text, words),
+    }
+}
+
+/// Returns the topic of a first word: of the word that it is, otherwise of the words that it
+/// begins, if they have one topic. `None` and `false` if it begins none, `None` and `true` if they
+/// have more than one topic. A text without a byte begins none.
+#[tactic(auto, unfolding(crate::specs::Topics::topic_of))]
+pub fn topic_of(text: &[u8]) -> (Option<Topic>, bool)
+    ensures { result ≡ topic_of text.now }
+{
+    if text == b"?".as_slice() {
+        return (Some(Topic::Help), false);
+    }
+    if text.is_empty() {
+        return (None, false);
+    }
+    if is_same_word(text, b"exit") {
+        return (Some(Topic::Quit), false);
+    }
+    by_words(text, all_words())
+}

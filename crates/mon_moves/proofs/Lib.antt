@@ -1,3 +1,0 @@
-mod Chains
-pub mod Stepped
-mod Rows

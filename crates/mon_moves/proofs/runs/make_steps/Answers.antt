@@ -1,5 +1,0 @@
-use Rattle.mon_moves.proofs.Chains.{run_one}
-use Rattle.mon_moves.proofs.runs.make_steps.Goals as goal
-
-pub returns-clause-course : goal.returns-clause-course
-returns-clause-course c = run_one c.run-end.result.did _ _ ((λ _. c.run-end.ensures.steps), c.note_steps.ensures)

@@ -1,2 +1,0 @@
-mod Course
-mod Shown

@@ -1,2 +1,0 @@
-pub mod BackLines
-pub mod Texts

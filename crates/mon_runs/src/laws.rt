@@ -1,0 +1,14 @@
+//! The laws. Each is the contract of a function that does nothing.
+
+ghost use Rattle.mon_runs.specs.Led.{LedRunsAreSteps};
+ghost use Rattle.mon_runs.specs.Recall.{RedoIsExact};
+
+/// States that a led run leads where as many steps lead, whatever its goal and its stops are.
+pub fn led_runs_are_steps()
+    ensures { LedRunsAreSteps }
+{}
+
+/// States that undone events, made again, lead to the states that were there.
+pub fn redo_is_exact()
+    ensures { RedoIsExact }
+{}

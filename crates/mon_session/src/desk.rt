@@ -1,0 +1,201 @@
+//! What a session of `mon` has: the machine, its events, its stops, its places, and the text that
+//! is to be written.
+
+ghost use Rattle.std.specs.Prelude.{◌≡◌, ◌++◌, [], Err, IfErr, IfOk, Ok, OnErr, OnOk, drop, false, is_ok};
+ghost use Rattle.std.specs.Prelude.{take};
+ghost use Rattle.model.specs.Event.{event_of};
+ghost use Rattle.model.specs.State.{State};
+ghost use Rattle.mon_session.specs.Served.{KeepsStops, ShowsOnly, course_of, happened};
+ghost use Rattle.mon_session.specs.Texts.{count_text, entry_text, event_text, rejected_text};
+ghost use Rattle.mon_session.specs.Texts.{row_or_entry, shown_text};
+ghost use Rattle.mon_texts.specs.Instructions.{instruction_at, instruction_line};
+
+use crate::Events;
+use model::EventFault;
+use mon_runs::{Event, Session, is_entry};
+use mon_stops::Stops;
+use mon_texts::{push_count, push_fault, push_next, push_place, push_row, push_state, push_text};
+use source_map::Places;
+use std::alloc::{AllocError, Global};
+
+/// A session with what a person needs of it.
+#[derive(Drop)]
+pub struct Desk {
+    pub session: Session,
+    pub events: Events,
+    pub stops: Stops,
+    pub places: Places,
+    pub text: Vec<u8>,
+}
+
+/// Appends where an interrupt has led to.
+fn push_entry(text: &mut Vec<u8>, places: &Places, pc: u16) -> Result<(), AllocError>
+    ensures { OnOk result (text.new.items ≡ text.old.items ++ entry_text places.now.names pc) }
+{
+    push_text(text, "interrupt: on to ")?;
+    push_place(text, places, pc)?;
+    push_text(text, "\n")?;
+    Ok(())
+}
+
+impl Desk {
+    /// Makes a desk for a session that holds so many events.
+    ///
+    /// Errors: `AllocError` if an allocation fails.
+    pub fn new(
+        alloc: Global,
+        session: Session,
+        places: Places,
+        history: u32,
+    ) -> Result<Desk, AllocError>
+        ensures session { IfOk result (λ desk. desk.session ≡ session) }
+        ensures events { IfOk result
+            (λ desk. desk.events ≡ record { made = []; undone = []; room = history }) }
+        ensures breaks { IfOk result (λ desk. desk.stops.breaks.items ≡ []) }
+        ensures watches { IfOk result (λ desk. desk.stops.watches.items ≡ []) }
+        ensures changes { IfOk result (λ desk. desk.stops.changes.items ≡ []) }
+        ensures places { IfOk result (λ desk. desk.places ≡ places) }
+        ensures text { IfOk result (λ desk. desk.text.items ≡ []) }
+    {
+        Ok(Desk {
+            session,
+            events: Events::new(alloc, history)?,
+            stops: Stops::new(alloc),
+            places,
+            text: Vec::new(alloc),
+        })
+    }
+
+    /// Appends words to the text.
+    ///
+    /// Errors: `AllocError` if an allocation fails.
+    pub fn say(&mut self, words: &str) -> Result<(), AllocError>
+        ensures shows { ShowsOnly self.old self.new }
+        ensures text { OnOk result (self.new.text.items ≡ self.old.text.items ++ words.now) }
+    {
+        push_text(&mut self.text, words)
+    }
+
+    /// Appends a number of things, which have a name for one and a name for more.
+    ///
+    /// Errors: `AllocError` if an allocation fails.
+    pub fn count(&mut self, number: u64, one: &str, more: &str) -> Result<(), AllocError>
+        ensures shows { ShowsOnly self.old self.new }
+        ensures text { OnOk result (self.new.text.items ≡ self.old.text.items
+            ++ count_text number one.now more.now) }
+    {
+        push_count(&mut self.text, number)?;
+        self.say(if number == 1 { one } else { more })
+    }
+
+    /// Appends the registers and the instruction that comes next. With a count of cycles before, it
+    /// also appends how many there were since.
+    ///
+    /// Errors: `AllocError` if an allocation fails.
+    pub fn show(&mut self, cycles_before: Option<u64>) -> Result<(), AllocError>
+        ensures shows { ShowsOnly self.old self.new }
+        ensures text { OnOk result (self.new.text.items ≡ self.old.text.items
+            ++ shown_text self.old.session.current self.old.places.names cycles_before) }
+    {
+        push_state(&mut self.text, &self.session, &self.places, cycles_before)?;
+        push_next(&mut self.text, &self.session, &self.places)
+    }
+
+    /// Appends the instruction at an address, and returns how many bytes it has, 1 to 3.
+    ///
+    /// Errors: `AllocError` if an allocation fails.
+    pub fn show_row(&mut self, address: u16) -> Result<u8, AllocError>
+        ensures shows { ShowsOnly self.old self.new }
+        ensures text { OnOk result (self.new.text.items ≡ self.old.text.items
+            ++ instruction_line self.old.session.current self.old.places address) }
+        ensures len { IfOk result
+            (λ len. len ≡ (instruction_at self.old.session.current address).len) }
+    {
+        push_row(&mut self.text, &self.session, &self.places, address)
+    }
+
+    /// Appends the instruction that comes next.
+    ///
+    /// Errors: `AllocError` if an allocation fails.
+    pub fn show_next(&mut self) -> Result<(), AllocError>
+        ensures shows { ShowsOnly self.old self.new }
+        ensures text { OnOk result (self.new.text.items ≡ self.old.text.items
+            ++ instruction_line self.old.session.current self.old.places
+            self.old.session.current.regs.pc) }
+    {
+        let pc = self.session.regs().pc;
+        let _ = self.show_row(pc)?;
+        Ok(())
+    }
+
+    /// Appends why an event was rejected.
+    ///
+    /// Errors: `AllocError` if an allocation fails.
+    pub fn reject(&mut self, fault: EventFault) -> Result<(), AllocError>
+        ensures shows { ShowsOnly self.old self.new }
+        ensures text { OnOk result (self.new.text.items ≡ self.old.text.items
+            ++ rejected_text self.old.places.names fault) }
+    {
+        push_fault(&mut self.text, &self.places, fault)?;
+        self.say("\n")
+    }
+
+    /// Puts the entry of an interrupt in place of the text from the byte `length` on, if a step was
+    /// one. `stack` and `cycles` are the stack pointer and the cycle count before the step.
+    ///
+    /// Errors: `AllocError` if an allocation fails.
+    pub fn tell_entry(&mut self, length: usize, stack: u8, cycles: u64) -> Result<(), AllocError>
+        ensures shows { ShowsOnly self.old self.new }
+        ensures text { OnOk result (self.new.text.items ≡ take length self.old.text.items
+            ++ row_or_entry stack cycles self.old.session.current self.old.places.names
+            (drop length self.old.text.items)) }
+    {
+        if is_entry(&self.session, stack, cycles) {
+            self.text.truncate(length);
+            return push_entry(&mut self.text, &self.places, self.session.regs().pc);
+        }
+        Ok(())
+    }
+
+    /// Makes an event that is no step. Errors: those of the session; nothing is changed then.
+    fn make(&mut self, event: Event) -> Result<(), EventFault>
+        ensures course { course_of self.new ≡ happened event (course_of self.old) }
+        ensures ok { OnOk result ((state : State)
+            × (event_of self.old.session.current event ≡ Ok state)) }
+        ensures fault { IfErr result
+            (λ fault. event_of self.old.session.current event ≡ Err fault) }
+        ensures text { self.new.text ≡ self.old.text }
+        ensures stops { KeepsStops self.old self.new }
+    {
+        match self.session.event(event) {
+            Ok(()) => {
+                self.events.note(event);
+                Ok(())
+            }
+            Err(fault) => Err(fault),
+        }
+    }
+
+    /// Makes an event that is no step, and returns whether it was accepted. If it was rejected, the
+    /// text says why, and nothing else has changed.
+    ///
+    /// Errors: `AllocError` if an allocation for that text fails.
+    #[tactic(auto, unfolding(crate::specs::Texts::event_text))]
+    pub fn happen(&mut self, event: Event) -> Result<bool, AllocError>
+        ensures course { course_of self.new ≡ happened event (course_of self.old) }
+        ensures accepted { IfOk result
+            (λ is_accepted. is_accepted ≡ is_ok (event_of self.old.session.current event)) }
+        ensures memory { OnErr result (is_ok (event_of self.old.session.current event) ≡ false) }
+        ensures text { OnOk result (self.new.text.items ≡ self.old.text.items
+            ++ event_text self.old.places.names event (course_of self.old) []) }
+        ensures stops { KeepsStops self.old self.new }
+    {
+        match self.make(event) {
+            Ok(()) => Ok(true),
+            Err(fault) => {
+                self.reject(fault)?;
+                Ok(false)
+            }
+        }
+    }
+}

@@ -1,0 +1,3 @@
+mod Stopped
+pub mod Made
+mod Naming

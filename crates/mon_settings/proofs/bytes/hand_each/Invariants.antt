@@ -1,0 +1,14 @@
+use Rattle.std.proofs.Common.{◌≡◌, drop}
+use Rattle.mon_session.specs.Served.{KeepsStops, course_of}
+use Rattle.mon_settings.specs.ByteLines.{all_happened, first_fault, inputs}
+use Rattle.mon_settings.proofs.bytes.hand_each.Given as goal
+
+abbrev pub invariant-loop-byte : goal.invariant-loop-byte
+invariant-loop-byte l = record {
+  course : all_happened (inputs l.bytes) (course_of l.initial.desk)
+      ≡ all_happened (inputs (drop l.byte-index l.bytes)) (course_of l.desk);
+  fault : first_fault (inputs l.bytes) (course_of l.initial.desk)
+      ≡ first_fault (inputs (drop l.byte-index l.bytes)) (course_of l.desk);
+  text : l.desk.text.items ≡ l.initial.desk.text.items;
+  stops : KeepsStops l.initial.desk l.desk;
+}

@@ -1,0 +1,15 @@
+use Rattle.std.proofs.Common.{◌≡◌, true, refl, arith}
+use Rattle.std.specs.Prelude.{is_ok}
+use Rattle.std.proofs.lemmas.Grind.{common_steps}
+use Rattle.model.specs.Event.{event_of}
+use Rattle.model.specs.declared.event.Event.TheVariants.{Nmi}
+use Rattle.mon_session.specs.Served.{course_of}
+use Rattle.mon_settings.proofs.Made.{then_said}
+use Rattle.mon_settings.proofs.events.ask_nmi.Goals as goal
+
+pub returns-then-branch-clause-text : goal.returns-then-branch-clause-text
+returns-then-branch-clause-text c =
+    let before = course_of c.args.desk.now in
+    let holds : is_ok (event_of before.0.current (Nmi)) ≡ true = grind (arith, common_steps, c.in_ok-happen.ensures.accepted, c.if-branch.true) in
+    then_said c.say.result c.args.desk.now.places.names (Nmi) before c.args.desk.now.text.items c.happen.new.self.text.items c.say.new.self.text.items _ _ holds
+    c.in_ok-happen.ensures.text refl c.say.ensures.text

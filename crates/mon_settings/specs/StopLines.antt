@@ -1,0 +1,117 @@
+-- What lines do to breaks and watches. Source: mos65.
+use Rattle.std.specs.Prelude.{ℕ, ◌+◌, ◌-◌, ◌||◌, Bool, true, false, nat_le, is_none, is_ok, is_some, if◌then◌else◌, List, [], ◌∷◌, ◌++◌, zero, suc, Option, Some, None, Result, Ok, Err}
+use Rattle.mon_settings.specs.declared.watches.Unwatched.{Unwatched}
+use Rattle.mon_settings.specs.declared.watches.Unwatched.TheVariants.{Port, Full, Wide}
+use Rattle.model.specs.Session.{Session}
+use Rattle.model.specs.Breakpoints.{break_cleared, watch_set, watch_cleared}
+use Rattle.model.specs.declared.session_fault.SessionFault.{SessionFault}
+use Rattle.model.specs.declared.session_fault.SessionFault.TheVariants.{AlreadySet, PortAddress}
+use Rattle.mon_lines.specs.declared.command.Stretch.{Stretch}
+use Rattle.mon_lines.specs.declared.command.WatchKind.TheVariants.{Change}
+use Rattle.mon_stops.specs.Stops.{changes_of, first_with, has_access, is_change, without, without_first_with}
+use Rattle.mon_stops.specs.declared.breaks.Break.{Break}
+use Rattle.mon_stops.specs.declared.watches.Watch.{Watch}
+
+-- The session after a call: the one that the call gives, or the same if the call is rejected.
+abbrev pub or_same : Session → Result Session SessionFault → Session
+or_same s (Ok t) = t
+or_same s (Err fault) = s
+
+-- Whether an address is in a table once it was to be set there. It may have been before.
+abbrev pub is_set : Result Session SessionFault → Bool
+is_set (Ok s) = true
+is_set (Err AlreadySet) = true
+is_set (Err fault) = false
+
+-- A break in place of the first one at its address.
+abbrev pub with_break : Break → List Break → List Break
+with_break stop breaks = without stop.address breaks ++ stop ∷ []
+
+-- ---- watches of changes in the session
+
+-- How many addresses a stretch has.
+abbrev pub size_of : Stretch → ℕ
+size_of stretch = (stretch.last + 1) - stretch.first
+
+-- Why an address is not watched once it was to be: a port is there, or 256 others are watched.
+abbrev pub why_unset : Result Session SessionFault → Option Unwatched
+why_unset (Ok s) = None
+why_unset (Err AlreadySet) = None
+why_unset (Err PortAddress) = Some Port
+why_unset (Err fault) = Some Full
+
+-- One more address is watched, if those before it are: the session, and why it is not.
+abbrev pub if_watched : ℕ → Session → Option Unwatched → Session × Option Unwatched
+if_watched address s None
+    = (or_same s (watch_set address s), why_unset (watch_set address s))
+if_watched address s (Some why) = (s, Some why)
+
+abbrev pub one_watched : ℕ → Session × Option Unwatched → Session × Option Unwatched
+one_watched address tried = if_watched address tried.0 tried.1
+
+-- The session once so many addresses from one on are watched, up to the first that cannot be, and
+-- why that one cannot.
+abbrev pub all_watched : ℕ → ℕ → Session → Session × Option Unwatched
+all_watched first zero s = (s, None)
+all_watched first (suc n) s = one_watched (first + n) (all_watched first n s)
+
+-- At most 256 bytes are watched for changes by one line.
+abbrev pub stretch_watched : Stretch → Session → Session × Option Unwatched
+stretch_watched stretch s = if nat_le 256 (stretch.last - stretch.first) then (s, Some Wide)
+    else all_watched stretch.first (size_of stretch) s
+
+-- The session without the watch at an address, if no watch for changes has that address.
+abbrev pub unwatched : List Watch → ℕ → Session → Session
+unwatched watches address s = if has_access Change address watches then s
+    else or_same s (watch_cleared address s)
+
+-- The same at so many addresses from one on.
+abbrev pub all_unwatched : List Watch → ℕ → ℕ → Session → Session
+all_unwatched watches first zero s = s
+all_unwatched watches first (suc n) s
+    = unwatched watches (first + n) (all_unwatched watches first n s)
+
+abbrev pub stretch_unwatched : List Watch → Stretch → Session → Session
+stretch_unwatched watches stretch s = all_unwatched watches stretch.first (size_of stretch) s
+
+-- ---- a watch that is set
+
+-- The session once a stretch is watched for changes, whole or not at all.
+abbrev pub if_whole : List Watch → Stretch → Session → Option Unwatched → Session
+if_whole watches stretch s None = s
+if_whole watches stretch s (Some why) = stretch_unwatched watches stretch s
+
+abbrev pub whole_or_none : List Watch → Stretch → Session × Option Unwatched → Session
+whole_or_none watches stretch tried = if_whole watches stretch tried.0 tried.1
+
+-- Why a watch cannot be set, and the session then. Reads and writes are not the session's.
+abbrev pub why_unwatched : Watch → Session → Option Unwatched
+why_unwatched watch s = if is_change watch then (stretch_watched watch.stretch s).1 else None
+
+abbrev pub can_watch : Watch → Session → Bool
+can_watch watch s = is_none (why_unwatched watch s)
+
+abbrev pub with_watch : Watch → List Watch → Session → Session
+with_watch watch watches s = if is_change watch
+    then whole_or_none watches watch.stretch (stretch_watched watch.stretch s) else s
+
+-- ---- what stands at an address is deleted
+
+-- The session without the changes that a deleted watch has watched, if there was one.
+abbrev pub if_deleted : List Watch → Session → Option Watch → Session
+if_deleted left s None = s
+if_deleted left s (Some watch) = stretch_unwatched left watch.stretch s
+
+abbrev pub without_stops : ℕ → List Watch → Session → Session
+without_stops address watches s = if_deleted (without_first_with address watches)
+    (or_same s (break_cleared address s)) (first_with address watches)
+
+-- Whether a break of the session or a watch stands at an address.
+abbrev pub stands_at : ℕ → List Watch → Session → Bool
+stands_at address watches s
+    = is_some (first_with address watches) || is_ok (break_cleared address s)
+
+-- The addresses at which a change stops a run, once a watch is deleted.
+abbrev pub changes_left : List Watch → List ℕ → Option Watch → List ℕ
+changes_left left changes None = changes
+changes_left left changes (Some watch) = changes_of left changes

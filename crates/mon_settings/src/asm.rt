@@ -1,0 +1,112 @@
+//! Lines that assemble an instruction into memory.
+
+ghost use Rattle.std.specs.Prelude.{◌≡◌, ◌++◌, IsErr, OnErr, OnOk, codes};
+ghost use Rattle.model.specs.FaultNames.{source_fault_name};
+ghost use Rattle.model.specs.declared.event.Event.TheVariants.{Patch};
+ghost use Rattle.mon_settings.specs.ByteLines.{assembled};
+ghost use Rattle.mon_settings.specs.Named.{without_names};
+ghost use Rattle.mon_settings.specs.ChangeTexts.{assembled_text, not_assembled_text, patched_text};
+ghost use Rattle.mon_session.specs.Served.{IsEither, KeepsStops, ShowsOnly, course_of, happened};
+
+use crate::named::without_names;
+use assembler::{Line, assemble_line_in};
+use model::AsmFaultKind;
+use mon_runs::Event;
+use mon_session::Desk;
+use std::alloc::{AllocError, Global};
+
+/// Puts an assembled line into memory, and shows it.
+#[tactic(auto, using(crate::proofs::Made::said))]
+fn put_line(desk: &mut Desk, address: u16, line: Line) -> Result<(), AllocError>
+    ensures course { course_of desk.new
+        ≡ happened (Patch address line.bytes line.count) (course_of desk.old) }
+    ensures stops { KeepsStops desk.old desk.new }
+    ensures text { OnOk result (desk.new.text.items ≡ desk.old.text.items
+        ++ patched_text desk.old.places address (Patch address line.bytes line.count)
+        (course_of desk.old)) }
+{
+    let bytes = line.bytes;
+    let count = line.count;
+    let patch = Event::Patch {
+        address,
+        bytes,
+        count,
+    };
+    if desk.happen(patch)? {
+        let _ = desk.show_row(address)?;
+    }
+    Ok(())
+}
+
+/// Says the name of a fault, and how an instruction is written.
+fn say_fault(desk: &mut Desk, kind: AsmFaultKind) -> Result<(), AllocError>
+    ensures shows { ShowsOnly desk.old desk.new }
+    ensures text { OnOk result (desk.new.text.items ≡ desk.old.text.items
+        ++ (source_fault_name kind ++ codes "; as in: asm $0300 LDA #1\n")) }
+{
+    desk.say(kind.name())?;
+    desk.say("; as in: asm $0300 LDA #1\n")
+}
+
+/// Says why a text is not assembled.
+fn say_not_assembled(desk: &mut Desk, kind: AsmFaultKind) -> Result<(), AllocError>
+    ensures shows { ShowsOnly desk.old desk.new }
+    ensures text { OnOk result (desk.new.text.items ≡ desk.old.text.items
+        ++ not_assembled_text kind) }
+{
+    desk.say("this is not assembled: ")?;
+    say_fault(desk, kind)
+}
+
+/// Says why a text is not assembled, unless memory ran out.
+fn refuse_line(desk: &mut Desk, kind: AsmFaultKind) -> Result<(), AllocError>
+    ensures shows { ShowsOnly desk.old desk.new }
+    ensures memory { kind ≡ AsmFaultKind.OutOfMemory → IsErr result }
+    ensures text { OnOk result (desk.new.text.items ≡ desk.old.text.items
+        ++ not_assembled_text kind) }
+{
+    match kind {
+        AsmFaultKind::OutOfMemory => Err(AllocError),
+        kind => say_not_assembled(desk, kind),
+    }
+}
+
+/// Assembles a text without names into memory.
+fn assemble_text(
+    desk: &mut Desk,
+    alloc: Global,
+    address: u16,
+    text: &[u8],
+) -> Result<(), AllocError>
+    ensures course { OnOk result (course_of desk.new
+        ≡ assembled address text.now (course_of desk.old)) }
+    ensures memory { OnErr result (IsEither (course_of desk.new) (course_of desk.old)
+        (assembled address text.now (course_of desk.old))) }
+    ensures stops { KeepsStops desk.old desk.new }
+    ensures text { OnOk result (desk.new.text.items ≡ desk.old.text.items
+        ++ assembled_text desk.old.places address text.now (course_of desk.old)) }
+{
+    match assemble_line_in(alloc, desk.session.profile(), address, text) {
+        Ok(line) => put_line(desk, address, line),
+        Err(fault) => refuse_line(desk, fault.kind),
+    }
+}
+
+/// Assembles an instruction into memory, and shows it, or says why it is not assembled. Names in it
+/// stand for their addresses.
+///
+/// Errors: `AllocError` if an allocation fails; the bytes may be in memory then.
+pub fn assemble(desk: &mut Desk, alloc: Global, address: u16, line: &[u8]) -> Result<(), AllocError>
+    ensures course { OnOk result (course_of desk.new ≡ assembled address
+        (without_names desk.old.places.names line.now) (course_of desk.old)) }
+    ensures memory { OnErr result (IsEither (course_of desk.new) (course_of desk.old)
+        (assembled address (without_names desk.old.places.names line.now)
+        (course_of desk.old))) }
+    ensures stops { KeepsStops desk.old desk.new }
+    ensures text { OnOk result (desk.new.text.items ≡ desk.old.text.items
+        ++ assembled_text desk.old.places address
+        (without_names desk.old.places.names line.now) (course_of desk.old)) }
+{
+    let text = without_names(alloc, line, &desk.places)?;
+    assemble_text(desk, alloc, address, &text)
+}

@@ -1,0 +1,109 @@
+//! Lines that set a break.
+
+ghost use Rattle.std.specs.Prelude.{◌≡◌, ◌++◌, IfOk, OnErr, OnOk, if◌then◌else◌};
+ghost use Rattle.model.specs.Breakpoints.{break_set};
+ghost use Rattle.mon_settings.specs.StopLines.{is_set, or_same, with_break};
+ghost use Rattle.mon_settings.specs.StopTexts.{break_text, lines_text, set_text};
+ghost use Rattle.mon_session.specs.Served.{IsEither, KeepsStops, ShowsOnly, course_of};
+
+use mon_runs::SessionFault;
+use mon_session::Desk;
+use mon_stops::Break;
+use mon_texts::push_break;
+use source_map::Places;
+use std::alloc::AllocError;
+
+/// Sets a break in the session, and returns whether it is set there. Nothing is changed if memory
+/// ran out.
+fn break_in_session(desk: &mut Desk, address: u16) -> Result<bool, AllocError>
+    ensures session { OnOk result (desk.new.session
+        ≡ or_same desk.old.session (break_set address desk.old.session)) }
+    ensures set { IfOk result
+        (λ is_there. is_there ≡ is_set (break_set address desk.old.session)) }
+    ensures memory { OnErr result (desk.new.session ≡ desk.old.session) }
+    ensures events { desk.new.events ≡ desk.old.events }
+    ensures stops { KeepsStops desk.old desk.new }
+    ensures text { desk.new.text ≡ desk.old.text }
+{
+    match desk.session.set_break(address) {
+        Ok(()) | Err(SessionFault::AlreadySet) => Ok(true),
+        Err(SessionFault::OutOfMemory) => Err(AllocError),
+        Err(_) => Ok(false),
+    }
+}
+
+/// Says where no line of the source begins, if the source has lines.
+fn say_lines(desk: &mut Desk, address: u16) -> Result<(), AllocError>
+    ensures shows { ShowsOnly desk.old desk.new }
+    ensures text { OnOk result
+        (desk.new.text.items ≡ desk.old.text.items ++ lines_text desk.old.places address) }
+{
+    if desk.places.has_lines() && desk.places.line_at(address).is_none() {
+        return desk.say("no line of the source begins there\n");
+    }
+    Ok(())
+}
+
+/// Appends a break on a line.
+pub fn push_stop(text: &mut Vec<u8>, stop: &Break, places: &Places) -> Result<(), AllocError>
+    ensures { OnOk result (text.new.items ≡ text.old.items
+        ++ break_text places.now.names stop.now) }
+{
+    push_break(
+        text,
+        places,
+        stop.address,
+        stop.tests.as_slice(),
+        stop.times,
+    )
+}
+
+/// Notes a break, in place of one that stands there, and shows it.
+fn note_break(desk: &mut Desk, stop: Break) -> Result<(), AllocError>
+    ensures course { course_of desk.new ≡ course_of desk.old }
+    ensures breaks { OnOk result (desk.new.stops.breaks.items
+        ≡ with_break stop desk.old.stops.breaks.items) }
+    ensures memory { OnErr result (IsEither desk.new.stops.breaks.items
+        desk.old.stops.breaks.items (with_break stop desk.old.stops.breaks.items)) }
+    ensures watches { desk.new.stops.watches ≡ desk.old.stops.watches }
+    ensures changes { desk.new.stops.changes ≡ desk.old.stops.changes }
+    ensures places { desk.new.places ≡ desk.old.places }
+    ensures text { OnOk result (desk.new.text.items ≡ desk.old.text.items
+        ++ break_text desk.old.places.names stop ++ lines_text desk.old.places stop.address) }
+{
+    let address = stop.address;
+    push_stop(&mut desk.text, &stop, &desk.places)?;
+    desk.stops.note_break(stop)?;
+    say_lines(desk, address)
+}
+
+/// Sets a break, in place of one that stands there, and shows it. Nothing is changed if the session
+/// has 256 others.
+///
+/// Errors: `AllocError` if an allocation fails; the session or both the session and the stops may
+/// have the break then.
+pub fn set_break(desk: &mut Desk, stop: Break) -> Result<(), AllocError>
+    ensures session { OnOk result (desk.new.session
+        ≡ or_same desk.old.session (break_set stop.address desk.old.session)) }
+    ensures breaks { OnOk result (desk.new.stops.breaks.items
+        ≡ (if is_set (break_set stop.address desk.old.session)
+        then with_break stop desk.old.stops.breaks.items
+        else desk.old.stops.breaks.items)) }
+    ensures session_memory { OnErr result (IsEither desk.new.session desk.old.session
+        (or_same desk.old.session (break_set stop.address desk.old.session))) }
+    ensures breaks_memory { OnErr result (IsEither desk.new.stops.breaks.items
+        desk.old.stops.breaks.items (with_break stop desk.old.stops.breaks.items)) }
+    ensures watches { desk.new.stops.watches ≡ desk.old.stops.watches }
+    ensures changes { desk.new.stops.changes ≡ desk.old.stops.changes }
+    ensures events { desk.new.events ≡ desk.old.events }
+    ensures places { desk.new.places ≡ desk.old.places }
+    ensures text { OnOk result (desk.new.text.items ≡ desk.old.text.items
+        ++ set_text desk.old.places stop.address stop.tests.items stop.times
+        (is_set (break_set stop.address desk.old.session))) }
+{
+    if break_in_session(desk, stop.address)? {
+        note_break(desk, stop)
+    } else {
+        desk.say("256 breaks are set; delete one first\n")
+    }
+}

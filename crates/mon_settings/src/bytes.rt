@@ -1,0 +1,127 @@
+//! Lines that put bytes into memory, or hand them to the console's input.
+
+ghost use Rattle.std.specs.Prelude.{◌≡◌, ◌≤◌, ◌+◌, ◌++◌, [], IfOk, OnOk, is_none, length};
+ghost use Rattle.mon_settings.specs.ByteLines.{all_happened, bytes_put, first_fault, inputs};
+ghost use Rattle.mon_settings.specs.ByteLines.{patches};
+ghost use Rattle.mon_settings.specs.ChangeTexts.{events_text, handed_text, put_text, stored_text};
+ghost use Rattle.mon_session.specs.Served.{KeepsStops, ShowsOnly, course_of};
+
+use mon_runs::Event;
+use mon_session::Desk;
+use mon_texts::push_place;
+use std::alloc::AllocError;
+
+/// Puts bytes that do not go past FFFF into memory, an event for each, up to the first that is
+/// rejected, and says why that one is. Returns whether none was.
+fn patch_each(desk: &mut Desk, address: u16, bytes: &[u8]) -> Result<bool, AllocError>
+    requires { address + length bytes.now ≤ 65536 }
+    ensures course { course_of desk.new
+        ≡ all_happened (patches address bytes.now) (course_of desk.old) }
+    ensures stops { KeepsStops desk.old desk.new }
+    ensures done { IfOk result (λ is_done. is_done
+        ≡ is_none (first_fault (patches address bytes.now) (course_of desk.old))) }
+    ensures text { OnOk result (desk.new.text.items ≡ desk.old.text.items
+        ++ events_text desk.old.places.names []
+        (first_fault (patches address bytes.now) (course_of desk.old))) }
+{
+    for (index, byte) in bytes.iter().enumerate() {
+        let patch = Event::Patch {
+            address: (address as usize + index) as u16,
+            bytes: [*byte, 0, 0],
+            count: 1,
+        };
+        if !desk.happen(patch)? {
+            return Ok(false);
+        }
+    }
+    Ok(true)
+}
+
+/// Says how many bytes were put into memory, and where.
+fn say_stored(desk: &mut Desk, address: u16, count: usize) -> Result<(), AllocError>
+    ensures shows { ShowsOnly desk.old desk.new }
+    ensures text { OnOk result (desk.new.text.items ≡ desk.old.text.items
+        ++ stored_text desk.old.places.names address count) }
+{
+    desk.count(count as u64, " byte at ", " bytes at ")?;
+    push_place(&mut desk.text, &desk.places, address)?;
+    desk.say("\n")
+}
+
+/// Puts bytes that do not go past FFFF into memory, an event for each, up to the first that is
+/// rejected. Says how many there are, or why not all of them are there.
+#[tactic(auto, using(crate::proofs::Made::said))]
+fn put_within(desk: &mut Desk, address: u16, bytes: &[u8]) -> Result<(), AllocError>
+    requires { address + length bytes.now ≤ 65536 }
+    ensures course { course_of desk.new
+        ≡ all_happened (patches address bytes.now) (course_of desk.old) }
+    ensures stops { KeepsStops desk.old desk.new }
+    ensures text { OnOk result (desk.new.text.items ≡ desk.old.text.items
+        ++ events_text desk.old.places.names
+        (stored_text desk.old.places.names address (length bytes.now))
+        (first_fault (patches address bytes.now) (course_of desk.old))) }
+{
+    if !patch_each(desk, address, bytes)? {
+        return Ok(());
+    }
+    say_stored(desk, address, bytes.len())
+}
+
+/// Puts bytes into memory, an event for each, up to the first that is rejected. Does nothing if
+/// they go past FFFF. Says how many there are, or why not all of them are there.
+///
+/// Errors: `AllocError` if an allocation fails; the bytes are put there all the same.
+pub fn put(desk: &mut Desk, address: u16, bytes: &[u8]) -> Result<(), AllocError>
+    ensures course { course_of desk.new
+        ≡ bytes_put address bytes.now (course_of desk.old) }
+    ensures stops { KeepsStops desk.old desk.new }
+    ensures text { OnOk result (desk.new.text.items ≡ desk.old.text.items
+        ++ put_text desk.old.places.names address bytes.now (course_of desk.old)) }
+{
+    if bytes.len() > 65536 - address as usize {
+        return desk.say("that goes past FFFF\n");
+    }
+    put_within(desk, address, bytes)
+}
+
+/// Hands bytes to the console's input, up to the first that is rejected, and says why that one is.
+/// Returns whether none was.
+fn hand_each(desk: &mut Desk, bytes: &[u8]) -> Result<bool, AllocError>
+    ensures course { course_of desk.new
+        ≡ all_happened (inputs bytes.now) (course_of desk.old) }
+    ensures stops { KeepsStops desk.old desk.new }
+    ensures done { IfOk result (λ is_done. is_done
+        ≡ is_none (first_fault (inputs bytes.now) (course_of desk.old))) }
+    ensures text { OnOk result (desk.new.text.items ≡ desk.old.text.items
+        ++ events_text desk.old.places.names []
+        (first_fault (inputs bytes.now) (course_of desk.old))) }
+{
+    for byte in bytes {
+        if !desk.happen(Event::Input(*byte))? {
+            return Ok(false);
+        }
+    }
+    Ok(true)
+}
+
+/// Hands bytes to the console's input, up to the first that is rejected. Says how many there are,
+/// or why not all of them are handed in.
+///
+/// Errors: `AllocError` if an allocation fails; the bytes are handed in all the same.
+#[tactic(auto, using(crate::proofs::Made::said))]
+pub fn hand_in(desk: &mut Desk, bytes: &[u8]) -> Result<(), AllocError>
+    ensures course { course_of desk.new
+        ≡ all_happened (inputs bytes.now) (course_of desk.old) }
+    ensures stops { KeepsStops desk.old desk.new }
+    ensures text { OnOk result (desk.new.text.items ≡ desk.old.text.items
+        ++ handed_text desk.old.places.names bytes.now (course_of desk.old)) }
+{
+    if !hand_each(desk, bytes)? {
+        return Ok(());
+    }
+    desk.count(
+        bytes.len() as u64,
+        " byte handed in\n",
+        " bytes handed in\n",
+    )
+}

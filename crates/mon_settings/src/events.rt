@@ -1,0 +1,105 @@
+//! Lines that make one event: a register, an interrupt line, or a reset.
+
+ghost use Rattle.std.specs.Prelude.{◌≡◌, ◌++◌, OnOk};
+ghost use Rattle.model.specs.declared.event.Event.TheVariants.{Irq, Nmi, Reset, Set};
+ghost use Rattle.mon_settings.specs.ChangeTexts.{if_masked, irq_text, level_text, nmi_text, shown_event};
+ghost use Rattle.mon_session.specs.Served.{KeepsStops, ShowsOnly, course_of, happened};
+
+use model::Setting;
+use mon_runs::Event;
+use mon_session::Desk;
+use std::alloc::AllocError;
+
+/// Makes an event, and shows the state after it.
+#[tactic(auto, using(crate::proofs::Made::said))]
+fn show_event(desk: &mut Desk, event: Event) -> Result<(), AllocError>
+    ensures course { course_of desk.new ≡ happened event (course_of desk.old) }
+    ensures stops { KeepsStops desk.old desk.new }
+    ensures text { OnOk result (desk.new.text.items ≡ desk.old.text.items
+        ++ shown_event desk.old.places.names event (course_of desk.old)) }
+{
+    if desk.happen(event)? {
+        return desk.show(None);
+    }
+    Ok(())
+}
+
+/// Sets a register, and shows the state.
+///
+/// Errors: `AllocError` if an allocation fails; the register is set all the same.
+pub fn set(desk: &mut Desk, setting: Setting) -> Result<(), AllocError>
+    ensures course { course_of desk.new ≡ happened (Set setting) (course_of desk.old) }
+    ensures stops { KeepsStops desk.old desk.new }
+    ensures text { OnOk result (desk.new.text.items ≡ desk.old.text.items
+        ++ shown_event desk.old.places.names (Set setting) (course_of desk.old)) }
+{
+    show_event(desk, Event::Set(setting))
+}
+
+/// Returns when an interrupt is entered.
+fn if_masked(is_masked: bool) -> &'static str
+    ensures { result.now ≡ if_masked is_masked }
+{
+    if is_masked {
+        "IRQ is asked for, but I is 1: it waits until a CLI\n"
+    } else {
+        "IRQ is asked for: the next step enters it, or an NMI that is asked for too\n"
+    }
+}
+
+/// Says what the interrupt line asks for.
+fn say_level(desk: &mut Desk, level: bool) -> Result<(), AllocError>
+    ensures shows { ShowsOnly desk.old desk.new }
+    ensures text { OnOk result (desk.new.text.items ≡ desk.old.text.items
+        ++ level_text level desk.old.session.current) }
+{
+    if !level {
+        return desk.say("the line asks for no IRQ\n");
+    }
+    let is_masked = desk.session.regs().flags.i;
+    desk.say(if_masked(is_masked))
+}
+
+/// Sets the interrupt line, and says what it asks for.
+///
+/// Errors: `AllocError` if an allocation fails; the line is set all the same.
+#[tactic(auto, using(crate::proofs::Made::said))]
+pub fn set_irq(desk: &mut Desk, level: bool) -> Result<(), AllocError>
+    ensures course { course_of desk.new ≡ happened (Irq level) (course_of desk.old) }
+    ensures stops { KeepsStops desk.old desk.new }
+    ensures text { OnOk result (desk.new.text.items ≡ desk.old.text.items
+        ++ irq_text desk.old.places.names level (course_of desk.old)) }
+{
+    if desk.happen(Event::Irq(level))? {
+        return say_level(desk, level);
+    }
+    Ok(())
+}
+
+/// Asks for an NMI, and says so.
+///
+/// Errors: `AllocError` if an allocation fails; the NMI is asked for all the same.
+#[tactic(auto, using(crate::proofs::Made::said))]
+pub fn ask_nmi(desk: &mut Desk) -> Result<(), AllocError>
+    ensures course { course_of desk.new ≡ happened Nmi (course_of desk.old) }
+    ensures stops { KeepsStops desk.old desk.new }
+    ensures text { OnOk result (desk.new.text.items ≡ desk.old.text.items
+        ++ nmi_text desk.old.places.names (course_of desk.old)) }
+{
+    if desk.happen(Event::Nmi)? {
+        return desk.say("NMI is asked for: the next step enters it\n");
+    }
+    Ok(())
+}
+
+/// Resets the processor, and shows the state.
+///
+/// Errors: `AllocError` if an allocation fails; the reset is made all the same.
+pub fn reset(desk: &mut Desk) -> Result<(), AllocError>
+    ensures course { course_of desk.new ≡ happened Reset (course_of desk.old) }
+    ensures stops { KeepsStops desk.old desk.new }
+    ensures text { OnOk result (desk.new.text.items ≡ desk.old.text.items
+        ++ shown_event desk.old.places.names Reset (course_of desk.old)) }
+{
+    show_event(desk, Event::Reset)
+}

@@ -1,0 +1,5 @@
+mod Chains
+pub mod Stepped
+mod Rows
+mod Course
+mod Shown

@@ -1,0 +1,10 @@
+use Rattle.std.proofs.Common.{◌≡◌, length, sym, ◌∙◌, arith}
+use Rattle.mon_session.specs.Served.{course_of}
+use Rattle.mon_steps.proofs.Course.{none_held}
+use Rattle.mon_steps.proofs.back.undo.Goals as goal
+
+pub returns-then-held-eq0-clause-course : goal.returns-then-held-eq0-clause-course
+returns-then-held-eq0-clause-course c =
+    let before = course_of c.args.desk.now in
+    let none : length before.0.earlier ≡ 0 = omega (arith, c.held.ensures.held, c.if-held-eq0.true) in
+    (λ i. (c.say.ensures.shows.0 i, c.say.ensures.shows.1 i)) ∙ sym (none_held c.args.undoing before none)

@@ -1,0 +1,153 @@
+-- What is said of lines that go back. Source: mos65.
+use Rattle.std.specs.Prelude.{ℕ, ◌==◌, zero, suc, min, nat_eq, nat_lt, Bool, false, if◌then◌else◌, List, [], ◌++◌, length, slice_get, Option, Some, None, Result, Ok, Err, codes}
+use Rattle.std.specs.List.{list_any}
+use Rattle.model.specs.State.{State}
+use Rattle.model.specs.Session.{Session}
+use Rattle.model.specs.Back.{back_of}
+use Rattle.model.specs.declared.event.Event.{Event}
+use Rattle.model.specs.declared.event.Event.TheVariants.{Step, Set, Patch, Input, Irq, Nmi, Reset}
+use Rattle.model.specs.declared.session_fault.SessionFault.{SessionFault}
+use Rattle.mon_session.specs.Served.{Course}
+use Rattle.mon_session.specs.Texts.{count_text, row_or_entry, shown_text}
+use Rattle.mon_lines.specs.declared.command.Undoing.{Undoing}
+use Rattle.mon_lines.specs.declared.command.Undoing.TheVariants.{Events, Over}
+use Rattle.mon_runs.specs.Back.{back_over}
+use Rattle.mon_texts.specs.Instructions.{instruction_line}
+use Rattle.mon_texts.specs.Places.{place_text}
+use Rattle.mon_runs.specs.Recall.{last_stop}
+use Rattle.source_map.specs.Lines.{PlacesView}
+use Rattle.source_map.specs.Names.{Named}
+use Rattle.mon_steps.specs.BackLines.{most_remade, remade, remade_one, undone}
+
+-- That no event is held.
+abbrev pub none_held : List ℕ
+none_held = codes "nothing can be undone: no step was made yet, or its history is gone\n"
+
+-- ---- back
+
+-- How many events were undone, and the state before them.
+abbrev pub undone_text : ℕ → State → List Named → List ℕ
+undone_text count state names
+    = count_text count (codes " event undone\n") (codes " events undone\n")
+    ++ shown_text state names None
+
+-- How many events can be undone.
+abbrev pub only_text : ℕ → List ℕ
+only_text held = codes "only "
+    ++ count_text held (codes " event can be undone\n") (codes " events can be undone\n")
+
+abbrev pub if_back_text : ℕ → List Named → Result Session SessionFault → List ℕ
+if_back_text held names (Ok s) = shown_text s.current names None
+if_back_text held names (Err fault) = only_text held
+
+-- So many events are undone, or how many can be.
+abbrev pub back_text : ℕ → List Named → Course → List ℕ
+back_text count names course
+    = if_back_text (length course.0.earlier) names (back_of count course.0)
+
+-- One event is undone, or a whole subroutine.
+abbrev pub over_text : List Named → Course → List ℕ
+over_text names course
+    = let way = back_over course.0 in undone_text way.0 way.1.current names
+
+abbrev pub undoing_text : Undoing → List Named → Course → List ℕ
+undoing_text (Events count) names course = back_text count names course
+undoing_text Over names course = over_text names course
+
+abbrev pub undo_text : Undoing → List Named → Course → List ℕ
+undo_text undoing names course = if length course.0.earlier == 0 then none_held
+    else undoing_text undoing names course
+
+-- ---- back to a stop
+
+-- Whether an address is this one, and whether the program counter is at a break.
+abbrev pub is_this : ℕ → Option ℕ → Bool
+is_this address None = false
+is_this address (Some at) = nat_eq address at
+
+unfoldable pub is_at_break : Session → Bool
+is_at_break s = list_any (nat_eq s.current.regs.pc) s.breaks
+
+abbrev pub at_break_text : List Named → ℕ → List ℕ
+at_break_text names pc = codes "back at the break at " ++ place_text names pc
+
+-- Where the way back has ended that undid so many events of those held.
+abbrev pub way_text : List Named → Session → ℕ → ℕ → List ℕ
+way_text names s count held = if is_at_break s
+    then at_break_text names s.current.regs.pc
+    else if count == held then codes "back at the oldest state"
+    else codes "back before a change at a watch"
+
+abbrev pub stop_text : List ℕ → List Named → Course → List ℕ
+stop_text watched names course =
+    let found = last_stop watched course.0 in
+    way_text names found.1 found.0 (length course.0.earlier)
+    ++ (codes ", " ++ undone_text found.0 found.1.current names)
+
+abbrev pub undo_to_stop_text : List ℕ → List Named → Course → List ℕ
+undo_to_stop_text watched names course = if nat_lt 256 (length watched)
+    then codes "more than 256 bytes are watched\n"
+    else if length course.0.earlier == 0 then none_held
+    else stop_text watched names course
+
+-- ---- again
+
+-- How many events were made again, and the state then, with the cycles since some.
+abbrev pub made_again_text : ℕ → State → List Named → ℕ → List ℕ
+made_again_text most state names cycles = if most == 0
+    then codes "there is nothing to make again\n"
+    else count_text most (codes " event made again\n") (codes " events made again\n")
+    ++ shown_text state names (Some cycles)
+
+abbrev pub again_text : ℕ → List Named → Course → List ℕ
+again_text most names course
+    = made_again_text most (remade most course).0.current names course.0.current.cycles
+
+abbrev pub redo_text : Option ℕ → List Named → Course → List ℕ
+redo_text count names course = again_text (most_remade count course.1.undone) names course
+
+-- What an event is called that is no step.
+abbrev pub event_words : Event → Option (List ℕ)
+event_words Step = None
+event_words (Set setting) = Some (codes "      (a register was set)\n")
+event_words (Patch address bytes count)
+    = Some (codes "      (memory was changed by a line)\n")
+event_words (Input byte) = Some (codes "      (a byte was handed in)\n")
+event_words (Irq level) = Some (codes "      (the interrupt line was set)\n")
+event_words Nmi = Some (codes "      (an NMI was asked for)\n")
+event_words Reset = Some (codes "      (a reset)\n")
+
+abbrev pub words_or : List ℕ → Option (List ℕ) → List ℕ
+words_or row None = row
+words_or row (Some words) = words
+
+-- The row of a step that was made again, or what another event is called.
+abbrev pub remade_row : Option Event → List ℕ → List ℕ
+remade_row None row = []
+remade_row (Some event) row = words_or row (event_words event)
+
+-- The next event that was undone, made again.
+abbrev pub one_remade_text : PlacesView → Course → List ℕ
+one_remade_text places course =
+    let before = course.0.current in
+    remade_row (slice_get course.1.undone 0) (row_or_entry before.regs.s before.cycles
+    (remade_one course).0.current places.names
+    (instruction_line before places before.regs.pc))
+
+-- So many of them.
+abbrev pub remade_text : ℕ → PlacesView → Course → List ℕ
+remade_text zero places course = []
+remade_text (suc n) places course = remade_text n places course
+    ++ one_remade_text places (remade n course)
+
+-- The last events: so many, or all that are held if they are fewer.
+abbrev pub events_text : ℕ → PlacesView → Course → List ℕ
+events_text zero places course = none_held
+events_text (suc n) places course =
+    let first = undone (suc n) course in
+    remade_text (suc n) places first
+    ++ shown_text (remade (suc n) first).0.current places.names None
+
+abbrev pub history_text : ℕ → PlacesView → Course → List ℕ
+history_text count places course
+    = events_text (min count (length course.0.earlier)) places course

@@ -1,0 +1,4 @@
+pub mod Steps
+pub mod Texts
+pub mod BackLines
+pub mod BackTexts

@@ -1,0 +1,235 @@
+//! Lines that make steps and show each.
+
+ghost use Rattle.std.specs.Prelude.{◌≡◌, ◌++◌, IfOk, OnOk, drop, length, take};
+ghost use Rattle.mon_session.specs.Served.{ShowsOnly, course_of};
+ghost use Rattle.mon_steps.specs.Steps.{HasRun, KeepsWatches, called, goes_on, is_limit, ran};
+ghost use Rattle.mon_steps.specs.Steps.{some_steps, stand_of, stepped, stepped_over, watches_of};
+ghost use Rattle.mon_steps.specs.Texts.{behind_row, call_row, call_text, called_row, few_steps_text, made_text};
+ghost use Rattle.mon_steps.specs.Texts.{one_step_text, over_text, some_steps_text, step_text};
+ghost use Rattle.mon_steps.specs.Texts.{fault_in, stepped_text};
+ghost use Rattle.mon_steps.specs.Steps.{start_of};
+ghost use Rattle.mon_runs.specs.Past.{over_run};
+
+use crate::endings::{RETURNED, ended, told};
+use crate::runs::{make_call, make_steps, run};
+use model::EventFault;
+use mon_runs::{EndWhy, Ended, LedWhy, Why};
+use mon_session::Desk;
+use std::alloc::AllocError;
+
+/// The most steps that `step` shows one by one.
+const MOST_SHOWN: u32 = 20;
+
+/// The opcode of JSR.
+const JSR: u8 = 0x20;
+
+/// Says what a step met behind its row, if it met something. Returns whether the steps go on.
+fn tell_met(desk: &mut Desk, end: Ended) -> Result<bool, AllocError>
+    ensures shows { ShowsOnly desk.old desk.new }
+    ensures on { IfOk result (λ is_on. is_on ≡ is_limit end.why) }
+    ensures text { OnOk result (desk.new.text.items ≡ desk.old.text.items
+        ++ behind_row desk.old.session.current desk.old.places.names end end.why) }
+{
+    match end.why {
+        EndWhy::Led(LedWhy::Stopped(Why::Limit)) => Ok(true),
+        _ => {
+            told(desk, end, "")?;
+            Ok(false)
+        }
+    }
+}
+
+/// Says what a step that was made did and met, which is shown as a row from `length` on, where the
+/// stack pointer and the cycles before it were these. Returns whether the steps go on.
+fn tell_made(
+    desk: &mut Desk,
+    end: Ended,
+    length: usize,
+    stack: u8,
+    cycles: u64,
+) -> Result<bool, AllocError>
+    ensures shows { ShowsOnly desk.old desk.new }
+    ensures on { IfOk result (λ is_on. is_on ≡ is_limit end.why) }
+    ensures text { OnOk result (desk.new.text.items ≡ take length desk.old.text.items
+        ++ made_text stack cycles desk.old.session.current desk.old.places.names end
+        (drop length desk.old.text.items)) }
+{
+    desk.tell_entry(length, stack, cycles)?;
+    tell_met(desk, end)
+}
+
+/// Returns why a step was rejected, if it was.
+fn fault_in(why: EndWhy) -> Option<EventFault>
+    ensures { result ≡ fault_in why }
+{
+    match why {
+        EndWhy::Led(LedWhy::Stopped(Why::Refused(fault))) => Some(fault),
+        _ => None,
+    }
+}
+
+/// Says what a step did that is shown as a row from `length` on, where the stack pointer and the
+/// cycles before it were these. Returns whether the steps go on.
+fn told_step(
+    desk: &mut Desk,
+    end: Ended,
+    length: usize,
+    stack: u8,
+    cycles: u64,
+) -> Result<bool, AllocError>
+    ensures shows { ShowsOnly desk.old desk.new }
+    ensures on { IfOk result (λ is_on. is_on ≡ is_limit end.why) }
+    ensures text { OnOk result (desk.new.text.items ≡ take length desk.old.text.items
+        ++ step_text stack cycles desk.old.session.current desk.old.places.names end
+        (drop length desk.old.text.items)) }
+{
+    match fault_in(end.why) {
+        Some(fault) => {
+            desk.text.truncate(length);
+            desk.reject(fault)?;
+            Ok(false)
+        }
+        None => tell_made(desk, end, length, stack, cycles),
+    }
+}
+
+/// Makes one step and shows it. Returns whether the steps go on.
+fn shown_step(desk: &mut Desk) -> Result<bool, AllocError>
+    ensures course { HasRun (course_of desk.old) (course_of desk.new) }
+    ensures stand { OnOk result
+        (stand_of desk.new ≡ ran 1 (watches_of desk.old) (stand_of desk.old)) }
+    ensures on { IfOk result
+        (λ is_on. is_on ≡ goes_on (watches_of desk.old) (stand_of desk.old)) }
+    ensures watches { KeepsWatches desk.old desk.new }
+    ensures text { OnOk result (desk.new.text.items ≡ desk.old.text.items
+        ++ one_step_text (watches_of desk.old) desk.old.places (stand_of desk.old)) }
+{
+    let before = desk.session.regs();
+    let cycles = desk.session.cycles();
+    let length = desk.text.len();
+    desk.show_next()?;
+    let end = make_steps(desk, 1);
+    told_step(desk, end, length, before.s, cycles)
+}
+
+/// Makes so many steps, or those up to a stop, and shows each.
+fn shown_steps(desk: &mut Desk, count: u32) -> Result<(), AllocError>
+    ensures course { HasRun (course_of desk.old) (course_of desk.new) }
+    ensures stand { OnOk result
+        (stand_of desk.new ≡ stepped count (watches_of desk.old) (stand_of desk.old)) }
+    ensures watches { KeepsWatches desk.old desk.new }
+    ensures text { OnOk result (desk.new.text.items ≡ desk.old.text.items
+        ++ stepped_text count (watches_of desk.old) desk.old.places (stand_of desk.old)) }
+{
+    for _ in 0..count {
+        if !shown_step(desk)? {
+            return Ok(());
+        }
+    }
+    Ok(())
+}
+
+/// Makes so many steps, or those up to a stop, shows each, and then the state.
+fn few_steps(desk: &mut Desk, count: u32) -> Result<(), AllocError>
+    ensures course { HasRun (course_of desk.old) (course_of desk.new) }
+    ensures stand { OnOk result
+        (stand_of desk.new ≡ stepped count (watches_of desk.old) (stand_of desk.old)) }
+    ensures watches { KeepsWatches desk.old desk.new }
+    ensures text { OnOk result (desk.new.text.items ≡ desk.old.text.items
+        ++ few_steps_text count (watches_of desk.old) desk.old.places (stand_of desk.old)) }
+{
+    let cycles = desk.session.cycles();
+    shown_steps(desk, count)?;
+    desk.show(Some(cycles))
+}
+
+/// Makes steps, and shows each if they are few. Says how they ended.
+///
+/// Errors: `AllocError` if an allocation fails; some of the steps may be made then.
+pub fn steps(desk: &mut Desk, count: u32) -> Result<(), AllocError>
+    ensures course { HasRun (course_of desk.old) (course_of desk.new) }
+    ensures stand { OnOk result
+        (stand_of desk.new ≡ some_steps count (watches_of desk.old) (stand_of desk.old)) }
+    ensures watches { KeepsWatches desk.old desk.new }
+    ensures text { OnOk result (desk.new.text.items ≡ desk.old.text.items
+        ++ some_steps_text count (watches_of desk.old) desk.old.places (stand_of desk.old)) }
+{
+    if count > MOST_SHOWN {
+        return run(desk, Some(count));
+    }
+    few_steps(desk, count)
+}
+
+/// Says that the first step of a JSR was the entry of an interrupt, in place of the row from
+/// `length` on, if it was the only one and was one.
+fn tell_call(
+    desk: &mut Desk,
+    did: u64,
+    length: usize,
+    stack: u8,
+    cycles: u64,
+) -> Result<(), AllocError>
+    ensures shows { ShowsOnly desk.old desk.new }
+    ensures text { OnOk result (desk.new.text.items ≡ take length desk.old.text.items
+        ++ call_row did stack cycles desk.old.session.current desk.old.places.names
+        (drop length desk.old.text.items)) }
+{
+    if did == 1 {
+        return desk.tell_entry(length, stack, cycles);
+    }
+    Ok(())
+}
+
+/// Makes a JSR as one step, and shows its row.
+#[tactic(auto, unfolding(crate::specs::Texts::called_row))]
+fn call_with_row(desk: &mut Desk) -> Result<Ended, AllocError>
+    ensures course { HasRun (course_of desk.old) (course_of desk.new) }
+    ensures stand { OnOk result
+        (stand_of desk.new ≡ called (watches_of desk.old) (stand_of desk.old)) }
+    ensures end { IfOk result (λ end. end
+        ≡ (over_run (watches_of desk.old) (start_of (stand_of desk.old))).0) }
+    ensures session { OnOk result (desk.new.session
+        ≡ (over_run (watches_of desk.old) (start_of (stand_of desk.old))).1.0) }
+    ensures watches { KeepsWatches desk.old desk.new }
+    ensures text { OnOk result (desk.new.text.items ≡ desk.old.text.items
+        ++ called_row (watches_of desk.old) desk.old.places (stand_of desk.old)) }
+{
+    let before = desk.session.regs();
+    let cycles = desk.session.cycles();
+    let length = desk.text.len();
+    desk.show_next()?;
+    let end = make_call(desk);
+    tell_call(desk, end.did, length, before.s, cycles)?;
+    Ok(end)
+}
+
+/// Makes a JSR as one step, shows it, and says how it ended.
+fn shown_call(desk: &mut Desk) -> Result<(), AllocError>
+    ensures course { HasRun (course_of desk.old) (course_of desk.new) }
+    ensures stand { OnOk result
+        (stand_of desk.new ≡ called (watches_of desk.old) (stand_of desk.old)) }
+    ensures watches { KeepsWatches desk.old desk.new }
+    ensures text { OnOk result (desk.new.text.items ≡ desk.old.text.items
+        ++ call_text (watches_of desk.old) desk.old.places (stand_of desk.old)) }
+{
+    let cycles = desk.session.cycles();
+    let end = call_with_row(desk)?;
+    ended(desk, end, RETURNED, cycles)
+}
+
+/// Makes one step, or a JSR as one step, shows it, and says how it ended.
+///
+/// Errors: `AllocError` if an allocation fails, before the steps or after them.
+pub fn step_over(desk: &mut Desk) -> Result<(), AllocError>
+    ensures course { HasRun (course_of desk.old) (course_of desk.new) }
+    ensures stand { OnOk result
+        (stand_of desk.new ≡ stepped_over (watches_of desk.old) (stand_of desk.old)) }
+    ensures watches { KeepsWatches desk.old desk.new }
+    ensures text { OnOk result (desk.new.text.items ≡ desk.old.text.items
+        ++ over_text (watches_of desk.old) desk.old.places (stand_of desk.old)) }
+{
+    if desk.session.peek(desk.session.regs().pc) != JSR {
+        return few_steps(desk, 1);
+    }
+    shown_call(desk)
+}

@@ -1,0 +1,195 @@
+//! Breaks and watches.
+
+ghost use Rattle.std.specs.Prelude.{◌≡◌, ◌++◌, OnOk};
+ghost use Rattle.std.specs.List.{flat_map};
+ghost use Rattle.source_map.specs.Names.{name_at};
+ghost use Rattle.mon_texts.specs.Stops.{break_line, further_test, kind_text, last_text};
+ghost use Rattle.mon_texts.specs.Stops.{left_text, name_or_digits, number_text, register_name};
+ghost use Rattle.mon_texts.specs.Stops.{sign, test_text, tests_text, times_text, watch_line};
+
+use crate::words::{push_address, push_byte, push_count, push_place, push_text};
+use mon_lines::{Compare, Left, Register, Stretch, Test, WatchKind};
+use source_map::Places;
+use std::alloc::AllocError;
+
+/// The name of a register.
+fn name_of(register: Register) -> &'static str
+    ensures { result.now ≡ register_name register }
+{
+    match register {
+        Register::A => "A",
+        Register::X => "X",
+        Register::Y => "Y",
+        Register::S => "S",
+        Register::P => "P",
+        Register::Pc => "PC",
+    }
+}
+
+/// How a line writes a comparison.
+fn sign_of(compare: Compare) -> &'static str
+    ensures { result.now ≡ sign compare }
+{
+    match compare {
+        Compare::Equal => "=$",
+        Compare::Other => "<>$",
+        Compare::Less => "<$",
+        Compare::LessOrEqual => "<=$",
+        Compare::More => ">$",
+        Compare::MoreOrEqual => ">=$",
+    }
+}
+
+/// Appends the name of an address, or its digits if it has none.
+fn push_byte_at(text: &mut Vec<u8>, places: &Places, address: u16) -> Result<(), AllocError>
+    ensures { OnOk result (text.new.items ≡ text.old.items
+        ++ name_or_digits address (name_at places.now.names address)) }
+{
+    match places.names().name_at(address) {
+        Some(name) => text.extend_from_slice(name),
+        None => {
+            text.push(b'$')?;
+            push_address(text, address)
+        }
+    }
+}
+
+/// Appends what stands on the left side of a test.
+fn push_left(text: &mut Vec<u8>, places: &Places, left: Left) -> Result<(), AllocError>
+    ensures { OnOk result (text.new.items ≡ text.old.items ++ left_text places.now.names left) }
+{
+    match left {
+        Left::Register(register) => push_text(text, name_of(register)),
+        Left::Byte(address) => push_byte_at(text, places, address),
+    }
+}
+
+/// Appends a number in hex, with two digits if they are enough.
+fn push_number(text: &mut Vec<u8>, number: u16) -> Result<(), AllocError>
+    ensures { OnOk result (text.new.items ≡ text.old.items ++ number_text number) }
+{
+    let high = number / 256;
+    if high > 0 {
+        push_address(text, number)
+    } else {
+        push_byte(text, number as u8)
+    }
+}
+
+/// Appends a test as a line writes it.
+fn push_test(text: &mut Vec<u8>, places: &Places, test: Test) -> Result<(), AllocError>
+    ensures { OnOk result (text.new.items ≡ text.old.items ++ test_text places.now.names test) }
+{
+    push_left(text, places, test.left)?;
+    push_text(text, sign_of(test.compare))?;
+    push_number(text, test.right)
+}
+
+/// Appends a test behind another one.
+fn push_further(text: &mut Vec<u8>, places: &Places, test: Test) -> Result<(), AllocError>
+    ensures { OnOk result (text.new.items ≡ text.old.items
+        ++ further_test places.now.names test) }
+{
+    push_text(text, " and ")?;
+    push_test(text, places, test)
+}
+
+/// Appends tests behind the first one.
+fn push_others(text: &mut Vec<u8>, places: &Places, tests: &[Test]) -> Result<(), AllocError>
+    ensures { OnOk result (text.new.items ≡ text.old.items
+        ++ flat_map (further_test places.now.names) tests.now) }
+{
+    for test in tests {
+        push_further(text, places, *test)?;
+    }
+    Ok(())
+}
+
+/// Appends the tests of a break, if it has any.
+fn push_tests(text: &mut Vec<u8>, places: &Places, tests: &[Test]) -> Result<(), AllocError>
+    ensures { OnOk result (text.new.items
+        ≡ text.old.items ++ tests_text places.now.names tests.now) }
+{
+    match tests {
+        [] => Ok(()),
+        [first, others @ ..] => {
+            push_text(text, " if ")?;
+            push_test(text, places, *first)?;
+            push_others(text, places, others)
+        }
+    }
+}
+
+/// Appends how often the tests of a break have to hold, if it is more than once.
+fn push_times(text: &mut Vec<u8>, times: u32) -> Result<(), AllocError>
+    ensures { OnOk result (text.new.items ≡ text.old.items ++ times_text times) }
+{
+    if times > 1 {
+        push_text(text, " times ")?;
+        push_count(text, times as u64)?;
+    }
+    Ok(())
+}
+
+/// Appends the line of a break: its place, its tests, and how often they have to hold.
+///
+/// Errors: `AllocError` if an allocation fails.
+#[tactic(auto, unfolding(crate::specs::Stops::break_line))]
+pub fn push_break(
+    text: &mut Vec<u8>,
+    places: &Places,
+    address: u16,
+    tests: &[Test],
+    times: u32,
+) -> Result<(), AllocError>
+    ensures ok { OnOk result (text.new.items ≡ text.old.items
+        ++ break_line places.now.names address tests.now times) }
+{
+    push_text(text, "break at ")?;
+    push_place(text, places, address)?;
+    push_tests(text, places, tests)?;
+    push_times(text, times)?;
+    push_text(text, "\n")
+}
+
+/// Appends the last address of a watch, if it has more than one.
+fn push_last(text: &mut Vec<u8>, places: &Places, stretch: Stretch) -> Result<(), AllocError>
+    ensures { OnOk result (text.new.items ≡ text.old.items
+        ++ last_text places.now.names stretch) }
+{
+    if stretch.last > stretch.first {
+        push_text(text, " to ")?;
+        push_place(text, places, stretch.last)?;
+    }
+    Ok(())
+}
+
+/// Appends what is watched, and ends the line.
+fn push_kind(text: &mut Vec<u8>, kind: WatchKind) -> Result<(), AllocError>
+    ensures { OnOk result (text.new.items ≡ text.old.items ++ kind_text kind) }
+{
+    match kind {
+        WatchKind::Change => push_text(text, "\n"),
+        WatchKind::Read => push_text(text, ", reads\n"),
+        WatchKind::Write => push_text(text, ", writes\n"),
+    }
+}
+
+/// Appends the line of a watch: the first and the last address, and what is watched.
+///
+/// Errors: `AllocError` if an allocation fails.
+#[tactic(auto, unfolding(crate::specs::Stops::watch_line))]
+pub fn push_watch(
+    text: &mut Vec<u8>,
+    places: &Places,
+    stretch: Stretch,
+    kind: WatchKind,
+) -> Result<(), AllocError>
+    ensures ok { OnOk result (text.new.items ≡ text.old.items
+        ++ watch_line places.now.names stretch kind) }
+{
+    push_text(text, "watch at ")?;
+    push_place(text, places, stretch.first)?;
+    push_last(text, places, stretch)?;
+    push_kind(text, kind)
+}

@@ -1,2 +1,0 @@
-pub mod Topics
-pub mod Told

@@ -1,8 +1,0 @@
-use Rattle.std.proofs.Common.{◌≡◌, ◌-◌, ◌+◌, length}
-use Rattle.mon_values.specs.Values.{pieces_of}
-use Rattle.mon_values.proofs.values.pieces_of.Given as goal
-
-abbrev pub invariant-loop : goal.invariant-loop
-invariant-loop l = record {
-  read : pieces_of (length l.text + 1) l.names l.fn.found.items l.text ≡ pieces_of (l.end - l.counter) l.names l.found.items l.rest;
-}

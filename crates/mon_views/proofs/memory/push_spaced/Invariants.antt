@@ -1,8 +1,0 @@
-use Rattle.std.proofs.Common.{◌≡◌, ◌++◌, ◌+◌, ◌-◌}
-use Rattle.std.specs.List.{flat_map}
-use Rattle.mon_views.specs.Memory.{byte_after_blank}
-use Rattle.mon_views.specs.Memory.{bytes_from}
-use Rattle.mon_views.proofs.memory.push_spaced.Given as goal
-
-abbrev pub invariant-loop-offset : goal.invariant-loop-offset
-invariant-loop-offset l = l.text.items ++ flat_map byte_after_blank (bytes_from l.session.current.bus.memory (l.first + l.offset) (l.count - l.offset)) ≡ l.initial.text.items ++ flat_map byte_after_blank (bytes_from l.session.current.bus.memory l.first l.count)

@@ -1,7 +1,0 @@
-use Rattle.std.proofs.Common.{◌≡◌, ◌++◌, drop}
-use Rattle.std.specs.List.{flat_map}
-use Rattle.mon_views.specs.Screen.{output_text}
-use Rattle.mon_views.proofs.screen.push_output.Given as goal
-
-abbrev pub invariant-loop-index : goal.invariant-loop-index
-invariant-loop-index l = l.text.items ++ flat_map output_text (drop l.index l.session.current.bus.out) ≡ l.initial.text.items ++ flat_map output_text l.session.current.bus.out

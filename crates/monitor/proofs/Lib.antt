@@ -1,4 +1,0 @@
-pub mod Steps
-pub mod Again
-pub mod Rounds
-pub mod Found

@@ -1,7 +1,0 @@
-use Rattle.std.proofs.Common.{◌≡◌, ◌+◌, drop}
-use Rattle.monitor.specs.Recall.{made_again}
-use Rattle.monitor.proofs.recall.make_again.Given as goal
-
-abbrev pub invariant-loop-index : goal.invariant-loop-index
-invariant-loop-index l = made_again l.events l.fn.session
-    ≡ (l.index + (made_again (drop l.index l.events) l.session).0, (made_again (drop l.index l.events) l.session).1)

@@ -1,5 +1,0 @@
-use Rattle.named_text.proofs.Flags.{Flags}
-use Rattle.named_text.proofs.names.flag_named.Given as goal
-
-abbrev pub invariant-loop-address : goal.invariant-loop-address
-invariant-loop-address l = Flags l.table l.flags.items l.fn.flags.items l.address

@@ -1,8 +1,0 @@
-use Rattle.std.proofs.Common.{◌++◌}
-use Rattle.named_text.specs.Renaming.{rest_named}
-use Rattle.named_text.proofs.Lines.{IsWritten}
-use Rattle.named_text.proofs.renaming.push_renamed.Given as goal
-
-abbrev pub invariant-loop-at : goal.invariant-loop-at
-invariant-loop-at l = IsWritten l.naming.names.now.names l.naming.image.now l.line l.out.items l.at l.before l.left
-    (l.fn.out.items ++ rest_named l.naming.names.now.names l.naming.image.now 32 0 l.line)

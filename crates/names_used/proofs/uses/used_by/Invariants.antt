@@ -1,6 +1,0 @@
-use Rattle.std.proofs.Common.{◌≡◌, []}
-use Rattle.names_used.proofs.Using.{lines_left}
-use Rattle.names_used.proofs.uses.used_by.Given as goal
-
-abbrev pub invariant-loop-one : goal.invariant-loop-one
-invariant-loop-one l = lines_left l.lines l.one-index l.names ≡ lines_left l.lines 0 []

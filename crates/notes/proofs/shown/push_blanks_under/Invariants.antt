@@ -1,6 +1,0 @@
-use Rattle.std.proofs.Common.{◌≡◌, ◌-◌, ◌++◌, drop}
-use Rattle.notes.specs.Shown.{blanks_under}
-use Rattle.notes.proofs.shown.push_blanks_under.Given as goal
-
-abbrev pub invariant-loop-at : goal.invariant-loop-at
-invariant-loop-at l = l.text.items ++ blanks_under (l.count - l.at) (drop l.at l.line) ≡ l.initial.text.items ++ blanks_under l.count l.line

@@ -1,8 +1,0 @@
-use Rattle.std.proofs.Common.{◌≡◌, ◌++◌, take}
-use Rattle.places.specs.Names.{names_of}
-use Rattle.places.proofs.names.Names.append.Given as goal
-
-abbrev pub invariant-loop-index : goal.invariant-loop-index
-invariant-loop-index l = record {
-  added : l.self ≡ l.fn.self ++ names_of l.assembly.image (take l.index l.assembly.names);
-}

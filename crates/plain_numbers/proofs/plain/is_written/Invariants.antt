@@ -1,7 +1,0 @@
-use Rattle.std.proofs.Common.{◌≡◌, false, take}
-use Rattle.std.specs.List.{list_any}
-use Rattle.plain_numbers.specs.Reaches.{covers}
-use Rattle.plain_numbers.proofs.plain.is_written.Given as goal
-
-abbrev pub invariant-loop-reach : goal.invariant-loop-reach
-invariant-loop-reach l = list_any (covers l.number) (take l.reach-index l.reaches) ≡ false

@@ -1,9 +1,0 @@
-use Rattle.std.proofs.Common.{◌≡◌}
-use Rattle.model.specs.Names.{number_in}
-use Rattle.plain_numbers.specs.Reaches.{reaches}
-use Rattle.plain_numbers.proofs.Reaching.{so_on}
-use Rattle.plain_numbers.proofs.written.reaches.Given as goal
-use Rattle.warned_lines.specs.Views.{placed_views}
-
-abbrev pub invariant-loop-one : goal.invariant-loop-one
-invariant-loop-one l = so_on (number_in l.names) l.found.items l.one-index l.lines ≡ reaches (number_in l.names) (placed_views l.lines)

@@ -1,6 +1,0 @@
-use Rattle.std.proofs.Common.{◌≡◌, ◌++◌, take, drop, false}
-use Rattle.row_reports.specs.Reports.{before_comment}
-use Rattle.row_reports.proofs.reports.without_comment.Given as goal
-
-abbrev pub invariant-loop-at : goal.invariant-loop-at
-invariant-loop-at l = take l.at l.line ++ before_comment l.is_string (drop l.at l.line) ≡ before_comment false l.line

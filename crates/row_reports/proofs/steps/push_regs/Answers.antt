@@ -1,7 +1,0 @@
-use Rattle.row_reports.specs.Steps.{regs_text}
-use Rattle.row_reports.proofs.RowText.{five}
-use Rattle.row_reports.proofs.steps.push_regs.Goals as goal
-
-pub returns : goal.returns
-unfolding regs_text
-returns c = five _ _ _ _ _ _ _ _ _ _ _ c.in_ok-push_named_byte.ensures c.in_ok-push_named_byte-2.ensures c.in_ok-push_named_byte-3.ensures c.in_ok-push_named_byte-4.ensures c.in_ok-push_status.ensures

@@ -1,7 +1,0 @@
-use Rattle.std.proofs.Common.{◌≡◌, ◌++◌}
-use Rattle.model.specs.TextLines.{lines_of}
-use Rattle.source_listing.proofs.RowsLeft.{rows_left}
-use Rattle.source_listing.proofs.listed.push_lines.Given as goal
-
-abbrev pub invariant-loop-span : goal.invariant-loop-span
-invariant-loop-span l = l.out.items ++ rows_left l.cells (lines_of l.rest) l.spans l.span-index ≡ l.fn.out.items ++ rows_left l.cells (lines_of l.source) l.spans 0

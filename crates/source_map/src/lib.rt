@@ -1,0 +1,12 @@
+//! What stands where in a program: its names, and the lines of its source.
+//!
+//! They are taken from an assembly, whose listing has the address of each line.
+#![tactic(auto)]
+
+mod names;
+mod places;
+mod rows;
+
+pub use names::{Names, is_same_word};
+pub use places::Places;
+pub use rows::{Row, rows_of};

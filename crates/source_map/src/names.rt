@@ -1,0 +1,234 @@
+//! Names, found by their text or by their address.
+
+ghost use Rattle.std.specs.Prelude.{◌≡◌, ◌∷◌, ◌++◌, [], ℕ, List, OnErr, OnOk, map, slice_get, take};
+ghost use Rattle.std.specs.Option.{option_copied, option_to_list};
+ghost use Rattle.std.specs.Str.{bytes_eq, str_eq_ignore_ascii_case};
+ghost use Rattle.source_map.specs.Names.{Near, Named, address_of, first_address, first_text, has_letters};
+ghost use Rattle.source_map.specs.Names.{has_text, is_label_at, is_name_at, is_nearer, name_at};
+ghost use Rattle.source_map.specs.Names.{name_near, name_of, named, names_of, near_view, nearer};
+ghost use Rattle.source_map.specs.Names.{nearest_from};
+
+use assembler::Assembly;
+use memory_map::Image;
+use std::alloc::{AllocError, Global};
+use std::marker::Model;
+
+/// A name with its address, and whether a byte of the program stands there.
+#[derive(Drop)]
+struct Name {
+    text: Vec<u8>,
+    address: u16,
+    is_label: bool,
+}
+
+/// Names in the order of their definition.
+#[derive(Drop)]
+pub struct Names {
+    entries: Vec<Name>,
+}
+
+impl Model for Names {
+    ghost use Rattle.std.specs.Prelude.{List, map};
+    ghost use Rattle.source_map.specs.Names.{Named, named};
+
+    ghost Value = { List Named };
+
+    ghost view = { λ n. map named n.entries.items };
+}
+
+/// Returns whether two words are the same but for capitals.
+pub fn is_same_word(one: &[u8], other: &[u8]) -> bool
+    ensures { result ≡ str_eq_ignore_ascii_case one.now other.now }
+{
+    one.eq_ignore_ascii_case(other)
+}
+
+/// Returns the address of the first name that has a text.
+fn address_with(names: &[Name], text: &[u8]) -> Option<u16>
+    ensures { result ≡ first_address (has_text text.now) (map named names.now) }
+{
+    for name in names {
+        if name.text.as_slice() == text {
+            return Some(name.address);
+        }
+    }
+    None
+}
+
+/// Returns the address of the first name that has a text but for capitals.
+fn address_near(names: &[Name], text: &[u8]) -> Option<u16>
+    ensures { result ≡ first_address (has_letters text.now) (map named names.now) }
+{
+    for name in names {
+        if is_same_word(name.text.as_slice(), text) {
+            return Some(name.address);
+        }
+    }
+    None
+}
+
+/// Returns the first name of the program's byte at an address.
+fn label_at(names: &[Name], address: u16) -> Option<&[u8]>
+    ensures { option_copied result ≡ first_text (is_label_at address) (map named names.now) }
+{
+    for name in names {
+        if name.is_label && name.address == address {
+            return Some(name.text.as_slice());
+        }
+    }
+    None
+}
+
+/// Returns the first name of an address.
+fn number_at(names: &[Name], address: u16) -> Option<&[u8]>
+    ensures { option_copied result ≡ first_text (is_name_at address) (map named names.now) }
+{
+    for name in names {
+        if name.address == address {
+            return Some(name.text.as_slice());
+        }
+    }
+    None
+}
+
+/// Returns whether a distance is less than that of the name found so far: less than 64 if none is.
+fn is_nearer(distance: u16, found: Option<(&[u8], u16)>) -> bool
+    ensures { result ≡ is_nearer distance (near_view found.entry) }
+{
+    match found {
+        Some((_, least)) => distance < least,
+        None => distance < 64,
+    }
+}
+
+/// Returns the nearer one of the name found so far and another.
+fn nearer<'a>(
+    address: u16,
+    found: Option<(&'a [u8], u16)>,
+    name: &'a Name,
+) -> Option<(&'a [u8], u16)>
+    ensures { near_view result ≡ nearer address (near_view found.entry) (named name.now) }
+{
+    if name.is_label && name.address <= address && is_nearer(address - name.address, found) {
+        Some((name.text.as_slice(), address - name.address))
+    } else {
+        found
+    }
+}
+
+/// Returns the nearest one of some names, and how far away it is.
+fn nearest(names: &[Name], address: u16) -> Option<(&[u8], u16)>
+    ensures { near_view result ≡ name_near (map named names.now) address }
+{
+    let mut found: Option<(&[u8], u16)> = None;
+    for name in names {
+        found = nearer(address, found, name);
+    }
+    found
+}
+
+impl Names {
+    /// Makes a table without names.
+    pub fn new(alloc: Global) -> Names
+        ensures { result ≡ [] }
+    {
+        Names {
+            entries: Vec::new(alloc),
+        }
+    }
+
+    /// Appends a name.
+    fn push(
+        &mut self,
+        alloc: Global,
+        text: &[u8],
+        address: u16,
+        is_label: bool,
+    ) -> Result<(), AllocError>
+        ensures ok { OnOk result (self.new ≡ self.old
+            ++ record { text = text.now; address = address; is_label = is_label } ∷ []) }
+        ensures err { OnErr result (self.new ≡ self.old) }
+    {
+        let text = Vec::from_slice(alloc, text)?;
+        self.entries.push(Name {
+            text,
+            address,
+            is_label,
+        })?;
+        Ok(())
+    }
+
+    /// Appends the name of a number, if the number is an address.
+    fn add(
+        &mut self,
+        alloc: Global,
+        image: &Image,
+        text: &[u8],
+        number: i32,
+    ) -> Result<(), AllocError>
+        ensures ok { OnOk result (self.new ≡ self.old ++ name_of image.now text.now number) }
+        ensures err { OnErr result (self.new ≡ self.old) }
+    {
+        if number >= 0 && number <= 65535 {
+            let address = number as u16;
+            self.push(alloc, text, address, image.get(address).is_some())?;
+        }
+        Ok(())
+    }
+
+    /// Appends the name of an index in an assembly, if its number is an address.
+    fn add_at(&mut self, alloc: Global, assembly: &Assembly, index: usize) -> Result<(), AllocError>
+        ensures ok { OnOk result (self.new ≡ self.old ++ names_of assembly.now.image
+            (option_to_list (slice_get assembly.now.names index))) }
+        ensures err { OnErr result (self.new ≡ self.old) }
+    {
+        match assembly.symbol(index) {
+            Some((text, number)) => self.add(alloc, assembly.image(), text, number),
+            None => Ok(()),
+        }
+    }
+
+    /// Appends the names of an assembly whose numbers are addresses: some of the first of them if
+    /// memory ran out.
+    pub fn append(&mut self, alloc: Global, assembly: &Assembly) -> Result<(), AllocError>
+        ensures ok { OnOk result
+            (self.new ≡ self.old ++ names_of assembly.now.image assembly.now.names) }
+        ensures err { OnErr result ((count : ℕ) × (self.new
+            ≡ self.old ++ names_of assembly.now.image (take count assembly.now.names))) }
+    {
+        for index in 0..assembly.symbol_count() {
+            self.add_at(alloc, assembly, index)?;
+        }
+        Ok(())
+    }
+
+    /// Returns the address of a name: of the first that has this text, otherwise of the first that
+    /// has it but for capitals.
+    pub fn address_of(&self, text: &[u8]) -> Option<u16>
+        ensures { result ≡ address_of self.now text.now }
+    {
+        match address_with(self.entries.as_slice(), text) {
+            Some(address) => Some(address),
+            None => address_near(self.entries.as_slice(), text),
+        }
+    }
+
+    /// Returns the first name of an address: of a byte of the program if there is one, otherwise of
+    /// any number.
+    pub fn name_at(&self, address: u16) -> Option<&[u8]>
+        ensures { option_copied result ≡ name_at self.now address }
+    {
+        match label_at(self.entries.as_slice(), address) {
+            Some(name) => Some(name),
+            None => number_at(self.entries.as_slice(), address),
+        }
+    }
+
+    /// Returns the name of the program's byte at an address or the nearest below it, at most 63
+    /// bytes away, and how far away that is. Of names that are as near the first counts.
+    pub fn name_near(&self, address: u16) -> Option<(&[u8], u16)>
+        ensures { near_view result ≡ name_near self.now address }
+    {
+        nearest(self.entries.as_slice(), address)
+    }
+}

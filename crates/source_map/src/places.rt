@@ -1,0 +1,109 @@
+//! The names and the lines of a program.
+
+ghost use Rattle.std.specs.Prelude.{◌≡◌, ◌++◌, [], ℕ, IfOk, OnErr, OnOk, length, nat_lt, take};
+ghost use Rattle.source_map.specs.Lines.{line_at, places_of};
+ghost use Rattle.source_map.specs.Names.{names_of};
+
+use crate::names::Names;
+use crate::rows::{Row, rows_of};
+use assembler::Assembly;
+use std::alloc::{AllocError, Global};
+use std::marker::Model;
+
+/// What stands where: names, and the lines of the source file, if the program has one.
+#[derive(Drop)]
+pub struct Places {
+    names: Names,
+    rows: Vec<Row>,
+    file: Vec<u8>,
+}
+
+impl Model for Places {
+    ghost use Rattle.source_map.specs.Lines.{PlacesView};
+
+    ghost Value = { PlacesView };
+
+    ghost view = { λ p. record { names = p.names; lines = p.rows.items; file = p.file.items } };
+}
+
+/// Returns the first of some lines whose first byte stands at an address.
+fn first_line_at(rows: &[Row], address: u16) -> Option<u32>
+    ensures { result ≡ line_at rows.now address }
+{
+    for row in rows {
+        if row.address == address {
+            return Some(row.line);
+        }
+    }
+    None
+}
+
+impl Places {
+    /// Makes the places of a program without names and without lines.
+    pub fn new(alloc: Global) -> Places
+        ensures { result ≡ record { names = []; lines = []; file = [] } }
+    {
+        Places {
+            names: Names::new(alloc),
+            rows: Vec::new(alloc),
+            file: Vec::new(alloc),
+        }
+    }
+
+    /// Makes the places of an assembled source, which was read from the file of that name.
+    pub fn of_source(alloc: Global, file: &[u8], assembly: &Assembly) -> Result<Places, AllocError>
+        ensures { IfOk result (λ places. places ≡ places_of file.now assembly.now) }
+    {
+        let mut names = Names::new(alloc);
+        names.append(alloc, assembly)?;
+        let rows = match assembly.listing(alloc) {
+            Ok(listing) => rows_of(alloc, &listing)?,
+            Err(_) => return Err(AllocError),
+        };
+        Ok(Places {
+            names,
+            rows,
+            file: Vec::from_slice(alloc, file)?,
+        })
+    }
+
+    /// Appends the names of an assembly: some of the first of them if memory ran out.
+    pub fn add_names(&mut self, alloc: Global, assembly: &Assembly) -> Result<(), AllocError>
+        ensures ok { OnOk result (self.new ≡ record self.old
+            { names = self.old.names ++ names_of assembly.now.image assembly.now.names }) }
+        ensures err { OnErr result ((count : ℕ) × (self.new ≡ record self.old {
+          names
+              = self.old.names ++ names_of assembly.now.image (take count assembly.now.names);
+        })) }
+    {
+        self.names.append(alloc, assembly)
+    }
+
+    /// Returns the names.
+    pub fn names(&self) -> &Names
+        ensures { result.now ≡ self.now.names }
+    {
+        &self.names
+    }
+
+    /// Returns the name of the source's file: no byte if there is none.
+    pub fn file(&self) -> &[u8]
+        ensures { result.now ≡ self.now.file }
+    {
+        self.file.as_slice()
+    }
+
+    /// Returns whether lines of a source are known.
+    pub fn has_lines(&self) -> bool
+        ensures { result ≡ nat_lt 0 (length self.now.lines) }
+    {
+        !self.rows.is_empty()
+    }
+
+    /// Returns the first line of the source whose first byte stands at an address.
+    pub fn line_at(&self, address: u16) -> Option<u32>
+        ensures { result ≡ line_at self.now.lines address }
+    {
+        first_line_at(self.rows.as_slice(), address)
+    }
+}

@@ -1,0 +1,30 @@
+use Rattle.std.proofs.Common.{inl, inr, map}
+use Rattle.t65_words.specs.CommandLine.{test}
+use Rattle.t65_words.specs.Views.{test_view}
+use Rattle.word_streams.proofs.Parsed.{says_of_words}
+use Rattle.t65.proofs.Words.{same_status}
+use Rattle.t65.proofs.run.test.Goals as goal
+
+pub returns-in-Ok-clause-passed : goal.returns-in-Ok-clause-passed
+returns-in-Ok-clause-passed g c = λ zero. inr (test_view c.in-Ok.asked, c.in-Ok.ensures.taken, c.in-Ok.ensures.asked, c.run_words.ensures.passed zero)
+
+pub returns-in-Ok-clause-failed : goal.returns-in-Ok-clause-failed
+returns-in-Ok-clause-failed g c = λ one. (test_view c.in-Ok.asked, c.in-Ok.ensures.taken, c.in-Ok.ensures.asked, c.run_words.ensures.failed one)
+
+pub returns-in-Ok-clause-refused : goal.returns-in-Ok-clause-refused
+returns-in-Ok-clause-refused g c = λ two. inr (inr (test_view c.in-Ok.asked, c.in-Ok.ensures.taken, c.in-Ok.ensures.asked, c.run_words.ensures.wrong two))
+
+pub returns-in-Ok-clause-begun : goal.returns-in-Ok-clause-begun
+returns-in-Ok-clause-begun g c = λ four. inr c.in-Ok.ensures.taken
+
+pub returns-in-Err-clause-passed : goal.returns-in-Err-clause-passed
+returns-in-Err-clause-passed g c = λ zero. inl ((says_of_words test (map (λ s. s.now) c.args.words.now) _ _ _ c.in-Err.ensures.refused (same_status _ _ c.refused_words.ensures.status)).help (inl zero))
+
+pub returns-in-Err-clause-failed : goal.returns-in-Err-clause-failed
+returns-in-Err-clause-failed g c = λ one. absurd ((says_of_words test (map (λ s. s.now) c.args.words.now) _ _ _ c.in-Err.ensures.refused (same_status _ _ c.refused_words.ensures.status)).never one)
+
+pub returns-in-Err-clause-refused : goal.returns-in-Err-clause-refused
+returns-in-Err-clause-refused g c = λ two. elim ((says_of_words test (map (λ s. s.now) c.args.words.now) _ _ _ c.in-Err.ensures.refused (same_status _ _ c.refused_words.ensures.status)).wrong two) [ inl m ↦ inl m | inr w ↦ inr (inl w) ]
+
+pub returns-in-Err-clause-begun : goal.returns-in-Err-clause-begun
+returns-in-Err-clause-begun g c = λ four. inl ((says_of_words test (map (λ s. s.now) c.args.words.now) _ _ _ c.in-Err.ensures.refused (same_status _ _ c.refused_words.ensures.status)).help (inr four))

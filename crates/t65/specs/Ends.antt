@@ -1,0 +1,67 @@
+-- Why a file of rows cannot be tested. No clause can say whether memory is there, nor what is in a
+-- file. Source: mos65.
+use Rattle.std.specs.Prelude.{◌≡◌, ◌⊎◌, ⊤, ℕ, false, List, Option, Ok, Err}
+use Rattle.assembler.specs.Assembly.{AssemblyView, IsAssembled}
+use Rattle.model.specs.Names.{Definitions}
+use Rattle.model.specs.Source.{HasFault}
+use Rattle.model.specs.State.{Map, is_map}
+use Rattle.model.specs.TextLines.{lines_of}
+use Rattle.t65_reader.specs.HeadText.{SeenHead, head_from}
+use Rattle.t65_reader.specs.RowText.{rows_from}
+use Rattle.t65_reader.specs.declared.fault.TextFault.{TextFault}
+use Rattle.t65.specs.Statuses.{status_of}
+use Rattle.t65.specs.Tested.{map_of}
+use Rattle.t65.specs.declared.fault.FileFault.{FileFault}
+use Rattle.t65.specs.declared.fault.FileFault.TheVariants.{InRows, InSource}
+use Rattle.t65.specs.declared.fault.TestFault.{TestFault}
+use Rattle.t65.specs.declared.fault.TestFault.TheVariants.{Rows, Source, TooLarge, Map as NoMap, OutOfMemory, Read}
+
+-- The head of some file of rows, and the lines after it.
+pub record HeadedFile : Type 0 where
+  pub text : List ℕ
+  pub head : SeenHead
+  pub next : ℕ
+  pub lines : List (List ℕ)
+  pub headed : head_from 1 (lines_of text) ≡ Ok (head, next, lines)
+
+-- The rows of some file have this fault, under the names of some source on its map.
+pub record IsRowFault (fault : TextFault) : Type 0 where
+  pub file : HeadedFile
+  pub assembly : AssemblyView
+  pub assembled : IsAssembled (map_of file.head) assembly
+  pub refused : rows_from assembly.names file.next file.lines ≡ Err fault
+
+-- Why a file cannot be tested: its head or a row has this fault, or its source, on the map of its
+-- head; or its head asks for a map that is none.
+abbrev pub EndsTest : TestFault → Type 0
+EndsTest (Rows fault) = ((text : List ℕ) × (head_from 1 (lines_of text) ≡ Err fault))
+    ⊎ IsRowFault fault
+EndsTest (Source fault) = (file : HeadedFile) × (source : List ℕ)
+    × HasFault (map_of file.head) source fault
+EndsTest NoMap = (file : HeadedFile) × (is_map file.head.rom file.head.port ≡ false)
+EndsTest TooLarge = ⊤
+EndsTest OutOfMemory = ⊤
+EndsTest Read = ⊤
+
+abbrev pub fault_in : FileFault → TestFault
+fault_in (InRows fault) = fault
+fault_in (InSource path fault) = fault
+
+-- Some file cannot be tested, for a fault that has this status.
+pub record IsUntested (status : ℕ) : Type 0 where
+  pub fault : TestFault
+  pub ends : EndsTest fault
+  pub status_is : status ≡ status_of fault
+
+-- Why a source is not assembled on a map.
+abbrev pub EndsSource : Map → TestFault → Type 0
+EndsSource bus_map (Source fault) = (source : List ℕ) × HasFault bus_map source fault
+EndsSource bus_map OutOfMemory = ⊤
+EndsSource bus_map Read = ⊤
+EndsSource bus_map fault = ⊥
+
+-- Why rows are not read under some names.
+abbrev pub EndsRows : Definitions → ℕ → List (List ℕ) → TestFault → Type 0
+EndsRows names next lines (Rows fault) = rows_from names next lines ≡ Err fault
+EndsRows names next lines OutOfMemory = ⊤
+EndsRows names next lines fault = ⊥

@@ -1,0 +1,104 @@
+//! Files by their names.
+
+ghost use Rattle.std.specs.Prelude.{◌≡◌, ◌≤◌, ◌⊎◌, ◌++◌, IfErr, IfOk, length, string_bytes, vec_len};
+ghost use Rattle.std.specs.Str.{IsUtf8};
+ghost use Rattle.t65.specs.Ends.{EndsTest};
+ghost use Rattle.t65.specs.Paths.{begins_at_root, folder_for, name_start, source_path};
+
+use crate::fault::TestFault;
+use std::alloc::{AllocError, Global};
+use std::fs::File;
+use std::io;
+use std::io::Read;
+use std::rt::Files;
+
+/// The most bytes of a source or of a file of rows. Source: mos65.
+const LARGEST: u64 = 1_048_576;
+
+/// Returns the bytes of a file, or the first of them where it is too large.
+pub fn read_most<H: Files + AllocGlobal>(rt: &H, path: &str) -> io::Result<Vec<u8>> {
+    let mut text = Vec::new(rt.alloc());
+    File::open(rt, path)?
+        .take(LARGEST + 1)
+        .read_to_end(&mut text)?;
+    Ok(text)
+}
+
+/// Returns the bytes of a file of rows.
+///
+/// Errors: `TooLarge`, `Read`, `OutOfMemory`.
+pub fn read_rows_text<H: Files + AllocGlobal>(rt: &H, path: &str) -> Result<Vec<u8>, TestFault>
+    ensures small { IfOk result (λ text. vec_len text ≤ 1048576) }
+    ensures refused { IfErr result EndsTest }
+{
+    match read_most(rt, path) {
+        Ok(text) if text.len() <= LARGEST as usize => Ok(text),
+        Ok(_) => Err(TestFault::TooLarge),
+        Err(error) => Err(TestFault::unreadable(&error)),
+    }
+}
+
+/// Returns where the name of the file begins in its path: after the last `/`, if there is one.
+fn name_start(path: &[u8]) -> usize
+    ensures start { result ≡ name_start 0 0 path.now }
+    ensures within { result ≤ length path.now }
+{
+    let mut start = 0usize;
+    for (at, byte) in path.iter().enumerate() {
+        if *byte == b'/' {
+            start = at + 1;
+        }
+    }
+    start
+}
+
+/// Returns whether a name begins with `/`.
+fn begins_at_root(name: &[u8]) -> bool
+    ensures { result ≡ begins_at_root name.now }
+{
+    match name {
+        [first, ..] => *first == b'/',
+        [] => false,
+    }
+}
+
+/// Returns the folder in which a name is looked for, with the `/`: that of the file of rows, unless
+/// the name begins with `/`.
+fn folder_for<'a>(file: &'a [u8], name: &[u8]) -> &'a [u8]
+    ensures { result.now ≡ folder_for file.now name.now }
+{
+    if begins_at_root(name) {
+        return &file[..0];
+    }
+    &file[..name_start(file)]
+}
+
+/// Returns two texts, one after the other.
+fn joined(alloc: Global, front: &[u8], back: &[u8]) -> Result<Vec<u8>, AllocError>
+    ensures { IfOk result (λ text. text.items ≡ front.now ++ back.now) }
+{
+    let mut text = Vec::new(alloc);
+    text.extend_from_slice(front)?;
+    text.extend_from_slice(back)?;
+    Ok(text)
+}
+
+/// Returns the path of a source that a file of rows names: from the folder of that file, if it does
+/// not begin with `/`.
+///
+/// Errors: `Read` if the name is no text of UTF-8; `OutOfMemory`.
+pub fn source_path(alloc: Global, file: &str, name: &[u8]) -> Result<String, TestFault>
+    ensures path { IfOk result (λ path. string_bytes path ≡ source_path file.now name.now) }
+    ensures fault { IfErr result (λ fault. (fault ≡ TestFault.OutOfMemory)
+        ⊎ ((fault ≡ TestFault.Read) × ¬ IsUtf8 (source_path file.now name.now))) }
+    ensures refused { IfErr result EndsTest }
+{
+    let folder = folder_for(file.as_bytes(), name);
+    match joined(alloc, folder, name) {
+        Ok(path) => match String::from_utf8(path) {
+            Ok(path) => Ok(path),
+            Err(_) => Err(TestFault::Read),
+        },
+        Err(_) => Err(TestFault::OutOfMemory),
+    }
+}

@@ -1,0 +1,158 @@
+//! A file of rows with its source, read.
+
+ghost use Rattle.std.specs.Prelude.{◌≡◌, ◌≤◌, ◌<◌, ◌+◌, IfErr, IfOk, Ok, false, length, map};
+ghost use Rattle.assembler.specs.Assembly.{IsAssembled};
+ghost use Rattle.model.specs.State.{is_map};
+ghost use Rattle.model.specs.TextLines.{lines_of};
+ghost use Rattle.t65_reader.specs.HeadText.{head_from, head_view};
+ghost use Rattle.t65_reader.specs.RowText.{numbered_view, rows_from};
+ghost use Rattle.t65.specs.Ends.{EndsRows, EndsSource, EndsTest, fault_in};
+ghost use Rattle.t65.specs.Tested.{IsPrepared, map_of};
+
+use crate::fault::{FileFault, TestFault};
+use crate::names::{read_most, read_rows_text, source_path};
+use assembler::{Assembly, assemble};
+use bus::MapSpec;
+use model::{AsmFaultKind, Profile};
+use source_map::Places;
+use std::alloc::Global;
+use std::rt::Files;
+use t65_reader::{Head, Opened, Row, RowFaultKind, read_head, read_rows};
+
+/// A file of rows, its source assembled, and its rows.
+#[derive(Drop)]
+pub struct Prepared {
+    pub text: Vec<u8>,
+    pub map: MapSpec,
+    pub assembly: Assembly,
+    pub rows: Vec<(u32, Row)>,
+    pub places: Places,
+}
+
+/// Returns the map that a head asks for.
+fn map_of(head: Head<'_>) -> Result<MapSpec, TestFault>
+    ensures map { IfOk result (λ map. map ≡ map_of (head_view head.entry)) }
+    ensures none { IfErr result (λ fault. (fault ≡ TestFault.Map)
+        × (is_map (head_view head.entry).rom (head_view head.entry).port ≡ false)) }
+{
+    match MapSpec::new(head.rom, head.port) {
+        Ok(map) => match head.profile {
+            Profile::N => Ok(map),
+            Profile::C => Ok(map.profile_c()),
+        },
+        Err(_) => Err(TestFault::Map),
+    }
+}
+
+/// Returns a source, assembled.
+fn assembled_text(alloc: Global, source: &[u8], map: &MapSpec) -> Result<Assembly, TestFault>
+    ensures assembled { IfOk result (IsAssembled map.now) }
+    ensures refused { IfErr result (EndsSource map.now) }
+{
+    match assemble(alloc, source, map) {
+        Ok(assembly) => Ok(assembly),
+        Err(fault) => match fault.kind {
+            AsmFaultKind::OutOfMemory => Err(TestFault::OutOfMemory),
+            _ => Err(TestFault::Source(fault)),
+        },
+    }
+}
+
+/// Returns the source of a file, assembled.
+fn assembled_file<H: Files + AllocGlobal>(
+    rt: &H,
+    path: &str,
+    map: &MapSpec,
+) -> Result<Assembly, TestFault>
+    ensures assembled { IfOk result (IsAssembled map.now) }
+    ensures refused { IfErr result (EndsSource map.now) }
+{
+    match read_most(rt, path) {
+        Ok(source) => assembled_text(rt.alloc(), &source, map),
+        Err(error) => Err(TestFault::unreadable(&error)),
+    }
+}
+
+/// Returns the source of a file, assembled, and its places.
+fn assembled<H: Files + AllocGlobal>(
+    rt: &H,
+    path: &str,
+    map: &MapSpec,
+) -> Result<(Assembly, Places), TestFault>
+    ensures assembled { IfOk result (λ found. IsAssembled map.now found.0) }
+    ensures refused { IfErr result (EndsSource map.now) }
+{
+    match assembled_file(rt, path, map) {
+        Ok(assembly) => match Places::of_source(rt.alloc(), path.as_bytes(), &assembly) {
+            Ok(places) => Ok((assembly, places)),
+            Err(_) => Err(TestFault::OutOfMemory),
+        },
+        Err(fault) => Err(fault),
+    }
+}
+
+/// Returns a file of rows with its head read.
+#[tactic(auto, using(crate::proofs::Ends::head_ends))]
+fn opened_in(text: &[u8]) -> Result<Opened<'_>, TestFault>
+    requires { length text.now ≤ 1048576 }
+    ensures head { IfOk result (λ opened. head_from 1 (lines_of text.now)
+        ≡ Ok (head_view opened.head, opened.next, lines_of opened.rest.now)) }
+    ensures room { IfOk result
+        (λ opened. opened.next + length opened.rest.now ≤ 1 + length text.now) }
+    ensures refused { IfErr result EndsTest }
+{
+    match read_head(text) {
+        Ok(opened) => Ok(opened),
+        Err(fault) => match fault.kind {
+            RowFaultKind::OutOfMemory => Err(TestFault::OutOfMemory),
+            _ => Err(TestFault::Rows(fault)),
+        },
+    }
+}
+
+/// Returns the rows of a text, under the names of a source.
+fn rows_in(
+    alloc: Global,
+    names: &Assembly,
+    first: u32,
+    text: &[u8],
+) -> Result<Vec<(u32, Row)>, TestFault>
+    requires { first + length text.now < 4294967296 }
+    ensures rows { IfOk result (λ rows. rows_from names.now.names first (lines_of text.now)
+        ≡ Ok (map numbered_view rows.items)) }
+    ensures refused { IfErr result (EndsRows names.now.names first (lines_of text.now)) }
+{
+    match read_rows(alloc, names, first, text) {
+        Ok(rows) => Ok(rows),
+        Err(fault) => match fault.kind {
+            RowFaultKind::OutOfMemory => Err(TestFault::OutOfMemory),
+            _ => Err(TestFault::Rows(fault)),
+        },
+    }
+}
+
+/// Reads a file of rows, assembles the source that it names, and reads its rows under the names of
+/// the source.
+#[tactic(auto, using(crate::proofs::Facts::ready, crate::proofs::Ends::map_ends, crate::proofs::Ends::source_ends, crate::proofs::Ends::rows_end))]
+pub fn prepare<H: Files + AllocGlobal>(rt: &H, file: &str) -> Result<Prepared, FileFault>
+    ensures prepared { IfOk result IsPrepared }
+    ensures refused { IfErr result (λ fault. EndsTest (fault_in fault)) }
+{
+    let text = read_rows_text(rt, file)?;
+    let opened = opened_in(&text)?;
+    let map = map_of(opened.head)?;
+    let path = source_path(rt.alloc(), file, opened.head.source)?;
+    match assembled(rt, &path, &map) {
+        Ok((assembly, places)) => {
+            let rows = rows_in(rt.alloc(), &assembly, opened.next, opened.rest)?;
+            Ok(Prepared {
+                text,
+                map,
+                assembly,
+                rows,
+                places,
+            })
+        }
+        Err(fault) => Err(FileFault::InSource(path, fault)),
+    }
+}

@@ -1,0 +1,184 @@
+//! What the word `test` does.
+
+ghost use Rattle.std.specs.Prelude.{◌≡◌, ◌≢◌, ◌⊎◌, ◌≤◌, IfErr, None, false, length, map, true};
+ghost use Rattle.t65.specs.Ends.{EndsTest, IsUntested, fault_in};
+ghost use Rattle.t65.specs.Statuses.{status_of};
+ghost use Rattle.t65.specs.Tested.{AreTested};
+ghost use Rattle.t65_words.specs.CommandLine.{Asks, test, words_asked};
+ghost use Rattle.t65_words.specs.Views.{test_view};
+ghost use Rattle.word_streams.specs.Words.{AsksForHelp, Fits, Misfits};
+
+use crate::fault::{FileFault, TestFault};
+use crate::files::run_files;
+use program::{Refusal, refuse, refused_words};
+use std::fs;
+use std::io::{ErrorKind, Write};
+use std::rt::Files;
+use t65_reader::RowFaultKind;
+use t65_reports::Reports;
+use t65_words::{TestWords, read_words};
+
+/// Returns an example of what has to stand there, for the faults that a first file has.
+fn example_of(kind: RowFaultKind) -> &'static str {
+    match kind {
+        RowFaultKind::Syntax => ", as in: call NAME A=07 [10]=FF -> A=46 C=0 cycles<900",
+        RowFaultKind::NoSource => ", as in: source NAME.a65",
+        _ => "",
+    }
+}
+
+/// Writes why a file cannot be tested, and returns the exit status, even if the line cannot be
+/// written.
+fn refuse_at<E: Write>(path: &str, fault: TestFault, errors: &mut E) -> u8
+    ensures value { result ≡ status_of fault }
+    ensures low { 1 ≤ result }
+    ensures high { result ≤ 4 }
+{
+    let _ = match fault {
+        TestFault::Rows(fault) => writeln!(
+            errors,
+            "mos65: {path}:{}:{}: {}{}",
+            fault.line,
+            fault.column,
+            fault.kind,
+            example_of(fault.kind)
+        ),
+        TestFault::Source(fault) => writeln!(errors, "mos65: {path}: SOURCE {fault}"),
+        TestFault::TooLarge => writeln!(errors, "mos65: {path}: more than 1048576 bytes"),
+        TestFault::Map => writeln!(errors, "mos65: {path}: MAP BadMap 1"),
+        TestFault::OutOfMemory => writeln!(errors, "mos65: OutOfMemory"),
+        TestFault::Read => writeln!(errors, "mos65: {path}: READ"),
+    };
+    fault.status()
+}
+
+/// Writes why a file cannot be tested, and returns the exit status.
+fn refuse_file<E: Write>(file: &str, fault: FileFault, errors: &mut E) -> u8
+    ensures value { result ≡ status_of (fault_in fault) }
+    ensures low { 1 ≤ result }
+    ensures high { result ≤ 4 }
+{
+    match fault {
+        FileFault::InRows(fault) => refuse_at(file, fault, errors),
+        FileFault::InSource(path, fault) => refuse_at(&path, fault, errors),
+    }
+}
+
+/// Writes the reports, and returns the exit status.
+fn written<H: Files, O: Write, E: Write>(
+    rt: &H,
+    words: &TestWords<'_>,
+    reports: &Reports,
+    all: bool,
+    output: &mut O,
+    errors: &mut E,
+) -> u8
+    ensures status { result ≤ 4 }
+    ensures passed { result ≡ 0 → all ≡ true }
+    ensures failed { result ≡ 1 → all ≡ false }
+    ensures never { result ≢ 2 }
+    ensures quiet { result ≤ 1 → errors.new ≡ errors.old }
+    ensures untouched { 2 ≤ result → result ≤ 3 → output.new ≡ output.old }
+{
+    if let Some(file) = words.junit {
+        if let Err(error) = fs::write(rt, file, reports.junit.as_bytes()) {
+            return match error.kind() {
+                ErrorKind::OutOfMemory => refuse(Refusal::OutOfMemory, errors),
+                _ => refuse(Refusal::Write, errors),
+            };
+        }
+    }
+    match output.write_all(reports.tap.as_bytes()) {
+        Ok(()) => match output.flush() {
+            Ok(()) => { if all { 0 } else { 1 } }
+            Err(_) => refuse(Refusal::Write, errors),
+        },
+        Err(_) => refuse(Refusal::Write, errors),
+    }
+}
+
+/// Writes why a file cannot be tested, by its place among the files, and returns the exit status.
+#[tactic(auto, using(crate::proofs::Ends::untested))]
+fn refuse_one<E: Write>(files: &[&str], index: usize, fault: FileFault, errors: &mut E) -> u8
+    requires { EndsTest (fault_in fault) }
+    ensures untested { IsUntested result }
+    ensures low { 1 ≤ result }
+    ensures high { result ≤ 4 }
+{
+    match files.get(index) {
+        Some(file) => refuse_file(file, fault, errors),
+        None => refuse_file("", fault, errors),
+    }
+}
+
+/// Runs the files of the words, and returns the exit status.
+fn run_words<H: Files + AllocGlobal, O: Write, E: Write>(
+    rt: &H,
+    words: &TestWords<'_>,
+    output: &mut O,
+    errors: &mut E,
+) -> u8
+    ensures status { result ≤ 4 }
+    ensures passed { result ≡ 0 → AreTested (length (test_view words.now).files) true }
+    ensures failed { result ≡ 1 → (AreTested (length (test_view words.now).files) false
+        × (errors.new ≡ errors.old)) ⊎ (IsUntested 1 × (output.new ≡ output.old)) }
+    ensures wrong { result ≡ 2 → IsUntested 2 }
+    ensures quiet { result ≡ 0 → errors.new ≡ errors.old }
+    ensures untouched { 2 ≤ result → result ≤ 3 → output.new ≡ output.old }
+{
+    let Ok(mut reports) = Reports::new(rt.alloc()) else {
+        return refuse(Refusal::OutOfMemory, errors);
+    };
+    match run_files(rt, &words.files, &mut reports) {
+        Ok(all) => match reports.end() {
+            Ok(()) => written(rt, words, &reports, all, output, errors),
+            Err(_) => refuse(Refusal::OutOfMemory, errors),
+        },
+        Err((index, fault)) => refuse_one(&words.files, index, fault, errors),
+    }
+}
+
+/// Does what the words of `test` ask for, its own name left out, and returns the exit status.
+///
+/// - 0: all rows of all files pass. 1: a row fails, or rows or a source are wrong.
+/// - 2: the words or a map are wrong. 3: memory ran out. 4: reading or writing failed.
+///
+/// TAP goes to `output`, when all files were run; and before it the report for JUnit to its file,
+/// if one is asked for. Where a file cannot be tested, a line on `errors` says why, and `output` is
+/// left alone. That a line cannot be written changes no status.
+pub fn test<H: Files + AllocGlobal, O: Write, E: Write>(
+    rt: &H,
+    words: &[&str],
+    output: &mut O,
+    errors: &mut E,
+) -> u8
+    ensures status { result ≤ 4 }
+    // If it is done, nothing is written on the error stream.
+    ensures quiet { result ≡ 0 → errors.new ≡ errors.old }
+    // Words or a map that are wrong leave the output unchanged; so does memory that runs out.
+    ensures untouched { 2 ≤ result → result ≤ 3 → output.new ≡ output.old }
+    // 0 means that as many files were tested as the words name, and all of their rows pass, or that
+    // it is help that is asked for.
+    ensures passed { result ≡ 0 → AsksForHelp test (map (λ s. s.now) words.entry.now)
+        ⊎ Asks (map (λ s. s.now) words.entry.now)
+        (λ asked. AreTested (length asked.files) true) }
+    // 1 means that a row of such files fails, and nothing is written on the error stream; or that
+    // some file cannot be tested, and the output is unchanged.
+    ensures failed { result ≡ 1 → Asks (map (λ s. s.now) words.entry.now)
+        (λ asked. (AreTested (length asked.files) false × (errors.new ≡ errors.old))
+        ⊎ (IsUntested 1 × (output.new ≡ output.old))) }
+    // 2 means that the words do not fit or name no file, or that some file asks for a map that is
+    // none.
+    ensures refused { result ≡ 2 → Misfits test (map (λ s. s.now) words.entry.now)
+        ⊎ ((Fits test (map (λ s. s.now) words.entry.now)
+        × (words_asked (map (λ s. s.now) words.entry.now) ≡ None))
+        ⊎ Asks (map (λ s. s.now) words.entry.now) (λ asked. IsUntested 2)) }
+    // 4 means that a stream or a file failed, or that it is help that is asked for.
+    ensures begun { result ≡ 4 → AsksForHelp test (map (λ s. s.now) words.entry.now)
+        ⊎ Fits test (map (λ s. s.now) words.entry.now) }
+{
+    match read_words(rt.alloc(), words) {
+        Ok(asked) => run_words(rt, &asked, output, errors),
+        Err(fault) => refused_words(fault, output, errors),
+    }
+}

@@ -1,0 +1,33 @@
+use Rattle.std.proofs.Common.{◌∙◌, ◌+◌, sym, ap, arith, map}
+use Rattle.model.specs.TextLines.{lines_of}
+use Rattle.t65_reader.specs.RowText.{numbered_view, rows_after, rows_from}
+use Rattle.t65_reader.proofs.Rows.{after_fault, after_none, at_end, line_more}
+use Rattle.t65_reader.proofs.text.read_rows.Goals as goal
+
+pub loop-rest-init : goal.loop-rest-init
+loop-rest-init c = record {
+  room = omega arith;
+  rows = ap (λ front. rows_after (map numbered_view front) (rows_from c.args.names.now.names c.args.first (lines_of c.args.text.now))) c.new-rows.ensures.items ∙ after_none _;
+}
+
+pub loop-rest-preserved : goal.loop-rest-preserved
+loop-rest-preserved c =
+    let names = c.args.names.now.names in
+    let n = c.loop-rest.number in
+    let front = map numbered_view c.loop-rest.rows.items in
+    record {
+      room = omega (arith, c.next_line.ensures.shorter, c.loop-rest.invariant.room);
+      rows = sym (c.in-Ok.ensures.ok (rows_from names (n + 1) (lines_of c.next_line.result.1.now)))
+          ∙ (ap (rows_after front) (sym (ap (rows_from names n) c.next_line.ensures.cut ∙ line_more names n _ _)) ∙ c.loop-rest.invariant.rows);
+    }
+
+pub returns-in-Err-clause-err : goal.returns-in-Err-clause-err
+returns-in-Err-clause-err c =
+    let names = c.args.names.now.names in
+    let n = c.loop-rest.number in
+    let front = map numbered_view c.loop-rest.rows.items in
+    λ other. sym c.loop-rest.invariant.rows
+    ∙ after_fault front _ _ (ap (rows_from names n) c.next_line.ensures.cut ∙ (line_more names n _ _ ∙ c.in-Err.ensures.err other (rows_from names (n + 1) (lines_of c.next_line.result.1.now))))
+
+pub returns-clause-ok : goal.returns-clause-ok
+returns-clause-ok c = sym c.loop-rest.invariant.rows ∙ at_end _ _ _ _ (omega arith)

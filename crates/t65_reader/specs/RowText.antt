@@ -1,0 +1,537 @@
+-- What a line of a test file says. Source: mos65.
+use Rattle.std.specs.Prelude.{ℕ, zero, suc, ℤ, pos, negsuc, ◌+◌, ◌-◌, ◌==◌, ◌/◌, ◌%◌, ◌&&◌, ◌||◌, nat_le, nat_lt, Bool, true, false, is_some, if◌then◌else◌, List, [], ◌∷◌, ◌++◌, length, take, drop, codes, Option, Some, None, Result, Ok, Err}
+use Rattle.std.specs.Str.{byte, bytes_eq}
+use Rattle.std.specs.List.{prefix_len}
+use Rattle.model.specs.Digits.{hex_number, decimal_number}
+use Rattle.model.specs.Names.{Definitions, number_in}
+use Rattle.model.specs.Token.{is_blank, is_digit, is_word_byte, is_string_byte, begins}
+use Rattle.t65_reader.specs.declared.fault.RowFault.{RowFault}
+use Rattle.t65_reader.specs.declared.fault.RowFaultKind.{RowFaultKind}
+use Rattle.t65_reader.specs.declared.fault.RowFaultKind.TheVariants.{Syntax, UndefinedName, AddressRange, EmptyRange, SecondSource}
+use Rattle.t65_reader.specs.declared.fault.TextFault.{TextFault}
+use Rattle.t65_reader.specs.declared.item.Side.{Side}
+use Rattle.t65_reader.specs.declared.item.Side.TheVariants.{Given, Wanted}
+use Rattle.t65_reader.specs.declared.item.StringPlace.{StringPlace}
+use Rattle.t65_reader.specs.declared.item.StringPlace.TheVariants.{InMemory, InInput, InOutput}
+use Rattle.t65_reader.specs.declared.scan.Base.{Base}
+use Rattle.t65_reader.specs.declared.scan.Base.TheVariants.{Hex, Decimal}
+use Rattle.t65_reader.specs.declared.value.Letters.{Letters}
+use Rattle.t65_reader.specs.declared.row.Atom.{Atom}
+use Rattle.t65_reader.specs.declared.row.Atom.TheVariants.{Number, First, Second}
+use Rattle.t65_reader.specs.declared.row.Flag.TheVariants as flag
+use Rattle.t65_reader.specs.declared.row.Item.{Item}
+use Rattle.t65_reader.specs.declared.row.Operation.{Operation}
+use Rattle.t65_reader.specs.declared.row.Operation.TheVariants.{Add, Subtract, Multiply, Divide, Remainder, And, Or, ExclusiveOr}
+use Rattle.t65_reader.specs.declared.row.Operator.{Operator}
+use Rattle.t65_reader.specs.declared.row.Place.{Place}
+use Rattle.t65_reader.specs.declared.row.Place.TheVariants as place
+use Rattle.t65_reader.specs.declared.row.Range.{Range}
+use Rattle.t65_reader.specs.declared.row.Register.TheVariants as register
+use Rattle.t65_reader.specs.declared.row.Relation.{Relation}
+use Rattle.t65_reader.specs.declared.row.Relation.TheVariants.{Equal, Below, Above}
+use Rattle.t65_reader.specs.declared.row.Row.{Row}
+use Rattle.t65_reader.specs.declared.row.Value.{Value}
+
+-- What was read and the text after it, or why it is nothing.
+abbrev pub Reads : Type 0 → Type 0
+Reads X = Result (X × List ℕ) RowFault
+
+abbrev pub fault_at : RowFaultKind → List ℕ → RowFault
+fault_at kind text = record { left = length text; kind = kind }
+
+-- What is read next, from the text after what was read.
+abbrev pub and_then : {X Y : Type 0} → Reads X → (X → List ℕ → Reads Y) → Reads Y
+and_then (Ok read) next = next read.0 read.1
+and_then (Err fault) next = Err fault
+
+-- ---- words, signs and numbers; blanks may come after each
+
+abbrev pub skip_blanks : List ℕ → List ℕ
+skip_blanks text = drop (prefix_len is_blank text) text
+
+-- The letters, digits and `_` at the front, and the text after them.
+abbrev pub word_of : List ℕ → List ℕ
+word_of text = take (prefix_len is_word_byte text) text
+
+abbrev pub after_word : List ℕ → List ℕ
+after_word text = skip_blanks (drop (prefix_len is_word_byte text) text)
+
+-- Whether a sign comes next.
+abbrev pub is_next : ℕ → List ℕ → Bool
+is_next sign text = begins (λ b. b == sign) text
+
+-- A line ends with its last byte, or where `;` begins a comment.
+abbrev pub ends : List ℕ → Bool
+ends [] = true
+ends (b ∷ text) = b == byte ";"
+
+-- A sign that has to come next: the text after it.
+abbrev pub after_sign : ℕ → List ℕ → Result (List ℕ) RowFault
+after_sign sign text = if is_next sign text then Ok (skip_blanks (drop 1 text))
+    else Err (fault_at Syntax text)
+
+-- One to four hex digits, or one to seven decimal ones.
+abbrev pub up_to : ℕ → List ℕ → Option ℕ → Option ℕ
+up_to most digits number = if (length digits == 0) || nat_lt most (length digits) then None
+    else number
+
+abbrev pub number_in_word : Base → List ℕ → Option ℕ
+number_in_word Hex digits = up_to 4 digits (hex_number digits)
+number_in_word Decimal digits = up_to 7 digits (decimal_number digits)
+
+abbrev pub number_or_fault : List ℕ → List ℕ → Option ℕ → Reads ℕ
+number_or_fault text after (Some number) = Ok (number, after)
+number_or_fault text after None = Err (fault_at Syntax text)
+
+-- A number. `$` before it says that its digits are hex.
+unfoldable pub number_of : Base → List ℕ → Reads ℕ
+number_of base text =
+    if is_next (byte "$") text
+    then number_or_fault (drop 1 text) (after_word (drop 1 text)) (number_in_word Hex (word_of (drop 1 text)))
+    else number_or_fault text (after_word text) (number_in_word base (word_of text))
+
+-- ---- addresses
+
+abbrev pub hex_or_undefined : List ℕ → List ℕ → Option ℕ → Reads ℕ
+hex_or_undefined text after (Some number) = Ok (number, after)
+hex_or_undefined text after None = Err (fault_at UndefinedName text)
+
+-- Four hex digits are an address where the source defines no such name.
+unfoldable pub unnamed : List ℕ → Reads ℕ
+unnamed text = if length (word_of text) == 4
+    then hex_or_undefined text (after_word text) (number_in_word Hex (word_of text))
+    else Err (fault_at UndefinedName text)
+
+abbrev pub address_or_fault : List ℕ → List ℕ → Option ℤ → Reads ℕ
+address_or_fault text after None = unnamed text
+address_or_fault text after (Some (pos n)) = if nat_le n 65535 then Ok (n, after)
+    else Err (fault_at AddressRange text)
+address_or_fault text after (Some (negsuc n)) = Err (fault_at AddressRange text)
+
+-- The address of a name.
+abbrev pub name_of : Definitions → List ℕ → Reads ℕ
+name_of names text = if length (word_of text) == 0 then Err (fault_at Syntax text)
+    else address_or_fault text (after_word text) (number_in names (word_of text))
+
+-- Hex digits that begin with a digit or with `$`, a name, or four hex digits that are no name.
+unfoldable pub base_address_of : Definitions → List ℕ → Reads ℕ
+base_address_of names text = if begins is_digit text || is_next (byte "$") text
+    then number_of Hex text else name_of names text
+
+abbrev pub sum_or_fault : List ℕ → ℕ → ℕ → List ℕ → Reads ℕ
+sum_or_fault text address offset after = if nat_le (address + offset) 65535
+    then Ok (address + offset, after) else Err (fault_at AddressRange text)
+
+-- An address, and a hex number to be added after `+`.
+unfoldable pub address_of : Definitions → List ℕ → Reads ℕ
+address_of names text = and_then (base_address_of names text) (λ address rest.
+    if is_next (byte "+") rest
+    then and_then (number_of Hex (skip_blanks (drop 1 rest))) (sum_or_fault text address)
+    else Ok (address, rest))
+
+-- ---- values
+
+-- What a word is by itself: the value of the range of its letter.
+abbrev pub is_letter_of : Option ℕ → List ℕ → Bool
+is_letter_of None word = false
+is_letter_of (Some letter) word = bytes_eq word (letter ∷ [])
+
+unfoldable pub letter_in : Letters → List ℕ → Option Atom
+letter_in letters word =
+    if is_letter_of letters.first word then Some First
+    else if is_letter_of letters.second word then Some Second
+    else None
+
+abbrev pub as_number : ℕ → List ℕ → Reads Atom
+as_number number rest = Ok (Number number, rest)
+
+abbrev pub low_byte : ℕ → List ℕ → Reads Atom
+low_byte number rest = Ok (Number (number % 256), rest)
+
+abbrev pub high_byte : ℕ → List ℕ → Reads Atom
+high_byte number rest = Ok (Number (number / 256), rest)
+
+abbrev pub letter_or_number : Base → List ℕ → Option Atom → Reads Atom
+letter_or_number base text (Some atom) = Ok (atom, after_word text)
+letter_or_number base text None = and_then (number_of base text) as_number
+
+-- A number, a letter, or one byte of an address: the low one after `<`, the high one after `>`.
+unfoldable pub atom_of : Definitions → Letters → Base → List ℕ → Reads Atom
+atom_of names letters base text =
+    if is_next (byte "<") text then and_then (address_of names (skip_blanks (drop 1 text))) low_byte
+    else if is_next (byte ">") text
+    then and_then (address_of names (skip_blanks (drop 1 text))) high_byte
+    else letter_or_number base text (letter_in letters (word_of text))
+
+-- The operation of a sign.
+abbrev pub operation_of : ℕ → Option Operation
+operation_of sign =
+    if sign == byte "+" then Some Add
+    else if sign == byte "-" then Some Subtract
+    else if sign == byte "*" then Some Multiply
+    else if sign == byte "/" then Some Divide
+    else if sign == byte "%" then Some Remainder
+    else if sign == byte "&" then Some And
+    else if sign == byte "|" then Some Or
+    else if sign == byte "^" then Some ExclusiveOr
+    else None
+
+-- The operation that comes next. `->` is none.
+unfoldable pub operation_at : List ℕ → Option Operation
+operation_at [] = None
+operation_at (sign ∷ text) = if (sign == byte "-") && is_next (byte ">") text then None
+    else operation_of sign
+
+-- What is multiplied or divided by is a count, and decimal.
+abbrev pub base_after : Operation → Base → Base
+base_after Multiply base = Decimal
+base_after Divide base = Decimal
+base_after Remainder base = Decimal
+base_after operation base = base
+
+abbrev pub as_operator : Operation → Atom → List ℕ → Reads (Option Operator)
+as_operator operation right rest = Ok (Some (record { operation = operation; right = right }), rest)
+
+abbrev pub operator_by : Definitions → Letters → Base → List ℕ → Option Operation
+    → Reads (Option Operator)
+operator_by names letters base text None = Ok (None, text)
+operator_by names letters base text (Some operation) =
+    and_then (atom_of names letters (base_after operation base) (skip_blanks (drop 1 text)))
+    (as_operator operation)
+
+-- An operation and its right side, if an operation comes next.
+unfoldable pub operator_of : Definitions → Letters → Base → List ℕ → Reads (Option Operator)
+operator_of names letters base text = operator_by names letters base text (operation_at text)
+
+-- A value of up to three parts.
+unfoldable pub value_of : Definitions → Letters → Base → List ℕ → Reads Value
+value_of names letters base text =
+    and_then (atom_of names letters base text) (λ first rest.
+    and_then (operator_of names letters base rest) (λ second rest.
+    and_then (operator_of names letters base rest) (λ third rest.
+    Ok (record { first = first; second = second; third = third }, rest))))
+
+-- ---- items
+
+abbrev pub just : Atom → Value
+just atom = record { first = atom; second = None; third = None }
+
+abbrev pub item : Place → Relation → Value → Item
+item place relation value = record { place = place; relation = relation; value = value }
+
+abbrev pub equals : Place → Value → Item
+equals place value = item place Equal value
+
+-- The bytes between two `"`, if they close.
+abbrev pub string_of : List ℕ → Result (List ℕ × List ℕ) RowFault
+string_of text =
+    let inside = drop 1 text in
+    let count = prefix_len is_string_byte inside in
+    if is_next 34 (drop count inside)
+    then Ok (take count inside, skip_blanks (drop 1 (drop count inside)))
+    else Err (fault_at Syntax text)
+
+-- The places of registers, flags and cycles by their words.
+unfoldable pub place_of : List ℕ → Option Place
+place_of word =
+    if bytes_eq word (codes "A") then Some (place.Register register.A)
+    else if bytes_eq word (codes "X") then Some (place.Register register.X)
+    else if bytes_eq word (codes "Y") then Some (place.Register register.Y)
+    else if bytes_eq word (codes "S") then Some (place.Register register.S)
+    else if bytes_eq word (codes "P") then Some (place.Register register.P)
+    else if bytes_eq word (codes "N") then Some (place.Flag flag.N)
+    else if bytes_eq word (codes "V") then Some (place.Flag flag.V)
+    else if bytes_eq word (codes "D") then Some (place.Flag flag.D)
+    else if bytes_eq word (codes "I") then Some (place.Flag flag.I)
+    else if bytes_eq word (codes "Z") then Some (place.Flag flag.Z)
+    else if bytes_eq word (codes "C") then Some (place.Flag flag.C)
+    else if bytes_eq word (codes "cycles") then Some place.Cycles
+    else None
+
+abbrev pub relation_of : ℕ → Option Relation
+relation_of sign =
+    if sign == byte "=" then Some Equal
+    else if sign == byte "<" then Some Below
+    else if sign == byte ">" then Some Above
+    else None
+
+-- The relation that comes next.
+abbrev pub relation_at : List ℕ → Option Relation
+relation_at [] = None
+relation_at (sign ∷ text) = relation_of sign
+
+-- Cycles are counted, so their number is decimal.
+abbrev pub base_of : Place → Base
+base_of place.Cycles = Decimal
+base_of place = Hex
+
+-- Whether a side of a row may say so: what is given is set, and so is input alone; cycles and
+-- output are only looked at.
+unfoldable pub fits : Side → Place → Relation → Bool
+fits Given place.Cycles relation = false
+fits Given place Equal = true
+fits Given place relation = false
+fits Wanted place relation = true
+
+-- Where the bytes of a string stand.
+abbrev pub place_in : StringPlace → ℕ → Place
+place_in InMemory index = place.Byte index
+place_in InInput index = place.Input
+place_in InOutput index = place.Output index
+
+-- An item of each byte, at places in order.
+abbrev pub string_items : StringPlace → ℕ → List ℕ → List Item
+string_items at index [] = []
+string_items at index (b ∷ bytes)
+    = equals (place_in at index) (just (Number b)) ∷ string_items at (index + 1) bytes
+
+abbrev pub Items : Type 0
+Items = Reads (List Item)
+
+-- How many bytes of output are expected.
+abbrev pub count_items : StringPlace → List ℕ → List Item
+count_items InOutput bytes = equals place.OutputCount (just (Number (length bytes))) ∷ []
+count_items InMemory bytes = []
+count_items InInput bytes = []
+
+-- The items of a string from an index on; none of them past 65535.
+abbrev pub within_addresses : List ℕ → StringPlace → ℕ → List ℕ → List ℕ → Items
+within_addresses text at index bytes rest = if nat_le (index + length bytes) 65536
+    then Ok (string_items at index bytes ++ count_items at bytes, rest) else Err (fault_at AddressRange text)
+
+unfoldable pub string_at : StringPlace → ℕ → List ℕ → Items
+string_at at index text = and_then (string_of text) (within_addresses text at index)
+
+abbrev pub one_item : Place → Relation → Value → List ℕ → Items
+one_item place relation value rest = Ok (item place relation value ∷ [], rest)
+
+-- A place and what it is given or compared with.
+abbrev pub item_by : Definitions → Letters → Side → Place → List ℕ → Option Relation → Items
+item_by names letters side place text None = Err (fault_at Syntax text)
+item_by names letters side place text (Some relation) = if fits side place relation
+    then and_then (value_of names letters (base_of place) (skip_blanks (drop 1 text))) (one_item place relation)
+    else Err (fault_at Syntax text)
+
+-- Bytes of memory: a value or a string.
+unfoldable pub memory_item : Definitions → Letters → Side → ℕ → List ℕ → Items
+memory_item names letters side address text =
+    if is_next (byte "=") text && is_next 34 (skip_blanks (drop 1 text))
+    then string_at InMemory address (skip_blanks (drop 1 text))
+    else item_by names letters side (place.Byte address) text (relation_at text)
+
+abbrev pub after_bracket : Definitions → Letters → Side → ℕ → Result (List ℕ) RowFault → Items
+after_bracket names letters side address (Ok rest) = memory_item names letters side address rest
+after_bracket names letters side address (Err fault) = Err fault
+
+-- What stands after `[`.
+unfoldable pub bracket_item : Definitions → Letters → Side → List ℕ → Items
+bracket_item names letters side text = and_then (address_of names text) (λ address rest.
+    after_bracket names letters side address (after_sign (byte "]") rest))
+
+-- A place alone is given the value of its letter, or compared with it.
+abbrev pub letter_item : Place → List ℕ → Option Atom → Items
+letter_item place text (Some atom) = Ok (equals place (just atom) ∷ [], text)
+letter_item place text None = Err (fault_at Syntax text)
+
+abbrev pub place_item : Definitions → Letters → Side → List ℕ → Option Place → Items
+place_item names letters side text None = Err (fault_at Syntax text)
+place_item names letters side text (Some place) =
+    if is_some (relation_at (after_word text))
+    then item_by names letters side place (after_word text) (relation_at (after_word text))
+    else letter_item place (after_word text) (letter_in letters (word_of text))
+
+abbrev pub string_after : StringPlace → Result (List ℕ) RowFault → Items
+string_after at (Ok rest) = string_at at 0 rest
+string_after at (Err fault) = Err fault
+
+-- The word before a string, and where its bytes stand.
+abbrev pub string_word : Side → List ℕ
+string_word Given = codes "in"
+string_word Wanted = codes "out"
+
+abbrev pub string_place : Side → StringPlace
+string_place Given = InInput
+string_place Wanted = InOutput
+
+-- One item of a side of a row: memory in brackets, input or output, or a register, a flag or the
+-- cycles.
+unfoldable pub item_of : Definitions → Letters → Side → List ℕ → Items
+item_of names letters side text =
+    if is_next (byte "[") text then bracket_item names letters side (skip_blanks (drop 1 text))
+    else if bytes_eq (word_of text) (string_word side)
+    then string_after (string_place side) (after_sign (byte "=") (after_word text))
+    else place_item names letters side text (place_of (word_of text))
+
+-- ---- rows
+
+-- `->` ends what is given, the line's end what is wanted.
+abbrev pub is_arrow : List ℕ → Bool
+is_arrow text = is_next (byte "-") text && is_next (byte ">") (drop 1 text)
+
+abbrev pub is_over : Side → List ℕ → Bool
+is_over Given text = is_arrow text
+is_over Wanted text = ends text
+
+-- Items that were read, before more of them.
+unfoldable pub before : List Item → Items → Items
+before items more = and_then more (λ others rest. Ok (items ++ others, rest))
+
+-- The items of a side; so many at most. Each has a byte at least, so as many as there are bytes are
+-- enough.
+unfoldable pub items_within : ℕ → Definitions → Letters → Side → List ℕ → Items
+items_within zero names letters side text = if is_over side text then Ok ([], text)
+    else Err (fault_at Syntax text)
+items_within (suc n) names letters side text =
+    if is_over side text then Ok ([], text)
+    else and_then (item_of names letters side text)
+    (λ items rest. before items (items_within n names letters side rest))
+
+abbrev pub items_of : Definitions → Letters → Side → List ℕ → Items
+items_of names letters side text = items_within (length text) names letters side text
+
+-- What a row says.
+pub record SeenRow : Type 0 where
+  pub first : Option Range
+  pub second : Option Range
+  pub address : ℕ
+  pub given : List Item
+  pub wanted : List Item
+
+abbrev pub letter_of : Option Range → Option ℕ
+letter_of None = None
+letter_of (Some range) = Some range.letter
+
+abbrev pub letters_of : Option Range → Option Range → Letters
+letters_of first second = record { first = letter_of first; second = letter_of second }
+
+abbrev pub without_rest : Reads SeenRow → Result SeenRow RowFault
+without_rest (Ok read) = Ok read.0
+without_rest (Err fault) = Err fault
+
+-- The row of a call: its address, what is given, `->`, and what is wanted.
+unfoldable pub call_of : Definitions → Option Range → Option Range → List ℕ → Result SeenRow RowFault
+call_of names first second text = without_rest (
+    and_then (address_of names text) (λ address rest.
+    and_then (items_of names (letters_of first second) Given rest) (λ given rest.
+    and_then (items_of names (letters_of first second) Wanted (skip_blanks (drop 2 rest)))
+    (λ wanted rest.
+    Ok (record { first = first; second = second; address = address; given = given; wanted = wanted }, rest)))))
+
+abbrev pub called_of : Definitions → Option Range → Option Range → List ℕ → Result SeenRow RowFault
+called_of names first second text = if bytes_eq (word_of text) (codes "call")
+    then call_of names first second (after_word text) else Err (fault_at Syntax text)
+
+-- The letter of a range: one capital letter.
+abbrev pub range_letter : List ℕ → Option ℕ
+range_letter (b ∷ []) = if nat_le (byte "A") b && nat_le b (byte "Z") then Some b else None
+range_letter word = None
+
+abbrev pub range_between : List ℕ → ℕ → ℕ → ℕ → List ℕ → Reads Range
+range_between text letter first last rest = if nat_le first last
+    then Ok (record { letter = letter; first = first; last = last }, rest)
+    else Err (fault_at EmptyRange text)
+
+-- The two dots between the first value and the last.
+abbrev pub after_dots : List ℕ → Result (List ℕ) RowFault
+after_dots text = if is_next (byte ".") text && is_next (byte ".") (drop 1 text)
+    then Ok (skip_blanks (drop 2 text)) else Err (fault_at Syntax text)
+
+abbrev pub last_after : List ℕ → ℕ → ℕ → Result (List ℕ) RowFault → Reads Range
+last_after text letter first (Ok rest) = and_then (number_of Hex rest) (range_between text letter first)
+last_after text letter first (Err fault) = Err fault
+
+-- What stands after a range's letter.
+unfoldable pub values_of : ℕ → List ℕ → Reads Range
+values_of letter text = if bytes_eq (word_of text) (codes "in")
+    then and_then (number_of Hex (after_word text)) (λ first rest.
+    last_after (after_word text) letter first (after_dots rest))
+    else Err (fault_at Syntax text)
+
+abbrev pub range_by : List ℕ → Option ℕ → Reads Range
+range_by text None = Err (fault_at Syntax text)
+range_by text (Some letter) = values_of letter (after_word text)
+
+-- A letter, `in`, the first value, `..` and the last.
+unfoldable pub range_of : List ℕ → Reads Range
+range_of text = range_by text (range_letter (word_of text))
+
+abbrev pub second_range : Range → List ℕ → Reads (Range × Option Range)
+second_range first text =
+    if is_next (byte ",") text
+    then and_then (range_of (skip_blanks (drop 1 text))) (λ second rest. Ok ((first, Some second), rest))
+    else Ok ((first, None), text)
+
+-- One range, or two with a comma between them.
+unfoldable pub ranges_of : List ℕ → Reads (Range × Option Range)
+ranges_of text = and_then (range_of text) second_range
+
+abbrev pub all_by : Definitions → Range → Option Range → Result (List ℕ) RowFault
+    → Result SeenRow RowFault
+all_by names first second (Ok rest) = called_of names (Some first) second rest
+all_by names first second (Err fault) = Err fault
+
+abbrev pub all_of : Definitions → Reads (Range × Option Range) → Result SeenRow RowFault
+all_of names (Ok read) = all_by names read.0.0 read.0.1 (after_sign (byte ":") read.1)
+all_of names (Err fault) = Err fault
+
+-- A call for all values of ranges, or a call alone.
+unfoldable pub row_of : Definitions → List ℕ → Result SeenRow RowFault
+row_of names text = if bytes_eq (word_of text) (codes "all")
+    then all_of names (ranges_of (after_word text)) else called_of names None None text
+
+abbrev pub some_row : Result SeenRow RowFault → Result (Option SeenRow) RowFault
+some_row (Ok row) = Ok (Some row)
+some_row (Err fault) = Err fault
+
+abbrev pub line_at : Definitions → List ℕ → Result (Option SeenRow) RowFault
+line_at names text =
+    if ends text then Ok None
+    else if bytes_eq (word_of text) (codes "source") then Err (fault_at SecondSource text)
+    else some_row (row_of names text)
+
+-- What a line says after the one that names the source: nothing, or a row.
+unfoldable pub line_of : Definitions → List ℕ → Result (Option SeenRow) RowFault
+line_of names line = line_at names (skip_blanks line)
+
+-- ---- all lines
+
+-- The rows of some lines with the numbers of their lines, or the first fault: its line, its column,
+-- both counted from 1, and its kind.
+abbrev pub Rows : Type 0
+Rows = Result (List (ℕ × SeenRow)) TextFault
+
+abbrev pub row_before : ℕ → Option SeenRow → Rows → Rows
+row_before number None rows = rows
+row_before number (Some row) (Ok rows) = Ok ((number, row) ∷ rows)
+row_before number (Some row) (Err fault) = Err fault
+
+abbrev pub line_before : ℕ → List ℕ → Result (Option SeenRow) RowFault → Rows → Rows
+line_before number line (Ok row) rows = row_before number row rows
+line_before number line (Err fault) rows = Err (record {
+  line = number;
+  column = length line - fault.left + 1;
+  kind = fault.kind;
+})
+
+unfoldable pub rows_from : Definitions → ℕ → List (List ℕ) → Rows
+rows_from names number [] = Ok []
+rows_from names number (line ∷ lines) =
+    line_before number line (line_of names line) (rows_from names (number + 1) lines)
+
+-- A row as the code keeps it.
+abbrev pub row_view : Row → SeenRow
+row_view row = record {
+  first = row.first;
+  second = row.second;
+  address = row.address;
+  given = row.given.items;
+  wanted = row.wanted.items;
+}
+
+abbrev pub numbered_view : ℕ × Row → ℕ × SeenRow
+numbered_view numbered = (numbered.0, row_view numbered.1)
+
+-- Rows that were read, before those of the lines behind them.
+unfoldable pub rows_after : List (ℕ × SeenRow) → Rows → Rows
+rows_after rows (Ok more) = Ok (rows ++ more)
+rows_after rows (Err fault) = Err fault

@@ -1,0 +1,96 @@
+-- TAP, and the report for JUnit. Source: mos65, for the formats TAP 13 and JUnit's XML.
+use Rattle.std.specs.Prelude.{ℕ, ◌-◌, ◌==◌, ◌&&◌, ◌||◌, Bool, true, false, not, if◌then◌else◌, List, [], ◌∷◌, ◌++◌, Option, None, Some, codes, decimal, drop, length, take}
+use Rattle.std.specs.Char.{is_ascii_whitespace}
+use Rattle.std.specs.Option.{is_some}
+use Rattle.std.specs.Str.Lines.{lines}
+use Rattle.std.specs.List.{flat_map, prefix_len, suffix_len}
+use Rattle.t65_reports.specs.Texts.{visible}
+
+-- ---- the text of a row
+
+-- What stands before a comment: before a `;` that is in no string.
+abbrev pub before_comment : Bool → List ℕ → List ℕ
+before_comment in_string [] = []
+before_comment in_string (b ∷ bs) = if (b == 59) && not in_string then []
+    else b ∷ before_comment (if b == 34 then not in_string else in_string) bs
+
+abbrev pub without_front_blanks : List ℕ → List ℕ
+without_front_blanks text = drop (prefix_len is_ascii_whitespace text) text
+
+abbrev pub without_end_blanks : List ℕ → List ℕ
+without_end_blanks text = take (length text - suffix_len is_ascii_whitespace text) text
+
+-- A row's text without its comment, and without blanks in front of it and behind it.
+unfoldable pub row_of : List ℕ → List ℕ
+row_of line = without_end_blanks (without_front_blanks (before_comment false line))
+
+-- ---- TAP
+
+-- A `\` stands before `#` and `\`.
+abbrev pub tap_byte : ℕ → List ℕ
+tap_byte b = if (b == 35) || (b == 92) then 92 ∷ (visible b ∷ []) else visible b ∷ []
+
+abbrev pub tap_text : List ℕ → List ℕ
+tap_text text = flat_map tap_byte (row_of text)
+
+abbrev pub verdict : Bool → List ℕ
+verdict true = codes "not ok "
+verdict false = codes "ok "
+
+-- The row of TAP for a row of a file, by its number among all rows: whether it fails, the file, the
+-- line, and its text.
+unfoldable pub tap_row : Bool → ℕ → List ℕ → ℕ → List ℕ → List ℕ
+tap_row failed count file line text = verdict failed ++ decimal count ++ codes " - "
+    ++ tap_text file ++ codes ":" ++ decimal line ++ codes " " ++ tap_text text ++ 10 ∷ []
+
+-- A line of why a row fails, as TAP has it.
+abbrev pub tap_comment : List ℕ → List ℕ
+tap_comment line = codes "# " ++ line ++ codes "\n"
+
+-- The lines of why a row fails, if it does.
+abbrev pub tap_detail : Option (List ℕ) → List ℕ
+tap_detail None = []
+tap_detail (Some why) = flat_map tap_comment (lines why)
+
+-- What TAP tells of a row, by its number among all rows: its row, and why it fails, if it does.
+abbrev pub tap_case : ℕ → List ℕ → ℕ → List ℕ → Option (List ℕ) → List ℕ
+tap_case count file line text why
+    = tap_row (is_some why) count file line text ++ tap_detail why
+
+-- ---- JUnit
+
+-- A byte as XML has it between tags and in values.
+abbrev pub xml_byte : ℕ → List ℕ
+xml_byte b = if b == 38 then codes "&amp;" else if b == 60 then codes "&lt;"
+    else if b == 62 then codes "&gt;" else if b == 34 then codes "&quot;"
+    else if b == 10 then 10 ∷ [] else visible b ∷ []
+
+abbrev pub xml : List ℕ → List ℕ
+xml text = flat_map xml_byte text
+
+abbrev pub first_line : List ℕ → List ℕ
+first_line text = take (prefix_len (λ b. not (b == 10)) text) text
+
+abbrev pub counts_text : ℕ → ℕ → List ℕ
+counts_text rows failed = codes "\" tests=\"" ++ decimal rows ++ codes "\" failures=\""
+    ++ decimal failed ++ codes "\">\n"
+
+-- The head of a file of so many rows, of which so many fail.
+unfoldable pub suite_head : List ℕ → ℕ → ℕ → List ℕ
+suite_head file rows failed = codes "  <testsuite name=\"" ++ xml file ++ counts_text rows failed
+
+abbrev pub case_end : Option (List ℕ) → List ℕ
+case_end None = codes "\"/>\n"
+case_end (Some why) = codes "\">\n      <failure message=\"" ++ xml (first_line why) ++ codes "\">"
+    ++ xml why ++ codes "</failure>\n    </testcase>\n"
+
+abbrev pub line_text : ℕ → List ℕ
+line_text line = codes "\" name=\"line " ++ decimal line ++ codes ": "
+
+unfoldable pub case_front : List ℕ → ℕ → List ℕ → List ℕ
+case_front file line text = codes "    <testcase classname=\"" ++ xml file
+    ++ line_text line ++ xml (row_of text)
+
+-- What is told of a row: the file, the line, its text, and why it fails, if it does.
+abbrev pub junit_case : List ℕ → ℕ → List ℕ → Option (List ℕ) → List ℕ
+junit_case file line text why = case_front file line text ++ case_end why

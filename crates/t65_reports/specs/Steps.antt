@@ -1,0 +1,94 @@
+-- The last steps of a call as text, and the session after they are told. Source: mos65.
+use Rattle.std.specs.Prelude.{ℕ, zero, suc, ◌+◌, ◌-◌, ◌%◌, ◌==◌, false, min, if◌then◌else◌, List, [], ◌∷◌, ◌++◌, Option, None, Some, Result, Ok, Err, codes, decimal, encode_utf8, length, map, replicate, slice_index}
+use Rattle.std.specs.List.{flat_map}
+use Rattle.model.specs.Back.{back_of}
+use Rattle.model.specs.Disassembly.{row_line}
+use Rattle.model.specs.Effect.{status}
+use Rattle.model.specs.InstructionText.{row_of}
+use Rattle.model.specs.Run.{after_steps}
+use Rattle.model.specs.Session.{Session}
+use Rattle.model.specs.State.{State}
+use Rattle.model.specs.declared.registers.Regs.{Regs}
+use Rattle.model.specs.declared.session_fault.SessionFault.{SessionFault}
+use Rattle.source_map.specs.Lines.{PlacesView, line_at}
+use Rattle.t65_reports.specs.Texts.{named_byte, visible}
+
+-- ---- a step
+
+-- The bytes of memory at an address and at the two after it. $0000 comes after $FFFF.
+abbrev pub three_bytes : List ℕ → ℕ → List ℕ
+three_bytes memory address = slice_index memory address
+    ∷ slice_index memory ((address + 1) % 65536) ∷ slice_index memory ((address + 2) % 65536) ∷ []
+
+abbrev pub row_by : State → ℕ → List ℕ → List ℕ
+row_by state address bytes
+    = row_line address bytes (row_of state.bus.map.profile bytes address)
+
+-- A byte of a row as a character, and nothing for the line's end.
+abbrev pub row_character : ℕ → List ℕ
+row_character b = if b == 10 then [] else encode_utf8 b
+
+-- The row of the instruction at an address, without its line's end.
+unfoldable pub instruction_text : State → ℕ → List ℕ
+instruction_text state address
+    = flat_map row_character (row_by state address (three_bytes state.bus.memory address))
+
+abbrev pub blanks : ℕ → List ℕ
+blanks count = replicate count 32
+
+-- A text with blanks behind it up to a width.
+unfoldable pub padded : ℕ → List ℕ → List ℕ
+padded width text = text ++ blanks (width - length text)
+
+-- The registers. The status register is told with B clear.
+unfoldable pub regs_text : Regs → List ℕ
+regs_text regs = named_byte (codes "A=") regs.a ++ named_byte (codes " X=") regs.x
+    ++ named_byte (codes " Y=") regs.y ++ named_byte (codes " S=") regs.s
+    ++ named_byte (codes " P=") (status false regs.flags)
+
+-- A line of the source's file, if there is one.
+abbrev pub source_by : List ℕ → Option ℕ → List ℕ
+source_by file None = []
+source_by file (Some line) = codes "  " ++ map visible file ++ codes ":" ++ decimal line
+
+-- The line of the source whose bytes stand at an address.
+abbrev pub source_text : PlacesView → ℕ → List ℕ
+source_text places address = source_by places.file (line_at places.lines address)
+
+-- A step from one state to another: the instruction that came next in the first, the registers in
+-- the second, and the line of the source.
+unfoldable pub step_text : PlacesView → State → State → List ℕ
+step_text places before after = codes "  " ++ padded 30 (instruction_text before before.regs.pc)
+    ++ regs_text after.regs ++ source_text places before.regs.pc ++ codes "\n"
+
+-- ---- the last steps
+
+-- So many steps from a session on. Where a step is rejected, the session stays.
+unfoldable pub steps_text : PlacesView → ℕ → Session → List ℕ
+steps_text places zero s = []
+steps_text places (suc n) s = step_text places s.current (after_steps 1 s).current
+    ++ steps_text places n (after_steps 1 s)
+
+-- How many of so many steps are told.
+abbrev pub told_count : ℕ → ℕ
+told_count did = min did 20
+
+-- The steps that were undone, from the session before them on; nothing if they cannot be undone.
+abbrev pub undone_text : PlacesView → ℕ → Result Session SessionFault → List ℕ
+undone_text places count (Ok s) = codes "the last steps, and the registers after each:\n"
+    ++ steps_text places count s
+undone_text places count (Err fault) = []
+
+-- The last steps of a call of so many.
+unfoldable pub last_steps_text : PlacesView → ℕ → Session → List ℕ
+last_steps_text places did s
+    = undone_text places (told_count did) (back_of (told_count did) s)
+
+-- The session in which the steps that were undone are made again.
+abbrev pub made_again : ℕ → Session → Result Session SessionFault → Session
+made_again count s (Ok before) = after_steps count before
+made_again count s (Err fault) = s
+
+-- The session after the last steps were undone and made again.
+unfoldable pub after_last_steps : ℕ → Session → Session
+after_last_steps did s = made_again (told_count did) s (back_of (told_count did) s)

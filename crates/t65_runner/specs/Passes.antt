@@ -1,0 +1,205 @@
+-- When a row passes: what its values are, what is given before its call, and what is wanted after
+-- it. Source: mos65.
+use Rattle.std.specs.Prelude.{ℕ, zero, suc, ◌+◌, ◌-◌, ◌*◌, ◌/◌, ◌%◌, ◌==◌, ◌&&◌, nat_lt, Bool, false, if◌then◌else◌, bit_and, bit_or, bit_xor, List, [], ◌∷◌, length, slice_get, slice_index, Option, Some, None, Result, Ok, Err}
+use Rattle.std.specs.List.{list_all}
+use Rattle.std.specs.Option.{option_or}
+use Rattle.model.specs.Arithmetic.{bit}
+use Rattle.model.specs.Effect.{status}
+use Rattle.model.specs.Event.{event_of}
+use Rattle.model.specs.Session.{Session, with_state}
+use Rattle.model.specs.State.{State}
+use Rattle.model.specs.declared.event.Event.{Event}
+use Rattle.model.specs.declared.event.Event.TheVariants as event
+use Rattle.model.specs.declared.event.EventFault.{EventFault}
+use Rattle.model.specs.declared.event.Setting.{Setting}
+use Rattle.model.specs.declared.event.Setting.TheVariants as setting
+use Rattle.model.specs.declared.registers.Flags.{Flags}
+use Rattle.model.specs.declared.registers.Regs.{Regs}
+use Rattle.model.specs.declared.run_end.RunEnd.{RunEnd}
+use Rattle.model.specs.declared.run_end.Why.{Why}
+use Rattle.model.specs.declared.run_end.Why.TheVariants.{Break}
+use Rattle.model.specs.declared.session_fault.SessionFault.{SessionFault}
+use Rattle.rig.specs.Subroutine.{byte_patched, call_of, return_address}
+use Rattle.t65_reader.specs.RowText.{SeenRow}
+use Rattle.t65_reader.specs.declared.row.Atom.{Atom}
+use Rattle.t65_reader.specs.declared.row.Atom.TheVariants.{Number, First, Second}
+use Rattle.t65_reader.specs.declared.row.Flag.{Flag}
+use Rattle.t65_reader.specs.declared.row.Flag.TheVariants.{N, V, D, I, Z, C}
+use Rattle.t65_reader.specs.declared.row.Item.{Item}
+use Rattle.t65_reader.specs.declared.row.Operation.{Operation}
+use Rattle.t65_reader.specs.declared.row.Operation.TheVariants.{Add, Subtract, Multiply, Divide, Remainder, And, Or, ExclusiveOr}
+use Rattle.t65_reader.specs.declared.row.Operator.{Operator}
+use Rattle.t65_reader.specs.declared.row.Place.{Place}
+use Rattle.t65_reader.specs.declared.row.Place.TheVariants.{Register as InRegister, Flag as InFlag, Byte, Input, Output, OutputCount, Cycles}
+use Rattle.t65_reader.specs.declared.row.Range.{Range}
+use Rattle.t65_reader.specs.declared.row.Register.{Register}
+use Rattle.t65_reader.specs.declared.row.Register.TheVariants.{A, X, Y, S, P}
+use Rattle.t65_reader.specs.declared.row.Relation.{Relation}
+use Rattle.t65_reader.specs.declared.row.Relation.TheVariants.{Equal, Below, Above}
+use Rattle.t65_reader.specs.declared.row.Value.{Value}
+use Rattle.t65_runner.specs.declared.passes.Pair.{Pair as KeptPair}
+
+-- The values of a row's two ranges; 0 for one that it does not have.
+abbrev pub Pair : Type 0
+Pair = ℕ × ℕ
+
+-- ---- values
+
+abbrev pub atom_number : Pair → Atom → ℕ
+atom_number pair (Number number) = number
+atom_number pair First = pair.0
+atom_number pair Second = pair.1
+
+-- Modulo 2^32; a quotient and its rest by 0 are 0.
+abbrev pub operate : Operation → ℕ → ℕ → ℕ
+operate Add a b = (a + b) % 4294967296
+operate Subtract a b = (a + (4294967296 - b)) % 4294967296
+operate Multiply a b = (a * b) % 4294967296
+operate Divide a b = if b == 0 then 0 else a / b
+operate Remainder a b = if b == 0 then 0 else a % b
+operate And a b = bit_and a b
+operate Or a b = bit_or a b
+operate ExclusiveOr a b = bit_xor a b
+
+abbrev pub joined : Pair → ℕ → Option Operator → ℕ
+joined pair number None = number
+joined pair number (Some by) = operate by.operation number (atom_number pair by.right)
+
+unfoldable pub number_of : Pair → Value → ℕ
+number_of pair value = joined pair (joined pair (atom_number pair value.first) value.second) value.third
+
+-- ---- what is given
+
+abbrev pub with_flag : Flag → Bool → Flags → Flags
+with_flag N value flags = record flags { n = value }
+with_flag V value flags = record flags { v = value }
+with_flag D value flags = record flags { d = value }
+with_flag I value flags = record flags { i = value }
+with_flag Z value flags = record flags { z = value }
+with_flag C value flags = record flags { c = value }
+
+abbrev pub setting_of : Register → ℕ → Setting
+setting_of A number = setting.A number
+setting_of X number = setting.X number
+setting_of Y number = setting.Y number
+setting_of S number = setting.S number
+setting_of P number = setting.P number
+
+abbrev pub if_byte : ℕ → Event → Option Event
+if_byte number event = if nat_lt number 256 then Some event else None
+
+-- The event that gives a place a value. A byte is below 256, a flag below 2.
+unfoldable pub giving : Regs → Place → ℕ → Option Event
+giving regs (InRegister register) number = if_byte number (event.Set (setting_of register number))
+giving regs (InFlag flag) number = if nat_lt number 2
+    then Some (event.Set (setting.P (status false (with_flag flag (number == 1) regs.flags)))) else None
+giving regs (Byte address) number = if_byte number (byte_patched address number)
+giving regs Input number = if_byte number (event.Input number)
+giving regs (Output index) number = None
+giving regs OutputCount number = None
+giving regs Cycles number = None
+
+abbrev pub accepted : Session → Result State EventFault → Option Session
+accepted s (Ok state) = Some (with_state s state)
+accepted s (Err fault) = None
+
+abbrev pub given_event : Session → Option Event → Option Session
+given_event s None = None
+given_event s (Some event) = accepted s (event_of s.current event)
+
+-- The session after one item is given; none if the value is too large or the event is rejected.
+unfoldable pub given_one : Pair → Item → Session → Option Session
+given_one pair item s = given_event s (giving s.current.regs item.place (number_of pair item.value))
+
+abbrev pub if_given : Option Session → (Session → Option Session) → Option Session
+if_given None next = None
+if_given (Some s) next = next s
+
+unfoldable pub given_all : Pair → List Item → Session → Option Session
+given_all pair [] s = Some s
+given_all pair (item ∷ items) s = if_given (given_one pair item s) (given_all pair items)
+
+-- ---- what came
+
+abbrev pub flag_of : Flag → Flags → Bool
+flag_of N flags = flags.n
+flag_of V flags = flags.v
+flag_of D flags = flags.d
+flag_of I flags = flags.i
+flag_of Z flags = flags.z
+flag_of C flags = flags.c
+
+abbrev pub register_of : Register → Regs → ℕ
+register_of A regs = regs.a
+register_of X regs = regs.x
+register_of Y regs = regs.y
+register_of S regs = regs.s
+register_of P regs = status false regs.flags
+
+-- What is in a place after a call, which began in another state.
+unfoldable pub came : State → State → Place → Option ℕ
+came before after (InRegister register) = Some (register_of register after.regs)
+came before after (InFlag flag) = Some (bit (flag_of flag after.regs.flags))
+came before after (Byte address) = Some (slice_index after.bus.memory address)
+came before after Input = None
+came before after (Output index) = slice_get after.bus.out (length before.bus.out + index)
+came before after OutputCount = Some (length after.bus.out - length before.bus.out)
+came before after Cycles = Some (after.cycles - before.cycles)
+
+abbrev pub compares : Relation → ℕ → ℕ → Bool
+compares Equal came wanted = came == wanted
+compares Below came wanted = nat_lt came wanted
+compares Above came wanted = nat_lt wanted came
+
+abbrev pub if_came : Relation → Option ℕ → ℕ → Bool
+if_came relation None wanted = false
+if_came relation (Some number) wanted = compares relation number wanted
+
+unfoldable pub item_holds : Pair → State → State → Item → Bool
+item_holds pair before after item
+    = if_came item.relation (came before after item.place) (number_of pair item.value)
+
+-- ---- rows
+
+-- The most steps of a call. Source: mos65.
+abbrev pub most_steps : ℕ
+most_steps = 10000000
+
+abbrev pub is_return : Why → Bool
+is_return (Break address) = address == return_address
+is_return why = false
+
+-- A call has returned, the stack pointer is what it was, and each item holds.
+abbrev pub passes_after : Pair → List Item → Session → Result (RunEnd × Session) SessionFault → Bool
+passes_after pair wanted s (Ok called) = is_return called.0.why
+    && (called.1.current.regs.s == s.current.regs.s)
+    && list_all (item_holds pair s.current called.1.current) wanted
+passes_after pair wanted s (Err fault) = false
+
+abbrev pub passes_given : Pair → SeenRow → Option Session → Bool
+passes_given pair row None = false
+passes_given pair row (Some s) = passes_after pair row.wanted s (call_of row.address most_steps s)
+
+-- Whether a row passes for one value of each range, from a session on.
+unfoldable pub pair_passes : SeenRow → Session → Pair → Bool
+pair_passes row s pair = passes_given pair row (given_all pair row.given s)
+
+-- The first of so many numbers for which there is something.
+unfoldable pub first_from : ℕ → ℕ → (ℕ → Option Pair) → Option Pair
+first_from zero number test = None
+first_from (suc n) number test = option_or (test number) (first_from n (number + 1) test)
+
+abbrev pub first_in : Option Range → (ℕ → Option Pair) → Option Pair
+first_in None test = test 0
+first_in (Some range) test = first_from (range.last + 1 - range.first) range.first test
+
+abbrev pub failed_pair : SeenRow → Session → Pair → Option Pair
+failed_pair row s pair = if pair_passes row s pair then None else Some pair
+
+-- The first values of the ranges for which the row fails; the second range is the inner one.
+unfoldable pub first_failed : SeenRow → Session → Option Pair
+first_failed row s = first_in row.first (λ a. first_in row.second (λ b. failed_pair row s (a, b)))
+
+-- The values of the ranges as the code keeps them.
+abbrev pub pair_of : KeptPair → Pair
+pair_of pair = (pair.first, pair.second)

@@ -1,0 +1,261 @@
+//! The values of a row, what is given, and what came.
+
+ghost use Rattle.std.specs.Prelude.{◌≡◌, ◌≤◌, ◌<◌, ◌==◌, ◌+◌, IfSome, Some, None, MatchOption, true, false};
+ghost use Rattle.std.specs.Prelude.{length};
+ghost use Rattle.std.specs.List.{list_all};
+ghost use Rattle.model.specs.Arithmetic.{bit};
+ghost use Rattle.model.specs.Effect.{status};
+ghost use Rattle.model.specs.State.{State};
+ghost use Rattle.t65_runner.specs.Start.{IsSince};
+ghost use Rattle.t65_runner.specs.Passes.{atom_number, came, compares, flag_of, given_all, given_one};
+ghost use Rattle.t65_runner.specs.Passes.{giving, if_byte, item_holds, joined, number_of, operate};
+ghost use Rattle.t65_runner.specs.Passes.{pair_of, register_of, setting_of, with_flag};
+
+use debugger::{Event, Flags, Regs, Session, Setting};
+use t65_reader::{Atom, Flag, Item, Operation, Operator, Place, Register, Relation, Value};
+
+/// The values of a row's two ranges.
+#[derive(Clone, Copy)]
+pub struct Pair {
+    pub first: u32,
+    pub second: u32,
+}
+
+/// What a call is compared with: the state in which it began.
+#[derive(Clone, Copy)]
+pub struct CallStart {
+    pub output_count: u32,
+    pub cycles: u64,
+    pub stack: u8,
+}
+
+fn atom_number(pair: Pair, atom: Atom) -> u32
+    ensures { result ≡ atom_number (pair_of pair) atom }
+{
+    match atom {
+        Atom::Number(number) => number,
+        Atom::First => pair.first,
+        Atom::Second => pair.second,
+    }
+}
+
+fn operate(operation: Operation, a: u32, b: u32) -> u32
+    ensures { result ≡ operate operation a b }
+{
+    match operation {
+        Operation::Add => ((a as u64 + b as u64) % 4294967296) as u32,
+        Operation::Subtract => ((a as u64 + (4294967296 - b as u64)) % 4294967296) as u32,
+        Operation::Multiply => (a as u64 * b as u64 % 4294967296) as u32,
+        Operation::Divide => { if b == 0 { 0 } else { a / b } }
+        Operation::Remainder => { if b == 0 { 0 } else { a % b } }
+        Operation::And => a & b,
+        Operation::Or => a | b,
+        Operation::ExclusiveOr => a ^ b,
+    }
+}
+
+fn joined(pair: Pair, number: u32, by: Option<Operator>) -> u32
+    ensures { result ≡ joined (pair_of pair) number by }
+{
+    match by {
+        None => number,
+        Some(by) => operate(by.operation, number, atom_number(pair, by.right)),
+    }
+}
+
+/// Returns the number that a value is for values of the ranges.
+#[tactic(auto, unfolding(crate::specs::Passes::number_of))]
+pub fn number_of(pair: Pair, value: Value) -> u32
+    ensures { result ≡ number_of (pair_of pair) value }
+{
+    let first = atom_number(pair, value.first);
+    joined(pair, joined(pair, first, value.second), value.third)
+}
+
+fn with_flag(flag: Flag, value: bool, flags: Flags) -> Flags
+    ensures { result ≡ with_flag flag value flags }
+{
+    match flag {
+        Flag::N => Flags { n: value, ..flags },
+        Flag::V => Flags { v: value, ..flags },
+        Flag::D => Flags { d: value, ..flags },
+        Flag::I => Flags { i: value, ..flags },
+        Flag::Z => Flags { z: value, ..flags },
+        Flag::C => Flags { c: value, ..flags },
+    }
+}
+
+fn setting_of(register: Register, byte: u8) -> Setting
+    ensures { result ≡ setting_of register byte }
+{
+    match register {
+        Register::A => Setting::A(byte),
+        Register::X => Setting::X(byte),
+        Register::Y => Setting::Y(byte),
+        Register::S => Setting::S(byte),
+        Register::P => Setting::P(byte),
+    }
+}
+
+/// Returns the event that gives a place a value, or `None` where the place cannot have it.
+#[tactic(auto, unfolding(crate::specs::Passes::giving))]
+pub fn giving(regs: Regs, place: Place, number: u32) -> Option<Event>
+    ensures { result ≡ giving regs place number }
+{
+    if number > 255 {
+        return None;
+    }
+    let byte = number as u8;
+    match place {
+        Place::Register(register) => Some(Event::Set(setting_of(register, byte))),
+        Place::Flag(flag) => {
+            if byte > 1 {
+                return None;
+            }
+            let flags = with_flag(flag, byte == 1, regs.flags);
+            Some(Event::Set(Setting::P(flags.to_byte(false))))
+        }
+        Place::Byte(address) => Some(Event::Patch {
+            address,
+            bytes: [byte, 0, 0],
+            count: 1,
+        }),
+        Place::Input => Some(Event::Input(byte)),
+        Place::Output(_) | Place::OutputCount | Place::Cycles => None,
+    }
+}
+
+/// Gives one item, and returns whether it was taken.
+#[tactic(auto, using(crate::proofs::Since::since_state), unfolding(crate::specs::Passes::given_one))]
+pub fn given_one(session: &mut Session, pair: Pair, item: Item) -> bool
+    ensures taken { result ≡ true → given_one (pair_of pair) item session.old ≡ Some session.new }
+    ensures refused { result ≡ false → given_one (pair_of pair) item session.old ≡ None }
+    ensures same { result ≡ false → session.new ≡ session.old }
+    ensures since { (s : State) → IsSince s session.old → IsSince s session.new }
+    ensures stops { session.new.breaks ≡ session.old.breaks }
+{
+    match giving(session.regs(), item.place, number_of(pair, item.value)) {
+        Some(event) => session.event(event).is_ok(),
+        None => false,
+    }
+}
+
+fn flag_of(flag: Flag, flags: Flags) -> bool
+    ensures { result ≡ flag_of flag flags }
+{
+    match flag {
+        Flag::N => flags.n,
+        Flag::V => flags.v,
+        Flag::D => flags.d,
+        Flag::I => flags.i,
+        Flag::Z => flags.z,
+        Flag::C => flags.c,
+    }
+}
+
+/// Returns what of a session a call is compared with.
+pub fn call_start(session: &Session) -> CallStart
+    ensures count { result.output_count ≡ length session.now.current.bus.out }
+    ensures cycles { result.cycles ≡ session.now.current.cycles }
+    ensures stack { result.stack ≡ session.now.current.regs.s }
+    ensures within { result.output_count ≤ 65536 }
+{
+    // For the proof: the output has 65,536 bytes at most.
+    session.is_state();
+    CallStart {
+        output_count: session.output_len(),
+        cycles: session.cycles(),
+        stack: session.regs().s,
+    }
+}
+
+fn register_of(register: Register, regs: Regs) -> u8
+    ensures { result ≡ register_of register regs }
+{
+    match register {
+        Register::A => regs.a,
+        Register::X => regs.x,
+        Register::Y => regs.y,
+        Register::S => regs.s,
+        Register::P => regs.flags.to_byte(false),
+    }
+}
+
+/// Returns what is in a place after a call, or `None` where nothing is.
+#[tactic(auto, unfolding(crate::specs::Passes::came))]
+pub fn came(session: &Session, before: CallStart, place: Place) -> Option<u64>
+    requires { before.output_count ≤ 65536 }
+    ensures { (state : State) → before.output_count ≡ length state.bus.out
+        → before.cycles ≡ state.cycles → result ≡ came state session.now.current place }
+{
+    match place {
+        Place::Register(register) => Some(register_of(register, session.regs()) as u64),
+        Place::Flag(flag) => Some(flag_of(flag, session.regs().flags) as u64),
+        Place::Byte(address) => Some(session.peek(address) as u64),
+        Place::Input => None,
+        Place::Output(index) => {
+            let byte = session.output_at(before.output_count + index as u32)?;
+            Some(byte as u64)
+        }
+        Place::OutputCount => {
+            Some(session.output_len().saturating_sub(before.output_count) as u64)
+        }
+        Place::Cycles => Some(session.cycles().saturating_sub(before.cycles)),
+    }
+}
+
+pub fn compares(relation: Relation, came: u64, wanted: u32) -> bool
+    ensures { result ≡ compares relation came wanted }
+{
+    match relation {
+        Relation::Equal => came == wanted as u64,
+        Relation::Below => came < wanted as u64,
+        Relation::Above => came > wanted as u64,
+    }
+}
+
+/// Gives all items in order, and returns whether all were taken; it ends with the first that is
+/// not.
+pub fn given_all(session: &mut Session, pair: Pair, items: &[Item]) -> bool
+    ensures taken { result ≡ true
+        → given_all (pair_of pair) items.now session.old ≡ Some session.new }
+    ensures refused { result ≡ false → given_all (pair_of pair) items.now session.old ≡ None }
+    ensures since { (s : State) → IsSince s session.old → IsSince s session.new }
+    ensures stops { session.new.breaks ≡ session.old.breaks }
+{
+    for item in items {
+        if !given_one(session, pair, *item) {
+            return false;
+        }
+    }
+    true
+}
+
+/// Returns whether an item holds after a call.
+#[tactic(auto, unfolding(crate::specs::Passes::item_holds))]
+fn item_holds(session: &Session, before: CallStart, pair: Pair, item: &Item) -> bool
+    requires { before.output_count ≤ 65536 }
+    ensures { (state : State) → before.output_count ≡ length state.bus.out
+        → before.cycles ≡ state.cycles
+        → result ≡ item_holds (pair_of pair) state session.now.current item.now }
+{
+    match came(session, before, item.place) {
+        Some(came) => compares(item.relation, came, number_of(pair, item.value)),
+        None => false,
+    }
+}
+
+/// Returns whether all items hold after a call.
+pub fn all_hold(session: &Session, before: CallStart, pair: Pair, items: &[Item]) -> bool
+    requires { before.output_count ≤ 65536 }
+    ensures { (state : State) → before.output_count ≡ length state.bus.out
+        → before.cycles ≡ state.cycles
+        → result ≡ list_all (item_holds (pair_of pair) state session.now.current) items.now }
+{
+    for item in items {
+        if !item_holds(session, before, pair, item) {
+            return false;
+        }
+    }
+    true
+}

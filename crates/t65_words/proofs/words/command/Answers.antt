@@ -1,0 +1,20 @@
+use Rattle.std.proofs.Common.{rules, ap, ap₂, codes, true, ◌≡◌, ◌∙◌}
+use Rattle.clap.specs.Simple.{app_of_fields}
+use Rattle.clap.specs.Words.{App, app_of, new_app, rule_of, with_rule}
+use Rattle.program_words.specs.CommandLine.{option_rule}
+use Rattle.t65_words.specs.CommandLine.{files_rule}
+use Rattle.word_streams.specs.Words.{unnamed}
+use Rattle.t65_words.proofs.words.command.Goals as goal
+
+abbrev without_name : App → App
+without_name a = record a { top = record a.top { no_binary_name = true } }
+
+pub returns-clause-shape : goal.returns-clause-shape
+returns-clause-shape c =
+    let new_is : app_of c.after_help.result ≡ new_app (codes "test") = ap app_of_fields c.after_help.ensures ∙ ap app_of_fields c.about.ensures ∙ c.new.ensures.app in
+    let unnamed_is : app_of c.no_binary_name.result ≡ unnamed (codes "test") = ap app_of_fields c.no_binary_name.ensures ∙ ap without_name new_is in
+    let begun : app_of c.in_ok-bin_name.field-0 ≡ unnamed (codes "test") = ap app_of_fields c.in_ok-bin_name.ensures.0 ∙ unnamed_is in
+    let rule_0 : rule_of c.files.result ≡ files_rule (codes "FILE") = search rules in
+    let rule_1 : rule_of c.junit.result ≡ option_rule (codes "junit") = search rules in
+    let with_0 = c.in_ok-arg.ensures.shape (search rules) ∙ ap₂ with_rule begun rule_0 in
+    c.in_ok-command.ensures.shape (search rules) ∙ ap₂ with_rule with_0 rule_1

@@ -1,0 +1,10 @@
+-- What was read from the words of `test`, as what they ask for. Source: mos65.
+use Rattle.std.specs.Prelude.{map, option_map}
+use Rattle.t65_words.specs.Asked.{TestAsked}
+use Rattle.t65_words.specs.declared.words.TestWords.{TestWords}
+
+abbrev pub test_view : TestWords → TestAsked
+test_view w = record {
+  files = map (λ f. f.now) w.files.items;
+  junit = option_map (λ f. f.now) w.junit;
+}

@@ -1,0 +1,121 @@
+//! The words of `test`.
+
+ghost use Rattle.std.specs.Prelude.{◌≡◌, IfErr, IfOk, None, Some, codes, false, map, option_map};
+ghost use Rattle.clap.specs.Words.{app_of, first_value, found_of, kind_of, rule_of};
+ghost use Rattle.program_words.specs.CommandLine.{option_rule};
+ghost use Rattle.t65_words.specs.Asked.{all_values, test_asked, test_of};
+ghost use Rattle.t65_words.specs.CommandLine.{files_rule, test, words_asked};
+ghost use Rattle.t65_words.specs.Views.{test_view};
+ghost use Rattle.word_streams.specs.Words.{Fits, IsRefusalOf};
+
+use clap::error::ErrorKind;
+use clap::{Arg, ArgAction, ArgMatches, Command, Error};
+use program_words::WordsFault;
+use std::alloc::{AllocError, Global};
+
+/// What the words of `test` ask for.
+#[derive(Drop)]
+pub struct TestWords<'a> {
+    /// The files of rows, one at least.
+    pub files: Vec<&'a str>,
+    /// The file to write the report for JUnit to, if one is asked for.
+    pub junit: Option<&'a str>,
+}
+
+/// What the help of `test` shows below its options.
+const STATUSES: &str = "Exit status: 0 all rows pass, 1 a row fails, or rows or source are wrong,
+2 bad words or map, 3 out of memory, 4 I/O failed
+
+Example:
+  mos65 test crc8.t65";
+
+/// Returns the words that name files of rows, one at least.
+fn files<'a>(alloc: Global) -> Arg<'a>
+    ensures rule { rule_of result ≡ files_rule (codes "FILE") }
+    ensures local { result.global ≡ false }
+{
+    Arg::new(alloc, "FILE")
+        .required(true)
+        .action(ArgAction::Append)
+        .num_args(1..)
+        .help("Files of rows, each of which names its source")
+}
+
+/// Returns the option that asks for a report for JUnit.
+fn junit<'a>(alloc: Global) -> Arg<'a>
+    ensures rule { rule_of result ≡ option_rule (codes "junit") }
+    ensures local { result.global ≡ false }
+{
+    Arg::new(alloc, "junit")
+        .long("junit")
+        .value_name("FILE")
+        .action(ArgAction::Set)
+        .help("The file to write a report for JUnit to [default: none]")
+}
+
+/// Returns the command line of `test`.
+fn command<'a>(alloc: Global) -> Result<Command<'a>, Error>
+    ensures shape { IfOk result (λ c. app_of c ≡ test) }
+    ensures memory { IfErr result (λ e. kind_of e ≡ ErrorKind.OutOfMemory) }
+{
+    let command = Command::new(alloc, "test")
+        .about("Tests routines by rows: what is given to a call, and what it has to leave")
+        .after_help(STATUSES)
+        .no_binary_name(true)
+        .bin_name("mos65 test")?
+        .arg(files(alloc))?
+        .arg(junit(alloc))?;
+    Ok(command)
+}
+
+/// Returns what files and an option ask for, or `None` if there is no file.
+fn test_of<'a>(
+    alloc: Global,
+    files: &[&'a str],
+    junit: Option<&'a str>,
+) -> Result<Option<TestWords<'a>>, AllocError>
+    ensures { IfOk result (λ w. option_map test_view w
+        ≡ test_of (option_map (λ f. f.now) junit.entry) (map (λ f. f.now) files.now)) }
+{
+    match files {
+        [] => Ok(None),
+        [..] => Ok(Some(TestWords {
+            files: Vec::from_slice(alloc, files)?,
+            junit,
+        })),
+    }
+}
+
+/// Returns what the values that were found ask for, or `None` if no file is among them.
+fn asked<'a>(alloc: Global, matches: &ArgMatches<'a>) -> Result<Option<TestWords<'a>>, AllocError>
+    ensures { IfOk result (λ w. option_map test_view w
+        ≡ test_asked (first_value (found_of matches.now)) (all_values (found_of matches.now))) }
+{
+    match matches.get_strs("FILE") {
+        None => Ok(None),
+        Some(files) => test_of(alloc, files, matches.get_str("junit")),
+    }
+}
+
+/// Reads the words of `test`, its own name left out.
+///
+/// # Errors
+///
+/// - `Help` if they ask for help, and `Usage` if they do not fit the command line, with `clap`'s
+///   text.
+/// - `Value` if they name no file.
+/// - `OutOfMemory` if an allocation failed.
+pub fn read_words<'a>(alloc: Global, words: &'a [&'a str]) -> Result<TestWords<'a>, WordsFault>
+    ensures asked { IfOk result
+        (λ w. words_asked (map (λ s. s.now) words.entry.now) ≡ Some (test_view w)) }
+    ensures taken { IfOk result (λ w. Fits test (map (λ s. s.now) words.entry.now)) }
+    ensures refused { IfErr result (IsRefusalOf test (map (λ s. s.now) words.entry.now)
+        (words_asked (map (λ s. s.now) words.entry.now) ≡ None)) }
+{
+    let matches = command(alloc)?.try_get_matches_from(words)?;
+    match asked(alloc, &matches) {
+        Ok(Some(words)) => Ok(words),
+        Ok(None) => Err(WordsFault::Value),
+        Err(_) => Err(WordsFault::OutOfMemory),
+    }
+}

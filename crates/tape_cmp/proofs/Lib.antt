@@ -1,4 +1,0 @@
-pub mod Below
-pub mod Rows
-pub mod Starts
-pub mod Word

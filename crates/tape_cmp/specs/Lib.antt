@@ -1,4 +1,0 @@
-pub mod Differences
-pub mod Rows
-pub mod Sides
-pub mod Word

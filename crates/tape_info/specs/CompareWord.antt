@@ -1,0 +1,54 @@
+-- What `cmp` has done. Source: mos65. No clause can say which tapes two files have.
+use Rattle.std.specs.Prelude.{◌≡◌, ◌≢◌, ℕ, Bool, true, false, List, [], Option, Some, string_bytes}
+use Rattle.clap.specs.Words.{Text}
+use Rattle.model.specs.TapePieces.{IsReadInPieces, IsRefusedInPieces}
+use Rattle.model.specs.declared.tape.TapeFault.{TapeFault}
+use Rattle.tape_info.specs.Differences.{differences}
+use Rattle.tape_info.specs.DifferenceRows.{SideView, rows_of, side_of}
+use Rattle.tape_words.specs.Answers.{EndsLine}
+use Rattle.tape_words.specs.Asked.{CmpAsked, cmp_asked}
+use Rattle.tape_words.specs.CommandLines.{cmp}
+use Rattle.tape_words.specs.declared.answer.Answer.{Answer}
+use Rattle.word_streams.specs.Streams.{Tells, TellsFront}
+use Rattle.word_streams.specs.Words.{Fits}
+
+-- What is said of two sides: nothing if their images are equal, and the rows of their differences
+-- if they are not. The rows end with a line's end.
+abbrev pub IsSaidOf : SideView → SideView → Bool → List ℕ → Type 0
+IsSaidOf one other true said = (one.image ≡ other.image) × (said ≡ [])
+IsSaidOf one other false said = (one.image ≢ other.image)
+    × (said ≡ rows_of one other (differences one.image other.image)) × EndsLine said
+
+abbrev pub IsAnswerOf : SideView → SideView → Answer → Type 0
+IsAnswerOf one other answer = IsSaidOf one other answer.is_right (string_bytes answer.text)
+
+-- An image is that of some tape.
+abbrev pub IsOfTape : List (Option ℕ) → Type 0
+IsOfTape image = (text : List ℕ) × IsReadInPieces text image
+
+-- A text can be said of some two tapes, by the names and the profile that are asked for.
+pub record IsSaid (asked : CmpAsked) (is_same : Bool) (said : List ℕ) : Type 0 where
+  pub one : List (Option ℕ)
+  pub other : List (Option ℕ)
+  pub one_is : IsOfTape one
+  pub other_is : IsOfTape other
+  pub about : IsSaidOf (side_of asked.tape one asked.profile)
+      (side_of asked.other other asked.profile) is_same said
+
+-- Some tape has a fault.
+abbrev pub HasTapeFault : Type 0
+HasTapeFault = (fault : TapeFault) × ((text : List ℕ) × IsRefusedInPieces text fault)
+
+-- The words fit, and each value is one that its name can have.
+abbrev pub Asks : List Text → Type 0
+Asks words = (asked : CmpAsked) × Fits cmp words × (cmp_asked words ≡ Some asked)
+
+-- The words fit, and what they ask for was written, with the meaning of the status.
+abbrev pub TellsAsked : List Text → Bool → Option (List ℕ) → Option (List ℕ) → Type 0
+TellsAsked words is_same held now = (asked : CmpAsked) × Fits cmp words
+    × (cmp_asked words ≡ Some asked) × Tells (IsSaid asked) is_same held now
+
+-- The words fit, and a beginning of what they ask for was written.
+abbrev pub TellsAskedFront : List Text → Option (List ℕ) → Option (List ℕ) → Type 0
+TellsAskedFront words held now = (asked : CmpAsked) × Fits cmp words
+    × (cmp_asked words ≡ Some asked) × TellsFront (IsSaid asked) held now

@@ -1,7 +1,0 @@
-use Rattle.std.proofs.Common.{take}
-use Rattle.notes.specs.Lines.{texts_of}
-use Rattle.warning_notes.specs.Blocks.{AreBlocks}
-use Rattle.warning_notes.proofs.block.line_blocks.Given as goal
-
-abbrev pub invariant-loop-warning : goal.invariant-loop-warning
-invariant-loop-warning l = AreBlocks l.file (texts_of l.lines) (take l.warning-index l.warnings) l.text.items

@@ -1,0 +1,131 @@
+//! The lines of a source, put together with what the layout found of them.
+
+ghost use Rattle.std.specs.Prelude.{◌≡◌, ◌≤◌, IfOk, drop, length};
+ghost use Rattle.line_parts.specs.Contents.{map_option};
+ghost use Rattle.line_parts.specs.LineViews.{line_view};
+ghost use Rattle.model.specs.Layout.{size_of};
+ghost use Rattle.model.specs.TextLines.{lines_of};
+ghost use Rattle.source_faults.specs.Views.{found_all, found_view};
+ghost use Rattle.warnings.specs.Placed.{if_bytes, placed, placed_lines, said};
+ghost use Rattle.warnings.specs.Views.{placed_view, placed_views};
+
+use crate::placed_line::{Extent, PlacedLine};
+use asm_line::read_line_with;
+use line_parts::{Line, LineError, Token, next_line};
+use model::Profile;
+use source_faults::Found;
+use std::alloc::{AllocError, Global};
+
+/// The lines of a source up to `.END`, and the text after them.
+#[derive(Drop)]
+pub struct PlacedLines<'a> {
+    pub lines: Vec<PlacedLine<'a>>,
+    pub behind: &'a [u8],
+}
+
+/// The address of a line's bytes, or 0 without bytes, and their count.
+#[tactic(auto, unfolding(model::specs::Layout::size_of))]
+fn extent_of(found: &Found<'_>) -> Extent
+    ensures count { result.count ≡ size_of (found_view found.now).place.content }
+    ensures address { result.address
+        ≡ if_bytes (size_of (found_view found.now).place.content)
+        (found_view found.now).place.address }
+{
+    match found {
+        Found::Bytes(line) => {
+            if line.count == 0 {
+                Extent {
+                    address: 0,
+                    count: 0,
+                }
+            } else {
+                Extent {
+                    address: line.address,
+                    count: line.count,
+                }
+            }
+        }
+        Found::Refused { .. } | Found::Plain { .. } => Extent {
+            address: 0,
+            count: 0,
+        },
+    }
+}
+
+/// Returns what a text says in a profile, or `None` if it cannot be read. Its tokens are put into
+/// `room` in place of its contents.
+///
+/// The only error is that a request for memory was refused.
+pub fn said<'a>(
+    alloc: Global,
+    profile: Profile,
+    room: &mut Vec<Token<'a>>,
+    text: &'a [u8],
+) -> Result<Option<Line<'a>>, AllocError>
+    ensures { IfOk result (λ line. map_option line_view line ≡ said profile text.now) }
+{
+    match read_line_with(alloc, profile, room, text) {
+        Ok(line) => Ok(Some(line)),
+        Err(LineError::Kind(_)) => Ok(None),
+        Err(LineError::Memory) => Err(AllocError),
+    }
+}
+
+/// A line of which the layout found this.
+fn placed<'a>(
+    alloc: Global,
+    profile: Profile,
+    room: &mut Vec<Token<'a>>,
+    text: &'a [u8],
+    found: &Found<'_>,
+) -> Result<PlacedLine<'a>, AllocError>
+    ensures { IfOk result
+        (λ line. placed_view line ≡ placed profile text.now (found_view found.now)) }
+{
+    let line = said(alloc, profile, room, text)?;
+    let extent = extent_of(found);
+    Ok(PlacedLine {
+        text,
+        line,
+        address: extent.address,
+        count: extent.count,
+    })
+}
+
+/// Returns the lines of a source of which the layout found these, one after another, and the text
+/// after them.
+///
+/// The only error is that a request for memory was refused.
+pub fn placed_lines<'a>(
+    alloc: Global,
+    profile: Profile,
+    source: &'a [u8],
+    found: &[Found<'_>],
+) -> Result<PlacedLines<'a>, AllocError>
+    ensures lines { IfOk result (λ p. placed_views p.lines.items
+        ≡ placed_lines profile (lines_of source.now) (found_all found.now)) }
+    ensures behind { IfOk result (λ p. lines_of p.behind.now
+        ≡ drop (length found.now) (lines_of source.now)) }
+    ensures few { IfOk result (λ p. length p.lines.items ≤ length found.now) }
+    ensures short { IfOk result (λ p. length p.behind.now ≤ length source.now) }
+{
+    let mut lines = Vec::new(alloc);
+    let mut room = Vec::new(alloc);
+    let mut rest = source;
+    for one in found {
+        if rest.is_empty() {
+            return Ok(PlacedLines {
+                lines,
+                behind: rest,
+            });
+        }
+        let (text, behind) = next_line(rest);
+        let line = placed(alloc, profile, &mut room, text, one)?;
+        lines.push(line)?;
+        rest = behind;
+    }
+    Ok(PlacedLines {
+        lines,
+        behind: rest,
+    })
+}
