@@ -1,21 +1,10 @@
 //! The numbers of a command line.
 
-ghost use Rattle.std.specs.Prelude.{◌≡◌, ◌≤◌, length, IfSome};
-ghost use Rattle.model.specs.Digits.{decimal_number, decimal_value, hex_value};
+ghost use Rattle.std.specs.Prelude.{◌≡◌, ◌≤◌, length};
+ghost use Rattle.model.specs.Digits.{decimal_number};
 ghost use Rattle.model.specs.Commands.{address_of, byte_of, decimal_of, from_1_to};
 
-/// Returns the value of a hex digit in either letter case, or `None` for any other byte.
-fn hex_value(byte: u8) -> Option<u8>
-    ensures value { result ≡ hex_value byte }
-    ensures within { IfSome result (λ digit. digit ≤ 15) }
-{
-    match byte {
-        b'A'..=b'F' => Some(byte - 55),
-        b'a'..=b'f' => Some(byte - 87),
-        b'0'..=b'9' => Some(byte - 48),
-        _ => None,
-    }
-}
+use formatting::{decimal_value, hex_value};
 
 /// Returns the address that exactly four hex digits write; otherwise `None`. Source: mos65.
 pub fn address_of(word: &[u8]) -> Option<u16>
@@ -41,17 +30,6 @@ pub fn byte_of(word: &[u8]) -> Option<u8>
     let a = hex_value(*a)?;
     let b = hex_value(*b)?;
     Some(a * 16 + b)
-}
-
-/// Returns the value of a decimal digit, or `None` for any other byte.
-fn decimal_value(byte: u8) -> Option<u8>
-    ensures value { result ≡ decimal_value byte }
-    ensures within { IfSome result (λ digit. digit ≤ 9) }
-{
-    match byte {
-        b'0'..=b'9' => Some(byte - 48),
-        _ => None,
-    }
 }
 
 /// Returns the number that at most seven decimal digits write.

@@ -1,32 +1,10 @@
 //! The numbers that digits write.
 
-ghost use Rattle.std.specs.Prelude.{◌≡◌, ◌≤◌, IfSome, length};
+ghost use Rattle.std.specs.Prelude.{◌≡◌, ◌≤◌, length};
 ghost use Rattle.loading.specs.Place.{as_address};
-ghost use Rattle.model.specs.Digits.{decimal_number, decimal_value, hex_number, hex_value};
+ghost use Rattle.model.specs.Digits.{decimal_number, hex_number};
 
-/// Returns the value of a hex digit in either letter case, or `None` for any other byte.
-fn hex_value(byte: u8) -> Option<u8>
-    ensures value { result ≡ hex_value byte }
-    ensures within { IfSome result (λ digit. digit ≤ 15) }
-{
-    match byte {
-        b'A'..=b'F' => Some(byte - 55),
-        b'a'..=b'f' => Some(byte - 87),
-        b'0'..=b'9' => Some(byte - 48),
-        _ => None,
-    }
-}
-
-/// Returns the value of a decimal digit, or `None` for any other byte.
-fn decimal_value(byte: u8) -> Option<u8>
-    ensures value { result ≡ decimal_value byte }
-    ensures within { IfSome result (λ digit. digit ≤ 9) }
-{
-    match byte {
-        b'0'..=b'9' => Some(byte - 48),
-        _ => None,
-    }
-}
+use formatting::{decimal_value, hex_value};
 
 /// Returns the number that at most eighteen decimal digits write, or `None` if a byte is no digit.
 pub fn decimal_number(word: &[u8]) -> Option<u64>

@@ -6,6 +6,7 @@ ghost use Rattle.mon_dispatch.specs.Texts.{decimal_text, if_decimal, line_text};
 ghost use Rattle.mon_session.specs.Served.{ShowsOnly};
 
 use crate::look;
+use formatting::push_text;
 use mon_lines::{Command, decimal_address, read_line};
 use mon_session::Desk;
 use mon_settings::{
@@ -15,7 +16,7 @@ use mon_steps::{
     redo, run, run_until, show_history, step_out, step_over, steps, undo, undo_to_stop,
 };
 use mon_stops::{Break, Watch};
-use mon_texts::{push_slip, push_text};
+use mon_texts::push_slip;
 use std::alloc::{AllocError, Global};
 
 /// Does what a line asks for, and says so.

@@ -5,8 +5,9 @@ ghost use Rattle.std.specs.Prelude.{if◌then◌else◌, nat_lt};
 ghost use Rattle.mon_session.specs.Served.{ShowsOnly};
 ghost use Rattle.mon_dispatch.specs.LookTexts.{find_text, found_line, stands_at};
 
+use formatting::push_text;
 use mon_session::{Desk, Session};
-use mon_texts::{push_place, push_text};
+use mon_texts::push_place;
 use source_map::Places;
 use std::alloc::AllocError;
 

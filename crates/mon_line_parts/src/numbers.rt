@@ -1,28 +1,16 @@
 //! Numbers as sources write them.
 
-ghost use Rattle.std.specs.Prelude.{◌≡◌, ◌≤◌, IfSome};
-ghost use Rattle.model.specs.Digits.{hex_value};
+ghost use Rattle.std.specs.Prelude.{◌≡◌};
 ghost use Rattle.mon_line_parts.specs.Reading.{digit_in, number_in};
 
-/// The value of a hex digit.
-fn hex_value(byte: u8) -> Option<u32>
-    ensures value { result ≡ hex_value byte }
-    ensures within { IfSome result (λ digit. digit ≤ 15) }
-{
-    match byte {
-        b'A'..=b'F' => Some(byte as u32 - 55),
-        b'a'..=b'f' => Some(byte as u32 - 87),
-        b'0'..=b'9' => Some(byte as u32 - 48),
-        _ => None,
-    }
-}
+use formatting::hex_value;
 
 /// The value of a digit of a base.
 fn digit_in(base: u32, byte: u8) -> Option<u32>
     ensures { result ≡ digit_in base byte }
 {
     match hex_value(byte) {
-        Some(digit) if digit < base => Some(digit),
+        Some(digit) if (digit as u32) < base => Some(digit as u32),
         _ => None,
     }
 }

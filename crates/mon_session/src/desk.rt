@@ -11,10 +11,11 @@ ghost use Rattle.mon_session.specs.Texts.{row_or_entry, shown_text};
 ghost use Rattle.mon_texts.specs.Instructions.{instruction_at, instruction_line};
 
 use crate::Events;
+use formatting::{push_count, push_text};
 use model::EventFault;
 use mon_runs::{Event, Session, is_entry};
 use mon_stops::Stops;
-use mon_texts::{push_count, push_fault, push_next, push_place, push_row, push_state, push_text};
+use mon_texts::{push_fault, push_next, push_place, push_row, push_state};
 use source_map::Places;
 use std::alloc::{AllocError, Global};
 

@@ -6,9 +6,10 @@ ghost use Rattle.mon_steps.specs.Texts.{came_to, ended_at_text, ended_text, is_t
 ghost use Rattle.mon_steps.specs.Texts.{told_text};
 ghost use Rattle.mon_texts.specs.Places.{place_text};
 
+use formatting::{push_count, push_text};
 use mon_runs::{EndWhy, Ended, LedEnd, LedWhy, Why};
 use mon_session::Desk;
-use mon_texts::{push_count, push_end, push_place, push_text};
+use mon_texts::{push_end, push_place};
 use source_map::Places;
 use std::alloc::AllocError;
 

@@ -4,7 +4,7 @@ use Rattle.std.specs.List.{flat_map}
 use Rattle.mon_line_parts.specs.Told.{effect_of, example_of, form_of}
 use Rattle.mon_line_parts.specs.declared.topic.Topic.{Topic}
 use Rattle.mon_line_parts.specs.declared.topic.Topic.TheVariants as topic
-use Rattle.mon_texts.specs.Places.{padded}
+use Rattle.formatting.specs.Padding.{padded}
 
 -- The topics, in the order in which help tells them.
 unfoldable pub all_topics : List Topic

@@ -8,7 +8,7 @@ use Rattle.model.specs.InstructionText.{TextRow, row_of}
 use Rattle.mon_line_parts.specs.Reading.{number_in}
 use Rattle.source_map.specs.Lines.{PlacesView, line_at}
 use Rattle.source_map.specs.Names.{Named, name_at}
-use Rattle.mon_texts.specs.Places.{padded}
+use Rattle.formatting.specs.Padding.{padded}
 
 -- ---- a name in place of an address
 

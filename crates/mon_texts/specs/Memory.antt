@@ -4,7 +4,7 @@ use Rattle.std.specs.List.{flat_map, range_with_len}
 use Rattle.model.specs.Text.{hex_address, hex_byte}
 use Rattle.mon_lines.specs.declared.command.Stretch.{Stretch}
 use Rattle.mon_texts.specs.Instructions.{byte_column}
-use Rattle.mon_texts.specs.Places.{padded}
+use Rattle.formatting.specs.Padding.{padded}
 use Rattle.mon_texts.specs.Shown.{shown_character}
 
 -- ---- memory

@@ -1,14 +1,7 @@
--- Columns, and places in a text. Source: mos65.
-use Rattle.std.specs.Prelude.{ℕ, ◌-◌, ◌==◌, if◌then◌else◌, List, [], ◌∷◌, ◌++◌, Option, None, Some, length, replicate, decimal}
+-- Places in a text. Source: mos65.
+use Rattle.std.specs.Prelude.{ℕ, ◌==◌, if◌then◌else◌, List, [], ◌∷◌, ◌++◌, Option, None, Some, decimal}
 use Rattle.model.specs.Text.{hex_address}
 use Rattle.source_map.specs.Names.{Named, Near, name_at, name_near}
-
--- A row, with blanks behind it up to a width.
-abbrev pub blanks : ℕ → List ℕ
-blanks count = replicate count 32
-
-unfoldable pub padded : ℕ → List ℕ → List ℕ
-padded width row = row ++ blanks (width - length row)
 
 -- How far an address is above its name: `+4`, and nothing for 0.
 abbrev pub distance_text : ℕ → List ℕ

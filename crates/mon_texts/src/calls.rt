@@ -4,8 +4,9 @@ ghost use Rattle.std.specs.Prelude.{◌≡◌, ◌+◌, ◌<◌, ◌++◌, OnOk,
 ghost use Rattle.mon_texts.specs.Calls.{at_line, call_line, call_lines, calls_text, jsr_of};
 
 use crate::instructions::push_instruction;
-use crate::words::{push_place, push_text};
+use crate::words::push_place;
 use debugger::Session;
+use formatting::push_text;
 use source_map::Places;
 use std::alloc::AllocError;
 

@@ -8,7 +8,7 @@ ghost use Rattle.mon_texts.specs.Help.{topic_help};
 ghost use Rattle.mon_texts.specs.Slips.{lack_text, quoted, quoted_and, quoted_byte, range_text};
 ghost use Rattle.mon_texts.specs.Slips.{slip_text};
 
-use crate::words::{push_blanks, push_count, push_text};
+use formatting::{push_blanks, push_count, push_text};
 use mon_line_parts::{Lack, TOPICS, Topic, Why};
 use mon_lines::Slip;
 use std::alloc::AllocError;

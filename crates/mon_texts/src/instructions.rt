@@ -13,9 +13,9 @@ ghost use Rattle.mon_texts.specs.Instructions.{is_hex_digit, is_no_dollar, name_
 ghost use Rattle.mon_texts.specs.Instructions.{name_of_number, named_text, next_line, rest_of};
 ghost use Rattle.mon_texts.specs.Instructions.{with_line};
 
-use crate::words::{push_address, push_blanks, push_byte, push_count, push_text};
 use debugger::Session;
 use disasm::{TextLine, line_in};
+use formatting::{push_address, push_blanks, push_byte, push_count, push_text};
 use mon_line_parts::number_in;
 use source_map::Places;
 use std::alloc::AllocError;
@@ -195,7 +195,7 @@ fn push_bytes(text: &mut Vec<u8>, bytes: &[u8]) -> Result<(), AllocError>
 
 /// Appends the address, the bytes and the text of the instruction at an address, and returns how
 /// many bytes it has.
-#[tactic(auto, using(crate::proofs::Rows::grown), unfolding(crate::specs::Instructions::instruction_columns))]
+#[tactic(auto, using(formatting::proofs::Padding::grown), unfolding(crate::specs::Instructions::instruction_columns))]
 fn push_columns(
     text: &mut Vec<u8>,
     session: &Session,
@@ -216,7 +216,7 @@ fn push_columns(
 }
 
 /// Appends the file and the number of a line to the row that begins at `from`.
-#[tactic(auto, using(crate::proofs::Rows::grown), unfolding(crate::specs::Instructions::with_line))]
+#[tactic(auto, using(formatting::proofs::Padding::grown), unfolding(crate::specs::Instructions::with_line))]
 fn push_line(
     text: &mut Vec<u8>,
     from: usize,
@@ -242,7 +242,7 @@ fn push_line(
 /// one. Returns how many bytes it has.
 ///
 /// Errors: `AllocError` if an allocation fails.
-#[tactic(auto, using(crate::proofs::Rows::grown))]
+#[tactic(auto, using(formatting::proofs::Padding::grown))]
 pub fn push_row(
     text: &mut Vec<u8>,
     session: &Session,

@@ -21,4 +21,4 @@ pub use reasons::{push_end, push_fault};
 pub use screen::push_screen;
 pub use state::{push_flags, push_state};
 pub use stops::{push_break, push_watch};
-pub use words::{push_address, push_byte, push_count, push_place, push_text};
+pub use words::push_place;

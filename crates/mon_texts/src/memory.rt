@@ -8,8 +8,9 @@ ghost use Rattle.mon_texts.specs.Memory.{goes_on_at, memory_row, memory_rows, me
 ghost use Rattle.mon_texts.specs.Memory.{numbered_row, shown_count, stack_line};
 
 use crate::instructions::push_byte_column;
-use crate::words::{push_address, push_blanks, push_byte, push_character, push_text};
+use crate::words::push_character;
 use debugger::Session;
+use formatting::{push_address, push_blanks, push_byte, push_text};
 use mon_lines::Stretch;
 use std::alloc::AllocError;
 
@@ -48,7 +49,7 @@ fn push_characters(
 }
 
 /// Appends a row of memory: an address, so many bytes, and the characters beside them.
-#[tactic(auto, using(crate::proofs::Rows::grown), unfolding(crate::specs::Memory::memory_row))]
+#[tactic(auto, using(formatting::proofs::Padding::grown), unfolding(crate::specs::Memory::memory_row))]
 fn push_row(text: &mut Vec<u8>, session: &Session, first: u16, count: u16) -> Result<(), AllocError>
     requires { first + count ≤ 65536 }
     ensures { OnOk result (text.new.items ≡ text.old.items

@@ -5,8 +5,9 @@ ghost use Rattle.model.specs.declared.run_end.Why.TheVariants.{Watch};
 ghost use Rattle.mon_texts.specs.Reasons.{break_text, end_line, fault_text, steps_text, stop_text};
 ghost use Rattle.mon_texts.specs.Reasons.{undocumented_text, why_text};
 
-use crate::words::{push_byte, push_count, push_place, push_text};
+use crate::words::push_place;
 use debugger::{EventFault, Session};
+use formatting::{push_byte, push_count, push_text};
 use mon_runs::{LedEnd, LedWhy, Why};
 use source_map::Places;
 use std::alloc::AllocError;

@@ -4,8 +4,9 @@ ghost use Rattle.std.specs.Prelude.{◌≡◌, ◌≤◌, ◌++◌, OnOk, drop, 
 ghost use Rattle.std.specs.List.{flat_map};
 ghost use Rattle.mon_texts.specs.Screen.{is_open, line_end, output_text, screen_text};
 
-use crate::words::{push_character, push_text};
+use crate::words::push_character;
 use debugger::Session;
+use formatting::push_text;
 use std::alloc::AllocError;
 
 /// Appends what a byte of the output shows: LF ends the line, and CR is left out.

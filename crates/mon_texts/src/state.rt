@@ -5,8 +5,9 @@ ghost use Rattle.mon_texts.specs.Registers.{course_text, flag_letter, flag_lette
 ghost use Rattle.mon_texts.specs.Registers.{flag_value, flags_text, named_byte, regs_text};
 ghost use Rattle.mon_texts.specs.Registers.{since_text, state_line};
 
-use crate::words::{push_byte, push_count, push_place, push_text};
+use crate::words::push_place;
 use debugger::{Flags, Session};
+use formatting::{push_byte, push_count, push_text};
 use model::Regs;
 use source_map::Places;
 use std::alloc::AllocError;

@@ -7,7 +7,8 @@ ghost use Rattle.mon_texts.specs.Stops.{break_line, further_test, kind_text, las
 ghost use Rattle.mon_texts.specs.Stops.{left_text, name_or_digits, number_text, register_name};
 ghost use Rattle.mon_texts.specs.Stops.{sign, test_text, tests_text, times_text, watch_line};
 
-use crate::words::{push_address, push_byte, push_count, push_place, push_text};
+use crate::words::push_place;
+use formatting::{push_address, push_byte, push_count, push_text};
 use mon_lines::{Compare, Left, Register, Stretch, Test, WatchKind};
 use source_map::Places;
 use std::alloc::AllocError;

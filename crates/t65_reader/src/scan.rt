@@ -4,7 +4,7 @@ ghost use Rattle.std.specs.Prelude.{◌≡◌, ◌==◌, ◌+◌, ◌<◌, ◌�
 ghost use Rattle.std.specs.Prelude.{take, true};
 ghost use Rattle.std.specs.List.{prefix_len};
 ghost use Rattle.std.specs.Str.{bytes_eq};
-ghost use Rattle.model.specs.Digits.{hex_number, hex_value};
+ghost use Rattle.model.specs.Digits.{hex_number};
 ghost use Rattle.model.specs.Token.{begins, is_blank, is_digit, is_word_byte};
 ghost use Rattle.t65_reader.specs.RowText.{address_of, address_or_fault, after_sign, after_word};
 ghost use Rattle.t65_reader.specs.RowText.{base_address_of, ends, fault_at, is_next, name_of};
@@ -14,6 +14,7 @@ ghost use Rattle.t65_reader.specs.RowText.{sum_or_fault, unnamed, word_of};
 use crate::fault::{RowFault, RowFaultKind};
 use assembler::Assembly;
 use commands::digits;
+use formatting::hex_value;
 
 /// How the digits of a bare number are read.
 #[derive(Clone, Copy)]
@@ -118,19 +119,6 @@ pub fn is_text(word: &[u8], text: &[u8]) -> bool
     ensures { result ≡ bytes_eq word.now text.now }
 {
     word == text
-}
-
-/// Returns the value of a hex digit in either letter case, or `None` for any other byte.
-fn hex_value(byte: u8) -> Option<u8>
-    ensures value { result ≡ hex_value byte }
-    ensures within { IfSome result (λ digit. digit ≤ 15) }
-{
-    match byte {
-        b'A'..=b'F' => Some(byte - 55),
-        b'a'..=b'f' => Some(byte - 87),
-        b'0'..=b'9' => Some(byte - 48),
-        _ => None,
-    }
 }
 
 /// Returns the number that at most four hex digits write.

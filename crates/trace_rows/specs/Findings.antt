@@ -8,7 +8,7 @@ use Rattle.trace_rows.specs.declared.unwritten.Finding.{Finding}
 use Rattle.trace_rows.specs.declared.unwritten.Part.{Part}
 use Rattle.trace_rows.specs.declared.unwritten.Part.TheVariants.{Code, Vector}
 use Rattle.trace_rows.specs.Steps.{ended_row, row_front, with_executed}
-use Rattle.trace_rows.specs.Words.{padded}
+use Rattle.formatting.specs.Padding.{padded}
 
 -- Whether a byte is read for the vector of an entry.
 abbrev pub is_vector : Part → Bool

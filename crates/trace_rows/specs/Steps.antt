@@ -12,7 +12,8 @@ use Rattle.accesses.specs.declared.moment.Moment.{Moment}
 use Rattle.trace_rows.specs.declared.sites.Sites.{Sites}
 use Rattle.trace_rows.specs.declared.words.SiteColumns.{SiteColumns}
 use Rattle.trace_rows.specs.declared.steps.Step.{Step}
-use Rattle.trace_rows.specs.Words.{count_text, padded, with_site}
+use Rattle.formatting.specs.Padding.{padded}
+use Rattle.trace_rows.specs.Words.{count_text, with_site}
 
 -- ---- the instruction
 

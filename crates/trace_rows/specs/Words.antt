@@ -1,20 +1,14 @@
 -- Numbers, columns and places in a row. Source: mos65.
-use Rattle.std.specs.Prelude.{ℕ, ◌-◌, ◌==◌, if◌then◌else◌, List, [], ◌∷◌, ◌++◌, Option, None, Some, length, replicate, decimal, codes}
+use Rattle.std.specs.Prelude.{ℕ, ◌-◌, ◌==◌, if◌then◌else◌, List, [], ◌∷◌, ◌++◌, Option, None, Some, length, decimal, codes}
+use Rattle.formatting.specs.Padding.{blanks, padded}
 use Rattle.trace_rows.specs.declared.lines.SourceLine.{SourceLine}
 use Rattle.trace_rows.specs.declared.sites.Sites.{Sites}
 use Rattle.trace_rows.specs.declared.words.SiteColumns.{SiteColumns}
 use Rattle.trace_rows.specs.Sites.{label_near, line_at}
 
-abbrev pub blanks : ℕ → List ℕ
-blanks count = replicate count 32
-
 -- A number in decimal, with blanks before it up to a width.
 unfoldable pub count_text : ℕ → ℕ → List ℕ
 count_text width number = blanks (width - length (decimal number)) ++ decimal number
-
--- A row, with blanks behind it up to a column.
-unfoldable pub padded : ℕ → List ℕ → List ℕ
-padded column row = row ++ blanks (column - length row)
 
 -- How far an address is above its label: `+4`, and nothing for 0.
 abbrev pub distance_text : ℕ → List ℕ

@@ -11,8 +11,9 @@ ghost use Rattle.trace_rows.specs.Counts.{with_unreached};
 
 use crate::lines::SourceLine;
 use crate::sites::{Label, Sites};
-use crate::words::{push_address, push_count};
+use crate::words::push_padded;
 use accesses::{Count, Tally};
+use formatting::push_address;
 use std::alloc::{AllocError, Global};
 
 /// The columns of visits.
@@ -41,8 +42,8 @@ fn push_head(text: &mut Vec<u8>, what: &[u8]) -> Result<(), AllocError>
 fn push_columns(text: &mut Vec<u8>, count: Count) -> Result<(), AllocError>
     ensures { OnOk result (text.new.items ≡ text.old.items ++ columns_text count) }
 {
-    push_count(text, count.visits, VISITS)?;
-    push_count(text, count.cycles, CYCLES)?;
+    push_padded(text, count.visits, VISITS)?;
+    push_padded(text, count.cycles, CYCLES)?;
     text.extend_from_slice(b"  ")
 }
 
@@ -170,7 +171,7 @@ fn push_label_rows(text: &mut Vec<u8>, sites: &Sites, counts: &[Count]) -> Resul
 fn push_line(text: &mut Vec<u8>, line: &SourceLine) -> Result<(), AllocError>
     ensures { OnOk result (text.new.items ≡ text.old.items ++ line_text line.now) }
 {
-    push_count(text, line.number as u64, NUMBER)?;
+    push_padded(text, line.number as u64, NUMBER)?;
     text.extend_from_slice(b": ")?;
     text.extend_from_slice(line.text.as_slice())?;
     text.push(b'\n')?;

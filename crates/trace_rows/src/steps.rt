@@ -10,10 +10,11 @@ ghost use Rattle.trace_rows.specs.Steps.{byte_column, named_byte, step_front, st
 ghost use Rattle.trace_rows.specs.Steps.{with_stores};
 
 use crate::sites::Sites;
-use crate::words::{SiteColumns, push_address, push_blanks, push_byte, push_front, push_row_end};
+use crate::words::{SiteColumns, push_front, push_row_end};
 use accesses::{Addresses, Moment};
 use debugger::Session;
 use disasm::{TextLine, line_in};
+use formatting::{push_address, push_blanks, push_byte};
 use model::{Flags, Regs};
 use std::alloc::AllocError;
 
@@ -73,7 +74,7 @@ fn push_byte_column(text: &mut Vec<u8>, byte: u8) -> Result<(), AllocError>
 }
 
 /// Appends the bytes and the text of the instruction of a moment.
-#[tactic(auto, using(crate::proofs::Rows::grown), unfolding(crate::specs::Steps::instruction_columns))]
+#[tactic(auto, using(formatting::proofs::Padding::grown), unfolding(crate::specs::Steps::instruction_columns))]
 pub fn push_instruction(
     text: &mut Vec<u8>,
     session: &Session,
@@ -91,7 +92,7 @@ pub fn push_instruction(
 }
 
 /// Appends what stands for the instruction in the row of an interrupt entry that begins at `from`.
-#[tactic(auto, using(crate::proofs::Rows::grown), unfolding(crate::specs::Steps::with_entry))]
+#[tactic(auto, using(formatting::proofs::Padding::grown), unfolding(crate::specs::Steps::with_entry))]
 pub fn push_entry(text: &mut Vec<u8>, from: usize) -> Result<(), AllocError>
     requires { from ≤ length text.old.items }
     ensures { OnOk result (text.new.items ≡ take from text.old.items
@@ -102,7 +103,7 @@ pub fn push_entry(text: &mut Vec<u8>, from: usize) -> Result<(), AllocError>
 }
 
 /// Appends what a step executes to the row that begins at `from`: an entry, or the instruction.
-#[tactic(auto, using(crate::proofs::Rows::grown))]
+#[tactic(auto, using(formatting::proofs::Padding::grown))]
 pub fn push_executed(
     text: &mut Vec<u8>,
     from: usize,
@@ -215,7 +216,7 @@ fn byte_left(session: &Session, address: u16) -> u8
 }
 
 /// Appends what the row of a step has before its stores.
-#[tactic(auto, using(crate::proofs::Rows::grown), unfolding(crate::specs::Steps::step_front))]
+#[tactic(auto, using(formatting::proofs::Padding::grown), unfolding(crate::specs::Steps::step_front))]
 fn push_step_front(text: &mut Vec<u8>, session: &Session, step: &Step) -> Result<(), AllocError>
     ensures { OnOk result (text.new.items ≡ text.old.items
         ++ step_front session.now.current step.now) }
@@ -236,7 +237,7 @@ fn push_step_front(text: &mut Vec<u8>, session: &Session, step: &Step) -> Result
 /// The session is in the state after the step.
 ///
 /// Errors: `AllocError` if an allocation fails.
-#[tactic(auto, using(crate::proofs::Rows::grown), unfolding(crate::specs::Steps::step_row))]
+#[tactic(auto, using(formatting::proofs::Padding::grown), unfolding(crate::specs::Steps::step_row))]
 pub fn push_step(
     text: &mut Vec<u8>,
     session: &Session,

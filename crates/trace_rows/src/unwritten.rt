@@ -5,9 +5,10 @@ ghost use Rattle.trace_rows.specs.Findings.{finding_front, finding_row, read_tex
 
 use crate::sites::Sites;
 use crate::steps::push_executed;
-use crate::words::{SiteColumns, push_address, push_blanks, push_front, push_row_end};
+use crate::words::{SiteColumns, push_front, push_row_end};
 use accesses::Moment;
 use debugger::Session;
+use formatting::{push_address, push_blanks};
 use std::alloc::AllocError;
 
 /// What a step reads a byte for.
@@ -41,7 +42,7 @@ const SITE: SiteColumns = SiteColumns {
 };
 
 /// Appends what the row of a finding has before the label.
-#[tactic(auto, using(crate::proofs::Rows::grown), unfolding(crate::specs::Findings::finding_front))]
+#[tactic(auto, using(formatting::proofs::Padding::grown), unfolding(crate::specs::Findings::finding_front))]
 fn push_finding_front(
     text: &mut Vec<u8>,
     session: &Session,
@@ -83,7 +84,7 @@ fn push_verb(text: &mut Vec<u8>, part: Part) -> Result<(), AllocError>
 /// instruction, what it reads, and the label and the line of the source as far as there are any.
 ///
 /// Errors: `AllocError` if an allocation fails.
-#[tactic(auto, using(crate::proofs::Rows::grown), unfolding(crate::specs::Findings::finding_row))]
+#[tactic(auto, using(formatting::proofs::Padding::grown), unfolding(crate::specs::Findings::finding_row))]
 pub fn push_finding(
     text: &mut Vec<u8>,
     session: &Session,

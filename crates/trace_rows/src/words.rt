@@ -1,20 +1,19 @@
 //! Numbers, columns and places in a text.
 
-ghost use Rattle.std.specs.Prelude.{◌≡◌, ◌≤◌, ◌++◌, OnOk, decimal, length, take, drop};
-ghost use Rattle.model.specs.Text.{hex_byte, hex_address};
+ghost use Rattle.std.specs.Prelude.{◌≡◌, ◌≤◌, ◌++◌, OnOk, Some, length, take, drop};
 ghost use Rattle.trace_rows.specs.Steps.{ended_row, row_front};
-ghost use Rattle.trace_rows.specs.Words.{count_text, padded, with_label, with_line, with_site};
+ghost use Rattle.trace_rows.specs.Words.{count_text, with_label, with_line, with_site};
 
 use crate::lines::SourceLine;
 use crate::sites::Sites;
 use accesses::Moment;
-use formatting::{digits_of, digits_of_address};
+use formatting::{push_address, push_blanks, push_count};
 use itoa::Buffer;
 use std::alloc::AllocError;
 
 /// Appends a number in decimal, with blanks before it up to a width.
 #[tactic(auto, unfolding(crate::specs::Words::count_text))]
-pub fn push_count(text: &mut Vec<u8>, number: u64, width: u8) -> Result<(), AllocError>
+pub fn push_padded(text: &mut Vec<u8>, number: u64, width: u8) -> Result<(), AllocError>
     ensures { OnOk result (text.new.items ≡ text.old.items ++ count_text width number) }
 {
     let mut buffer = Buffer::new();
@@ -22,42 +21,6 @@ pub fn push_count(text: &mut Vec<u8>, number: u64, width: u8) -> Result<(), Allo
     let missing = (width as usize).saturating_sub(digits.len());
     text.resize(text.len() + missing, b' ')?;
     text.extend_from_slice(digits)
-}
-
-/// Appends a number in decimal.
-pub fn push_number(text: &mut Vec<u8>, number: u64) -> Result<(), AllocError>
-    ensures { OnOk result (text.new.items ≡ text.old.items ++ decimal number) }
-{
-    text.extend_from_slice(Buffer::new().format(number).as_bytes())
-}
-
-/// Appends a byte as two hex digits.
-pub fn push_byte(text: &mut Vec<u8>, byte: u8) -> Result<(), AllocError>
-    ensures { OnOk result (text.new.items ≡ text.old.items ++ hex_byte byte) }
-{
-    text.extend_from_slice(&digits_of(byte))
-}
-
-/// Appends an address as four hex digits.
-pub fn push_address(text: &mut Vec<u8>, address: u16) -> Result<(), AllocError>
-    ensures { OnOk result (text.new.items ≡ text.old.items ++ hex_address address) }
-{
-    text.extend_from_slice(&digits_of_address(address))
-}
-
-/// Appends blanks up to a column of the row that begins at `from`.
-///
-/// It is called only before something follows, so that no row ends in a blank.
-#[tactic(auto, using(crate::proofs::Rows::padded_at))]
-pub fn push_blanks(text: &mut Vec<u8>, from: usize, column: u8) -> Result<(), AllocError>
-    requires { from ≤ length text.old.items }
-    ensures { OnOk result (text.new.items ≡ take from text.old.items
-        ++ padded column (drop from text.old.items)) }
-{
-    let width = text.len() - from;
-    let missing = (column as usize).saturating_sub(width);
-    text.resize(text.len() + missing, b' ')?;
-    Ok(())
 }
 
 /// Where a row has the label of its address, and the number of its line.
@@ -69,7 +32,7 @@ pub struct SiteColumns {
 
 /// Appends a label and how far an address is above it, after two blanks and no further left than a
 /// column.
-#[tactic(auto, using(crate::proofs::Rows::grown), unfolding(crate::specs::Words::with_label))]
+#[tactic(auto, using(formatting::proofs::Padding::grown), unfolding(crate::specs::Words::with_label))]
 fn push_label(
     text: &mut Vec<u8>,
     from: usize,
@@ -86,13 +49,13 @@ fn push_label(
     text.extend_from_slice(label)?;
     if distance > 0 {
         text.push(b'+')?;
-        push_number(text, distance as u64)?;
+        push_count(text, distance as u64)?;
     }
     Ok(())
 }
 
 /// Appends the number of a line after a colon, likewise.
-#[tactic(auto, using(crate::proofs::Rows::grown), unfolding(crate::specs::Words::with_line))]
+#[tactic(auto, using(formatting::proofs::Padding::grown), unfolding(crate::specs::Words::with_line))]
 fn push_line_number(
     text: &mut Vec<u8>,
     from: usize,
@@ -106,12 +69,12 @@ fn push_line_number(
     text.extend_from_slice(b"  ")?;
     push_blanks(text, from, column)?;
     text.extend_from_slice(b":")?;
-    push_number(text, line.number as u64)
+    push_count(text, line.number as u64)
 }
 
 /// Appends the label of an address and the number of its line, as far as the source has them, each
 /// after two blanks and no further left than its column: `again+4  :6`.
-#[tactic(auto, using(crate::proofs::Rows::grown), unfolding(crate::specs::Words::with_site, crate::specs::Words::with_label, crate::specs::Words::with_line))]
+#[tactic(auto, using(formatting::proofs::Padding::grown), unfolding(crate::specs::Words::with_site, crate::specs::Words::with_label, crate::specs::Words::with_line))]
 pub fn push_site(
     text: &mut Vec<u8>,
     from: usize,
@@ -133,7 +96,7 @@ pub fn push_site(
 }
 
 /// Appends the label and the line of an address, and ends the row.
-#[tactic(auto, using(crate::proofs::Rows::grown))]
+#[tactic(auto, using(formatting::proofs::Padding::grown))]
 pub fn push_row_end(
     text: &mut Vec<u8>,
     from: usize,
@@ -154,7 +117,7 @@ pub fn push_row_end(
 pub fn push_front(text: &mut Vec<u8>, number: u64, moment: &Moment) -> Result<(), AllocError>
     ensures { OnOk result (text.new.items ≡ text.old.items ++ row_front number moment.now) }
 {
-    push_count(text, number, 8)?;
+    push_padded(text, number, 8)?;
     text.extend_from_slice(b"  ")?;
     push_address(text, moment.regs.pc)?;
     text.extend_from_slice(b"  ")

@@ -1,5 +1,5 @@
 use Rattle.std.proofs.Common.{◌≡◌, ◌∙◌, ◌+◌, ◌++◌, ◌≤◌, ◌<◌, length, drop, get_or, ap, subst, arith}
-use Rattle.trace_rows.specs.Words.{padded}
+use Rattle.formatting.specs.Padding.{padded}
 use Rattle.trace_rows.specs.Steps.{store_text, with_stores}
 use Rattle.trace_rows.proofs.Rows.{changed_before, changed_reaches, changed_row, next_store, stored}
 use Rattle.trace_rows.proofs.steps.push_stores.Goals as goal

@@ -1,6 +1,6 @@
 use Rattle.std.proofs.Common.{◌+◌, ◌-◌, vec_len, arith}
-use Rattle.mon_texts.proofs.Rows.{filled}
-use Rattle.mon_texts.proofs.words.push_blanks.Goals as goal
+use Rattle.formatting.proofs.Padding.{filled}
+use Rattle.formatting.proofs.growing.push_blanks.Goals as goal
 
 pub returns : goal.returns
 returns c = filled c.args.from c.args.width (c.len-2.result + c.saturating_sub-missing.result)
