@@ -1,18 +1,13 @@
-//! The law that the source of an image denotes the image: `source_denotes`, over the definitions
-//! alone.
+//! The laws that the source of an image denotes the image, over the definitions alone.
+//!
+//! `source_denotes` is about the source without labels. `flagged_source_denotes` holds wherever
+//! labels are asked for, `labelled_source_denotes` where the image refers to itself.
 //!
 //! `proofs` goes the way of the text: the lines that are cut from it (`Cut`), what each says and
 //! the bytes that it stands for (`Data`, `Instructions`, `Listed`), and how these fill the image
-//! (`Cells`, `Stands`, `Filling`).
-//!
-//! The law that the source of an image with labels denotes the image, over the definitions alone:
-//! `flagged_source_denotes` wherever labels are asked for, and `labelled_source_denotes` where the
-//! image refers to itself.
-//!
-//! `proofs` reads a label and an operand by label (`Places`, `Referring`), says what each line
-//! stands for (`Standing`), which number each label has (`Numbered`), and how the lines fill the
-//! image (`Filled`). Instructions without a label, numbers and letters are those of
-//! `law_source_forms`.
+//! (`Cells`, `Stands`, `Filling`). With labels it reads a label and an operand by label (`Places`,
+//! `Referring`), says what each line stands for (`Standing`), which number each label has
+//! (`Numbered`), and how the lines fill the image (`Filled`).
 #![tactic(auto)]
 
 mod labels;

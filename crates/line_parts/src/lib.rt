@@ -1,10 +1,8 @@
 //! The parts of a source's lines, borrowed from its text.
 //!
-//! They are tokens, expressions, operands, statements, and what is kept of a line that denotes
-//! bytes. Nothing runs here but `located`, which makes a fault of an error and a line number, and
-//! `term_of`, which looks at an operand's expression.
-//!
-//! The lines of a source: cut from its text one after another, and the place of each.
+//! They are the lines themselves with the place of each, tokens, expressions, operands, statements,
+//! and what is kept of a line that denotes bytes. `next_line` cuts a line from the text, `located`
+//! makes a fault of an error and a line number, and `term_of` looks at an operand's expression.
 #![tactic(auto)]
 
 mod code;

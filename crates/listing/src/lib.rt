@@ -1,10 +1,8 @@
-//! The rows of a listing: of a line with its address and its bytes, and of a name with its number.
-//!
-//! The assembler hands over each line with its address and bytes. The definition is `Listing.antt`
-//! of `model`; `proofs/Groups.antt` goes along a line's further bytes.
-//!
 //! The listing of a source: the rows of its lines, each with its address and its bytes, and those
 //! of its names.
+//!
+//! The definition is `Listing.antt` of `model`. `rows` writes one row, and `proofs/Groups.antt` goes
+//! along a line's further bytes. `listed` goes along the lines and the names.
 #![tactic(auto)]
 
 mod listed;

@@ -1,9 +1,7 @@
-//! The names of a source and their numbers, in order of definition, found by hash.
+//! The names of a source with their numbers, and the values of expressions.
 //!
-//! The crate owns the table of names: `Symbols` is the list of definitions so far, and a lookup
-//! finds the first one. The hash map is the kit's.
-//!
-//! The value of an expression, or its first fault.
+//! `Symbols` is the list of definitions so far, in their order, found by hash; a lookup finds the
+//! first one. The hash map is the kit's. `eval` has an expression's value, or its first fault.
 #![tactic(auto)]
 
 mod symbols;
