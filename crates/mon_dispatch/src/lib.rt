@@ -1,9 +1,8 @@
 //! A session of `mon`: what each line does to the machine, and what it writes.
 //!
-//! It reads lines by `mon_lines`, and leaves what they ask for to `mon_steps`, `mon_steps`,
-//! `mon_settings`, `mon_settings` and `mon_dispatch`.
-//!
-//! Lines of `mon` that only look.
+//! `serve` reads a line by `mon_lines` and hands what it asks for to `mon_steps` or `mon_settings`.
+//! Lines that only look are served here (`looks`). `specs/Lines.antt` says what each line does,
+//! `specs/Texts.antt` what it says.
 #![tactic(auto)]
 
 mod answers;

@@ -25,7 +25,7 @@ use Rattle.mon_runs.specs.declared.goal_run.LedEnd.{LedEnd}
 use Rattle.mon_runs.specs.declared.goal_run.LedWhy.{LedWhy}
 use Rattle.mon_runs.specs.declared.goal_run.LedWhy.TheVariants as led_why
 
--- ---- pieces: runs of `monitor`, one after another
+-- ---- pieces: runs of `Goals.antt`, one after another
 
 -- Whether a piece that ends for this reason ends the run, and the breaks after it: at a break, as a
 -- run of the session.
@@ -122,7 +122,7 @@ are_changes watches = list_all is_change watches
 abbrev pub are_plain : List Watch → List Break → Bool
 are_plain watches breaks = list_all is_plain_break breaks && are_changes watches
 
--- How a run of `monitor` ended, with the breaks as they were.
+-- How a run of `Goals.antt` ended, with the breaks as they were.
 abbrev pub led_arrival : List Break → Outcome → Arrival
 led_arrival breaks outcome = (ended_of outcome.0, (outcome.1, breaks))
 

@@ -1,4 +1,4 @@
--- What the runs are, in words of `monitor`. Source: mos65.
+-- What the runs are, in words of `Goals.antt`. Source: mos65.
 use Rattle.std.specs.Prelude.{ℕ, ◌≡◌, ◌<◌, zero, suc, Result, Ok}
 use Rattle.model.specs.Session.{Session}
 use Rattle.model.specs.Run.{after_steps}
@@ -17,7 +17,7 @@ HasMade did s t = did < 18446744073709551615 → t ≡ after_steps did s
 abbrev pub ended_of : LedEnd → Ended
 ended_of end = record { did = end.did; why = Led end.why }
 
--- A run ended as one of `monitor` does, in the session after it.
+-- A run ended as one of `Goals.antt` does, in the session after it.
 abbrev pub IsLed : Outcome → Ended → Session → Type 0
 IsLed outcome ended t = (ended ≡ ended_of outcome.0) × (t ≡ outcome.1)
 

@@ -1,16 +1,11 @@
-//! Runs as a person at a terminal asks for them: those of `goals`, which go on past a break whose
-//! tests do not hold, and end at reads and writes that are watched.
+//! Runs as a person at a terminal asks for them: a subroutine made as one step, or left; a run to
+//! an address, or on until nothing is left to do; back to the last stop; and events made again.
 //!
-//! `specs/Past.antt` says where each ends, and `specs/Looked.antt` where one ends that looks at
-//! each step. Where no break has tests and only changes are watched, each is the run of `goals`
-//! of the same name.
-//!
-//! What a person at a terminal asks of a session beyond one event: a subroutine made as one step,
-//! or left; a run to an address, or on until nothing is left to do; back to the last stop; and
-//! events made again.
-//!
-//! `specs/Led.antt` and `specs/Goals.antt` say what a led run does, as a run of the session cut in
-//! pieces. `specs/Recall.antt` says what going back to a stop and making events again do.
+//! `goals` has them as runs of the session cut in pieces (`specs/Led.antt`, `specs/Goals.antt`),
+//! and `recall` goes back and makes events again (`specs/Recall.antt`). `runs` has those that go on
+//! past a break whose tests do not hold, and end at reads and writes that are watched
+//! (`specs/Past.antt`, `specs/Looked.antt`). Where no break has tests and only changes are watched,
+//! each is the run of `goals` of the same name.
 #![tactic(auto)]
 
 mod back;

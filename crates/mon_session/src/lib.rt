@@ -1,8 +1,8 @@
-//! What a session of `mon` has, and what it says of an event.
+//! What all lines of `mon` work at, and what is said of an event.
 //!
-//! A desk is what all lines work at. What each line does stands in the crates above it.
-//!
-//! The last events of a session, and those that were undone, so that these can be made again.
+//! A `Desk` has the session, the last events with those that were undone, breaks and watches, names
+//! and lines, and the text to write. `Events` keeps what can be made again in two rings
+//! (`specs/Past.antt`), so that `redo` needs no numbers of events.
 #![tactic(auto)]
 
 mod desk;

@@ -1,6 +1,9 @@
-//! Lines of `mon` that set, show and delete breaks and watches.
+//! Lines of `mon` that set, show and delete breaks and watches, and those that change registers,
+//! memory, the console's input or the interrupt lines.
 //!
-//! Lines of `mon` that change registers, memory, the console's input or the interrupt lines.
+//! `specs/StopLines.antt` and `specs/ByteLines.antt` say what they do, `specs/StopTexts.antt` and
+//! `specs/ChangeTexts.antt` what they say. `asm` puts addresses in place of names first
+//! (`specs/Named.antt`).
 #![tactic(auto)]
 
 mod asm;

@@ -1,6 +1,7 @@
-//! Lines of `mon` that move the session forwards.
+//! Lines of `mon` that move the session forwards or backwards, or make undone events again.
 //!
-//! Lines of `mon` that move the session backwards, and make undone events again.
+//! `specs/Steps.antt` and `specs/BackLines.antt` say where they lead, by the runs of `mon_runs`;
+//! `specs/Texts.antt` and `specs/BackTexts.antt` say what is written.
 #![tactic(auto)]
 
 mod again;
