@@ -146,8 +146,9 @@ fn run_words<H: Files + AllocGlobal, O: Write, E: Write>(
 ///
 /// TAP goes to `output`, when all files were run; and before it the report for JUnit to its file,
 /// if one is asked for. It replaces no file that was read: where its name is that of a file of rows
-/// the words are wrong, and where it is another name for one, or for a source, the status is 4. Where a file cannot be tested, a line on `errors` says why, and `output` is
-/// left alone. That a line cannot be written changes no status.
+/// the words are wrong, and where it is another name for one, or for a source, the status is 4.
+/// Where a file cannot be tested, a line on `errors` says why, and `output` is left alone. That a
+/// line cannot be written changes no status.
 pub fn test<H: Files + AllocGlobal, O: Write, E: Write>(
     rt: &H,
     words: &[&str],

@@ -159,10 +159,14 @@ fn done<H: Files + AllocGlobal>(rt: &H, words: &MendWords<'_>) -> Result<Answer,
     }
 }
 
-/// Does what the words after `mend` ask for, and returns the exit status: 0 if OUT was written, 1
-/// if more is wrong with the tape, 2 if the words are wrong, 3 if memory ran out, 4 if reading or
-/// writing failed, and if OUT is the tape under another name. What was mended, or what is wrong, goes to `output`. For 2 and above a line on
-/// `errors` says why; that it cannot be written changes no status.
+/// Does what the words after `mend` ask for, and returns the exit status.
+///
+/// - 0: OUT was written. 1: more is wrong with the tape.
+/// - 2: the words are wrong. 3: memory ran out.
+/// - 4: reading or writing failed, or OUT is the tape under another name.
+///
+/// What was mended, or what is wrong, goes to `output`. For 2 and above a line on `errors` says
+/// why; that it cannot be written changes no status.
 pub fn tape_mend<H: Files + AllocGlobal, O: Write, E: Write>(
     rt: &H,
     words: &[&str],
