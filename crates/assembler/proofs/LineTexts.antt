@@ -62,7 +62,7 @@ one_longer [] text = refl
 one_longer (t ∷ texts) text = rw one_longer (omega arith)
 
 pub no_texts : (profile : Profile) (source : List ℕ) → AreTexts profile source [] []
-no_texts profile source = record { cut = refl; instructions = refl; labels = refl }
+no_texts profile source = record { cut = refl; instructions = refl; named = refl }
 
 -- whether the name of a line is a label
 abbrev pub label_in : Profile → List ℕ → Option Bool
@@ -90,7 +90,7 @@ text_more profile source line more texts text labels label are here is code name
           ∙ (ap (λ (cs : List Bool). cs ++ text.is_instruction ∷ []) are.instructions
           ∙ (ap (λ (c : Bool). map (is_instruction_in profile) (take n lines) ++ c ∷ []) code
           ∙ (sym (map-append (is_instruction_in profile) (take n lines) (line ∷ [])) ∙ sym (ap (map (is_instruction_in profile)) next))));
-      labels = ap (λ (ls : List Bool). ls ++ option_to_list label) are.labels
+      named = ap (λ (ls : List Bool). ls ++ option_to_list label) are.named
           ∙ (ap (λ (o : Option Bool). labels_in profile (take n lines) ++ option_to_list o) named
           ∙ (ap (λ (ls : List Bool). labels_in profile (take n lines) ++ ls) (one_label profile line)
           ∙ (sym (filter_map-append (label_in profile) (take n lines) (line ∷ [])) ∙ sym (ap (labels_in profile) next))));

@@ -21,4 +21,4 @@ pub record AreTexts (profile : Profile) (source : List ℕ) (texts : List LineTe
   pub cut : texts_in source texts ≡ take (length texts) (lines_of source)
   pub instructions : instructions_of texts
       ≡ map (is_instruction_in profile) (take (length texts) (lines_of source))
-  pub labels : labels ≡ labels_in profile (take (length texts) (lines_of source))
+  pub named : labels ≡ labels_in profile (take (length texts) (lines_of source))
