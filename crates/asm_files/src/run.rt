@@ -18,6 +18,7 @@ use std::fs::File;
 use std::io::{Read, Write};
 use std::rt::Files;
 use std::{fs, io};
+use word_streams::is_one_file;
 
 /// One byte more than the longest source.
 const MOST_READ: u64 = 1_048_577;
@@ -70,6 +71,31 @@ fn write_texts<H: Files>(rt: &H, words: &FilesWords<'_>, texts: &FileTexts) -> R
     write_file(rt, words.map, &texts.map)
 }
 
+/// Returns whether a file to write is the source under another name.
+fn is_source<H: Files>(rt: &H, source: &str, file: Option<&str>) -> bool {
+    match file {
+        Some(file) => is_one_file(rt, source, file),
+        None => false,
+    }
+}
+
+/// Lets go on where no file to write is the source under another name.
+///
+/// Errors: `Write` if one is.
+fn spare<H: Files>(rt: &H, words: &FilesWords<'_>) -> Result<(), Refusal>
+    ensures only { IfErr result (λ e. e ≡ Refusal.Write) }
+{
+    let source = words.asm.source;
+    let replaced = is_one_file(rt, source, words.asm.tape)
+        || is_source(rt, source, words.asm.listing)
+        || is_source(rt, source, words.symbols)
+        || is_source(rt, source, words.map);
+    if replaced {
+        return Err(Refusal::Write);
+    }
+    Ok(())
+}
+
 /// Returns which texts the words ask for beside that of the tape.
 fn texts_asked(words: &FilesWords<'_>) -> TextsAsked {
     TextsAsked {
@@ -84,7 +110,7 @@ fn texts_asked(words: &FilesWords<'_>) -> TextsAsked {
 
 /// Assembles a file, and writes its tape and the files that are asked for.
 ///
-/// All texts are whole before a file is made.
+/// All texts are whole before a file is made. None is written if one of the files is the source.
 fn assembled<H: Files + AllocGlobal>(rt: &H, words: &FilesWords<'_>) -> Result<(), Refusal>
     ensures bad_map { is_map None words.now.asm.port ≡ false → result ≡ Err (Refusal.Map BadMap) }
     ensures refused { IfErr result (EndsAsm
@@ -94,6 +120,7 @@ fn assembled<H: Files + AllocGlobal>(rt: &H, words: &FilesWords<'_>) -> Result<(
     let map = map_of(words.asm.profile, words.asm.port)?;
     let source = read_source(rt, words.asm.source).map_err(|error| Refusal::unreadable(&error))?;
     let texts = file_texts(rt.alloc(), source.as_slice(), &map, texts_asked(words))?;
+    spare(rt, words)?;
     write_texts(rt, words, &texts)
 }
 
@@ -103,7 +130,8 @@ fn assembled<H: Files + AllocGlobal>(rt: &H, words: &FilesWords<'_>) -> Result<(
 /// The status and the fault line are those of `asm`: 0 if it is done, 1 if the source is rejected,
 /// 2 if the words or the map are wrong, 3 if memory ran out, 4 if reading or writing failed. The
 /// tape is written first, then the listing, the names and the places of the lines; all texts are
-/// whole before the first file is made. The output gets nothing but help.
+/// whole before the first file is made. Where a file to write is the source under another name, the
+/// status is 4 and nothing is written. The output gets nothing but help.
 pub fn asm_files<H: Files + AllocGlobal, O: Write, E: Write>(
     rt: &H,
     words: &[&str],
