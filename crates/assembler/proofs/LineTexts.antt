@@ -1,12 +1,15 @@
 -- Lines cut from a source one after another, and looked up by their index.
-use Rattle.std.proofs.Common.{◌≡◌, ℕ, ℤ, Result, Ok, Err, length-append, zero, suc, ◌+◌, ◌-◌, ◌<◌, ◌≤◌, List, [], ◌∷◌, ◌++◌, length, take, drop, min, Option, Some, None, Bool, true, false, refl, sym, ◌∙◌, ap, arith, add-one, length-drop}
-use Rattle.std.specs.Prelude.{if◌then◌else◌, pos, map, position, slice_get}
+use Rattle.std.proofs.Common.{◌≡◌, ℕ, ℤ, Result, Ok, Err, length-append, zero, suc, ◌+◌, ◌-◌, ◌<◌, ◌≤◌, List, [], ◌∷◌, ◌++◌, length, take, drop, min, Option, Some, None, Bool, true, false, true≢false, inl, inr, refl, sym, ◌∙◌, ap, arith, add-one, length-drop}
+use Rattle.std.specs.Prelude.{if◌then◌else◌, pos, map, position, slice_get, is_ok, OnOk}
 use Rattle.std.specs.Io.BufRead.{strip_last}
-use Rattle.std.specs.Option.{option_to_list}
+use Rattle.std.specs.Option.{option_map, option_to_list}
+use Rattle.line_parts.specs.Spans.{pair_of, pairs_of}
+use Rattle.line_parts.specs.declared.span.Span.{Span}
 use Rattle.std.proofs.lemmas.List.Elements.{filter_map-append}
-use Rattle.std.proofs.lemmas.List.{drop-drop, drop_min, length-map, length-take, map-append, take_all, take_min, take-map}
+use Rattle.std.proofs.lemmas.List.{drop-drop, drop_min, length-map, length-take, length_push, map-append, take_all, take_min, take-map}
 use Rattle.std.proofs.Math.Seq.{take-add}
-use Rattle.std.proofs.Math.Nat.{min-le_right}
+use Rattle.std.proofs.Math.Nat.{min-le_left, min-le_right}
+use Rattle.std.proofs.lemmas.Option.{slice_get-map, slice_get_cases, slice_get_past}
 use Rattle.line_parts.proofs.CutAtLineFeed.{is_end, lines_of-cut, lines_of-uncut}
 use Rattle.model.specs.Layout.{◌>>>◌, Context, PlacedLine, PlacedAndContext, PlacedAndNext, IsLaidOut, empty_and_next, extent_of, extents_of, is_defined, is_full, layout_of, line_at as line_placed, name_of, named_line_at, or_too_many, placed_and_context, placing_value, statement_at, unless_full}
 use Rattle.model.specs.Names.{Definitions, number_in}
@@ -35,11 +38,11 @@ take_both (suc n) zero text h = absurd (omega (arith, h))
 take_both (suc n) (suc m) [] h = refl
 take_both (suc n) (suc m) (b ∷ text) h = ap (λ (bs : List ℕ). b ∷ bs) (take_both n m text (omega (arith, h)))
 
-pub first_cut : (text : List ℕ) (at len : ℕ) → position is_end text ≡ Some at → take len (take at text) ≡ strip_last 13 (take at text) → len ≤ at
+pub first_cut : (text : List ℕ) (at len : ℕ) → position is_end text ≡ Some at → take len (take at text) ≡ strip_last 13 (take at text) → len ≤ length (take at text)
     → lines_of text ≡ take len text ∷ lines_of (drop (at + 1) text)
 first_cut text at len met front inside =
     let behind : take (length text - (at + 1)) (drop (at + 1) text) ≡ drop (at + 1) text = take_all _ (drop (at + 1) text) (omega (arith, length-drop (at + 1) text)) in
-    let line : strip_last 13 (take at text) ≡ take len text = sym front ∙ take_both len at text inside in
+    let line : strip_last 13 (take at text) ≡ take len text = sym front ∙ take_both len at text (omega (arith, inside, length-take at text, min-le_left at (length text))) in
     lines_of-cut text at met ∙ (ap (λ (l : List ℕ). l ∷ lines_of (take (length text - (at + 1)) (drop (at + 1) text))) line ∙ ap (λ (l : List ℕ). take len text ∷ lines_of l) behind)
 
 pub first_uncut : (text : List ℕ) → 0 < length text → position is_end text ≡ None
@@ -56,10 +59,6 @@ take_next lines n line more here = take-add n 1 lines ∙ ap (λ (ls : List (Lis
 
 pub drop_next : (lines : List (List ℕ)) (n : ℕ) (line : List ℕ) (more : List (List ℕ)) → drop n lines ≡ line ∷ more → drop (n + 1) lines ≡ more
 drop_next lines n line more here = sym (drop-drop 1 n lines) ∙ ap (λ (ls : List (List ℕ)). drop 1 ls) here
-
-pub one_longer : (texts : List LineText) (text : LineText) → length (texts ++ text ∷ []) ≡ length texts + 1
-one_longer [] text = refl
-one_longer (t ∷ texts) text = rw one_longer (omega arith)
 
 pub no_texts : (profile : Profile) (source : List ℕ) → AreTexts profile source [] []
 no_texts profile source = record { cut = refl; instructions = refl; named = refl }
@@ -82,7 +81,7 @@ pub text_more : (profile : Profile) (source line : List ℕ) (more : List (List 
 text_more profile source line more texts text labels label are here is code named =
     let lines = lines_of source in
     let n = length texts in
-    let next : take (length (texts ++ text ∷ [])) lines ≡ take n lines ++ line ∷ [] = ap (λ (k : ℕ). take k lines) (one_longer texts text) ∙ take_next lines n line more here in
+    let next : take (length (texts ++ text ∷ [])) lines ≡ take n lines ++ line ∷ [] = ap (λ (k : ℕ). take k lines) (length_push texts text) ∙ take_next lines n line more here in
     record {
       cut = map-append (text_in source) texts (text ∷ [])
           ∙ (ap (λ (ts : List (List ℕ)). ts ++ text_in source text ∷ []) are.cut ∙ (ap (λ (t : List ℕ). take n lines ++ t ∷ []) is ∙ sym next));
@@ -136,6 +135,52 @@ pub texts_few : (source : List ℕ) (texts : List LineText) → texts_in source 
 texts_few source texts cut =
     let same : length (take (length texts) (lines_of source)) ≡ length texts = sym (ap length cut) ∙ length-map texts (text_in source) in
     omega (arith, same, length-take (length texts) (lines_of source), min-le_right (length texts) (length (lines_of source)))
+
+-- what stands in the front of a list stands in the list
+got_behind : (lines : List (List ℕ)) (n i : ℕ) (line : List ℕ) → slice_get (take n lines) i ≡ Some line → slice_get lines i ≡ Some line
+got_behind [] zero i line e = absurd cc
+got_behind [] (suc n) i line e = absurd cc
+got_behind (l ∷ lines) zero i line e = absurd cc
+got_behind (l ∷ lines) (suc n) zero line e = e
+got_behind (l ∷ lines) (suc n) (suc i) line e = got_behind lines n i line e
+
+abbrev pub lines_by : List ℕ → List Span → List LineText → List LineView
+lines_by source spans texts = lines_with 1 (lines_of source) (pairs_of spans) (instructions_of texts)
+
+pub count_by : (source : List ℕ) (spans : List Span) (texts : List LineText) → length texts ≡ length spans → texts_in source texts ≡ take (length texts) (lines_of source)
+    → length (lines_by source spans texts) ≡ length spans
+count_by source spans texts paired cut =
+    let places : length (pairs_of spans) ≡ length spans = length-map spans pair_of in
+    let codes : length (instructions_of texts) ≡ length texts = length-map texts (λ (t : LineText). t.is_instruction) in
+    lines_length 1 (lines_of source) (pairs_of spans) (instructions_of texts) (omega (arith, places, paired, texts_few source texts cut)) (omega (arith, places, codes, paired)) ∙ places
+
+past_end : (spans : List Span) (i : ℕ) → slice_get spans i ≡ None → length spans ≤ i
+past_end spans i none = elim (slice_get_cases spans i).1 [
+  | inl there ↦ let some : slice_get spans i ≡ Some there.0 = there.2 in absurd cc
+  | inr past ↦ past.0
+]
+
+-- no line is there
+pub none_there : (source : List ℕ) (spans : List Span) (texts : List LineText) (i : ℕ) → length texts ≡ length spans → texts_in source texts ≡ take (length texts) (lines_of source)
+    → slice_get spans i ≡ None → slice_get (lines_by source spans texts) i ≡ None
+none_there source spans texts i paired cut none =
+    let count : length (lines_by source spans texts) ≡ length spans = count_by source spans texts paired cut in
+    let past : length spans ≤ i = past_end spans i none in
+    slice_get_past (lines_by source spans texts) i (omega (arith, count, past))
+
+-- the line that is there
+pub line_there : (source : List ℕ) (spans : List Span) (texts : List LineText) (i : ℕ) (span : Span) (text : LineText) → texts_in source texts ≡ take (length texts) (lines_of source)
+    → slice_get spans i ≡ Some span → slice_get texts i ≡ Some text
+    → slice_get (lines_by source spans texts) i ≡ Some (line_as (i + 1) (text_in source text) (pair_of span) text.is_instruction)
+line_there source spans texts i span text cut here there =
+    let front : slice_get (take (length texts) (lines_of source)) i ≡ Some (text_in source text) =
+    sym (ap (λ (ls : List (List ℕ)). slice_get ls i) cut) ∙ (slice_get-map (text_in source) texts i ∙ ap (option_map (text_in source)) there) in
+    let line = got_behind (lines_of source) (length texts) i (text_in source text) front in
+    let place : slice_get (pairs_of spans) i ≡ Some (pair_of span) = slice_get-map pair_of spans i ∙ ap (option_map pair_of) here in
+    let code : slice_get (instructions_of texts) i ≡ Some text.is_instruction = slice_get-map (λ (t : LineText). t.is_instruction) texts i ∙ ap (option_map (λ (t : LineText). t.is_instruction)) there in
+    let number : 1 + i ≡ i + 1 = omega arith in
+    line_at i 1 (lines_of source) (pairs_of spans) (instructions_of texts) (text_in source text) (pair_of span) text.is_instruction line place code
+    ∙ ap (λ (k : ℕ). Some (line_as k (text_in source text) (pair_of span) text.is_instruction)) number
 
 -- ---- the lines that are read
 
@@ -247,18 +292,62 @@ pub names_grown : (number : ℕ) (found new : Found) (before next : Context) (te
 unfolding layout_of
 names_grown number found new before next text e = by (layout_of before text) refl
   where
-    by : (r : Placed) → layout_of before text ≡ r → (length next.names ≡ length before.names + length (option_to_list (label_in before.profile text))) × (length new.extents ≡ length found.extents + 1)
-    by (Ok s) h =
-        let there : Ok (with_line number found s.0, s.1) ≡ Ok (new, next) = sym (ap (with_line_found number found) h) ∙ e in
-        let same = both (with_line number found s.0, s.1) (new, next) (Ok (new, next)) there refl in
-        (
-          sym (ap (λ (p : Found × Context). length p.1.names) same) ∙ read_grown before (read_line before.profile text) s h,
-          sym (ap (λ (p : Found × Context). length p.0.extents) same) ∙ length-append found.extents (extent_of s.0 ∷ []),
-        )
-    by (Err k) h = absurd (neither k (new, next) (with_line_found number found (layout_of before text)) (ap (with_line_found number found) h) e)
-
     both : (r s : Found × Context) (a : Result (Found × Context) AsmFaultKind) → Ok r ≡ a → a ≡ Ok s → r ≡ s
     both r s a p q = cc
 
     neither : (k : AsmFaultKind) (s : Found × Context) (a : Result (Found × Context) AsmFaultKind) → a ≡ Err k → a ≡ Ok s → ⊥
     neither k s a p q = cc
+
+    by : (r : Placed) → layout_of before text ≡ r → (length next.names ≡ length before.names + length (option_to_list (label_in before.profile text))) × (length new.extents ≡ length found.extents + 1)
+    by (Ok s) h =
+        let there : Ok (with_line number found s.0, s.1) ≡ Ok (new, next) = sym (ap (with_line_found number found) h) ∙ e in
+        let same = both (with_line number found s.0, s.1) (new, next) (Ok (new, next)) there refl in (
+          sym (ap (λ (p : Found × Context). length p.1.names) same) ∙ read_grown before (read_line before.profile text) s h,
+          sym (ap (λ (p : Found × Context). length p.0.extents) same) ∙ length-append found.extents (extent_of s.0 ∷ []),
+        )
+    by (Err k) h = absurd (neither k (new, next) (with_line_found number found (layout_of before text)) (ap (with_line_found number found) h) e)
+
+-- ---- after one more line is noted
+
+abbrev pub text_noted : ℕ → ℕ → Bool → LineText
+text_noted start len code = record { start = start; len = len; is_instruction = code }
+
+pub texts_step : (profile : Profile) (source : List ℕ) (start len : ℕ) (more : List (List ℕ)) (texts new : List LineText) (labels grown : List Bool) (code : Bool) (label : Option Bool)
+    → AreTexts profile source texts labels → lines_of (drop start source) ≡ drop (length texts) (lines_of source)
+    → lines_of (drop start source) ≡ take len (drop start source) ∷ more
+    → code ≡ is_instruction_in profile (take len (drop start source)) → label ≡ reads_label (read_line profile (take len (drop start source)))
+    → new ≡ texts ++ text_noted start len code ∷ [] → grown ≡ labels ++ option_to_list label → AreTexts profile source new grown
+texts_step profile source start len more texts new labels grown code label are here cut coded named noted told =
+    rw (noted, told) (text_more profile source (take len (drop start source)) more texts (text_noted start len code) labels label are (sym here ∙ cut) refl coded named)
+
+pub here_step : (source line : List ℕ) (start next : ℕ) (texts new : List LineText) (text : LineText) → lines_of (drop start source) ≡ drop (length texts) (lines_of source)
+    → lines_of (drop start source) ≡ line ∷ lines_of (drop next source) → new ≡ texts ++ text ∷ []
+    → lines_of (drop next source) ≡ drop (length new) (lines_of source)
+here_step source line start next texts new text here cut noted =
+    let longer : length new ≡ length texts + 1 = ap length noted ∙ length_push texts text in
+    sym (drop_next (lines_of source) (length texts) line (lines_of (drop next source)) (sym here ∙ cut)) ∙ ap (λ (k : ℕ). drop k (lines_of source)) (sym longer)
+
+pub named_step : (number : ℕ) (found new : Found) (before next : Context) (text : List ℕ) (labels grown : List Bool) (label : Option Bool) → with_line_found number found (layout_of before text) ≡ Ok (new, next)
+    → label ≡ reads_label (read_line before.profile text) → grown ≡ labels ++ option_to_list label → length labels ≡ length before.names → length grown ≡ length next.names
+named_step number found new before next text labels grown label laid named told so_far =
+    let more = (names_grown number found new before next text laid).0 in
+    let many : length grown ≡ length labels + length (option_to_list label) = ap length told ∙ length-append labels (option_to_list label) in
+    let same : length (option_to_list label) ≡ length (option_to_list (label_in before.profile text)) = ap (λ (o : Option Bool). length (option_to_list o)) named in
+    omega (arith, more, many, same, so_far)
+
+pub paired_step : (number : ℕ) (found new : Found) (before next : Context) (text : List ℕ) (texts longer : List LineText) (noted : LineText) → with_line_found number found (layout_of before text) ≡ Ok (new, next)
+    → longer ≡ texts ++ noted ∷ [] → length texts ≡ length found.extents → length longer ≡ length new.extents
+paired_step number found new before next text texts longer noted laid is so_far =
+    let more = (names_grown number found new before next text laid).1 in
+    let many : length longer ≡ length texts + 1 = ap length is ∙ length_push texts noted in
+    omega (arith, more, many, so_far)
+
+-- where the lines behind the next one stand
+pub cut_step : (source line : List ℕ) (start size : ℕ) → lines_of (drop start source) ≡ line ∷ lines_of (drop size (drop start source))
+    → lines_of (drop start source) ≡ line ∷ lines_of (drop (start + size) source)
+cut_step source line start size cut = cut ∙ ap (λ (behind : List ℕ). line ∷ lines_of behind) (drop-drop size start source)
+
+-- what holds of a value that was made, once its error is mapped
+pub on_ok_mapped : {T U E F : Type 0} (r : Result T E) (s : Result U F) (u : U) (P : Type 0) → is_ok s ≡ is_ok r → s ≡ Ok u → OnOk r P → P
+on_ok_mapped (Ok x) s u P same there held = held
+on_ok_mapped (Err e) s u P same there held = absurd (true≢false (sym (ap is_ok there) ∙ same))

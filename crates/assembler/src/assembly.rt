@@ -69,6 +69,13 @@ impl Model for Assembly {
     } };
 }
 
+/// Returns the item at an index.
+fn item_at<T: Copy>(items: &[T], index: usize) -> Option<T>
+    ensures { result ≡ slice_get items.now index }
+{
+    items.get(index).copied()
+}
+
 impl Assembly {
     /// Returns the image: the byte at each of the 65,536 addresses where the source denotes one.
     pub fn image(&self) -> &Image
@@ -120,8 +127,8 @@ impl Assembly {
     pub fn line(&self, index: usize) -> Option<SourceLine<'_>>
         ensures { option_map line_view result ≡ slice_get (source_lines self.now) index }
     {
-        let span = self.spans.get(index)?;
-        let text = self.texts.get(index)?;
+        let span = item_at(&self.spans, index)?;
+        let text = item_at(&self.texts, index)?;
         Some(SourceLine {
             number: index as u32 + 1,
             address: span.address,

@@ -1,6 +1,6 @@
 //! The lines of a source that were read, and where the text of each stands.
 
-ghost use Rattle.std.specs.Prelude.{◌≡◌, ◌∷◌, ◌<◌, ◌≤◌, drop, length, take};
+ghost use Rattle.std.specs.Prelude.{◌≡◌, ◌∷◌, ◌==◌, ◌<◌, ◌≤◌, drop, length, position, take};
 ghost use Rattle.std.specs.Io.BufRead.{strip_last};
 ghost use Rattle.line_parts.specs.LineViews.{line_view, statement_view};
 ghost use Rattle.model.specs.TextLines.{lines_of};
@@ -54,6 +54,13 @@ fn len_without_return(line: &[u8]) -> usize
     }
 }
 
+/// Returns the index of the first LF.
+fn line_feed(text: &[u8]) -> Option<usize>
+    ensures { result ≡ position (λ b. b == 10) text.now }
+{
+    text.iter().position(|byte| *byte == b'\n')
+}
+
 /// Returns how many bytes the first line of a text has, without its end and with it.
 pub fn first_line(text: &[u8]) -> (usize, usize)
     requires { 0 < length text.now }
@@ -62,7 +69,7 @@ pub fn first_line(text: &[u8]) -> (usize, usize)
     ensures shorter { result.0 ≤ result.1 }
     ensures inside { result.1 ≤ length text.now }
 {
-    match text.iter().position(|byte| *byte == b'\n') {
+    match line_feed(text) {
         Some(at) => (len_without_return(&text[..at]), at + 1),
         None => (text.len(), text.len()),
     }
