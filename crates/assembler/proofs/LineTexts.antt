@@ -1,12 +1,12 @@
 -- Lines cut from a source one after another, and looked up by their index.
-use Rattle.std.proofs.Common.{◌≡◌, ℕ, ℤ, Result, Ok, Err, length-append, zero, suc, ◌+◌, ◌-◌, ◌<◌, ◌≤◌, List, [], ◌∷◌, ◌++◌, length, take, drop, min, Option, Some, None, Bool, true, false, true≢false, inl, inr, refl, sym, ◌∙◌, ap, arith, add-one, length-drop}
+use Rattle.std.proofs.Common.{◌≡◌, ℕ, ℤ, Result, Ok, Err, length-append, zero, suc, ◌+◌, ◌-◌, ◌<◌, ◌≤◌, List, [], ◌∷◌, ◌++◌, length, take, drop, min, Option, Some, None, Bool, true, false, true≢false, inl, inr, refl, sym, ◌∙◌, ap, arith, length-drop}
 use Rattle.std.specs.Prelude.{if◌then◌else◌, pos, map, position, slice_get, is_ok, OnOk}
 use Rattle.std.specs.Io.BufRead.{strip_last}
 use Rattle.std.specs.Option.{option_map, option_to_list}
 use Rattle.line_parts.specs.Spans.{pair_of, pairs_of}
 use Rattle.line_parts.specs.declared.span.Span.{Span}
 use Rattle.std.proofs.lemmas.List.Elements.{filter_map-append}
-use Rattle.std.proofs.lemmas.List.{drop-drop, drop_min, length-map, length-take, length_push, map-append, take_all, take_min, take-map}
+use Rattle.std.proofs.lemmas.List.{drop-drop, drop_min, length-map, length-take, length_push, map-append, take_all, take_min}
 use Rattle.std.proofs.Math.Seq.{take-add}
 use Rattle.std.proofs.Math.Nat.{min-le_left, min-le_right}
 use Rattle.std.proofs.lemmas.Option.{slice_get-map, slice_get_cases, slice_get_past}

@@ -1,9 +1,7 @@
-use Rattle.std.proofs.Common.{◌≡◌, ◌+◌, ◌-◌, ℕ, Bool, false, true, List, ◌++◌, ◌∷◌, [], Ok, take, drop, ap, sym, ◌∙◌, length, length-drop, arith, refl}
+use Rattle.std.proofs.Common.{◌≡◌, ◌+◌, ◌-◌, ◌++◌, ◌∷◌, [], Ok, take, drop, ap, sym, ◌∙◌, length, length-drop, arith, refl}
 use Rattle.std.specs.Option.{option_to_list}
 use Rattle.std.proofs.lemmas.List.{length_push, take_all}
 use Rattle.model.specs.Layout.{Context, layout_of}
-use Rattle.model.specs.SourceLine.{read_line}
-use Rattle.model.specs.Source.{is_end}
 use Rattle.model.specs.TextLines.{lines_of}
 use Rattle.assembler.specs.Found.{Found, with_line_found}
 use Rattle.assembler.specs.FoundLines.{found_of}
