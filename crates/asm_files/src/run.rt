@@ -59,18 +59,6 @@ fn write_file<H: Files>(rt: &H, file: Option<&str>, text: &Option<Vec<u8>>) -> R
     }
 }
 
-/// Writes the tape's file, and then the listing's, that of the names and that of the places.
-fn write_texts<H: Files>(rt: &H, words: &FilesWords<'_>, texts: &FileTexts) -> Result<(), Refusal>
-    ensures only { IfErr result (λ e. (e ≡ Refusal.OutOfMemory) ⊎ (e ≡ Refusal.Write)) }
-{
-    fs::write(rt, words.asm.tape, texts.asm.tape.as_slice()).map_err(|error| Refusal::unwritable(
-        &error,
-    ))?;
-    write_file(rt, words.asm.listing, &texts.asm.listing)?;
-    write_file(rt, words.symbols, &texts.symbols)?;
-    write_file(rt, words.map, &texts.map)
-}
-
 /// Returns whether a file to write is the source under another name.
 fn is_source<H: Files>(rt: &H, source: &str, file: Option<&str>) -> bool {
     match file {
@@ -79,21 +67,29 @@ fn is_source<H: Files>(rt: &H, source: &str, file: Option<&str>) -> bool {
     }
 }
 
-/// Lets go on where no file to write is the source under another name.
-///
-/// Errors: `Write` if one is.
-fn spare<H: Files>(rt: &H, words: &FilesWords<'_>) -> Result<(), Refusal>
-    ensures only { IfErr result (λ e. e ≡ Refusal.Write) }
-{
+/// Returns whether one of the files to write is the source under another name.
+fn replaces_source<H: Files>(rt: &H, words: &FilesWords<'_>) -> bool {
     let source = words.asm.source;
-    let replaced = is_one_file(rt, source, words.asm.tape)
+    is_one_file(rt, source, words.asm.tape)
         || is_source(rt, source, words.asm.listing)
         || is_source(rt, source, words.symbols)
-        || is_source(rt, source, words.map);
-    if replaced {
+        || is_source(rt, source, words.map)
+}
+
+/// Writes the tape's file, and then the listing's, that of the names and that of the places. None
+/// is written if one of the files is the source.
+fn write_texts<H: Files>(rt: &H, words: &FilesWords<'_>, texts: &FileTexts) -> Result<(), Refusal>
+    ensures only { IfErr result (λ e. (e ≡ Refusal.OutOfMemory) ⊎ (e ≡ Refusal.Write)) }
+{
+    if replaces_source(rt, words) {
         return Err(Refusal::Write);
     }
-    Ok(())
+    fs::write(rt, words.asm.tape, texts.asm.tape.as_slice()).map_err(|error| Refusal::unwritable(
+        &error,
+    ))?;
+    write_file(rt, words.asm.listing, &texts.asm.listing)?;
+    write_file(rt, words.symbols, &texts.symbols)?;
+    write_file(rt, words.map, &texts.map)
 }
 
 /// Returns which texts the words ask for beside that of the tape.
@@ -110,7 +106,7 @@ fn texts_asked(words: &FilesWords<'_>) -> TextsAsked {
 
 /// Assembles a file, and writes its tape and the files that are asked for.
 ///
-/// All texts are whole before a file is made. None is written if one of the files is the source.
+/// All texts are whole before a file is made.
 fn assembled<H: Files + AllocGlobal>(rt: &H, words: &FilesWords<'_>) -> Result<(), Refusal>
     ensures bad_map { is_map None words.now.asm.port ≡ false → result ≡ Err (Refusal.Map BadMap) }
     ensures refused { IfErr result (EndsAsm
@@ -120,7 +116,6 @@ fn assembled<H: Files + AllocGlobal>(rt: &H, words: &FilesWords<'_>) -> Result<(
     let map = map_of(words.asm.profile, words.asm.port)?;
     let source = read_source(rt, words.asm.source).map_err(|error| Refusal::unreadable(&error))?;
     let texts = file_texts(rt.alloc(), source.as_slice(), &map, texts_asked(words))?;
-    spare(rt, words)?;
     write_texts(rt, words, &texts)
 }
 

@@ -140,7 +140,7 @@ fn rows_in(
 fn spare<H: Files>(rt: &H, path: &str, report: Option<&str>) -> Result<(), TestFault>
     ensures spared { IfOk result
         (λ _. replaces (option_map (λ f. f.now) report.entry) (path.now ∷ []) ≡ false) }
-    ensures only { IfErr result (λ fault. fault ≡ TestFault.Replaced) }
+    ensures refused { IfErr result EndsTest }
 {
     match report {
         None => Ok(()),
@@ -169,7 +169,7 @@ fn assembled_for<H: Files + AllocGlobal>(
 {
     match spare(rt, path, report) {
         Ok(()) => assembled(rt, path, map),
-        Err(fault) => Err(fault),
+        Err(_) => Err(TestFault::Replaced),
     }
 }
 

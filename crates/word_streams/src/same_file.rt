@@ -1,6 +1,6 @@
 //! Whether two names are one file.
 
-ghost use Rattle.std.specs.Prelude.{◌≡◌, true};
+ghost use Rattle.std.specs.Prelude.{◌≡◌, false};
 ghost use Rattle.std.specs.Str.{bytes_eq};
 
 use std::fs;
@@ -23,7 +23,7 @@ fn is_kept_once<H: Files>(rt: &H, first: &str, second: &str) -> bool {
 /// A word that writes a file asks this of each file that it read. Source: mos65.
 pub fn is_one_file<H: Files>(rt: &H, first: &str, second: &str) -> bool
     // Which other names are one file, no clause can say.
-    ensures { bytes_eq first.now second.now ≡ true → result ≡ true }
+    ensures { result ≡ false → bytes_eq first.now second.now ≡ false }
 {
     first == second || is_kept_once(rt, first, second)
 }
