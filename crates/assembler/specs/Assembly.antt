@@ -14,8 +14,8 @@ use Rattle.model.specs.declared.source_fault.AsmFault.{AsmFault}
 
 -- What clauses see of an assembly: the byte at each address where the source denotes one; the
 -- source; of each line that is read its address and byte count, and whether it is an instruction,
--- in the order of the lines; and the names with their numbers, and whether each is a label, in
--- order of definition.
+-- in the order of the lines; and the names with their numbers, and whether each is a label, in order
+-- of definition.
 pub record AssemblyView : Type 0 where
   pub image : List (Option ℕ)
   pub source : List ℕ

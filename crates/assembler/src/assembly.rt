@@ -1,7 +1,7 @@
 //! A source assembled.
 
-ghost use Rattle.std.specs.Prelude.{◌≡◌, ◌<◌, ◌≤◌, ◌⊎◌, ℕ, List, Option, Err, IfOk, IfErr, false};
-ghost use Rattle.std.specs.Prelude.{length, slice_get, take};
+ghost use Rattle.std.specs.Prelude.{◌≡◌, ◌<◌, ◌≤◌, ◌⊎◌, ℕ, List, Option, Err, IfOk, IfErr, false, length};
+ghost use Rattle.std.specs.Prelude.{slice_get, take};
 ghost use Rattle.std.specs.Option.{option_map};
 ghost use Rattle.assembler.specs.Assembly.{AnswersSource, AreRead, IsAssembled, IsImageOrMemory};
 ghost use Rattle.assembler.specs.Assembly.{listing_of, out_of_memory, source_lines, verdict_view};
