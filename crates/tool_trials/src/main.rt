@@ -4,9 +4,10 @@
 
 ghost use Rattle.std.specs.Prelude.{◌≡◌};
 
+use asm_expr::{LineFault, parse_expr, tokens};
 use assembler::AsmFaultKind;
-use bus::{Bus, BusFault, Image, MapSpec};
-use cpu::Machine;
+use bus::{Bus, BusFault, Image, MapSpec, Saved};
+use cpu::{Checkpoint, Machine};
 use debugger::{Session, SessionFault};
 use papertape::{
     TapeFault, TapeFaultKind, TapeReadFault, TapeReader, read_pieces, read_tape, read_tape_from,
@@ -27,6 +28,9 @@ const FAULTY_SOURCE: &[u8] = b"*=$0200\n LDA #[1+2]*3\n.WORD [4^5],>$1234\n?\n";
 /// A source whose last line has a value that is no byte.
 const FAULTY_VALUE: &[u8] = b"*=$0200\n LDA #[1+2]*3\n.WORD [4^5],>$1234\n.BYTE 256\n";
 
+/// An expression with brackets and operators, which boxes hold.
+const EXPRESSION: &[u8] = b"<[name+2]*$4/%101-'c'";
+
 /// The fault that a call answered.
 #[derive(Clone, Copy, Debug, PartialEq, Eq, Error)]
 enum Fault {
@@ -34,6 +38,8 @@ enum Fault {
     Bus(#[from] BusFault),
     #[error("{0}")]
     Session(#[from] SessionFault),
+    #[error("{0}")]
+    Line(LineFault),
     #[error("{0}")]
     Source(AsmFaultKind),
     #[error("{0}")]
@@ -50,6 +56,7 @@ impl Fault {
             self,
             Fault::Bus(BusFault::OutOfMemory)
                 | Fault::Session(SessionFault::OutOfMemory)
+                | Fault::Line(LineFault::OutOfMemory)
                 | Fault::Source(AsmFaultKind::OutOfMemory)
                 | Fault::Tape(TapeFaultKind::OutOfMemory)
         )
@@ -88,6 +95,30 @@ fn assemble_line(alloc: Global, text: &[u8]) -> Result<(), Fault> {
         Ok(_) => Ok(()),
         Err(fault) => Err(Fault::Source(fault.kind)),
     }
+}
+
+fn cut_expression(alloc: Global) -> Result<(), Fault> {
+    match tokens(alloc, EXPRESSION) {
+        Ok(_) => Ok(()),
+        Err(fault) => Err(Fault::Line(fault)),
+    }
+}
+
+fn parse_expression(alloc: Global) -> Result<(), Fault> {
+    match tokens(alloc, EXPRESSION).and_then(|found| parse_expr(alloc, &found)) {
+        Ok(_) => Ok(()),
+        Err(fault) => Err(Fault::Line(fault)),
+    }
+}
+
+fn new_saved(alloc: Global) -> Result<(), Fault> {
+    Saved::new(alloc)?;
+    Ok(())
+}
+
+fn new_checkpoint(alloc: Global) -> Result<(), Fault> {
+    Checkpoint::new(alloc)?;
+    Ok(())
 }
 
 fn new_image(alloc: Global) -> Result<(), Fault> {
@@ -170,6 +201,10 @@ fn make(alloc: Global, word: &str) -> Result<(), Fault> {
         "image_new" => new_image(alloc),
         "bus_new" => new_bus(alloc, map),
         "machine_new" => new_machine(alloc, map),
+        "saved_new" => new_saved(alloc),
+        "checkpoint_new" => new_checkpoint(alloc),
+        "tokens" => cut_expression(alloc),
+        "parse_expr" => parse_expression(alloc),
         "session_new" => let_go(new_session(alloc, map)),
         "assemble" => assemble(alloc, &map, SOURCE),
         "assemble_faulty" => assemble(alloc, &map, FAULTY_SOURCE),
