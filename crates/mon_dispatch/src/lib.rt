@@ -1,14 +1,14 @@
-//! A session of `mon`: what each line does to the machine, and what it writes.
+//! What each line of `mon` does to a session, and what it writes.
 //!
-//! It reads lines by `mon_lines`, and leaves what they ask for to `mon_steps`, `mon_steps`,
-//! `mon_settings`, `mon_settings` and `mon_dispatch`.
-//!
-//! Lines of `mon` that only look.
+//! `lines` reads a line by `mon_lines`, and passes what it asks for to `mon_steps`, `mon_settings`,
+//! or `looks`, which has the lines that change nothing; `finding` looks for bytes in memory. What
+//! each line does stands in `specs/Lines.antt`, what it writes in `specs/LineTexts.antt`.
 #![tactic(auto)]
 
-mod answers;
 mod finding;
+mod lines;
 mod looks;
+pub mod wording;
 
-pub use answers::serve;
+pub use lines::serve;
 pub use looks::look;

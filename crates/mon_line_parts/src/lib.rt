@@ -1,8 +1,8 @@
 //! The parts of a line of `mon`: its first word, and the values behind it.
 //!
-//! `topic` has the words that a line may begin with, and the topic of each. `help` has what help says
-//! of a topic. `scan` reads words, signs and texts at the front of a line, `numbers` and `values`
-//! read numbers, names and sums of them. `slip` names what can be missing or wrong.
+//! `topic` has the words that a line may begin with, and the topic of each. `help` has what help
+//! says of a topic. `scan` reads words, signs and texts at the front of a line, `numbers` and
+//! `values` read numbers, names and sums of them. `slip` names what can be missing or wrong.
 #![tactic(auto)]
 
 mod help;

@@ -94,7 +94,7 @@ pub const WORDS: [(&[u8], Topic); 45] = [
     (b"trace", Topic::Trace),
 ];
 
-/// The topics, in the order in which `help` tells them.
+/// The topics, in the order in which help lists them.
 pub const TOPICS: [Topic; 30] = [
     Topic::Step,
     Topic::Over,

@@ -1,12 +1,14 @@
-//! What a session of `mon` has, and what it says of an event.
+//! What a session of `mon` has, which all lines work at.
 //!
-//! A desk is what all lines work at. What each line does stands in the crates above it.
-//!
-//! The last events of a session, and those that were undone, so that these can be made again.
+//! `desk` holds the machine's session, its events, the breaks and watches, the names and lines of
+//! the program, and the text that is to be written. It says what the state is, and why an event was
+//! rejected. `events` holds the last events and those that were undone, so that these can be made
+//! again. What each line does stands in the crates above this one.
 #![tactic(auto)]
 
 mod desk;
 mod events;
+pub mod wording;
 
 pub use desk::Desk;
 pub use events::Events;

@@ -1,6 +1,10 @@
-//! Lines of `mon` that set, show and delete breaks and watches.
+//! Lines of `mon` that change what a session has.
 //!
-//! Lines of `mon` that change registers, memory, the console's input or the interrupt lines.
+//! `breaks`, `watches` and `deleting` set, list and delete breaks and watches. `bytes` puts bytes
+//! into memory or hands them to the console's input, `asm` assembles an instruction, for which
+//! `names` puts addresses in place of names. `events` sets registers and interrupt lines. What each
+//! line does stands in `specs/StopLines.antt` and `specs/ByteLines.antt`, what it says in
+//! `specs/StopTexts.antt` and `specs/ChangeTexts.antt`.
 #![tactic(auto)]
 
 mod asm;
@@ -8,8 +12,9 @@ mod breaks;
 mod bytes;
 mod deleting;
 mod events;
-mod named;
+mod names;
 mod watches;
+pub mod wording;
 
 pub use asm::assemble;
 pub use breaks::set_break;

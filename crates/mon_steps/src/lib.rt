@@ -1,13 +1,20 @@
-//! Lines of `mon` that move the session forwards.
+//! Lines of `mon` that move the session: forwards by steps and runs, backwards, and forwards again
+//! by the events that were undone.
 //!
-//! Lines of `mon` that move the session backwards, and make undone events again.
+//! `stepping` shows each step, `runs` goes on to a stop, `endings` and `reasons` say how a run has
+//! ended.
+//! `back` undoes events, `again` makes them again. What each line does to the session stands in
+//! `specs/RunLines.antt` and `specs/BackLines.antt`, what it says in `specs/RunTexts.antt` and
+//! `specs/BackTexts.antt`.
 #![tactic(auto)]
 
 mod again;
 mod back;
 mod endings;
+mod reasons;
 mod runs;
 mod stepping;
+pub mod wording;
 
 pub use again::{redo, show_history};
 pub use back::{undo, undo_to_stop};
