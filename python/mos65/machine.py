@@ -271,7 +271,7 @@ class Machine:
         return limit
 
     def back(self, count: int = 1) -> None:
-        """Goes back over the last `count` events. Raises SessionFault, NoHistory, where fewer are held."""
+        """Goes back over the last `count` events; over none, where it is 0. Raises SessionFault, NoHistory, where fewer are held."""
         if not 0 <= count <= _MOST:
             raise Refused("Count", text=str(count))
         self._way.back(count)

@@ -142,9 +142,12 @@ class Pipe:
         line, _, self._pending = self._pending.partition(b"\n")
         return line.decode("ascii")
 
-    def _send(self, lines: Sequence[str]) -> float:
+    def _needs_engine(self) -> None:
         if self._engine is None:
             raise Closed("Closed", 1)
+
+    def _send(self, lines: Sequence[str]) -> float:
+        self._needs_engine()
         text = memoryview("".join(f"{it}\n" for it in lines).encode("ascii"))
         try:
             while text:
@@ -242,6 +245,7 @@ class Pipe:
 
     def read(self, address: int, count: int) -> bytes:
         if count == 0:
+            self._needs_engine()
             return b""
         deadline = self._send([f"mem {address:04X} {address + count - 1:04X}"])
         found = b""
@@ -264,6 +268,7 @@ class Pipe:
 
     def run(self, limit: int) -> RunEnd:
         if limit == 0:
+            self._needs_engine()
             return RunEnd(0, Why.LIMIT)
         steps = 0
         while limit > _MOST:
@@ -316,6 +321,10 @@ class Pipe:
         return end, self._registers(self._ask_all(last)[-1])
 
     def back(self, count: int) -> None:
+        if count == 0:
+            # The program takes no 0: nothing is gone back over.
+            self._needs_engine()
+            return
         last = self._last
         self._ask(f"back {min(count, _MOST)}")
         if last and last[0] == count:

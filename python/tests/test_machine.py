@@ -169,6 +169,17 @@ class Ways:
         m.back(2)
         self.assertEqual(m.registers, first)
 
+    def test_no_event_is_gone_back_over(self):
+        m = self.machine()
+        m.back(0)
+        self.assertEqual(m.held, 0)
+        call = m.call("times10", a=7)
+        m.back(0)
+        self.assertEqual((m.registers, m.held), (call.registers, call.events))
+        m.back(call.events)
+        self.assertEqual(m.held, 0)
+        self.refused(mos65.Refused, "Count", None, m.back, -1)
+
     def test_the_last_steps(self):
         m = self.machine()
         m.call("times10", a=7)
@@ -210,6 +221,9 @@ class Ways:
         m.close()
         self.refused(mos65.Closed, "Closed", 1, m.step)
         self.refused(mos65.Closed, "Closed", 1, m.read, 0)
+        self.refused(mos65.Closed, "Closed", 1, m.read, 0, 0)
+        self.refused(mos65.Closed, "Closed", 1, m.run, 0)
+        self.refused(mos65.Closed, "Closed", 1, m.back, 0)
 
 
 @unittest.skipUnless(PROGRAM, "MOS65_PROGRAM is not named")

@@ -1,14 +1,10 @@
-//! What the instruction at PC reads and stores: the addresses, before its step is made.
+//! What the next step is about to touch, and what steps have touched.
 //!
-//! `access_here` is the one call. It looks at a session by its views alone, and changes nothing.
-//! `specs/Access.antt` says what it returns.
-//!
-//! What a step is about to touch, and what steps have touched: the addresses that the next step
-//! reads and stores at, how often each address was executed, and which were ever written.
-//!
-//! `moment_of`, `reads_here` and `stores_here` look at a session by its views alone, and change
-//! nothing. `Tally` counts by address, `Written` keeps which addresses have a byte that somebody
-//! put there. `specs/` says what each returns.
+//! `access_here` says which addresses the instruction at PC reads and stores. `moment_of`,
+//! `reads_here` and `stores_here` say it of a step, with what an interrupt or the stack adds. These
+//! look at a session by its views alone, and change nothing. `Tally` counts how often each address
+//! was executed, and `Written` keeps which addresses have a byte that somebody put there. `specs/`
+//! says what each returns.
 #![tactic(auto)]
 
 mod access;

@@ -1,4 +1,5 @@
+pub mod KindWords
 pub mod Read
+pub mod Refused
 pub mod Said
 pub mod Told
-pub mod KindWords

@@ -1,5 +1,5 @@
 -- What `check` finds of a source, and what it writes of it. Source: mos65.
-use Rattle.std.specs.Prelude.{◌≡◌, ⊤, ℕ, ◌==◌, ◌&&◌, ◌||◌, Bool, not, false, List, Some, None, length}
+use Rattle.std.specs.Prelude.{◌≡◌, ◌⊎◌, ⊤, ℕ, ◌==◌, ◌&&◌, ◌||◌, Bool, not, true, false, List, Some, None, length}
 use Rattle.checking.specs.Checked.{IsCheckedText}
 use Rattle.checking.specs.CommandLine.{CheckAsked, check, check_asked, map_asked}
 use Rattle.checking.specs.declared.refusal.Refusal.{Refusal}
@@ -8,12 +8,18 @@ use Rattle.checking.specs.declared.text.CheckedText.{CheckedText}
 use Rattle.clap.specs.Words.{Text}
 use Rattle.model.specs.AllFaults.{faults_of}
 use Rattle.model.specs.State.{is_map}
+use Rattle.papertape.specs.Hint.{BeginsTape}
 use Rattle.warnings.specs.Warnings.{warnings_of}
 use Rattle.word_streams.specs.Words.{Fits}
+
+-- The port that is asked for makes a map.
+abbrev pub HasMap : CheckAsked → Type 0
+HasMap asked = is_map None asked.port ≡ true
 
 -- The text of all faults or warnings of some source on the map that is asked for, and which of these
 -- it has. No clause can say which source a file stands for.
 pub record IsFound (asked : CheckAsked) (found : CheckedText) : Type 0 where
+  pub mapped : HasMap asked
   pub source : List ℕ
   pub told : IsCheckedText asked.source source asked.profile
       (faults_of (map_asked asked) source) (warnings_of (map_asked asked) source) found.text.items
@@ -33,15 +39,23 @@ pub record IsSaid (asked : CheckAsked) (is_right : Bool) (said : List ℕ) : Typ
   pub slips : has_slips asked.strict found ≡ not is_right
   pub text : said ≡ found.text.items
 
--- Why no source was looked at: the port makes no map. No clause can say what a file has, or whether
--- memory is there.
+-- A text begins with a record of a tape. No clause can say which text a file has.
+abbrev pub HasTape : Type 0
+HasTape = (text : List ℕ) × BeginsTape text
+
+-- Why no source was checked: the port makes no map; or it makes one, and the file begins with a
+-- record of a tape or cannot be read. Memory may run out at any file.
 abbrev pub EndsCheck : CheckAsked → Refusal → Type 0
 EndsCheck asked Words = ⊥
 EndsCheck asked Map = is_map None asked.port ≡ false
-EndsCheck asked LooksLikeTape = ⊤
+EndsCheck asked LooksLikeTape = HasMap asked × HasTape
 EndsCheck asked OutOfMemory = ⊤
-EndsCheck asked Read = ⊤
-EndsCheck asked Write = ⊤
+EndsCheck asked Read = HasMap asked
+EndsCheck asked Write = ⊥
+
+-- What is asked for is refused before a source is checked.
+abbrev pub IsRefused : CheckAsked → Type 0
+IsRefused asked = (is_map None asked.port ≡ false) ⊎ (HasMap asked × HasTape)
 
 -- The words fit, each value is one that its name can have, and a fact holds of what they ask for.
 abbrev pub Asks : List Text → (CheckAsked → Type 0) → Type 0

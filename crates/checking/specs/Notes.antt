@@ -1,5 +1,5 @@
 -- What is said of a warning, and which bytes of its line it means. Source: mos65.
-use Rattle.std.specs.Prelude.{◌≡◌, ◌⊎◌, ℕ, ◌-◌, nat_lt, ◌&&◌, max, Bool, List, [], ◌++◌, length, take, codes, slice_get, Option, Some, None}
+use Rattle.std.specs.Prelude.{◌≡◌, ◌⊎◌, ℕ, ◌-◌, nat_lt, ◌&&◌, max, Bool, List, [], ◌++◌, length, take, slice_get, Option, Some, None}
 use Rattle.std.specs.Fmt.{decimal}
 use Rattle.std.specs.List.{find, prefix_len}
 use Rattle.std.specs.Str.{str_eq_ignore_ascii_case}
@@ -8,7 +8,8 @@ use Rattle.line_parts.specs.declared.token.Token.{Token}
 use Rattle.model.specs.Token.{is_blank, is_word_byte, tokens_of}
 use Rattle.source_notes.specs.Lines.{without_blanks}
 use Rattle.source_notes.specs.Operands.{operand_of, operand_place}
-use Rattle.source_notes.specs.declared.words.Note.{Note}
+use Rattle.source_notes.specs.declared.note.Note.{Note}
+use Rattle.checking.specs.declared.wording.TheConstants.{ANOTHER_NAME, DIFFERS_IN_CASE, HAS_NO_BYTES, IS_AN_ADDRESS, IS_NEVER_USED, IS_NOT_READ, ON_LINE, TAKES_TWO_BYTES}
 use Rattle.warnings.specs.declared.kinds.WarningKind.{WarningKind}
 use Rattle.warnings.specs.declared.kinds.WarningKind.TheVariants.{PlainNumber, UnusedName, LongForm, LetterCase, NoBytes, AfterEnd}
 
@@ -29,7 +30,7 @@ word_place line = (prefix_len is_blank line, max (word_length line) 1)
 pub record Says (place : ℕ × ℕ) (words : List ℕ) (note : Note) : Type 0 where
   pub start : note.start ≡ place.0
   pub width : note.width ≡ place.1
-  pub said : note.words.items ≡ words
+  pub words_are : note.words.items ≡ words
 
 -- ---- operands
 
@@ -47,11 +48,7 @@ abbrev pub last_text : List Token → List ℕ
 last_text tokens = text_of (slice_get tokens (length tokens - 1))
 
 abbrev pub plain_words : List ℕ → List ℕ
-plain_words number
-    = number ++ codes " is an address, and nothing writes there; the number is #" ++ number
-
-abbrev pub long_words : List ℕ
-long_words = codes "below 256, but known only later: it takes two bytes here"
+plain_words number = number ++ IS_AN_ADDRESS.now ++ number
 
 -- ---- letter case
 
@@ -60,12 +57,12 @@ abbrev pub is_like : ℕ → List ℕ → List ℕ × ℕ → Bool
 is_like number word name = nat_lt name.1 number && str_eq_ignore_ascii_case name.0 word
 
 abbrev pub like_words : Option (List ℕ × ℕ) → List ℕ
-like_words None = codes "another name"
-like_words (Some name) = name.0 ++ codes ", on line " ++ decimal name.1
+like_words None = ANOTHER_NAME.now
+like_words (Some name) = name.0 ++ ON_LINE.now ++ decimal name.1
 
 -- A word, and the first name that it is like.
 abbrev pub case_words : List (List ℕ × ℕ) → ℕ → List ℕ → List ℕ
-case_words names number word = word ++ codes " differs only in letter case from "
+case_words names number word = word ++ DIFFERS_IN_CASE.now
     ++ like_words (find (is_like number word) names)
 
 -- ---- a warning
@@ -75,12 +72,10 @@ abbrev pub IsNote : List (List ℕ × ℕ) → WarningKind → ℕ → List ℕ 
 IsNote names PlainNumber number line note = (tokens : List Token) × AreTokens line tokens
     × Says (operand_place line tokens) (plain_words (last_text (operand_of tokens))) note
 IsNote names LongForm number line note = (tokens : List Token) × AreTokens line tokens
-    × Says (operand_place line tokens) long_words note
+    × Says (operand_place line tokens) TAKES_TWO_BYTES.now note
 IsNote names UnusedName number line note
-    = Says (word_place line) (first_word line ++ codes " is never used") note
+    = Says (word_place line) (first_word line ++ IS_NEVER_USED.now) note
 IsNote names LetterCase number line note
     = Says (word_place line) (case_words names number (first_word line)) note
-IsNote names NoBytes number line note = Says (word_place line)
-    (codes "the source has names, but neither an instruction nor a byte") note
-IsNote names AfterEnd number line note = Says (word_place line)
-    (codes "this line is not read: .END stands before it") note
+IsNote names NoBytes number line note = Says (word_place line) HAS_NO_BYTES.now note
+IsNote names AfterEnd number line note = Says (word_place line) IS_NOT_READ.now note

@@ -8,12 +8,16 @@ ghost use Rattle.source_notes.specs.Lines.{name_view};
 ghost use Rattle.checking.specs.Notes.{AreTokens, IsNote, case_words, first_word, is_like};
 ghost use Rattle.checking.specs.Notes.{last_text, like_words, plain_words, word_place};
 
+use crate::wording::{
+    ANOTHER_NAME, DIFFERS_IN_CASE, HAS_NO_BYTES, IS_AN_ADDRESS, IS_NEVER_USED, IS_NOT_READ,
+    ON_LINE, TAKES_TWO_BYTES,
+};
+use formatting::{push_count, push_text};
 use lexer::tokens;
 use line_parts::Token;
 use model::LineFault;
 use source_notes::{
-    Name, Note, about_operand, after, blank_run, named, noted, operand_of, push_count, said,
-    word_run,
+    Name, Note, about_operand, after, blank_run, describe, operand_of, phrase, word_run,
 };
 use std::alloc::{AllocError, Global};
 use warnings::WarningKind;
@@ -24,7 +28,7 @@ fn about_word(line: &[u8], words: Vec<u8>) -> Note
         result ≡ record { start = place.0; width = place.1; words = words } }
 {
     let start = blank_run(line);
-    noted(start, word_run(after(line, start)).max(1), words)
+    Note::new(start, word_run(after(line, start)).max(1), words)
 }
 
 /// Returns the word with which a line begins.
@@ -61,8 +65,7 @@ fn last_text<'a>(tokens: &[Token<'a>]) -> &'a [u8]
 fn plain_words(alloc: Global, number: &[u8]) -> Result<Vec<u8>, AllocError>
     ensures { IfOk result (λ words. words.items ≡ plain_words number.now) }
 {
-    let what = " is an address, and nothing writes there; the number is #";
-    let mut words = named(alloc, number, what)?;
+    let mut words = describe(alloc, number, IS_AN_ADDRESS)?;
     words.extend_from_slice(number)?;
     Ok(words)
 }
@@ -93,10 +96,7 @@ fn long_note(
         (IsNote (map name_view names.now) WarningKind.LongForm number line.now) }
 {
     let found = tokens_or_none(alloc, line)?;
-    let words = said(
-        alloc,
-        "below 256, but known only later: it takes two bytes here",
-    )?;
+    let words = phrase(alloc, TAKES_TWO_BYTES)?;
     Ok(about_operand(line, &found, words))
 }
 
@@ -127,11 +127,11 @@ fn push_like(words: &mut Vec<u8>, name: Option<Name<'_>>) -> Result<(), AllocErr
         ≡ words.old.items ++ like_words (option_map name_view name.entry)) }
 {
     match name {
-        None => words.extend_from_slice(b"another name"),
+        None => push_text(words, ANOTHER_NAME),
         Some(name) => {
             words.extend_from_slice(name.text)?;
-            words.extend_from_slice(b", on line ")?;
-            push_count(words, name.line)
+            push_text(words, ON_LINE)?;
+            push_count(words, name.line as u64)
         }
     }
 }
@@ -146,7 +146,7 @@ fn case_words(
     ensures { IfOk result
         (λ words. words.items ≡ case_words (map name_view names.now) number word.now) }
 {
-    let mut words = named(alloc, word, " differs only in letter case from ")?;
+    let mut words = describe(alloc, word, DIFFERS_IN_CASE)?;
     push_like(&mut words, like_name(names, number, word))?;
     Ok(words)
 }
@@ -165,7 +165,7 @@ pub fn note_of(
         WarningKind::PlainNumber => plain_note(alloc, names, number, line),
         WarningKind::LongForm => long_note(alloc, names, number, line),
         WarningKind::UnusedName => {
-            let words = named(alloc, first_word(line), " is never used")?;
+            let words = describe(alloc, first_word(line), IS_NEVER_USED)?;
             Ok(about_word(line, words))
         }
         WarningKind::LetterCase => {
@@ -173,14 +173,11 @@ pub fn note_of(
             Ok(about_word(line, words))
         }
         WarningKind::NoBytes => {
-            let words = said(
-                alloc,
-                "the source has names, but neither an instruction nor a byte",
-            )?;
+            let words = phrase(alloc, HAS_NO_BYTES)?;
             Ok(about_word(line, words))
         }
         WarningKind::AfterEnd => {
-            let words = said(alloc, "this line is not read: .END stands before it")?;
+            let words = phrase(alloc, IS_NOT_READ)?;
             Ok(about_word(line, words))
         }
     }

@@ -2,7 +2,7 @@
 
 ghost use Rattle.std.specs.Prelude.{◌≡◌, ◌≤◌, ◌⊎◌, IfErr, IfOk, None, false, map, true};
 ghost use Rattle.checking.specs.CommandLine.{check, check_asked, check_view, map_asked};
-ghost use Rattle.checking.specs.Found.{Asks, EndsCheck, IsFound, IsSaid};
+ghost use Rattle.checking.specs.Found.{Asks, EndsCheck, HasMap, IsFound, IsRefused, IsSaid};
 ghost use Rattle.checking.specs.Statuses.{status_of};
 ghost use Rattle.model.specs.State.{is_map};
 ghost use Rattle.word_streams.specs.Streams.{Tells, TellsFront};
@@ -37,15 +37,17 @@ fn read_source<H: Files + AllocGlobal>(rt: &H, path: &str) -> io::Result<Vec<u8>
 /// The map of the words.
 fn map_of(words: &CheckWords<'_>) -> Result<MapSpec, Refusal>
     ensures map { IfOk result (λ map. map ≡ map_asked (check_view words.now)) }
+    ensures mapped { IfOk result (λ _. HasMap (check_view words.now)) }
     ensures bad { IfErr result
         (λ r. (r ≡ Refusal.Map) × (is_map None words.now.port ≡ false)) }
 {
-    match MapSpec::new(None, words.port) {
-        Ok(map) => match words.profile {
-            Profile::N => Ok(map),
-            Profile::C => Ok(map.profile_c()),
-        },
-        Err(_) => Err(Refusal::Map),
+    let Ok(map) = MapSpec::new(None, words.port) else {
+        return Err(Refusal::Map);
+    };
+    map.is_map();
+    match words.profile {
+        Profile::N => Ok(map),
+        Profile::C => Ok(map.profile_c()),
     }
 }
 
@@ -56,7 +58,8 @@ fn found_in(
     source: &[u8],
     map: &MapSpec,
 ) -> Result<CheckedText, Refusal>
-    requires { map.now ≡ map_asked (check_view words.now) }
+    requires map { map.now ≡ map_asked (check_view words.now) }
+    requires mapped { HasMap (check_view words.now) }
     ensures found { IfOk result (IsFound (check_view words.now)) }
     ensures refused { IfErr result (EndsCheck (check_view words.now)) }
 {
@@ -171,7 +174,9 @@ fn done<H: Files + AllocGlobal, O: Write, E: Write>(
     ensures told { result ≡ 1 → Tells (IsSaid (check_view words.now)) false
         (O.contents output.old) (O.contents output.new) }
     ensures begun { result ≡ 4 → TellsFront (IsSaid (check_view words.now))
-        (O.contents output.old) (O.contents output.new) ⊎ (output.new ≡ output.old) }
+        (O.contents output.old) (O.contents output.new)
+        ⊎ (HasMap (check_view words.now) × (output.new ≡ output.old)) }
+    ensures refused { result ≡ 2 → IsRefused (check_view words.now) }
     ensures quiet { result ≤ 1 → errors.new ≡ errors.old }
     ensures untouched { 2 ≤ result → result ≤ 3 → output.new ≡ output.old }
 {
@@ -204,15 +209,18 @@ pub fn check<H: Files + AllocGlobal, O: Write, E: Write>(
     // where the words count these.
     ensures told { result ≡ 1 → Asks (map (λ s. s.now) words.entry.now)
         (λ asked. Tells (IsSaid asked) false (O.contents output.old) (O.contents output.new)) }
-    // 2 means that help is not asked for: the words do not fit, or a value, the map or the file is
-    // wrong. Any file may look like a tape.
+    // 2 means that the words do not fit, or that a value is wrong; or that the port makes no map,
+    // or that the file begins with a record of a tape. No clause can say which text a file has.
     ensures refused { result ≡ 2 → Misfits check (map (λ s. s.now) words.entry.now)
-        ⊎ Fits check (map (λ s. s.now) words.entry.now) }
-    // 4 means that a beginning was written of what is said of some source, or nothing; or help is
-    // asked for.
+        ⊎ ((Fits check (map (λ s. s.now) words.entry.now)
+        × (check_asked (map (λ s. s.now) words.entry.now) ≡ None))
+        ⊎ Asks (map (λ s. s.now) words.entry.now) IsRefused) }
+    // 4 means that a beginning was written of what is said of some source, or nothing, on a map; or
+    // help is asked for. So wrong words, values and ports end with 2, or with 3.
     ensures begun { result ≡ 4 → AsksForHelp check (map (λ s. s.now) words.entry.now)
         ⊎ Asks (map (λ s. s.now) words.entry.now) (λ asked. TellsFront (IsSaid asked)
-        (O.contents output.old) (O.contents output.new) ⊎ (output.new ≡ output.old)) }
+        (O.contents output.old) (O.contents output.new)
+        ⊎ (HasMap asked × (output.new ≡ output.old))) }
     // If a source was checked, nothing is written on the error stream.
     ensures quiet { result ≤ 1 → errors.new ≡ errors.old }
     // Words, a map or a tape that are rejected leave the output unchanged; so does memory that

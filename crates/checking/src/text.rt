@@ -6,7 +6,7 @@ ghost use Rattle.model.specs.AllFaults.{faults_of};
 ghost use Rattle.model.specs.Source.{Denotes};
 ghost use Rattle.warnings.specs.Warnings.{warnings_of};
 
-use crate::warnings_text;
+use crate::block::warnings_text;
 use bus::MapSpec;
 use fault_notes::faults_text;
 use source_faults::source_faults;

@@ -3,8 +3,8 @@
 //! `dis_source` is the one call. It reads its words (`command`, `asked`), marks what is data and
 //! what is text (`marks`), and writes the source of the tape's image as it is asked for
 //! (`written`). The contract of `written` says that this source denotes the part of the image that
-//! is asked for, whatever is marked and named: `source_text`, `round_trips` and `named_source` have
-//! the theorem, and `reached` finds what control reaches.
+//! is asked for, whatever is marked and named: `round_trips` and `named_source` have the theorem,
+//! and `reached` finds what control reaches.
 #![tactic(auto)]
 
 mod asked;

@@ -17,8 +17,9 @@ use Rattle.model.specs.TextLines.{lines_of}
 use Rattle.model.specs.declared.instruction.Profile.{Profile}
 use Rattle.model.specs.declared.source_fault.AsmFault.{AsmFault}
 use Rattle.source_notes.specs.Lines.{texts_of}
-use Rattle.source_notes.specs.declared.words.Note.{Note}
-use Rattle.fault_notes.specs.Blocks.{AreBlocks}
+use Rattle.source_notes.specs.declared.note.Note.{Note}
+use Rattle.source_notes.specs.Blocks.{AreBlocks}
+use Rattle.fault_notes.specs.Blocks.{fault_blocks}
 use Rattle.fault_notes.specs.Marks.{IsMeant, Known, Place, expression_place, first_or, note_place, unless_read}
 
 -- the tokens behind an expression
@@ -97,7 +98,7 @@ pub known_same : (profile : Profile) (names ns : List (List ℕ × ℕ)) (number
 known_same profile names ns numbers ds n d = rw (n, d) refl
 
 pub blocks_as : {X E : Type 0} (items : X → List ℕ) (result : Result X E) (file : List ℕ) (lines same : List (List ℕ)) (one other : Known) (faults : List AsmFault) → lines ≡ same → one ≡ other
-    → IfOk result (λ x. AreBlocks file lines (IsMeant one) faults (items x)) → IfOk result (λ x. AreBlocks file same (IsMeant other) faults (items x))
+    → IfOk result (λ x. AreBlocks (fault_blocks (IsMeant one)) file lines faults (items x)) → IfOk result (λ x. AreBlocks (fault_blocks (IsMeant other)) file same faults (items x))
 blocks_as items result file lines same one other faults l k blocks =
-    subst (λ (ls : List (List ℕ)). IfOk result (λ x. AreBlocks file ls (IsMeant other) faults (items x))) l
-    (subst (λ (kn : Known). IfOk result (λ x. AreBlocks file lines (IsMeant kn) faults (items x))) k blocks)
+    subst (λ (ls : List (List ℕ)). IfOk result (λ x. AreBlocks (fault_blocks (IsMeant other)) file ls faults (items x))) l
+    (subst (λ (kn : Known). IfOk result (λ x. AreBlocks (fault_blocks (IsMeant kn)) file lines faults (items x))) k blocks)

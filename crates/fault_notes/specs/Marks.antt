@@ -18,7 +18,7 @@ use Rattle.model.specs.declared.source_fault.AsmFaultKind.{AsmFaultKind}
 use Rattle.model.specs.declared.source_fault.AsmFaultKind.TheVariants.{LineTooLong, NotAscii, Syntax, ReservedName, DuplicateName, UnknownHere, UndefinedName}
 use Rattle.source_notes.specs.Lines.{name_view}
 use Rattle.source_notes.specs.Operands.{after_label, end_of, is_symbol, operand_of, operand_place}
-use Rattle.source_notes.specs.declared.words.Note.{Note}
+use Rattle.source_notes.specs.declared.note.Note.{Note}
 
 -- The first byte that is meant, counted from 0, and how many are.
 abbrev pub Place : Type 0

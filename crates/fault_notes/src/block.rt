@@ -1,24 +1,24 @@
 //! The blocks of all faults.
 
-ghost use Rattle.std.specs.Prelude.{◌≡◌, ◌≤◌, ◌++◌, ◌+◌, ◌%◌, [], IfOk, OnOk, length, map, take};
+ghost use Rattle.std.specs.Prelude.{◌≡◌, ◌≤◌, ◌++◌, [], IfOk, OnOk, length, map, take};
 ghost use Rattle.std.specs.List.Sorted.{IsNonDecreasingBy, IsPermutation};
 ghost use Rattle.std.specs.Option.{option_map};
-ghost use Rattle.fault_notes.specs.Blocks.{AreBlocks, IsToldText, end_of, head_of, kind_text};
-ghost use Rattle.fault_notes.specs.Blocks.{known_in, means_first, means_in};
-ghost use Rattle.fault_notes.specs.Blocks.{shown_lines};
+ghost use Rattle.fault_notes.specs.Blocks.{IsToldText, fault_blocks, known_in, means_first, means_in};
+ghost use Rattle.fault_notes.specs.Blocks.{shown_lines, title_of};
 ghost use Rattle.fault_notes.specs.Marks.{IsMeant, known_of};
 ghost use Rattle.model.specs.TextLines.{lines_of};
+ghost use Rattle.source_notes.specs.Blocks.{AreBlocks, block_of};
 ghost use Rattle.source_notes.specs.Lines.{name_view, names_of, texts_of};
-ghost use Rattle.source_notes.specs.Shown.{after_head};
 
 use crate::note::{Context, note_of};
+use crate::wording::{FAULTS, ONE_FAULT};
 use bus::MapSpec;
-use itoa::Buffer;
+use formatting::{push_count, push_text};
 use model::{AsmFault, AsmFaultKind};
 use source_faults::{Mending, lay_out};
 use source_notes::{
-    Name, Note, after_head, every_line, line_of, line_or_none, names_of, noted, push_count,
-    push_place, said,
+    Name, Note, every_line, first_told, line_of, line_or_none, names_of, phrase, push_block,
+    push_total,
 };
 use std::alloc::{AllocError, Global};
 use symbols::Symbols;
@@ -26,39 +26,19 @@ use symbols::Symbols;
 /// The most bytes that a source has (mos65).
 const SOURCE_SIZE: usize = 1_048_576;
 
-/// The most faults that are written.
-const MOST_TOLD: usize = 50;
-
-/// Appends the name and the number of a fault.
-fn push_kind(text: &mut Vec<u8>, kind: AsmFaultKind) -> Result<(), AllocError>
-    ensures { OnOk result (text.new.items ≡ text.old.items ++ kind_text kind) }
+/// Returns the title of a block: the name and the number of a kind of fault.
+fn title_of(alloc: Global, kind: AsmFaultKind) -> Result<Vec<u8>, AllocError>
+    ensures { IfOk result (λ title. title.items ≡ title_of kind) }
 {
-    text.extend_from_slice(kind.name().as_bytes())?;
-    text.push(b' ')?;
-    push_count(text, kind.number() as u32)?;
-    text.extend_from_slice(b": ")?;
-    Ok(())
+    let mut title = Vec::from_slice(alloc, kind.name().as_bytes())?;
+    push_text(&mut title, " ")?;
+    push_count(&mut title, kind.number() as u64)?;
+    push_text(&mut title, ": ")?;
+    Ok(title)
 }
 
-/// Appends a block with this after its head.
-fn push_block_text(
-    text: &mut Vec<u8>,
-    file: &[u8],
-    fault: AsmFault,
-    column: u32,
-    rest: &[u8],
-) -> Result<(), AllocError>
-    ensures { OnOk result
-        (text.new.items ≡ text.old.items ++ (head_of file.now fault column ++ rest.now)) }
-{
-    push_place(text, file, fault.line, column)?;
-    push_kind(text, fault.kind)?;
-    text.extend_from_slice(rest)?;
-    Ok(())
-}
-
-/// Appends a block: where the fault is and what is said of it, and the line with a mark.
-fn push_block(
+/// Appends the block of a fault: where it is and what is wrong, and the line with a mark.
+fn push_fault(
     alloc: Global,
     text: &mut Vec<u8>,
     file: &[u8],
@@ -67,35 +47,11 @@ fn push_block(
     note: &Note,
 ) -> Result<(), AllocError>
     ensures { OnOk result (text.new.items ≡ text.old.items
-        ++ (head_of file.now fault (note.now.start % 65536 + 1)
-        ++ after_head (option_map (λ line. line.now) line.entry) note.now)) }
+        ++ block_of file.now fault.line (title_of fault.kind)
+        (option_map (λ line. line.now) line.entry) note.now) }
 {
-    let column = (note.start % 65536) as u32 + 1;
-    let rest = after_head(alloc, line, note)?;
-    push_block_text(text, file, fault, column, &rest)
-}
-
-/// Appends how many faults there are.
-fn push_end(text: &mut Vec<u8>, count: usize) -> Result<(), AllocError>
-    ensures { OnOk result (text.new.items ≡ text.old.items ++ end_of count) }
-{
-    if count > MOST_TOLD {
-        text.extend_from_slice(b"and more\n")?;
-    }
-    text.extend_from_slice(Buffer::new().format(count).as_bytes())?;
-    if count == 1 {
-        text.extend_from_slice(b" fault\n")
-    } else {
-        text.extend_from_slice(b" faults\n")
-    }
-}
-
-/// Returns the first 50 of some faults.
-#[tactic(auto, using(std::proofs::lemmas::List::take_min))]
-fn first_told(faults: &[AsmFault]) -> &[AsmFault]
-    ensures { result.now ≡ take 50 faults.now }
-{
-    &faults[..MOST_TOLD.min(faults.len())]
+    let title = title_of(alloc, fault.kind)?;
+    push_block(alloc, text, file, fault.line, &title, line, note)
 }
 
 /// Returns faults in the order of their lines.
@@ -110,12 +66,14 @@ fn by_line(alloc: Global, faults: &[AsmFault]) -> Result<Vec<AsmFault>, AllocErr
 
 /// Returns the blocks of faults of a source that is too long to be read.
 fn large_blocks(alloc: Global, file: &[u8], faults: &[AsmFault]) -> Result<Vec<u8>, AllocError>
-    ensures { IfOk result (λ text. AreBlocks file.now [] means_first faults.now text.items) }
+    ensures { IfOk result
+        (λ text. AreBlocks (fault_blocks means_first) file.now [] faults.now text.items) }
 {
     let mut text = Vec::new(alloc);
     for fault in faults {
-        let words = said(alloc, "a source has at most 1048576 bytes")?;
-        push_block(alloc, &mut text, file, *fault, None, &noted(0, 1, words))?;
+        let words = phrase(alloc, "a source has at most 1048576 bytes")?;
+        let note = Note::new(0, 1, words);
+        push_fault(alloc, &mut text, file, *fault, None, &note)?;
     }
     Ok(text)
 }
@@ -128,14 +86,14 @@ fn line_blocks(
     context: &Context<'_, '_>,
     faults: &[AsmFault],
 ) -> Result<Vec<u8>, AllocError>
-    ensures { IfOk result (λ text. AreBlocks file.now (texts_of lines.now)
-        (IsMeant (known_of context.now)) faults.now text.items) }
+    ensures { IfOk result (λ text. AreBlocks (fault_blocks (IsMeant (known_of context.now)))
+        file.now (texts_of lines.now) faults.now text.items) }
 {
     let mut text = Vec::new(alloc);
     for fault in faults {
         let line = line_of(lines, fault.line);
         let note = note_of(alloc, context, *fault, line_or_none(line))?;
-        push_block(alloc, &mut text, file, *fault, line, &note)?;
+        push_fault(alloc, &mut text, file, *fault, line, &note)?;
     }
     Ok(text)
 }
@@ -162,8 +120,9 @@ fn source_blocks(
     faults: &[AsmFault],
 ) -> Result<Vec<u8>, AllocError>
     requires { length source.now ≤ 1048576 }
-    ensures { IfOk result (λ text. AreBlocks file.now (lines_of source.now)
-        (IsMeant (known_in map.now.profile source.now)) faults.now text.items) }
+    ensures { IfOk result (λ text. AreBlocks
+        (fault_blocks (IsMeant (known_in map.now.profile source.now)))
+        file.now (lines_of source.now) faults.now text.items) }
 {
     let mut symbols = Symbols::new(alloc);
     let profile = map.profile();
@@ -188,8 +147,9 @@ fn blocks_of(
     map: &MapSpec,
     faults: &[AsmFault],
 ) -> Result<Vec<u8>, AllocError>
-    ensures { IfOk result (λ text. AreBlocks file.now (shown_lines source.now)
-        (means_in map.now.profile source.now) faults.now text.items) }
+    ensures { IfOk result (λ text. AreBlocks
+        (fault_blocks (means_in map.now.profile source.now))
+        file.now (shown_lines source.now) faults.now text.items) }
 {
     if source.len() > SOURCE_SIZE {
         large_blocks(alloc, file, faults)
@@ -222,6 +182,6 @@ pub fn faults_text(
     }
     let first = by_line(alloc, first_told(faults))?;
     let mut text = blocks_of(alloc, file, source, map, &first)?;
-    push_end(&mut text, faults.len())?;
+    push_total(&mut text, faults.len(), ONE_FAULT, FAULTS)?;
     Ok(text)
 }

@@ -14,7 +14,7 @@ use line_parts::Token;
 use model::{LineFault, Profile, TokenKind};
 use optable::mnemonic_in;
 use parser::parse_expr;
-use source_notes::{Note, is_symbol, joined, named, noted, said};
+use source_notes::{Note, concat, describe, is_symbol, phrase};
 use std::alloc::{AllocError, Global};
 
 /// The mnemonics, those of profile C last.
@@ -31,7 +31,7 @@ const MNEMONICS: [&[u8]; 62] = [
 pub fn about(token: &Token<'_>, words: Vec<u8>) -> Note
     ensures { note_place result ≡ token_place token.now }
 {
-    noted(token.start, token.text.len(), words)
+    Note::new(token.start, token.text.len(), words)
 }
 
 /// Returns the index of the first byte behind a token.
@@ -128,12 +128,12 @@ fn word_words(
         };
         if begins {
             let pieces: [&[u8]; 3] = [b"a label ends with a colon: ", word.text, b":"];
-            return joined(alloc, &pieces);
+            return concat(alloc, &pieces);
         }
     }
     for name in &MNEMONICS {
         if name.eq_ignore_ascii_case(word.text) {
-            return named(
+            return describe(
                 alloc,
                 word.text,
                 " is a mnemonic of profile C (--profile C)",
@@ -143,10 +143,10 @@ fn word_words(
     for name in &MNEMONICS {
         if is_near(name, word.text) && mnemonic_in(profile, name).is_some() {
             let pieces: [&[u8]; 4] = [word.text, b" is no mnemonic; ", name, b" is"];
-            return joined(alloc, &pieces);
+            return concat(alloc, &pieces);
         }
     }
-    named(alloc, word.text, " is no mnemonic")
+    describe(alloc, word.text, " is no mnemonic")
 }
 
 /// Returns what is said of the tokens behind an expression, or of their want.
@@ -156,9 +156,9 @@ fn left_note(alloc: Global, index: usize, rest: &[Token<'_>]) -> Result<Note, Al
     match rest {
         [token, ..] => Ok(about(
             token,
-            named(alloc, token.text, " is left over after the operand")?,
+            describe(alloc, token.text, " is left over after the operand")?,
         )),
-        [] => Ok(noted(index, 1, said(alloc, "something is missing here")?)),
+        [] => Ok(Note::new(index, 1, phrase(alloc, "something is missing here")?)),
     }
 }
 
@@ -167,8 +167,8 @@ fn no_value_note(alloc: Global, index: usize, tokens: &[Token<'_>]) -> Result<No
     ensures { IfOk result (λ note. note_place note ≡ first_or index (lexemes tokens.now)) }
 {
     match tokens {
-        [token, ..] => Ok(about(token, said(alloc, "no value can be read here")?)),
-        [] => Ok(noted(index, 1, said(alloc, "an operand is missing")?)),
+        [token, ..] => Ok(about(token, phrase(alloc, "no value can be read here")?)),
+        [] => Ok(Note::new(index, 1, phrase(alloc, "an operand is missing")?)),
     }
 }
 
@@ -211,9 +211,9 @@ fn whole_note(tokens: &[Token<'_>], words: Vec<u8>) -> Note
 {
     match (tokens.first(), tokens.last()) {
         (Some(first), Some(last)) => {
-            noted(first.start, behind(last).saturating_sub(first.start), words)
+            Note::new(first.start, behind(last).saturating_sub(first.start), words)
         }
-        _ => noted(0, 1, words),
+        _ => Note::new(0, 1, words),
     }
 }
 
@@ -223,7 +223,7 @@ fn inside_note(alloc: Global, index: usize, tokens: &[Token<'_>]) -> Result<Note
         (λ note. note_place note ≡ inside_place index tokens.now (first_of 40 tokens.now)) }
 {
     match first_of(b'(', tokens) {
-        Some(bracket) => Ok(about(bracket, said(alloc, BRACKETS)?)),
+        Some(bracket) => Ok(about(bracket, phrase(alloc, BRACKETS)?)),
         None => expression_note(alloc, index, tokens),
     }
 }
@@ -236,7 +236,7 @@ fn closed_note(alloc: Global, index: usize, tokens: &[Token<'_>]) -> Result<Note
         return expression_note(alloc, index, &[]);
     };
     if is_symbol(first, b'(') {
-        let words = said(alloc, pointer_words(tokens))?;
+        let words = phrase(alloc, pointer_words(tokens))?;
         return Ok(whole_note(tokens, words));
     }
     if is_symbol(first, b'#') || is_symbol(first, b'!') {
@@ -250,10 +250,10 @@ fn wrong_operand_note(alloc: Global, index: usize, tokens: &[Token<'_>]) -> Resu
     ensures { IfOk result (λ note. note_place note ≡ wrong_operand_place index tokens.now) }
 {
     if let Some(bracket) = unclosed(b'(', b')', tokens) {
-        return Ok(about(bracket, said(alloc, "this bracket is not closed")?));
+        return Ok(about(bracket, phrase(alloc, "this bracket is not closed")?));
     }
     if let Some(bracket) = unclosed(b'[', b']', tokens) {
-        return Ok(about(bracket, said(alloc, "this bracket is not closed")?));
+        return Ok(about(bracket, phrase(alloc, "this bracket is not closed")?));
     }
     closed_note(alloc, index, tokens)
 }
@@ -273,11 +273,11 @@ fn is_directive(text: &[u8]) -> bool
 fn directive_words(alloc: Global, text: &[u8]) -> Result<Vec<u8>, AllocError> {
     match directive_hint(text) {
         Some(hint) => {
-            let mut words = named(alloc, text, " is no directive here; ")?;
+            let mut words = describe(alloc, text, " is no directive here; ")?;
             words.extend_from_slice(hint)?;
             Ok(words)
         }
-        None => named(
+        None => describe(
             alloc,
             text,
             " is no directive; there are .BYTE .WORD .DBYTE .RES .END",
@@ -309,7 +309,7 @@ fn operation_note(
             Ok(about(first, directive_words(alloc, first.text)?))
         }
         _ => {
-            let words = said(
+            let words = phrase(
                 alloc,
                 "a line begins with a label, a name and =, a mnemonic, a directive or *=",
             )?;
@@ -334,6 +334,10 @@ pub fn form_note(alloc: Global, profile: Profile, tokens: &[Token<'_>]) -> Resul
             expression_note(alloc, behind(second), rest)
         }
         [first, rest @ ..] => operation_note(alloc, profile, first, rest),
-        [] => Ok(noted(0, 1, said(alloc, "the line says nothing that can be read")?)),
+        [] => Ok(Note::new(
+            0,
+            1,
+            phrase(alloc, "the line says nothing that can be read")?,
+        )),
     }
 }

@@ -2,8 +2,10 @@
 //! name, by how much a value misses.
 //!
 //! `faults_text` writes a block for each fault: the fault's line, name and number, words, and the
-//! source's own line with a mark under the bytes that are meant. What the words say is tested and
-//! not proved.
+//! source's own line with a mark under the bytes that are meant. Which bytes these are is proved
+//! (`Marks.antt`); what the words say is tested and not proved. `note` finds both for each kind of
+//! fault, with `scan` for bytes that begin no token, `form` for tokens that are none of the
+//! grammar, `values` for values and `near` for names that are nearly the same.
 #![tactic(auto)]
 
 mod block;
@@ -12,5 +14,6 @@ mod near;
 mod note;
 mod scan;
 mod values;
+mod wording;
 
 pub use block::faults_text;

@@ -15,14 +15,15 @@ use crate::form::{about, form_note, is_word};
 use crate::near::is_near;
 use crate::scan::text_note;
 use crate::values::{Outside, branch_miss, first_outside};
+use formatting::push_count;
 use lexer::tokens;
 use line_parts::{KeptLine, Token};
 use model::{AsmFault, AsmFaultKind, LineFault, Mode, Profile};
 use optable::{encode_in, mnemonic_in};
 use source_faults::Found;
 use source_notes::{
-    Class, Name, Note, about_operand, after_label, is_symbol, named, noted, operand_of,
-    push_address, push_count, push_decimal, run_of, said,
+    Class, Name, Note, about_operand, after_label, describe, is_symbol, operand_of, phrase,
+    push_dollar_address, push_signed, run_of,
 };
 use std::alloc::{AllocError, Global};
 use symbols::Symbols;
@@ -169,23 +170,23 @@ fn unknown_words(
     token: Option<&Token<'_>>,
 ) -> Result<Vec<u8>, AllocError> {
     let Some(token) = token else {
-        return said(alloc, "a name has to be defined on an earlier line");
+        return phrase(alloc, "a name has to be defined on an earlier line");
     };
     for name in context.names {
         if name.text == token.text && at_once {
             let when = " has to be defined before it is used here; it is on line ";
-            let mut words = named(alloc, token.text, when)?;
-            push_count(&mut words, name.line)?;
+            let mut words = describe(alloc, token.text, when)?;
+            push_count(&mut words, name.line as u64)?;
             return Ok(words);
         }
     }
-    let mut words = named(alloc, token.text, " is not defined")?;
+    let mut words = describe(alloc, token.text, " is not defined")?;
     for name in context.names {
         if is_near(name.text, token.text) {
             words.extend_from_slice(b"; ")?;
             words.extend_from_slice(name.text)?;
             words.extend_from_slice(b" is, on line ")?;
-            push_count(&mut words, name.line)?;
+            push_count(&mut words, name.line as u64)?;
             return Ok(words);
         }
     }
@@ -215,11 +216,11 @@ fn duplicate_words(
     context: &Context<'_, '_>,
     token: &Token<'_>,
 ) -> Result<Vec<u8>, AllocError> {
-    let mut words = named(alloc, token.text, " is defined already")?;
+    let mut words = describe(alloc, token.text, " is defined already")?;
     for name in context.names {
         if name.text == token.text {
             words.extend_from_slice(b", on line ")?;
-            push_count(&mut words, name.line)?;
+            push_count(&mut words, name.line as u64)?;
             return Ok(words);
         }
     }
@@ -237,7 +238,7 @@ fn duplicate_note(
 {
     match tokens.first() {
         Some(token) => Ok(about(token, duplicate_words(alloc, context, token)?)),
-        None => Ok(noted(0, 1, said(alloc, "the name is defined already")?)),
+        None => Ok(Note::new(0, 1, phrase(alloc, "the name is defined already")?)),
     }
 }
 
@@ -278,7 +279,7 @@ fn reserved_token<'t, 'a>(profile: Profile, tokens: &'t [Token<'a>]) -> Option<&
 /// Returns words about a reserved word.
 fn reserved_words(alloc: Global, token: Option<&Token<'_>>) -> Result<Vec<u8>, AllocError> {
     let Some(token) = token else {
-        return said(alloc, "a reserved word stands where a name stands");
+        return phrase(alloc, "a reserved word stands where a name stands");
     };
     let reason = if is_register(token.text) {
         " is reserved: it names a register"
@@ -287,7 +288,7 @@ fn reserved_words(alloc: Global, token: Option<&Token<'_>>) -> Result<Vec<u8>, A
     } else {
         " is reserved: it is a mnemonic"
     };
-    named(alloc, token.text, reason)
+    describe(alloc, token.text, reason)
 }
 
 /// Returns what is said of a reserved word where a name stands.
@@ -328,9 +329,9 @@ fn modes_words(
         (Mode::Rel, b"target"),
     ];
     let Some(token) = after_label(tokens).first() else {
-        return said(alloc, "the instruction has no such form");
+        return phrase(alloc, "the instruction has no such form");
     };
-    let mut words = named(alloc, token.text, " has no such operand; it takes ")?;
+    let mut words = describe(alloc, token.text, " has no such operand; it takes ")?;
     if let Some(mnemonic) = mnemonic_in(profile, token.text) {
         let mut is_first = true;
         for (mode, text) in &MODES {
@@ -349,14 +350,14 @@ fn modes_words(
 /// Returns words about a value outside its range.
 fn outside_words(alloc: Global, found: Option<Outside>) -> Result<Vec<u8>, AllocError> {
     let Some(found) = found else {
-        return said(alloc, "the value is outside its range");
+        return phrase(alloc, "the value is outside its range");
     };
     let mut words = Vec::new(alloc);
-    push_decimal(&mut words, found.value)?;
+    push_signed(&mut words, found.value)?;
     words.extend_from_slice(b" is outside ")?;
-    push_decimal(&mut words, found.range.least)?;
+    push_signed(&mut words, found.range.least)?;
     words.extend_from_slice(b"..")?;
-    push_decimal(&mut words, found.range.most)?;
+    push_signed(&mut words, found.range.most)?;
     Ok(words)
 }
 
@@ -368,10 +369,10 @@ fn plural(bytes: u32) -> &'static str {
 /// Returns words about a branch that does not reach its target.
 fn branch_words(alloc: Global, miss: Option<(u32, bool)>) -> Result<Vec<u8>, AllocError> {
     let Some((bytes, is_ahead)) = miss else {
-        return said(alloc, "the target is too far");
+        return phrase(alloc, "the target is too far");
     };
-    let mut words = said(alloc, "the target is ")?;
-    push_count(&mut words, bytes)?;
+    let mut words = phrase(alloc, "the target is ")?;
+    push_count(&mut words, bytes as u64)?;
     words.extend_from_slice(plural(bytes).as_bytes())?;
     if is_ahead {
         words.extend_from_slice(b" too far ahead")?;
@@ -394,14 +395,14 @@ fn overlap_words(
                 && line.address < other.address + other.count;
             if is_met {
                 let mut words = Vec::new(alloc);
-                push_address(&mut words, other.address.max(line.address))?;
+                push_dollar_address(&mut words, other.address.max(line.address))?;
                 words.extend_from_slice(b" has a byte already, of line ")?;
-                push_count(&mut words, other.number)?;
+                push_count(&mut words, other.number as u64)?;
                 return Ok(words);
             }
         }
     }
-    said(alloc, "an earlier line has a byte here")
+    phrase(alloc, "an earlier line has a byte here")
 }
 
 /// Returns words about a fault of where bytes stand or of a value.
@@ -418,19 +419,17 @@ fn placed_words(
         AsmFaultKind::BranchRange => branch_words(alloc, branch_miss(line, context.symbols)),
         AsmFaultKind::Overlap => overlap_words(alloc, context, line),
         AsmFaultKind::PastEnd => {
-            let mut words = said(alloc, "the line ends ")?;
-            push_count(
-                &mut words,
-                (line.address + line.count).saturating_sub(65536),
-            )?;
+            let mut words = phrase(alloc, "the line ends ")?;
+            let past = (line.address + line.count).saturating_sub(65536);
+            push_count(&mut words, past as u64)?;
             words.extend_from_slice(b" past the last address, $FFFF")?;
             Ok(words)
         }
         _ => {
-            let mut words = said(alloc, "the port has the addresses ")?;
-            push_address(&mut words, context.port as u32)?;
+            let mut words = phrase(alloc, "the port has the addresses ")?;
+            push_dollar_address(&mut words, context.port as u32)?;
             words.extend_from_slice(b"..")?;
-            push_address(&mut words, (context.port as u32).saturating_add(3))?;
+            push_dollar_address(&mut words, (context.port as u32).saturating_add(3))?;
             Ok(words)
         }
     }
@@ -462,10 +461,10 @@ fn other_words(
     match (kind, context.found.get(index)) {
         (AsmFaultKind::NoSuchForm, _) => modes_words(alloc, context.profile, tokens),
         (AsmFaultKind::ValueExprRange | AsmFaultKind::ValueDivideByZero, _) => {
-            said(alloc, plain_words(kind))
+            phrase(alloc, plain_words(kind))
         }
         (_, Some(Found::Bytes(kept))) => placed_words(alloc, context, kind, kept),
-        _ => said(alloc, plain_words(kind)),
+        _ => phrase(alloc, plain_words(kind)),
     }
 }
 
@@ -524,11 +523,11 @@ pub fn note_of(
 {
     match fault.kind {
         AsmFaultKind::LineTooLong => {
-            Ok(noted(255, 1, said(alloc, "a line has at most 255 bytes")?))
+            Ok(Note::new(255, 1, phrase(alloc, "a line has at most 255 bytes")?))
         }
         AsmFaultKind::NotAscii => {
-            let words = said(alloc, "a byte is neither printable ASCII nor a tab")?;
-            Ok(noted(run_of(Class::Line, line), 1, words))
+            let words = phrase(alloc, "a byte is neither printable ASCII nor a tab")?;
+            Ok(Note::new(run_of(Class::Line, line), 1, words))
         }
         kind => read_note(alloc, context, kind, fault.line, line),
     }

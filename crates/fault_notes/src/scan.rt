@@ -7,7 +7,7 @@ ghost use Rattle.lexer.specs.Stray.{first_stray};
 ghost use Rattle.model.specs.Token.{is_word_byte};
 
 use lexer::first_stray;
-use source_notes::{Class, Note, after, blank_run, noted, run_of, said, word_run};
+use source_notes::{Class, Note, after, blank_run, phrase, run_of, word_run};
 use std::alloc::{AllocError, Global};
 
 /// Returns why a number after its mark is none, where so many of its bytes are digits.
@@ -86,12 +86,12 @@ pub fn text_note(alloc: Global, line: &[u8]) -> Result<Note, AllocError>
     match first_stray(line) {
         Some(start) => {
             let bytes = after(line, start);
-            let words = said(alloc, reason_of(bytes))?;
-            Ok(noted(start, stray_width(bytes), words))
+            let words = phrase(alloc, reason_of(bytes))?;
+            Ok(Note::new(start, stray_width(bytes), words))
         }
         None => {
-            let words = said(alloc, "the line is none of the grammar")?;
-            Ok(noted(blank_run(line), 1, words))
+            let words = phrase(alloc, "the line is none of the grammar")?;
+            Ok(Note::new(blank_run(line), 1, words))
         }
     }
 }

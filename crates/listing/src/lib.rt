@@ -1,8 +1,8 @@
 //! The listing of a source: the rows of its lines, each with its address and its bytes, and those
 //! of its names.
 //!
-//! The definition is `Listing.antt` of `model`. `rows` writes one row, and `proofs/Groups.antt` goes
-//! along a line's further bytes. `listed` goes along the lines and the names.
+//! The definition is `Listing.antt` of `model`. `rows` writes one row, for whose further bytes
+//! `proofs/Groups.antt` has the steps. `listed` goes along the lines and the names.
 #![tactic(auto)]
 
 mod listed;

@@ -1,4 +1,7 @@
 //! What a line of `mon` asks for, or what is missing or wrong in it.
+//!
+//! `read_line` is the one reader: a line to a `Command` or a `Slip`, with the names of the program
+//! and PC for its places. `specs/Lines.antt` defines both.
 #![tactic(auto)]
 
 pub use command::{Command, Compare, Left, Register, Stretch, Test, Undoing, WatchKind};

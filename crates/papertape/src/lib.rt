@@ -1,12 +1,13 @@
 //! Paper tapes: the text of an image, and the image of a text.
 //!
 //! The crate owns the form of the records. A caller may write an image, read a whole text, or feed
-//! a `TapeReader` piece by piece; both ways of reading take the same step, a byte at a time. The
-//! proof goes by a reading machine, in `specs/Reading.antt`, which is shown to have seen what the
-//! grammar says, in `proofs/Grammar.antt`, from both sides. It is longer than the code, since first
-//! faults, the writer's cuts and pieces each need an induction.
+//! a `TapeReader` piece by piece; both ways of reading take the same step, a byte at a time.
+//! `looks_like_tape` says whether a text that is given as a source is a tape: an assembler reads
+//! its records as comments.
 //!
-//! Whether a text that is given as a source is a tape, which a source has as comments.
+//! The proof goes by a reading machine, in `specs/Reading.antt`, which is shown to have seen what
+//! the grammar says, in `proofs/Grammar.antt`, from both sides. It is longer than the code, since
+//! first faults, the writer's cuts and pieces each need an induction.
 #![tactic(auto)]
 
 mod claim;

@@ -1,18 +1,10 @@
-//! What is listed assembles back: the theorem on disassembler and assembler as a call's contract.
+//! What is written of an image or of bytes assembles back: each theorem is a call's contract.
 //!
-//! `listed_again` is the one call, and its contract holds for any bytes at any address. The law
-//! under it is in `law_texts`.
-//!
-//! The source of an image, with its theorem: it denotes the image, and assembles back to it.
-//!
-//! The contract of `source_text` says the first, that of `source_again` the second: whatever image, whatever is marked, on whatever map.
-//!
-//! The source of an image with labels, with its theorem: it denotes the image, and assembles back
-//! to it.
-//!
-//! The contracts of `labelled_text` and `flagged_text` say the first, that of `labelled_again` the
-//! second: whatever
-//! image, whatever is marked, on whatever map.
+//! `listed_again` assembles what the disassembler lists; its contract holds for any bytes at any
+//! address. `source_text` writes the source of an image with no labels, `labelled_text` and
+//! `flagged_text` with labels. Their contracts say that the source denotes the image, and those of
+//! `source_again` and `labelled_again` that it assembles back to it: whatever image, whatever is
+//! marked, on whatever map. The laws under them are in `law_texts` and `law_source_forms`.
 #![tactic(auto)]
 
 mod labelled;

@@ -1,6 +1,8 @@
 //! The word `run`: a program that runs with the process's streams for its console.
 //!
-//! What it tells of a run's end, and of the places that words name, is there for other words too.
+//! `run_program` serves the word. `specs/Runs.antt` says what it does by the status: the run is
+//! that of `console`, from the start of an image that the file can have. `specs/Told.antt` says
+//! what the error stream gets of a run's end; other words tell it by the same calls.
 #![tactic(auto)]
 
 mod ended;

@@ -1,3 +1,4 @@
+pub mod Blocks
 pub mod Classes
 pub mod Lines
 pub mod Operands

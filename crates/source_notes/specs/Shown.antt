@@ -1,7 +1,7 @@
 -- A line as it is shown, and below it the mark under what is meant. Source: mos65.
 use Rattle.std.specs.Prelude.{ℕ, zero, suc, ◌-◌, ◌==◌, if◌then◌else◌, List, [], ◌∷◌, ◌++◌, Option, None, Some, map, replicate}
 use Rattle.model.specs.Token.{is_source_byte}
-use Rattle.source_notes.specs.declared.words.Note.{Note}
+use Rattle.source_notes.specs.declared.note.Note.{Note}
 
 -- What may not stand in a line is shown as `?`.
 abbrev pub shown : ℕ → ℕ

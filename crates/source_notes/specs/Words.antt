@@ -4,5 +4,5 @@ use Rattle.std.specs.Borrow.{Bor}
 use Rattle.std.specs.List.{flat_map}
 
 -- Pieces of text, one after another.
-abbrev pub joined : List (Bor (List ℕ)) → List ℕ
-joined pieces = flat_map (λ piece. piece.now) pieces
+abbrev pub concat : List (Bor (List ℕ)) → List ℕ
+concat pieces = flat_map (λ piece. piece.now) pieces

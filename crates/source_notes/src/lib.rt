@@ -1,18 +1,25 @@
-//! What is said of lines of a source to a person: where in the line, in which words, and the line
-//! with a mark under what is meant.
+//! What is written about lines of a source for a person: where in the line, in which words, and the
+//! line with a mark under what is meant.
 //!
-//! Where a block stands, `FILE:LINE:COLUMN: `, the line with its mark, and the names that lines
-//! begin with are proved.
+//! A `Note` says which bytes of a line it means, and its words. `push_block` writes a block, which
+//! is `FILE:LINE:COLUMN: `, a title, the note's words and the marked line; `Blocks.antt` defines
+//! blocks for faults and warnings alike. `lines` finds the lines of a source and the names that
+//! they begin with, `operands` the tokens of an operand, `runs` how many bytes of a class stand in
+//! front. `words` puts words together.
 #![tactic(auto)]
 
+mod block;
 mod lines;
+mod note;
 mod operands;
 mod runs;
 mod shown;
+mod wording;
 mod words;
 
+pub use block::{first_told, push_block, push_total};
 pub use lines::{Name, every_line, line_of, line_or_none, names_of};
+pub use note::Note;
 pub use operands::{about_operand, after_label, is_symbol, operand_of};
 pub use runs::{Class, after, blank_run, run_of, word_run};
-pub use shown::{after_head, push_place};
-pub use words::{Note, joined, named, noted, push_address, push_count, push_decimal, said};
+pub use words::{concat, describe, phrase, push_dollar_address, push_signed};

@@ -4,8 +4,8 @@ ghost use Rattle.std.specs.Prelude.{◌≡◌};
 ghost use Rattle.source_notes.specs.Operands.{after_label, is_symbol, meant_by, operand_of};
 ghost use Rattle.source_notes.specs.Operands.{operand_place};
 
+use crate::note::Note;
 use crate::runs::blank_run;
-use crate::words::{Note, noted};
 use line_parts::Token;
 use model::TokenKind;
 
@@ -40,7 +40,7 @@ pub fn operand_of<'t, 'a>(tokens: &'t [Token<'a>]) -> &'t [Token<'a>]
     }
 }
 
-/// Words about some tokens of a line, or about its first byte after the blanks if there are none.
+/// Returns a note about some tokens of a line, or about its first byte after the blanks if there are none.
 fn about(line: &[u8], tokens: &[Token<'_>], words: Vec<u8>) -> Note
     ensures { let place = meant_by line.now tokens.now in
         result ≡ record { start = place.0; width = place.1; words = words } }
@@ -48,13 +48,13 @@ fn about(line: &[u8], tokens: &[Token<'_>], words: Vec<u8>) -> Note
     match (tokens.first(), tokens.last()) {
         (Some(first), Some(last)) => {
             let end = last.start.saturating_add(last.text.len());
-            noted(first.start, end.saturating_sub(first.start), words)
+            Note::new(first.start, end.saturating_sub(first.start), words)
         }
-        _ => noted(blank_run(line), 1, words),
+        _ => Note::new(blank_run(line), 1, words),
     }
 }
 
-/// Words about the operand of a line, or about all of it where it has none.
+/// Returns a note about the operand of a line, or about all of it where it has none.
 pub fn about_operand(line: &[u8], tokens: &[Token<'_>], words: Vec<u8>) -> Note
     ensures { let place = operand_place line.now tokens.now in
         result ≡ record { start = place.0; width = place.1; words = words } }

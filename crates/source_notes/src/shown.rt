@@ -6,8 +6,9 @@ ghost use Rattle.source_notes.specs.Places.{place_of};
 ghost use Rattle.source_notes.specs.Shown.{after_head, blank_below, blanks_under, mark, marked_line};
 ghost use Rattle.source_notes.specs.Shown.{shown};
 
+use crate::note::Note;
 use crate::runs::Class;
-use crate::words::{Note, push_count};
+use formatting::push_count;
 use std::alloc::{AllocError, Global};
 
 /// Appends where something stands: file, line and column.
@@ -16,9 +17,9 @@ pub fn push_place(text: &mut Vec<u8>, file: &[u8], line: u32, column: u32) -> Re
 {
     text.extend_from_slice(file)?;
     text.push(b':')?;
-    push_count(text, line)?;
+    push_count(text, line as u64)?;
     text.push(b':')?;
-    push_count(text, column)?;
+    push_count(text, column as u64)?;
     text.extend_from_slice(b": ")?;
     Ok(())
 }

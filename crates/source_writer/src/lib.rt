@@ -1,16 +1,12 @@
-//! The source of an image, written.
+//! The source of an image, written with no labels, or with labels where the image refers to itself.
 //!
-//! `write_source` is the call. What it writes is defined in `Rows.antt` of `source_forms`. `stretch`
-//! finds the bytes of a row, `rows` writes it, `text` goes along the image. `source_writer` takes
-//! the bytes and the numbers of rows from here.
+//! `write_source` writes it with no labels, as `Rows.antt` of `source_forms` defines. `stretch`
+//! finds the bytes of a row, `rows` writes it, `text` goes along the image.
 //!
-//! The source of an image with labels, written.
-//!
-//! `write_labelled_source` writes it with labels where the image refers to itself, and
-//! `write_flagged_source` where it is told to. What they write is defined in `Pieces.antt` and
-//! `Labels.antt` of `source_forms`. `piece` finds what stands at an address, `flags` what is referred
-//! to, `table` which addresses get a label, `operand` and `line` write a line, `text` goes along
-//! the image.
+//! `write_labelled_source` writes it with labels, and `write_flagged_source` with labels at given
+//! places, as `Pieces.antt` and `Labels.antt` of `source_forms` define. `piece` finds what stands
+//! at an address, `flags` what is referred to, `table` which addresses get a label, `operand` and
+//! `line` write a line, `labelled` goes along the image.
 #![tactic(auto)]
 
 mod flags;

@@ -1,4 +1,4 @@
-//! The whole source.
+//! The whole source with no labels.
 
 ghost use Rattle.std.specs.Prelude.{◌≡◌, ℕ, suc, ◌+◌, ◌≤◌, ◌++◌, length, max, false, IfOk, OnOk};
 ghost use Rattle.std.specs.List.{flat_map};

@@ -1,6 +1,9 @@
 //! `debug --strict`: a session whose exit status says whether a reply told of a fault.
 //!
-//! A writer that passes replies on, and notes whether one of them is a fault.
+//! `debug` writes its replies to a `Watch`, which passes them on and notes what it sees
+//! (`specs/Seen.antt`). So the replies are those of `debug`, and no lower crate knows of the
+//! option. In proofs alone the watch remembers what it was told, so the status is that of the whole
+//! transcript.
 #![tactic(auto)]
 
 mod asked;

@@ -1,13 +1,11 @@
-//! Rows of test files run on a machine.
+//! Rows of test files run on a machine, and which of them pass.
 //!
 //! `first_failed` runs a row from a machine's start for each value of its ranges, and goes back
-//! after each. `specs/Passes.antt` says when a row passes, `specs/Start.antt` how a session stands
-//! to its start.
+//! after each. `judge` runs all rows, each from the machine's start, and `all_pass` says whether
+//! each of them passes.
 //!
-//! Which rows of a test file pass.
-//!
-//! `judge` runs all rows, each from the machine's start, and `all_pass` says whether each of them
-//! passes. `specs/Verdicts.antt` says what that means.
+//! `specs/Passes.antt` says when a row passes, `specs/Start.antt` how a session stands to its
+//! start, and `specs/Verdicts.antt` which verdicts the rows of a file have.
 #![tactic(auto)]
 
 mod bench;

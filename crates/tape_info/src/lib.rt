@@ -1,13 +1,13 @@
-//! `info TAPE`: what is on a tape, or what is wrong with it.
+//! The words `info TAPE` and `cmp TAPE OTHER`: what is on a tape, and in which bytes two tapes
+//! differ.
 //!
 //! `facts_of` has the facts of an image, each by its definition in `specs/Facts.antt`, and
-//! `data_records` the number of a tape's records. `tape_info` is the word: it writes them as text.
+//! `data_records` the number of a tape's records. `tape_info` is the word `info`: it writes them as
+//! text, or what is wrong with the tape.
 //!
-//! `cmp TAPE OTHER`: in which bytes two tapes differ, with the instructions there.
-//!
-//! `differences` has the theorem: the addresses at which two images differ, and none exactly if
-//! they are equal. `rows` has their text, as `specs/Rows.antt` defines it. `tape_info` is the word:
-//! it reads its words and both tapes, and writes the rows of their differences.
+//! `differences` has the addresses at which two images differ, and none exactly if they are equal.
+//! `rows` has their text with the instructions there, as `specs/Rows.antt` defines it. `tape_cmp`
+//! is the word `cmp`: it reads both tapes, and writes the rows of their differences.
 #![tactic(auto)]
 
 mod checksum;

@@ -1,5 +1,5 @@
 //! A test rig: a multiplication is assembled, loaded, run to its end, compared and taken back.
-//! docs/MANUAL.md shows it.
+//! docs/RIGS.md shows it.
 #![tactic(auto)]
 
 #[cfg(test)]

@@ -1,9 +1,11 @@
-//! Reads each tape that is named on the command line, and says what reading it gives.
+//! Reads each tape that is named on the command line, at once and byte by byte, and says what
+//! reading it gives.
 #![tactic(auto)]
 
 use anyhow::Result;
 use bus::Image;
-use papertape::{read_tape, write_tape};
+use papertape::{TapeFault, TapeReader, read_tape, write_tape};
+use std::alloc::Global;
 use std::rt::Files;
 use std::{env, fs};
 
@@ -17,6 +19,15 @@ fn size(image: &Image) -> usize {
         .count()
 }
 
+/// Reads a tape by a reader that is fed one byte at a time.
+fn read_by_bytes(alloc: Global, text: &[u8]) -> Result<Image, TapeFault> {
+    let mut reader = TapeReader::new(alloc)?;
+    for at in 0..text.len() {
+        reader.feed(&text[at..at + 1])?;
+    }
+    reader.finish()
+}
+
 /// What stands in `NAME.ours.ptp`, or else in `NAME.ptp`, and in which words to say that it was
 /// written back.
 fn wanted<R: Files + AllocGlobal>(rt: &R, name: &str) -> Result<(Vec<u8>, &'static str)> {
@@ -28,14 +39,19 @@ fn wanted<R: Files + AllocGlobal>(rt: &R, name: &str) -> Result<(Vec<u8>, &'stat
     Ok((fs::read(rt, same.as_str())?, "the same"))
 }
 
-/// Reads one tape, and writes back what was read.
+/// Reads one tape in both ways, and writes back what was read byte by byte.
 fn report<R: Files + AllocGlobal + Print>(rt: &R, name: &str) -> Result<()> {
     let path = format!(in rt.alloc(); "{name}.ptp")?;
     let text = fs::read(rt, path.as_str())?;
-    let image = match read_tape(rt.alloc(), &text) {
+    let at_once = read_tape(rt.alloc(), &text);
+    let image = match read_by_bytes(rt.alloc(), &text) {
         Ok(image) => image,
+        Err(fault) if at_once.err() == Some(fault) => {
+            println!(rt; "{name}: {fault}, at once and byte by byte")?;
+            return Ok(());
+        }
         Err(fault) => {
-            println!(rt; "{name}: {fault}")?;
+            println!(rt; "{name}: {fault} byte by byte alone")?;
             return Ok(());
         }
     };

@@ -1,6 +1,7 @@
 //! The calls on tapes, each once and in pieces. Tapes whose texts and faults are known from outside
 //! stand in `data`, which the program reads.
 
+use crate::read_by_bytes;
 use bus::Image;
 use papertape::{
     TapeFault, TapeFaultKind, TapeReadFault, TapeReader, read_pieces, read_tape, read_tape_from,
@@ -68,6 +69,54 @@ fn the_manual_example(rt: HostRuntime) -> Result<(), Fail> {
     let cells = [(0, Some(0xFF)), (23, Some(0x99)), (24, None)];
     assert_has(&rt, &image, &cells);
     assert_written(&rt, rt.alloc(), &image, MANUAL_TAPE)
+}
+
+/// A tape has this fault, read at once and byte by byte.
+fn assert_fault(rt: &impl Abort, alloc: Global, text: &[u8], wanted: Option<TapeFault>) {
+    assert_eq!(rt;
+        read_tape(alloc, text).err(),
+        wanted,
+        "{} bytes",
+        text.len()
+    );
+    assert_eq!(rt;
+        read_by_bytes(alloc, text).err(),
+        wanted,
+        "{} bytes",
+        text.len()
+    );
+}
+
+/// A tape ends with its end record, and not before; CR LF after that may be missing.
+#[test]
+fn a_tape_cut_at_each_byte(rt: HostRuntime) {
+    let (whole, cut) = (PROGRAM_TAPE.as_slice(), TapeFaultKind::Truncated);
+    assert_fault(&rt, rt.alloc(), b"", fault(TapeFaultKind::NoRecord, 0));
+    for length in 1..36usize {
+        assert_fault(&rt, rt.alloc(), &whole[..length], fault(cut, length as u64));
+    }
+    for length in 36..39usize {
+        assert_fault(&rt, rt.alloc(), &whole[..length], None);
+    }
+}
+
+#[test]
+fn the_manual_example_cut(rt: HostRuntime) {
+    let wanted = fault(TapeFaultKind::Truncated, 20);
+    assert_fault(&rt, rt.alloc(), &MANUAL_TAPE.as_slice()[..20], wanted);
+}
+
+/// A record with another digit in place of one has a wrong checksum.
+#[test]
+fn one_digit_changed(rt: HostRuntime) {
+    for (first, last, record) in [(3usize, 23usize, 0u64), (28, 36, 25)] {
+        for place in first..last {
+            let mut text = *PROGRAM_TAPE;
+            text[place] = if text[place] == b'7' { b'8' } else { b'7' };
+            let wanted = fault(TapeFaultKind::BadChecksum, record);
+            assert_fault(&rt, rt.alloc(), &text, wanted);
+        }
+    }
 }
 
 /// The first fault is answered by the call that meets it and by each later one, also where nothing

@@ -11,7 +11,7 @@ use Rattle.model.specs.declared.instruction.Profile.{Profile}
 use Rattle.model.specs.AllFaults as all
 use Rattle.source_faults.specs.Views.{found_all, found_view}
 use Rattle.source_faults.specs.declared.found.Found.{Found}
-use Rattle.warnings.specs.Placed.{Placed, placed_lines, said}
+use Rattle.warnings.specs.Placed.{Placed, meaning_of, placed_lines}
 use Rattle.warnings.specs.Views.{placed_view, placed_views}
 use Rattle.warnings.specs.declared.placed_line.PlacedLine.{PlacedLine}
 use Rattle.warnings.specs.Warnings.{Known, cut_off, has_bytes, is_alike, is_short_direct, is_silenced, lines_warnings, name_in, one_if, says_bytes, warnings_found, warnings_in, warnings_with, with_capitals}
@@ -47,7 +47,7 @@ done k ws i capitals ps total past so_far = sym (append-nil ws) ∙ sym (rw (dro
 -- ---- what is cut off
 
 -- a line without bytes is passed
-pub passed : (profile : Profile) (n : ℕ) (rest text behind : List ℕ) (total : List Warning) → lines_of rest ≡ text ∷ lines_of behind → says_bytes (said profile text) ≡ false
+pub passed : (profile : Profile) (n : ℕ) (rest text behind : List ℕ) (total : List Warning) → lines_of rest ≡ text ∷ lines_of behind → says_bytes (meaning_of profile text) ≡ false
     → cut_off profile n (lines_of rest) ≡ total → cut_off profile (n + 1) (lines_of behind) ≡ total
 passed profile n rest text behind total cut without so_far =
     let opened : cut_off profile n (lines_of rest) ≡ cut_off profile (n + 1) (lines_of behind) = rw (cut, without) refl in
@@ -55,7 +55,7 @@ passed profile n rest text behind total cut without so_far =
 
 -- a line with bytes
 pub found : {X E : Type 0} (r : Result X E) (profile : Profile) (n : ℕ) (rest text behind : List ℕ) (first ws new total : List Warning) (silenced : Bool) → ws ≡ first → lines_of rest ≡ text ∷ lines_of behind
-    → says_bytes (said profile text) ≡ true → silenced ≡ is_silenced text → OnOk r (new ≡ ws ++ one_if (not silenced) n AfterEnd) → cut_off profile n (lines_of rest) ≡ total
+    → says_bytes (meaning_of profile text) ≡ true → silenced ≡ is_silenced text → OnOk r (new ≡ ws ++ one_if (not silenced) n AfterEnd) → cut_off profile n (lines_of rest) ≡ total
     → OnOk r (new ≡ first ++ total)
 found (Ok x) profile n rest text behind first ws new total silenced same cut within quiet told so_far =
     let opened : cut_off profile n (lines_of rest) ≡ one_if (not (is_silenced text)) n AfterEnd = rw (cut, within) refl in

@@ -7,7 +7,7 @@ use Rattle.model.specs.TextLines.{lines_from, lines_of}
 use Rattle.model.specs.declared.instruction.Profile.{Profile}
 use Rattle.source_faults.specs.Views.{found_all, found_view}
 use Rattle.source_faults.specs.declared.found.Found.{Found}
-use Rattle.warnings.specs.Placed.{Placed, placed, placed_lines}
+use Rattle.warnings.specs.Placed.{Placed, placed_line, placed_lines}
 use Rattle.warnings.specs.Views.{placed_view, placed_views}
 use Rattle.warnings.specs.declared.placed_line.PlacedLine.{PlacedLine}
 
@@ -32,7 +32,7 @@ so_on profile ps rest i fs = placed_views ps ++ placed_lines profile (lines_of r
 
 -- a line more
 pub goes_on : (profile : Profile) (ps : List PlacedLine) (p : PlacedLine) (rest text behind : List ℕ) (i : ℕ) (fs : List Found) (f : Found) (total : List Placed)
-    → lines_of rest ≡ text ∷ lines_of behind → i < length fs → f ≡ get_or fs i f → placed_view p ≡ placed profile text (found_view f)
+    → lines_of rest ≡ text ∷ lines_of behind → i < length fs → f ≡ get_or fs i f → placed_view p ≡ placed_line profile text (found_view f)
     → so_on profile ps rest i fs ≡ total → so_on profile (ps ++ p ∷ []) behind (i + 1) fs ≡ total
 goes_on profile ps p rest text behind i fs f total cut within is view so_far =
     snoc ps p (placed_lines profile (lines_of behind) (found_all (drop (i + 1) fs)))

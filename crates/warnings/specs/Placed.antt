@@ -14,22 +14,22 @@ pub record Placed : Type 0 where
   pub address : ℕ
   pub size : ℕ
 
-abbrev pub what_is_said : Result Line AsmFaultKind → Option Line
-what_is_said (Ok l) = Some l
-what_is_said (Err kind) = None
+abbrev pub readable_line : Result Line AsmFaultKind → Option Line
+readable_line (Ok l) = Some l
+readable_line (Err kind) = None
 
 -- What a text says, if it can be read.
-abbrev pub said : Profile → List ℕ → Option Line
-said profile text = what_is_said (read_line profile text)
+abbrev pub meaning_of : Profile → List ℕ → Option Line
+meaning_of profile text = readable_line (read_line profile text)
 
 -- An address, if there is a byte at it.
 abbrev pub if_bytes : ℕ → ℕ → ℕ
 if_bytes size address = if size == 0 then 0 else address
 
-abbrev pub placed : Profile → List ℕ → all.Found → Placed
-placed profile text f = record {
+abbrev pub placed_line : Profile → List ℕ → all.Found → Placed
+placed_line profile text f = record {
   text = text;
-  line = said profile text;
+  line = meaning_of profile text;
   address = if_bytes (size_of f.place.content) f.place.address;
   size = size_of f.place.content;
 }
@@ -38,4 +38,4 @@ placed profile text f = record {
 abbrev pub placed_lines : Profile → List (List ℕ) → List all.Found → List Placed
 placed_lines profile [] fs = []
 placed_lines profile (text ∷ texts) [] = []
-placed_lines profile (text ∷ texts) (f ∷ fs) = placed profile text f ∷ placed_lines profile texts fs
+placed_lines profile (text ∷ texts) (f ∷ fs) = placed_line profile text f ∷ placed_lines profile texts fs

@@ -20,7 +20,7 @@ use Rattle.model.specs.declared.line.Index.{Index}
 use Rattle.warnings.specs.Uses.{used_by}
 use Rattle.warnings.specs.Reaches.{is_plain, reaches}
 use Rattle.warnings.specs.declared.written_numbers.Reach.{Reach}
-use Rattle.warnings.specs.Placed.{Placed, placed_lines, said}
+use Rattle.warnings.specs.Placed.{Placed, meaning_of, placed_lines}
 use Rattle.warnings.specs.declared.kinds.Warning.{Warning}
 use Rattle.warnings.specs.declared.kinds.WarningKind.{WarningKind}
 use Rattle.warnings.specs.declared.kinds.WarningKind.TheVariants.{PlainNumber, UnusedName, LongForm, LetterCase, NoBytes, AfterEnd}
@@ -163,7 +163,7 @@ says_bytes (Some (definition word e)) = false
 -- The first line with an instruction or bytes of those that `.END` cuts off.
 abbrev pub cut_off : Profile → ℕ → List (List ℕ) → List Warning
 cut_off profile number [] = []
-cut_off profile number (text ∷ texts) = if says_bytes (said profile text)
+cut_off profile number (text ∷ texts) = if says_bytes (meaning_of profile text)
     then one_if (not (is_silenced text)) number AfterEnd
     else cut_off profile (number + 1) texts
 

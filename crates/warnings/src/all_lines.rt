@@ -11,7 +11,10 @@ ghost use Rattle.warnings.specs.Warnings.{warnings_with};
 
 use crate::kinds::{Warning, WarningKind};
 use crate::one_line::{is_long, is_silenced, is_unused, name_in, note_capitals};
-use crate::{PlacedLine, Reach, is_plain, said};
+use crate::placed_line::PlacedLine;
+use crate::placement::meaning_of;
+use crate::written_numbers::Reach;
+use crate::zero_page_writes::is_plain;
 use line_parts::{Line, Statement, next_line};
 use model::Profile;
 use std::alloc::{AllocError, Global};
@@ -149,7 +152,7 @@ pub fn push_cut_off(
     let mut at = number;
     while !rest.is_empty() {
         let (text, after) = next_line(rest);
-        let line = said(alloc, profile, &mut room, text)?;
+        let line = meaning_of(alloc, profile, &mut room, text)?;
         if says_bytes(&line) {
             drop(line);
             return push_if(warnings, !is_silenced(text), at, WarningKind::AfterEnd);

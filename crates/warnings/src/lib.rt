@@ -1,12 +1,10 @@
-//! What may be meant otherwise in a source that has no fault.
+//! What may be meant otherwise in a source that has no fault: the warnings of `check`.
 //!
-//! `line` judges one line, `looked` all lines and those after `.END`, `warnings` a whole source.
-//!
-//! The lines of a source that are looked at for warnings: text, meaning, and where the bytes stand.
-//!
-//! The names that the expressions of a source's lines use.
-//!
-//! Operands that are a plain number, where the number after `#` may be meant.
+//! `source_warnings` is the call; its definition is `Warnings.antt`. `placement` puts each line
+//! together with what the layout found of it, a `PlacedLine`. `one_line` judges one line,
+//! `all_lines` every line and the text after `.END`, `whole_source` a source. `used_names` finds
+//! the names that expressions use, `written_numbers` what a source writes of the zero page, and
+//! `zero_page_writes` the operands that are a plain number which nothing writes.
 #![tactic(auto)]
 
 mod all_lines;
@@ -20,10 +18,4 @@ mod written_numbers;
 mod zero_page_writes;
 
 pub use kinds::{Warning, WarningKind};
-pub use one_line::{is_silenced, name_in};
-pub use placed_line::PlacedLine;
-pub use placement::{PlacedLines, placed_lines, said};
-pub use used_names::{note_word, used_by};
 pub use whole_source::source_warnings;
-pub use written_numbers::{Reach, reaches, value_at};
-pub use zero_page_writes::is_plain;

@@ -13,7 +13,9 @@ ghost use Rattle.warnings.specs.Warnings.{has_short_mode, is_alike, is_byte_valu
 ghost use Rattle.warnings.specs.Warnings.{is_short_line, is_short_operand, is_short_statement, is_silenced};
 ghost use Rattle.warnings.specs.Warnings.{is_unused, name_in, with_capitals};
 
-use crate::{PlacedLine, note_word, value_at};
+use crate::placed_line::PlacedLine;
+use crate::used_names::note_word;
+use crate::written_numbers::value_at;
 use line_parts::{Expr, Line, Operand, Statement};
 use model::{Index, Mnemonic, Mode, Profile};
 use optable::encode_in;

@@ -6,7 +6,7 @@ ghost use Rattle.line_parts.specs.LineViews.{line_view};
 ghost use Rattle.model.specs.Layout.{size_of};
 ghost use Rattle.model.specs.TextLines.{lines_of};
 ghost use Rattle.source_faults.specs.Views.{found_all, found_view};
-ghost use Rattle.warnings.specs.Placed.{if_bytes, placed, placed_lines, said};
+ghost use Rattle.warnings.specs.Placed.{if_bytes, meaning_of, placed_line, placed_lines};
 ghost use Rattle.warnings.specs.Views.{placed_view, placed_views};
 
 use crate::placed_line::{Extent, PlacedLine};
@@ -56,13 +56,13 @@ fn extent_of(found: &Found<'_>) -> Extent
 /// `room` in place of its contents.
 ///
 /// The only error is that a request for memory was refused.
-pub fn said<'a>(
+pub fn meaning_of<'a>(
     alloc: Global,
     profile: Profile,
     room: &mut Vec<Token<'a>>,
     text: &'a [u8],
 ) -> Result<Option<Line<'a>>, AllocError>
-    ensures { IfOk result (λ line. map_option line_view line ≡ said profile text.now) }
+    ensures { IfOk result (λ line. map_option line_view line ≡ meaning_of profile text.now) }
 {
     match read_line_with(alloc, profile, room, text) {
         Ok(line) => Ok(Some(line)),
@@ -72,7 +72,7 @@ pub fn said<'a>(
 }
 
 /// A line of which the layout found this.
-fn placed<'a>(
+fn place_line<'a>(
     alloc: Global,
     profile: Profile,
     room: &mut Vec<Token<'a>>,
@@ -80,9 +80,9 @@ fn placed<'a>(
     found: &Found<'_>,
 ) -> Result<PlacedLine<'a>, AllocError>
     ensures { IfOk result
-        (λ line. placed_view line ≡ placed profile text.now (found_view found.now)) }
+        (λ line. placed_view line ≡ placed_line profile text.now (found_view found.now)) }
 {
-    let line = said(alloc, profile, room, text)?;
+    let line = meaning_of(alloc, profile, room, text)?;
     let extent = extent_of(found);
     Ok(PlacedLine {
         text,
@@ -120,7 +120,7 @@ pub fn placed_lines<'a>(
             });
         }
         let (text, behind) = next_line(rest);
-        let line = placed(alloc, profile, &mut room, text, one)?;
+        let line = place_line(alloc, profile, &mut room, text, one)?;
         lines.push(line)?;
         rest = behind;
     }

@@ -11,7 +11,7 @@ ghost use Rattle.warnings.specs.Uses.{used_in_line, used_in_operand, used_in_sta
 ghost use Rattle.warnings.specs.Uses.{used_in_terms};
 ghost use Rattle.warnings.specs.Views.{placed_views};
 
-use crate::PlacedLine;
+use crate::placed_line::PlacedLine;
 use line_parts::{Expr, Item, Line, Operand, Statement, term_of};
 use std::alloc::{AllocError, Global};
 use symbols::Symbols;

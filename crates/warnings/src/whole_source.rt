@@ -9,7 +9,10 @@ ghost use Rattle.warnings.specs.Warnings.{warnings_of};
 
 use crate::all_lines::{begins_silenced, has_bytes, push_cut_off, push_if, push_lines};
 use crate::kinds::{Warning, WarningKind};
-use crate::{PlacedLine, PlacedLines, placed_lines, reaches, used_by};
+use crate::placed_line::PlacedLine;
+use crate::placement::{PlacedLines, placed_lines};
+use crate::used_names::used_by;
+use crate::written_numbers::reaches;
 use bus::MapSpec;
 use model::Profile;
 use source_faults::{Found, Mending, lay_out};

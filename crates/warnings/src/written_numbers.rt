@@ -11,7 +11,7 @@ ghost use Rattle.warnings.specs.Reaches.{reach_of_operand, reach_of_statement, r
 ghost use Rattle.warnings.specs.Reaches.{with_reach};
 ghost use Rattle.warnings.specs.Views.{placed_view, placed_views};
 
-use crate::PlacedLine;
+use crate::placed_line::PlacedLine;
 use line_parts::{Expr, Line, Operand, Statement};
 use model::{ExprFault, Index, Operation};
 use optable::operation;

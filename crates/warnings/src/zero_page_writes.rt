@@ -9,7 +9,7 @@ ghost use Rattle.warnings.specs.Reaches.{is_plain_statement, is_plain_term, is_u
 ghost use Rattle.warnings.specs.Reaches.{is_written, number_alone};
 ghost use Rattle.warnings.specs.Views.{placed_view};
 
-use crate::PlacedLine;
+use crate::placed_line::PlacedLine;
 use crate::written_numbers::Reach;
 use line_parts::{Expr, Line, Operand, Statement};
 use model::{Index, Mode, Profile};

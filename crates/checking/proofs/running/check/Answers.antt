@@ -10,7 +10,7 @@ pub returns-in-Ok-clause-told : goal.returns-in-Ok-clause-told
 returns-in-Ok-clause-told g c = λ one. (check_view c.in-Ok.words, c.in-Ok.ensures.taken, c.in-Ok.ensures.asked, c.done.ensures.told one)
 
 pub returns-in-Ok-clause-refused : goal.returns-in-Ok-clause-refused
-returns-in-Ok-clause-refused g c = λ two. inr c.in-Ok.ensures.taken
+returns-in-Ok-clause-refused g c = λ two. inr (inr (check_view c.in-Ok.words, c.in-Ok.ensures.taken, c.in-Ok.ensures.asked, c.done.ensures.refused two))
 
 pub returns-in-Ok-clause-begun : goal.returns-in-Ok-clause-begun
 returns-in-Ok-clause-begun g c = λ four. inr (check_view c.in-Ok.words, c.in-Ok.ensures.taken, c.in-Ok.ensures.asked, c.done.ensures.begun four)
@@ -22,7 +22,7 @@ pub returns-in-Err-clause-told : goal.returns-in-Err-clause-told
 returns-in-Err-clause-told g c = λ one. absurd ((says_of_words check (map (λ s. s.now) c.args.words.now) _ _ _ c.in-Err.ensures.refused c.refused_words.ensures.why).never one)
 
 pub returns-in-Err-clause-refused : goal.returns-in-Err-clause-refused
-returns-in-Err-clause-refused g c = λ two. elim ((says_of_words check (map (λ s. s.now) c.args.words.now) _ _ _ c.in-Err.ensures.refused c.refused_words.ensures.why).wrong two) [ inl m ↦ inl m | inr w ↦ inr w.0 ]
+returns-in-Err-clause-refused g c = λ two. elim ((says_of_words check (map (λ s. s.now) c.args.words.now) _ _ _ c.in-Err.ensures.refused c.refused_words.ensures.why).wrong two) [ inl m ↦ inl m | inr w ↦ inr (inl w) ]
 
 pub returns-in-Err-clause-begun : goal.returns-in-Err-clause-begun
 returns-in-Err-clause-begun g c = λ four. inl ((says_of_words check (map (λ s. s.now) c.args.words.now) _ _ _ c.in-Err.ensures.refused c.refused_words.ensures.why).help (inr four))

@@ -1,6 +1,6 @@
 use Rattle.std.proofs.Common.{ap, arith, length-append, length, refl, sym, true-eqb, ◌∙◌, ◌∷◌, [], ◌≤◌}
 use Rattle.source_faults.specs.Views.{found_view}
-use Rattle.warnings.specs.Placed.{placed}
+use Rattle.warnings.specs.Placed.{placed_line}
 use Rattle.warnings.specs.Views.{placed_view}
 use Rattle.warnings.proofs.Placing.{done, ends, goes_on, left_none, left_on, one_more}
 use Rattle.warnings.proofs.placement.placed_lines.Goals as goal

@@ -1,0 +1,52 @@
+//! The words of warnings.
+
+/// What the title of each block begins with.
+pub const WARNING: &str = "warning: ";
+
+/// The name of the kind `PlainNumber`.
+pub const PLAIN_NUMBER: &str = "PlainNumber";
+
+/// The name of the kind `UnusedName`.
+pub const UNUSED_NAME: &str = "UnusedName";
+
+/// The name of the kind `LongForm`.
+pub const LONG_FORM: &str = "LongForm";
+
+/// The name of the kind `LetterCase`.
+pub const LETTER_CASE: &str = "LetterCase";
+
+/// The name of the kind `NoBytes`.
+pub const NO_BYTES: &str = "NoBytes";
+
+/// The name of the kind `AfterEnd`.
+pub const AFTER_END: &str = "AfterEnd";
+
+/// Stands between a number that is an address and the same number.
+pub const IS_AN_ADDRESS: &str = " is an address, and nothing writes there; the number is #";
+
+/// What is said of an operand that takes two bytes.
+pub const TAKES_TWO_BYTES: &str = "below 256, but known only later: it takes two bytes here";
+
+/// Follows a name that no expression uses.
+pub const IS_NEVER_USED: &str = " is never used";
+
+/// Stands between two names that have the same letters.
+pub const DIFFERS_IN_CASE: &str = " differs only in letter case from ";
+
+/// Stands between a name and the number of its line.
+pub const ON_LINE: &str = ", on line ";
+
+/// Stands in the place of a name that is not found.
+pub const ANOTHER_NAME: &str = "another name";
+
+/// What is said of a source that has no byte.
+pub const HAS_NO_BYTES: &str = "the source has names, but neither an instruction nor a byte";
+
+/// What is said of a line after `.END`.
+pub const IS_NOT_READ: &str = "this line is not read: .END stands before it";
+
+/// What follows the count of one warning.
+pub const ONE_WARNING: &str = " warning\n";
+
+/// What follows any other count of warnings.
+pub const WARNINGS: &str = " warnings\n";
