@@ -18,12 +18,12 @@ const MOST_FOUND: u32 = 16;
 /// How many bytes memory has.
 const MEMORY_SIZE: u32 = 65536;
 
-/// Returns how many bytes memory has, which a bus's invariant says.
+/// Returns how many bytes memory has: as many in every state.
 fn memory_size(session: &Session) -> u32
     ensures size { result ≡ length session.now.current.bus.memory }
     ensures within { result ≤ 65536 }
 {
-    session.bus().is_bus();
+    session.is_state();
     MEMORY_SIZE
 }
 
