@@ -45,6 +45,7 @@ enum {
     MOS65_MISUSE = 2,       /* one is open already, or an argument is out of its range */
     MOS65_OUT_OF_MEMORY = 3,
     MOS65_NO_SUCH_NAME = 4,
+    MOS65_NO_SUCH_LINE = 5,
     /* 100: an event is refused */
     MOS65_CYCLES_FULL = 101, MOS65_UNDOCUMENTED = 102, MOS65_CONSOLE_FULL = 103, MOS65_PAST_END = 104,
     MOS65_PORT_ADDRESS = 105, MOS65_BAD_LENGTH = 106, MOS65_INPUT_FULL = 107,
@@ -96,6 +97,13 @@ typedef struct mos65_fault {
     uint64_t offset; /* of a tape, in bytes counted from 0; else 0 */
 } mos65_fault_t;
 
+typedef struct mos65_line {
+    uint32_t number;     /* counted from 1 */
+    uint32_t address;    /* 65,536 at most, where only a line without bytes can be */
+    uint32_t count;      /* how many bytes the line denotes */
+    bool is_instruction; /* and no directive */
+} mos65_line_t;
+
 typedef struct mos65_registers {
     uint64_t cycles;          /* since the start, whose reset took 7 */
     uint16_t pc;
@@ -141,6 +149,12 @@ int mos65_symbol_count(mos65_assembly_t *, size_t *count);
    NO_SUCH_NAME from the count on; MISUSE where n is below the name's length, at most 31. */
 int mos65_symbol_at(mos65_assembly_t *, size_t index, uint8_t *name, size_t n, size_t *length,
                     int32_t *value);
+/* Puts the number of lines that were read into *count: all, or up to that of .END. */
+int mos65_line_count(mos65_assembly_t *, size_t *count);
+/* Puts the line at an index, counted from 0, into *line, and its text without its end into text[0..*length).
+   It takes the same time for each line. NO_SUCH_LINE from the count on; MISUSE where n is below the text's
+   length, at most 255. */
+int mos65_line(mos65_assembly_t *, size_t index, mos65_line_t *line, uint8_t *text, size_t n, size_t *length);
 /* Puts the listing's first n bytes, or all of it, into out, and its whole length into *length. */
 int mos65_listing(mos65_assembly_t *, uint8_t *out, size_t n, size_t *length);
 /* Frees an assembly. CLOSED where none is open. A machine that was opened with it goes on. */
@@ -226,7 +240,8 @@ static inline int mos65_write(mos65_t *m, uint16_t address, const uint8_t *bytes
 
 /* A status's name, as the program prints it. */
 static inline const char *mos65_status_name(int status) {
-    static const char *const own[] = {"Ok", "Closed", "Misuse", "OutOfMemory", "NoSuchName"};
+    static const char *const own[] = {"Ok", "Closed", "Misuse", "OutOfMemory", "NoSuchName",
+        "NoSuchLine"};
     static const char *const event[] = {"", "CyclesFull", "Undocumented", "ConsoleFull", "PastEnd",
         "PortAddress", "BadLength", "InputFull"};
     static const char *const session[] = {"", "NoHistory", "TableFull", "AlreadySet", "NotSet",

@@ -8,6 +8,7 @@ _Static_assert(sizeof(mos65_t) == 16 && sizeof(mos65_assembly_t) == 16, "variabl
 _Static_assert(sizeof(mos65_config_t) == 12 && sizeof(mos65_fault_t) == 16, "configuration and fault");
 _Static_assert(sizeof(mos65_registers_t) == 16 && sizeof(mos65_ending_t) == 16, "registers and ending");
 _Static_assert(offsetof(mos65_config_t, has_rom) == 10 && offsetof(mos65_config_t, profile) == 11, "fields");
+_Static_assert(sizeof(mos65_line_t) == 16 && offsetof(mos65_line_t, is_instruction) == 12, "lines");
 _Static_assert(sizeof(mos65_given_t) == 6 && sizeof(mos65_called_t) == 40, "calls with registers");
 _Static_assert(offsetof(mos65_called_t, registers) == 8 && offsetof(mos65_called_t, ending) == 24, "fields");
 _Static_assert(offsetof(mos65_ending_t, address) == 12 && offsetof(mos65_ending_t, opcode) == 14, "fields");
@@ -53,10 +54,12 @@ static int32_t number_of(mos65_assembly_t *a, const char *name) {
 static void sources(mos65_assembly_t *a, const mos65_config_t *config) {
     mos65_fault_t fault = {9, 9, 9};
     mos65_config_t wrong = MOS65_CONFIG;
+    mos65_line_t line = {9, 9, 9, true};
     uint8_t name[32], text[4096];
     size_t n = 0;
     int32_t value = -1;
     CHECK(mos65_symbol(a, (const uint8_t *)"x", 1, &value) == MOS65_CLOSED);
+    CHECK(mos65_line_count(a, &n) == MOS65_CLOSED && mos65_line(a, 0, &line, text, 0, &n) == MOS65_CLOSED);
     CHECK(mos65_symbol_count(a, &n) == MOS65_CLOSED && mos65_listing(a, text, sizeof text, &n) == MOS65_CLOSED);
     CHECK(mos65_assembly_close(a) == MOS65_CLOSED);
     CHECK(mos65_assemble(a, config, (const uint8_t *)"a1 = 1\na1 = 2\n", 14, &fault) == MOS65_SOURCE_DUPLICATE_NAME);
@@ -76,6 +79,13 @@ static void sources(mos65_assembly_t *a, const mos65_config_t *config) {
     CHECK(mos65_symbol_at(a, 0, name, 7, &n, &value) == MOS65_MISUSE);
     CHECK(mos65_symbol_at(a, 5, name, sizeof name, &n, &value) == MOS65_NO_SUCH_NAME);
     CHECK(mos65_symbol(a, (const uint8_t *)"gone", 4, &value) == MOS65_NO_SUCH_NAME && value == 0x0200);
+    CHECK(mos65_line_count(a, &n) == MOS65_OK && n == 27);
+    CHECK(mos65_line(a, 1, &line, text, sizeof text, &n) == MOS65_OK && n == 16 && memcmp(text, "multiply: LDA #0", 16) == 0);
+    CHECK(line.number == 2 && line.address == 0x0200 && line.count == 2 && line.is_instruction);
+    CHECK(mos65_line(a, 26, &line, text, 11, &n) == MOS65_OK && n == 11 && memcmp(text, ".WORD hello", 11) == 0);
+    CHECK(line.number == 27 && line.address == 0xFFFC && line.count == 2 && !line.is_instruction);
+    CHECK(mos65_line(a, 1, &line, text, 15, &n) == MOS65_MISUSE && line.number == 27 && n == 11);
+    CHECK(mos65_line(a, 27, &line, text, sizeof text, &n) == MOS65_NO_SUCH_LINE && line.number == 27 && n == 11);
     CHECK(mos65_listing(a, text, sizeof text, &n) == MOS65_OK && n > 500 && n < sizeof text);
     CHECK(memcmp(text, "0000            *=$0200\n", 24) == 0);
     CHECK(mos65_listing(a, text, 0, &n) == MOS65_OK && n > 500);

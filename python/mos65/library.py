@@ -20,11 +20,12 @@ from .faults import (
     SessionFault,
     TapeFault,
 )
-from .values import Registers, RunEnd, Why, made
+from .values import Registers, RunEnd, Source, Why, made
 
 VERSION_NUMBER = 100
 
-_OWN = {1: (Closed, "Closed"), 2: (Refused, "Misuse"), 3: (Fault, "OutOfMemory"), 4: (NoSuchName, "NoSuchName")}
+_OWN = {1: (Closed, "Closed"), 2: (Refused, "Misuse"), 3: (Fault, "OutOfMemory"), 4: (NoSuchName, "NoSuchName"),
+        5: (Refused, "NoSuchLine")}
 _NAMES = {
     1: "CyclesFull Undocumented ConsoleFull PastEnd PortAddress BadLength InputFull",
     2: "NoHistory TableFull AlreadySet NotSet PortAddress OutOfMemory",
@@ -89,7 +90,14 @@ class _Called(ctypes.Structure):
     _fields_ = [("cycles", ctypes.c_uint64), ("registers", _Registers), ("ending", _Ending)]
 
 
-# The two above as they stand in memory: writing and reading them whole takes less than by fields.
+class _Line(ctypes.Structure):
+    _fields_ = [(it, ctypes.c_uint32) for it in ("number", "address", "count")] + [("is_instruction", ctypes.c_bool)]
+
+
+# Most bytes of a name and of a line.
+_NAME, _TEXT = 31, 255
+
+# A call's arguments and what it did, as they stand in memory: writing and reading them whole takes less than by fields.
 _GIVEN_FORM = struct.Struct("=BBBBBB")
 _CALLED_FORM = struct.Struct("=QQHBBBBBxIIIHBx")
 
@@ -100,7 +108,10 @@ _CALLS = {
     "version_number": [],
     "assemble": [_M, _P(_Config), _BYTES, _N, _P(_Fault)],
     "symbol": [_M, _BYTES, _N, _P(ctypes.c_int32)],
-    "listing": [_M, _BYTES, _N, _P(_N)],
+    "symbol_count": [_M, _P(_N)],
+    "symbol_at": [_M, _N, _BYTES, _N, _P(_N), _P(ctypes.c_int32)],
+    "line_count": [_M, _P(_N)],
+    "line": [_M, _N, _P(_Line), _BYTES, _N, _P(_N)],
     "assembly_close": [_M],
     "open": [_M, _P(_Config), _M],
     "open_tape": [_M, _P(_Config), _BYTES, _N, _P(_Fault)],
@@ -189,7 +200,7 @@ class Session:
         self._regs, self._ending, self._count = _Registers(), _Ending(), _U32()
         self._given, self._called = _Given(), _Called()
         self._given_ref, self._called_ref = ctypes.byref(self._given), ctypes.byref(self._called)
-        self.listing = ""
+        self.source = Source()
         told = _Fault()
         if is_tape:
             self._check(library.open_tape(self._m, config, source, len(source), told), told)
@@ -197,17 +208,25 @@ class Session:
         assembly = _Slot()
         self._check(library.assemble(assembly, config, source, len(source), told), told)
         try:
-            self.listing = self._listing_of(assembly)
+            self.source = self._source_of(assembly)
             self._check(library.open(self._m, config, assembly))
         finally:
             library.assembly_close(assembly)
 
-    def _listing_of(self, assembly: _Slot) -> str:
-        length = _N()
-        self._check(self._lib.listing(assembly, b"", 0, length))
-        out = ctypes.create_string_buffer(length.value)
-        self._check(self._lib.listing(assembly, out, length.value, length))
-        return out.raw.decode("ascii")
+    def _source_of(self, assembly: _Slot) -> Source:
+        found, count, length, number = Source(), _N(), _N(), ctypes.c_int32()
+        name, text, line = ctypes.create_string_buffer(_NAME), ctypes.create_string_buffer(_TEXT), _Line()
+        self._check(self._lib.symbol_count(assembly, count))
+        for index in range(count.value):
+            self._check(self._lib.symbol_at(assembly, index, name, _NAME, length, number))
+            found.symbols[name.raw[: length.value].decode("ascii")] = number.value
+        self._check(self._lib.line_count(assembly, count))
+        for index in range(count.value):
+            self._check(self._lib.line(assembly, index, line, text, _TEXT, length))
+            found.texts.append(text.raw[: length.value].decode("ascii"))
+            if line.count:
+                found.lines.setdefault(line.address, line.number)
+        return found
 
     @staticmethod
     def _check(status: int, told: Optional[_Fault] = None) -> None:

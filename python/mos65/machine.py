@@ -9,9 +9,9 @@ from types import TracebackType
 from typing import Dict, List, Optional, Tuple, Type, Union
 
 from . import library as by_library
-from . import listing, pipe
+from . import pipe
 from .faults import DidNotReturn, EventFault, MapFault, NoSuchName, Refused
-from .values import Call, Registers, RunEnd, Step, made
+from .values import Call, Registers, RunEnd, Source, Step, made
 
 Place = Union[int, str]
 
@@ -68,39 +68,39 @@ class Machine:
                 raise Refused("NoLibrary", text="libmos65.so is not found")
         self.is_library = file is not None
         if file is not None:
-            text = self._open_library(file, source, tape, rom, profile)
+            found = self._open_library(file, source, tape, rom, profile)
         else:
-            text = self._open_pipe(source, tape, rom, profile, program, timeout)
-        self.symbols: Dict[str, int]
-        self.lines: Dict[int, int]
-        self.symbols, self.lines, self._texts = listing.read(text)
+            found = self._open_pipe(source, tape, rom, profile, program, timeout)
+        self.symbols: Dict[str, int] = found.symbols
+        self.lines: Dict[int, int] = found.lines
+        self._texts = found.texts
         Machine.open_machines.add(self)
 
-    def _open_library(self, file, source, tape, rom, profile) -> str:
+    def _open_library(self, file, source, tape, rom, profile) -> Source:
         if not isinstance(source, bytes):
             with open(source, "rb") as it:
                 source = it.read()
         config = by_library.config_of(self.history, self.port, rom, profile)
         self._way = by_library.Session(by_library.Library(file), config, source, tape)
-        return self._way.listing
+        return self._way.source
 
-    def _open_pipe(self, source, tape, rom, profile, program, timeout) -> str:
+    def _open_pipe(self, source, tape, rom, profile, program, timeout) -> Source:
         found = pipe.find_program(program)
         options = [f"--port={self.port:04X}", f"--profile={profile}"]
         words = [f"--history={self.history}", *options]
         words += [f"--rom={rom[0]:04X}-{rom[1]:04X}"] if rom else []
         words += ["--tape"] if tape else []
         if not isinstance(source, bytes):
-            text = "" if tape else pipe.listing_of(found, os.fspath(source), options)
+            told = Source() if tape else pipe.source_of(found, os.fspath(source), options)
             self._way = pipe.Pipe(found, [os.fspath(source), *words], timeout)
-            return text
+            return told
         with tempfile.TemporaryDirectory() as folder:
             path = os.path.join(folder, "source.a65")
             with open(path, "wb") as it:
                 it.write(source)
-            text = "" if tape else pipe.listing_of(found, path, options)
+            told = Source() if tape else pipe.source_of(found, path, options)
             self._way = pipe.Pipe(found, [path, *words], timeout)
-        return text
+        return told
 
     # ---- opening and closing
 

@@ -24,7 +24,7 @@ from .faults import (
     TapeFault,
     Timeout,
 )
-from .values import Registers, RunEnd, Why
+from .values import Registers, RunEnd, Source, Why
 
 _REGISTERS = re.compile(r"A=(..) X=(..) Y=(..) S=(..) P=(..) PC=(....) CYC=(\d+)")
 _END = re.compile(
@@ -66,16 +66,27 @@ def refusal(text: str, status: int) -> Fault:
     return EngineDied("EngineDied", text=f"status {status}: {line}")
 
 
-def listing_of(program: str, source: str, options: Sequence[str]) -> str:
-    """The listing of a source."""
+def source_of(program: str, source: str, options: Sequence[str]) -> Source:
+    """The names and the lines of a source's file."""
     with tempfile.TemporaryDirectory() as folder:
-        tape, listing = os.path.join(folder, "tape"), os.path.join(folder, "listing")
-        words = [program, "asm", source, tape, "--listing", listing, *options]
+        tape, names, places = (os.path.join(folder, it) for it in ("tape", "names", "places"))
+        words = [program, "asm", source, tape, "--symbols", names, "--map", places, *options]
         ran = subprocess.run(words, capture_output=True)
         if ran.returncode:
             raise refusal(ran.stderr.decode("ascii", "replace"), ran.returncode)
-        with open(listing, encoding="ascii") as it:
-            return it.read()
+        found = Source()
+        with open(names, encoding="ascii") as it:
+            for row in it:
+                name, number = row.split(" = ")
+                found.symbols[name] = int(number[1:], 16) if number[0] == "$" else int(number)
+        with open(places, encoding="ascii") as it:
+            for row in it:
+                address, _, line = row.split("\t")
+                found.lines.setdefault(int(address, 16), int(line))
+    # Only these bytes end a line, and what stands behind `.END` may be no ASCII.
+    with open(source, encoding="latin-1", newline="") as it:
+        found.texts = [line[:-1] if line.endswith("\r") else line for line in it.read().split("\n")]
+    return found
 
 
 class Pipe:

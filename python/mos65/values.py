@@ -3,8 +3,8 @@
 from __future__ import annotations
 
 import enum
-from dataclasses import dataclass
-from typing import Optional
+from dataclasses import dataclass, field
+from typing import Dict, List, Optional
 
 
 def made(kind, fields):
@@ -12,6 +12,15 @@ def made(kind, fields):
     it = object.__new__(kind)
     object.__setattr__(it, "__dict__", fields)
     return it
+
+
+@dataclass
+class Source:
+    """The names of a source with their numbers, the line of each address at which one with bytes begins, and each line's text."""
+
+    symbols: Dict[str, int] = field(default_factory=dict)
+    lines: Dict[int, int] = field(default_factory=dict)
+    texts: List[str] = field(default_factory=list)
 
 
 class Why(enum.Enum):

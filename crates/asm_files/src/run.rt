@@ -18,6 +18,7 @@ use std::fs::File;
 use std::io::{Read, Write};
 use std::rt::Files;
 use std::{fs, io};
+use word_streams::is_one_file;
 
 /// One byte more than the longest source.
 const MOST_READ: u64 = 1_048_577;
@@ -58,10 +59,31 @@ fn write_file<H: Files>(rt: &H, file: Option<&str>, text: &Option<Vec<u8>>) -> R
     }
 }
 
-/// Writes the tape's file, and then the listing's, that of the names and that of the places.
+/// Returns whether a file to write is the source under another name.
+fn is_source<H: Files>(rt: &H, source: &str, file: Option<&str>) -> bool {
+    match file {
+        Some(file) => is_one_file(rt, source, file),
+        None => false,
+    }
+}
+
+/// Returns whether one of the files to write is the source under another name.
+fn replaces_source<H: Files>(rt: &H, words: &FilesWords<'_>) -> bool {
+    let source = words.asm.source;
+    is_one_file(rt, source, words.asm.tape)
+        || is_source(rt, source, words.asm.listing)
+        || is_source(rt, source, words.symbols)
+        || is_source(rt, source, words.map)
+}
+
+/// Writes the tape's file, and then the listing's, that of the names and that of the places. None
+/// is written if one of the files is the source.
 fn write_texts<H: Files>(rt: &H, words: &FilesWords<'_>, texts: &FileTexts) -> Result<(), Refusal>
     ensures only { IfErr result (λ e. (e ≡ Refusal.OutOfMemory) ⊎ (e ≡ Refusal.Write)) }
 {
+    if replaces_source(rt, words) {
+        return Err(Refusal::Write);
+    }
     fs::write(rt, words.asm.tape, texts.asm.tape.as_slice()).map_err(|error| Refusal::unwritable(
         &error,
     ))?;
@@ -103,7 +125,8 @@ fn assembled<H: Files + AllocGlobal>(rt: &H, words: &FilesWords<'_>) -> Result<(
 /// The status and the fault line are those of `asm`: 0 if it is done, 1 if the source is rejected,
 /// 2 if the words or the map are wrong, 3 if memory ran out, 4 if reading or writing failed. The
 /// tape is written first, then the listing, the names and the places of the lines; all texts are
-/// whole before the first file is made. The output gets nothing but help.
+/// whole before the first file is made. Where a file to write is the source under another name, the
+/// status is 4 and nothing is written. The output gets nothing but help.
 pub fn asm_files<H: Files + AllocGlobal, O: Write, E: Write>(
     rt: &H,
     words: &[&str],

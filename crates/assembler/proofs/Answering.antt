@@ -11,7 +11,9 @@ use Rattle.model.specs.Names.{number_in}
 use Rattle.model.specs.Source.{Denotes, HasFault, OneAssignment, first_context, read_lines}
 use Rattle.model.specs.declared.source_fault.AsmFault.{AsmFault}
 use Rattle.law_sources.specs.Judging.{DenotedIsJudged, FaultIsJudged, Judgement, JudgedIsMeant, Says, judgement, judgement_as, ◌>>=◌}
-use Rattle.assembler.specs.Assembly.{AnswersSource, AssemblyView, IsAssembled, IsImageOrMemory, Verdict, listing_of, out_of_memory, verdict_view, verdict, verdict_of}
+use Rattle.assembler.specs.Assembly.{AnswersSource, AreRead, AssemblyView, IsAssembled, IsImageOrMemory, Verdict, listing_of, out_of_memory, source_lines, verdict_view, verdict, verdict_of}
+use Rattle.assembler.specs.Lines.{labels_in, placed_lines}
+use Rattle.assembler.proofs.LineTexts.{labels_are, lines_are}
 use Rattle.assembler.proofs.RowsRead.{rows_of_read}
 
 abbrev Cells : Type 0
@@ -76,19 +78,31 @@ names_from meant one m source (Ok a) h = λ placed all laid.
     sym (ap (λ (v : Verdict). v.names) x.shown) ∙ ap (λ (f : Context). f.names) same
 names_from meant one m source (Err f) h = tt
 
-assembled_by : (m : Map) (source : List ℕ) (a : AssemblyView) → a.source ≡ source → (d : Denotes m source a.image) → a.names ≡ d.all.names → a.places ≡ extents_of d.placed
-    → IsAssembled m a
-assembled_by m source a kept d names places =
-    let of_its_source = subst (λ text. (e : Denotes m text a.image) × (a.names ≡ e.all.names) × (a.places ≡ extents_of e.placed)) (sym kept) (d, names, places) in
-    record { denotes = of_its_source.0; names = of_its_source.1; places = of_its_source.2 }
+pub lines_from : JudgedIsMeant → OneAssignment → (m : Map) (source : List ℕ) (r : Given) → AnswersSource verdict_view r (verdict m source) → IfOk r (λ a. a.source ≡ source) → IfOk r (AreRead m.profile)
+    → IfOk r (λ a. (placed : List PlacedLine) (all : Context) → IsLaidOut (first_context m.profile) (read_lines m.profile source) placed all → source_lines a ≡ placed_lines m.profile source placed)
+lines_from meant one m source (Ok a) h kept are = λ placed all laid. lines_are m.profile source a placed all kept are (places_from meant one m source (Ok a) h placed all laid) laid
+lines_from meant one m source (Err f) h kept are = tt
 
-pub assembled_from : JudgedIsMeant → OneAssignment → (m : Map) (source : List ℕ) (r : Given) → AnswersSource verdict_view r (verdict m source) → IfOk r (λ a. a.source ≡ source) → IfOk r (IsAssembled m)
-assembled_from meant one m source (Ok a) h kept =
+pub labels_from : JudgedIsMeant → OneAssignment → (m : Map) (source : List ℕ) (r : Given) → AnswersSource verdict_view r (verdict m source) → IfOk r (λ a. a.source ≡ source) → IfOk r (AreRead m.profile)
+    → IfOk r (λ a. a.labels ≡ labels_in m.profile (read_lines m.profile source))
+labels_from meant one m source (Ok a) h kept are =
+    let d = denoted_from meant m source (Ok a) h in
+    labels_are m.profile source a d.placed d.all kept are (places_from meant one m source (Ok a) h d.placed d.all d.laid) d.laid
+labels_from meant one m source (Err f) h kept are = tt
+
+assembled_by : (m : Map) (source : List ℕ) (a : AssemblyView) → a.source ≡ source → (d : Denotes m source a.image) → a.names ≡ d.all.names → a.places ≡ extents_of d.placed
+    → source_lines a ≡ placed_lines m.profile source d.placed → a.labels ≡ labels_in m.profile (read_lines m.profile source) → IsAssembled m a
+assembled_by m source a kept d names places lines labels =
+    let of_its_source = subst (λ text. (e : Denotes m text a.image) × (a.names ≡ e.all.names) × (a.places ≡ extents_of e.placed) × (source_lines a ≡ placed_lines m.profile text e.placed) × (a.labels ≡ labels_in m.profile (read_lines m.profile text))) (sym kept) (d, names, places, lines, labels) in
+    record { denotes = of_its_source.0; names = of_its_source.1; places = of_its_source.2; lines = of_its_source.3; labels = of_its_source.4 }
+
+pub assembled_from : JudgedIsMeant → OneAssignment → (m : Map) (source : List ℕ) (r : Given) → AnswersSource verdict_view r (verdict m source) → IfOk r (λ a. a.source ≡ source) → IfOk r (AreRead m.profile) → IfOk r (IsAssembled m)
+assembled_from meant one m source (Ok a) h kept are =
     let d = denoted_from meant m source (Ok a) h in
     let names = names_from meant one m source (Ok a) h d.placed d.all d.laid in
     let places = places_from meant one m source (Ok a) h d.placed d.all d.laid in
-    assembled_by m source a kept d names places
-assembled_from meant one m source (Err f) h kept = tt
+    assembled_by m source a kept d names places (lines_from meant one m source (Ok a) h kept are d.placed d.all d.laid) (labels_from meant one m source (Ok a) h kept are)
+assembled_from meant one m source (Err f) h kept are = tt
 
 pub only_from : DenotedIsJudged → (m : Map) (source : List ℕ) (r : Given) → AnswersSource verdict_view r (verdict m source) → (image : Cells) → Denotes m source image → IsImageOrMemory r image
 only_from denoted m source (Ok a) h image d =
@@ -120,7 +134,7 @@ faulty_from fault m source (Err e) (inr h) f bad =
     let there : verdict m source ≡ Err f = ap passed (fault m source f bad) in
     inl (ap (λ (x : AsmFault). Err x) (err_same e f (verdict m source) (verdict m source) h there refl))
 
-listing_by : (m : Map) (source : List ℕ) (a : AssemblyView) (x : Meant m source a) → OneAssignment → IsListing m source (listing_of (record { image = a.image; source = source; places = a.places; names = a.names }))
+listing_by : (m : Map) (source : List ℕ) (a : AssemblyView) (x : Meant m source a) → OneAssignment → IsListing m source (listing_of (record { image = a.image; source = source; places = a.places; instructions = a.instructions; names = a.names; labels = a.labels }))
 unfolding read_lines
 listing_by m source a x one =
     let d = x.denotes in

@@ -1,4 +1,5 @@
 pub mod FirstPass
+pub mod LineTexts
 pub mod Verdicts
 pub mod RowsRead
 pub mod Answering

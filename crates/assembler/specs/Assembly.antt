@@ -1,30 +1,49 @@
 -- What an assembly shows, and the error that is not a fault of the source.
-use Rattle.std.specs.Prelude.{◌≡◌, ℕ, List, map, Option, Result, Ok, Err}
+use Rattle.std.specs.Prelude.{◌≡◌, ℕ, Bool, List, length, take, map, Option, Result, Ok, Err}
 pub use Rattle.line_parts.specs.LineFaults.{AnswersSource, out_of_memory}
 use Rattle.model.specs.Names.{Definitions}
 use Rattle.model.specs.Layout.{extents_of}
 use Rattle.model.specs.TextLines.{lines_of}
 use Rattle.model.specs.Listing.{listing_text, address_and_bytes}
+use Rattle.assembler.specs.Lines.{LineView, is_instruction_in, labels_in, lines_with, placed_lines}
 use Rattle.law_sources.specs.Judging.{Judgement, judgement, ◌>>=◌}
-use Rattle.model.specs.Source.{Denotes}
+use Rattle.model.specs.Source.{Denotes, read_lines}
 use Rattle.model.specs.State.{Map}
+use Rattle.model.specs.declared.instruction.Profile.{Profile}
 use Rattle.model.specs.declared.source_fault.AsmFault.{AsmFault}
 
 -- What clauses see of an assembly: the byte at each address where the source denotes one; the
--- source; each line's address and byte count, in the order of the lines; and the names with their
--- numbers, in order of definition.
+-- source; of each line that is read its address and byte count, and whether it is an instruction,
+-- in the order of the lines; and the names with their numbers, and whether each is a label, in order
+-- of definition.
 pub record AssemblyView : Type 0 where
   pub image : List (Option ℕ)
   pub source : List ℕ
   pub places : List (ℕ × ℕ)
+  pub instructions : List Bool
   pub names : Definitions
+  pub labels : List Bool
 
--- An assembly is that of its source: the source denotes the image, and the names and the places of
--- the lines are those of its layout.
+-- The lines that are read: the texts of the source, as many as have a place.
+abbrev pub source_lines : AssemblyView → List LineView
+source_lines a = lines_with 1 (lines_of a.source) a.places a.instructions
+
+-- An assembly is that of its source: the source denotes the image, the names, the places and the
+-- lines are those of its layout, and the labels are the names that stand before `:`.
 pub record IsAssembled (bus_map : Map) (a : AssemblyView) : Type 0 where
   pub denotes : Denotes bus_map a.source a.image
   pub names : a.names ≡ denotes.all.names
   pub places : a.places ≡ extents_of denotes.placed
+  pub lines : source_lines a ≡ placed_lines bus_map.profile a.source denotes.placed
+  pub labels : a.labels ≡ labels_in bus_map.profile (read_lines bus_map.profile a.source)
+
+-- The first lines of the source, as many as have a place, have instructions and labels where a
+-- profile reads them.
+pub record AreRead (profile : Profile) (a : AssemblyView) : Type 0 where
+  pub paired : length a.instructions ≡ length a.places
+  pub instructions : a.instructions ≡ map (is_instruction_in profile)
+      (take (length a.instructions) (lines_of a.source))
+  pub labels : a.labels ≡ labels_in profile (take (length a.instructions) (lines_of a.source))
 
 -- What of it the source decides.
 pub record Verdict : Type 0 where

@@ -1,9 +1,14 @@
 //! A source assembled.
 
-ghost use Rattle.std.specs.Prelude.{◌≡◌, ◌<◌, ◌⊎◌, ℕ, List, Option, Err, IfOk, IfErr, false, length};
-ghost use Rattle.std.specs.Prelude.{slice_get};
-ghost use Rattle.assembler.specs.Assembly.{AnswersSource, IsAssembled, IsImageOrMemory, listing_of};
-ghost use Rattle.assembler.specs.Assembly.{out_of_memory, verdict_view, verdict};
+ghost use Rattle.std.specs.Prelude.{◌≡◌, ◌<◌, ◌≤◌, ◌⊎◌, ℕ, List, Option, Err, IfOk, IfErr, false, length};
+ghost use Rattle.std.specs.Prelude.{slice_get, take};
+ghost use Rattle.std.specs.Option.{option_map};
+ghost use Rattle.assembler.specs.Assembly.{AnswersSource, AreRead, IsAssembled, IsImageOrMemory};
+ghost use Rattle.assembler.specs.Assembly.{listing_of, out_of_memory, source_lines, verdict_view};
+ghost use Rattle.assembler.specs.Assembly.{verdict};
+ghost use Rattle.assembler.specs.Lines.{labels_in, line_view, placed_lines};
+ghost use Rattle.assembler.specs.Texts.{texts_in};
+ghost use Rattle.model.specs.TextLines.{lines_of};
 ghost use Rattle.model.specs.Layout.{Context, IsLaidOut, PlacedLine, extents_of};
 ghost use Rattle.model.specs.Listing.{IsListing};
 ghost use Rattle.model.specs.Names.{number_in};
@@ -14,7 +19,8 @@ ghost use Rattle.model.specs.declared.source_fault.AsmFault.{AsmFault};
 ghost use Rattle.model.specs.declared.source_fault.AsmFaultKind.TheVariants.{TooLarge};
 ghost use Rattle.symbols.specs.Entries.{entry_view};
 
-use crate::first_pass::lay_out;
+use crate::first_pass::{Laid, lay_out};
+use crate::source_line::{LineText, SourceLine};
 use emission::make_image;
 use law_sources::{judging_is_right, one_assignment};
 use line_parts::{OUT_OF_MEMORY, Span};
@@ -34,11 +40,21 @@ pub struct Assembly {
     image: Image,
     source: Vec<u8>,
     spans: Vec<Span>,
+    texts: Vec<LineText>,
     symbols: Symbols,
+    labels: Vec<bool>,
+    // Each line has a text, which is that line of the source.
+    ghost paired: { length texts.items ≡ length spans.items },
+    ghost cut: { texts_in source.items texts.items
+        ≡ take (length texts.items) (lines_of source.items) },
+    ghost few: { length texts.items ≤ 1048576 },
+    // Of each name it is known whether it is a label.
+    ghost named: { length labels.items ≡ length symbols },
 }
 
 impl Model for Assembly {
     ghost use Rattle.assembler.specs.Assembly.{AssemblyView};
+    ghost use Rattle.assembler.specs.Texts.{instructions_of};
     ghost use Rattle.line_parts.specs.Spans.{pairs_of};
 
     ghost Value = { AssemblyView };
@@ -47,8 +63,17 @@ impl Model for Assembly {
       image = a.image;
       source = a.source.items;
       places = pairs_of a.spans.items;
+      instructions = instructions_of a.texts.items;
       names = a.symbols;
+      labels = a.labels.items;
     } };
+}
+
+/// Returns the item at an index.
+fn item_at<T: Copy>(items: &[T], index: usize) -> Option<T>
+    ensures { result ≡ slice_get items.now index }
+{
+    items.get(index).copied()
 }
 
 impl Assembly {
@@ -73,11 +98,44 @@ impl Assembly {
         self.symbols.symbol(index)
     }
 
+    /// Returns whether a name is a label, which stands before `:`, by its index.
+    pub fn is_label(&self, index: usize) -> Option<bool>
+        ensures told { result ≡ slice_get self.now.labels index }
+        // It is told of each name.
+        ensures each { length self.now.labels ≡ length self.now.names }
+    {
+        self.labels.get(index).copied()
+    }
+
     /// Returns the number of a name, if the source defines it.
     pub fn value_of(&self, name: &[u8]) -> Option<i32>
         ensures { result ≡ number_in self.now.names name.now }
     {
         self.symbols.value_of(name)
+    }
+
+    /// Returns how many lines of the source were read: all, or up to that of `.END`.
+    pub fn line_count(&self) -> usize
+        ensures { result ≡ length (source_lines self.now) }
+    {
+        self.spans.len()
+    }
+
+    /// Returns a line that was read, by its index, counted from 0: `None` if there is no such line.
+    ///
+    /// A line takes the same time wherever it stands.
+    pub fn line(&self, index: usize) -> Option<SourceLine<'_>>
+        ensures { option_map line_view result ≡ slice_get (source_lines self.now) index }
+    {
+        let span = item_at(&self.spans, index)?;
+        let text = item_at(&self.texts, index)?;
+        Some(SourceLine {
+            number: index as u32 + 1,
+            address: span.address,
+            count: span.count,
+            text: text.of(&self.source),
+            is_instruction: text.is_instruction,
+        })
     }
 
     /// Returns the listing: each line that was read with its address and bytes, then the names.
@@ -145,6 +203,13 @@ pub fn assemble(alloc: Global, source: &[u8], map: &MapSpec) -> Result<Assembly,
     ensures places { IfOk result
         (λ a. (placed : List PlacedLine) (all : Context) → IsLaidOut (first_context map.now.profile)
         (read_lines map.now.profile source.now) placed all → a.places ≡ extents_of placed) }
+    // Each line that is read is kept in its place.
+    ensures lines { IfOk result
+        (λ a. (placed : List PlacedLine) (all : Context) → IsLaidOut (first_context map.now.profile)
+        (read_lines map.now.profile source.now) placed all
+        → source_lines a ≡ placed_lines map.now.profile source.now placed) }
+    ensures labels { IfOk result
+        (λ a. a.labels ≡ labels_in map.now.profile (read_lines map.now.profile source.now)) }
     ensures names { IfOk result
         (λ a. (placed : List PlacedLine) (all : Context) → IsLaidOut (first_context map.now.profile)
         (read_lines map.now.profile source.now) placed all → a.names ≡ all.names) }
@@ -166,6 +231,7 @@ fn assemble_lines(alloc: Global, source: &[u8], map: &MapSpec) -> Result<Assembl
         → result ≡ Err (record { line = 0; kind = TooLarge }) }
     ensures cells { IfOk result (λ a. IsImage a.image) }
     ensures kept { IfOk result (λ a. a.source ≡ source.now) }
+    ensures read { IfOk result (AreRead map.now.profile) }
     ensures spared { IfOk result (λ a. has_port_byte map.now a.image ≡ false) }
 {
     if source.len() > SOURCE_SIZE {
@@ -175,16 +241,23 @@ fn assemble_lines(alloc: Global, source: &[u8], map: &MapSpec) -> Result<Assembl
         });
     }
     let mut symbols = Symbols::new(alloc);
-    let lines = lay_out(alloc, map.profile(), &mut symbols, source)?;
-    let image = make_image(alloc, map, &symbols, lines.lines())?;
+    let laid = lay_out(alloc, map.profile(), &mut symbols, source)?;
+    let image = make_image(alloc, map, &symbols, laid.lines.lines())?;
     // For the proof: what `cells` says of each image.
     let _ = image.cells();
+    let Laid {
+        lines,
+        texts,
+        labels,
+    } = laid;
     let spans = lines.into_spans();
     let source = Vec::from_slice(alloc, source).map_err(|_| OUT_OF_MEMORY)?;
     Ok(Assembly {
         image,
         source,
         spans,
+        texts,
         symbols,
+        labels,
     })
 }

@@ -15,7 +15,7 @@ use Rattle.mon_session.specs.EventTexts.{shown_text}
 use Rattle.mon_session.specs.declared.desk.Desk.{Desk}
 use Rattle.mon_words.specs.Asked.{MonAsked}
 use Rattle.source_map.specs.Lines.{PlacesView, places_of}
-use Rattle.source_map.specs.Names.{names_of}
+use Rattle.source_map.specs.Names.{names_in}
 use Rattle.program.specs.declared.refusal.Refusal.{Refusal}
 use Rattle.program.specs.declared.refusal.Refusal.TheVariants.{OutOfMemory, Read, Write}
 use Rattle.mon.specs.declared.wording.TheConstants.{GREETING}
@@ -57,7 +57,7 @@ places_in file (Some assembly) = places_of file assembly
 abbrev pub with_names : Option AssemblyView → PlacesView → PlacesView
 with_names None places = places
 with_names (Some names) places
-    = record places { names = places.names ++ names_of names.image names.names }
+    = record places { names = places.names ++ names_in names }
 
 -- A file of names is assembled if one is named.
 abbrev pub AreNamed : Option Text → FileAsked → Option AssemblyView → Type 0

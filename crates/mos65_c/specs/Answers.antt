@@ -18,9 +18,11 @@ use Rattle.model.specs.declared.source_fault.AsmFault.{AsmFault}
 use Rattle.model.specs.declared.source_fault.AsmFaultKind.TheVariants.{TooLarge}
 use Rattle.model.specs.declared.tape.TapeFault.{TapeFault}
 use Rattle.assembler.specs.Assembly.{AssemblyView, listing_of, out_of_memory}
+use Rattle.assembler.specs.Lines.{LineView}
 use Rattle.mos65_c.specs.declared.config.Config.{Config}
 use Rattle.mos65_c.specs.declared.ending.Called.{Called}
 use Rattle.mos65_c.specs.declared.ending.Ending.{Ending}
+use Rattle.mos65_c.specs.declared.lines.Line.{Line}
 use Rattle.mos65_c.specs.declared.names.Fault.{Fault}
 use Rattle.mos65_c.specs.Status.{config_map, config_status, ending_of, registers_of}
 
@@ -180,3 +182,23 @@ AnswersEntry (Some entry) room count value status name n number
     × (n ≡ length entry.0) × (number ≡ entry.1))
     × (length room < length entry.0
     → (status ≡ 2) × (name ≡ room) × (n ≡ count) × (number ≡ value))
+
+-- What is told of a line beside its text.
+abbrev pub told_of : LineView → Line
+told_of line = record {
+  number = line.number;
+  address = line.address;
+  count = line.count;
+  is_instruction = line.is_instruction;
+}
+
+-- A line and its text are told; 2 where the room is too small for the text, 5 where there is no such
+-- line, and nothing is told then.
+abbrev pub AnswersLine : Option LineView → Line → List ℕ → ℕ → ℕ → Line → List ℕ → ℕ → Type 0
+AnswersLine None old room count status line text n
+    = (status ≡ 5) × (line ≡ old) × (text ≡ room) × (n ≡ count)
+AnswersLine (Some found) old room count status line text n
+    = (length found.text ≤ length room → (status ≡ 0) × (line ≡ told_of found)
+    × (text ≡ written found.text room) × (n ≡ length found.text))
+    × (length room < length found.text
+    → (status ≡ 2) × (line ≡ old) × (text ≡ room) × (n ≡ count))

@@ -10,6 +10,7 @@ mod assembly;
 mod config;
 mod ending;
 mod events;
+mod lines;
 mod looking;
 mod machine;
 mod names;

@@ -14,6 +14,8 @@ pub const MISUSE: u32 = 2;
 pub const OUT_OF_MEMORY: u32 = 3;
 /// The source defines no such name.
 pub const NO_SUCH_NAME: u32 = 4;
+/// No line of the source has this index.
+pub const NO_SUCH_LINE: u32 = 5;
 
 /// A machine with its history, or none: all zero at first.
 #[repr(C)]

@@ -1,33 +1,51 @@
 -- Names of addresses, and which of them a text or an address means. Source: mos65.
-use Rattle.std.specs.Prelude.{ℕ, ℤ, pos, negsuc, ◌-◌, ◌==◌, ◌&&◌, nat_le, nat_lt, Bool, true, false, is_some, if◌then◌else◌, List, [], ◌∷◌, map, find, Option, Some, None}
-use Rattle.std.specs.List.{flat_map}
+use Rattle.std.specs.Prelude.{ℕ, ℤ, pos, negsuc, ◌-◌, ◌==◌, ◌&&◌, nat_le, nat_lt, not, Bool, true, false, is_some, if◌then◌else◌, List, [], ◌∷◌, map, find, Option, Some, None}
+use Rattle.std.specs.List.{flat_map, zip}
 use Rattle.std.specs.Option.{option_map, option_or}
 use Rattle.std.specs.Borrow.{Bor}
 use Rattle.std.specs.Str.{bytes_eq, str_eq_ignore_ascii_case}
 use Rattle.model.specs.Image.{cell_at}
-use Rattle.model.specs.Names.{Definitions}
+use Rattle.assembler.specs.Assembly.{AssemblyView}
 use Rattle.source_map.specs.declared.names.Name.{Name}
 
--- A name, its address, and whether a byte of the program stands there.
+-- A name, its address, whether it is a label, which stands before `:`, and whether a byte of the
+-- program stands at its address.
 pub record Named : Type 0 where
   pub text : List ℕ
   pub address : ℕ
   pub is_label : Bool
+  pub has_byte : Bool
 
 abbrev pub named : Name → Named
-named name = record { text = name.text.items; address = name.address; is_label = name.is_label }
+named name = record {
+  text = name.text.items;
+  address = name.address;
+  is_label = name.is_label;
+  has_byte = name.has_byte;
+}
 
 -- ---- the names of an assembly
 
 -- The name of a number that is an address.
-abbrev pub name_of : List (Option ℕ) → List ℕ → ℤ → List Named
-name_of image text (pos n) = if nat_le n 65535
-    then record { text = text; address = n; is_label = is_some (cell_at image n) } ∷ [] else []
-name_of image text (negsuc n) = []
+abbrev pub name_of : List (Option ℕ) → List ℕ → ℤ → Bool → List Named
+name_of image text (pos n) is_label = if nat_le n 65535 then record {
+  text = text;
+  address = n;
+  is_label = is_label;
+  has_byte = is_some (cell_at image n);
+} ∷ [] else []
+name_of image text (negsuc n) is_label = []
+
+-- The names of an assembly with their numbers, and whether each is a label.
+abbrev pub named_numbers : AssemblyView → List ((List ℕ × ℤ) × Bool)
+named_numbers assembly = zip assembly.names assembly.labels
+
+abbrev pub names_of : List (Option ℕ) → List ((List ℕ × ℤ) × Bool) → List Named
+names_of image numbers = flat_map (λ d. name_of image d.0.0 d.0.1 d.1) numbers
 
 -- The names whose numbers are addresses, in the order of their definition.
-abbrev pub names_of : List (Option ℕ) → Definitions → List Named
-names_of image definitions = flat_map (λ d. name_of image d.0 d.1) definitions
+abbrev pub names_in : AssemblyView → List Named
+names_in assembly = names_of assembly.image (named_numbers assembly)
 
 -- ---- an address by its name
 
@@ -58,7 +76,7 @@ is_name_at address name = name.address == address
 abbrev pub first_text : (Named → Bool) → List Named → Option (List ℕ)
 first_text passes names = option_map (λ name. name.text) (find passes names)
 
--- The first name of an address: of a byte of the program if there is one, otherwise of any number.
+-- The first name of an address: a label if there is one, otherwise any name with that number.
 abbrev pub name_at : List Named → ℕ → Option (List ℕ)
 name_at names address
     = option_or (first_text (is_label_at address) names) (first_text (is_name_at address) names)
@@ -72,20 +90,28 @@ abbrev pub is_nearer : ℕ → Near → Bool
 is_nearer distance None = nat_lt distance 64
 is_nearer distance (Some (text, least)) = nat_lt distance least
 
--- The nearer one of what was found and a name: of a byte of the program, at the address or below.
-abbrev pub nearer : ℕ → Near → Named → Near
-nearer address found name =
-    if name.is_label && nat_le name.address address && is_nearer (address - name.address) found
+-- Whether a name of a byte of the program is a label, or else is none.
+abbrev pub is_kind : Bool → Named → Bool
+is_kind true name = name.has_byte && name.is_label
+is_kind false name = name.has_byte && not name.is_label
+
+-- The nearer one of what was found and a name: of a kind, at the address or below.
+abbrev pub nearer : Bool → ℕ → Near → Named → Near
+nearer is_label address found name =
+    if is_kind is_label name && nat_le name.address address && is_nearer (address - name.address) found
     then Some (name.text, address - name.address) else found
 
-abbrev pub nearest_from : ℕ → Near → List Named → Near
-nearest_from address found [] = found
-nearest_from address found (name ∷ names) = nearest_from address (nearer address found name) names
+abbrev pub nearest_from : Bool → ℕ → Near → List Named → Near
+nearest_from is_label address found [] = found
+nearest_from is_label address found (name ∷ names)
+    = nearest_from is_label address (nearer is_label address found name) names
 
--- The name of the program's byte at an address or the nearest below it, at most 63 bytes away, and
--- how far away that is. Of names that are as near the first counts.
+-- The label of the program's byte at an address or the nearest below it, at most 63 bytes away, and
+-- how far away that is. Where there is none, another name likewise. Of names that are as near the
+-- first counts.
 abbrev pub name_near : List Named → ℕ → Near
-name_near names address = nearest_from address None names
+name_near names address
+    = option_or (nearest_from true address None names) (nearest_from false address None names)
 
 -- What is found, without where it lies in memory.
 abbrev pub near_view : Option (Bor (List ℕ) × ℕ) → Near

@@ -1,6 +1,6 @@
 //! What stands where in a program: its names, and the lines of its source.
 //!
-//! They are taken from an assembly, whose listing has the address of each line.
+//! They are taken from an assembly, which has the place of each line.
 #![tactic(auto)]
 
 mod names;

@@ -3,9 +3,10 @@
 ghost use Rattle.std.specs.Prelude.{◌≡◌, ◌∷◌, ◌++◌, [], ℕ, List, OnErr, OnOk, map, slice_get, take};
 ghost use Rattle.std.specs.Option.{option_copied, option_to_list};
 ghost use Rattle.std.specs.Str.{bytes_eq, str_eq_ignore_ascii_case};
-ghost use Rattle.source_map.specs.Names.{Near, Named, address_of, first_address, first_text, has_letters};
-ghost use Rattle.source_map.specs.Names.{has_text, is_label_at, is_name_at, is_nearer, name_at};
-ghost use Rattle.source_map.specs.Names.{name_near, name_of, named, names_of, near_view, nearer};
+ghost use Rattle.source_map.specs.Names.{Near, Named, address_of, first_address, first_text};
+ghost use Rattle.source_map.specs.Names.{has_letters, has_text, is_kind, is_label_at, is_name_at};
+ghost use Rattle.source_map.specs.Names.{is_nearer, name_at, name_near, name_of, named};
+ghost use Rattle.source_map.specs.Names.{named_numbers, names_in, names_of, near_view, nearer};
 ghost use Rattle.source_map.specs.Names.{nearest_from};
 
 use assembler::Assembly;
@@ -13,12 +14,15 @@ use memory_map::Image;
 use std::alloc::{AllocError, Global};
 use std::marker::Model;
 
-/// A name with its address, and whether a byte of the program stands there.
+/// A name with its address.
 #[derive(Drop)]
 struct Name {
     text: Vec<u8>,
     address: u16,
+    /// Whether it stands before `:`.
     is_label: bool,
+    /// Whether a byte of the program stands at the address.
+    has_byte: bool,
 }
 
 /// Names in the order of their definition.
@@ -67,7 +71,7 @@ fn address_near(names: &[Name], text: &[u8]) -> Option<u16>
     None
 }
 
-/// Returns the first name of the program's byte at an address.
+/// Returns the first label at an address.
 fn label_at(names: &[Name], address: u16) -> Option<&[u8]>
     ensures { option_copied result ≡ first_text (is_label_at address) (map named names.now) }
 {
@@ -101,28 +105,43 @@ fn is_nearer(distance: u16, found: Option<(&[u8], u16)>) -> bool
     }
 }
 
-/// Returns the nearer one of the name found so far and another.
+/// Returns whether a name of a byte of the program is a label, or else is none.
+fn is_kind(is_label: bool, name: &Name) -> bool
+    ensures { result ≡ is_kind is_label (named name.now) }
+{
+    if is_label {
+        name.has_byte && name.is_label
+    } else {
+        name.has_byte && !name.is_label
+    }
+}
+
+/// Returns the nearer one of the name found so far and another of a kind.
 fn nearer<'a>(
+    is_label: bool,
     address: u16,
     found: Option<(&'a [u8], u16)>,
     name: &'a Name,
 ) -> Option<(&'a [u8], u16)>
-    ensures { near_view result ≡ nearer address (near_view found.entry) (named name.now) }
+    ensures { near_view result ≡ nearer is_label address (near_view found.entry) (named name.now) }
 {
-    if name.is_label && name.address <= address && is_nearer(address - name.address, found) {
+    if is_kind(is_label, name)
+        && name.address <= address
+        && is_nearer(address - name.address, found)
+    {
         Some((name.text.as_slice(), address - name.address))
     } else {
         found
     }
 }
 
-/// Returns the nearest one of some names, and how far away it is.
-fn nearest(names: &[Name], address: u16) -> Option<(&[u8], u16)>
-    ensures { near_view result ≡ name_near (map named names.now) address }
+/// Returns the nearest one of a kind among some names, and how far away it is.
+fn nearest(is_label: bool, names: &[Name], address: u16) -> Option<(&[u8], u16)>
+    ensures { near_view result ≡ nearest_from is_label address None (map named names.now) }
 {
     let mut found: Option<(&[u8], u16)> = None;
     for name in names {
-        found = nearer(address, found, name);
+        found = nearer(is_label, address, found, name);
     }
     found
 }
@@ -144,9 +163,14 @@ impl Names {
         text: &[u8],
         address: u16,
         is_label: bool,
+        has_byte: bool,
     ) -> Result<(), AllocError>
-        ensures ok { OnOk result (self.new ≡ self.old
-            ++ record { text = text.now; address = address; is_label = is_label } ∷ []) }
+        ensures ok { OnOk result (self.new ≡ self.old ++ record {
+          text = text.now;
+          address = address;
+          is_label = is_label;
+          has_byte = has_byte;
+        } ∷ []) }
         ensures err { OnErr result (self.new ≡ self.old) }
     {
         let text = Vec::from_slice(alloc, text)?;
@@ -154,6 +178,7 @@ impl Names {
             text,
             address,
             is_label,
+            has_byte,
         })?;
         Ok(())
     }
@@ -165,13 +190,16 @@ impl Names {
         image: &Image,
         text: &[u8],
         number: i32,
+        is_label: bool,
     ) -> Result<(), AllocError>
-        ensures ok { OnOk result (self.new ≡ self.old ++ name_of image.now text.now number) }
+        ensures ok { OnOk result
+            (self.new ≡ self.old ++ name_of image.now text.now number is_label) }
         ensures err { OnErr result (self.new ≡ self.old) }
     {
         if number >= 0 && number <= 65535 {
             let address = number as u16;
-            self.push(alloc, text, address, image.get(address).is_some())?;
+            let has_byte = image.get(address).is_some();
+            self.push(alloc, text, address, is_label, has_byte)?;
         }
         Ok(())
     }
@@ -179,22 +207,23 @@ impl Names {
     /// Appends the name of an index in an assembly, if its number is an address.
     fn add_at(&mut self, alloc: Global, assembly: &Assembly, index: usize) -> Result<(), AllocError>
         ensures ok { OnOk result (self.new ≡ self.old ++ names_of assembly.now.image
-            (option_to_list (slice_get assembly.now.names index))) }
+            (option_to_list (slice_get (named_numbers assembly.now) index))) }
         ensures err { OnErr result (self.new ≡ self.old) }
     {
-        match assembly.symbol(index) {
-            Some((text, number)) => self.add(alloc, assembly.image(), text, number),
-            None => Ok(()),
+        match (assembly.symbol(index), assembly.is_label(index)) {
+            (Some((text, number)), Some(is_label)) => {
+                self.add(alloc, assembly.image(), text, number, is_label)
+            }
+            _ => Ok(()),
         }
     }
 
     /// Appends the names of an assembly whose numbers are addresses: some of the first of them if
     /// memory ran out.
     pub fn append(&mut self, alloc: Global, assembly: &Assembly) -> Result<(), AllocError>
-        ensures ok { OnOk result
-            (self.new ≡ self.old ++ names_of assembly.now.image assembly.now.names) }
-        ensures err { OnErr result ((count : ℕ) × (self.new
-            ≡ self.old ++ names_of assembly.now.image (take count assembly.now.names))) }
+        ensures ok { OnOk result (self.new ≡ self.old ++ names_in assembly.now) }
+        ensures err { OnErr result ((count : ℕ) × (self.new ≡ self.old
+            ++ names_of assembly.now.image (take count (named_numbers assembly.now)))) }
     {
         for index in 0..assembly.symbol_count() {
             self.add_at(alloc, assembly, index)?;
@@ -213,8 +242,8 @@ impl Names {
         }
     }
 
-    /// Returns the first name of an address: of a byte of the program if there is one, otherwise of
-    /// any number.
+    /// Returns the first name of an address: a label if there is one, otherwise any name with that
+    /// number.
     pub fn name_at(&self, address: u16) -> Option<&[u8]>
         ensures { option_copied result ≡ name_at self.now address }
     {
@@ -224,11 +253,15 @@ impl Names {
         }
     }
 
-    /// Returns the name of the program's byte at an address or the nearest below it, at most 63
-    /// bytes away, and how far away that is. Of names that are as near the first counts.
+    /// Returns the label of the program's byte at an address or the nearest below it, at most 63
+    /// bytes away, and how far away that is. Where there is none, another name likewise. Of names
+    /// that are as near the first counts.
     pub fn name_near(&self, address: u16) -> Option<(&[u8], u16)>
         ensures { near_view result ≡ name_near self.now address }
     {
-        nearest(self.entries.as_slice(), address)
+        match nearest(true, self.entries.as_slice(), address) {
+            Some(found) => Some(found),
+            None => nearest(false, self.entries.as_slice(), address),
+        }
     }
 }

@@ -2,7 +2,7 @@
 
 ghost use Rattle.std.specs.Prelude.{◌≡◌, ◌++◌, [], ℕ, IfOk, OnErr, OnOk, length, nat_lt, take};
 ghost use Rattle.source_map.specs.Lines.{line_at, places_of};
-ghost use Rattle.source_map.specs.Names.{names_of};
+ghost use Rattle.source_map.specs.Names.{named_numbers, names_in, names_of};
 
 use crate::names::Names;
 use crate::rows::{Row, rows_of};
@@ -31,7 +31,7 @@ fn first_line_at(rows: &[Row], address: u16) -> Option<u32>
     ensures { result ≡ line_at rows.now address }
 {
     for row in rows {
-        if row.address == address {
+        if row.address == address as u32 {
             return Some(row.line);
         }
     }
@@ -56,13 +56,9 @@ impl Places {
     {
         let mut names = Names::new(alloc);
         names.append(alloc, assembly)?;
-        let rows = match assembly.listing(alloc) {
-            Ok(listing) => rows_of(alloc, &listing)?,
-            Err(_) => return Err(AllocError),
-        };
         Ok(Places {
             names,
-            rows,
+            rows: rows_of(alloc, assembly)?,
             file: Vec::from_slice(alloc, file)?,
         })
     }
@@ -70,10 +66,11 @@ impl Places {
     /// Appends the names of an assembly: some of the first of them if memory ran out.
     pub fn add_names(&mut self, alloc: Global, assembly: &Assembly) -> Result<(), AllocError>
         ensures ok { OnOk result (self.new ≡ record self.old
-            { names = self.old.names ++ names_of assembly.now.image assembly.now.names }) }
+            { names = self.old.names ++ names_in assembly.now }) }
         ensures err { OnErr result ((count : ℕ) × (self.new ≡ record self.old {
           names
-              = self.old.names ++ names_of assembly.now.image (take count assembly.now.names);
+              = self.old.names ++ names_of assembly.now.image
+                  (take count (named_numbers assembly.now));
         })) }
     {
         self.names.append(alloc, assembly)

@@ -1,75 +1,53 @@
-//! The lines of a source that have bytes, from its listing.
+//! The lines of a source that have bytes, from its assembly.
 
-ghost use Rattle.std.specs.Prelude.{◌≡◌, ◌++◌, IfOk, OnOk};
-ghost use Rattle.source_map.specs.Lines.{address_in, counted, line_in, lines_in};
+ghost use Rattle.std.specs.Prelude.{◌≡◌, ◌++◌, IfOk, OnOk, slice_get};
+ghost use Rattle.std.specs.Option.{option_to_list};
+ghost use Rattle.assembler.specs.Assembly.{source_lines};
+ghost use Rattle.assembler.specs.Lines.{line_view};
+ghost use Rattle.source_map.specs.Lines.{row_of, rows_of};
 
-use commands::address_of;
-use line_parts::next_line;
+use assembler::{Assembly, SourceLine};
 use std::alloc::{AllocError, Global};
 
 /// A line of a source, counted from 1, and the address of its first byte.
 #[derive(Clone, Copy)]
 pub struct Row {
-    pub address: u16,
+    pub address: u32,
     pub line: u32,
 }
 
-/// The columns of an address, two blanks, three bytes and two blanks, after which a line begins. A
-/// row of further bytes has no more than the first 14.
-const FRONT: usize = 16;
-
-/// The address of a line's row, if the line has bytes.
-fn address_in(row: &[u8]) -> Option<u16>
-    ensures { result ≡ address_in row.now }
+/// Appends the row of a line, if the line has bytes.
+fn push_row(rows: &mut Vec<Row>, line: SourceLine<'_>) -> Result<(), AllocError>
+    ensures { OnOk result
+        (rows.new.items ≡ rows.old.items ++ row_of (line_view line.entry)) }
 {
-    match row {
-        [a, b, c, d, _, _, first, ..] if *first != b' ' => address_of(&[*a, *b, *c, *d]),
-        _ => None,
-    }
-}
-
-/// Returns how many lines there are with a row after so many of them.
-fn counted(count: u32, row: &[u8]) -> u32
-    ensures { result ≡ counted count row.now }
-{
-    if row.len() >= FRONT {
-        count.saturating_add(1)
-    } else {
-        count
-    }
-}
-
-/// Appends the line of a row after so many lines, if it has bytes.
-fn push_line(rows: &mut Vec<Row>, count: u32, row: &[u8]) -> Result<(), AllocError>
-    ensures { OnOk result (rows.new.items ≡ rows.old.items ++ line_in count row.now) }
-{
-    if row.len() >= FRONT {
-        if let Some(address) = address_in(row) {
-            let line = counted(count, row);
-            rows.push(Row { address, line })?;
-        }
+    if line.count > 0 {
+        rows.push(Row {
+            address: line.address,
+            line: line.number,
+        })?;
     }
     Ok(())
 }
 
-/// Returns the lines with bytes, from the text of a listing.
-pub fn rows_of(alloc: Global, listing: &[u8]) -> Result<Vec<Row>, AllocError>
-    ensures { IfOk result (λ rows. rows.items ≡ lines_in listing.now) }
+/// Appends the row of the line of an index, if there is such a line and it has bytes.
+fn push_row_at(rows: &mut Vec<Row>, assembly: &Assembly, index: usize) -> Result<(), AllocError>
+    ensures { OnOk result (rows.new.items ≡ rows.old.items
+        ++ rows_of (option_to_list (slice_get (source_lines assembly.now) index))) }
+{
+    match assembly.line(index) {
+        Some(line) => push_row(rows, line),
+        None => Ok(()),
+    }
+}
+
+/// Returns the rows of the lines that have bytes, in their order.
+pub fn rows_of(alloc: Global, assembly: &Assembly) -> Result<Vec<Row>, AllocError>
+    ensures { IfOk result (λ rows. rows.items ≡ rows_of (source_lines assembly.now)) }
 {
     let mut rows = Vec::new(alloc);
-    let mut rest = listing;
-    let mut line = 0u32;
-    for _ in 0..listing.len() {
-        if rest.is_empty() {
-            return Ok(rows);
-        }
-        let (row, behind) = next_line(rest);
-        rest = behind;
-        if row.is_empty() {
-            return Ok(rows);
-        }
-        push_line(&mut rows, line, row)?;
-        line = counted(line, row);
+    for index in 0..assembly.line_count() {
+        push_row_at(&mut rows, assembly, index)?;
     }
     Ok(rows)
 }

@@ -40,7 +40,8 @@ pub fn operand_of<'t, 'a>(tokens: &'t [Token<'a>]) -> &'t [Token<'a>]
     }
 }
 
-/// Returns a note about some tokens of a line, or about its first byte after the blanks if there are none.
+/// Returns a note about some tokens of a line, or about its first byte after the blanks if there
+/// are none.
 fn about(line: &[u8], tokens: &[Token<'_>], words: Vec<u8>) -> Note
     ensures { let place = meant_by line.now tokens.now in
         result ≡ record { start = place.0; width = place.1; words = words } }

@@ -8,7 +8,7 @@ use Rattle.t65.specs.Ends.{EndsRows, EndsSource, EndsTest, HeadedFile, IsUnteste
 use Rattle.t65.specs.Statuses.{status_of}
 use Rattle.t65.specs.Tested.{map_of}
 use Rattle.t65.specs.declared.fault.TestFault.{TestFault}
-use Rattle.t65.specs.declared.fault.TestFault.TheVariants.{Rows, Source, TooLarge, Map as NoMap, OutOfMemory, Read}
+use Rattle.t65.specs.declared.fault.TestFault.TheVariants.{Rows, Source, TooLarge, Map as NoMap, OutOfMemory, Read, Replaced}
 use Rattle.assembler.specs.Assembly.{AssemblyView, IsAssembled}
 
 pub head_ends : (text : List ℕ) (fault : TextFault) → head_from 1 (lines_of text) ≡ Err fault → EndsTest (Rows fault)
@@ -34,6 +34,7 @@ source_ends text head next lines bus_map TooLarge headed is ends = tt
 source_ends text head next lines bus_map NoMap headed is ends = absurd ends
 source_ends text head next lines bus_map OutOfMemory headed is ends = tt
 source_ends text head next lines bus_map Read headed is ends = tt
+source_ends text head next lines bus_map Replaced headed is ends = tt
 
 pub rows_end : (text : List ℕ) (head : SeenHead) (next : ℕ) (lines : List (List ℕ)) (bus_map : Map) (assembly : AssemblyView) (fault : TestFault)
     → head_from 1 (lines_of text) ≡ Ok (head, next, lines) → bus_map ≡ map_of head → IsAssembled bus_map assembly → EndsRows assembly.names next lines fault → EndsTest fault
@@ -50,6 +51,7 @@ rows_end text head next lines bus_map assembly TooLarge headed is a ends = tt
 rows_end text head next lines bus_map assembly NoMap headed is a ends = absurd ends
 rows_end text head next lines bus_map assembly OutOfMemory headed is a ends = tt
 rows_end text head next lines bus_map assembly Read headed is a ends = tt
+rows_end text head next lines bus_map assembly Replaced headed is a ends = tt
 
 pub untested : (fault : TestFault) (status : ℕ) → EndsTest fault → status ≡ status_of fault → IsUntested status
 untested fault status ends is = record { fault = fault; ends = ends; status_is = is }

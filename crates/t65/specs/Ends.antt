@@ -1,5 +1,5 @@
--- Why a file of rows cannot be tested. No clause can say whether memory is there, nor what is in a
--- file. Source: mos65.
+-- Why a file of rows cannot be tested. No clause can say whether memory is there, what is in a file,
+-- nor which names are one file. Source: mos65.
 use Rattle.std.specs.Prelude.{◌≡◌, ◌⊎◌, ⊤, ℕ, false, List, Option, Ok, Err}
 use Rattle.assembler.specs.Assembly.{AssemblyView, IsAssembled}
 use Rattle.model.specs.Names.{Definitions}
@@ -14,7 +14,7 @@ use Rattle.t65.specs.Tested.{map_of}
 use Rattle.t65.specs.declared.fault.FileFault.{FileFault}
 use Rattle.t65.specs.declared.fault.FileFault.TheVariants.{InRows, InSource}
 use Rattle.t65.specs.declared.fault.TestFault.{TestFault}
-use Rattle.t65.specs.declared.fault.TestFault.TheVariants.{Rows, Source, TooLarge, Map as NoMap, OutOfMemory, Read}
+use Rattle.t65.specs.declared.fault.TestFault.TheVariants.{Rows, Source, TooLarge, Map as NoMap, OutOfMemory, Read, Replaced}
 
 -- The head of some file of rows, and the lines after it.
 pub record HeadedFile : Type 0 where
@@ -42,6 +42,7 @@ EndsTest NoMap = (file : HeadedFile) × (is_map file.head.rom file.head.port ≡
 EndsTest TooLarge = ⊤
 EndsTest OutOfMemory = ⊤
 EndsTest Read = ⊤
+EndsTest Replaced = ⊤
 
 abbrev pub fault_in : FileFault → TestFault
 fault_in (InRows fault) = fault
@@ -58,6 +59,7 @@ abbrev pub EndsSource : Map → TestFault → Type 0
 EndsSource bus_map (Source fault) = (source : List ℕ) × HasFault bus_map source fault
 EndsSource bus_map OutOfMemory = ⊤
 EndsSource bus_map Read = ⊤
+EndsSource bus_map Replaced = ⊤
 EndsSource bus_map fault = ⊥
 
 -- Why rows are not read under some names.

@@ -24,11 +24,13 @@ pub enum TestFault {
     OutOfMemory,
     /// A file cannot be read.
     Read,
+    /// The report would replace a file that is read.
+    Replaced,
 }
 
 impl TestFault {
     /// Returns the exit status: 1 for the rows or the source, 2 for the map, 3 for memory, 4 for
-    /// reading.
+    /// reading, and for a report that is not written.
     pub fn status(&self) -> u8
         ensures value { result ≡ status_of self.now }
         ensures low { 1 ≤ result }
@@ -38,7 +40,7 @@ impl TestFault {
             TestFault::Rows(_) | TestFault::Source(_) | TestFault::TooLarge => 1,
             TestFault::Map => 2,
             TestFault::OutOfMemory => 3,
-            TestFault::Read => 4,
+            TestFault::Read | TestFault::Replaced => 4,
         }
     }
 

@@ -35,12 +35,13 @@ fn judged(alloc: Global, file: &Prepared) -> Result<Vec<Option<Pair>>, TestFault
 fn run_file<H: Files + AllocGlobal>(
     rt: &H,
     file: &str,
+    report: Option<&str>,
     reports: &mut Reports,
 ) -> Result<bool, FileFault>
     ensures tested { IfOk result IsTested }
     ensures refused { IfErr result (λ fault. EndsTest (fault_in fault)) }
 {
-    let readied = prepare(rt, file)?;
+    let readied = prepare(rt, file, report)?;
     let found = judged(rt.alloc(), &readied)?;
     match tell_file(rt.alloc(), reports, file, &readied, &found) {
         Ok(()) => Ok(all_pass(&found)),
@@ -60,11 +61,13 @@ fn both(first: bool, second: bool) -> bool
 ///
 /// # Errors
 ///
-/// The index of the first file that cannot be tested, and why.
+/// The index of the first file that cannot be tested, and why. A report is written by none of this,
+/// but where it would replace a file that is read, that file is not tested.
 #[tactic(auto, using(crate::proofs::Facts::none_tested, crate::proofs::Facts::one_more, crate::proofs::Facts::all_tested))]
 pub fn run_files<H: Files + AllocGlobal>(
     rt: &H,
     files: &[&str],
+    report: Option<&str>,
     reports: &mut Reports,
 ) -> Result<bool, (usize, FileFault)>
     ensures tested { IfOk result (λ all. AreTested (length files.entry.now) all) }
@@ -72,7 +75,7 @@ pub fn run_files<H: Files + AllocGlobal>(
 {
     let mut all = true;
     for index in 0..files.len() {
-        match run_file(rt, files[index], reports) {
+        match run_file(rt, files[index], report, reports) {
             Ok(passes) => all = both(passes, all),
             Err(fault) => return Err((index, fault)),
         }

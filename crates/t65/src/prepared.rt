@@ -1,6 +1,7 @@
 //! A file of rows with its source, read.
 
-ghost use Rattle.std.specs.Prelude.{◌≡◌, ◌≤◌, ◌<◌, ◌+◌, IfErr, IfOk, Ok, false, length, map};
+ghost use Rattle.std.specs.Prelude.{◌≡◌, ◌≤◌, ◌<◌, ◌+◌, ◌∷◌, [], IfErr, IfOk, Ok, false, length};
+ghost use Rattle.std.specs.Prelude.{map, option_map};
 ghost use Rattle.assembler.specs.Assembly.{IsAssembled};
 ghost use Rattle.model.specs.State.{is_map};
 ghost use Rattle.model.specs.TextLines.{lines_of};
@@ -8,6 +9,7 @@ ghost use Rattle.t65_reader.specs.HeadText.{head_from, head_view};
 ghost use Rattle.t65_reader.specs.RowText.{numbered_view, rows_from};
 ghost use Rattle.t65.specs.Ends.{EndsRows, EndsSource, EndsTest, fault_in};
 ghost use Rattle.t65.specs.Tested.{IsPrepared, map_of};
+ghost use Rattle.t65_words.specs.Asked.{replaces};
 
 use crate::fault::{FileFault, TestFault};
 use crate::names::{read_most, read_rows_text, source_path};
@@ -18,6 +20,7 @@ use source_map::Places;
 use std::alloc::Global;
 use std::rt::Files;
 use t65_reader::{Head, Opened, Row, RowFaultKind, read_head, read_rows};
+use word_streams::is_one_file;
 
 /// A file of rows, its source assembled, and its rows.
 #[derive(Drop)]
@@ -131,18 +134,62 @@ fn rows_in(
     }
 }
 
+/// Lets go on where the report is not to replace a file that is read.
+///
+/// Errors: `Replaced` if both are one file.
+fn spare<H: Files>(rt: &H, path: &str, report: Option<&str>) -> Result<(), TestFault>
+    ensures spared { IfOk result
+        (λ _. replaces (option_map (λ f. f.now) report.entry) (path.now ∷ []) ≡ false) }
+    ensures refused { IfErr result EndsTest }
+{
+    match report {
+        None => Ok(()),
+        Some(report) => {
+            if is_one_file(rt, path, report) {
+                return Err(TestFault::Replaced);
+            }
+            Ok(())
+        }
+    }
+}
+
+/// Returns the source that a file of rows names, assembled, and its places.
+///
+/// Errors: those of `assembled`; `Replaced` if the report would replace the source.
+fn assembled_for<H: Files + AllocGlobal>(
+    rt: &H,
+    path: &str,
+    map: &MapSpec,
+    report: Option<&str>,
+) -> Result<(Assembly, Places), TestFault>
+    ensures assembled { IfOk result (λ found. IsAssembled map.now found.0) }
+    ensures spared { IfOk result
+        (λ _. replaces (option_map (λ f. f.now) report.entry) (path.now ∷ []) ≡ false) }
+    ensures refused { IfErr result (EndsSource map.now) }
+{
+    match spare(rt, path, report) {
+        Ok(()) => assembled(rt, path, map),
+        Err(_) => Err(TestFault::Replaced),
+    }
+}
+
 /// Reads a file of rows, assembles the source that it names, and reads its rows under the names of
-/// the source.
+/// the source. Neither of the two is the report's file.
 #[tactic(auto, using(crate::proofs::Facts::ready, crate::proofs::Ends::map_ends, crate::proofs::Ends::source_ends, crate::proofs::Ends::rows_end))]
-pub fn prepare<H: Files + AllocGlobal>(rt: &H, file: &str) -> Result<Prepared, FileFault>
+pub fn prepare<H: Files + AllocGlobal>(
+    rt: &H,
+    file: &str,
+    report: Option<&str>,
+) -> Result<Prepared, FileFault>
     ensures prepared { IfOk result IsPrepared }
     ensures refused { IfErr result (λ fault. EndsTest (fault_in fault)) }
 {
+    spare(rt, file, report)?;
     let text = read_rows_text(rt, file)?;
     let opened = opened_in(&text)?;
     let map = map_of(opened.head)?;
     let path = source_path(rt.alloc(), file, opened.head.source)?;
-    match assembled(rt, &path, &map) {
+    match assembled_for(rt, &path, &map, report) {
         Ok((assembly, places)) => {
             let rows = rows_in(rt.alloc(), &assembly, opened.next, opened.rest)?;
             Ok(Prepared {

@@ -48,6 +48,7 @@ fn refuse_at<E: Write>(path: &str, fault: TestFault, errors: &mut E) -> u8
         TestFault::Map => writeln!(errors, "mos65: {path}: MAP BadMap 1"),
         TestFault::OutOfMemory => writeln!(errors, "mos65: OutOfMemory"),
         TestFault::Read => writeln!(errors, "mos65: {path}: READ"),
+        TestFault::Replaced => writeln!(errors, "mos65: {path}: the report would replace it"),
     };
     fault.status()
 }
@@ -129,7 +130,7 @@ fn run_words<H: Files + AllocGlobal, O: Write, E: Write>(
     let Ok(mut reports) = Reports::new(rt.alloc()) else {
         return refuse(Refusal::OutOfMemory, errors);
     };
-    match run_files(rt, &words.files, &mut reports) {
+    match run_files(rt, &words.files, words.junit, &mut reports) {
         Ok(all) => match reports.end() {
             Ok(()) => written(rt, words, &reports, all, output, errors),
             Err(_) => refuse(Refusal::OutOfMemory, errors),
@@ -144,8 +145,10 @@ fn run_words<H: Files + AllocGlobal, O: Write, E: Write>(
 /// - 2: the words or a map are wrong. 3: memory ran out. 4: reading or writing failed.
 ///
 /// TAP goes to `output`, when all files were run; and before it the report for JUnit to its file,
-/// if one is asked for. Where a file cannot be tested, a line on `errors` says why, and `output` is
-/// left alone. That a line cannot be written changes no status.
+/// if one is asked for. It replaces no file that was read: where its name is that of a file of rows
+/// the words are wrong, and where it is another name for one, or for a source, the status is 4.
+/// Where a file cannot be tested, a line on `errors` says why, and `output` is left alone. That a
+/// line cannot be written changes no status.
 pub fn test<H: Files + AllocGlobal, O: Write, E: Write>(
     rt: &H,
     words: &[&str],

@@ -1,9 +1,10 @@
 //! The words of `test`.
 
 ghost use Rattle.std.specs.Prelude.{◌≡◌, IfErr, IfOk, None, Some, codes, false, map, option_map};
+ghost use Rattle.std.specs.List.{list_any};
 ghost use Rattle.clap.specs.Words.{app_of, first_value, found_of, kind_of, rule_of};
 ghost use Rattle.program_words.specs.CommandLine.{option_rule};
-ghost use Rattle.t65_words.specs.Asked.{all_values, test_asked, test_of};
+ghost use Rattle.t65_words.specs.Asked.{all_values, has_name, replaces, test_asked, test_of};
 ghost use Rattle.t65_words.specs.CommandLine.{files_rule, test, words_asked};
 ghost use Rattle.t65_words.specs.Views.{test_view};
 ghost use Rattle.word_streams.specs.Words.{Fits, IsRefusalOf};
@@ -18,7 +19,8 @@ use std::alloc::{AllocError, Global};
 pub struct TestWords<'a> {
     /// The files of rows, one at least.
     pub files: Vec<&'a str>,
-    /// The file to write the report for JUnit to, if one is asked for.
+    /// The file to write the report for JUnit to, if one is asked for; its name is that of no file
+    /// of rows.
     pub junit: Option<&'a str>,
 }
 
@@ -68,7 +70,31 @@ fn command<'a>(alloc: Global) -> Result<Command<'a>, Error>
     Ok(command)
 }
 
-/// Returns what files and an option ask for, or `None` if there is no file.
+/// Returns whether a name is among those of files.
+fn is_among(files: &[&str], name: &str) -> bool
+    ensures { result ≡ list_any (has_name name.now) (map (λ f. f.now) files.now) }
+{
+    for file in files {
+        if *file == name {
+            return true;
+        }
+    }
+    false
+}
+
+/// Returns whether the report has the name of a file of rows.
+fn replaces(report: Option<&str>, files: &[&str]) -> bool
+    ensures { result
+        ≡ replaces (option_map (λ f. f.now) report.entry) (map (λ f. f.now) files.now) }
+{
+    match report {
+        None => false,
+        Some(report) => is_among(files, report),
+    }
+}
+
+/// Returns what files and an option ask for, or `None` if there is no file, or the report would
+/// replace one.
 fn test_of<'a>(
     alloc: Global,
     files: &[&'a str],
@@ -77,16 +103,17 @@ fn test_of<'a>(
     ensures { IfOk result (λ w. option_map test_view w
         ≡ test_of (option_map (λ f. f.now) junit.entry) (map (λ f. f.now) files.now)) }
 {
-    match files {
-        [] => Ok(None),
-        [..] => Ok(Some(TestWords {
-            files: Vec::from_slice(alloc, files)?,
-            junit,
-        })),
+    if files.is_empty() || replaces(junit, files) {
+        return Ok(None);
     }
+    Ok(Some(TestWords {
+        files: Vec::from_slice(alloc, files)?,
+        junit,
+    }))
 }
 
-/// Returns what the values that were found ask for, or `None` if no file is among them.
+/// Returns what the values that were found ask for, or `None` if no file is among them, or the
+/// report would replace one.
 fn asked<'a>(alloc: Global, matches: &ArgMatches<'a>) -> Result<Option<TestWords<'a>>, AllocError>
     ensures { IfOk result (λ w. option_map test_view w
         ≡ test_asked (first_value (found_of matches.now)) (all_values (found_of matches.now))) }
@@ -103,7 +130,7 @@ fn asked<'a>(alloc: Global, matches: &ArgMatches<'a>) -> Result<Option<TestWords
 ///
 /// - `Help` if they ask for help, and `Usage` if they do not fit the command line, with `clap`'s
 ///   text.
-/// - `Value` if they name no file.
+/// - `Value` if they name no file, or the report has the name of one.
 /// - `OutOfMemory` if an allocation failed.
 pub fn read_words<'a>(alloc: Global, words: &'a [&'a str]) -> Result<TestWords<'a>, WordsFault>
     ensures asked { IfOk result

@@ -4,6 +4,7 @@ use Rattle.std.specs.Prelude.{◌-◌, codes}
 use Rattle.std.proofs.lemmas.Bool.{cases_Bool}
 use Rattle.std.proofs.lemmas.List.{at_drop_more, at_drop_all, take_all}
 use Rattle.tape_words.specs.Answers.{EndsLine}
+use Rattle.tape_info.specs.declared.wording.TheConstants.{ONLY}
 use Rattle.tape_info.specs.DifferenceRows.{SideView, first_row, goes_on, is_alone, is_within, range_end, range_text, row_text, rows_after, rows_of, told_of}
 
 -- ---- texts, one behind the other
@@ -72,7 +73,7 @@ ends_behind front text ends = (front ++ ends.0, ap (λ (t : List ℕ). front ++ 
 
 range_ends : (side : SideView) (first last : ℕ) → EndsLine (range_text side first last)
 unfolding range_text
-range_ends side first last = ends_behind _ (codes " only\n") (codes " only", refl)
+range_ends side first last = ends_behind _ ONLY.now (codes " only", refl)
 
 first_ends : (one other : SideView) (address : ℕ) (more : List ℕ) → EndsLine (first_row one other address more)
 first_ends one other address more = elim (cases_Bool (is_alone one other address)) [

@@ -6,6 +6,7 @@ use Rattle.model.specs.Image.{cell_at}
 use Rattle.model.specs.declared.instruction.Profile.{Profile}
 use Rattle.tape_words.specs.Answers.{counted}
 use Rattle.tape_words.specs.Instructions.{len_by, row_at, text_by}
+use Rattle.tape_info.specs.declared.wording.TheConstants.{BYTE, BYTES, NO_BYTE, ON, ONLY}
 
 -- ---- the instruction that has a byte
 
@@ -67,7 +68,7 @@ hex_of width number = padded_integral (format_spec 32 0 4 width (2 ^ 64 - 1)) fa
 
 -- A cell as text.
 abbrev pub cell_text : Option ℕ → List ℕ
-cell_text None = codes "--"
+cell_text None = NO_BYTE.now
 cell_text (Some byte) = hex_of 2 byte
 
 -- The byte of a side at an address.
@@ -95,8 +96,7 @@ row_text one other address = hex_of 4 address ++ codes "  " ++ byte_text one add
 -- has, and the side's name.
 unfoldable pub range_text : SideView → ℕ → ℕ → List ℕ
 range_text side first last = hex_of 4 first ++ codes "-" ++ hex_of 4 last ++ codes "  "
-    ++ counted (last - first + 1) (codes "byte") (codes "bytes")
-    ++ codes " on " ++ side.name ++ codes " only\n"
+    ++ counted (last - first + 1) BYTE.now BYTES.now ++ ON.now ++ side.name ++ ONLY.now
 
 -- ---- all rows
 

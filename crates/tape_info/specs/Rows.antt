@@ -9,6 +9,8 @@ use Rattle.tape_info.specs.Facts.{gap_size}
 use Rattle.tape_info.specs.declared.fact_list.Facts.{Facts}
 use Rattle.tape_info.specs.declared.gaps.Gap.{Gap}
 use Rattle.tape_info.specs.declared.ranges.Range.{Range}
+use Rattle.tape_words.specs.declared.wording.TheConstants.{RECORD, RECORDS}
+use Rattle.tape_info.specs.declared.wording.TheConstants.{TAPE_ROW, IN, AND, BYTE, BYTES, RANGE, RANGES, RANGE_ROW, CRC_32, GAP_ROW, NOTHING, NMI_ROW, RESET_ROW, IRQ_ROW, PAGE_0_ROW, PAGE_1_ROW, PORT_ROW}
 
 -- ---- words of the rows
 
@@ -28,25 +30,25 @@ stretch_text words first last
 
 -- How many bytes there are.
 abbrev pub byte_count : ℕ → List ℕ
-byte_count count = counted count (codes "byte") (codes "bytes")
+byte_count count = counted count BYTE.now BYTES.now
 
 -- ---- the tape
 
 -- The first row: how many bytes, ranges and records a tape has.
 abbrev pub tape_row : Facts → ℕ → List ℕ
-tape_row facts records = codes "tape    " ++ counted facts.bytes (codes "byte") (codes "bytes")
-    ++ codes " in " ++ counted (length facts.ranges.items) (codes "range") (codes "ranges")
-    ++ codes " and " ++ counted records (codes "record") (codes "records") ++ 10 ∷ []
+tape_row facts records = TAPE_ROW.now ++ counted facts.bytes BYTE.now BYTES.now
+    ++ IN.now ++ counted (length facts.ranges.items) RANGE.now RANGES.now
+    ++ AND.now ++ counted records RECORD.now RECORDS.now ++ 10 ∷ []
 
 -- ---- ranges and gaps
 
 -- A check sum as eight hex digits behind words.
 unfoldable pub sum_text : ℕ → List ℕ
-sum_text sum = codes "  CRC-32 " ++ hex_digits false 8 sum ++ codes "\n"
+sum_text sum = CRC_32.now ++ hex_digits false 8 sum ++ codes "\n"
 
 -- The row of a range and its check sum: `range   0200-02FF  256 bytes  CRC-32 0123abcd`.
 unfoldable pub range_row : Range × ℕ → List ℕ
-range_row summed = stretch_text (codes "range   ") summed.0.first summed.0.last
+range_row summed = stretch_text RANGE_ROW.now summed.0.first summed.0.last
     ++ byte_count (summed.0.last - summed.0.first + 1) ++ sum_text summed.1
 
 -- A row for each range with its check sum.
@@ -55,7 +57,7 @@ range_rows facts = flat_map range_row (zip facts.ranges.items facts.checksums.it
 
 -- The row of a gap, from the address after the range before it to the one before the range after it.
 abbrev pub known_gap_row : Gap → List ℕ
-known_gap_row gap = stretch_text (codes "gap     ") (gap.after + 1) (gap.before - 1)
+known_gap_row gap = stretch_text GAP_ROW.now (gap.after + 1) (gap.before - 1)
     ++ byte_count (gap_size gap) ++ codes "\n"
 
 -- The row of the largest gap, if there is one.
@@ -67,22 +69,22 @@ gap_row (Some gap) = known_gap_row gap
 
 -- Where a vector points to, and the instruction there as a profile has it.
 abbrev pub target_text : Profile → List (Option ℕ) → Option ℕ → List ℕ
-target_text profile image None = codes "nothing\n"
+target_text profile image None = NOTHING.now ++ codes "\n"
 target_text profile image (Some target) = address_text target ++ codes "  "
     ++ encode_utf8_all (text_by (row_at profile image target)) ++ codes "\n"
 
 -- The rows of the three vectors.
 unfoldable pub vector_rows : Profile → List (Option ℕ) → Facts → List ℕ
 vector_rows profile image facts
-    = (codes "NMI     FFFA  " ++ target_text profile image facts.nmi)
-    ++ (codes "reset   FFFC  " ++ target_text profile image facts.reset)
-    ++ (codes "IRQ     FFFE  " ++ target_text profile image facts.irq)
+    = (NMI_ROW.now ++ target_text profile image facts.nmi)
+    ++ (RESET_ROW.now ++ target_text profile image facts.reset)
+    ++ (IRQ_ROW.now ++ target_text profile image facts.irq)
 
 -- ---- parts of memory
 
 -- How many bytes stand in a part of memory, or `nothing`.
 abbrev pub amount_text : ℕ → List ℕ
-amount_text bytes = (if bytes == 0 then codes "nothing" else byte_count bytes) ++ codes "\n"
+amount_text bytes = (if bytes == 0 then NOTHING.now else byte_count bytes) ++ codes "\n"
 
 -- The row of a part of memory, from one address to another.
 abbrev pub part_row : List ℕ → ℕ → ℕ → ℕ → List ℕ
@@ -90,9 +92,9 @@ part_row words first last bytes = stretch_text words first last ++ amount_text b
 
 -- The rows of page 0, of page 1 and of the port's four addresses.
 unfoldable pub part_rows : ℕ → Facts → List ℕ
-part_rows port facts = part_row (codes "page 0  ") 0 255 facts.in_page_0
-    ++ part_row (codes "page 1  ") 256 511 facts.in_page_1
-    ++ part_row (codes "port    ") port (port + 3) facts.at_port
+part_rows port facts = part_row PAGE_0_ROW.now 0 255 facts.in_page_0
+    ++ part_row PAGE_1_ROW.now 256 511 facts.in_page_1
+    ++ part_row PORT_ROW.now port (port + 3) facts.at_port
 
 -- ---- all rows
 

@@ -1,5 +1,5 @@
 -- What `info` says of a tape. Source: mos65. No clause can say which tape a file has.
-use Rattle.std.specs.Prelude.{◌≡◌, ◌⊎◌, ℕ, List, [], ◌++◌, codes, Option}
+use Rattle.std.specs.Prelude.{◌≡◌, ◌⊎◌, ℕ, List, [], ◌++◌, Option}
 use Rattle.model.specs.State.{memory_of}
 use Rattle.model.specs.Tape.{FirstFault, TapeDenotes}
 use Rattle.model.specs.declared.instruction.Profile.{Profile}
@@ -10,6 +10,7 @@ use Rattle.tape_words.specs.Meanings.{fault_line}
 use Rattle.tape_info.specs.Facts.{bytes_among, checksums_of, data_records, largest_gap, ranges_of, vector_at}
 use Rattle.tape_info.specs.Rows.{rows_of}
 use Rattle.tape_info.specs.declared.fact_list.Facts.{Facts}
+use Rattle.tape_info.specs.declared.wording.TheConstants.{MEND_MENDS_IT}
 
 -- The facts of an image, with those of a map's port.
 pub record AreFacts (image : List (Option ℕ)) (port : ℕ) (f : Facts) : Type 0 where
@@ -49,7 +50,7 @@ IsBeyondMending text = (fault : TapeFault) × FirstFault (mended_text text) faul
 
 -- Whether `mend` mends a text.
 abbrev pub IsHint : List ℕ → List ℕ → Type 0
-IsHint text hint = ((hint ≡ codes "`mend` mends it\n") × IsMendable text)
+IsHint text hint = ((hint ≡ MEND_MENDS_IT.now) × IsMendable text)
     ⊎ ((hint ≡ []) × IsBeyondMending text)
 
 -- The line that says a tape's fault, and whether `mend` mends the tape.

@@ -8,22 +8,28 @@ ghost use Rattle.tape_info.specs.Rows.{sum_text, tape_row, target_text, vector_r
 use crate::fact_list::Facts;
 use crate::gaps::Gap;
 use crate::ranges::Range;
+use crate::wording;
 use memory_map::Image;
 use model::Profile;
 use std::alloc::{AllocError, Global};
-use tape_words::{push_count, push_instruction};
+use tape_words::{RECORD, RECORDS, push_count, push_instruction};
 
 /// Appends the row of the whole tape: how many bytes, ranges and records it has.
 fn push_tape(words: &mut String, facts: &Facts, records: usize) -> Result<(), AllocError>
     ensures { OnOk result
         (string_bytes words.new ≡ string_bytes words.old ++ tape_row facts.now records) }
 {
-    words.push_str("tape    ")?;
-    push_count(words, facts.bytes as u64, "byte", "bytes")?;
-    words.push_str(" in ")?;
-    push_count(words, facts.ranges.len() as u64, "range", "ranges")?;
-    words.push_str(" and ")?;
-    push_count(words, records as u64, "record", "records")?;
+    words.push_str(wording::TAPE_ROW)?;
+    push_count(words, facts.bytes as u64, wording::BYTE, wording::BYTES)?;
+    words.push_str(wording::IN)?;
+    push_count(
+        words,
+        facts.ranges.len() as u64,
+        wording::RANGE,
+        wording::RANGES,
+    )?;
+    words.push_str(wording::AND)?;
+    push_count(words, records as u64, RECORD, RECORDS)?;
     words.push_str("\n")
 }
 
@@ -40,7 +46,7 @@ fn push_stretch(words: &mut String, front: &str, first: u32, last: u32) -> Resul
 fn push_bytes(words: &mut String, count: u64) -> Result<(), AllocError>
     ensures { OnOk result (string_bytes words.new ≡ string_bytes words.old ++ byte_count count) }
 {
-    push_count(words, count, "byte", "bytes")
+    push_count(words, count, wording::BYTE, wording::BYTES)
 }
 
 /// Appends a CRC-32, and ends the row.
@@ -48,7 +54,8 @@ fn push_bytes(words: &mut String, count: u64) -> Result<(), AllocError>
 fn push_sum(words: &mut String, sum: u32) -> Result<(), AllocError>
     ensures { OnOk result (string_bytes words.new ≡ string_bytes words.old ++ sum_text sum) }
 {
-    writeln!(words, "  CRC-32 {sum:08x}")
+    words.push_str(wording::CRC_32)?;
+    writeln!(words, "{sum:08x}")
 }
 
 /// Appends the row of a range: its addresses, its size and its CRC-32.
@@ -57,7 +64,12 @@ fn push_range(words: &mut String, range: Range, sum: u32) -> Result<(), AllocErr
     ensures { OnOk result (string_bytes words.new
         ≡ string_bytes words.old ++ range_row (range, sum)) }
 {
-    push_stretch(words, "range   ", range.first as u32, range.last as u32)?;
+    push_stretch(
+        words,
+        wording::RANGE_ROW,
+        range.first as u32,
+        range.last as u32,
+    )?;
     push_bytes(words, range.last.saturating_sub(range.first) as u64 + 1)?;
     push_sum(words, sum)
 }
@@ -78,7 +90,7 @@ fn push_known_gap(words: &mut String, gap: Gap) -> Result<(), AllocError>
     ensures { OnOk result (string_bytes words.new ≡ string_bytes words.old ++ known_gap_row gap) }
 {
     let last = gap.before.saturating_sub(1);
-    push_stretch(words, "gap     ", gap.after as u32 + 1, last as u32)?;
+    push_stretch(words, wording::GAP_ROW, gap.after as u32 + 1, last as u32)?;
     push_bytes(words, gap.size() as u64)?;
     words.push_str("\n")
 }
@@ -104,7 +116,10 @@ fn push_target(
         ≡ string_bytes words.old ++ target_text profile image.now target) }
 {
     match target {
-        None => words.push_str("nothing\n"),
+        None => {
+            words.push_str(wording::NOTHING)?;
+            words.push_str("\n")
+        }
         Some(target) => {
             write!(words, "{target:04X}  ")?;
             push_instruction(words, profile, image, target)?;
@@ -139,9 +154,9 @@ fn push_vectors(
     ensures { OnOk result (string_bytes words.new
         ≡ string_bytes words.old ++ vector_rows profile image.now facts.now) }
 {
-    push_vector(words, "NMI     FFFA  ", profile, image, facts.nmi)?;
-    push_vector(words, "reset   FFFC  ", profile, image, facts.reset)?;
-    push_vector(words, "IRQ     FFFE  ", profile, image, facts.irq)
+    push_vector(words, wording::NMI_ROW, profile, image, facts.nmi)?;
+    push_vector(words, wording::RESET_ROW, profile, image, facts.reset)?;
+    push_vector(words, wording::IRQ_ROW, profile, image, facts.irq)
 }
 
 /// Appends how many bytes stand in a part of memory, and ends the row.
@@ -149,7 +164,8 @@ fn push_amount(words: &mut String, bytes: u32) -> Result<(), AllocError>
     ensures { OnOk result (string_bytes words.new ≡ string_bytes words.old ++ amount_text bytes) }
 {
     if bytes == 0 {
-        words.push_str("nothing\n")
+        words.push_str(wording::NOTHING)?;
+        words.push_str("\n")
     } else {
         push_bytes(words, bytes as u64)?;
         words.push_str("\n")
@@ -177,11 +193,11 @@ fn push_parts(words: &mut String, port: u16, facts: &Facts) -> Result<(), AllocE
     ensures { OnOk result (string_bytes words.new
         ≡ string_bytes words.old ++ part_rows port facts.now) }
 {
-    push_part(words, "page 0  ", 0x0000, 0x00ff, facts.in_page_0)?;
-    push_part(words, "page 1  ", 0x0100, 0x01ff, facts.in_page_1)?;
+    push_part(words, wording::PAGE_0_ROW, 0x0000, 0x00ff, facts.in_page_0)?;
+    push_part(words, wording::PAGE_1_ROW, 0x0100, 0x01ff, facts.in_page_1)?;
     push_part(
         words,
-        "port    ",
+        wording::PORT_ROW,
         port as u32,
         port as u32 + 3,
         facts.at_port,

@@ -19,6 +19,7 @@ mod gaps;
 mod ranges;
 mod row_text;
 mod run;
+mod wording;
 
 pub use checksum::crc_32;
 pub use compare::tape_cmp;

@@ -7,6 +7,7 @@ ghost use Rattle.tape_info.specs.DifferenceRows.{range_text, row_text, rows_of, 
 ghost use Rattle.tape_info.specs.Sides.{side_view};
 ghost use Rattle.tape_words.specs.Answers.{EndsLine};
 
+use crate::wording;
 use memory_map::Image;
 use model::Profile;
 use std::alloc::{AllocError, Global};
@@ -84,7 +85,7 @@ impl<'a> Side<'a> {
     {
         match self.image.get(address) {
             Some(byte) => write!(words, "{byte:02X}"),
-            None => words.push_str("--"),
+            None => words.push_str(wording::NO_BYTE),
         }
     }
 
@@ -142,10 +143,10 @@ fn push_range(words: &mut String, side: &Side<'_>, first: u16, last: u16) -> Res
     push_address(words, last)?;
     words.push_str("  ")?;
     let count = last.saturating_sub(first) as u32 + 1;
-    push_count(words, count as u64, "byte", "bytes")?;
-    words.push_str(" on ")?;
+    push_count(words, count as u64, wording::BYTE, wording::BYTES)?;
+    words.push_str(wording::ON)?;
     words.push_str(side.name)?;
-    words.push_str(" only\n")?;
+    words.push_str(wording::ONLY)?;
     Ok(())
 }
 

@@ -14,6 +14,7 @@ ghost use Rattle.word_streams.specs.Words.{AsksForHelp, Fits, Misfits};
 
 use crate::fact_list::{data_records, facts_of};
 use crate::fact_text::image_text;
+use crate::wording;
 use memory_map::{Image, MapSpec};
 use model::{TapeFault, TapeFaultKind};
 use papertape::read_tape;
@@ -47,7 +48,7 @@ fn mend_hint(alloc: Global, text: &[u8]) -> Result<&'static str, AllocError>
     ensures { IfOk result (λ hint. IsHint text.now hint.now) }
 {
     match mend_text(alloc, text) {
-        Ok(_) => Ok("`mend` mends it\n"),
+        Ok(_) => Ok(wording::MEND_MENDS_IT),
         Err(fault) => match fault.kind {
             TapeFaultKind::OutOfMemory => Err(AllocError),
             _ => Ok(""),

@@ -1,5 +1,6 @@
 -- What is found of a text where something is wrong.
 use Rattle.std.proofs.Common.{◌≡◌, ◌≢◌, ◌<◌, ◌≤◌, ◌+◌, ◌-◌, ◌++◌, ◌∙◌, ℕ, Result, Ok, Err, OnOk, append_assoc, Bool, true, false, List, [], ◌∷◌, drop, length, slice_index, if◌then◌else◌, ◌==◌, refl, sym, ap, inl, inr, arith, add-one, drop-cons}
+use Rattle.std.specs.Prelude.{is_ok}
 use Rattle.std.proofs.lemmas.Bool.{cases_Bool}
 use Rattle.std.proofs.lemmas.Bool.Decides.{eqb_tells, leb_tells}
 use Rattle.std.specs.List.{list_any}
@@ -122,12 +123,13 @@ found_last bytes i last whole past so_far =
     let ended : drop i bytes ≡ [] = drop_of_length-le bytes past in
     rw ended at so_far
 
--- ---- three texts, one after another
+-- ---- four texts, one after another
 
-pub three_put : {X E : Type 0} (result : Result X E) (old one two new first second third : List ℕ) → one ≡ old ++ first → two ≡ one ++ second
-    → OnOk result (new ≡ two ++ third) → OnOk result (new ≡ old ++ (first ++ (second ++ third)))
-three_put (Ok done) old one two new first second third f s is = is ∙ rw (s, f) (append_assoc (old ++ first) second third ∙ append_assoc old first (second ++ third))
-three_put (Err fault) old one two new first second third f s is = tt
+pub four_put : {X E : Type 0} (result : Result X E) (old one two three new first second third fourth : List ℕ) → one ≡ old ++ first → two ≡ one ++ second
+    → three ≡ two ++ third → new ≡ (if is_ok result then three ++ fourth else three) → OnOk result (new ≡ old ++ (first ++ (second ++ (third ++ fourth))))
+four_put (Ok done) old one two three new first second third fourth f s t is =
+    is ∙ rw (t, s, f) (append_assoc ((old ++ first) ++ second) third fourth ∙ (append_assoc (old ++ first) second (third ++ fourth) ∙ append_assoc old first (second ++ (third ++ fourth))))
+four_put (Err fault) old one two three new first second third fourth f s t is = tt
 
 -- ---- the place of a fault
 

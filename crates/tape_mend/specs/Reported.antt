@@ -11,6 +11,8 @@ use Rattle.tape_words.specs.Meanings.{there_text}
 use Rattle.tape_words.specs.Records.{end_record}
 use Rattle.tape_words.specs.declared.records.EndRecord.{EndRecord}
 use Rattle.tape_words.specs.declared.records.EndRecord.TheVariants.{Missing, Right, CountTwice, WrongSum, WrongCount}
+use Rattle.tape_words.specs.declared.wording.TheConstants.{COUNT_TWICE, RECORD, RECORDS}
+use Rattle.tape_mend.specs.declared.wording.TheConstants.{LINE_END_WITHIN, LINE_ENDS_WITHIN, END_RECORD_WAS_MISSING, SUM_WAS_WRONG, END_RECORD_COUNTED}
 
 -- How many line ends, $00 and $13 of a text are followed by a byte that is none of these and no
 -- `;`, if so many come directly before the text.
@@ -45,18 +47,17 @@ end_of bytes = if is_end (last_record bytes)
     then end_record (last_record bytes) 0 (data_records bytes) else Missing
 
 abbrev pub within_text : ℕ → List ℕ
-within_text count = if count == 0 then [] else counted count
-    (codes "line end or NUL within a record\n") (codes "line ends or NULs within records\n")
+within_text count = if count == 0 then []
+    else counted count LINE_END_WITHIN.now LINE_ENDS_WITHIN.now
 
 -- What was wrong with an end record, after so many data records.
 abbrev pub end_text : EndRecord → ℕ → List ℕ
 end_text Right records = []
-end_text Missing records = codes "end record: it was missing\n"
-end_text CountTwice records
-    = codes "end record: the sum is the record count twice, as srec_cat writes it\n"
-end_text WrongSum records = codes "end record: its sum was wrong\n"
-end_text (WrongCount count) records = codes "end record: it counted "
-    ++ (counted count (codes "record") (codes "records") ++ (there_text records ++ 10 ∷ []))
+end_text Missing records = END_RECORD_WAS_MISSING.now
+end_text CountTwice records = COUNT_TWICE.now ++ codes "\n"
+end_text WrongSum records = SUM_WAS_WRONG.now
+end_text (WrongCount count) records = END_RECORD_COUNTED.now
+    ++ (counted count RECORD.now RECORDS.now ++ (there_text records ++ 10 ∷ []))
 
 -- A line for each thing that was wrong with a text.
 abbrev pub faults_text : List ℕ → List ℕ

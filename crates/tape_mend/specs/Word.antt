@@ -1,6 +1,6 @@
 -- What `mend` has done. Source: mos65. No clause can say which tape a file has, nor that OUT has
 -- the mended text.
-use Rattle.std.specs.Prelude.{◌≡◌, ⊤, ℕ, Bool, true, false, List, Option, Some, None, codes, string_bytes}
+use Rattle.std.specs.Prelude.{◌≡◌, ⊤, ℕ, Bool, true, false, List, Option, Some, None, string_bytes}
 use Rattle.clap.specs.Words.{Text}
 use Rattle.model.specs.Tape.{FirstFault, TapeDenotes}
 use Rattle.model.specs.declared.tape.TapeFault.{TapeFault}
@@ -15,10 +15,11 @@ use Rattle.tape_words.specs.declared.answer.Answer.{Answer}
 use Rattle.tape_words.specs.declared.refusal.Refusal.{Refusal}
 use Rattle.tape_words.specs.declared.refusal.Refusal.TheVariants.{Words, Map, Tape, OutOfMemory, Read, Write}
 use Rattle.word_streams.specs.Words.{Fits}
+use Rattle.tape_mend.specs.declared.wording.TheConstants.{NOTHING_WAS_WRONG}
 
 -- What is said of a text that had this first fault, or none.
 abbrev pub IsReport : List ℕ → Option TapeFault → List ℕ → Type 0
-IsReport text None said = said ≡ codes "nothing was wrong\n"
+IsReport text None said = said ≡ NOTHING_WAS_WRONG.now
 IsReport text (Some fault) said = said ≡ faults_text text
 
 -- What is said of a tape that is mended.

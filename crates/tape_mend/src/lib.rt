@@ -9,6 +9,7 @@ mod mending;
 mod parts;
 mod reporting;
 mod run;
+mod wording;
 
 pub use mending::{Mended, mend_text};
 pub use run::tape_mend;

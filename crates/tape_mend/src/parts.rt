@@ -1,15 +1,14 @@
 //! The parts of a mended tape.
 
 ghost use Rattle.std.specs.Prelude.{◌≡◌, ◌++◌, ◌∷◌, [], IfOk};
-ghost use Rattle.std.specs.List.{list_all};
 ghost use Rattle.hex.specs.Hex.{encode_upper};
-ghost use Rattle.model.specs.Digits.{is_hex_byte};
 ghost use Rattle.model.specs.TapeText.{end_line};
 ghost use Rattle.tape_mend.specs.Mending.{before_end, is_at_end, is_end_record, is_kept, kept};
 ghost use Rattle.tape_mend.specs.Mending.{records_in, with_line_ends};
 
 use formatting::digits_of;
 use std::alloc::{AllocError, Global};
+use tape_words::are_digits;
 
 /// Returns whether a byte is neither a line end, $00 nor $13.
 pub fn is_kept(byte: u8) -> bool
@@ -30,17 +29,6 @@ pub fn kept_of(alloc: Global, text: &[u8]) -> Result<Vec<u8>, AllocError>
         }
     }
     Ok(kept)
-}
-
-/// Returns whether all of some bytes are hex digits.
-fn are_digits(bytes: &[u8]) -> bool
-    ensures { result ≡ list_all is_hex_byte bytes.now }
-{
-    let mut all = true;
-    for byte in bytes {
-        all &= byte.is_ascii_hexdigit();
-    }
-    all
 }
 
 /// Returns whether some bytes are an end record, whatever it says.

@@ -1,16 +1,19 @@
 //! What was mended, in words.
 
-ghost use Rattle.std.specs.Prelude.{◌≡◌, ◌++◌, ◌∷◌, [], IfOk, OnOk, codes, string_bytes};
+ghost use Rattle.std.specs.Prelude.{◌≡◌, ◌++◌, ◌∷◌, [], IfOk, OnOk, string_bytes};
 ghost use Rattle.tape_mend.specs.Reported.{data_records, end_of, end_text, faults_text, is_end};
 ghost use Rattle.tape_mend.specs.Reported.{last_record, within_records, within_text};
 ghost use Rattle.tape_mend.specs.Word.{IsReport};
+ghost use Rattle.tape_mend.specs.declared.wording.TheConstants.{END_RECORD_COUNTED};
+ghost use Rattle.tape_words.specs.declared.wording.TheConstants.{RECORD, RECORDS};
 ghost use Rattle.tape_words.specs.Answers.{counted};
 ghost use Rattle.tape_words.specs.Meanings.{there_text};
 
 use crate::mending::Mended;
 use crate::parts::{is_kept, kept_of, records_in};
+use crate::wording;
 use std::alloc::{AllocError, Global};
-use tape_words::{EndRecord, end_record, push_count};
+use tape_words::{COUNT_TWICE, EndRecord, RECORD, RECORDS, end_record, push_count, push_there};
 
 /// Returns how many line ends, $00 and $13 stand within the records of a text.
 fn within_records(text: &[u8]) -> usize
@@ -86,29 +89,21 @@ fn push_within(words: &mut String, count: usize) -> Result<(), AllocError>
     push_count(
         words,
         count as u64,
-        "line end or NUL within a record\n",
-        "line ends or NULs within records\n",
+        wording::LINE_END_WITHIN,
+        wording::LINE_ENDS_WITHIN,
     )
-}
-
-/// Appends how many data records there are, and a line end.
-fn push_there(words: &mut String, records: usize) -> Result<(), AllocError>
-    ensures { OnOk result (string_bytes words.new
-        ≡ string_bytes words.old ++ (there_text records ++ 10 ∷ [])) }
-{
-    let are = if records == 1 { "is" } else { "are" };
-    writeln!(words, ", and there {are} {records}")
 }
 
 /// Appends how many data records an end record counted, and how many there are.
 fn push_counts(words: &mut String, count: u64, records: usize) -> Result<(), AllocError>
     ensures { OnOk result (string_bytes words.new ≡ string_bytes words.old
-        ++ (codes "end record: it counted " ++ (counted count (codes "record") (codes "records")
+        ++ (END_RECORD_COUNTED.now ++ (counted count RECORD.now RECORDS.now
         ++ (there_text records ++ 10 ∷ [])))) }
 {
-    words.push_str("end record: it counted ")?;
-    push_count(words, count, "record", "records")?;
-    push_there(words, records)
+    words.push_str(wording::END_RECORD_COUNTED)?;
+    push_count(words, count, RECORD, RECORDS)?;
+    push_there(words, records)?;
+    words.push_str("\n")
 }
 
 /// Appends what was wrong with an end record, if anything was.
@@ -118,11 +113,12 @@ fn push_end(words: &mut String, end: EndRecord, records: usize) -> Result<(), Al
 {
     match end {
         EndRecord::Right => Ok(()),
-        EndRecord::Missing => words.push_str("end record: it was missing\n"),
-        EndRecord::CountTwice => words.push_str(
-            "end record: the sum is the record count twice, as srec_cat writes it\n",
-        ),
-        EndRecord::WrongSum => words.push_str("end record: its sum was wrong\n"),
+        EndRecord::Missing => words.push_str(wording::END_RECORD_WAS_MISSING),
+        EndRecord::CountTwice => {
+            words.push_str(COUNT_TWICE)?;
+            words.push_str("\n")
+        }
+        EndRecord::WrongSum => words.push_str(wording::SUM_WAS_WRONG),
         EndRecord::WrongCount(count) => push_counts(words, count as u64, records),
     }
 }
@@ -147,7 +143,7 @@ pub fn report(alloc: Global, text: &[u8], mended: &Mended) -> Result<String, All
     match mended.fault {
         None => {
             let mut words = String::new(alloc);
-            words.push_str("nothing was wrong\n")?;
+            words.push_str(wording::NOTHING_WAS_WRONG)?;
             Ok(words)
         }
         Some(_) => faults_text(alloc, text),

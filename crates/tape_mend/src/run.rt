@@ -22,6 +22,7 @@ use tape_words::{
     Answer, MendWords, Refusal, answered, fault_text, read_mend_words, read_text, refused_words,
     write_file,
 };
+use word_streams::is_one_file;
 
 /// Returns how many bytes of a mended text come directly before a byte: CR LF before each `;` but
 /// the first byte.
@@ -103,7 +104,8 @@ fn not_mended(
     }
 }
 
-/// Writes OUT, and returns what is said of a tape that is mended.
+/// Writes OUT, and returns what is said of a tape that is mended. If OUT is the tape under another
+/// name, nothing is written.
 fn put_out<H: Files + AllocGlobal>(
     rt: &H,
     words: &MendWords<'_>,
@@ -119,6 +121,9 @@ fn put_out<H: Files + AllocGlobal>(
     let Ok(said) = report(rt.alloc(), text, mended) else {
         return Err(Refusal::OutOfMemory);
     };
+    if is_one_file(rt, words.tape, words.out) {
+        return Err(Refusal::Write);
+    }
     match write_file(rt, words.out, &mended.text) {
         Ok(()) => Ok(Answer {
             text: said,
@@ -154,10 +159,14 @@ fn done<H: Files + AllocGlobal>(rt: &H, words: &MendWords<'_>) -> Result<Answer,
     }
 }
 
-/// Does what the words after `mend` ask for, and returns the exit status: 0 if OUT was written, 1
-/// if more is wrong with the tape, 2 if the words are wrong, 3 if memory ran out, 4 if reading or
-/// writing failed. What was mended, or what is wrong, goes to `output`. For 2 and above a line on
-/// `errors` says why; that it cannot be written changes no status.
+/// Does what the words after `mend` ask for, and returns the exit status.
+///
+/// - 0: OUT was written. 1: more is wrong with the tape.
+/// - 2: the words are wrong. 3: memory ran out.
+/// - 4: reading or writing failed, or OUT is the tape under another name.
+///
+/// What was mended, or what is wrong, goes to `output`. For 2 and above a line on `errors` says
+/// why; that it cannot be written changes no status.
 pub fn tape_mend<H: Files + AllocGlobal, O: Write, E: Write>(
     rt: &H,
     words: &[&str],

@@ -7,7 +7,7 @@ use Rattle.model.specs.Digits.{is_hex_byte}
 use Rattle.model.specs.Tape.{Claim, claim_of, needed}
 use Rattle.tape_words.specs.declared.records.EndRecord.{EndRecord}
 use Rattle.tape_words.specs.declared.records.EndRecord.TheVariants.{Missing, Right, CountTwice, WrongSum, WrongCount}
-use Rattle.tape_words.specs.declared.records.Said.{Said}
+use Rattle.tape_words.specs.declared.records.RecordNumbers.{RecordNumbers}
 
 -- The digits of a record that begin a text, as many as the first two say, or all that is there.
 abbrev pub digits_in_front : List ℕ → List ℕ
@@ -28,29 +28,29 @@ claim_in_front text = claim_if_all (digits_in_front text)
 abbrev pub claim_at : List ℕ → ℕ → Option Claim
 claim_at text place = claim_in_front (drop (place + 1) text)
 
--- A claim without the data.
-abbrev pub said_of : Claim → Said
-said_of claim = record {
+-- The numbers of a claim, without the data.
+abbrev pub numbers_of : Claim → RecordNumbers
+numbers_of claim = record {
   length = claim.length;
   address = claim.address;
   sum = claim.sum;
   checksum = claim.checksum;
 }
 
--- What a record says whose `;` stands at a place.
-abbrev pub said_at : List ℕ → ℕ → Option Said
-said_at text place = option_map said_of (claim_at text place)
+-- The numbers of a record whose `;` stands at a place.
+abbrev pub numbers_at : List ℕ → ℕ → Option RecordNumbers
+numbers_at text place = option_map numbers_of (claim_at text place)
 
--- What is to be said of an end record after so many data records, by what it says: that its sum is
+-- What is to be said of an end record after so many data records, by its numbers: that its sum is
 -- right, and whether it counts the records; that it has their number again in place of its sum;
 -- that its sum is wrong otherwise.
-abbrev pub end_by : ℕ → Option Said → EndRecord
+abbrev pub end_by : ℕ → Option RecordNumbers → EndRecord
 end_by records None = Missing
-end_by records (Some said) = if said.sum == said.checksum
-    then (if said.address == records then Right else WrongCount said.address)
-    else if (said.address == records) && (said.checksum == said.address) then CountTwice
+end_by records (Some numbers) = if numbers.sum == numbers.checksum
+    then (if numbers.address == records then Right else WrongCount numbers.address)
+    else if (numbers.address == records) && (numbers.checksum == numbers.address) then CountTwice
     else WrongSum
 
 -- What is to be said of the end record whose `;` stands at a place.
 abbrev pub end_record : List ℕ → ℕ → ℕ → EndRecord
-end_record text place records = end_by records (said_at text place)
+end_record text place records = end_by records (numbers_at text place)

@@ -12,13 +12,16 @@ mod meanings;
 mod records;
 mod refusal;
 mod tape_faults;
+mod wording;
 mod words;
 
 pub use answer::{Answer, answered, refused, refused_words};
 pub use files::{image_of, read_text, write_file};
 pub use instruction::{instruction_len, push_count, push_instruction};
+pub use meanings::push_there;
 pub use program_words::WordsFault;
-pub use records::{EndRecord, end_record};
+pub use records::{EndRecord, are_digits, end_record};
 pub use refusal::Refusal;
 pub use tape_faults::fault_text;
+pub use wording::{COUNT_TWICE, RECORD, RECORDS};
 pub use words::{CmpWords, InfoWords, MendWords, read_cmp_words, read_info_words, read_mend_words};

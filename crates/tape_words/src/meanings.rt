@@ -8,7 +8,8 @@ ghost use Rattle.tape_words.specs.Meanings.{records_before, sum_text, sums_text,
 ghost use Rattle.tape_words.specs.Meanings.{truncated_text, within_text};
 
 use crate::instruction::push_count;
-use crate::records::{EndRecord, Said, end_of, said_at};
+use crate::records::{EndRecord, RecordNumbers, end_of, numbers_at};
+use crate::wording;
 use model::{TapeFault, TapeFaultKind};
 use std::alloc::AllocError;
 
@@ -59,81 +60,111 @@ fn push_byte(words: &mut String, byte: u8) -> Result<(), AllocError>
 
 /// Appends the sum of a record behind words, and its checksum.
 #[tactic(auto, unfolding(crate::specs::Meanings::sums_text))]
-fn push_sums(words: &mut String, front: &str, said: Said) -> Result<(), AllocError>
+fn push_sums(words: &mut String, front: &str, numbers: RecordNumbers) -> Result<(), AllocError>
     ensures { OnOk result (string_bytes words.new
-        ≡ string_bytes words.old ++ sums_text front.now said) }
+        ≡ string_bytes words.old ++ sums_text front.now numbers) }
 {
-    push_word(words, front, said.sum)?;
-    push_word(words, ", and its checksum is ", said.checksum)
+    push_word(words, front, numbers.sum)?;
+    push_word(words, wording::ITS_CHECKSUM_IS, numbers.checksum)
 }
 
 /// Appends what the sum of an end record is that its checksum does not have.
-fn push_end_sum(words: &mut String, end: EndRecord, said: Said) -> Result<(), AllocError>
+fn push_end_sum(
+    words: &mut String,
+    end: EndRecord,
+    numbers: RecordNumbers,
+) -> Result<(), AllocError>
     ensures { OnOk result (string_bytes words.new
-        ≡ string_bytes words.old ++ end_sum_text end said) }
+        ≡ string_bytes words.old ++ end_sum_text end numbers) }
 {
     match end {
-        EndRecord::CountTwice => {
-            words.push_str("end record: the sum is the record count twice, as srec_cat writes it")
-        }
-        EndRecord::Missing => push_sums(words, "end record: its bytes sum to ", said),
-        EndRecord::Right => push_sums(words, "end record: its bytes sum to ", said),
-        EndRecord::WrongSum => push_sums(words, "end record: its bytes sum to ", said),
-        EndRecord::WrongCount(_) => push_sums(words, "end record: its bytes sum to ", said),
+        EndRecord::CountTwice => words.push_str(wording::COUNT_TWICE),
+        EndRecord::Missing => push_sums(words, wording::END_RECORD_SUMS_TO, numbers),
+        EndRecord::Right => push_sums(words, wording::END_RECORD_SUMS_TO, numbers),
+        EndRecord::WrongSum => push_sums(words, wording::END_RECORD_SUMS_TO, numbers),
+        EndRecord::WrongCount(_) => push_sums(words, wording::END_RECORD_SUMS_TO, numbers),
     }
 }
 
 /// Appends what a record's sum is that its checksum does not have, after so many data records.
-fn push_known_sum(words: &mut String, records: usize, said: Said) -> Result<(), AllocError>
+fn push_known_sum(
+    words: &mut String,
+    records: usize,
+    numbers: RecordNumbers,
+) -> Result<(), AllocError>
     ensures { OnOk result (string_bytes words.new
-        ≡ string_bytes words.old ++ known_sum_text records said) }
+        ≡ string_bytes words.old ++ known_sum_text records numbers) }
 {
-    if said.length > 0 {
-        push_sums(words, "the record's bytes sum to ", said)
+    if numbers.length > 0 {
+        push_sums(words, wording::RECORD_SUMS_TO, numbers)
     } else {
-        push_end_sum(words, end_of(Some(said), records), said)
+        push_end_sum(words, end_of(Some(numbers), records), numbers)
     }
 }
 
 /// Appends the same, if all digits of the record are there.
-fn push_sum(words: &mut String, records: usize, said: Option<Said>) -> Result<(), AllocError>
+fn push_sum(
+    words: &mut String,
+    records: usize,
+    numbers: Option<RecordNumbers>,
+) -> Result<(), AllocError>
     ensures { OnOk result (string_bytes words.new
-        ≡ string_bytes words.old ++ sum_text records said) }
+        ≡ string_bytes words.old ++ sum_text records numbers) }
 {
-    match said {
-        None => words.push_str("the record's sum is wrong"),
-        Some(said) => push_known_sum(words, records, said),
+    match numbers {
+        None => words.push_str(wording::SUM_IS_WRONG),
+        Some(numbers) => push_known_sum(words, records, numbers),
     }
 }
 
-/// Appends how many records there are.
-fn push_there(words: &mut String, records: usize) -> Result<(), AllocError>
+/// Appends how many records there are, behind how many an end record counts.
+///
+/// Errors: `AllocError` if an allocation fails.
+pub fn push_there(words: &mut String, records: usize) -> Result<(), AllocError>
     ensures { OnOk result (string_bytes words.new
         ≡ string_bytes words.old ++ there_text records) }
 {
-    let are = if records == 1 { "is" } else { "are" };
-    write!(words, ", and there {are} {records}")
+    let are = if records == 1 {
+        wording::IS
+    } else {
+        wording::ARE
+    };
+    let there = wording::AND_THERE;
+    write!(words, "{there}{are} {records}")
 }
 
 /// Appends how many records an end record counts, and how many there are.
-fn push_known_counts(words: &mut String, records: usize, said: Said) -> Result<(), AllocError>
+fn push_known_counts(
+    words: &mut String,
+    records: usize,
+    numbers: RecordNumbers,
+) -> Result<(), AllocError>
     ensures { OnOk result (string_bytes words.new
-        ≡ string_bytes words.old ++ known_count_text records said) }
+        ≡ string_bytes words.old ++ known_count_text records numbers) }
 {
-    words.push_str("end record: it counts ")?;
-    push_count(words, said.address as u64, "record", "records")?;
+    words.push_str(wording::END_RECORD_COUNTS)?;
+    push_count(
+        words,
+        numbers.address as u64,
+        wording::RECORD,
+        wording::RECORDS,
+    )?;
     push_there(words, records)?;
     Ok(())
 }
 
 /// Appends the same, if all digits of the end record are there.
-fn push_counts(words: &mut String, records: usize, said: Option<Said>) -> Result<(), AllocError>
+fn push_counts(
+    words: &mut String,
+    records: usize,
+    numbers: Option<RecordNumbers>,
+) -> Result<(), AllocError>
     ensures { OnOk result (string_bytes words.new
-        ≡ string_bytes words.old ++ count_text records said) }
+        ≡ string_bytes words.old ++ count_text records numbers) }
 {
-    match said {
-        None => words.push_str("end record: it counts another number of records"),
-        Some(said) => push_known_counts(words, records, said),
+    match numbers {
+        None => words.push_str(wording::COUNTS_ANOTHER),
+        Some(numbers) => push_known_counts(words, records, numbers),
     }
 }
 
@@ -143,22 +174,22 @@ fn push_within(words: &mut String, byte: u8) -> Result<(), AllocError>
         ≡ string_bytes words.old ++ within_text byte) }
 {
     match byte {
-        0 | b'\r' | b'\n' | 0x13 => words.push_str("a line end or a NUL stands within a record"),
+        0 | b'\r' | b'\n' | 0x13 => words.push_str(wording::LINE_END_WITHIN),
         _ => {
             push_byte(words, byte)?;
-            words.push_str(" stands within a record, and is no hex digit")
+            words.push_str(wording::IS_NO_HEX_DIGIT)
         }
     }
 }
 
 /// Appends how a text ends too soon: in its last record, or with no end record.
-fn push_truncated(words: &mut String, last: Option<Said>) -> Result<(), AllocError>
+fn push_truncated(words: &mut String, last: Option<RecordNumbers>) -> Result<(), AllocError>
     ensures { OnOk result (string_bytes words.new
         ≡ string_bytes words.old ++ truncated_text last) }
 {
     match last {
-        Some(_) => words.push_str("end record: it is missing"),
-        None => words.push_str("the tape ends within a record"),
+        Some(_) => words.push_str(wording::END_RECORD_IS_MISSING),
+        None => words.push_str(wording::ENDS_WITHIN_RECORD),
     }
 }
 
@@ -179,25 +210,19 @@ pub fn push_meaning(words: &mut String, text: &[u8], fault: TapeFault) -> Result
     let place = fault.offset as usize;
     let byte = text.get(place).copied().unwrap_or(0);
     match fault.kind {
-        TapeFaultKind::NoRecord => words.push_str("there is no record"),
+        TapeFaultKind::NoRecord => words.push_str(wording::NO_RECORD),
         TapeFaultKind::BadHex => push_within(words, byte),
         TapeFaultKind::BadChecksum => {
-            push_sum(words, records_before(text, place), said_at(text, place))
+            push_sum(words, records_before(text, place), numbers_at(text, place))
         }
-        TapeFaultKind::PastEnd => words.push_str("the record goes past address FFFF"),
-        TapeFaultKind::Truncated => push_truncated(words, said_at(text, last_record(text))),
+        TapeFaultKind::PastEnd => words.push_str(wording::PAST_END),
+        TapeFaultKind::Truncated => push_truncated(words, numbers_at(text, last_record(text))),
         TapeFaultKind::BadCount => {
-            push_counts(words, records_before(text, place), said_at(text, place))
+            push_counts(words, records_before(text, place), numbers_at(text, place))
         }
-        TapeFaultKind::JunkAfterEnd => push_other(words, byte, " comes after the end record"),
-        TapeFaultKind::JunkBetween => {
-            push_other(
-                words,
-                byte,
-                " stands where a record may begin, and is no `;`",
-            )
-        }
-        TapeFaultKind::OutOfMemory => words.push_str("out of memory"),
-        TapeFaultKind::TooLong => words.push_str("the file is too long"),
+        TapeFaultKind::JunkAfterEnd => push_other(words, byte, wording::AFTER_END_RECORD),
+        TapeFaultKind::JunkBetween => push_other(words, byte, wording::IS_NO_SEMICOLON),
+        TapeFaultKind::OutOfMemory => words.push_str(wording::OUT_OF_MEMORY),
+        TapeFaultKind::TooLong => words.push_str(wording::TOO_LONG),
     }
 }

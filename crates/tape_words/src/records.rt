@@ -5,23 +5,21 @@ ghost use Rattle.std.specs.List.{list_all};
 ghost use Rattle.std.specs.Option.{option_map};
 ghost use Rattle.model.specs.Digits.{digit_value, is_hex_byte};
 ghost use Rattle.model.specs.Tape.{AreAllDigits, bytes_of_digits, claim_of, needed};
-ghost use Rattle.tape_words.specs.Records.{claim_in_front, end_by, end_record, said_at, said_of};
+ghost use Rattle.tape_words.specs.Records.{claim_in_front, end_by, end_record};
+ghost use Rattle.tape_words.specs.Records.{numbers_at, numbers_of};
+
+use formatting::hex_value;
 
 /// Returns the value of a hex digit; 0 for a byte that is none.
 fn digit_value(byte: u8) -> u32
     ensures value { result ≡ digit_value byte }
     ensures small { result ≤ 15 }
 {
-    match byte {
-        b'0'..=b'9' => (byte - b'0') as u32,
-        b'A'..=b'F' => (byte - b'A') as u32 + 10,
-        b'a'..=b'f' => (byte - b'a') as u32 + 10,
-        _ => 0,
-    }
+    hex_value(byte).unwrap_or(0) as u32
 }
 
 /// Returns whether all of some bytes are hex digits.
-fn are_digits(bytes: &[u8]) -> bool
+pub fn are_digits(bytes: &[u8]) -> bool
     ensures { result ≡ list_all is_hex_byte bytes.now }
 {
     let mut all = true;
@@ -74,9 +72,9 @@ fn sum_of(digits: &[u8], count: usize) -> u32
     sum
 }
 
-/// What the digits of a record say.
+/// The numbers that the digits of a record write, without its data.
 #[derive(Clone, Copy)]
-pub struct Said {
+pub struct RecordNumbers {
     /// How many bytes of data.
     pub length: u32,
     /// The address, or the number of records in an end record.
@@ -86,15 +84,15 @@ pub struct Said {
     pub checksum: u32,
 }
 
-/// Returns what a record says that has these digits.
+/// Returns the numbers of a record that has these digits.
 #[tactic(auto, unfolding(model::specs::Tape::claim_of))]
-fn said_of(digits: &[u8]) -> Said
+fn numbers_of(digits: &[u8]) -> RecordNumbers
     requires { AreAllDigits digits.now }
-    ensures { result ≡ said_of (claim_of digits.now) }
+    ensures { result ≡ numbers_of (claim_of digits.now) }
 {
     let length = byte_at(digits, 0);
     let before = 3 + length as usize;
-    Said {
+    RecordNumbers {
         length,
         address: word_at(digits, 1),
         sum: sum_of(digits, before) % 65536,
@@ -119,10 +117,10 @@ fn behind(text: &[u8], place: usize) -> &[u8]
     without_first(text.split_at(place.min(text.len())).1)
 }
 
-/// Returns what a record says whose digits begin a text, if they are all there.
+/// Returns the numbers of a record whose digits begin a text, if they are all there.
 #[tactic(auto, using(crate::proofs::RecordBytes::the_same_needed), unfolding(crate::specs::Records::claim_in_front))]
-fn said_in_front(text: &[u8]) -> Option<Said>
-    ensures { result ≡ option_map said_of (claim_in_front text.now) }
+fn numbers_in_front(text: &[u8]) -> Option<RecordNumbers>
+    ensures { result ≡ option_map numbers_of (claim_in_front text.now) }
 {
     let count = needed(text);
     if text.len() < count {
@@ -130,17 +128,17 @@ fn said_in_front(text: &[u8]) -> Option<Said>
     }
     let digits = text.split_at(count).0;
     if are_digits(digits) {
-        Some(said_of(digits))
+        Some(numbers_of(digits))
     } else {
         None
     }
 }
 
-/// Returns what a record says whose `;` stands at a place, if all its digits are there.
-pub fn said_at(text: &[u8], place: usize) -> Option<Said>
-    ensures { result ≡ said_at text.now place }
+/// Returns the numbers of a record whose `;` stands at a place, if all its digits are there.
+pub fn numbers_at(text: &[u8], place: usize) -> Option<RecordNumbers>
+    ensures { result ≡ numbers_at text.now place }
 {
-    said_in_front(behind(text, place))
+    numbers_in_front(behind(text, place))
 }
 
 /// What is to be said of an end record.
@@ -158,21 +156,21 @@ pub enum EndRecord {
     WrongCount(u32),
 }
 
-/// Returns what is to be said of an end record, by what it says, after so many data records.
-pub fn end_of(said: Option<Said>, records: usize) -> EndRecord
-    ensures { result ≡ end_by records said }
+/// Returns what is to be said of an end record, by its numbers, after so many data records.
+pub fn end_of(numbers: Option<RecordNumbers>, records: usize) -> EndRecord
+    ensures { result ≡ end_by records numbers }
 {
-    let Some(said) = said else {
+    let Some(numbers) = numbers else {
         return EndRecord::Missing;
     };
-    let is_counted = said.address as usize == records;
-    if said.sum == said.checksum {
+    let is_counted = numbers.address as usize == records;
+    if numbers.sum == numbers.checksum {
         if is_counted {
             EndRecord::Right
         } else {
-            EndRecord::WrongCount(said.address)
+            EndRecord::WrongCount(numbers.address)
         }
-    } else if is_counted && said.checksum == said.address {
+    } else if is_counted && numbers.checksum == numbers.address {
         EndRecord::CountTwice
     } else {
         EndRecord::WrongSum
@@ -184,5 +182,5 @@ pub fn end_of(said: Option<Said>, records: usize) -> EndRecord
 pub fn end_record(text: &[u8], place: usize, records: usize) -> EndRecord
     ensures { result ≡ end_record text.now place records }
 {
-    end_of(said_at(text, place), records)
+    end_of(numbers_at(text, place), records)
 }

@@ -1,18 +1,18 @@
 -- Tables of indices, filled row by row.
-use Rattle.std.proofs.Common.{◌≡◌, ◌∙◌, ℕ, zero, suc, ◌+◌, ◌<◌, ◌≤◌, Bool, true, false, cond, List, [], ◌∷◌, ◌++◌, Option, Some, None, length, take, get_or, refl, sym, ap, subst, arith, add-one, inl, inr}
-use Rattle.std.specs.Prelude.{◌==◌, not, is_some, if◌then◌else◌, map, nat_lt, position, replicate, slice_get, slice_index, slice_set}
-use Rattle.std.specs.List.{position_or_len}
+use Rattle.std.proofs.Common.{◌≡◌, ◌∙◌, ℕ, zero, suc, ◌+◌, ◌<◌, ◌≤◌, Bool, true, false, cond, List, [], ◌∷◌, ◌++◌, Option, Some, None, ℤ, append-nil, length, take, get_or, refl, sym, ap, subst, arith, add-one, inl, inr}
+use Rattle.std.specs.Prelude.{◌==◌, ◌&&◌, nat_le, pos, negsuc, not, is_none, is_some, if◌then◌else◌, map, nat_lt, position, replicate, slice_get, slice_index, slice_set}
+use Rattle.std.specs.List.{position_or_len, zip}
 use Rattle.std.specs.Option.{option_or, option_to_list}
 use Rattle.std.proofs.lemmas.List.{append_assoc, get_or-map, get_or-replicate, get_or-set_same, get_or-set_other, length-map, length-replicate, length-set, length_push, length-take, take_more, take_all, take-take}
 use Rattle.std.proofs.lemmas.List.Folds.{position_or_len_push}
 use Rattle.std.proofs.lemmas.List.Sums.{prefix_len-le-length}
-use Rattle.std.proofs.lemmas.Bool.{cases_eq, cases_lt, eq-eqb, eqb-true, eqb-false, le-ltb, lt-ltb, ne_eqb}
+use Rattle.std.proofs.lemmas.Bool.{cases_eq, cases_lt, eq-eqb, eqb-true, eqb-false, le-ltb, leb-true, lt-ltb, ne_eqb}
 use Rattle.model.specs.Image.{cell_at}
-use Rattle.model.specs.Names.{Definitions}
+use Rattle.assembler.specs.Lines.{LineView}
 use Rattle.trace_rows.specs.declared.lines.SourceLine.{SourceLine}
 use Rattle.trace_rows.specs.declared.sites.Label.{Label}
-use Rattle.trace_rows.specs.Listed.{Listed, listed}
-use Rattle.trace_rows.specs.Sites.{IsTable, Labelled, first_at, index_at, index_of, label_addresses, label_named, labelled, labels_of, line_addresses, or_below, put_if_none}
+use Rattle.trace_rows.specs.SourceLines.{listed}
+use Rattle.trace_rows.specs.Sites.{IsTable, Labelled, Numbered, addresses_of, first_at, index_at, index_of, is_wanted, labelled, line_addresses, name_if_free, name_of, names_of, or_below, put_if_none}
 
 -- ---- options
 
@@ -159,46 +159,61 @@ row_size_by : (table : List ℕ) (row number : ℕ) (b : Bool) → length (if b 
 row_size_by table row number true = put_size table row number
 row_size_by table row number false = refl
 
--- A table has one more of some rows.
-pub row_more : (table new : List ℕ) (rows : List ℕ) (i row : ℕ) → i < length rows → row ≡ get_or rows i 0
-    → new ≡ put_row table row i → IsTable table (first_at (take i rows)) → IsTable new (first_at (take (i + 1) rows))
-row_more table new rows i row h r e t = record {
+or_assoc : {T : Type 0} (a b c : Option T) → option_or (option_or a b) c ≡ option_or a (option_or b c)
+or_assoc None b c = refl
+or_assoc (Some x) b c = refl
+
+-- A table has one more of some rows, where an address has nothing else.
+pub row_more : (base : ℕ → Option ℕ) (table new : List ℕ) (rows : List ℕ) (i row : ℕ) → i < length rows → row ≡ get_or rows i 0
+    → new ≡ put_row table row i → IsTable table (λ address. option_or (base address) (first_at (take i rows) address))
+    → IsTable new (λ address. option_or (base address) (first_at (take (i + 1) rows) address))
+row_more base table new rows i row h r e t = record {
   size = ap length e ∙ (row_size_by table row (i + 1) (nat_lt i 4294967295) ∙ t.size);
   rows = λ address below.
       ap (λ ns. index_at ns address) e ∙ (row_put table row i address (omega (arith, below, t.size))
       ∙ (ap (λ o. option_or o (next_at row i address)) (t.rows address below)
-      ∙ (ap (λ n. option_or (first_at (take i rows) address) (next_at n i address)) r ∙ sym (first_more rows i address h))));
+      ∙ (or_assoc (base address) (first_at (take i rows) address) (next_at row i address)
+      ∙ ap (option_or (base address)) (ap (λ n. option_or (first_at (take i rows) address) (next_at n i address)) r ∙ sym (first_more rows i address h)))));
 }
 
-pub no_rows : (table : List ℕ) (rows : List ℕ) → IsTable table (λ address. None) → IsTable table (first_at (take 0 rows))
-no_rows table rows t = record { size = t.size; rows = λ address below. t.rows address below ∙ sym (first_none address) }
+pub no_rows : (table : List ℕ) (rows : List ℕ) → length table ≡ 65536
+    → IsTable table (λ address. option_or (index_at table address) (first_at (take 0 rows) address))
+no_rows table rows size = record { size = size; rows = λ address below. sym (ap (option_or (index_at table address)) (first_none address) ∙ or_none (index_at table address)) }
 
-pub all_rows : (table : List ℕ) (rows : List ℕ) (i : ℕ) → length rows ≤ i → IsTable table (first_at (take i rows)) → IsTable table (first_at rows)
-all_rows table rows i h t = subst (λ ns. IsTable table (first_at ns)) (take_all i rows h) t
+pub all_rows : (base : ℕ → Option ℕ) (table : List ℕ) (rows : List ℕ) (i : ℕ) → length rows ≤ i → IsTable table (λ address. option_or (base address) (first_at (take i rows) address))
+    → IsTable table (λ address. option_or (base address) (first_at rows address))
+all_rows base table rows i h t = subst (λ ns. IsTable table (λ address. option_or (base address) (first_at ns address))) (take_all i rows h) t
 
--- The addresses of labels and of lines.
-pub label_rows : (labels : List Label) (i : ℕ) → length labels ≤ i → length (label_addresses (map labelled labels)) ≤ i
+-- What stands in a table of nothing, where something may stand besides.
+pub over_none : (empty table : List ℕ) (place : ℕ → Option ℕ) → IsTable empty (λ address. None) → IsTable table (λ address. option_or (index_at empty address) (place address)) → IsTable table place
+over_none empty table place none t = record {
+  size = t.size;
+  rows = λ address below. t.rows address below ∙ ap (λ o. option_or o (place address)) (none.rows address below);
+}
+
+-- The addresses of names and of lines.
+pub label_rows : (labels : List Label) (i : ℕ) → length labels ≤ i → length (addresses_of (map labelled labels)) ≤ i
 label_rows labels i h = omega (arith, h, length-map labels labelled, length-map (map labelled labels) (λ (l : Labelled). l.address))
 
-pub label_size : (labels : List Label) (i : ℕ) → i < length labels → i < length (label_addresses (map labelled labels))
+pub label_size : (labels : List Label) (i : ℕ) → i < length labels → i < length (addresses_of (map labelled labels))
 label_size labels i h = omega (arith, h, length-map labels labelled, length-map (map labelled labels) (λ (l : Labelled). l.address))
 
-pub label_row : (labels : List Label) (i : ℕ) (label : Label) → i < length labels → label ≡ get_or labels i label → label.address ≡ get_or (label_addresses (map labelled labels)) i 0
+pub label_row : (labels : List Label) (i : ℕ) (label : Label) → i < length labels → label ≡ get_or labels i label → label.address ≡ get_or (addresses_of (map labelled labels)) i 0
 label_row labels i label h e =
     sym (get_or-map (λ (l : Labelled). l.address) (map labelled labels) i (labelled label) 0 (omega (arith, h, length-map labels labelled))
     ∙ (ap (λ (l : Labelled). l.address) (get_or-map labelled labels i label (labelled label) h)
     ∙ ap (λ (l : Label). l.address) (sym e)))
 
 pub line_rows : (lines : List SourceLine) (i : ℕ) → length lines ≤ i → length (line_addresses (map listed lines)) ≤ i
-line_rows lines i h = omega (arith, h, length-map lines listed, length-map (map listed lines) (λ (l : Listed). l.address))
+line_rows lines i h = omega (arith, h, length-map lines listed, length-map (map listed lines) (λ (l : LineView). l.address))
 
 pub line_size : (lines : List SourceLine) (i : ℕ) → i < length lines → i < length (line_addresses (map listed lines))
-line_size lines i h = omega (arith, h, length-map lines listed, length-map (map listed lines) (λ (l : Listed). l.address))
+line_size lines i h = omega (arith, h, length-map lines listed, length-map (map listed lines) (λ (l : LineView). l.address))
 
 pub line_row : (lines : List SourceLine) (i : ℕ) (line : SourceLine) → i < length lines → line ≡ get_or lines i line → line.address ≡ get_or (line_addresses (map listed lines)) i 0
 line_row lines i line h e =
-    sym (get_or-map (λ (l : Listed). l.address) (map listed lines) i (listed line) 0 (omega (arith, h, length-map lines listed))
-    ∙ (ap (λ (l : Listed). l.address) (get_or-map listed lines i line (listed line) h)
+    sym (get_or-map (λ (l : LineView). l.address) (map listed lines) i (listed line) 0 (omega (arith, h, length-map lines listed))
+    ∙ (ap (λ (l : LineView). l.address) (get_or-map listed lines i line (listed line) h)
     ∙ ap (λ (l : SourceLine). l.address) (sym e)))
 
 -- ---- what the address below has
@@ -281,22 +296,73 @@ zeros table e = record {
   rows = λ address lt. ap (λ ns. index_at ns address) e ∙ ap index_of (get_or-replicate 65536 address 0 0 lt);
 }
 
--- ---- labels, taken one after another
+-- ---- names, taken one after another
 
-names_suc : (image : List (Option ℕ)) (names : Definitions) (i : ℕ) → labels_of image (take (suc i) names) ≡ labels_of image (take i names) ++ labels_of image (option_to_list (slice_get names i))
-unfolding labels_of
-names_suc image [] zero = refl
-names_suc image [] (suc i) = refl
-names_suc image (d ∷ ds) zero = refl
-names_suc image (d ∷ ds) (suc i) = ap (λ (ls : List Labelled). label_named image d.0 d.1 ++ ls) (names_suc image ds i) ∙ sym (append_assoc (label_named image d.0 d.1) (labels_of image (take i ds)) (labels_of image (option_to_list (slice_get ds i))))
+names_suc : (image : List (Option ℕ)) (place : ℕ → Option ℕ) (labels : Bool) (names : List Numbered) (i : ℕ)
+    → names_of image place labels (take (suc i) names) ≡ names_of image place labels (take i names) ++ names_of image place labels (option_to_list (slice_get names i))
+unfolding names_of
+names_suc image place labels [] zero = refl
+names_suc image place labels [] (suc i) = refl
+names_suc image place labels (d ∷ ds) zero = refl
+names_suc image place labels (d ∷ ds) (suc i) = ap (λ (ls : List Labelled). name_of image place labels d ++ ls) (names_suc image place labels ds i)
+    ∙ sym (append_assoc (name_of image place labels d) (names_of image place labels (take i ds)) (names_of image place labels (option_to_list (slice_get ds i))))
 
-pub names_more : (image : List (Option ℕ)) (names : Definitions) (i : ℕ) (old new : List Labelled) → old ≡ labels_of image (take i names)
-    → new ≡ old ++ labels_of image (option_to_list (slice_get names i)) → new ≡ labels_of image (take (i + 1) names)
-names_more image names i old new e n = n ∙ (ap (λ ls. ls ++ labels_of image (option_to_list (slice_get names i))) e ∙ sym (ap (λ k. labels_of image (take k names)) (add-one i) ∙ names_suc image names i))
+pub names_more : (image : List (Option ℕ)) (place : ℕ → Option ℕ) (labels : Bool) (names : List Numbered) (i : ℕ) (before old new : List Labelled) → old ≡ before ++ names_of image place labels (take i names)
+    → new ≡ old ++ names_of image place labels (option_to_list (slice_get names i)) → new ≡ before ++ names_of image place labels (take (i + 1) names)
+names_more image place labels names i before old new e n =
+    n ∙ (ap (λ ls. ls ++ names_of image place labels (option_to_list (slice_get names i))) e
+    ∙ (append_assoc before (names_of image place labels (take i names)) (names_of image place labels (option_to_list (slice_get names i)))
+    ∙ ap (λ ls. before ++ ls) (sym (ap (λ k. names_of image place labels (take k names)) (add-one i) ∙ names_suc image place labels names i))))
 
-pub names_none : (image : List (Option ℕ)) (names : Definitions) → [] ≡ labels_of image (take 0 names)
-unfolding labels_of
-names_none image names = refl
+pub names_none : (image : List (Option ℕ)) (place : ℕ → Option ℕ) (labels : Bool) (names : List Numbered) (before : List Labelled) → before ≡ before ++ names_of image place labels (take 0 names)
+unfolding names_of
+names_none image place labels names before = sym (append-nil before)
 
-pub names_all : (image : List (Option ℕ)) (names : Definitions) (i : ℕ) (labels : List Labelled) → length names ≤ i → labels ≡ labels_of image (take i names) → labels ≡ labels_of image names
-names_all image names i labels h e = e ∙ ap (labels_of image) (take_all i names h)
+pub names_all : (image : List (Option ℕ)) (place : ℕ → Option ℕ) (labels : Bool) (names : List Numbered) (i : ℕ) (before new : List Labelled) → length names ≤ i
+    → new ≡ before ++ names_of image place labels (take i names) → new ≡ before ++ names_of image place labels names
+names_all image place labels names i before new h e = e ∙ ap (λ ns. before ++ names_of image place labels ns) (take_all i names h)
+
+-- what stands in two lists at an index
+pub zip_at : {X Y : Type 0} (xs : List X) (ys : List Y) (i : ℕ) (x : X) (y : Y) → slice_get xs i ≡ Some x → slice_get ys i ≡ Some y → slice_get (zip xs ys) i ≡ Some (x, y)
+zip_at [] ys i x y e f = absurd cc
+zip_at (a ∷ xs) [] i x y e f = absurd cc
+zip_at (a ∷ xs) (b ∷ ys) zero x y e f = cc
+zip_at (a ∷ xs) (b ∷ ys) (suc i) x y e f = zip_at xs ys i x y e f
+
+pub zip_none : {X Y : Type 0} (xs : List X) (ys : List Y) (i : ℕ) → slice_get xs i ≡ None → slice_get (zip xs ys) i ≡ None
+zip_none [] ys i e = refl
+zip_none (a ∷ xs) [] i e = refl
+zip_none (a ∷ xs) (b ∷ ys) zero e = absurd cc
+zip_none (a ∷ xs) (b ∷ ys) (suc i) e = zip_none xs ys i e
+
+pub zip_no_other : {X Y : Type 0} (xs : List X) (ys : List Y) (i : ℕ) → slice_get ys i ≡ None → slice_get (zip xs ys) i ≡ None
+zip_no_other [] ys i e = refl
+zip_no_other (a ∷ xs) [] i e = refl
+zip_no_other (a ∷ xs) (b ∷ ys) zero e = absurd cc
+zip_no_other (a ∷ xs) (b ∷ ys) (suc i) e = zip_no_other xs ys i e
+
+-- Names stand for the same addresses by a table and by what it tells of each address.
+free_same : (image : List (Option ℕ)) (table : List ℕ) (place : ℕ → Option ℕ) (text : List ℕ) (number : ℤ) → IsTable table place → name_if_free image (index_at table) text number ≡ name_if_free image place text number
+free_same image table place text (pos n) t = by (nat_le n 65535) refl
+  where
+    by : (b : Bool) → nat_le n 65535 ≡ b → name_if_free image (index_at table) text (pos n) ≡ name_if_free image place text (pos n)
+    by true e =
+        let within : n ≤ 65535 = leb-true n 65535 e in
+        ap (λ o. if nat_le n 65535 && is_some (cell_at image n) && is_none o then record { text = text; address = n } ∷ [] else []) (t.rows n (omega (arith, within)))
+    by false e = rw e refl
+free_same image table place text (negsuc n) t = refl
+
+pub same_names : (image : List (Option ℕ)) (table : List ℕ) (place : ℕ → Option ℕ) (labels : Bool) (names : List Numbered) → IsTable table place → names_of image (index_at table) labels names ≡ names_of image place labels names
+unfolding names_of
+same_names image table place labels [] t = refl
+same_names image table place labels (d ∷ ds) t =
+    ap (λ ls. (if is_wanted labels d.1 then ls else []) ++ names_of image (index_at table) labels ds) (free_same image table place d.0.0 d.0.1 t)
+    ∙ ap (λ ls. name_of image place labels d ++ ls) (same_names image table place labels ds t)
+
+-- A name is put where an address belongs to no other, and what the address below has, is there.
+pub spread_over : (image : List (Option ℕ)) (old table : List ℕ) (place first : ℕ → Option ℕ) → IsTable old place
+    → IsTable table (or_below image (λ address. option_or (index_at old address) (first address))) → IsTable table (or_below image (λ address. option_or (place address) (first address)))
+spread_over image old table place first o t = record {
+  size = t.size;
+  rows = λ address lt. t.rows address lt ∙ below_same image (λ a. option_or (index_at old a) (first a)) (λ a. option_or (place a) (first a)) 65536 (λ a below. ap (λ p. option_or p (first a)) (o.rows a below)) address lt;
+}

@@ -1,4 +1,3 @@
-pub mod Listed
 pub mod Sites
 pub mod SourceLines
 pub mod Words

@@ -1,13 +1,13 @@
 -- Which label and which line of the source an address belongs to, by the tables of a source.
 -- Source: mos65.
-use Rattle.std.specs.Prelude.{◌≡◌, ℕ, zero, suc, ◌+◌, ◌-◌, ◌%◌, ◌<◌, ◌==◌, ◌&&◌, nat_le, ℤ, pos, negsuc, is_some, if◌then◌else◌, List, [], ◌∷◌, Option, None, Some, length, map, position, slice_get, slice_index, slice_set, take}
-use Rattle.std.specs.List.{flat_map}
+use Rattle.std.specs.Prelude.{◌≡◌, ℕ, zero, suc, ◌+◌, ◌-◌, ◌%◌, ◌<◌, ◌==◌, ◌&&◌, nat_le, not, ℤ, pos, negsuc, Bool, true, false, is_none, is_some, if◌then◌else◌, List, [], ◌∷◌, ◌++◌, Option, None, Some, length, map, position, slice_get, slice_index, slice_set, take}
+use Rattle.std.specs.List.{flat_map, zip}
 use Rattle.std.specs.Option.{option_map, option_or}
 use Rattle.std.specs.Borrow.{Bor}
-use Rattle.assembler.specs.Assembly.{AssemblyView, listing_of}
+use Rattle.assembler.specs.Assembly.{AssemblyView}
+use Rattle.assembler.specs.Lines.{LineView}
 use Rattle.model.specs.Image.{cell_at}
-use Rattle.model.specs.Names.{Definitions}
-use Rattle.trace_rows.specs.Listed.{Listed, lines_in}
+use Rattle.trace_rows.specs.SourceLines.{lines_in}
 use Rattle.trace_rows.specs.declared.lines.SourceLine.{SourceLine}
 use Rattle.trace_rows.specs.declared.sites.Label.{Label}
 use Rattle.trace_rows.specs.declared.sites.Sites.{Sites}
@@ -53,15 +53,30 @@ pub record Labelled : Type 0 where
 abbrev pub labelled : Label → Labelled
 labelled label = record { text = label.text.items; address = label.address }
 
--- A name is a label if its number is an address at which the image has a byte.
-abbrev pub label_named : List (Option ℕ) → List ℕ → ℤ → List Labelled
-label_named image text (pos n) = if nat_le n 65535 && is_some (cell_at image n)
+-- A name stands for an address if its number is one at which the image has a byte, and the address
+-- has no name yet.
+abbrev pub name_if_free : List (Option ℕ) → (ℕ → Option ℕ) → List ℕ → ℤ → List Labelled
+name_if_free image place text (pos n)
+    = if nat_le n 65535 && is_some (cell_at image n) && is_none (place n)
     then record { text = text; address = n } ∷ [] else []
-label_named image text (negsuc n) = []
+name_if_free image place text (negsuc n) = []
 
--- The labels among some names, in the order of their definition.
-unfoldable pub labels_of : List (Option ℕ) → Definitions → List Labelled
-labels_of image names = flat_map (λ d. label_named image d.0 d.1) names
+-- A name with its number, and whether it is a label.
+abbrev pub Numbered : Type 0
+Numbered = (List ℕ × ℤ) × Bool
+
+abbrev pub is_wanted : Bool → Bool → Bool
+is_wanted true is_label = is_label
+is_wanted false is_label = not is_label
+
+abbrev pub name_of : List (Option ℕ) → (ℕ → Option ℕ) → Bool → Numbered → List Labelled
+name_of image place labels name
+    = if is_wanted labels name.1 then name_if_free image place name.0.0 name.0.1 else []
+
+-- The labels among some names, or those that are none, in the order of their definition: as far as
+-- they stand for an address that has no name yet.
+unfoldable pub names_of : List (Option ℕ) → (ℕ → Option ℕ) → Bool → List Numbered → List Labelled
+names_of image place labels names = flat_map (name_of image place labels) names
 
 -- A table tells of each of the 65,536 addresses an index, or that there is none.
 pub record IsTable (table : List ℕ) (place : ℕ → Option ℕ) : Type 0 where
@@ -84,22 +99,42 @@ or_below image place zero = place 0
 or_below image place (suc address) = option_or (place (suc address))
     (if is_some (cell_at image (suc address)) then or_below image place address else None)
 
-abbrev pub label_addresses : List Labelled → List ℕ
-label_addresses labels = map (λ label. label.address) labels
+abbrev pub addresses_of : List Labelled → List ℕ
+addresses_of names = map (λ name. name.address) names
 
-abbrev pub line_addresses : List Listed → List ℕ
+abbrev pub line_addresses : List LineView → List ℕ
 line_addresses lines = map (λ line. line.address) lines
+
+-- ---- names by their address
+
+-- The names of an assembled source, and whether each is a label, which stands before `:`.
+abbrev pub numbered : AssemblyView → List Numbered
+numbered assembly = zip assembly.names assembly.labels
+
+-- No address has a name yet.
+abbrev pub nowhere : ℕ → Option ℕ
+nowhere address = None
 
 -- The labels of an assembled source.
 abbrev pub labels_in : AssemblyView → List Labelled
-labels_in assembly = labels_of assembly.image assembly.names
+labels_in assembly = names_of assembly.image nowhere true (numbered assembly)
 
 -- The index of the label that an address belongs to: of the first that stands there, or otherwise
 -- of the nearest one below, if the image has a byte at the address and at each one between.
+abbrev pub label_place : AssemblyView → ℕ → Option ℕ
+label_place assembly = or_below assembly.image (first_at (addresses_of (labels_in assembly)))
+
+-- The labels, and then the definitions that stand where no label's bytes are.
+abbrev pub names_in : AssemblyView → List Labelled
+names_in assembly = labels_in assembly
+    ++ names_of assembly.image (label_place assembly) false (numbered assembly)
+
+-- The index of the name that an address belongs to: of its label, or where it has none of the first
+-- definition that stands there, or otherwise of the nearest one below, likewise.
 abbrev pub label_for : AssemblyView → ℕ → Option ℕ
-label_for assembly
-    = or_below assembly.image (first_at (label_addresses (labels_in assembly)))
+label_for assembly = or_below assembly.image
+    (λ address. option_or (label_place assembly address) (first_at (addresses_of (names_in assembly)) address))
 
 -- The index of the first line that begins at an address.
 abbrev pub line_for : AssemblyView → ℕ → Option ℕ
-line_for assembly = first_at (line_addresses (lines_in (listing_of assembly)))
+line_for assembly = first_at (line_addresses (lines_in assembly))

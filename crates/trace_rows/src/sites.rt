@@ -2,21 +2,20 @@
 
 ghost use Rattle.std.specs.Prelude.{◌≡◌, ◌+◌, ◌++◌, ◌==◌, [], None, IfOk, OnOk, is_some};
 ghost use Rattle.std.specs.Prelude.{if◌then◌else◌, length, map, nat_lt, slice_get, slice_index};
-ghost use Rattle.std.specs.Option.{option_copied, option_to_list};
-ghost use Rattle.assembler.specs.Assembly.{listing_of};
+ghost use Rattle.std.specs.Option.{option_copied, option_or, option_to_list};
 ghost use Rattle.model.specs.Image.{cell_at};
-ghost use Rattle.trace_rows.specs.Listed.{listed, lines_in};
-ghost use Rattle.trace_rows.specs.Sites.{IsTable, first_at, index_at, label_addresses, label_for};
-ghost use Rattle.trace_rows.specs.Sites.{label_named, label_near, labelled, labels_in, labels_of};
-ghost use Rattle.trace_rows.specs.Sites.{line_addresses, line_at, line_for, near_view, or_below};
-ghost use Rattle.trace_rows.specs.Sites.{put_if_none};
-ghost use Rattle.trace_rows.specs.SourceLines.{HasShownLines, source_lines};
+ghost use Rattle.trace_rows.specs.Sites.{IsTable, addresses_of, first_at, index_at, is_wanted};
+ghost use Rattle.trace_rows.specs.Sites.{label_for, label_near, labelled, line_addresses, line_at};
+ghost use Rattle.trace_rows.specs.Sites.{line_for, name_if_free, names_in, names_of, near_view};
+ghost use Rattle.trace_rows.specs.Sites.{numbered, or_below, put_if_none};
+ghost use Rattle.trace_rows.specs.SourceLines.{lines_in, listed};
 
 use crate::lines::{SourceLine, lines_of};
 use assembler::Assembly;
 use std::alloc::{AllocError, Global};
 
-/// A label: a name of the source for an address at which it puts a byte.
+/// A name of the source for an address at which it puts a byte: a label, which stands before `:`, or
+/// a definition where no label's bytes are.
 #[derive(Drop)]
 pub struct Label {
     pub text: Vec<u8>,
@@ -82,16 +81,15 @@ fn put_first(table: &mut Vec<u32>, address: u16, index: usize)
     }
 }
 
-/// Makes the table of the first label at each address.
-fn table_of_labels(alloc: Global, labels: &[Label]) -> Result<Vec<u32>, AllocError>
-    ensures { IfOk result (λ table. IsTable table.items
-        (first_at (label_addresses (map labelled labels.now)))) }
+/// Puts the first of some names at each address where nothing is.
+fn put_names(table: &mut Vec<u32>, names: &[Label])
+    requires { length table.old.items ≡ 65536 }
+    ensures { IsTable table.new.items (λ address. option_or (index_at table.old.items address)
+        (first_at (addresses_of (map labelled names.now)) address)) }
 {
-    let mut table = empty_table(alloc)?;
-    for (index, label) in labels.iter().enumerate() {
-        put_first(&mut table, label.address, index);
+    for (index, name) in names.iter().enumerate() {
+        put_first(table, name.address, index);
     }
-    Ok(table)
 }
 
 /// Makes the table of the first line at each address.
@@ -106,53 +104,79 @@ fn table_of_lines(alloc: Global, lines: &[SourceLine]) -> Result<Vec<u32>, Alloc
     Ok(table)
 }
 
-/// Appends the label of a name, if its number is an address at which the image has a byte.
-fn push_label(
+/// Appends a name, if its number is an address at which the image has a byte, and the address has
+/// nothing in a table.
+fn push_name(
     alloc: Global,
-    labels: &mut Vec<Label>,
+    names: &mut Vec<Label>,
+    table: &Vec<u32>,
     assembly: &Assembly,
     text: &[u8],
     number: i32,
 ) -> Result<(), AllocError>
-    ensures { OnOk result (map labelled labels.new.items
-        ≡ map labelled labels.old.items ++ label_named assembly.now.image text.now number) }
+    ensures { OnOk result (map labelled names.new.items ≡ map labelled names.old.items
+        ++ name_if_free assembly.now.image (index_at table.now.items) text.now number) }
 {
     if number >= 0 && number <= 65535 {
         let address = number as u16;
-        if assembly.image().get(address).is_some() {
+        if assembly.image().get(address).is_some() && place_at(table, address).is_none() {
             let text = Vec::from_slice(alloc, text)?;
-            labels.push(Label { text, address })?;
+            names.push(Label { text, address })?;
         }
     }
     Ok(())
 }
 
-/// Appends the label of an index of an assembly, if that name is a label.
-#[tactic(auto, unfolding(crate::specs::Sites::labels_of))]
-fn push_label_at(
+/// Returns whether a name is wanted: a label where labels are, and otherwise none.
+fn is_wanted(labels: bool, is_label: bool) -> bool
+    ensures { result ≡ is_wanted labels is_label }
+{
+    if labels { is_label } else { !is_label }
+}
+
+/// Appends the name of an index of an assembly, if it is wanted and its address has nothing in a
+/// table.
+#[tactic(auto, unfolding(crate::specs::Sites::names_of))]
+fn push_name_at(
     alloc: Global,
-    labels: &mut Vec<Label>,
+    names: &mut Vec<Label>,
+    table: &Vec<u32>,
     assembly: &Assembly,
+    labels: bool,
     index: usize,
 ) -> Result<(), AllocError>
-    ensures { OnOk result (map labelled labels.new.items ≡ map labelled labels.old.items
-        ++ labels_of assembly.now.image (option_to_list (slice_get assembly.now.names index))) }
+    ensures { OnOk result (map labelled names.new.items ≡ map labelled names.old.items
+        ++ names_of assembly.now.image (index_at table.now.items) labels
+        (option_to_list (slice_get (numbered assembly.now) index))) }
 {
-    match assembly.symbol(index) {
-        Some((text, number)) => push_label(alloc, labels, assembly, text, number),
-        None => Ok(()),
+    match (assembly.symbol(index), assembly.is_label(index)) {
+        (Some((text, number)), Some(is_label)) => {
+            if is_wanted(labels, is_label) {
+                push_name(alloc, names, table, assembly, text, number)
+            } else {
+                Ok(())
+            }
+        }
+        _ => Ok(()),
     }
 }
 
-/// Returns the labels of an assembly in the order of definition.
-fn labels_of(alloc: Global, assembly: &Assembly) -> Result<Vec<Label>, AllocError>
-    ensures { IfOk result (λ labels. map labelled labels.items ≡ labels_in assembly.now) }
+/// Appends the labels of an assembly, or else the other names, in the order of definition: those
+/// whose address has nothing in a table.
+fn push_names(
+    alloc: Global,
+    names: &mut Vec<Label>,
+    table: &Vec<u32>,
+    assembly: &Assembly,
+    labels: bool,
+) -> Result<(), AllocError>
+    ensures { OnOk result (map labelled names.new.items ≡ map labelled names.old.items
+        ++ names_of assembly.now.image (index_at table.now.items) labels (numbered assembly.now)) }
 {
-    let mut labels = Vec::new(alloc);
     for index in 0..assembly.symbol_count() {
-        push_label_at(alloc, &mut labels, assembly, index)?;
+        push_name_at(alloc, names, table, assembly, labels, index)?;
     }
-    Ok(labels)
+    Ok(())
 }
 
 /// Returns what an address has from the one below: nothing if the image has no byte there.
@@ -166,32 +190,40 @@ fn from_below(assembly: &Assembly, address: u16, below: u32) -> u32
     }
 }
 
-/// Gives each address the label that stands there or below it with no gap in the image between.
+/// Gives each address the name that stands there or below it with no gap in the image between.
 fn spread(table: &mut Vec<u32>, assembly: &Assembly)
     requires { length table.old.items ≡ 65536 }
     ensures { IsTable table.new.items
         (or_below assembly.now.image (index_at table.old.items)) }
 {
-    let mut label = 0u32;
+    let mut name = 0u32;
     for place in 0..65536u32 {
         let address = place as u16;
-        let below = from_below(assembly, address, label);
-        label = put_if_none(table, address, below);
+        let below = from_below(assembly, address, name);
+        name = put_if_none(table, address, below);
     }
 }
 
-/// Makes the table of the label that each address belongs to.
-fn table_of_sites(
+/// Appends the labels of an assembly, or else the definitions that stand where a table has nothing,
+/// and gives the table the name that each address then belongs to.
+fn spread_names(
     alloc: Global,
-    labels: &[Label],
+    names: &mut Vec<Label>,
+    table: &mut Vec<u32>,
     assembly: &Assembly,
-) -> Result<Vec<u32>, AllocError>
-    ensures { IfOk result (λ table. IsTable table.items (or_below assembly.now.image
-        (first_at (label_addresses (map labelled labels.now))))) }
+    labels: bool,
+) -> Result<(), AllocError>
+    requires { length table.old.items ≡ 65536 }
+    ensures names { OnOk result (map labelled names.new.items ≡ map labelled names.old.items
+        ++ names_of assembly.now.image (index_at table.old.items) labels (numbered assembly.now)) }
+    ensures table { OnOk result (IsTable table.new.items (or_below assembly.now.image
+        (λ address. option_or (index_at table.old.items address)
+        (first_at (addresses_of (map labelled names.new.items)) address)))) }
 {
-    let mut table = table_of_labels(alloc, labels)?;
-    spread(&mut table, assembly);
-    Ok(table)
+    push_names(alloc, names, table, assembly, labels)?;
+    put_names(table, names.as_slice());
+    spread(table, assembly);
+    Ok(())
 }
 
 impl Sites {
@@ -215,24 +247,19 @@ impl Sites {
     /// Errors: `AllocError` if an allocation fails.
     pub fn of_source(alloc: Global, assembly: &Assembly) -> Result<Sites, AllocError>
         ensures labels { IfOk result
-            (λ sites. map labelled sites.labels.items ≡ labels_in assembly.now) }
+            (λ sites. map labelled sites.labels.items ≡ names_in assembly.now) }
         ensures lines { IfOk result
-            (λ sites. map listed sites.lines.items ≡ lines_in (listing_of assembly.now)) }
-        // These are the lines of the source that have bytes.
-        ensures source { IfOk result (λ sites. HasShownLines assembly.now
-            → map listed sites.lines.items ≡ source_lines assembly.now) }
+            (λ sites. map listed sites.lines.items ≡ lines_in assembly.now) }
         ensures label_of { IfOk result
             (λ sites. IsTable sites.label_of.items (label_for assembly.now)) }
         ensures line_of { IfOk result
             (λ sites. IsTable sites.line_of.items (line_for assembly.now)) }
     {
-        let listing = match assembly.listing(alloc) {
-            Ok(listing) => listing,
-            Err(_) => return Err(AllocError),
-        };
-        let labels = labels_of(alloc, assembly)?;
-        let lines = lines_of(alloc, listing.as_slice())?;
-        let label_of = table_of_sites(alloc, labels.as_slice(), assembly)?;
+        let mut labels = Vec::new(alloc);
+        let mut label_of = empty_table(alloc)?;
+        spread_names(alloc, &mut labels, &mut label_of, assembly, true)?;
+        spread_names(alloc, &mut labels, &mut label_of, assembly, false)?;
+        let lines = lines_of(alloc, assembly)?;
         let line_of = table_of_lines(alloc, lines.as_slice())?;
         Ok(Sites {
             labels,
@@ -242,7 +269,7 @@ impl Sites {
         })
     }
 
-    /// Returns the labels in the order of definition.
+    /// Returns the labels in the order of definition, and then the definitions that name an address.
     pub fn labels(&self) -> &[Label]
         ensures { result.now ≡ self.now.labels.items }
     {
@@ -257,7 +284,8 @@ impl Sites {
     }
 
     /// Returns the index of the label that an address belongs to: the first that stands there, or
-    /// otherwise the nearest below it, if the source puts bytes at all addresses between.
+    /// otherwise the nearest below it, if the source puts bytes at all addresses between. Where there
+    /// is none, it is that of a definition, likewise.
     pub fn label_index(&self, address: u16) -> Option<usize>
         ensures { result ≡ index_at self.now.label_of.items address }
     {

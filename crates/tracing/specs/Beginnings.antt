@@ -1,10 +1,10 @@
 -- What a trace begins with: the labels and the lines of the source, and the addresses that count as
 -- written. Source: mos65.
 use Rattle.std.specs.Prelude.{◌≡◌, ℕ, Bool, true, false, is_some, List, [], map, Option, None, Some}
-use Rattle.assembler.specs.Assembly.{AssemblyView, listing_of}
+use Rattle.assembler.specs.Assembly.{AssemblyView}
 use Rattle.model.specs.TapePieces.{IsReadInPieces}
-use Rattle.trace_rows.specs.Listed.{lines_in, listed}
-use Rattle.trace_rows.specs.Sites.{IsTable, label_for, labelled, labels_in, line_for}
+use Rattle.trace_rows.specs.Sites.{IsTable, label_for, labelled, line_for, names_in}
+use Rattle.trace_rows.specs.SourceLines.{lines_in, listed}
 use Rattle.trace_rows.specs.declared.sites.Sites.{Sites}
 
 -- A program without a source has no labels and no lines.
@@ -16,8 +16,8 @@ pub record HasNone (sites : Sites) : Type 0 where
 
 -- The labels and the lines of a source, and which of them each address belongs to.
 pub record HasThose (assembly : AssemblyView) (sites : Sites) : Type 0 where
-  pub labels : map labelled sites.labels.items ≡ labels_in assembly
-  pub lines : map listed sites.lines.items ≡ lines_in (listing_of assembly)
+  pub labels : map labelled sites.labels.items ≡ names_in assembly
+  pub lines : map listed sites.lines.items ≡ lines_in assembly
   pub label_of : IsTable sites.label_of.items (label_for assembly)
   pub line_of : IsTable sites.line_of.items (line_for assembly)
 

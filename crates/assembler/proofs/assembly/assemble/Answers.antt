@@ -1,4 +1,4 @@
-use Rattle.assembler.proofs.Answering.{assembled_from, denoted_from, only_from, refused_from, faulty_from, places_from, names_from, listed_from}
+use Rattle.assembler.proofs.Answering.{assembled_from, denoted_from, only_from, refused_from, faulty_from, places_from, labels_from, lines_from, names_from, listed_from}
 use Rattle.assembler.proofs.assembly.assemble.Goals as goal
 
 pub returns-clause-denoted : goal.returns-clause-denoted
@@ -23,4 +23,10 @@ pub returns-clause-listed : goal.returns-clause-listed
 returns-clause-listed c = listed_from c.judging_is_right.ensures.meant c.one_assignment.ensures c.args.map.now c.args.source.now c.assemble_lines.result c.assemble_lines.ensures.exact c.assemble_lines.ensures.kept
 
 pub returns-clause-assembled : goal.returns-clause-assembled
-returns-clause-assembled c = assembled_from c.judging_is_right.ensures.meant c.one_assignment.ensures c.args.map.now c.args.source.now c.assemble_lines.result c.assemble_lines.ensures.exact c.assemble_lines.ensures.kept
+returns-clause-assembled c = assembled_from c.judging_is_right.ensures.meant c.one_assignment.ensures c.args.map.now c.args.source.now c.assemble_lines.result c.assemble_lines.ensures.exact c.assemble_lines.ensures.kept c.assemble_lines.ensures.read
+
+pub returns-clause-lines : goal.returns-clause-lines
+returns-clause-lines c = lines_from c.judging_is_right.ensures.meant c.one_assignment.ensures c.args.map.now c.args.source.now c.assemble_lines.result c.assemble_lines.ensures.exact c.assemble_lines.ensures.kept c.assemble_lines.ensures.read
+
+pub returns-clause-labels : goal.returns-clause-labels
+returns-clause-labels c = labels_from c.judging_is_right.ensures.meant c.one_assignment.ensures c.args.map.now c.args.source.now c.assemble_lines.result c.assemble_lines.ensures.exact c.assemble_lines.ensures.kept c.assemble_lines.ensures.read

@@ -1,8 +1,8 @@
-use Rattle.std.proofs.Common.{◌≡◌, drop, map}
-use Rattle.source_map.specs.Names.{name_near, named, near_view, nearest_from}
+use Rattle.std.proofs.Common.{◌≡◌, None, drop, map}
+use Rattle.source_map.specs.Names.{named, near_view, nearest_from}
 use Rattle.source_map.proofs.names.nearest.Given as goal
 
 abbrev pub invariant-loop-name : goal.invariant-loop-name
 invariant-loop-name l = record {
-  rest : name_near (map named l.names) l.address ≡ nearest_from l.address (near_view l.found) (map named (drop l.name-index l.names));
+  rest : nearest_from l.is_label l.address None (map named l.names) ≡ nearest_from l.is_label l.address (near_view l.found) (map named (drop l.name-index l.names));
 }

@@ -1,10 +1,9 @@
-use Rattle.std.proofs.Common.{◌≡◌, ◌+◌, ◌≤◌, ◌++◌, length}
-use Rattle.model.specs.TextLines.{lines_of}
-use Rattle.source_map.specs.Lines.{lines_after, lines_in}
+use Rattle.std.proofs.Common.{◌≡◌, take}
+use Rattle.assembler.specs.Assembly.{source_lines}
+use Rattle.source_map.specs.Lines.{rows_of}
 use Rattle.source_map.proofs.rows.rows_of.Given as goal
 
-abbrev pub invariant-loop : goal.invariant-loop
-invariant-loop l = record {
-  rest : lines_in l.listing ≡ l.rows.items ++ lines_after l.line (lines_of l.rest);
-  left : length l.rest + l.counter ≤ length l.listing;
+abbrev pub invariant-loop-index : goal.invariant-loop-index
+invariant-loop-index l = record {
+  rows : l.rows.items ≡ rows_of (take l.index (source_lines l.assembly));
 }

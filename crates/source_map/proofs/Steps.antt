@@ -1,0 +1,35 @@
+-- Names and lines of an assembly, taken one after another.
+use Rattle.std.proofs.Common.{◌≡◌, ℕ, ℤ, zero, suc, ◌+◌, Bool, List, [], ◌∷◌, ◌++◌, Option, Some, None, take, refl, ap, sym, ◌∙◌, add-one, append_assoc}
+use Rattle.std.specs.Prelude.{slice_get}
+use Rattle.std.specs.List.{flat_map, zip}
+use Rattle.std.specs.Option.{option_to_list}
+
+taken_suc : {X Y : Type 0} (f : X → List Y) (xs : List X) (i : ℕ) → flat_map f (take (suc i) xs) ≡ flat_map f (take i xs) ++ flat_map f (option_to_list (slice_get xs i))
+taken_suc f [] zero = refl
+taken_suc f [] (suc i) = refl
+taken_suc f (x ∷ xs) zero = refl
+taken_suc f (x ∷ xs) (suc i) = ap (λ ys. f x ++ ys) (taken_suc f xs i) ∙ sym (append_assoc (f x) (flat_map f (take i xs)) (flat_map f (option_to_list (slice_get xs i))))
+
+-- what one more element gives
+pub one_more : {X Y : Type 0} (f : X → List Y) (xs : List X) (i : ℕ) (before : List Y)
+    → (before ++ flat_map f (take i xs)) ++ flat_map f (option_to_list (slice_get xs i)) ≡ before ++ flat_map f (take (i + 1) xs)
+one_more f xs i before = rw add-one (append_assoc before (flat_map f (take i xs)) (flat_map f (option_to_list (slice_get xs i))) ∙ ap (λ ys. before ++ ys) (sym (taken_suc f xs i)))
+
+-- what stands in two lists at an index
+pub zip_at : {X Y : Type 0} (xs : List X) (ys : List Y) (i : ℕ) (x : X) (y : Y) → slice_get xs i ≡ Some x → slice_get ys i ≡ Some y → slice_get (zip xs ys) i ≡ Some (x, y)
+zip_at [] ys i x y e f = absurd cc
+zip_at (a ∷ xs) [] i x y e f = absurd cc
+zip_at (a ∷ xs) (b ∷ ys) zero x y e f = cc
+zip_at (a ∷ xs) (b ∷ ys) (suc i) x y e f = zip_at xs ys i x y e f
+
+pub zip_none : {X Y : Type 0} (xs : List X) (ys : List Y) (i : ℕ) → slice_get xs i ≡ None → slice_get (zip xs ys) i ≡ None
+zip_none [] ys i e = refl
+zip_none (a ∷ xs) [] i e = refl
+zip_none (a ∷ xs) (b ∷ ys) zero e = absurd cc
+zip_none (a ∷ xs) (b ∷ ys) (suc i) e = zip_none xs ys i e
+
+pub zip_no_other : {X Y : Type 0} (xs : List X) (ys : List Y) (i : ℕ) → slice_get ys i ≡ None → slice_get (zip xs ys) i ≡ None
+zip_no_other [] ys i e = refl
+zip_no_other (a ∷ xs) [] i e = refl
+zip_no_other (a ∷ xs) (b ∷ ys) zero e = absurd cc
+zip_no_other (a ∷ xs) (b ∷ ys) (suc i) e = zip_no_other xs ys i e

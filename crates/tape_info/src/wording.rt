@@ -1,0 +1,44 @@
+//! The words of the rows of `info` and `cmp`. `specs/Rows.antt` and `specs/DifferenceRows.antt` say
+//! where each stands.
+
+pub const TAPE_ROW: &str = "tape    ";
+
+pub const IN: &str = " in ";
+
+pub const AND: &str = " and ";
+
+pub const BYTE: &str = "byte";
+
+pub const BYTES: &str = "bytes";
+
+pub const RANGE: &str = "range";
+
+pub const RANGES: &str = "ranges";
+
+pub const RANGE_ROW: &str = "range   ";
+
+pub const CRC_32: &str = "  CRC-32 ";
+
+pub const GAP_ROW: &str = "gap     ";
+
+pub const NOTHING: &str = "nothing";
+
+pub const NMI_ROW: &str = "NMI     FFFA  ";
+
+pub const RESET_ROW: &str = "reset   FFFC  ";
+
+pub const IRQ_ROW: &str = "IRQ     FFFE  ";
+
+pub const PAGE_0_ROW: &str = "page 0  ";
+
+pub const PAGE_1_ROW: &str = "page 1  ";
+
+pub const PORT_ROW: &str = "port    ";
+
+pub const MEND_MENDS_IT: &str = "`mend` mends it\n";
+
+pub const NO_BYTE: &str = "--";
+
+pub const ON: &str = " on ";
+
+pub const ONLY: &str = " only\n";
