@@ -6,11 +6,11 @@ use Rattle.std.specs.Io.BufRead.{ends_with_byte, strip_last}
 use Rattle.model.specs.TextLines.{ended_lines_of}
 use Rattle.mon.specs.Attended.{AnswersLine, IsAttended, prompt_of, IsAttendedSoFar, ServesLine, ServesLines}
 use Rattle.mon_dispatch.specs.Lines.{Follows, Says, read_at}
-use Rattle.mon_dispatch.specs.Texts.{decimal_text, line_text, slip_line, too_long}
+use Rattle.mon_dispatch.specs.LineTexts.{decimal_text, line_text, slip_line, too_long}
 use Rattle.mon_lines.specs.Lines.{SeenCommand}
 use Rattle.mon_line_parts.specs.declared.topic.Topic.{Topic}
 use Rattle.mon_line_parts.specs.Reading.{SeenWhy}
-use Rattle.mon_session.specs.Served.{ShowsOnly}
+use Rattle.mon_session.specs.Course.{ShowsOnly}
 use Rattle.mon_session.specs.declared.desk.Desk.{Desk}
 
 pub shows_then : (a b c : Desk) → ShowsOnly a b → ShowsOnly b c → ShowsOnly a c

@@ -5,9 +5,9 @@ use Rattle.std.proofs.lemmas.List.{take_all, take-append-le}
 use Rattle.std.specs.Io.BufRead.{strip_last}
 use Rattle.model.specs.TextLines.{ended_lines_of, lines_from, no_line}
 use Rattle.mon.specs.Attended.{EndsLines, ServesLine, ServesLines, input_lines, line_at_end}
-use Rattle.mon.specs.Pieces.{Feeds, GoesOn, IsOver, unless_over}
+use Rattle.mon.specs.Pieces.{GoesOn, IsOver, Piece, ServesPiece, unless_over}
 use Rattle.mon.proofs.LinesServed.{line_alone, line_kept, line_on, line_over, lines_more, lines_then, no_lines}
-use Rattle.mon_session.specs.Served.{ShowsOnly}
+use Rattle.mon_session.specs.Course.{ShowsOnly}
 use Rattle.mon_session.specs.declared.desk.Desk.{Desk}
 use Rattle.program.specs.declared.refusal.Refusal.{Refusal}
 
@@ -138,10 +138,23 @@ module _ (prompt told kept : List ℕ) (first now : Desk) (before : List ℕ)
 
 -- ---- one more byte, and the beginning that is kept
 
+-- one byte as a piece
+abbrev byte_served : List ℕ → ℕ → List ℕ → List ℕ → Desk → Desk → Bool → List ℕ → Piece
+byte_served prompt byte kept more old new is_over written = record {
+  bytes = byte ∷ [];
+  prompt = prompt;
+  old = old;
+  kept = kept;
+  new = new;
+  kept_then = more;
+  is_over = is_over;
+  written = written;
+}
+
 -- an LF, by whether the line ends the session
 pub line_fed : (prompt : List ℕ) (is_over : Bool) (byte : ℕ) (kept more : List ℕ) (old new : Desk)
     (said : List ℕ) → byte ≡ 10 → ServesLine (strip_last 13 kept) is_over old new said → more ≡ []
-    → Feeds prompt (byte ∷ []) is_over kept old more new (said ++ unless_over is_over prompt)
+    → ServesPiece (byte_served prompt byte kept more old new is_over (said ++ unless_over is_over prompt))
 line_fed prompt true byte kept more old new said e p none = λ told first before g.
     subst (λ b. IsOver prompt (told ++ b ∷ []) first new (before ++ (said ++ []))) (sym e) (line_ends prompt told kept first old before g new said p)
 line_fed prompt false byte kept more old new said e p none = λ told first before g.
@@ -152,7 +165,7 @@ pub fed_of : (prompt : List ℕ) (r : Result Bool Refusal) (byte : ℕ) (kept mo
     → IfOk r (λ is_over. (said : List ℕ) × ServesLine (strip_last 13 kept) is_over old new said
     × Wrote (old.text.items ++ (said ++ unless_over is_over prompt)))
     → IfOk r (λ _. more ≡ [])
-    → IfOk r (λ is_over. (x : List ℕ) × Feeds prompt (byte ∷ []) is_over kept old more new x
+    → IfOk r (λ is_over. (x : List ℕ) × ServesPiece (byte_served prompt byte kept more old new is_over x)
     × (old.text.items ≡ [] → Wrote x))
 fed_of prompt (Ok is_over) byte kept more old new Wrote e p none = (
   p.0 ++ unless_over is_over prompt,

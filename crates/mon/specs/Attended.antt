@@ -4,8 +4,9 @@ use Rattle.std.specs.Prelude.{ℕ, ◌≡◌, ◌<◌, ◌≤◌, ◌⊎◌, Boo
 use Rattle.std.specs.Io.BufRead.{strip_last}
 use Rattle.std.specs.Io.KnownBytes.{Consumes, IsAtEnd}
 use Rattle.model.specs.TextLines.{ended_lines_of, lines_from}
+use Rattle.mon.specs.declared.wording.TheConstants.{PROMPT}
 use Rattle.mon_dispatch.specs.Lines.{IsTooLong, Says, Serves}
-use Rattle.mon_session.specs.Served.{ShowsOnly}
+use Rattle.mon_session.specs.Course.{ShowsOnly}
 use Rattle.mon_session.specs.declared.desk.Desk.{Desk}
 
 -- ---- the lines of an input
@@ -61,7 +62,7 @@ EndsLines prompt line_end told is_over old new written = (last : List (List ℕ)
 
 -- What is written if prompts are asked for: before each line, and at the end of the input.
 abbrev pub prompt_of : Bool → List ℕ
-prompt_of prompts = if prompts then codes "mon> " else []
+prompt_of prompts = if prompts then PROMPT.now else []
 
 abbrev pub line_end_of : Bool → List ℕ
 line_end_of prompts = if prompts then codes "\n" else []

@@ -11,13 +11,14 @@ use Rattle.loading.specs.declared.loaded.LoadFault.TheVariants.{LooksLikeTape, R
 use Rattle.model.specs.Event.{start}
 use Rattle.model.specs.Session.{Session, new_session}
 use Rattle.mon.specs.Attended.{IsAttended}
-use Rattle.mon_session.specs.Texts.{shown_text}
+use Rattle.mon_session.specs.EventTexts.{shown_text}
 use Rattle.mon_session.specs.declared.desk.Desk.{Desk}
 use Rattle.mon_words.specs.Asked.{MonAsked}
 use Rattle.source_map.specs.Lines.{PlacesView, places_of}
 use Rattle.source_map.specs.Names.{names_in}
 use Rattle.program.specs.declared.refusal.Refusal.{Refusal}
 use Rattle.program.specs.declared.refusal.Refusal.TheVariants.{OutOfMemory, Read, Write}
+use Rattle.mon.specs.declared.wording.TheConstants.{GREETING}
 
 -- Why a file of names is not assembled, if one is named.
 abbrev pub EndsNamed : Option Text → FileAsked → LoadFault → Type 0
@@ -87,7 +88,7 @@ StartsMon asked desk = (image : List (Option ℕ)) × (assembly : Option Assembl
 -- What is written first, if prompts are.
 abbrev pub greeting_of : Bool → List ℕ
 greeting_of prompts = if prompts
-    then codes "mos65 mon: help lists the words, an empty line steps, quit ends\n" else []
+    then GREETING.now else []
 
 -- A session ended at a desk. With the status 0 the lines of the input were served at it, and the
 -- output, whose bytes were `old`, got what is said of them: first the greeting and the state.

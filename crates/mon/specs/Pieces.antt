@@ -26,12 +26,25 @@ abbrev pub LeadsTo : Bool → List ℕ → List ℕ → List ℕ → Desk → De
 LeadsTo false prompt told kept old new written = GoesOn prompt told kept old new written
 LeadsTo true prompt told kept old new written = IsOver prompt told old new written
 
--- More bytes lead from what was served before to what is served then, and so much more is written.
-abbrev pub Feeds : List ℕ → List ℕ → Bool → List ℕ → Desk → List ℕ → Desk → List ℕ → Type 0
-Feeds prompt bytes is_over kept old kept_then new more
-    = (told : List ℕ) (first : Desk) (before : List ℕ)
-    → GoesOn prompt told kept first old before
-    → LeadsTo is_over prompt (told ++ bytes) kept_then first new (before ++ more)
+-- A piece of an input that is served: its bytes, the prompt behind each line, the desk and the
+-- beginning of a line that is kept, before and then, whether the session is over then, and what is
+-- written.
+pub record Piece : Type 0 where
+  pub bytes : List ℕ
+  pub prompt : List ℕ
+  pub old : Desk
+  pub kept : List ℕ
+  pub new : Desk
+  pub kept_then : List ℕ
+  pub is_over : Bool
+  pub written : List ℕ
+
+-- The bytes of a piece lead from what was served before them to what is served then.
+abbrev pub ServesPiece : Piece → Type 0
+ServesPiece piece = (told : List ℕ) (first : Desk) (before : List ℕ)
+    → GoesOn piece.prompt told piece.kept first piece.old before
+    → LeadsTo piece.is_over piece.prompt (told ++ piece.bytes) piece.kept_then first piece.new
+    (before ++ piece.written)
 
 -- A prompt is written behind a line unless the session is over.
 abbrev pub unless_over : Bool → List ℕ → List ℕ

@@ -7,10 +7,11 @@ ghost use Rattle.std.specs.Io.KnownBytes.{Appends};
 ghost use Rattle.mon.specs.Attended.{AnswersLine, EndsLines, IsAttended, IsAttendedSoFar};
 ghost use Rattle.mon.specs.Attended.{ServesLine, line_end_of, prompt_of};
 ghost use Rattle.mon.specs.Done.{EndsAnswer, EndsSession};
-ghost use Rattle.mon.specs.Pieces.{Feeds, GoesOn, unless_over};
-ghost use Rattle.mon_session.specs.Served.{ShowsOnly};
+ghost use Rattle.mon.specs.Pieces.{GoesOn, Piece, ServesPiece, unless_over};
+ghost use Rattle.mon_session.specs.Course.{ShowsOnly};
 ghost use Rattle.mon_session.specs.declared.desk.Desk.{Desk};
 
+use crate::wording::PROMPT;
 use arrayvec::ArrayVec;
 use mon_dispatch::serve;
 use mon_session::Desk;
@@ -22,9 +23,6 @@ use std::io::{Read, Write};
 ///
 /// The longest line has 255, one more may be its CR, and one more makes it too long.
 type Begun = ArrayVec<u8, 257>;
-
-/// What is written before a line is read, if a prompt is asked for.
-const PROMPT: &str = "mon> ";
 
 /// Writes and flushes the text of the desk, which has none afterwards.
 fn put_text<W: Write>(desk: &mut Desk, writer: &mut W) -> Result<(), Refusal>
@@ -46,10 +44,7 @@ pub fn of_memory<T>(made: Result<T, AllocError>) -> Result<T, Refusal>
     ensures made { IfOk result (λ value. made ≡ Ok value) }
     ensures refused { IfErr result (λ fault. fault ≡ Refusal.OutOfMemory) }
 {
-    match made {
-        Ok(value) => Ok(value),
-        Err(_) => Err(Refusal::OutOfMemory),
-    }
+    made.map_err(|_| Refusal::OutOfMemory)
 }
 
 /// Says something if it is asked for.
@@ -128,8 +123,16 @@ fn serve_byte<W: Write>(
     byte: u8,
     writer: &mut W,
 ) -> Result<bool, Refusal>
-    ensures fed { IfOk result (λ is_over. (more : List ℕ) × Feeds (prompt_of prompts) (byte ∷ [])
-        is_over begun.old.items desk.old begun.new.items desk.new more
+    ensures fed { IfOk result (λ is_over. (more : List ℕ) × ServesPiece (record {
+      bytes = byte ∷ [];
+      prompt = prompt_of prompts;
+      old = desk.old;
+      kept = begun.old.items;
+      new = desk.new;
+      kept_then = begun.new.items;
+      is_over = is_over;
+      written = more;
+    })
         × (desk.old.text.items ≡ []
         → Appends (W.contents writer.old) (W.contents writer.new) more)) }
     ensures written { IfOk result
@@ -154,8 +157,16 @@ fn serve_bytes<W: Write>(
     bytes: &[u8],
     writer: &mut W,
 ) -> Result<bool, Refusal>
-    ensures fed { IfOk result (λ is_over. (more : List ℕ) × Feeds (prompt_of prompts) bytes.now
-        is_over begun.old.items desk.old begun.new.items desk.new more
+    ensures fed { IfOk result (λ is_over. (more : List ℕ) × ServesPiece (record {
+      bytes = bytes.now;
+      prompt = prompt_of prompts;
+      old = desk.old;
+      kept = begun.old.items;
+      new = desk.new;
+      kept_then = begun.new.items;
+      is_over = is_over;
+      written = more;
+    })
         × (desk.old.text.items ≡ []
         → Appends (W.contents writer.old) (W.contents writer.new) more)) }
     ensures written { IfOk result

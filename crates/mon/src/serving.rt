@@ -14,13 +14,14 @@ ghost use Rattle.model.specs.declared.bus_fault.BusFault.TheVariants.{BadMap};
 ghost use Rattle.mon.specs.Attended.{IsAttended, IsAttendedSoFar};
 ghost use Rattle.mon.specs.Done.{AreNamed, EndsAt, EndsMon, EndsNamed, EndsSession, IsDone};
 ghost use Rattle.mon.specs.Done.{IsNewDesk, StartsMon, greeting_of, places_in, with_names};
-ghost use Rattle.mon_session.specs.Texts.{shown_text};
+ghost use Rattle.mon_session.specs.EventTexts.{shown_text};
 ghost use Rattle.std.specs.Io.KnownBytes.{Appends};
 ghost use Rattle.mon_words.specs.Asked.{MonAsked, asked};
 ghost use Rattle.mon_words.specs.CommandLine.{mon};
 ghost use Rattle.mon_words.specs.Views.{mon_view};
 
 use crate::lines::{attend, of_memory, say_if};
+use crate::wording::GREETING;
 use loading::{FileWords, LoadFault, Loaded, load_names, load_with_history};
 use mon_session::Desk;
 use mon_words::{MonWords, read_words};
@@ -29,9 +30,6 @@ use source_map::Places;
 use std::alloc::Global;
 use std::io::{IsTerminal, Read, Write};
 use std::rt::Files;
-
-/// What is written first, if a prompt is asked for.
-const GREETING: &str = "mos65 mon: help lists the words, an empty line steps, quit ends\n";
 
 /// Returns the places of what was loaded.
 fn places_of(alloc: Global, file: &str, loaded: &Loaded) -> Result<Places, LoadFault>

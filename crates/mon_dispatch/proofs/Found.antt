@@ -8,6 +8,7 @@ use Rattle.std.specs.List.{flat_map}
 use Rattle.source_map.specs.Names.{Named}
 use Rattle.std.specs.Prelude.{codes, slice_index}
 use Rattle.mon_dispatch.specs.LookTexts.{found_below, found_line, places_found, stands_at}
+use Rattle.mon_dispatch.specs.declared.wording.TheConstants.{AND_MORE, NOWHERE}
 
 -- one address more
 more : (m b : List ℕ) (n : ℕ) → found_below m b (suc n)
@@ -89,7 +90,7 @@ module _ (m b : List ℕ) (names others : List Named) (same : others ≡ names) 
       → count ≡ length (found_below m b n) → count ≤ 16
       → new ≡ count + cond s 1 0 → 16 < new
       → t2 ≡ t1 ++ cond s (cond (nat_lt count 16) (found_line others n) []) []
-      → t3 ≡ t2 ++ codes "and more\n"
+      → t3 ≡ t2 ++ AND_MORE.now
       → t3 ≡ t0 ++ places_found names (found_below m b (length m))
   many_by false n count new t0 t1 t2 t3 e within so_far counted few grown past now last =
       absurd (omega (arith, grown, few, past))
@@ -108,11 +109,11 @@ module _ (m b : List ℕ) (names others : List Named) (same : others ≡ names) 
       let some : length ys ≡ 0 → ⊥ = λ z. absurd (omega (arith, long, z)) in
       let nothing : t2 ≡ t1 = now
       ∙ ap (λ t. t1 ++ cond t (found_line others n) []) (ap (λ k. nat_lt k 16) full ∙ le-ltb 16 16 (omega arith)) ∙ append-nil t1 in
-      last ∙ ap (λ l. l ++ codes "and more\n") (nothing ∙ so_far)
-      ∙ append_assoc t0 (flat_map f xs) (codes "and more\n")
+      last ∙ ap (λ l. l ++ AND_MORE.now) (nothing ∙ so_far)
+      ∙ append_assoc t0 (flat_map f xs) AND_MORE.now
       ∙ ap (λ l. t0 ++ l) (
-      (λ i. flat_map f (sym (front 16 xs (n ∷ rest.0) size) i) ++ cond (sym (lt-ltb 16 (length ys) long) i) (codes "and more\n") [])
-      ∙ ap (λ t. cond t (codes "nowhere\n") (flat_map f (take 16 ys) ++ cond (nat_lt 16 (length ys)) (codes "and more\n") [])) (sym (ne_eqb (length ys) 0 some))
+      (λ i. flat_map f (sym (front 16 xs (n ∷ rest.0) size) i) ++ cond (sym (lt-ltb 16 (length ys) long) i) AND_MORE.now [])
+      ∙ ap (λ t. cond t NOWHERE.now (flat_map f (take 16 ys) ++ cond (nat_lt 16 (length ys)) AND_MORE.now [])) (sym (ne_eqb (length ys) 0 some))
       ∙ ap (places_found names) (sym whole))
 
   pub many_found : (n count new : ℕ) (t0 t1 t2 t3 : List ℕ) → n < length m
@@ -120,7 +121,7 @@ module _ (m b : List ℕ) (names others : List Named) (same : others ≡ names) 
       → count ≡ length (found_below m b n) → count ≤ 16
       → new ≡ count + cond (stands_at m b n) 1 0 → 16 < new
       → t2 ≡ t1 ++ cond (stands_at m b n) (cond (nat_lt count 16) (found_line others n) []) []
-      → t3 ≡ t2 ++ codes "and more\n"
+      → t3 ≡ t2 ++ AND_MORE.now
       → t3 ≡ t0 ++ places_found names (found_below m b (length m))
   many_found n count new t0 t1 t2 t3 = many_by (stands_at m b n) n count new t0 t1 t2 t3 refl
 
@@ -136,19 +137,19 @@ module _ (m b : List ℕ) (names others : List Named) (same : others ≡ names) 
       let not_none : length xs ≡ 0 → ⊥ = λ z. some (counted ∙ z) in
       so_far ∙ ap (λ l. t0 ++ l) (
       sym (append-nil (flat_map f xs))
-      ∙ (λ i. flat_map f (sym (take_all 16 xs size) i) ++ cond (sym (le-ltb 16 (length xs) size) i) (codes "and more\n") [])
-      ∙ ap (λ t. cond t (codes "nowhere\n") (flat_map f (take 16 xs) ++ cond (nat_lt 16 (length xs)) (codes "and more\n") [])) (sym (ne_eqb (length xs) 0 not_none))
+      ∙ (λ i. flat_map f (sym (take_all 16 xs size) i) ++ cond (sym (le-ltb 16 (length xs) size) i) AND_MORE.now [])
+      ∙ ap (λ t. cond t NOWHERE.now (flat_map f (take 16 xs) ++ cond (nat_lt 16 (length xs)) AND_MORE.now [])) (sym (ne_eqb (length xs) 0 not_none))
       ∙ ap (λ k. places_found names (found_below m b k)) whole)
 
   pub nowhere_found : (n count : ℕ) (t0 t1 t2 : List ℕ) → n ≡ length m
       → t1 ≡ t0 ++ flat_map (found_line names) (found_below m b n)
-      → count ≡ length (found_below m b n) → count ≡ 0 → t2 ≡ t1 ++ codes "nowhere\n"
+      → count ≡ length (found_below m b n) → count ≡ 0 → t2 ≡ t1 ++ NOWHERE.now
       → t2 ≡ t0 ++ places_found names (found_below m b (length m))
   nowhere_found n count t0 t1 t2 whole so_far counted none last =
       let xs = found_below m b n in
       let f = found_line names in
       let empty : xs ≡ [] = no_elements xs (sym counted ∙ none) in
-      last ∙ ap (λ l. l ++ codes "nowhere\n") (so_far ∙ ap (λ l. t0 ++ flat_map f l) empty ∙ append-nil t0)
+      last ∙ ap (λ l. l ++ NOWHERE.now) (so_far ∙ ap (λ l. t0 ++ flat_map f l) empty ∙ append-nil t0)
       ∙ ap (λ l. t0 ++ l) (ap (places_found names) (sym empty) ∙ ap (λ k. places_found names (found_below m b k)) whole)
     where
       no_elements : (xs : List ℕ) → length xs ≡ 0 → xs ≡ []

@@ -10,14 +10,14 @@ use Rattle.mon_line_parts.specs.declared.topic.Topic.{Topic}
 use Rattle.mon_stops.specs.Stops.{first_with, new_changes, without, without_first_with}
 use Rattle.mon_stops.specs.declared.breaks.Break.{Break}
 use Rattle.mon_stops.specs.declared.watches.Watch.{Watch}
-use Rattle.mon_session.specs.Served.{Course, KeepsStops, ShowsOnly, course_of, happened}
+use Rattle.mon_session.specs.Course.{Course, KeepsStops, ShowsOnly, course_of, happened}
 use Rattle.mon_settings.specs.StopLines.{can_watch, changes_left, is_set, or_same, with_break, with_watch, without_stops}
 use Rattle.mon_settings.specs.ByteLines.{all_happened, assembled, bytes_put, inputs}
-use Rattle.mon_settings.specs.Named.{without_names}
+use Rattle.mon_settings.specs.Names.{without_names}
 use Rattle.mon_steps.specs.BackLines.{history_shown, most_remade, remade, undone_by, undone_by_watches}
-use Rattle.mon_steps.specs.Steps.{KeepsWatches, Stand, ran_by, ran_until, returned, some_steps, stand_of, stepped_over, watches_of}
+use Rattle.mon_steps.specs.RunLines.{KeepsWatches, Stand, ran_by, ran_until, returned, some_steps, stand_of, stepped_over, watches_of}
 use Rattle.mon_session.specs.declared.desk.Desk.{Desk}
-use Rattle.mon_dispatch.specs.Texts.{decimal_text, line_text, slip_line, too_long}
+use Rattle.mon_dispatch.specs.LineTexts.{decimal_text, line_text, slip_line, too_long}
 
 -- So much was written for a line.
 abbrev pub Says : List ℕ → Desk → Desk → Type 0

@@ -13,6 +13,7 @@ use Rattle.mon_texts.specs.Registers.{flags_text, state_line}
 use Rattle.mon_texts.specs.Screen.{screen_text}
 use Rattle.source_map.specs.Lines.{PlacesView}
 use Rattle.source_map.specs.Names.{Named}
+use Rattle.mon_dispatch.specs.declared.wording.TheConstants.{AND_MORE, NOWHERE}
 
 -- ---- instructions
 
@@ -47,9 +48,9 @@ found_line names address = place_text names address ++ codes "\n"
 
 -- At most 16 places are shown.
 abbrev pub places_found : List Named → List ℕ → List ℕ
-places_found names addresses = if length addresses == 0 then codes "nowhere\n"
+places_found names addresses = if length addresses == 0 then NOWHERE.now
     else flat_map (found_line names) (take 16 addresses)
-    ++ (if nat_lt 16 (length addresses) then codes "and more\n" else [])
+    ++ (if nat_lt 16 (length addresses) then AND_MORE.now else [])
 
 abbrev pub find_text : List ℕ → List ℕ → List Named → List ℕ
 find_text memory bytes names

@@ -2,9 +2,10 @@
 
 ghost use Rattle.std.specs.Prelude.{◌≡◌, ◌≤◌, ◌+◌, ◌++◌, [], IfOk, OnOk, length};
 ghost use Rattle.std.specs.Prelude.{if◌then◌else◌, nat_lt};
-ghost use Rattle.mon_session.specs.Served.{ShowsOnly};
+ghost use Rattle.mon_session.specs.Course.{ShowsOnly};
 ghost use Rattle.mon_dispatch.specs.LookTexts.{find_text, found_line, stands_at};
 
+use crate::wording::{AND_MORE, NOWHERE};
 use formatting::push_text;
 use mon_session::{Desk, Session};
 use mon_texts::push_place;
@@ -14,13 +15,16 @@ use std::alloc::AllocError;
 /// The most places that `find` shows.
 const MOST_FOUND: u32 = 16;
 
-/// Returns how many bytes memory has.
+/// How many bytes memory has.
+const MEMORY_SIZE: u32 = 65536;
+
+/// Returns how many bytes memory has: as many in every state.
 fn memory_size(session: &Session) -> u32
     ensures size { result ≡ length session.now.current.bus.memory }
     ensures within { result ≤ 65536 }
 {
-    let _ = session.peek(0);
-    65536
+    session.is_state();
+    MEMORY_SIZE
 }
 
 /// Returns whether bytes stand at an address.
@@ -79,11 +83,11 @@ pub fn find(desk: &mut Desk, bytes: &[u8]) -> Result<(), AllocError>
     for address in 0..memory_size(&desk.session) {
         count = show_if_found(desk, bytes, address as u16, count)?;
         if count > MOST_FOUND {
-            return desk.say("and more\n");
+            return desk.say(AND_MORE);
         }
     }
     if count == 0 {
-        return desk.say("nowhere\n");
+        return desk.say(NOWHERE);
     }
     Ok(())
 }

@@ -1,13 +1,14 @@
-//! A session of `mon`: what each line does to the machine, and what it writes.
+//! What each line of `mon` does to a session, and what it writes.
 //!
-//! `serve` reads a line by `mon_lines` and hands what it asks for to `mon_steps` or `mon_settings`.
-//! Lines that only look are served here (`looks`). `specs/Lines.antt` says what each line does,
-//! `specs/Texts.antt` what it says.
+//! `lines` reads a line by `mon_lines`, and passes what it asks for to `mon_steps`, `mon_settings`,
+//! or `looks`, which has the lines that change nothing; `finding` looks for bytes in memory. What
+//! each line does stands in `specs/Lines.antt`, what it writes in `specs/LineTexts.antt`.
 #![tactic(auto)]
 
-mod answers;
 mod finding;
+mod lines;
 mod looks;
+pub mod wording;
 
-pub use answers::serve;
+pub use lines::serve;
 pub use looks::look;

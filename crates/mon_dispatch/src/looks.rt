@@ -1,7 +1,7 @@
 //! What each line shows that only looks.
 
 ghost use Rattle.std.specs.Prelude.{◌≡◌, ◌++◌, OnOk};
-ghost use Rattle.mon_session.specs.Served.{ShowsOnly};
+ghost use Rattle.mon_session.specs.Course.{ShowsOnly};
 ghost use Rattle.mon_dispatch.specs.LookTexts.{instructions_text, look_text, rows_text};
 
 use crate::finding::find;
@@ -15,7 +15,7 @@ use std::alloc::AllocError;
 /// The most instructions that are shown at once.
 const MOST_ROWS: u32 = 256;
 
-/// Shows so many instructions from an address on, up to the one that ends at FFFF or goes past it.
+/// Shows `count` instructions from an address on, up to the one that ends at FFFF or goes past it.
 fn show_rows(desk: &mut Desk, address: u16, count: u32) -> Result<(), AllocError>
     ensures shows { ShowsOnly desk.old desk.new }
     ensures text { OnOk result (desk.new.text.items ≡ desk.old.text.items

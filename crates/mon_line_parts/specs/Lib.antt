@@ -1,4 +1,4 @@
 pub mod Topics
-pub mod Told
+pub mod Help
 pub mod Reading
 pub mod Values

@@ -1,10 +1,11 @@
 -- The words with which a line begins, and what they are about. Source: mos65.
-use Rattle.std.specs.Prelude.{ℕ, ◌==◌, ◌&&◌, nat_le, Bool, true, false, codes, if◌then◌else◌, List, [], ◌∷◌, length, take, Option, Some, None}
+use Rattle.std.specs.Prelude.{ℕ, ◌==◌, ◌&&◌, nat_le, Bool, true, false, codes, if◌then◌else◌, List, [], ◌∷◌, length, map, take, Option, Some, None}
 use Rattle.std.specs.Borrow.{Bor}
 use Rattle.std.specs.List.{list_all}
 use Rattle.std.specs.Str.{bytes_eq, str_eq_ignore_ascii_case}
 use Rattle.mon_line_parts.specs.declared.topic.Topic.{Topic}
 use Rattle.mon_line_parts.specs.declared.topic.Topic.TheVariants as topic
+use Rattle.mon_line_parts.specs.declared.topic.TheConstants.{WORDS}
 
 -- A word, and what a line is about that begins with it.
 abbrev pub TopicWord : Type 0
@@ -14,56 +15,10 @@ TopicWord = List ℕ × Topic
 abbrev pub row_view : Bor (List ℕ) × Topic → TopicWord
 row_view row = (row.0.now, row.1)
 
--- The words, but for `?`, and for `exit`, which is not to be shortened. A word of one letter is an
--- abbreviation that two words would have in common.
+-- The words, but for `?`, and for `exit`, which is not to be shortened. They stand in the code, in the
+-- table `WORDS`.
 unfoldable pub words : List TopicWord
-words =
-    (codes "step", topic.Step) ∷
-    (codes "s", topic.Step) ∷
-    (codes "over", topic.Over) ∷
-    (codes "next", topic.Over) ∷
-    (codes "out", topic.Out) ∷
-    (codes "until", topic.Until) ∷
-    (codes "go", topic.Go) ∷
-    (codes "continue", topic.Go) ∷
-    (codes "run", topic.Go) ∷
-    (codes "back", topic.Back) ∷
-    (codes "rback", topic.Rback) ∷
-    (codes "redo", topic.Redo) ∷
-    (codes "where", topic.Where) ∷
-    (codes "history", topic.History) ∷
-    (codes "break", topic.Break) ∷
-    (codes "b", topic.Break) ∷
-    (codes "watch", topic.Watch) ∷
-    (codes "w", topic.Watch) ∷
-    (codes "list", topic.List) ∷
-    (codes "delete", topic.Delete) ∷
-    (codes "unbreak", topic.Delete) ∷
-    (codes "regs", topic.Regs) ∷
-    (codes "registers", topic.Regs) ∷
-    (codes "r", topic.Regs) ∷
-    (codes "flags", topic.Flags) ∷
-    (codes "mem", topic.Mem) ∷
-    (codes "dis", topic.Dis) ∷
-    (codes "d", topic.Dis) ∷
-    (codes "find", topic.Find) ∷
-    (codes "stack", topic.Stack) ∷
-    (codes "set", topic.Set) ∷
-    (codes "put", topic.Put) ∷
-    (codes "poke", topic.Put) ∷
-    (codes "asm", topic.Asm) ∷
-    (codes "type", topic.«Type») ∷
-    (codes "in", topic.«Type») ∷
-    (codes "screen", topic.Screen) ∷
-    (codes "irq", topic.Irq) ∷
-    (codes "nmi", topic.Nmi) ∷
-    (codes "reset", topic.Reset) ∷
-    (codes "help", topic.Help) ∷
-    (codes "h", topic.Help) ∷
-    (codes "quit", topic.Quit) ∷
-    (codes "q", topic.Quit) ∷
-    (codes "trace", topic.Trace) ∷
-    []
+words = map (λ row. (row.0.now, row.1)) WORDS
 
 -- ---- the topic of a first word
 

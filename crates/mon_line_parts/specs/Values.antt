@@ -1,5 +1,5 @@
 -- Values: numbers, names, and sums of them. Source: mos65.
-use Rattle.std.specs.Prelude.{ℕ, zero, suc, ◌+◌, ℤ, pos, negsuc, ◌+ℤ◌, ◌-ℤ◌, ◌==◌, ◌||◌, nat_le, Bool, codes, if◌then◌else◌, List, [], ◌∷◌, ◌++◌, length, Option, Some, None, Ok, Err}
+use Rattle.std.specs.Prelude.{ℕ, zero, suc, ◌+◌, ℤ, pos, negsuc, ◌+ℤ◌, ◌-ℤ◌, ◌==◌, ◌&&◌, ◌||◌, nat_le, Bool, codes, if◌then◌else◌, List, [], ◌∷◌, ◌++◌, length, Option, Some, None, Ok, Err}
 use Rattle.std.specs.Int.{saturate_signed, w64}
 use Rattle.std.specs.Option.{option_or}
 use Rattle.std.specs.Str.{byte, str_eq_ignore_ascii_case}
@@ -10,21 +10,25 @@ use Rattle.mon_line_parts.specs.declared.slip.Lack.TheVariants as lacking
 use Rattle.mon_line_parts.specs.declared.values.Kind.{Kind}
 use Rattle.mon_line_parts.specs.declared.values.Kind.TheVariants.{Address, Byte, Word, Count}
 
--- What is missing where no value of a kind stands, and the highest value of the kind.
+-- What is missing where no value of a kind stands.
 abbrev pub lack_of : Kind → Lack
 lack_of (Address pc) = lacking.Address
 lack_of Byte = lacking.Value
 lack_of Word = lacking.Value
 lack_of Count = lacking.Number
 
-abbrev pub most_counted : ℕ
-most_counted = 1000000000
+-- The lowest and the highest value of a kind.
+abbrev pub least_of : Kind → ℕ
+least_of (Address pc) = 0
+least_of Byte = 0
+least_of Word = 0
+least_of Count = 1
 
 abbrev pub most_of : Kind → ℕ
 most_of (Address pc) = 65535
 most_of Byte = 255
 most_of Word = 65535
-most_of Count = most_counted
+most_of Count = 1000000000
 
 -- ---- one number or name
 
@@ -94,24 +98,26 @@ terms_of (suc n) names kind total text = if is_sign text
     then and_then (term_of names kind total text) (λ sum rest. terms_of n names kind sum rest)
     else Ok (total, text)
 
-abbrev pub within : ℕ → ℤ → List ℕ → Reads ℕ
-within most (pos n) rest = if nat_le n most then Ok (n, rest) else Err (range 0 most)
-within most (negsuc n) rest = Err (range 0 most)
+-- A sum that lies between two numbers.
+abbrev pub within : ℕ → ℕ → ℤ → List ℕ → Reads ℕ
+within least most (pos n) rest = if nat_le least n && nat_le n most then Ok (n, rest)
+    else Err (range least most)
+within least most (negsuc n) rest = Err (range least most)
 
 -- A sum that is a value of a kind.
 unfoldable pub sum_of : List Named → Kind → List ℕ → Reads ℕ
 sum_of names kind text = and_then (atom_of names kind (lack_of kind) text) (λ first rest.
-    and_then (terms_of (length rest) names kind first rest) (within (most_of kind)))
+    and_then (terms_of (length rest) names kind first rest) (within (least_of kind) (most_of kind)))
 
 -- ---- counts, and bytes
 
-abbrev pub not_zero : ℕ → List ℕ → Reads (Option ℕ)
-not_zero number rest = if number == 0 then Err (range 1 most_counted) else Ok (Some number, rest)
+abbrev pub some_count : ℕ → List ℕ → Reads (Option ℕ)
+some_count number rest = Ok (Some number, rest)
 
 -- A count, if something is left.
 abbrev pub count_of : List Named → List ℕ → Reads (Option ℕ)
 count_of names text = if is_empty text then Ok (None, text)
-    else and_then (sum_of names Count text) not_zero
+    else and_then (sum_of names Count text) some_count
 
 -- Bytes that were found, and a text between quotes or one byte more: 256 at most.
 abbrev pub with_piece : List ℕ → List ℕ → List ℕ → Reads (List ℕ)

@@ -1,15 +1,18 @@
-//! What a line of `mon` is about: the words that a line begins with, and how a line about each
-//! topic is written.
+//! The parts of a line of `mon`: its first word, and the values behind it.
 //!
-//! Words, signs, numbers, names and sums in a line of `mon`, and what is missing or wrong in it.
+//! `topic` has the words that a line may begin with, and the topic of each. `help` has what help
+//! says of a topic. `scan` reads words, signs and texts at the front of a line, `numbers` and
+//! `values` read numbers, names and sums of them. `slip` names what can be missing or wrong.
 #![tactic(auto)]
 
+mod help;
 mod numbers;
 mod scan;
 mod slip;
 mod topic;
 mod values;
 
+pub use help::Help;
 pub use numbers::number_in;
 pub use scan::{after, after_word, is_empty, is_next, is_word, past, skip, word_of};
 pub use slip::{Lack, Why};

@@ -1,10 +1,11 @@
 //! The words that a line begins with.
 
 ghost use Rattle.std.specs.Prelude.{◌≡◌, ◌≤◌, map};
-ghost use Rattle.mon_line_parts.specs.Told.{effect_of, example_of, form_of};
+ghost use Rattle.mon_line_parts.specs.Help.{effect_of, example_of, form_of};
 ghost use Rattle.mon_line_parts.specs.Topics.{begins_with, begun, by_words, common, is_same, row_view};
 ghost use Rattle.mon_line_parts.specs.Topics.{topic_of, whole, words};
 
+use crate::help::{HELP, Help};
 use source_map::is_same_word;
 
 /// What a line is about.
@@ -45,7 +46,7 @@ pub enum Topic {
 
 /// The first words, each with its topic, but for `exit`, which is not to be shortened. A word of
 /// one letter is an abbreviation that two words would have in common.
-const WORDS: [(&[u8], Topic); 45] = [
+pub const WORDS: [(&[u8], Topic); 45] = [
     (b"step", Topic::Step),
     (b"s", Topic::Step),
     (b"over", Topic::Over),
@@ -93,7 +94,7 @@ const WORDS: [(&[u8], Topic); 45] = [
     (b"trace", Topic::Trace),
 ];
 
-/// The topics, in the order in which `help` tells them.
+/// The topics, in the order in which help lists them.
 pub const TOPICS: [Topic; 30] = [
     Topic::Step,
     Topic::Over,
@@ -128,85 +129,18 @@ pub const TOPICS: [Topic; 30] = [
 ];
 
 impl Topic {
-    /// Returns how a line about it is written, and what it does.
-    pub fn form(self) -> (&'static str, &'static str)
-        ensures form { result.0.now ≡ form_of self }
-        ensures effect { result.1.now ≡ effect_of self }
+    /// Returns what help says of it.
+    #[tactic(auto, using(crate::proofs::Begun::place_is))]
+    pub fn help(self) -> Help
+        ensures form { result.form.now ≡ form_of self }
+        ensures effect { result.effect.now ≡ effect_of self }
+        ensures example { result.example.now ≡ example_of self }
     {
-        match self {
-            Topic::Step => ("step [N]", "makes N steps, or 1"),
-            Topic::Over => ("over", "makes a JSR as one step"),
-            Topic::Out => ("out", "steps until this subroutine has returned"),
-            Topic::Until => ("until WHERE", "runs to an address"),
-            Topic::Go => ("go [N]", "runs to a break, a watch or a fault, or N steps"),
-            Topic::Back => ("back [N]", "undoes N steps, or 1; back over: a whole JSR"),
-            Topic::Rback => ("rback", "goes back to the last break or change at a watch"),
-            Topic::Redo => ("redo [N]", "makes N undone steps again, or all"),
-            Topic::Where => ("where", "shows the calls on the stack"),
-            Topic::History => ("history [N]", "shows the last N steps, or 10"),
-            Topic::Break => ("break WHERE [if TESTS] [times N]", "stops a run there"),
-            Topic::Watch => (
-                "watch WHERE[..WHERE] [read|write]",
-                "stops a run when a byte there changes, is read or written",
-            ),
-            Topic::List => ("list", "shows breaks and watches"),
-            Topic::Delete => ("delete WHERE", "clears the break or the watch there"),
-            Topic::Regs => ("regs", "shows the registers"),
-            Topic::Flags => ("flags", "shows the flags by name"),
-            Topic::Mem => ("mem WHERE [N]", "shows N bytes of memory, or 64"),
-            Topic::Dis => ("dis [WHERE] [N]", "shows N instructions, or 10"),
-            Topic::Find => ("find BYTES", "shows where bytes or \"text\" stand"),
-            Topic::Stack => ("stack", "shows the bytes on the stack"),
-            Topic::Set => ("set REGISTER VALUE", "sets A, X, Y, S, P or PC"),
-            Topic::Put => ("put WHERE BYTES", "puts bytes or \"text\" into memory"),
-            Topic::Asm => ("asm WHERE TEXT", "assembles an instruction into memory"),
-            Topic::Type => ("type \"TEXT\"", "hands text to the console's input"),
-            Topic::Screen => ("screen", "shows the console's output"),
-            Topic::Irq => ("irq on|off", "sets the interrupt line"),
-            Topic::Nmi => ("nmi", "asks for a nonmaskable interrupt"),
-            Topic::Reset => ("reset", "resets the processor"),
-            Topic::Help => ("help [WORD]", "shows the words, or one of them"),
-            Topic::Quit => ("quit", "ends"),
-            Topic::Trace => ("mos65 trace FILE", "is a word of mos65, not of mon"),
-        }
-    }
-
-    /// Returns a line about it, as an example.
-    pub fn example(self) -> &'static str
-        ensures { result.now ≡ example_of self }
-    {
-        match self {
-            Topic::Step => "step 3",
-            Topic::Over => "over",
-            Topic::Out => "out",
-            Topic::Until => "until $0210",
-            Topic::Go => "go",
-            Topic::Back => "back 3",
-            Topic::Rback => "rback",
-            Topic::Redo => "redo",
-            Topic::Where => "where",
-            Topic::History => "history 5",
-            Topic::Break => "break main, break $0200, break $0200 if A=$41 and X>3",
-            Topic::Watch => "watch $0010, watch $0010..$001F write",
-            Topic::List => "list",
-            Topic::Delete => "delete $0200",
-            Topic::Regs => "regs",
-            Topic::Flags => "flags",
-            Topic::Mem => "mem $0200 32",
-            Topic::Dis => "dis main 5",
-            Topic::Find => "find $A9 $00, find \"HELLO\"",
-            Topic::Stack => "stack",
-            Topic::Set => "set A $41, set PC $0200",
-            Topic::Put => "put $0300 1 2 $FF, put $0300 \"HELLO\"",
-            Topic::Asm => "asm $0300 LDA #1",
-            Topic::Type => "type \"HELLO\"",
-            Topic::Screen => "screen",
-            Topic::Irq => "irq on",
-            Topic::Nmi => "nmi",
-            Topic::Reset => "reset",
-            Topic::Help => "help break",
-            Topic::Quit => "quit",
-            Topic::Trace => "history 5",
+        let (form, effect, example) = HELP[self as usize];
+        Help {
+            form,
+            effect,
+            example,
         }
     }
 }

@@ -5,9 +5,9 @@ ghost use Rattle.source_map.specs.Names.{Named, address_of};
 ghost use Rattle.mon_line_parts.specs.Reading.{Reads, after_word, and_then, why_view, word_of};
 ghost use Rattle.mon_line_parts.specs.Reading.{missing, no_name, number_in};
 ghost use Rattle.mon_line_parts.specs.Values.{address_word, atom_of, bytes_of, character_or, count_of};
-ghost use Rattle.mon_line_parts.specs.Values.{is_sign, lack_of, minus, most_of, named_number, not_zero};
+ghost use Rattle.mon_line_parts.specs.Values.{is_sign, lack_of, least_of, minus, most_of, named_number};
 ghost use Rattle.mon_line_parts.specs.Values.{number_of, number_or, piece_of, pieces_of, plus};
-ghost use Rattle.mon_line_parts.specs.Values.{some_bytes, sum_of, term_of, terms_of, with_piece, within};
+ghost use Rattle.mon_line_parts.specs.Values.{some_bytes, some_count, sum_of, term_of, terms_of, with_piece, within};
 
 use crate::numbers::number_in;
 use crate::scan::{
@@ -40,6 +40,18 @@ fn lack_of(kind: Kind) -> Lack
         Kind::Byte => Lack::Value,
         Kind::Word => Lack::Value,
         Kind::Count => Lack::Number,
+    }
+}
+
+/// The lowest value of a kind.
+fn least_of(kind: Kind) -> u32
+    ensures { result ≡ least_of kind }
+{
+    match kind {
+        Kind::Address(_) => 0,
+        Kind::Byte => 0,
+        Kind::Word => 0,
+        Kind::Count => 1,
     }
 }
 
@@ -216,16 +228,16 @@ fn terms_of<'a>(
     Ok((total, rest))
 }
 
-/// Returns a sum if it lies between 0 and another number.
-fn within<'a>(most: u32, total: i64, rest: &'a [u8]) -> Result<(u32, &'a [u8]), Why<'a>>
-    ensures ok { IfOk result (λ p. within most total rest.now ≡ Ok (p.0, p.1.now)) }
-    ensures err { IfErr result (λ why. within most total rest.now ≡ Err (why_view why)) }
+/// Returns a sum if it lies between two numbers.
+fn within<'a>(least: u32, most: u32, total: i64, rest: &'a [u8]) -> Result<(u32, &'a [u8]), Why<'a>>
+    ensures ok { IfOk result (λ p. within least most total rest.now ≡ Ok (p.0, p.1.now)) }
+    ensures err { IfErr result (λ why. within least most total rest.now ≡ Err (why_view why)) }
     ensures small { IfOk result (λ p. p.0 ≤ most) }
 {
-    if 0 <= total && total <= most as i64 {
+    if least as i64 <= total && total <= most as i64 {
         Ok((total as u32, rest))
     } else {
-        Err(Why::Range { least: 0, most })
+        Err(Why::Range { least, most })
     }
 }
 
@@ -238,7 +250,7 @@ fn sum_of<'a>(names: &Names, kind: Kind, text: &'a [u8]) -> Result<(u32, &'a [u8
 {
     let (first, rest) = atom_of(names, kind, lack_of(kind), text)?;
     let (total, rest) = terms_of(names, kind, first, rest)?;
-    within(most_of(kind), total, rest)
+    within(least_of(kind), most_of(kind), total, rest)
 }
 
 /// Reads an address.
@@ -270,7 +282,7 @@ pub fn word_value<'a>(names: &Names, text: &'a [u8]) -> Result<(u16, &'a [u8]), 
     Ok((value as u16, rest))
 }
 
-/// Reads a count, if something is left.
+/// Reads a count, if something is left: a number from 1 on.
 pub fn count_of<'a>(names: &Names, text: &'a [u8]) -> Result<(Option<u32>, &'a [u8]), Why<'a>>
     ensures ok { IfOk result (λ p. count_of names.now text.now ≡ Ok (p.0, p.1.now)) }
     ensures err { IfErr result (λ why. count_of names.now text.now ≡ Err (why_view why)) }
@@ -279,12 +291,6 @@ pub fn count_of<'a>(names: &Names, text: &'a [u8]) -> Result<(Option<u32>, &'a [
         return Ok((None, text));
     }
     let (number, rest) = sum_of(names, Kind::Count, text)?;
-    if number == 0 {
-        return Err(Why::Range {
-            least: 1,
-            most: MOST_COUNTED,
-        });
-    }
     Ok((Some(number), rest))
 }
 

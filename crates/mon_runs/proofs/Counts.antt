@@ -6,9 +6,9 @@ use Rattle.model.specs.Run.{after_steps}
 use Rattle.law_sessions.proofs.Runs.{after_steps-add}
 use Rattle.mon_runs.specs.Goals.{go_of, out_of, over_of, is_behind, has_left, is_jump_to_itself}
 use Rattle.mon_runs.specs.Led.{Outcome, led, if_many}
-use Rattle.mon_runs.specs.declared.goal_run.LedEnd.{LedEnd}
-use Rattle.mon_runs.specs.declared.goal_run.LedWhy.{LedWhy}
-use Rattle.mon_runs.specs.declared.goal_run.LedWhy.TheVariants.{Met, Stopped, Many}
+use Rattle.mon_runs.specs.declared.led.LedEnd.{LedEnd}
+use Rattle.mon_runs.specs.declared.led.LedWhy.{LedWhy}
+use Rattle.mon_runs.specs.declared.led.LedWhy.TheVariants.{Met, Stopped, Many}
 use Rattle.mon_runs.proofs.Steps.{led_runs_are_steps}
 use Rattle.model.specs.Back.{without_last}
 use Rattle.mon_runs.specs.Runs.{HasMade, gone_back}

@@ -1,6 +1,6 @@
 pub mod Counts
 pub mod Apart
-pub mod Looked
+pub mod LookedRuns
 pub mod Past
 pub mod Way
 pub mod Steps

@@ -4,12 +4,12 @@ use Rattle.std.specs.Option.{option_map}
 use Rattle.model.specs.Run.{run_end}
 use Rattle.model.specs.declared.run_end.Why.{Why}
 use Rattle.mon_runs.specs.Looked.{Arrival, Place, after_stretch, ended_or, later}
-use Rattle.mon_runs.specs.Past.{after_piece, as_stopped, ended_at, gone_on, run_past, sum_of, why_of_go, why_of_stretch}
+use Rattle.mon_runs.specs.PastBreaks.{after_piece, as_stopped, ended_at, gone_on, run_past, sum_of, why_of_go, why_of_stretch}
 use Rattle.mon_runs.specs.declared.ended.EndWhy.TheVariants as end_why
-use Rattle.mon_runs.proofs.Looked.{later-more, later-none}
+use Rattle.mon_runs.proofs.LookedRuns.{later-more, later-none}
 use Rattle.mon_runs.specs.Goals.{go_of}
-use Rattle.mon_runs.specs.declared.goal_run.LedWhy.{LedWhy}
-use Rattle.mon_runs.specs.declared.goal_run.LedWhy.TheVariants as led_why
+use Rattle.mon_runs.specs.declared.led.LedWhy.{LedWhy}
+use Rattle.mon_runs.specs.declared.led.LedWhy.TheVariants as led_why
 
 -- ---- pieces
 

@@ -6,9 +6,9 @@ use Rattle.model.specs.Run.{run_end, after_run, after_steps}
 use Rattle.model.specs.declared.run_end.Why.{Why}
 use Rattle.model.specs.declared.run_end.Why.TheVariants.{Watch, Break, Limit, Refused}
 use Rattle.model.specs.declared.run_end.RunEnd.{RunEnd}
-use Rattle.mon_runs.specs.declared.goal_run.LedEnd.{LedEnd}
-use Rattle.mon_runs.specs.declared.goal_run.LedWhy.{LedWhy}
-use Rattle.mon_runs.specs.declared.goal_run.LedWhy.TheVariants.{Met, Stopped, Many}
+use Rattle.mon_runs.specs.declared.led.LedEnd.{LedEnd}
+use Rattle.mon_runs.specs.declared.led.LedWhy.{LedWhy}
+use Rattle.mon_runs.specs.declared.led.LedWhy.TheVariants.{Met, Stopped, Many}
 use Rattle.mon_runs.specs.Led.{Outcome, further, goes_on, then_on, unless_met, led}
 
 -- What a run told, and the session after it.

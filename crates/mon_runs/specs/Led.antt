@@ -6,9 +6,9 @@ use Rattle.model.specs.Run.{run_end, after_run, after_steps}
 use Rattle.model.specs.declared.run_end.Why.{Why}
 use Rattle.model.specs.declared.run_end.Why.TheVariants.{Watch, Break, Limit, Refused}
 use Rattle.model.specs.declared.run_end.RunEnd.{RunEnd}
-use Rattle.mon_runs.specs.declared.goal_run.LedEnd.{LedEnd}
-use Rattle.mon_runs.specs.declared.goal_run.LedWhy.{LedWhy}
-use Rattle.mon_runs.specs.declared.goal_run.LedWhy.TheVariants.{Met, Stopped, Many}
+use Rattle.mon_runs.specs.declared.led.LedEnd.{LedEnd}
+use Rattle.mon_runs.specs.declared.led.LedWhy.{LedWhy}
+use Rattle.mon_runs.specs.declared.led.LedWhy.TheVariants.{Met, Stopped, Many}
 
 -- How a led run ends, and the session after it.
 abbrev pub Outcome : Type 0

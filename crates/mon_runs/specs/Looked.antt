@@ -10,14 +10,14 @@ use Rattle.mon_runs.specs.Ends.{is_entry, is_end, breaks_after}
 use Rattle.mon_runs.specs.declared.ended.EndWhy.{EndWhy}
 use Rattle.mon_runs.specs.declared.ended.EndWhy.TheVariants as end_why
 use Rattle.mon_runs.specs.declared.ended.Ended.{Ended}
-use Rattle.mon_runs.specs.declared.led.Goal.{Goal}
-use Rattle.mon_runs.specs.declared.led.Goal.TheVariants.{Behind, Left, Stuck, Never}
-use Rattle.mon_runs.specs.declared.led.Sight.{Sight}
+use Rattle.mon_runs.specs.declared.looked.Goal.{Goal}
+use Rattle.mon_runs.specs.declared.looked.Goal.TheVariants.{Behind, Left, Stuck, Never}
+use Rattle.mon_runs.specs.declared.looked.Sight.{Sight}
 use Rattle.mon_stops.specs.Stops.{has_access}
 use Rattle.mon_stops.specs.declared.breaks.Break.{Break}
 use Rattle.mon_stops.specs.declared.watches.Watch.{Watch}
 use Rattle.mon_runs.specs.Goals.{is_behind, has_left, is_jump_to_itself, opcode_at_pc}
-use Rattle.mon_runs.specs.declared.goal_run.LedWhy.TheVariants as led_why
+use Rattle.mon_runs.specs.declared.led.LedWhy.TheVariants as led_why
 use Rattle.accesses.specs.Access.{access_here}
 use Rattle.accesses.specs.declared.access.Access.{Access}
 

@@ -2,11 +2,11 @@
 use Rattle.std.specs.Prelude.{◌≡◌, ℕ, Bool, Option, Some, None, suc}
 use Rattle.model.specs.State.{State}
 use Rattle.model.specs.Session.{Session}
-use Rattle.mon_runs.specs.declared.goal_run.Goal.{Goal}
-use Rattle.mon_runs.specs.declared.goal_run.Goal.TheVariants.{Behind, Left, Stuck}
-use Rattle.mon_runs.specs.declared.goal_run.LedWhy.{LedWhy}
-use Rattle.mon_runs.specs.declared.goal_run.Round.{Round}
-use Rattle.mon_runs.specs.declared.goal_run.Sight.{Sight}
+use Rattle.mon_runs.specs.declared.led.Goal.{Goal}
+use Rattle.mon_runs.specs.declared.led.Goal.TheVariants.{Behind, Left, Stuck}
+use Rattle.mon_runs.specs.declared.led.LedWhy.{LedWhy}
+use Rattle.mon_runs.specs.declared.led.Round.{Round}
+use Rattle.mon_runs.specs.declared.led.Sight.{Sight}
 use Rattle.mon_runs.specs.Goals.{opcode_at_pc, is_behind, has_left, is_jump_to_itself}
 use Rattle.mon_runs.specs.Led.{Outcome, led, further}
 

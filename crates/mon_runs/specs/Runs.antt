@@ -1,11 +1,11 @@
--- What the runs are, in words of `Goals.antt`. Source: mos65.
+-- What a run makes of a session, in words of led runs. Source: mos65.
 use Rattle.std.specs.Prelude.{ℕ, ◌≡◌, ◌<◌, zero, suc, Result, Ok}
 use Rattle.model.specs.Session.{Session}
 use Rattle.model.specs.Run.{after_steps}
 use Rattle.model.specs.Back.{states, without_last}
 use Rattle.model.specs.declared.session_fault.SessionFault.{SessionFault}
 use Rattle.mon_runs.specs.Led.{Outcome}
-use Rattle.mon_runs.specs.declared.goal_run.LedEnd.{LedEnd}
+use Rattle.mon_runs.specs.declared.led.LedEnd.{LedEnd}
 use Rattle.mon_runs.specs.declared.ended.EndWhy.TheVariants.{Led}
 use Rattle.mon_runs.specs.declared.ended.Ended.{Ended}
 
@@ -17,7 +17,7 @@ HasMade did s t = did < 18446744073709551615 → t ≡ after_steps did s
 abbrev pub ended_of : LedEnd → Ended
 ended_of end = record { did = end.did; why = Led end.why }
 
--- A run ended as one of `Goals.antt` does, in the session after it.
+-- A run ended as a led run does, in the session after it.
 abbrev pub IsLed : Outcome → Ended → Session → Type 0
 IsLed outcome ended t = (ended ≡ ended_of outcome.0) × (t ≡ outcome.1)
 

@@ -8,7 +8,7 @@ use crate::{LedEnd, LedWhy};
 /// Why a run ends.
 #[derive(Clone, Copy)]
 pub enum EndWhy {
-    /// As a run of `goals` does.
+    /// As a led run does.
     Led(LedWhy),
     /// The last step's instruction read a byte at an address that is watched for reads.
     Read(u16),
@@ -24,7 +24,7 @@ pub struct Ended {
 }
 
 impl Ended {
-    /// Returns how a run of `goals` ended.
+    /// Returns how a led run ended.
     pub fn of(end: LedEnd) -> Ended
         ensures { result ≡ ended_of end }
     {

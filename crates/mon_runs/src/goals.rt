@@ -4,7 +4,7 @@ ghost use Rattle.std.specs.Prelude.{◌≡◌, ◌≢◌, ◌≤◌, ◌^◌, Ok
 ghost use Rattle.model.specs.Breakpoints.{break_set};
 ghost use Rattle.mon_runs.specs.Goals.{go_of, out_of, over_of, until_of, without_break};
 
-use crate::goal_run::{Goal, LedEnd, LedWhy, lead};
+use crate::led::{Goal, LedEnd, LedWhy, lead};
 use debugger::{Session, SessionFault};
 
 /// The opcode of JSR.

@@ -1,4 +1,4 @@
-//! Runs of `goals`, and runs that go on after a break whose tests do not hold.
+//! Led runs, and runs that go on past a break whose tests do not hold.
 
 ghost use Rattle.std.specs.Prelude.{◌≡◌, ◌≢◌, ◌<◌, ◌+◌, Err, IfErr, IfNone, IfOk, IsErrOf, IsOk};
 ghost use Rattle.std.specs.Prelude.{None, Ok};
@@ -7,15 +7,15 @@ ghost use Rattle.model.specs.State.{State};
 ghost use Rattle.model.specs.Run.{after_run, after_steps, run_end};
 ghost use Rattle.mon_runs.specs.Goals.{go_of, out_of, over_of, until_of};
 ghost use Rattle.mon_runs.specs.Looked.{after_stretch};
-ghost use Rattle.mon_runs.specs.Past.{after_piece, breaks_after_led, gone_on, is_led_end, is_stuck};
-ghost use Rattle.mon_runs.specs.Past.{run_past, sum_of, why_of_go, why_of_others, why_of_piece};
-ghost use Rattle.mon_runs.specs.Past.{why_of_stretch};
+ghost use Rattle.mon_runs.specs.PastBreaks.{after_piece, breaks_after_led, gone_on, is_led_end, is_stuck};
+ghost use Rattle.mon_runs.specs.PastBreaks.{run_past, sum_of, why_of_go, why_of_others, why_of_piece};
+ghost use Rattle.mon_runs.specs.PastBreaks.{why_of_stretch};
 ghost use Rattle.mon_runs.specs.Runs.{HasMade};
 
 use crate::ended::{EndWhy, Ended};
-use crate::goal_run::{LedEnd, LedWhy};
 use crate::goals::{go, out, over, until};
-use crate::led::is_end;
+use crate::led::{LedEnd, LedWhy};
+use crate::looked::is_end;
 use debugger::{Regs, Session, SessionFault, Why};
 use mon_stops::Stops;
 
@@ -28,7 +28,7 @@ const MOST_ROUNDS: u32 = 262_144;
 /// The steps after which a run goes on at no break any more.
 const MOST_STEPS: u64 = 1_073_741_824;
 
-/// Makes a JSR as one, by `goals`.
+/// Makes a JSR as one step, by a led run.
 pub fn over_once(session: &mut Session) -> LedEnd
     ensures led { over_of 10000000 session.old ≡ (result, session.new) }
     ensures steps { session.new ≡ after_steps result.did session.old }
@@ -36,7 +36,7 @@ pub fn over_once(session: &mut Session) -> LedEnd
     over(session, MOST_LED)
 }
 
-/// Leaves a subroutine, by `goals`.
+/// Leaves a subroutine, by a led run.
 pub fn out_once(session: &mut Session) -> LedEnd
     ensures led { out_of 10000000 session.old ≡ (result, session.new) }
     ensures steps { session.new ≡ after_steps result.did session.old }
@@ -44,7 +44,7 @@ pub fn out_once(session: &mut Session) -> LedEnd
     out(session, MOST_LED)
 }
 
-/// Makes a run to its end, by `goals`.
+/// Makes a run to its end, by a led run.
 pub fn go_once(session: &mut Session) -> LedEnd
     ensures led { go_of 262144 session.old ≡ (result, session.new) }
     ensures steps { session.new ≡ after_steps result.did session.old }
@@ -52,7 +52,7 @@ pub fn go_once(session: &mut Session) -> LedEnd
     go(session, MOST_ROUNDS)
 }
 
-/// Makes a run to an address, by `goals`.
+/// Makes a run to an address, by a led run.
 ///
 /// Errors: those of `crate::until`; nothing is changed then.
 pub fn until_once(session: &mut Session, address: u16) -> Result<LedEnd, SessionFault>

@@ -7,13 +7,13 @@ ghost use Rattle.model.specs.Run.{after_steps};
 ghost use Rattle.model.specs.Back.{states};
 ghost use Rattle.mon_runs.specs.Goals.{go_of, out_of, over_of, until_of, without_break};
 ghost use Rattle.mon_stops.specs.Stops.{is_plain};
-ghost use Rattle.mon_runs.specs.Past.{count_run, go_run, if_all, out_run, over_looked};
-ghost use Rattle.mon_runs.specs.Past.{over_run, run_to, until_run};
+ghost use Rattle.mon_runs.specs.PastBreaks.{count_run, go_run, if_all, out_run, over_looked};
+ghost use Rattle.mon_runs.specs.PastBreaks.{over_run, run_to, until_run};
 ghost use Rattle.mon_runs.specs.Runs.{HasMade, HasMadeStates, IsLed, IsLedTo};
 
 use crate::LedWhy;
 use crate::ended::{EndWhy, Ended};
-use crate::led::{Goal, lead};
+use crate::looked::{Goal, lead};
 use crate::pieces::{MOST_LED, go_on, go_once, out_once, over_once, run_on, until_once};
 use debugger::{Session, SessionFault, Why};
 use mon_stops::Stops;
@@ -22,7 +22,7 @@ use mon_stops::Stops;
 const JSR: u8 = 0x20;
 
 /// Makes a JSR as one, or one step, each step looked at.
-#[tactic(auto, unfolding(crate::specs::Past::over_looked))]
+#[tactic(auto, unfolding(crate::specs::PastBreaks::over_looked))]
 fn over_looked(session: &mut Session, stops: &mut Stops) -> Ended
     ensures steps { session.new ≡ after_steps result.did session.old }
     ensures run { over_looked stops.old.watches.items (session.old, stops.old.breaks.items)
@@ -41,7 +41,7 @@ fn over_looked(session: &mut Session, stops: &mut Stops) -> Ended
 }
 
 /// Makes a JSR as one, or one step: as `crate::over` does, for up to 10,000,000 steps.
-#[tactic(auto, unfolding(crate::specs::Past::over_run))]
+#[tactic(auto, unfolding(crate::specs::PastBreaks::over_run))]
 pub fn over(session: &mut Session, stops: &mut Stops) -> Ended
     ensures steps { session.new ≡ after_steps result.did session.old }
     ensures plain { is_plain stops.old ≡ true
@@ -59,7 +59,7 @@ pub fn over(session: &mut Session, stops: &mut Stops) -> Ended
 
 /// Steps until the subroutine that is running has returned: as `crate::out` does, for up to
 /// 10,000,000 steps.
-#[tactic(auto, unfolding(crate::specs::Past::out_run))]
+#[tactic(auto, unfolding(crate::specs::PastBreaks::out_run))]
 pub fn out(session: &mut Session, stops: &mut Stops) -> Ended
     ensures steps { session.new ≡ after_steps result.did session.old }
     ensures plain { is_plain stops.old ≡ true
@@ -78,7 +78,7 @@ pub fn out(session: &mut Session, stops: &mut Stops) -> Ended
 
 /// Runs to a stop or until nothing is left to do: as `crate::go` does, for up to 4,096 and then
 /// 262,144 times 4,096 steps. Where reads or writes are watched it makes at most 10,000,000.
-#[tactic(auto, unfolding(crate::specs::Past::go_run))]
+#[tactic(auto, unfolding(crate::specs::PastBreaks::go_run))]
 pub fn go(session: &mut Session, stops: &mut Stops) -> Ended
     ensures steps { HasMade result.did session.old session.new }
     ensures plain { is_plain stops.old ≡ true
@@ -95,7 +95,7 @@ pub fn go(session: &mut Session, stops: &mut Stops) -> Ended
 }
 
 /// Runs on past breaks whose tests do not hold, to an address too if there is one.
-#[tactic(auto, unfolding(crate::specs::Past::run_to))]
+#[tactic(auto, unfolding(crate::specs::PastBreaks::run_to))]
 fn go_to(session: &mut Session, stops: &mut Stops, until: Option<u16>) -> Ended
     ensures steps { HasMade result.did session.old session.new }
     ensures run { run_to until stops.old.watches.items (session.old, stops.old.breaks.items)
@@ -123,7 +123,7 @@ fn why_of_all(end: Ended, count: u32) -> EndWhy
 }
 
 /// Runs so many steps, or to a stop before.
-#[tactic(auto, unfolding(crate::specs::Past::count_run))]
+#[tactic(auto, unfolding(crate::specs::PastBreaks::count_run))]
 pub fn run(session: &mut Session, stops: &mut Stops, count: u32) -> Ended
     ensures steps { session.new ≡ after_steps result.did session.old }
     ensures run { count_run count stops.old.watches.items
@@ -151,7 +151,7 @@ pub fn run(session: &mut Session, stops: &mut Stops, count: u32) -> Ended
 /// - `OutOfMemory`: an allocation failed.
 ///
 /// Nothing is changed then.
-#[tactic(auto, unfolding(crate::specs::Past::until_run))]
+#[tactic(auto, unfolding(crate::specs::PastBreaks::until_run))]
 pub fn until(session: &mut Session, stops: &mut Stops, address: u16) -> Result<Ended, SessionFault>
     ensures plain { is_plain stops.old ≡ true → IfOk result
         (λ end. IsLedTo (until_of address 262144 session.old) end session.new) }

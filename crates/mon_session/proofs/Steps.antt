@@ -3,7 +3,7 @@ use Rattle.std.proofs.Common.{◌≡◌, ℕ, ◌<◌, min, zero, suc, List, [],
 use Rattle.model.specs.declared.event.Event.{Event}
 use Rattle.model.specs.declared.event.Event.TheVariants.{Step}
 use Rattle.circular_buffer.specs.Buffer.{keep_last}
-use Rattle.mon_session.specs.Past.{Kept, with_steps}
+use Rattle.mon_session.specs.Events.{Kept, with_steps}
 use Rattle.mon_session.proofs.Rings.{keep_last-min}
 
 abbrev kept_of : List Event → List Event → ℕ → Kept

@@ -1,3 +1,3 @@
-pub mod Served
-pub mod Texts
-pub mod Past
+pub mod Course
+pub mod EventTexts
+pub mod Events

@@ -5,12 +5,13 @@ ghost use Rattle.std.specs.Prelude.{◌≡◌, ◌++◌, [], Err, IfErr, IfOk, O
 ghost use Rattle.std.specs.Prelude.{take};
 ghost use Rattle.model.specs.Event.{event_of};
 ghost use Rattle.model.specs.State.{State};
-ghost use Rattle.mon_session.specs.Served.{KeepsStops, ShowsOnly, course_of, happened};
-ghost use Rattle.mon_session.specs.Texts.{count_text, entry_text, event_text, rejected_text};
-ghost use Rattle.mon_session.specs.Texts.{row_or_entry, shown_text};
+ghost use Rattle.mon_session.specs.Course.{KeepsStops, ShowsOnly, course_of, happened};
+ghost use Rattle.mon_session.specs.EventTexts.{count_text, entry_text, event_text, rejected_text};
+ghost use Rattle.mon_session.specs.EventTexts.{row_or_entry, shown_text};
 ghost use Rattle.mon_texts.specs.Instructions.{instruction_at, instruction_line};
 
 use crate::Events;
+use crate::wording::INTERRUPT;
 use formatting::{push_count, push_text};
 use model::EventFault;
 use mon_runs::{Event, Session, is_entry};
@@ -29,18 +30,18 @@ pub struct Desk {
     pub text: Vec<u8>,
 }
 
-/// Appends where an interrupt has led to.
+/// Appends where the interrupt leads that a step has entered.
 fn push_entry(text: &mut Vec<u8>, places: &Places, pc: u16) -> Result<(), AllocError>
     ensures { OnOk result (text.new.items ≡ text.old.items ++ entry_text places.now.names pc) }
 {
-    push_text(text, "interrupt: on to ")?;
+    push_text(text, INTERRUPT)?;
     push_place(text, places, pc)?;
     push_text(text, "\n")?;
     Ok(())
 }
 
 impl Desk {
-    /// Makes a desk for a session that holds so many events.
+    /// Makes a desk for a session that holds `history` events.
     ///
     /// Errors: `AllocError` if an allocation fails.
     pub fn new(
@@ -77,7 +78,7 @@ impl Desk {
         push_text(&mut self.text, words)
     }
 
-    /// Appends a number of things, which have a name for one and a name for more.
+    /// Appends a number and the words behind it: `one` where it is 1, otherwise `more`.
     ///
     /// Errors: `AllocError` if an allocation fails.
     pub fn count(&mut self, number: u64, one: &str, more: &str) -> Result<(), AllocError>
@@ -141,8 +142,9 @@ impl Desk {
         self.say("\n")
     }
 
-    /// Puts the entry of an interrupt in place of the text from the byte `length` on, if a step was
-    /// one. `stack` and `cycles` are the stack pointer and the cycle count before the step.
+    /// Replaces the text from the byte `length` on by the place that an interrupt leads to, if the
+    /// last step entered one. `stack` and `cycles` are the stack pointer and the cycle count before
+    /// it.
     ///
     /// Errors: `AllocError` if an allocation fails.
     pub fn tell_entry(&mut self, length: usize, stack: u8, cycles: u64) -> Result<(), AllocError>
@@ -168,20 +170,16 @@ impl Desk {
         ensures text { self.new.text ≡ self.old.text }
         ensures stops { KeepsStops self.old self.new }
     {
-        match self.session.event(event) {
-            Ok(()) => {
-                self.events.note(event);
-                Ok(())
-            }
-            Err(fault) => Err(fault),
-        }
+        self.session.event(event)?;
+        self.events.note(event);
+        Ok(())
     }
 
     /// Makes an event that is no step, and returns whether it was accepted. If it was rejected, the
     /// text says why, and nothing else has changed.
     ///
     /// Errors: `AllocError` if an allocation for that text fails.
-    #[tactic(auto, unfolding(crate::specs::Texts::event_text))]
+    #[tactic(auto, unfolding(crate::specs::EventTexts::event_text))]
     pub fn happen(&mut self, event: Event) -> Result<bool, AllocError>
         ensures course { course_of self.new ≡ happened event (course_of self.old) }
         ensures accepted { IfOk result

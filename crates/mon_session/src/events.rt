@@ -4,7 +4,7 @@ ghost use Rattle.std.specs.Prelude.{◌≡◌, ◌+◌, ◌-◌, ◌≤◌, ◌+
 ghost use Rattle.std.specs.Prelude.{replicate, slice_get};
 ghost use Rattle.circular_buffer.specs.Buffer.{buffer, keep_last};
 ghost use Rattle.model.specs.declared.event.Event.TheVariants.{Step};
-ghost use Rattle.mon_session.specs.Past.{with_event, with_redone, with_steps, with_undone};
+ghost use Rattle.mon_session.specs.Events.{with_event, with_redone, with_steps, with_undone};
 
 use circular_buffer::HeapCircularBuffer;
 use model::Event;
@@ -20,7 +20,7 @@ pub struct Events {
 
 impl Model for Events {
     ghost use Rattle.std.specs.Prelude.{◌≡◌, ◌+◌, ◌^◌, ◌<◌, ◌≤◌, length};
-    ghost use Rattle.mon_session.specs.Past.{Kept};
+    ghost use Rattle.mon_session.specs.Events.{Kept};
 
     ghost Value = { Kept };
 
@@ -34,7 +34,7 @@ impl Model for Events {
         × (e.undone.capacity ≡ e.made.capacity) × (e.made.capacity < 2 ^ 32) };
 }
 
-/// Appends so many steps. Where there is no room, the oldest events go.
+/// Appends `count` steps. The oldest events are dropped where there is no room.
 fn push_steps(made: &mut HeapCircularBuffer<Event>, count: u64)
     requires { length made.old.items ≤ made.old.capacity }
     ensures { made.new ≡ buffer
@@ -59,7 +59,7 @@ fn move_one(made: &mut HeapCircularBuffer<Event>, undone: &mut HeapCircularBuffe
     }
 }
 
-/// Moves so many events from the end of one ring to the front of another, or all if they are fewer.
+/// Moves the last `count` events of one ring to the front of another, or all if there are fewer.
 fn move_last(
     made: &mut HeapCircularBuffer<Event>,
     undone: &mut HeapCircularBuffer<Event>,
@@ -78,7 +78,7 @@ fn move_last(
 }
 
 impl Events {
-    /// Makes a record of no events that keeps the last `room` of them.
+    /// Makes an empty record, which keeps the last `room` events.
     ///
     /// The only error is that an allocation failed.
     pub fn new(alloc: Global, room: u32) -> Result<Events, AllocError>
@@ -111,8 +111,8 @@ impl Events {
         push_steps(&mut self.made, most);
     }
 
-    /// Notes that the last events were undone, or all that are kept if they are fewer. Does not
-    /// allocate.
+    /// Notes that the last `count` events were undone, or all that are kept if there are fewer.
+    /// Does not allocate.
     pub fn note_undone(&mut self, count: u32)
         ensures { self.new ≡ with_undone count self.old }
     {

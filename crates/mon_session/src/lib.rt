@@ -1,12 +1,14 @@
-//! What all lines of `mon` work at, and what is said of an event.
+//! What a session of `mon` has, which all lines work at.
 //!
-//! A `Desk` has the session, the last events with those that were undone, breaks and watches, names
-//! and lines, and the text to write. `Events` keeps what can be made again in two rings
-//! (`specs/Past.antt`), so that `redo` needs no numbers of events.
+//! `desk` holds the machine's session, its events, the breaks and watches, the names and lines of
+//! the program, and the text that is to be written. It says what the state is, and why an event was
+//! rejected. `events` holds the last events and those that were undone, so that these can be made
+//! again. What each line does stands in the crates above this one.
 #![tactic(auto)]
 
 mod desk;
 mod events;
+pub mod wording;
 
 pub use desk::Desk;
 pub use events::Events;

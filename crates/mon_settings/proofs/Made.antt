@@ -12,8 +12,8 @@ use Rattle.model.specs.declared.event.Event.TheVariants.{Input, Patch}
 use Rattle.model.specs.declared.event.EventFault.{EventFault}
 use Rattle.model.specs.declared.source_fault.AsmFault.{AsmFault}
 use Rattle.model.specs.declared.source_fault.AsmFaultKind.{AsmFaultKind}
-use Rattle.mon_session.specs.Served.{Course, happened, if_accepted}
-use Rattle.mon_session.specs.Texts.{event_text, if_rejected, rejected_text}
+use Rattle.mon_session.specs.Course.{Course, happened, if_accepted}
+use Rattle.mon_session.specs.EventTexts.{event_text, if_rejected, rejected_text}
 use Rattle.source_map.specs.Names.{Named}
 use Rattle.mon_settings.specs.ByteLines.{all_happened, first_fault, if_assembled, if_fault, inputs, patches}
 use Rattle.source_map.specs.Lines.{PlacesView}

@@ -3,8 +3,8 @@ use Rattle.std.proofs.Common.{◌≡◌, ℕ, suc, ◌+◌, ◌<◌, ◌≤◌, 
 use Rattle.std.proofs.Math.ListN.{drop_of_length-le}
 use Rattle.model.specs.Token.{is_word_byte}
 use Rattle.source_map.specs.Names.{Named}
-use Rattle.mon_settings.specs.declared.named.Before.{Before}
-use Rattle.mon_settings.specs.Named.{next_before, text_from, word_text}
+use Rattle.mon_settings.specs.declared.names.Before.{Before}
+use Rattle.mon_settings.specs.Names.{next_before, text_from, word_text}
 
 -- what comes of a byte, if it is one of a word, and if not
 abbrev of_word : List Named → List ℕ → Before → List ℕ → ℕ → List ℕ → List ℕ

@@ -7,7 +7,7 @@ use Rattle.model.specs.declared.event.Event.{Event}
 use Rattle.model.specs.declared.event.Event.TheVariants.{Input, Patch}
 use Rattle.model.specs.State.{State}
 use Rattle.model.specs.declared.event.EventFault.{EventFault}
-use Rattle.mon_session.specs.Served.{Course, happened}
+use Rattle.mon_session.specs.Course.{Course, happened}
 
 -- Events one after another, up to the first that is rejected, which changes nothing.
 unfoldable pub all_happened : List Event → Course → Course

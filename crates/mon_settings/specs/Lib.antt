@@ -1,5 +1,5 @@
 pub mod StopLines
 pub mod StopTexts
 pub mod ByteLines
-pub mod Named
+pub mod Names
 pub mod ChangeTexts

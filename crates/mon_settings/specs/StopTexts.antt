@@ -10,6 +10,8 @@ use Rattle.mon_texts.specs.Places.{place_text}
 use Rattle.mon_texts.specs.Stops.{break_line, watch_line}
 use Rattle.source_map.specs.Lines.{PlacesView, line_at}
 use Rattle.source_map.specs.Names.{Named}
+use Rattle.mon_session.specs.declared.wording.TheConstants.{BREAKS_FULL}
+use Rattle.mon_settings.specs.declared.wording.TheConstants.{DELETED, NOTHING_AT, NOTHING_SET, NO_LINE_BEGINS, PORT_UNWATCHED, WATCHES_FULL, WATCH_TOO_WIDE}
 
 -- ---- a break
 
@@ -21,13 +23,13 @@ break_text names stop = break_line names stop.address stop.tests.items stop.time
 abbrev pub lines_text : PlacesView → ℕ → List ℕ
 lines_text places address
     = if nat_lt 0 (length places.lines) && is_none (line_at places.lines address)
-    then codes "no line of the source begins there\n" else []
+    then NO_LINE_BEGINS.now else []
 
 -- What is said of a break that is set, or that cannot be.
 abbrev pub set_text : PlacesView → ℕ → List Test → ℕ → Bool → List ℕ
 set_text places address tests times is_set = if is_set
     then break_line places.names address tests times ++ lines_text places address
-    else codes "256 breaks are set; delete one first\n"
+    else BREAKS_FULL.now
 
 -- ---- a watch
 
@@ -38,9 +40,9 @@ watch_text names watch = watch_line names watch.stretch watch.kind
 -- Why a watch cannot be set.
 abbrev pub unwatched_text : Unwatched → List ℕ
 unwatched_text Port
-    = codes "no byte of memory stands at the console's port; watch it with read or write\n"
-unwatched_text Full = codes "256 bytes are watched; delete a watch first\n"
-unwatched_text Wide = codes "at most 256 bytes are watched for changes\n"
+    = PORT_UNWATCHED.now
+unwatched_text Full = WATCHES_FULL.now
+unwatched_text Wide = WATCH_TOO_WIDE.now
 
 -- What is said of a watch that is set, or that cannot be.
 abbrev pub watched_text : List Named → Watch → Option Unwatched → List ℕ
@@ -51,8 +53,8 @@ watched_text names watch (Some why) = unwatched_text why
 
 -- What is said once nothing stands at an address, or where nothing stood there.
 abbrev pub deleted_text : List Named → ℕ → Bool → List ℕ
-deleted_text names address stood = (if stood then codes "deleted: "
-    else codes "there is no break and no watch at ") ++ place_text names address ++ codes "\n"
+deleted_text names address stood = (if stood then DELETED.now
+    else NOTHING_AT.now) ++ place_text names address ++ codes "\n"
 
 -- All breaks and watches.
 abbrev pub stops_text : List Named → List Break → List Watch → List ℕ
@@ -60,6 +62,6 @@ stops_text names breaks watches
     = flat_map (break_text names) breaks ++ flat_map (watch_text names) watches
 
 abbrev pub list_text : List Named → List Break → List Watch → List ℕ
-list_text names [] [] = codes "no break and no watch is set\n"
+list_text names [] [] = NOTHING_SET.now
 list_text names [] (w ∷ watches) = stops_text names [] (w ∷ watches)
 list_text names (b ∷ breaks) watches = stops_text names (b ∷ breaks) watches

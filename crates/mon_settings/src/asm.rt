@@ -1,18 +1,23 @@
 //! Lines that assemble an instruction into memory.
 
-ghost use Rattle.std.specs.Prelude.{◌≡◌, ◌++◌, IsErr, OnErr, OnOk, codes};
+ghost use Rattle.std.specs.Prelude.{◌≡◌, ◌++◌, IsErr, OnErr, OnOk, Some, codes};
 ghost use Rattle.model.specs.FaultNames.{source_fault_name};
 ghost use Rattle.model.specs.declared.event.Event.TheVariants.{Patch};
+ghost use Rattle.mon_line_parts.specs.declared.topic.Topic.TheVariants.{Asm};
+ghost use Rattle.mon_texts.specs.Help.{example_text};
 ghost use Rattle.mon_settings.specs.ByteLines.{assembled};
-ghost use Rattle.mon_settings.specs.Named.{without_names};
+ghost use Rattle.mon_settings.specs.Names.{without_names};
 ghost use Rattle.mon_settings.specs.ChangeTexts.{assembled_text, not_assembled_text, patched_text};
-ghost use Rattle.mon_session.specs.Served.{IsEither, KeepsStops, ShowsOnly, course_of, happened};
+ghost use Rattle.mon_session.specs.Course.{IsEither, KeepsStops, ShowsOnly, course_of, happened};
 
-use crate::named::without_names;
+use crate::names::without_names;
+use crate::wording::NOT_ASSEMBLED;
 use assembler::{Line, assemble_line_in};
 use model::AsmFaultKind;
+use mon_line_parts::Topic;
 use mon_runs::Event;
 use mon_session::Desk;
+use mon_texts::push_example;
 use std::alloc::{AllocError, Global};
 
 /// Puts an assembled line into memory, and shows it.
@@ -38,14 +43,15 @@ fn put_line(desk: &mut Desk, address: u16, line: Line) -> Result<(), AllocError>
     Ok(())
 }
 
-/// Says the name of a fault, and how an instruction is written.
+/// Says the name of a fault, and an example of the line.
 fn say_fault(desk: &mut Desk, kind: AsmFaultKind) -> Result<(), AllocError>
     ensures shows { ShowsOnly desk.old desk.new }
     ensures text { OnOk result (desk.new.text.items ≡ desk.old.text.items
-        ++ (source_fault_name kind ++ codes "; as in: asm $0300 LDA #1\n")) }
+        ++ (source_fault_name kind ++ (example_text (Some Asm) ++ codes "\n"))) }
 {
     desk.say(kind.name())?;
-    desk.say("; as in: asm $0300 LDA #1\n")
+    push_example(&mut desk.text, Some(Topic::Asm))?;
+    desk.say("\n")
 }
 
 /// Says why a text is not assembled.
@@ -54,7 +60,7 @@ fn say_not_assembled(desk: &mut Desk, kind: AsmFaultKind) -> Result<(), AllocErr
     ensures text { OnOk result (desk.new.text.items ≡ desk.old.text.items
         ++ not_assembled_text kind) }
 {
-    desk.say("this is not assembled: ")?;
+    desk.say(NOT_ASSEMBLED)?;
     say_fault(desk, kind)
 }
 

@@ -4,10 +4,12 @@ ghost use Rattle.std.specs.Prelude.{◌≡◌, ◌++◌, IfOk, OnErr, OnOk, if�
 ghost use Rattle.model.specs.Breakpoints.{break_set};
 ghost use Rattle.mon_settings.specs.StopLines.{is_set, or_same, with_break};
 ghost use Rattle.mon_settings.specs.StopTexts.{break_text, lines_text, set_text};
-ghost use Rattle.mon_session.specs.Served.{IsEither, KeepsStops, ShowsOnly, course_of};
+ghost use Rattle.mon_session.specs.Course.{IsEither, KeepsStops, ShowsOnly, course_of};
 
+use crate::wording::NO_LINE_BEGINS;
 use mon_runs::SessionFault;
 use mon_session::Desk;
+use mon_session::wording::BREAKS_FULL;
 use mon_stops::Break;
 use mon_texts::push_break;
 use source_map::Places;
@@ -39,12 +41,12 @@ fn say_lines(desk: &mut Desk, address: u16) -> Result<(), AllocError>
         (desk.new.text.items ≡ desk.old.text.items ++ lines_text desk.old.places address) }
 {
     if desk.places.has_lines() && desk.places.line_at(address).is_none() {
-        return desk.say("no line of the source begins there\n");
+        return desk.say(NO_LINE_BEGINS);
     }
     Ok(())
 }
 
-/// Appends a break on a line.
+/// Appends the line of a break.
 pub fn push_stop(text: &mut Vec<u8>, stop: &Break, places: &Places) -> Result<(), AllocError>
     ensures { OnOk result (text.new.items ≡ text.old.items
         ++ break_text places.now.names stop.now) }
@@ -104,6 +106,6 @@ pub fn set_break(desk: &mut Desk, stop: Break) -> Result<(), AllocError>
     if break_in_session(desk, stop.address)? {
         note_break(desk, stop)
     } else {
-        desk.say("256 breaks are set; delete one first\n")
+        desk.say(BREAKS_FULL)
     }
 }

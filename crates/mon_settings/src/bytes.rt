@@ -4,8 +4,10 @@ ghost use Rattle.std.specs.Prelude.{◌≡◌, ◌≤◌, ◌+◌, ◌++◌, [],
 ghost use Rattle.mon_settings.specs.ByteLines.{all_happened, bytes_put, first_fault, inputs};
 ghost use Rattle.mon_settings.specs.ByteLines.{patches};
 ghost use Rattle.mon_settings.specs.ChangeTexts.{events_text, handed_text, put_text, stored_text};
-ghost use Rattle.mon_session.specs.Served.{KeepsStops, ShowsOnly, course_of};
+ghost use Rattle.mon_session.specs.Course.{KeepsStops, ShowsOnly, course_of};
 
+use crate::wording::{BYTE_AT, BYTE_HANDED_IN, BYTES_AT, BYTES_HANDED_IN};
+use model::EventFault;
 use mon_runs::Event;
 use mon_session::Desk;
 use mon_texts::push_place;
@@ -43,7 +45,7 @@ fn say_stored(desk: &mut Desk, address: u16, count: usize) -> Result<(), AllocEr
     ensures text { OnOk result (desk.new.text.items ≡ desk.old.text.items
         ++ stored_text desk.old.places.names address count) }
 {
-    desk.count(count as u64, " byte at ", " bytes at ")?;
+    desk.count(count as u64, BYTE_AT, BYTES_AT)?;
     push_place(&mut desk.text, &desk.places, address)?;
     desk.say("\n")
 }
@@ -79,7 +81,7 @@ pub fn put(desk: &mut Desk, address: u16, bytes: &[u8]) -> Result<(), AllocError
         ++ put_text desk.old.places.names address bytes.now (course_of desk.old)) }
 {
     if bytes.len() > 65536 - address as usize {
-        return desk.say("that goes past FFFF\n");
+        return desk.reject(EventFault::PastEnd);
     }
     put_within(desk, address, bytes)
 }
@@ -119,9 +121,5 @@ pub fn hand_in(desk: &mut Desk, bytes: &[u8]) -> Result<(), AllocError>
     if !hand_each(desk, bytes)? {
         return Ok(());
     }
-    desk.count(
-        bytes.len() as u64,
-        " byte handed in\n",
-        " bytes handed in\n",
-    )
+    desk.count(bytes.len() as u64, BYTE_HANDED_IN, BYTES_HANDED_IN)
 }

@@ -5,11 +5,12 @@ ghost use Rattle.std.specs.List.{flat_map};
 ghost use Rattle.mon_settings.specs.StopLines.{changes_left, stands_at, without_stops};
 ghost use Rattle.mon_settings.specs.StopTexts.{break_text, deleted_text, list_text, stops_text};
 ghost use Rattle.mon_settings.specs.StopTexts.{watch_text};
-ghost use Rattle.mon_session.specs.Served.{ShowsOnly};
+ghost use Rattle.mon_session.specs.Course.{ShowsOnly};
 ghost use Rattle.mon_stops.specs.Stops.{first_with, without, without_first_with};
 
 use crate::breaks::push_stop;
 use crate::watches::unwatch;
+use crate::wording::{DELETED, NOTHING_AT, NOTHING_SET};
 use mon_session::Desk;
 use mon_stops::{Break, Stops, Watch};
 use mon_texts::{push_place, push_watch};
@@ -51,11 +52,7 @@ fn say_deleted(desk: &mut Desk, address: u16, stood: bool) -> Result<(), AllocEr
     ensures text { OnOk result (desk.new.text.items ≡ desk.old.text.items
         ++ deleted_text desk.old.places.names address stood) }
 {
-    desk.say(if stood {
-        "deleted: "
-    } else {
-        "there is no break and no watch at "
-    })?;
+    desk.say(if stood { DELETED } else { NOTHING_AT })?;
     push_place(&mut desk.text, &desk.places, address)?;
     desk.say("\n")
 }
@@ -133,7 +130,7 @@ pub fn list(desk: &mut Desk) -> Result<(), AllocError>
         desk.old.stops.watches.items) }
 {
     if desk.stops.breaks.is_empty() && desk.stops.watches.is_empty() {
-        return desk.say("no break and no watch is set\n");
+        return desk.say(NOTHING_SET);
     }
     push_stops(&mut desk.text, &desk.stops, &desk.places)
 }

@@ -3,8 +3,9 @@
 ghost use Rattle.std.specs.Prelude.{◌≡◌, ◌++◌, OnOk};
 ghost use Rattle.model.specs.declared.event.Event.TheVariants.{Irq, Nmi, Reset, Set};
 ghost use Rattle.mon_settings.specs.ChangeTexts.{if_masked, irq_text, level_text, nmi_text, shown_event};
-ghost use Rattle.mon_session.specs.Served.{KeepsStops, ShowsOnly, course_of, happened};
+ghost use Rattle.mon_session.specs.Course.{KeepsStops, ShowsOnly, course_of, happened};
 
+use crate::wording::{IRQ_MASKED, IRQ_NEXT, NMI_NEXT, NO_IRQ};
 use model::Setting;
 use mon_runs::Event;
 use mon_session::Desk;
@@ -40,11 +41,7 @@ pub fn set(desk: &mut Desk, setting: Setting) -> Result<(), AllocError>
 fn if_masked(is_masked: bool) -> &'static str
     ensures { result.now ≡ if_masked is_masked }
 {
-    if is_masked {
-        "IRQ is asked for, but I is 1: it waits until a CLI\n"
-    } else {
-        "IRQ is asked for: the next step enters it, or an NMI that is asked for too\n"
-    }
+    if is_masked { IRQ_MASKED } else { IRQ_NEXT }
 }
 
 /// Says what the interrupt line asks for.
@@ -54,7 +51,7 @@ fn say_level(desk: &mut Desk, level: bool) -> Result<(), AllocError>
         ++ level_text level desk.old.session.current) }
 {
     if !level {
-        return desk.say("the line asks for no IRQ\n");
+        return desk.say(NO_IRQ);
     }
     let is_masked = desk.session.regs().flags.i;
     desk.say(if_masked(is_masked))
@@ -87,7 +84,7 @@ pub fn ask_nmi(desk: &mut Desk) -> Result<(), AllocError>
         ++ nmi_text desk.old.places.names (course_of desk.old)) }
 {
     if desk.happen(Event::Nmi)? {
-        return desk.say("NMI is asked for: the next step enters it\n");
+        return desk.say(NMI_NEXT);
     }
     Ok(())
 }

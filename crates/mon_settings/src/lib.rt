@@ -1,9 +1,10 @@
-//! Lines of `mon` that set, show and delete breaks and watches, and those that change registers,
-//! memory, the console's input or the interrupt lines.
+//! Lines of `mon` that change what a session has.
 //!
-//! `specs/StopLines.antt` and `specs/ByteLines.antt` say what they do, `specs/StopTexts.antt` and
-//! `specs/ChangeTexts.antt` what they say. `asm` puts addresses in place of names first
-//! (`specs/Named.antt`).
+//! `breaks`, `watches` and `deleting` set, list and delete breaks and watches. `bytes` puts bytes
+//! into memory or hands them to the console's input, `asm` assembles an instruction, for which
+//! `names` puts addresses in place of names. `events` sets registers and interrupt lines. What each
+//! line does stands in `specs/StopLines.antt` and `specs/ByteLines.antt`, what it says in
+//! `specs/StopTexts.antt` and `specs/ChangeTexts.antt`.
 #![tactic(auto)]
 
 mod asm;
@@ -11,8 +12,9 @@ mod breaks;
 mod bytes;
 mod deleting;
 mod events;
-mod named;
+mod names;
 mod watches;
+pub mod wording;
 
 pub use asm::assemble;
 pub use breaks::set_break;

@@ -7,9 +7,10 @@ ghost use Rattle.mon_settings.specs.StopLines.{all_unwatched, all_watched, can_w
 ghost use Rattle.mon_settings.specs.StopLines.{stretch_unwatched, stretch_watched, unwatched};
 ghost use Rattle.mon_settings.specs.StopLines.{why_unset, why_unwatched, with_watch};
 ghost use Rattle.mon_settings.specs.StopTexts.{unwatched_text, watched_text};
-ghost use Rattle.mon_session.specs.Served.{KeepsStops};
+ghost use Rattle.mon_session.specs.Course.{KeepsStops};
 ghost use Rattle.mon_stops.specs.Stops.{new_changes};
 
+use crate::wording::{PORT_UNWATCHED, WATCH_TOO_WIDE, WATCHES_FULL};
 use mon_lines::{Stretch, WatchKind};
 use mon_runs::SessionFault;
 use mon_session::Desk;
@@ -36,11 +37,9 @@ fn words_of(why: Unwatched) -> &'static str
     ensures { result.now ≡ unwatched_text why }
 {
     match why {
-        Unwatched::Port => {
-            "no byte of memory stands at the console's port; watch it with read or write\n"
-        }
-        Unwatched::Full => "256 bytes are watched; delete a watch first\n",
-        Unwatched::Wide => "at most 256 bytes are watched for changes\n",
+        Unwatched::Port => { PORT_UNWATCHED }
+        Unwatched::Full => WATCHES_FULL,
+        Unwatched::Wide => WATCH_TOO_WIDE,
     }
 }
 
@@ -64,7 +63,7 @@ fn watch_change(desk: &mut Desk, address: u16) -> Result<Option<Unwatched>, Allo
     }
 }
 
-/// Watches the changes of so many addresses from one on in the session. Returns why it cannot,
+/// Watches `count` addresses from `first` on for changes in the session. Returns why it cannot,
 /// if it cannot; some addresses are watched then, as they are if memory ran out.
 fn watch_from(desk: &mut Desk, first: u16, count: u32) -> Result<Option<Unwatched>, AllocError>
     requires { first + count ≤ 65536 }
@@ -115,7 +114,7 @@ fn unwatch_at(desk: &mut Desk, address: u16)
     }
 }
 
-/// Ends the watch of changes in the session at each of so many addresses from one on that no
+/// Ends the watch for changes in the session at each of `count` addresses from `first` on that no
 /// watch has.
 fn unwatch_from(desk: &mut Desk, first: u16, count: u32)
     requires { first + count ≤ 65536 }

@@ -1,7 +1,7 @@
 -- Runs one after another.
 use Rattle.std.proofs.Common.{ℕ, List, [], ◌∷◌, ◌++◌, refl, subst}
-use Rattle.mon_session.specs.Served.{Course}
-use Rattle.mon_steps.specs.Steps.{IsRun, AreRuns, HasRun}
+use Rattle.mon_session.specs.Course.{Course}
+use Rattle.mon_steps.specs.RunLines.{IsRun, AreRuns, HasRun}
 
 pub runs-append : (xs ys : List ℕ) (a b c : Course) → AreRuns xs a b → AreRuns ys b c
     → AreRuns (xs ++ ys) a c

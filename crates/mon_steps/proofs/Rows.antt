@@ -5,8 +5,8 @@ use Rattle.std.specs.Prelude.{⊤, OnOk}
 use Rattle.std.specs.declared.alloc.AllocError.{AllocError}
 use Rattle.source_map.specs.Lines.{PlacesView}
 use Rattle.mon_stops.specs.declared.watches.Watch.{Watch}
-use Rattle.mon_steps.specs.Steps.{Stand, goes_on, ran}
-use Rattle.mon_steps.specs.Texts.{one_step_text, stepped_text}
+use Rattle.mon_steps.specs.RunLines.{Stand, goes_on, ran}
+use Rattle.mon_steps.specs.RunTexts.{one_step_text, stepped_text}
 
 front : (xs ys : List ℕ) → take (length xs) (xs ++ ys) ≡ xs
 front [] ys = refl

@@ -5,8 +5,8 @@ use Rattle.std.proofs.lemmas.Option.{slice_get-get_or}
 use Rattle.std.specs.List.{list_any}
 use Rattle.std.specs.Prelude.{⊤, ◌||◌, None, OnOk, slice_get}
 use Rattle.std.specs.declared.alloc.AllocError.{AllocError}
-use Rattle.mon_session.specs.Served.{Course}
-use Rattle.mon_session.specs.Texts.{shown_text}
+use Rattle.mon_session.specs.Course.{Course}
+use Rattle.mon_session.specs.EventTexts.{shown_text}
 use Rattle.source_map.specs.Lines.{PlacesView}
 use Rattle.mon_steps.specs.BackLines.{remade, undone}
 use Rattle.mon_steps.specs.BackTexts.{events_text, is_this, one_remade_text, remade_text}

@@ -1,6 +1,6 @@
 -- Steps one by one.
 use Rattle.std.proofs.Common.{◌≡◌, ℕ, ◌-◌, suc, Bool, true, false, cond, List, refl, sym, ap, ◌∙◌, arith}
-use Rattle.mon_steps.specs.Steps.{KeepsWatches, Stand, goes_on, ran, stepped}
+use Rattle.mon_steps.specs.RunLines.{KeepsWatches, Stand, goes_on, ran, stepped}
 use Rattle.mon_session.specs.declared.desk.Desk.{Desk}
 use Rattle.mon_stops.specs.declared.watches.Watch.{Watch}
 

@@ -8,8 +8,8 @@ use Rattle.mon_runs.specs.Recall.{last_stop, made_again}
 use Rattle.mon_lines.specs.declared.command.Undoing.{Undoing}
 use Rattle.mon_lines.specs.declared.command.Undoing.TheVariants.{Events, Over}
 use Rattle.mon_runs.specs.Back.{back_over}
-use Rattle.mon_session.specs.Past.{with_redone, with_undone}
-use Rattle.mon_session.specs.Served.{Course}
+use Rattle.mon_session.specs.Events.{with_redone, with_undone}
+use Rattle.mon_session.specs.Course.{Course}
 
 -- ---- going back
 

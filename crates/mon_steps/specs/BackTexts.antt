@@ -7,8 +7,8 @@ use Rattle.model.specs.Back.{back_of}
 use Rattle.model.specs.declared.event.Event.{Event}
 use Rattle.model.specs.declared.event.Event.TheVariants.{Step, Set, Patch, Input, Irq, Nmi, Reset}
 use Rattle.model.specs.declared.session_fault.SessionFault.{SessionFault}
-use Rattle.mon_session.specs.Served.{Course}
-use Rattle.mon_session.specs.Texts.{count_text, row_or_entry, shown_text}
+use Rattle.mon_session.specs.Course.{Course}
+use Rattle.mon_session.specs.EventTexts.{count_text, row_or_entry, shown_text}
 use Rattle.mon_lines.specs.declared.command.Undoing.{Undoing}
 use Rattle.mon_lines.specs.declared.command.Undoing.TheVariants.{Events, Over}
 use Rattle.mon_runs.specs.Back.{back_over}
@@ -18,23 +18,24 @@ use Rattle.mon_runs.specs.Recall.{last_stop}
 use Rattle.source_map.specs.Lines.{PlacesView}
 use Rattle.source_map.specs.Names.{Named}
 use Rattle.mon_steps.specs.BackLines.{most_remade, remade, remade_one, undone}
+use Rattle.mon_steps.specs.declared.wording.TheConstants.{BACK_AT_BREAK, BACK_AT_OLDEST, BACK_BEFORE_CHANGE, BYTE_HANDED_IN, EVENTS_HELD, EVENTS_REMADE, EVENTS_UNDONE, EVENT_HELD, EVENT_REMADE, EVENT_UNDONE, LINE_SET, MEMORY_CHANGED, NMI_ASKED_FOR, NONE_HELD, NOTHING_UNDONE, ONLY, REGISTER_SET, RESET_MADE, TOO_MANY_WATCHED}
 
 -- That no event is held.
 abbrev pub none_held : List ℕ
-none_held = codes "nothing can be undone: no step was made yet, or its history is gone\n"
+none_held = NONE_HELD.now
 
 -- ---- back
 
 -- How many events were undone, and the state before them.
 abbrev pub undone_text : ℕ → State → List Named → List ℕ
 undone_text count state names
-    = count_text count (codes " event undone\n") (codes " events undone\n")
+    = count_text count EVENT_UNDONE.now EVENTS_UNDONE.now
     ++ shown_text state names None
 
 -- How many events can be undone.
 abbrev pub only_text : ℕ → List ℕ
-only_text held = codes "only "
-    ++ count_text held (codes " event can be undone\n") (codes " events can be undone\n")
+only_text held = ONLY.now
+    ++ count_text held EVENT_HELD.now EVENTS_HELD.now
 
 abbrev pub if_back_text : ℕ → List Named → Result Session SessionFault → List ℕ
 if_back_text held names (Ok s) = shown_text s.current names None
@@ -69,14 +70,14 @@ unfoldable pub is_at_break : Session → Bool
 is_at_break s = list_any (nat_eq s.current.regs.pc) s.breaks
 
 abbrev pub at_break_text : List Named → ℕ → List ℕ
-at_break_text names pc = codes "back at the break at " ++ place_text names pc
+at_break_text names pc = BACK_AT_BREAK.now ++ place_text names pc
 
 -- Where the way back has ended that undid so many events of those held.
 abbrev pub way_text : List Named → Session → ℕ → ℕ → List ℕ
 way_text names s count held = if is_at_break s
     then at_break_text names s.current.regs.pc
-    else if count == held then codes "back at the oldest state"
-    else codes "back before a change at a watch"
+    else if count == held then BACK_AT_OLDEST.now
+    else BACK_BEFORE_CHANGE.now
 
 abbrev pub stop_text : List ℕ → List Named → Course → List ℕ
 stop_text watched names course =
@@ -86,7 +87,7 @@ stop_text watched names course =
 
 abbrev pub undo_to_stop_text : List ℕ → List Named → Course → List ℕ
 undo_to_stop_text watched names course = if nat_lt 256 (length watched)
-    then codes "more than 256 bytes are watched\n"
+    then TOO_MANY_WATCHED.now
     else if length course.0.earlier == 0 then none_held
     else stop_text watched names course
 
@@ -95,8 +96,8 @@ undo_to_stop_text watched names course = if nat_lt 256 (length watched)
 -- How many events were made again, and the state then, with the cycles since some.
 abbrev pub made_again_text : ℕ → State → List Named → ℕ → List ℕ
 made_again_text most state names cycles = if most == 0
-    then codes "there is nothing to make again\n"
-    else count_text most (codes " event made again\n") (codes " events made again\n")
+    then NOTHING_UNDONE.now
+    else count_text most EVENT_REMADE.now EVENTS_REMADE.now
     ++ shown_text state names (Some cycles)
 
 abbrev pub again_text : ℕ → List Named → Course → List ℕ
@@ -109,13 +110,13 @@ redo_text count names course = again_text (most_remade count course.1.undone) na
 -- What an event is called that is no step.
 abbrev pub event_words : Event → Option (List ℕ)
 event_words Step = None
-event_words (Set setting) = Some (codes "      (a register was set)\n")
+event_words (Set setting) = Some REGISTER_SET.now
 event_words (Patch address bytes count)
-    = Some (codes "      (memory was changed by a line)\n")
-event_words (Input byte) = Some (codes "      (a byte was handed in)\n")
-event_words (Irq level) = Some (codes "      (the interrupt line was set)\n")
-event_words Nmi = Some (codes "      (an NMI was asked for)\n")
-event_words Reset = Some (codes "      (a reset)\n")
+    = Some MEMORY_CHANGED.now
+event_words (Input byte) = Some BYTE_HANDED_IN.now
+event_words (Irq level) = Some LINE_SET.now
+event_words Nmi = Some NMI_ASKED_FOR.now
+event_words Reset = Some RESET_MADE.now
 
 abbrev pub words_or : List ℕ → Option (List ℕ) → List ℕ
 words_or row None = row

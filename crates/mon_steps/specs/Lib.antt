@@ -1,4 +1,5 @@
-pub mod Steps
-pub mod Texts
+pub mod RunLines
+pub mod Reasons
+pub mod RunTexts
 pub mod BackLines
 pub mod BackTexts

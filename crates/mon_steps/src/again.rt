@@ -2,14 +2,18 @@
 
 ghost use Rattle.std.specs.Prelude.{◌≡◌, ◌++◌, ℕ, OnErr, OnOk, drop, slice_get, take};
 ghost use Rattle.std.specs.Option.{option_copied};
-ghost use Rattle.mon_session.specs.Served.{IsEither, KeepsStops, ShowsOnly, course_of};
-ghost use Rattle.mon_session.specs.Texts.{row_or_entry};
+ghost use Rattle.mon_session.specs.Course.{IsEither, KeepsStops, ShowsOnly, course_of};
+ghost use Rattle.mon_session.specs.EventTexts.{row_or_entry};
 ghost use Rattle.mon_steps.specs.BackLines.{IsPartlyShown, history_shown, most_remade, remade};
 ghost use Rattle.mon_steps.specs.BackLines.{remade_one};
 ghost use Rattle.mon_steps.specs.BackTexts.{again_text, event_words, history_text};
 ghost use Rattle.mon_steps.specs.BackTexts.{made_again_text, one_remade_text, redo_text, remade_row, remade_text};
 
-use crate::back::{NONE_HELD, go_back};
+use crate::back::go_back;
+use crate::wording::{
+    BYTE_HANDED_IN, EVENT_REMADE, EVENTS_REMADE, LINE_SET, MEMORY_CHANGED, NMI_ASKED_FOR,
+    NONE_HELD, NOTHING_UNDONE, REGISTER_SET, RESET_MADE,
+};
 use mon_runs::{Event, make_again};
 use mon_session::Desk;
 use std::alloc::AllocError;
@@ -21,12 +25,12 @@ fn words_of(event: Event) -> Option<&'static str>
 {
     match event {
         Event::Step => None,
-        Event::Set(_) => Some("      (a register was set)\n"),
-        Event::Patch { .. } => Some("      (memory was changed by a line)\n"),
-        Event::Input(_) => Some("      (a byte was handed in)\n"),
-        Event::Irq(_) => Some("      (the interrupt line was set)\n"),
-        Event::Nmi => Some("      (an NMI was asked for)\n"),
-        Event::Reset => Some("      (a reset)\n"),
+        Event::Set(_) => Some(REGISTER_SET),
+        Event::Patch { .. } => Some(MEMORY_CHANGED),
+        Event::Input(_) => Some(BYTE_HANDED_IN),
+        Event::Irq(_) => Some(LINE_SET),
+        Event::Nmi => Some(NMI_ASKED_FOR),
+        Event::Reset => Some(RESET_MADE),
     }
 }
 
@@ -43,7 +47,7 @@ fn redo_one(desk: &mut Desk) -> Option<Event>
     Some(event)
 }
 
-/// Makes so many of the events that were undone again.
+/// Makes `count` undone events again.
 fn redo_some(desk: &mut Desk, count: u32)
     ensures course { course_of desk.new ≡ remade count (course_of desk.old) }
     ensures stops { KeepsStops desk.old desk.new }
@@ -54,20 +58,20 @@ fn redo_some(desk: &mut Desk, count: u32)
     }
 }
 
-/// Says how many events were made again, and shows the state with the cycles since some.
+/// Says that `most` events were made again, and shows the state and the cycles since `cycles`.
 fn tell_again(desk: &mut Desk, most: u32, cycles: u64) -> Result<(), AllocError>
     ensures shows { ShowsOnly desk.old desk.new }
     ensures text { OnOk result (desk.new.text.items ≡ desk.old.text.items
         ++ made_again_text most desk.old.session.current desk.old.places.names cycles) }
 {
     if most == 0 {
-        return desk.say("there is nothing to make again\n");
+        return desk.say(NOTHING_UNDONE);
     }
-    desk.count(most as u64, " event made again\n", " events made again\n")?;
+    desk.count(most as u64, EVENT_REMADE, EVENTS_REMADE)?;
     desk.show(Some(cycles))
 }
 
-/// Makes so many of the events that were undone again, and says so.
+/// Makes `most` undone events again, and says so.
 fn redo_most(desk: &mut Desk, most: u32) -> Result<(), AllocError>
     ensures course { course_of desk.new ≡ remade most (course_of desk.old) }
     ensures stops { KeepsStops desk.old desk.new }
@@ -79,7 +83,7 @@ fn redo_most(desk: &mut Desk, most: u32) -> Result<(), AllocError>
     tell_again(desk, most, cycles)
 }
 
-/// Makes undone events again: so many, or all. Says how many those are.
+/// Makes `count` undone events again, or all, and says how many those are.
 ///
 /// Errors: `AllocError` if an allocation fails; the events are made all the same.
 pub fn redo(desk: &mut Desk, count: Option<u32>) -> Result<(), AllocError>
@@ -93,8 +97,8 @@ pub fn redo(desk: &mut Desk, count: Option<u32>) -> Result<(), AllocError>
     redo_most(desk, most)
 }
 
-/// Says what the event was that was made again, which is shown as a row from `length` on, where the
-/// stack pointer and the cycles before it were these.
+/// Says which event was made again. Its row stands in the text from the byte `length` on. `stack`
+/// and `cycles` are the stack pointer and the cycle count before it.
 fn tell_remade(
     desk: &mut Desk,
     event: Option<Event>,
@@ -140,7 +144,7 @@ fn redo_shown(desk: &mut Desk) -> Result<(), AllocError>
     tell_remade(desk, event, length, regs.s, cycles)
 }
 
-/// Makes so many of the events that were undone again, and shows each.
+/// Makes `count` undone events again, and shows each.
 fn redo_each_shown(desk: &mut Desk, count: u32) -> Result<(), AllocError>
     ensures course { OnOk result (course_of desk.new ≡ remade count (course_of desk.old)) }
     ensures memory { OnErr result ((n : ℕ)
@@ -155,7 +159,7 @@ fn redo_each_shown(desk: &mut Desk, count: u32) -> Result<(), AllocError>
     Ok(())
 }
 
-/// Shows the last events: goes back over so many, or over all that are held, and makes them again.
+/// Shows the last `count` events, or all that are held: undoes them, and makes them again.
 ///
 /// Errors: `AllocError` if an allocation fails; only some of them may be made again then.
 pub fn show_history(desk: &mut Desk, count: u32) -> Result<(), AllocError>

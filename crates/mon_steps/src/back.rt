@@ -2,7 +2,7 @@
 
 ghost use Rattle.std.specs.Prelude.{◌≡◌, ◌≤◌, ◌++◌, Err, IfErr, Ok, OnOk, codes, length, slice_get};
 ghost use Rattle.model.specs.Back.{back_of};
-ghost use Rattle.mon_session.specs.Served.{KeepsStops, ShowsOnly, course_of};
+ghost use Rattle.mon_session.specs.Course.{KeepsStops, ShowsOnly, course_of};
 ghost use Rattle.mon_steps.specs.BackLines.{undone, undone_by, undone_by_watches, undone_over};
 ghost use Rattle.mon_steps.specs.BackLines.{undone_to_stop};
 ghost use Rattle.mon_steps.specs.BackTexts.{at_break_text, back_text, is_this, is_at_break, only_text, over_text, stop_text, undo_text};
@@ -11,14 +11,15 @@ ghost use Rattle.mon_runs.specs.Back.{back_over};
 ghost use Rattle.mon_texts.specs.Places.{place_text};
 ghost use Rattle.mon_runs.specs.Recall.{last_stop};
 
+use crate::wording::{
+    BACK_AT_BREAK, BACK_AT_OLDEST, BACK_BEFORE_CHANGE, EVENT_HELD, EVENT_UNDONE, EVENTS_HELD,
+    EVENTS_UNDONE, NONE_HELD, ONLY, TOO_MANY_WATCHED,
+};
 use mon_lines::Undoing;
 use mon_runs::{SessionFault, back_over, back_to_stop};
 use mon_session::Desk;
 use mon_texts::push_place;
 use std::alloc::AllocError;
-
-/// What is said where no event is held.
-pub const NONE_HELD: &str = "nothing can be undone: no step was made yet, or its history is gone\n";
 
 /// Says how many events were undone, and shows the state before them.
 fn tell_undone(desk: &mut Desk, count: u32) -> Result<(), AllocError>
@@ -26,7 +27,7 @@ fn tell_undone(desk: &mut Desk, count: u32) -> Result<(), AllocError>
     ensures text { OnOk result (desk.new.text.items ≡ desk.old.text.items
         ++ undone_text count desk.old.session.current desk.old.places.names) }
 {
-    desk.count(count as u64, " event undone\n", " events undone\n")?;
+    desk.count(count as u64, EVENT_UNDONE, EVENTS_UNDONE)?;
     desk.show(None)
 }
 
@@ -54,7 +55,7 @@ fn undo_over(desk: &mut Desk) -> Result<(), AllocError>
     tell_undone(desk, count)
 }
 
-/// Undoes so many events. Errors: those of the session; nothing is changed then.
+/// Undoes `count` events. Errors: those of the session; nothing is changed then.
 pub fn go_back(desk: &mut Desk, count: u32) -> Result<(), SessionFault>
     ensures course { course_of desk.new ≡ undone count (course_of desk.old) }
     ensures ok { OnOk result (back_of count desk.old.session ≡ Ok desk.new.session) }
@@ -63,13 +64,9 @@ pub fn go_back(desk: &mut Desk, count: u32) -> Result<(), SessionFault>
     ensures stops { KeepsStops desk.old desk.new }
     ensures text { desk.new.text ≡ desk.old.text }
 {
-    match desk.session.back(count) {
-        Ok(()) => {
-            desk.events.note_undone(count);
-            Ok(())
-        }
-        Err(fault) => Err(fault),
-    }
+    desk.session.back(count)?;
+    desk.events.note_undone(count);
+    Ok(())
 }
 
 /// Says how many events can be undone.
@@ -78,15 +75,11 @@ fn say_only(desk: &mut Desk, held: u32) -> Result<(), AllocError>
     ensures text { OnOk result
         (desk.new.text.items ≡ desk.old.text.items ++ only_text held) }
 {
-    desk.say("only ")?;
-    desk.count(
-        held as u64,
-        " event can be undone\n",
-        " events can be undone\n",
-    )
+    desk.say(ONLY)?;
+    desk.count(held as u64, EVENT_HELD, EVENTS_HELD)
 }
 
-/// Undoes so many events and shows the state, or says how many can be undone.
+/// Undoes `count` events and shows the state, or says how many can be undone.
 fn undo_events(desk: &mut Desk, count: u32) -> Result<(), AllocError>
     ensures course { course_of desk.new ≡ undone count (course_of desk.old) }
     ensures stops { KeepsStops desk.old desk.new }
@@ -142,7 +135,7 @@ fn is_at_break(desk: &Desk) -> bool
     false
 }
 
-/// Says a place behind some words.
+/// Says words, and a place behind them.
 fn say_place(desk: &mut Desk, words: &str, address: u16) -> Result<(), AllocError>
     ensures shows { ShowsOnly desk.old desk.new }
     ensures text { OnOk result (desk.new.text.items ≡ desk.old.text.items
@@ -159,10 +152,10 @@ fn say_break(desk: &mut Desk) -> Result<(), AllocError>
         ++ at_break_text desk.old.places.names desk.old.session.current.regs.pc) }
 {
     let pc = desk.session.regs().pc;
-    say_place(desk, "back at the break at ", pc)
+    say_place(desk, BACK_AT_BREAK, pc)
 }
 
-/// Says where the way back over so many events has ended, of so many that were held.
+/// Says where the way back has ended. `count` events were undone, of `held` that were held.
 fn say_way(desk: &mut Desk, count: u32, held: u32) -> Result<(), AllocError>
     ensures shows { ShowsOnly desk.old desk.new }
     ensures text { OnOk result (desk.new.text.items ≡ desk.old.text.items
@@ -172,12 +165,12 @@ fn say_way(desk: &mut Desk, count: u32, held: u32) -> Result<(), AllocError>
         return say_break(desk);
     }
     if count == held {
-        return desk.say("back at the oldest state");
+        return desk.say(BACK_AT_OLDEST);
     }
-    desk.say("back before a change at a watch")
+    desk.say(BACK_BEFORE_CHANGE)
 }
 
-/// Says how many events were undone behind other words, and shows the state before them.
+/// Says behind other words how many events were undone, and shows the state before them.
 fn tell_also_undone(desk: &mut Desk, count: u32) -> Result<(), AllocError>
     ensures shows { ShowsOnly desk.old desk.new }
     ensures text { OnOk result (desk.new.text.items ≡ desk.old.text.items
@@ -231,7 +224,7 @@ pub fn undo_to_stop(desk: &mut Desk) -> Result<(), AllocError>
         (course_of desk.old)) }
 {
     if desk.stops.changes.len() > 256 {
-        return desk.say("more than 256 bytes are watched\n");
+        return desk.say(TOO_MANY_WATCHED);
     }
     if desk.session.held() == 0 {
         return desk.say(NONE_HELD);

@@ -1,40 +1,20 @@
-//! How a run has ended, in words.
+//! What lines say of how a run has ended.
 
 ghost use Rattle.std.specs.Prelude.{◌≡◌, ◌++◌, OnOk, codes};
-ghost use Rattle.mon_session.specs.Served.{ShowsOnly};
-ghost use Rattle.mon_steps.specs.Texts.{came_to, ended_at_text, ended_text, is_there, steps_text};
-ghost use Rattle.mon_steps.specs.Texts.{told_text};
+ghost use Rattle.mon_session.specs.Course.{ShowsOnly};
+ghost use Rattle.mon_steps.specs.RunTexts.{came_to, end_text, is_there, shown_end_at_text};
+ghost use Rattle.mon_steps.specs.RunTexts.{shown_end_text};
+ghost use Rattle.mon_steps.specs.Reasons.{after_text};
 ghost use Rattle.mon_texts.specs.Places.{place_text};
 
-use formatting::{push_count, push_text};
+use crate::reasons::{push_after, push_end};
+use crate::wording::{HERE, STUCK, WATCHED_READ, WATCHED_WRITE};
+use formatting::push_text;
 use mon_runs::{EndWhy, Ended, LedEnd, LedWhy, Why};
 use mon_session::Desk;
-use mon_texts::{push_end, push_place};
+use mon_texts::push_place;
 use source_map::Places;
 use std::alloc::AllocError;
-
-/// What a jump to itself means.
-pub const STUCK: &str = "nothing is left to do: the instruction jumps to itself";
-
-/// What a return means.
-pub const RETURNED: &str = "the subroutine has returned";
-
-/// Appends how many steps were made, and ends the line.
-fn push_steps(text: &mut Vec<u8>, did: u64) -> Result<(), AllocError>
-    ensures { OnOk result (text.new.items ≡ text.old.items ++ steps_text did) }
-{
-    push_count(text, did)?;
-    push_text(text, if did == 1 { " step\n" } else { " steps\n" })
-}
-
-/// Appends after how many steps a run has ended.
-fn push_after(text: &mut Vec<u8>, did: u64) -> Result<(), AllocError>
-    ensures { OnOk result (text.new.items ≡ text.old.items
-        ++ (codes ", after " ++ steps_text did)) }
-{
-    push_text(text, ", after ")?;
-    push_steps(text, did)
-}
 
 /// Appends the place that a run came to, and after how many steps.
 fn push_place_after(
@@ -44,7 +24,7 @@ fn push_place_after(
     did: u64,
 ) -> Result<(), AllocError>
     ensures { OnOk result (text.new.items ≡ text.old.items
-        ++ (place_text places.now.names at ++ (codes ", after " ++ steps_text did))) }
+        ++ (place_text places.now.names at ++ after_text did)) }
 {
     push_place(text, places, at)?;
     push_after(text, did)
@@ -66,10 +46,10 @@ fn push_came_to(
 }
 
 /// Says how a run has ended. Where it met its goal, `met` says what that means.
-pub fn told(desk: &mut Desk, end: Ended, met: &str) -> Result<(), AllocError>
+pub fn tell_end(desk: &mut Desk, end: Ended, met: &str) -> Result<(), AllocError>
     ensures shows { ShowsOnly desk.old desk.new }
     ensures text { OnOk result (desk.new.text.items ≡ desk.old.text.items
-        ++ told_text desk.old.session.current desk.old.places.names met.now end) }
+        ++ end_text desk.old.session.current desk.old.places.names met.now end) }
 {
     match end.why {
         EndWhy::Led(why) => {
@@ -77,23 +57,21 @@ pub fn told(desk: &mut Desk, end: Ended, met: &str) -> Result<(), AllocError>
             push_end(&mut desk.text, &desk.session, &desk.places, end, met)
         }
         EndWhy::Read(at) => {
-            let words = "watch: a read of ";
-            push_came_to(&mut desk.text, &desk.places, words, at, end.did)
+            push_came_to(&mut desk.text, &desk.places, WATCHED_READ, at, end.did)
         }
         EndWhy::Written(at) => {
-            let words = "watch: a write to ";
-            push_came_to(&mut desk.text, &desk.places, words, at, end.did)
+            push_came_to(&mut desk.text, &desk.places, WATCHED_WRITE, at, end.did)
         }
     }
 }
 
 /// Says how a run has ended, and shows where.
-pub fn ended(desk: &mut Desk, end: Ended, met: &str, cycles: u64) -> Result<(), AllocError>
+pub fn show_end(desk: &mut Desk, end: Ended, met: &str, cycles: u64) -> Result<(), AllocError>
     ensures shows { ShowsOnly desk.old desk.new }
     ensures text { OnOk result (desk.new.text.items ≡ desk.old.text.items
-        ++ ended_text desk.old.session.current desk.old.places.names met.now end cycles) }
+        ++ shown_end_text desk.old.session.current desk.old.places.names met.now end cycles) }
 {
-    told(desk, end, met)?;
+    tell_end(desk, end, met)?;
     desk.show(Some(cycles))
 }
 
@@ -111,19 +89,19 @@ fn is_there(why: EndWhy, address: u16) -> bool
 fn say_here(desk: &mut Desk, address: u16, did: u64) -> Result<(), AllocError>
     ensures shows { ShowsOnly desk.old desk.new }
     ensures text { OnOk result (desk.new.text.items ≡ desk.old.text.items
-        ++ came_to desk.old.places.names (codes "here: ") address did) }
+        ++ came_to desk.old.places.names HERE.now address did) }
 {
-    push_came_to(&mut desk.text, &desk.places, "here: ", address, did)
+    push_came_to(&mut desk.text, &desk.places, HERE, address, did)
 }
 
 /// Says how a run to an address has ended, and shows where.
-pub fn ended_at(desk: &mut Desk, end: Ended, address: u16, cycles: u64) -> Result<(), AllocError>
+pub fn show_end_at(desk: &mut Desk, end: Ended, address: u16, cycles: u64) -> Result<(), AllocError>
     ensures shows { ShowsOnly desk.old desk.new }
     ensures text { OnOk result (desk.new.text.items ≡ desk.old.text.items
-        ++ ended_at_text address desk.old.session.current desk.old.places.names end cycles) }
+        ++ shown_end_at_text address desk.old.session.current desk.old.places.names end cycles) }
 {
     if !is_there(end.why, address) {
-        return ended(desk, end, STUCK, cycles);
+        return show_end(desk, end, STUCK, cycles);
     }
     say_here(desk, address, end.did)?;
     desk.show(Some(cycles))

@@ -1,14 +1,20 @@
-//! Lines of `mon` that move the session forwards or backwards, or make undone events again.
+//! Lines of `mon` that move the session: forwards by steps and runs, backwards, and forwards again
+//! by the events that were undone.
 //!
-//! `specs/Steps.antt` and `specs/BackLines.antt` say where they lead, by the runs of `mon_runs`;
-//! `specs/Texts.antt` and `specs/BackTexts.antt` say what is written.
+//! `stepping` shows each step, `runs` goes on to a stop, `endings` and `reasons` say how a run has
+//! ended.
+//! `back` undoes events, `again` makes them again. What each line does to the session stands in
+//! `specs/RunLines.antt` and `specs/BackLines.antt`, what it says in `specs/RunTexts.antt` and
+//! `specs/BackTexts.antt`.
 #![tactic(auto)]
 
 mod again;
 mod back;
 mod endings;
+mod reasons;
 mod runs;
 mod stepping;
+pub mod wording;
 
 pub use again::{redo, show_history};
 pub use back::{undo, undo_to_stop};

@@ -1,18 +1,20 @@
 //! Lines that run to a stop.
 
 ghost use Rattle.std.specs.Prelude.{◌≡◌, ◌≢◌, ◌++◌, IfErr, IfOk, OnOk, Ok, Err};
-ghost use Rattle.mon_steps.specs.Steps.{HasRun, KeepsWatches, called, ran, ran_by, ran_on};
-ghost use Rattle.mon_steps.specs.Steps.{ran_until, returned, stand_of, start_of, watches_of};
-ghost use Rattle.mon_steps.specs.Texts.{out_text, run_text, until_text};
-ghost use Rattle.mon_session.specs.Served.{course_of};
-ghost use Rattle.mon_runs.specs.Past.{count_run, go_run, out_run, over_run, until_run};
+ghost use Rattle.mon_steps.specs.RunLines.{HasRun, KeepsWatches, called, ran, ran_by, ran_on};
+ghost use Rattle.mon_steps.specs.RunLines.{ran_until, returned, stand_of, start_of, watches_of};
+ghost use Rattle.mon_steps.specs.RunTexts.{out_text, run_text, until_text};
+ghost use Rattle.mon_session.specs.Course.{course_of};
+ghost use Rattle.mon_runs.specs.PastBreaks.{count_run, go_run, out_run, over_run, until_run};
 
-use crate::endings::{RETURNED, STUCK, ended, ended_at};
+use crate::endings::{show_end, show_end_at};
+use crate::wording::{RETURNED, STUCK};
 use mon_runs::{Ended, SessionFault, go, out, over, until};
 use mon_session::Desk;
+use mon_session::wording::BREAKS_FULL;
 use std::alloc::AllocError;
 
-/// Makes so many steps, or those up to a stop, and notes them.
+/// Makes `count` steps, or those up to a stop, and notes them.
 pub fn make_steps(desk: &mut Desk, count: u32) -> Ended
     ensures course { HasRun (course_of desk.old) (course_of desk.new) }
     ensures stand { stand_of desk.new ≡ ran count (watches_of desk.old) (stand_of desk.old) }
@@ -85,10 +87,10 @@ pub fn step_out(desk: &mut Desk) -> Result<(), AllocError>
 {
     let cycles = desk.session.cycles();
     let end = make_return(desk);
-    ended(desk, end, RETURNED, cycles)
+    show_end(desk, end, RETURNED, cycles)
 }
 
-/// Runs to a stop, or so many steps, and says how that ended.
+/// Runs to a stop, or makes `count` steps, and says how that ended.
 ///
 /// Errors: `AllocError` if an allocation fails; the steps are made all the same.
 pub fn run(desk: &mut Desk, count: Option<u32>) -> Result<(), AllocError>
@@ -102,11 +104,11 @@ pub fn run(desk: &mut Desk, count: Option<u32>) -> Result<(), AllocError>
     match count {
         Some(count) => {
             let end = make_steps(desk, count);
-            ended(desk, end, STUCK, cycles)
+            show_end(desk, end, STUCK, cycles)
         }
         None => {
             let end = make_run(desk);
-            ended(desk, end, STUCK, cycles)
+            show_end(desk, end, STUCK, cycles)
         }
     }
 }
@@ -128,13 +130,9 @@ fn make_until(desk: &mut Desk, address: u16) -> Result<Ended, SessionFault>
         → ran_until address (watches_of desk.old) (stand_of desk.old) ≡ stand_of desk.old)) }
     ensures watches { KeepsWatches desk.old desk.new }
 {
-    match until(&mut desk.session, &mut desk.stops, address) {
-        Ok(end) => {
-            desk.events.note_steps(end.did);
-            Ok(end)
-        }
-        Err(fault) => Err(fault),
-    }
+    let end = until(&mut desk.session, &mut desk.stops, address)?;
+    desk.events.note_steps(end.did);
+    Ok(end)
 }
 
 /// Runs to an address, and says how that ended.
@@ -149,8 +147,8 @@ pub fn run_until(desk: &mut Desk, address: u16) -> Result<(), AllocError>
 {
     let cycles = desk.session.cycles();
     match make_until(desk, address) {
-        Ok(end) => ended_at(desk, end, address, cycles),
+        Ok(end) => show_end_at(desk, end, address, cycles),
         Err(SessionFault::OutOfMemory) => Err(AllocError),
-        Err(_) => desk.say("256 breaks are set; delete one first\n"),
+        Err(_) => desk.say(BREAKS_FULL),
     }
 }

@@ -1,17 +1,18 @@
 //! Lines that make steps and show each.
 
 ghost use Rattle.std.specs.Prelude.{◌≡◌, ◌++◌, IfOk, OnOk, drop, length, take};
-ghost use Rattle.mon_session.specs.Served.{ShowsOnly, course_of};
-ghost use Rattle.mon_steps.specs.Steps.{HasRun, KeepsWatches, called, goes_on, is_limit, ran};
-ghost use Rattle.mon_steps.specs.Steps.{some_steps, stand_of, stepped, stepped_over, watches_of};
-ghost use Rattle.mon_steps.specs.Texts.{behind_row, call_row, call_text, called_row, few_steps_text, made_text};
-ghost use Rattle.mon_steps.specs.Texts.{one_step_text, over_text, some_steps_text, step_text};
-ghost use Rattle.mon_steps.specs.Texts.{fault_in, stepped_text};
-ghost use Rattle.mon_steps.specs.Steps.{start_of};
-ghost use Rattle.mon_runs.specs.Past.{over_run};
+ghost use Rattle.mon_session.specs.Course.{ShowsOnly, course_of};
+ghost use Rattle.mon_steps.specs.RunLines.{HasRun, KeepsWatches, called, goes_on, is_limit, ran};
+ghost use Rattle.mon_steps.specs.RunLines.{some_steps, stand_of, stepped, stepped_over, watches_of};
+ghost use Rattle.mon_steps.specs.RunTexts.{behind_row, call_row, call_text, called_row, few_steps_text, made_text};
+ghost use Rattle.mon_steps.specs.RunTexts.{one_step_text, over_text, some_steps_text, step_text};
+ghost use Rattle.mon_steps.specs.RunTexts.{fault_in, stepped_text};
+ghost use Rattle.mon_steps.specs.RunLines.{start_of};
+ghost use Rattle.mon_runs.specs.PastBreaks.{over_run};
 
-use crate::endings::{RETURNED, ended, told};
+use crate::endings::{show_end, tell_end};
 use crate::runs::{make_call, make_steps, run};
+use crate::wording::RETURNED;
 use model::EventFault;
 use mon_runs::{EndWhy, Ended, LedWhy, Why};
 use mon_session::Desk;
@@ -33,14 +34,14 @@ fn tell_met(desk: &mut Desk, end: Ended) -> Result<bool, AllocError>
     match end.why {
         EndWhy::Led(LedWhy::Stopped(Why::Limit)) => Ok(true),
         _ => {
-            told(desk, end, "")?;
+            tell_end(desk, end, "")?;
             Ok(false)
         }
     }
 }
 
-/// Says what a step that was made did and met, which is shown as a row from `length` on, where the
-/// stack pointer and the cycles before it were these. Returns whether the steps go on.
+/// Says what a step did and met. Its row stands in the text from the byte `length` on. `stack` and
+/// `cycles` are the stack pointer and the cycle count before it. Returns whether the steps go on.
 fn tell_made(
     desk: &mut Desk,
     end: Ended,
@@ -68,9 +69,10 @@ fn fault_in(why: EndWhy) -> Option<EventFault>
     }
 }
 
-/// Says what a step did that is shown as a row from `length` on, where the stack pointer and the
-/// cycles before it were these. Returns whether the steps go on.
-fn told_step(
+/// Says what a step did, or why it was rejected. Its row stands in the text from the byte `length`
+/// on. `stack` and `cycles` are the stack pointer and the cycle count before it. Returns whether
+/// the steps go on.
+fn tell_step(
     desk: &mut Desk,
     end: Ended,
     length: usize,
@@ -94,7 +96,7 @@ fn told_step(
 }
 
 /// Makes one step and shows it. Returns whether the steps go on.
-fn shown_step(desk: &mut Desk) -> Result<bool, AllocError>
+fn show_step(desk: &mut Desk) -> Result<bool, AllocError>
     ensures course { HasRun (course_of desk.old) (course_of desk.new) }
     ensures stand { OnOk result
         (stand_of desk.new ≡ ran 1 (watches_of desk.old) (stand_of desk.old)) }
@@ -109,11 +111,11 @@ fn shown_step(desk: &mut Desk) -> Result<bool, AllocError>
     let length = desk.text.len();
     desk.show_next()?;
     let end = make_steps(desk, 1);
-    told_step(desk, end, length, before.s, cycles)
+    tell_step(desk, end, length, before.s, cycles)
 }
 
-/// Makes so many steps, or those up to a stop, and shows each.
-fn shown_steps(desk: &mut Desk, count: u32) -> Result<(), AllocError>
+/// Makes `count` steps, or those up to a stop, and shows each.
+fn show_steps(desk: &mut Desk, count: u32) -> Result<(), AllocError>
     ensures course { HasRun (course_of desk.old) (course_of desk.new) }
     ensures stand { OnOk result
         (stand_of desk.new ≡ stepped count (watches_of desk.old) (stand_of desk.old)) }
@@ -122,14 +124,14 @@ fn shown_steps(desk: &mut Desk, count: u32) -> Result<(), AllocError>
         ++ stepped_text count (watches_of desk.old) desk.old.places (stand_of desk.old)) }
 {
     for _ in 0..count {
-        if !shown_step(desk)? {
+        if !show_step(desk)? {
             return Ok(());
         }
     }
     Ok(())
 }
 
-/// Makes so many steps, or those up to a stop, shows each, and then the state.
+/// Makes `count` steps, or those up to a stop, shows each, and then the state.
 fn few_steps(desk: &mut Desk, count: u32) -> Result<(), AllocError>
     ensures course { HasRun (course_of desk.old) (course_of desk.new) }
     ensures stand { OnOk result
@@ -139,7 +141,7 @@ fn few_steps(desk: &mut Desk, count: u32) -> Result<(), AllocError>
         ++ few_steps_text count (watches_of desk.old) desk.old.places (stand_of desk.old)) }
 {
     let cycles = desk.session.cycles();
-    shown_steps(desk, count)?;
+    show_steps(desk, count)?;
     desk.show(Some(cycles))
 }
 
@@ -181,7 +183,7 @@ fn tell_call(
 }
 
 /// Makes a JSR as one step, and shows its row.
-#[tactic(auto, unfolding(crate::specs::Texts::called_row))]
+#[tactic(auto, unfolding(crate::specs::RunTexts::called_row))]
 fn call_with_row(desk: &mut Desk) -> Result<Ended, AllocError>
     ensures course { HasRun (course_of desk.old) (course_of desk.new) }
     ensures stand { OnOk result
@@ -204,7 +206,7 @@ fn call_with_row(desk: &mut Desk) -> Result<Ended, AllocError>
 }
 
 /// Makes a JSR as one step, shows it, and says how it ended.
-fn shown_call(desk: &mut Desk) -> Result<(), AllocError>
+fn show_call(desk: &mut Desk) -> Result<(), AllocError>
     ensures course { HasRun (course_of desk.old) (course_of desk.new) }
     ensures stand { OnOk result
         (stand_of desk.new ≡ called (watches_of desk.old) (stand_of desk.old)) }
@@ -214,7 +216,7 @@ fn shown_call(desk: &mut Desk) -> Result<(), AllocError>
 {
     let cycles = desk.session.cycles();
     let end = call_with_row(desk)?;
-    ended(desk, end, RETURNED, cycles)
+    show_end(desk, end, RETURNED, cycles)
 }
 
 /// Makes one step, or a JSR as one step, shows it, and says how it ended.
@@ -231,5 +233,5 @@ pub fn step_over(desk: &mut Desk) -> Result<(), AllocError>
     if desk.session.peek(desk.session.regs().pc) != JSR {
         return few_steps(desk, 1);
     }
-    shown_call(desk)
+    show_call(desk)
 }

@@ -39,15 +39,15 @@ fn index_with(watches: &[Watch], address: u16) -> Option<usize>
     watches.iter().position(|watch| watch.has(address))
 }
 
-/// Keeps of some addresses those at which a change stops a run.
+/// Removes from `changes` the addresses that no watch for changes has.
 fn keep_watched(changes: &mut Vec<u16>, watches: &[Watch])
     ensures { changes.new.items ≡ changes_of watches.now changes.old.items }
 {
     changes.retain(|at| has_access(watches, WatchKind::Change, *at));
 }
 
-/// Adds an address to others if no change there stops a run yet. Nothing is changed if memory ran
-/// out.
+/// Appends an address to `changes`, unless a watch for changes has it. Nothing is changed if memory
+/// ran out.
 fn add_change(changes: &mut Vec<u16>, watches: &[Watch], address: u16) -> Result<(), AllocError>
     ensures ok { OnOk result
         (changes.new.items ≡ changes.old.items ++ new_among watches.now (address ∷ [])) }
@@ -60,8 +60,8 @@ fn add_change(changes: &mut Vec<u16>, watches: &[Watch], address: u16) -> Result
     Ok(())
 }
 
-/// Adds so many addresses from one on to others, those at which no change stops a run yet. Nothing
-/// is changed if memory ran out.
+/// Appends to `changes` those of `count` addresses from `first` on that no watch for changes has.
+/// Nothing is changed if memory ran out.
 fn add_stretch(
     changes: &mut Vec<u16>,
     watches: &[Watch],
@@ -86,8 +86,8 @@ fn add_stretch(
     Ok(())
 }
 
-/// Adds the addresses of a watch for changes to others, those at which no change stops a run yet.
-/// Nothing is changed if memory ran out.
+/// Appends to `changes` the addresses of a watch for changes that no other such watch has. Nothing
+/// is changed if memory ran out.
 fn add_changes(changes: &mut Vec<u16>, watches: &[Watch], watch: Watch) -> Result<(), AllocError>
     ensures ok { OnOk result
         (changes.new.items ≡ changes.old.items ++ new_changes watches.now watch) }

@@ -32,7 +32,7 @@ fn value_of(session: &Session, left: Left) -> u16
     }
 }
 
-/// Returns whether two values compare so.
+/// Returns whether a comparison holds between a value and the right side of a test.
 fn compares(compare: Compare, value: u16, right: u16) -> bool
     ensures { result ≡ compares compare value right }
 {
@@ -54,7 +54,7 @@ pub fn holds(session: &Session, test: Test) -> bool
     compares(test.compare, value_of(session, test.left), test.right)
 }
 
-/// Returns whether all of some tests hold at the current state.
+/// Returns whether all tests hold at the current state.
 pub fn all_hold(session: &Session, tests: &[Test]) -> bool
     ensures { result ≡ all_hold session.now.current tests.now }
 {

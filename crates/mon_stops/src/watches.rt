@@ -23,7 +23,7 @@ fn is_same(kind: WatchKind, other: WatchKind) -> bool
     }
 }
 
-/// Returns whether one of some watches is for an access of a kind at an address.
+/// Returns whether a watch is for an access of this kind at an address.
 #[tactic(auto, unfolding(crate::specs::Stops::has_access))]
 pub fn has_access(watches: &[Watch], kind: WatchKind, address: u16) -> bool
     ensures { result ≡ has_access kind address watches.now }

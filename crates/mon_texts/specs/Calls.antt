@@ -6,6 +6,7 @@ use Rattle.source_map.specs.Names.{Named}
 use Rattle.mon_texts.specs.Instructions.{instruction_text}
 use Rattle.mon_texts.specs.Memory.{stack_bytes}
 use Rattle.mon_texts.specs.Places.{place_text}
+use Rattle.mon_texts.specs.declared.wording.TheConstants.{CALLED_FROM, PROGRAM_AT}
 
 -- ---- return addresses
 
@@ -30,7 +31,7 @@ jsrs_in memory (low ∷ high ∷ bytes) = if is_jsr memory (jsr_of low high)
 
 -- The line of a call: `called from 0206 start+6: JSR print`.
 unfoldable pub call_line : State → List Named → ℕ → List ℕ
-call_line state names jsr = codes "called from " ++ place_text names jsr ++ codes ": "
+call_line state names jsr = CALLED_FROM.now ++ place_text names jsr ++ codes ": "
     ++ instruction_text state names jsr ++ codes "\n"
 
 -- The lines of the calls whose return addresses are on the stack above a stack pointer.
@@ -40,7 +41,7 @@ call_lines state names stack = flat_map (call_line state names)
 
 -- Where the program is.
 unfoldable pub at_line : List Named → ℕ → List ℕ
-at_line names pc = codes "at " ++ place_text names pc ++ codes "\n"
+at_line names pc = PROGRAM_AT.now ++ place_text names pc ++ codes "\n"
 
 -- Where the program is, and the calls that led there, the last one first.
 abbrev pub calls_text : State → List Named → List ℕ

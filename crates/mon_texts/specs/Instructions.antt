@@ -9,6 +9,7 @@ use Rattle.mon_line_parts.specs.Reading.{number_in}
 use Rattle.source_map.specs.Lines.{PlacesView, line_at}
 use Rattle.source_map.specs.Names.{Named, name_at}
 use Rattle.formatting.specs.Padding.{padded}
+use Rattle.mon_texts.specs.declared.wording.TheConstants.{NEXT}
 
 -- ---- a name in place of an address
 
@@ -79,7 +80,7 @@ instruction_text state names address = named_text names (instruction_at state ad
 -- The line that says which instruction comes next.
 abbrev pub next_line : State → List Named → List ℕ
 next_line state names
-    = codes "next: " ++ instruction_text state names state.regs.pc ++ codes "\n"
+    = NEXT.now ++ instruction_text state names state.regs.pc ++ codes "\n"
 
 -- ---- the line of an instruction
 

@@ -1,7 +1,7 @@
-pub mod Shown
+pub mod Characters
 pub mod Places
 pub mod Registers
-pub mod Reasons
+pub mod Faults
 pub mod Instructions
 pub mod Stops
 pub mod Memory

@@ -5,7 +5,8 @@ use Rattle.model.specs.Text.{hex_address, hex_byte}
 use Rattle.mon_lines.specs.declared.command.Stretch.{Stretch}
 use Rattle.mon_texts.specs.Instructions.{byte_column}
 use Rattle.formatting.specs.Padding.{padded}
-use Rattle.mon_texts.specs.Shown.{shown_character}
+use Rattle.mon_texts.specs.Characters.{shown_character}
+use Rattle.mon_texts.specs.declared.wording.TheConstants.{GOES_ON, MEMORY_PART, STACK_EMPTY}
 
 -- ---- memory
 
@@ -42,7 +43,7 @@ next_of stretch
 
 unfoldable pub goes_on_at : ℕ → List ℕ
 goes_on_at next
-    = codes "256 bytes at a time; mem " ++ hex_address next ++ codes " goes on\n"
+    = MEMORY_PART.now ++ hex_address next ++ GOES_ON.now
 
 abbrev pub goes_on : Option ℕ → List ℕ
 goes_on None = []
@@ -63,6 +64,6 @@ abbrev pub stack_bytes : List ℕ → ℕ → List ℕ
 stack_bytes memory stack = bytes_from memory (257 + stack) (255 - stack)
 
 unfoldable pub stack_line : List ℕ → ℕ → List ℕ
-stack_line memory stack = if stack == 255 then codes "the stack is empty: S is FF\n"
+stack_line memory stack = if stack == 255 then STACK_EMPTY.now
     else codes "S=" ++ hex_byte stack ++ codes ":"
     ++ flat_map byte_after_blank (stack_bytes memory stack) ++ codes "\n"

@@ -6,6 +6,7 @@ use Rattle.model.specs.declared.registers.Flags.{Flags}
 use Rattle.model.specs.declared.registers.Regs.{Regs}
 use Rattle.source_map.specs.Names.{Named}
 use Rattle.mon_texts.specs.Places.{place_text}
+use Rattle.mon_texts.specs.declared.wording.TheConstants.{CARRY, DECIMAL, INTERRUPT_DISABLE, NEGATIVE, OVERFLOW, ZERO}
 
 -- A flag's letter, a capital if the flag is 1.
 abbrev pub flag_letter : Bool → ℕ → ℕ
@@ -53,9 +54,9 @@ flag_line value words = flag_value value ++ words
 
 -- The flags, a line for each.
 unfoldable pub flags_text : Flags → List ℕ
-flags_text flags = flag_line flags.n (codes "N negative: bit 7 of the last result\n")
-    ++ flag_line flags.v (codes "V overflow: a signed sum was out of range\n")
-    ++ flag_line flags.d (codes "D decimal: ADC and SBC add decimal digits\n")
-    ++ flag_line flags.i (codes "I interrupt disable: 1 keeps IRQ away\n")
-    ++ flag_line flags.z (codes "Z zero: the last result was 0\n")
-    ++ flag_line flags.c (codes "C carry: out of a sum, no borrow, or a shifted bit\n")
+flags_text flags = flag_line flags.n NEGATIVE.now
+    ++ flag_line flags.v OVERFLOW.now
+    ++ flag_line flags.d DECIMAL.now
+    ++ flag_line flags.i INTERRUPT_DISABLE.now
+    ++ flag_line flags.z ZERO.now
+    ++ flag_line flags.c CARRY.now

@@ -2,6 +2,7 @@
 use Rattle.std.specs.Prelude.{ℕ, ◌-◌, ◌==◌, not, false, if◌then◌else◌, Bool, List, [], ◌∷◌, ◌++◌, Option, None, Some, codes, length, slice_get}
 use Rattle.std.specs.List.{flat_map}
 use Rattle.mon_texts.specs.Memory.{character_text}
+use Rattle.mon_texts.specs.declared.wording.TheConstants.{NOTHING_WRITTEN}
 
 -- What a byte of the output shows: LF ends the line, CR is left out, and any other byte is a
 -- character.
@@ -26,5 +27,5 @@ with_line_end text = text ++ line_end text
 
 -- The console's output, with its last line ended.
 unfoldable pub screen_text : List ℕ → List ℕ
-screen_text [] = codes "nothing was written to the console yet\n"
+screen_text [] = NOTHING_WRITTEN.now
 screen_text (byte ∷ output) = with_line_end (flat_map output_text (byte ∷ output))

@@ -6,6 +6,7 @@ use Rattle.model.specs.Token.{is_printable}
 use Rattle.mon_line_parts.specs.Reading.{SeenWhy, unknown, several, missing, unreadable, behind, no_name, range, many}
 use Rattle.mon_line_parts.specs.declared.slip.Lack.{Lack}
 use Rattle.mon_line_parts.specs.declared.slip.Lack.TheVariants as lacking
+use Rattle.mon_texts.specs.declared.wording.TheConstants.{ADDEND, AND, AN_ADDRESS, AN_INSTRUCTION, A_NUMBER, A_REGISTER, A_VALUE, BINARY_DIGITS, COMPARISON, HEX_DIGITS, LAST_ADDRESS, LEFT_OVER, LEVEL, MISSING, NOT_BETWEEN, NO_NAME, NO_WORD, POINTS, QUOTED_TEXT, SEVERAL_WORDS, SUBTRAHEND, TIMES_NUMBER, TOO_MANY, UNREADABLE}
 
 -- A byte between quotes: `?` is put for one that is no character.
 abbrev pub quoted_byte : ℕ → List ℕ
@@ -20,35 +21,35 @@ quoted_and piece words = quoted piece ++ words
 
 -- What is missing in a line.
 abbrev pub lack_text : Lack → List ℕ
-lack_text lacking.HexDigits = codes "hex digits after $"
-lack_text lacking.BinaryDigits = codes "binary digits after %"
-lack_text lacking.Address = codes "an address"
-lack_text lacking.Value = codes "a value"
-lack_text lacking.Number = codes "a number"
-lack_text lacking.Addend = codes "a number after +"
-lack_text lacking.Subtrahend = codes "a number after -"
-lack_text lacking.Text = codes "text between the quotes"
-lack_text lacking.Comparison = codes "=, <, > or <> in the test"
-lack_text lacking.Times = codes "a number after times"
-lack_text lacking.Points = codes "two points between the addresses"
-lack_text lacking.LastAddress = codes "a last address that is not below the first"
-lack_text lacking.Register = codes "a register"
-lack_text lacking.Level = codes "on or off"
-lack_text lacking.Instruction = codes "an instruction"
+lack_text lacking.HexDigits = HEX_DIGITS.now
+lack_text lacking.BinaryDigits = BINARY_DIGITS.now
+lack_text lacking.Address = AN_ADDRESS.now
+lack_text lacking.Value = A_VALUE.now
+lack_text lacking.Number = A_NUMBER.now
+lack_text lacking.Addend = ADDEND.now
+lack_text lacking.Subtrahend = SUBTRAHEND.now
+lack_text lacking.Text = QUOTED_TEXT.now
+lack_text lacking.Comparison = COMPARISON.now
+lack_text lacking.Times = TIMES_NUMBER.now
+lack_text lacking.Points = POINTS.now
+lack_text lacking.LastAddress = LAST_ADDRESS.now
+lack_text lacking.Register = A_REGISTER.now
+lack_text lacking.Level = LEVEL.now
+lack_text lacking.Instruction = AN_INSTRUCTION.now
 
 abbrev pub range_text : ℕ → ℕ → List ℕ
 range_text least most
-    = codes "the number is not between " ++ decimal least ++ codes " and " ++ decimal most
+    = NOT_BETWEEN.now ++ decimal least ++ AND.now ++ decimal most
 
 -- Why a line cannot be read.
 unfoldable pub slip_text : SeenWhy → List ℕ
-slip_text (unknown word) = quoted_and word (codes " is no word of mon; help lists them")
+slip_text (unknown word) = quoted_and word NO_WORD.now
 slip_text (several word)
-    = quoted_and word (codes " begins more than one word; help lists them")
-slip_text (missing lack) = codes "missing: " ++ lack_text lack
-slip_text (unreadable piece) = quoted_and piece (codes " cannot be read here")
-slip_text (behind piece) = quoted_and piece (codes " is left over")
+    = quoted_and word SEVERAL_WORDS.now
+slip_text (missing lack) = MISSING.now ++ lack_text lack
+slip_text (unreadable piece) = quoted_and piece UNREADABLE.now
+slip_text (behind piece) = quoted_and piece LEFT_OVER.now
 slip_text (no_name word)
-    = quoted_and word (codes " is neither a name of the program nor a number")
+    = quoted_and word NO_NAME.now
 slip_text (range least most) = range_text least most
-slip_text many = codes "there are too many"
+slip_text many = TOO_MANY.now

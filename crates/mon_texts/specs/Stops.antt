@@ -14,6 +14,7 @@ use Rattle.mon_lines.specs.declared.command.WatchKind.{WatchKind}
 use Rattle.mon_lines.specs.declared.command.WatchKind.TheVariants.{Change, Read, Write}
 use Rattle.source_map.specs.Names.{Named, name_at}
 use Rattle.mon_texts.specs.Places.{place_text}
+use Rattle.mon_texts.specs.declared.wording.TheConstants.{AND, BREAK_AT, IF, READS, TIMES, TO, WATCH_AT, WRITES}
 
 -- ---- tests
 
@@ -54,37 +55,37 @@ test_text names test
 
 -- Tests: `if` is before the first, `and` before each further one.
 abbrev pub further_test : List Named → Test → List ℕ
-further_test names test = codes " and " ++ test_text names test
+further_test names test = AND.now ++ test_text names test
 
 abbrev pub tests_text : List Named → List Test → List ℕ
 tests_text names [] = []
 tests_text names (test ∷ tests)
-    = codes " if " ++ test_text names test ++ flat_map (further_test names) tests
+    = IF.now ++ test_text names test ++ flat_map (further_test names) tests
 
 -- ---- breaks
 
 -- How often the tests have to hold, if it is more than once.
 abbrev pub times_text : ℕ → List ℕ
-times_text times = if nat_lt 1 times then codes " times " ++ decimal times else []
+times_text times = if nat_lt 1 times then TIMES.now ++ decimal times else []
 
 -- The line of a break: its place, its tests, and how often they have to hold.
 unfoldable pub break_line : List Named → ℕ → List Test → ℕ → List ℕ
-break_line names address tests times = codes "break at " ++ place_text names address
+break_line names address tests times = BREAK_AT.now ++ place_text names address
     ++ tests_text names tests ++ times_text times ++ codes "\n"
 
 -- ---- watches
 
 abbrev pub kind_text : WatchKind → List ℕ
 kind_text Change = codes "\n"
-kind_text Read = codes ", reads\n"
-kind_text Write = codes ", writes\n"
+kind_text Read = READS.now
+kind_text Write = WRITES.now
 
 -- The last address, if there is more than one.
 abbrev pub last_text : List Named → Stretch → List ℕ
 last_text names stretch = if nat_lt stretch.first stretch.last
-    then codes " to " ++ place_text names stretch.last else []
+    then TO.now ++ place_text names stretch.last else []
 
 -- The line of a watch: the first and the last address, and what is watched.
 unfoldable pub watch_line : List Named → Stretch → WatchKind → List ℕ
-watch_line names stretch kind = codes "watch at " ++ place_text names stretch.first
+watch_line names stretch kind = WATCH_AT.now ++ place_text names stretch.first
     ++ last_text names stretch ++ kind_text kind

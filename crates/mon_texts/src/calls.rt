@@ -4,7 +4,8 @@ ghost use Rattle.std.specs.Prelude.{◌≡◌, ◌+◌, ◌<◌, ◌++◌, OnOk,
 ghost use Rattle.mon_texts.specs.Calls.{at_line, call_line, call_lines, calls_text, jsr_of};
 
 use crate::instructions::push_instruction;
-use crate::words::push_place;
+use crate::places::push_place;
+use crate::wording::{CALLED_FROM, PROGRAM_AT};
 use debugger::Session;
 use formatting::push_text;
 use source_map::Places;
@@ -29,7 +30,7 @@ fn push_call(
     ensures { OnOk result (text.new.items ≡ text.old.items
         ++ call_line session.now.current places.now.names jsr) }
 {
-    push_text(text, "called from ")?;
+    push_text(text, CALLED_FROM)?;
     push_place(text, places, jsr)?;
     push_text(text, ": ")?;
     push_instruction(text, session, places, jsr)?;
@@ -64,7 +65,7 @@ fn push_call_lines(
 fn push_at(text: &mut Vec<u8>, places: &Places, pc: u16) -> Result<(), AllocError>
     ensures { OnOk result (text.new.items ≡ text.old.items ++ at_line places.now.names pc) }
 {
-    push_text(text, "at ")?;
+    push_text(text, PROGRAM_AT)?;
     push_place(text, places, pc)?;
     push_text(text, "\n")?;
     Ok(())

@@ -13,6 +13,7 @@ ghost use Rattle.mon_texts.specs.Instructions.{is_hex_digit, is_no_dollar, name_
 ghost use Rattle.mon_texts.specs.Instructions.{name_of_number, named_text, next_line, rest_of};
 ghost use Rattle.mon_texts.specs.Instructions.{with_line};
 
+use crate::wording::NEXT;
 use debugger::Session;
 use disasm::{TextLine, line_in};
 use formatting::{push_address, push_blanks, push_byte, push_count, push_text};
@@ -267,7 +268,7 @@ pub fn push_next(text: &mut Vec<u8>, session: &Session, places: &Places) -> Resu
     ensures ok { OnOk result (text.new.items ≡ text.old.items
         ++ next_line session.now.current places.now.names) }
 {
-    push_text(text, "next: ")?;
+    push_text(text, NEXT)?;
     push_instruction(text, session, places, session.regs().pc)?;
     push_text(text, "\n")
 }

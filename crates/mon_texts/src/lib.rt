@@ -1,24 +1,29 @@
-//! What `mon` shows of a session: instructions, registers, memory, and why a run has ended.
+//! What `mon` shows of a session: instructions, registers, memory, the stack, calls, the screen,
+//! breaks and watches; why an event is refused; help, and what is missing or wrong in a line.
 //!
-//! Each call appends to a text, and changes no session. Names are put where addresses stand.
+//! Each call appends to a text, and changes no session. Names are put where addresses stand. The
+//! words stand in `wording`.
 #![tactic(auto)]
 
 mod calls;
-mod helping;
+mod faults;
+mod help;
 mod instructions;
 mod memory;
-mod reasons;
+mod places;
 mod screen;
+mod slips;
 mod state;
 mod stops;
-mod words;
+pub mod wording;
 
 pub use calls::push_calls;
-pub use helping::{push_help, push_slip};
+pub use faults::push_fault;
+pub use help::{push_example, push_help};
 pub use instructions::{push_instruction, push_next, push_row};
 pub use memory::{push_memory, push_stack};
-pub use reasons::{push_end, push_fault};
+pub use places::push_place;
 pub use screen::push_screen;
+pub use slips::push_slip;
 pub use state::{push_flags, push_state};
 pub use stops::{push_break, push_watch};
-pub use words::push_place;

@@ -8,13 +8,14 @@ ghost use Rattle.mon_texts.specs.Memory.{goes_on_at, memory_row, memory_rows, me
 ghost use Rattle.mon_texts.specs.Memory.{numbered_row, shown_count, stack_line};
 
 use crate::instructions::push_byte_column;
-use crate::words::push_character;
+use crate::places::push_character;
+use crate::wording::{GOES_ON, MEMORY_PART, STACK_EMPTY};
 use debugger::Session;
 use formatting::{push_address, push_blanks, push_byte, push_text};
 use mon_lines::Stretch;
 use std::alloc::AllocError;
 
-/// Appends so many bytes from an address on, with a blank behind each.
+/// Appends `count` bytes from an address on, with a blank behind each.
 fn push_bytes(
     text: &mut Vec<u8>,
     session: &Session,
@@ -31,7 +32,7 @@ fn push_bytes(
     Ok(())
 }
 
-/// Appends so many bytes from an address on as characters.
+/// Appends `count` bytes from an address on as characters.
 fn push_characters(
     text: &mut Vec<u8>,
     session: &Session,
@@ -48,7 +49,7 @@ fn push_characters(
     Ok(())
 }
 
-/// Appends a row of memory: an address, so many bytes, and the characters beside them.
+/// Appends a row of memory: an address, `count` bytes, and the characters beside them.
 #[tactic(auto, using(formatting::proofs::Padding::grown), unfolding(crate::specs::Memory::memory_row))]
 fn push_row(text: &mut Vec<u8>, session: &Session, first: u16, count: u16) -> Result<(), AllocError>
     requires { first + count ≤ 65536 }
@@ -64,7 +65,7 @@ fn push_row(text: &mut Vec<u8>, session: &Session, first: u16, count: u16) -> Re
     push_text(text, "\n")
 }
 
-/// Appends the row of a number among those of some memory.
+/// Appends the row of a number, counted from 0, of the rows that show a stretch of memory.
 #[tactic(auto, unfolding(crate::specs::Memory::numbered_row))]
 fn push_numbered(
     text: &mut Vec<u8>,
@@ -81,7 +82,7 @@ fn push_numbered(
     push_row(text, session, first + 16 * row, (count - 16 * row).min(16))
 }
 
-/// Appends so many bytes from an address on, in rows of 16 bytes.
+/// Appends `count` bytes from an address on, in rows of 16 bytes.
 fn push_rows(
     text: &mut Vec<u8>,
     session: &Session,
@@ -127,9 +128,9 @@ fn next_of(stretch: Stretch) -> Option<u16>
 fn push_goes_on_at(text: &mut Vec<u8>, next: u16) -> Result<(), AllocError>
     ensures { OnOk result (text.new.items ≡ text.old.items ++ goes_on_at next) }
 {
-    push_text(text, "256 bytes at a time; mem ")?;
+    push_text(text, MEMORY_PART)?;
     push_address(text, next)?;
-    push_text(text, " goes on\n")?;
+    push_text(text, GOES_ON)?;
     Ok(())
 }
 
@@ -167,7 +168,7 @@ fn push_after_blank(text: &mut Vec<u8>, byte: u8) -> Result<(), AllocError>
     push_byte(text, byte)
 }
 
-/// Appends so many bytes from an address on, each after a blank.
+/// Appends `count` bytes from an address on, each after a blank.
 fn push_spaced(
     text: &mut Vec<u8>,
     session: &Session,
@@ -191,7 +192,7 @@ fn push_stack_at(text: &mut Vec<u8>, session: &Session, stack: u8) -> Result<(),
         ++ stack_line session.now.current.bus.memory stack) }
 {
     if stack == 255 {
-        return push_text(text, "the stack is empty: S is FF\n");
+        return push_text(text, STACK_EMPTY);
     }
     push_text(text, "S=")?;
     push_byte(text, stack)?;

@@ -4,7 +4,8 @@ ghost use Rattle.std.specs.Prelude.{◌≡◌, ◌≤◌, ◌++◌, OnOk, drop, 
 ghost use Rattle.std.specs.List.{flat_map};
 ghost use Rattle.mon_texts.specs.Screen.{is_open, line_end, output_text, screen_text};
 
-use crate::words::push_character;
+use crate::places::push_character;
+use crate::wording::NOTHING_WRITTEN;
 use debugger::Session;
 use formatting::push_text;
 use std::alloc::AllocError;
@@ -62,7 +63,7 @@ pub fn push_screen(text: &mut Vec<u8>, session: &Session) -> Result<(), AllocErr
         ++ screen_text session.now.current.bus.out) }
 {
     if session.output_len() == 0 {
-        return push_text(text, "nothing was written to the console yet\n");
+        return push_text(text, NOTHING_WRITTEN);
     }
     let from = text.len();
     push_output(text, session)?;

@@ -5,7 +5,8 @@ ghost use Rattle.mon_texts.specs.Registers.{course_text, flag_letter, flag_lette
 ghost use Rattle.mon_texts.specs.Registers.{flag_value, flags_text, named_byte, regs_text};
 ghost use Rattle.mon_texts.specs.Registers.{since_text, state_line};
 
-use crate::words::push_place;
+use crate::places::push_place;
+use crate::wording::{CARRY, DECIMAL, INTERRUPT_DISABLE, NEGATIVE, OVERFLOW, ZERO};
 use debugger::{Flags, Session};
 use formatting::{push_byte, push_count, push_text};
 use model::Regs;
@@ -57,7 +58,7 @@ fn push_regs(text: &mut Vec<u8>, regs: Regs) -> Result<(), AllocError>
     text.extend_from_slice(&letters(regs.flags))
 }
 
-/// Appends how many cycles more than so many there are, if that is asked for.
+/// Appends how many cycles there are since `before`, if that is given.
 fn push_since(text: &mut Vec<u8>, cycles: u64, before: Option<u64>) -> Result<(), AllocError>
     ensures { OnOk result (text.new.items ≡ text.old.items ++ since_text cycles before) }
 {
@@ -88,7 +89,7 @@ fn push_course(
 }
 
 /// Appends the line of the registers: `A=01 X=00 Y=00 S=FD  nv-bdIzc  PC=0206 start+6  cycle 15`,
-/// and how many cycles more than so many it has, if that is asked for.
+/// and the cycles since `cycles_before`, if that is given.
 ///
 /// Errors: `AllocError` if an allocation fails.
 pub fn push_state(
@@ -128,16 +129,12 @@ fn push_flag(text: &mut Vec<u8>, value: bool, words: &str) -> Result<(), AllocEr
 fn push_lines(text: &mut Vec<u8>, flags: Flags) -> Result<(), AllocError>
     ensures { OnOk result (text.new.items ≡ text.old.items ++ flags_text flags) }
 {
-    push_flag(text, flags.n, "N negative: bit 7 of the last result\n")?;
-    push_flag(text, flags.v, "V overflow: a signed sum was out of range\n")?;
-    push_flag(text, flags.d, "D decimal: ADC and SBC add decimal digits\n")?;
-    push_flag(text, flags.i, "I interrupt disable: 1 keeps IRQ away\n")?;
-    push_flag(text, flags.z, "Z zero: the last result was 0\n")?;
-    push_flag(
-        text,
-        flags.c,
-        "C carry: out of a sum, no borrow, or a shifted bit\n",
-    )?;
+    push_flag(text, flags.n, NEGATIVE)?;
+    push_flag(text, flags.v, OVERFLOW)?;
+    push_flag(text, flags.d, DECIMAL)?;
+    push_flag(text, flags.i, INTERRUPT_DISABLE)?;
+    push_flag(text, flags.z, ZERO)?;
+    push_flag(text, flags.c, CARRY)?;
     Ok(())
 }
 

@@ -7,7 +7,8 @@ ghost use Rattle.mon_texts.specs.Stops.{break_line, further_test, kind_text, las
 ghost use Rattle.mon_texts.specs.Stops.{left_text, name_or_digits, number_text, register_name};
 ghost use Rattle.mon_texts.specs.Stops.{sign, test_text, tests_text, times_text, watch_line};
 
-use crate::words::push_place;
+use crate::places::push_place;
+use crate::wording::{AND, BREAK_AT, IF, READS, TIMES, TO, WATCH_AT, WRITES};
 use formatting::{push_address, push_byte, push_count, push_text};
 use mon_lines::{Compare, Left, Register, Stretch, Test, WatchKind};
 use source_map::Places;
@@ -91,7 +92,7 @@ fn push_further(text: &mut Vec<u8>, places: &Places, test: Test) -> Result<(), A
     ensures { OnOk result (text.new.items ≡ text.old.items
         ++ further_test places.now.names test) }
 {
-    push_text(text, " and ")?;
+    push_text(text, AND)?;
     push_test(text, places, test)
 }
 
@@ -114,7 +115,7 @@ fn push_tests(text: &mut Vec<u8>, places: &Places, tests: &[Test]) -> Result<(),
     match tests {
         [] => Ok(()),
         [first, others @ ..] => {
-            push_text(text, " if ")?;
+            push_text(text, IF)?;
             push_test(text, places, *first)?;
             push_others(text, places, others)
         }
@@ -126,7 +127,7 @@ fn push_times(text: &mut Vec<u8>, times: u32) -> Result<(), AllocError>
     ensures { OnOk result (text.new.items ≡ text.old.items ++ times_text times) }
 {
     if times > 1 {
-        push_text(text, " times ")?;
+        push_text(text, TIMES)?;
         push_count(text, times as u64)?;
     }
     Ok(())
@@ -146,7 +147,7 @@ pub fn push_break(
     ensures ok { OnOk result (text.new.items ≡ text.old.items
         ++ break_line places.now.names address tests.now times) }
 {
-    push_text(text, "break at ")?;
+    push_text(text, BREAK_AT)?;
     push_place(text, places, address)?;
     push_tests(text, places, tests)?;
     push_times(text, times)?;
@@ -159,7 +160,7 @@ fn push_last(text: &mut Vec<u8>, places: &Places, stretch: Stretch) -> Result<()
         ++ last_text places.now.names stretch) }
 {
     if stretch.last > stretch.first {
-        push_text(text, " to ")?;
+        push_text(text, TO)?;
         push_place(text, places, stretch.last)?;
     }
     Ok(())
@@ -171,8 +172,8 @@ fn push_kind(text: &mut Vec<u8>, kind: WatchKind) -> Result<(), AllocError>
 {
     match kind {
         WatchKind::Change => push_text(text, "\n"),
-        WatchKind::Read => push_text(text, ", reads\n"),
-        WatchKind::Write => push_text(text, ", writes\n"),
+        WatchKind::Read => push_text(text, READS),
+        WatchKind::Write => push_text(text, WRITES),
     }
 }
 
@@ -189,7 +190,7 @@ pub fn push_watch(
     ensures ok { OnOk result (text.new.items ≡ text.old.items
         ++ watch_line places.now.names stretch kind) }
 {
-    push_text(text, "watch at ")?;
+    push_text(text, WATCH_AT)?;
     push_place(text, places, stretch.first)?;
     push_last(text, places, stretch)?;
     push_kind(text, kind)

@@ -1,13 +1,22 @@
 use Rattle.std.proofs.Common.{◌≡◌, [], false, take, List, ℕ}
 use Rattle.std.specs.Io.KnownBytes.{Appends}
 use Rattle.mon.specs.Attended.{prompt_of}
-use Rattle.mon.specs.Pieces.{Feeds}
+use Rattle.mon.specs.Pieces.{Piece, ServesPiece}
 use Rattle.mon.proofs.lines.serve_bytes.Given as goal
 
 -- the bytes so far were served, and what was said then was written
 abbrev pub invariant-loop-byte : goal.invariant-loop-byte
 invariant-loop-byte g l = record {
-  fed : (more : List ℕ) × Feeds (prompt_of l.fn.prompts) (take l.byte-index l.bytes) false l.fn.begun.items l.fn.desk l.begun.items l.desk more
+  fed : (more : List ℕ) × ServesPiece (record {
+    bytes = take l.byte-index l.bytes;
+    prompt = prompt_of l.fn.prompts;
+    old = l.fn.desk;
+    kept = l.fn.begun.items;
+    new = l.desk;
+    kept_then = l.begun.items;
+    is_over = false;
+    written = more;
+  })
       × (l.fn.desk.text.items ≡ [] → Appends (g.W.Write.contents l.fn.writer) (g.W.Write.contents l.writer) more);
   written : l.fn.desk.text.items ≡ [] → l.desk.text.items ≡ [];
 }

@@ -3,7 +3,7 @@ use Rattle.std.proofs.lemmas.Result.{IfOk-weaker}
 use Rattle.std.specs.Io.KnownBytes.{Appends}
 use Rattle.mon.specs.Done.{greeting_of}
 use Rattle.mon.proofs.LinesServed.{shows_attended, shows_so_far, shows_then, three_said}
-use Rattle.mon_session.specs.Texts.{shown_text}
+use Rattle.mon_session.specs.EventTexts.{shown_text}
 use Rattle.mon.proofs.serving.serve.Goals as goal
 
 pub returns-clause-attended : goal.returns-clause-attended

@@ -1,6 +1,6 @@
 use Rattle.std.proofs.Common.{◌≡◌, ◌≤◌, ◌++◌, length}
 use Rattle.std.specs.List.{flat_map}
-use Rattle.mon_session.specs.Served.{ShowsOnly}
+use Rattle.mon_session.specs.Course.{ShowsOnly}
 use Rattle.mon_dispatch.specs.LookTexts.{found_below, found_line}
 use Rattle.mon_dispatch.proofs.finding.find.Given as goal
 

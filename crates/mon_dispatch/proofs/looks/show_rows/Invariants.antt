@@ -1,5 +1,5 @@
 use Rattle.std.proofs.Common.{◌≡◌, ◌++◌, ◌-◌}
-use Rattle.mon_session.specs.Served.{ShowsOnly}
+use Rattle.mon_session.specs.Course.{ShowsOnly}
 use Rattle.mon_dispatch.specs.LookTexts.{rows_text}
 use Rattle.mon_dispatch.proofs.looks.show_rows.Given as goal
 

@@ -1,5 +1,5 @@
 use Rattle.std.proofs.Common.{◌≡◌, ◌-◌}
-use Rattle.mon_runs.specs.Past.{gone_on}
+use Rattle.mon_runs.specs.PastBreaks.{gone_on}
 use Rattle.mon_runs.specs.Runs.{HasMade}
 use Rattle.mon_runs.proofs.pieces.go_on.Given as goal
 

@@ -1,7 +1,7 @@
 use Rattle.std.proofs.Common.{◌≡◌, ◌++◌, inl, inr, sym, ap, ◌∙◌}
 use Rattle.model.specs.declared.source_fault.AsmFault.{AsmFault}
 use Rattle.model.specs.OneLineAssembly.{one_line}
-use Rattle.mon_session.specs.Served.{course_of}
+use Rattle.mon_session.specs.Course.{course_of}
 use Rattle.mon_settings.specs.ByteLines.{assembled, if_assembled}
 use Rattle.std.proofs.lemmas.Result.{IfOk-weaker}
 use Rattle.mon_settings.specs.ChangeTexts.{assembled_text, if_assembled_text, not_assembled_text}

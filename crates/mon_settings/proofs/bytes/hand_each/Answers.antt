@@ -3,7 +3,7 @@ use Rattle.std.specs.Prelude.{is_ok}
 use Rattle.std.proofs.lemmas.Grind.{common_steps}
 use Rattle.model.specs.Event.{event_of}
 use Rattle.model.specs.declared.event.Event.TheVariants.{Input}
-use Rattle.mon_session.specs.Served.{course_of}
+use Rattle.mon_session.specs.Course.{course_of}
 use Rattle.mon_settings.specs.ByteLines.{all_happened, first_fault, inputs}
 use Rattle.mon_settings.proofs.Made.{accepted_said, fault_said, is_no_fault, is_some_fault, no_fault, nothing_said, inputs-end, inputs-from, made, none_left, rejected}
 use Rattle.mon_settings.proofs.bytes.hand_each.Goals as goal

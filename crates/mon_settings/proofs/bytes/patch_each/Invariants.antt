@@ -1,5 +1,5 @@
 use Rattle.std.proofs.Common.{◌≡◌, ◌+◌, drop}
-use Rattle.mon_session.specs.Served.{KeepsStops, course_of}
+use Rattle.mon_session.specs.Course.{KeepsStops, course_of}
 use Rattle.mon_settings.specs.ByteLines.{all_happened, first_fault, patches}
 use Rattle.mon_settings.proofs.bytes.patch_each.Given as goal
 

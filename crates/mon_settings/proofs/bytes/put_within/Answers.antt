@@ -1,7 +1,7 @@
 use Rattle.std.proofs.Common.{◌≡◌, true, length, arith}
 use Rattle.std.specs.Prelude.{is_none}
 use Rattle.std.proofs.lemmas.Grind.{common_steps}
-use Rattle.mon_session.specs.Served.{course_of}
+use Rattle.mon_session.specs.Course.{course_of}
 use Rattle.mon_settings.specs.ByteLines.{first_fault, patches}
 use Rattle.mon_settings.specs.ChangeTexts.{stored_text}
 use Rattle.mon_settings.proofs.Made.{then_all}

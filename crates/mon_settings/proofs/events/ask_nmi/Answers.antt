@@ -3,7 +3,7 @@ use Rattle.std.specs.Prelude.{is_ok}
 use Rattle.std.proofs.lemmas.Grind.{common_steps}
 use Rattle.model.specs.Event.{event_of}
 use Rattle.model.specs.declared.event.Event.TheVariants.{Nmi}
-use Rattle.mon_session.specs.Served.{course_of}
+use Rattle.mon_session.specs.Course.{course_of}
 use Rattle.mon_settings.proofs.Made.{then_said}
 use Rattle.mon_settings.proofs.events.ask_nmi.Goals as goal
 

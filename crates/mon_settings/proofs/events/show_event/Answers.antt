@@ -2,8 +2,8 @@ use Rattle.std.proofs.Common.{◌≡◌, None, true, arith}
 use Rattle.std.specs.Prelude.{is_ok}
 use Rattle.std.proofs.lemmas.Grind.{common_steps}
 use Rattle.model.specs.Event.{event_of}
-use Rattle.mon_session.specs.Served.{course_of}
-use Rattle.mon_session.specs.Texts.{shown_text}
+use Rattle.mon_session.specs.Course.{course_of}
+use Rattle.mon_session.specs.EventTexts.{shown_text}
 use Rattle.mon_settings.proofs.Made.{then_said}
 use Rattle.mon_settings.proofs.events.show_event.Goals as goal
 

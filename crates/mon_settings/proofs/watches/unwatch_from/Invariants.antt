@@ -1,5 +1,5 @@
 use Rattle.std.proofs.Common.{◌≡◌}
-use Rattle.mon_session.specs.Served.{KeepsStops}
+use Rattle.mon_session.specs.Course.{KeepsStops}
 use Rattle.mon_settings.specs.StopLines.{all_unwatched}
 use Rattle.mon_settings.proofs.watches.unwatch_from.Given as goal
 

@@ -1,5 +1,5 @@
 use Rattle.std.proofs.Common.{◌≡◌, None}
-use Rattle.mon_session.specs.Served.{KeepsStops}
+use Rattle.mon_session.specs.Course.{KeepsStops}
 use Rattle.mon_settings.specs.StopLines.{all_watched}
 use Rattle.mon_settings.proofs.watches.watch_from.Given as goal
 

@@ -1,5 +1,5 @@
 use Rattle.std.proofs.Common.{◌≡◌, ◌∙◌, ℕ, add-one, ap}
-use Rattle.mon_session.specs.Served.{course_of}
+use Rattle.mon_session.specs.Course.{course_of}
 use Rattle.mon_steps.specs.BackLines.{remade, remade_one}
 use Rattle.mon_steps.proofs.Shown.{one_more_shown}
 use Rattle.mon_steps.proofs.Course.{if_err, partly}

@@ -1,5 +1,5 @@
 use Rattle.std.proofs.Common.{◌≡◌, ◌++◌}
-use Rattle.mon_session.specs.Served.{KeepsStops, course_of}
+use Rattle.mon_session.specs.Course.{KeepsStops, course_of}
 use Rattle.mon_steps.specs.BackLines.{remade}
 use Rattle.mon_steps.specs.BackTexts.{remade_text}
 use Rattle.mon_steps.proofs.again.redo_each_shown.Given as goal

@@ -1,7 +1,7 @@
 use Rattle.std.proofs.Common.{◌≡◌, ◌∙◌, ◌++◌, ◌<◌, None, ap, arith, length, min, subst}
 use Rattle.std.specs.Prelude.{OnOk}
-use Rattle.mon_session.specs.Served.{course_of}
-use Rattle.mon_session.specs.Texts.{shown_text}
+use Rattle.mon_session.specs.Course.{course_of}
+use Rattle.mon_session.specs.EventTexts.{shown_text}
 use Rattle.mon_steps.specs.BackLines.{remade}
 use Rattle.mon_steps.specs.BackTexts.{events_text, remade_text}
 use Rattle.mon_steps.proofs.Shown.{all_shown}

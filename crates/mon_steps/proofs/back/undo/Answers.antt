@@ -1,5 +1,5 @@
 use Rattle.std.proofs.Common.{◌≡◌, length, sym, ◌∙◌, arith}
-use Rattle.mon_session.specs.Served.{course_of}
+use Rattle.mon_session.specs.Course.{course_of}
 use Rattle.mon_steps.proofs.Course.{none_held}
 use Rattle.mon_steps.proofs.back.undo.Goals as goal
 

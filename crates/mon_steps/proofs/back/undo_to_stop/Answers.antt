@@ -1,5 +1,5 @@
 use Rattle.std.proofs.Common.{◌≡◌, length, sym, ◌∙◌, arith}
-use Rattle.mon_session.specs.Served.{course_of}
+use Rattle.mon_session.specs.Course.{course_of}
 use Rattle.mon_steps.proofs.Course.{none_by_watches}
 use Rattle.mon_steps.proofs.back.undo_to_stop.Goals as goal
 

@@ -1,0 +1,107 @@
+//! What help says of each topic.
+
+/// What help says of a topic.
+#[derive(Clone, Copy)]
+pub struct Help {
+    /// How a line about it is written.
+    pub form: &'static str,
+    /// What such a line does.
+    pub effect: &'static str,
+    /// One such line or more.
+    pub example: &'static str,
+}
+
+/// The form, the effect and the example of each topic, in the order of `Topic`.
+pub const HELP: [(&str, &str, &str); 31] = [
+    ("step [N]", "makes N steps, or 1", "step 3"),
+    ("over", "makes a JSR as one step", "over"),
+    ("out", "steps until this subroutine has returned", "out"),
+    ("until WHERE", "runs to an address", "until $0210"),
+    (
+        "go [N]",
+        "runs to a break, a watch or a fault, or N steps",
+        "go",
+    ),
+    (
+        "back [N]",
+        "undoes N steps, or 1; back over: a whole JSR",
+        "back 3",
+    ),
+    (
+        "rback",
+        "goes back to the last break or change at a watch",
+        "rback",
+    ),
+    ("redo [N]", "makes N undone steps again, or all", "redo"),
+    ("where", "shows the calls on the stack", "where"),
+    ("history [N]", "shows the last N steps, or 10", "history 5"),
+    (
+        "break WHERE [if TESTS] [times N]",
+        "stops a run there",
+        "break main, break $0200, break $0200 if A=$41 and X>3",
+    ),
+    (
+        "watch WHERE[..WHERE] [read|write]",
+        "stops a run when a byte there changes, is read or written",
+        "watch $0010, watch $0010..$001F write",
+    ),
+    ("list", "shows breaks and watches", "list"),
+    (
+        "delete WHERE",
+        "clears the break or the watch there",
+        "delete $0200",
+    ),
+    ("regs", "shows the registers", "regs"),
+    ("flags", "shows the flags by name", "flags"),
+    (
+        "mem WHERE [N]",
+        "shows N bytes of memory, or 64",
+        "mem $0200 32",
+    ),
+    (
+        "dis [WHERE] [N]",
+        "shows N instructions, or 10",
+        "dis main 5",
+    ),
+    (
+        "find BYTES",
+        "shows where bytes or \"text\" stand",
+        "find $A9 $00, find \"HELLO\"",
+    ),
+    ("stack", "shows the bytes on the stack", "stack"),
+    (
+        "set REGISTER VALUE",
+        "sets A, X, Y, S, P or PC",
+        "set A $41, set PC $0200",
+    ),
+    (
+        "put WHERE BYTES",
+        "puts bytes or \"text\" into memory",
+        "put $0300 1 2 $FF, put $0300 \"HELLO\"",
+    ),
+    (
+        "asm WHERE TEXT",
+        "assembles an instruction into memory",
+        "asm $0300 LDA #1",
+    ),
+    (
+        "type \"TEXT\"",
+        "hands text to the console's input",
+        "type \"HELLO\"",
+    ),
+    ("screen", "shows the console's output", "screen"),
+    ("irq on|off", "sets the interrupt line", "irq on"),
+    ("nmi", "asks for a nonmaskable interrupt", "nmi"),
+    ("reset", "resets the processor", "reset"),
+    (
+        "help [WORD]",
+        "shows the words, or one of them",
+        "help break",
+    ),
+    ("quit", "ends", "quit"),
+    (
+        "mos65 trace FILE",
+        "is a word of mos65, not of mon",
+        "history 5",
+    ),
+];

@@ -1,0 +1,257 @@
+//! Runs of single steps, each of which is looked at.
+
+ghost use Rattle.std.specs.Prelude.{◌≡◌, ◌≤◌, ◌^◌};
+ghost use Rattle.model.specs.Run.{after_run, after_steps, run_end};
+ghost use Rattle.model.specs.State.{State};
+ghost use Rattle.mon_runs.specs.Ends.{breaks_after, is_end, is_entry, is_to};
+ghost use Rattle.mon_runs.specs.Looked.{after_stretch, end_between, goal_met, if_met, if_read};
+ghost use Rattle.mon_runs.specs.Looked.{if_stored, looked_run, pushed_at, pushed_to, sight_of};
+ghost use Rattle.mon_runs.specs.Looked.{watched, watched_between, why_of_step};
+
+use crate::LedWhy;
+use crate::ended::{EndWhy, Ended};
+use accesses::{Access, access_here};
+use debugger::{Regs, Session, Why};
+use mon_lines::WatchKind;
+use mon_stops::Stops;
+
+/// The goal of a run of single steps.
+#[derive(Clone, Copy)]
+pub enum Goal {
+    /// The program counter and the stack pointer are these.
+    Behind { pc: u16, stack: u8 },
+    /// The step was an RTS or an RTI, and the stack pointer is above this one.
+    Left { stack: u8 },
+    /// The step was a jump to itself.
+    Stuck,
+    /// No step meets it.
+    Never,
+}
+
+/// A state before a step, as far as the run looks at it.
+#[derive(Clone, Copy)]
+struct Sight {
+    regs: Regs,
+    opcode: u8,
+    cycles: u64,
+    access: Access,
+}
+
+/// How a step ended: whether it was made, and why the run ends with it, if it does.
+#[derive(Clone, Copy)]
+pub struct Made {
+    pub did: u32,
+    pub why: Option<EndWhy>,
+}
+
+/// Returns what a run sees before a step.
+fn look(session: &Session) -> Sight
+    ensures { result ≡ sight_of session.now.current }
+{
+    let regs = session.regs();
+    Sight {
+        regs,
+        opcode: session.peek(regs.pc),
+        cycles: session.cycles(),
+        access: access_here(session),
+    }
+}
+
+/// Returns whether a step was the entry of an interrupt, where the stack pointer and the cycles
+/// before it were these. Such a step takes 7 cycles and pushes three bytes, as BRK alone does
+/// otherwise; but BRK pushes P with its bit 4 set.
+pub fn is_entry(session: &Session, stack: u8, cycles: u64) -> bool
+    ensures { result ≡ is_entry stack cycles session.now.current }
+{
+    let is_long = session.cycles().saturating_sub(cycles) == 7;
+    let is_pushed = session.regs().s == stack.wrapping_sub(3);
+    let pushed = session.peek(0x0100 + stack.wrapping_sub(2) as u16);
+    is_long && is_pushed && pushed & 0x10 == 0
+}
+
+/// Returns where a byte is pushed, if so many were pushed before it.
+fn pushed_to(stack: u8, depth: u8) -> u16
+    ensures { result ≡ pushed_to stack depth }
+{
+    0x0100 + stack.wrapping_sub(depth) as u16
+}
+
+/// Returns the address of the bytes that a step has pushed that is watched for writes, if one is.
+fn pushed_at(stops: &Stops, stack: u8, pushes: u8) -> Option<u16>
+    ensures { result ≡ pushed_at stops.now.watches.items stack 0 pushes }
+{
+    for depth in 0..pushes {
+        let address = pushed_to(stack, depth);
+        if stops.has_access(WatchKind::Write, address) {
+            return Some(address);
+        }
+    }
+    None
+}
+
+/// Returns the read of an address, if it is watched.
+fn if_read(stops: &Stops, address: Option<u16>) -> Option<EndWhy>
+    ensures { result ≡ if_read stops.now.watches.items address }
+{
+    match address {
+        Some(address) if stops.has_access(WatchKind::Read, address) => Some(EndWhy::Read(address)),
+        _ => None,
+    }
+}
+
+/// Returns the store at an address, if it is watched.
+fn if_stored(stops: &Stops, address: Option<u16>) -> Option<EndWhy>
+    ensures { result ≡ if_stored stops.now.watches.items address }
+{
+    match address {
+        Some(address) if stops.has_access(WatchKind::Write, address) => {
+            Some(EndWhy::Written(address))
+        }
+        _ => None,
+    }
+}
+
+/// Returns the access of a step that is watched, if one is.
+fn watched(stops: &Stops, access: Access, stack: u8) -> Option<EndWhy>
+    ensures { result ≡ watched stops.now.watches.items access stack }
+{
+    if let Some(why) = if_read(stops, access.read) {
+        return Some(why);
+    }
+    if let Some(why) = if_stored(stops, access.store) {
+        return Some(why);
+    }
+    match pushed_at(stops, stack, access.pushes) {
+        Some(address) => Some(EndWhy::Written(address)),
+        None => None,
+    }
+}
+
+/// Returns whether a step meets a goal.
+fn is_met(goal: Goal, before: Sight, after: Regs, cycles: u64) -> bool
+    ensures { (s t : State) → before ≡ sight_of s → after ≡ t.regs → cycles ≡ t.cycles
+        → result ≡ goal_met goal s t }
+{
+    match goal {
+        Goal::Behind { pc, stack } => after.pc == pc && after.s == stack,
+        Goal::Left { stack } => {
+            (before.opcode == 0x60 || before.opcode == 0x40)
+                && cycles >= before.cycles
+                && cycles - before.cycles == 6
+                && stack < after.s
+        }
+        Goal::Stuck => after.pc == before.regs.pc && after.s == before.regs.s,
+        Goal::Never => false,
+    }
+}
+
+/// Returns whether an address is the one that is run to.
+fn is_to(until: Option<u16>, at: u16) -> bool
+    ensures { result ≡ is_to until at }
+{
+    match until {
+        None => false,
+        Some(address) => address == at,
+    }
+}
+
+/// Returns whether a run ends for this reason: it goes on past a break whose tests do not hold, but
+/// not past the address that it runs to.
+pub fn is_end(session: &Session, stops: &mut Stops, until: Option<u16>, why: Why) -> bool
+    ensures end { result ≡ is_end until why session.now.current stops.old.breaks.items }
+    ensures breaks { stops.new.breaks.items
+        ≡ breaks_after until why session.now.current stops.old.breaks.items }
+    ensures watches { stops.new.watches ≡ stops.old.watches }
+    ensures changes { stops.new.changes ≡ stops.old.changes }
+{
+    match why {
+        Why::Limit => false,
+        Why::Break(at) => is_to(until, at) || stops.is_met(session, at),
+        Why::Watch(_) | Why::Refused(_) => true,
+    }
+}
+
+/// Returns the access of a step that is watched, if one is and no interrupt was entered.
+fn watched_since(session: &Session, stops: &Stops, before: Sight) -> Option<EndWhy>
+    ensures { (s : State) → before ≡ sight_of s → result
+        ≡ watched_between stops.now.watches.items s session.now.current }
+{
+    if is_entry(session, before.regs.s, before.cycles) {
+        None
+    } else {
+        watched(stops, before.access, before.regs.s)
+    }
+}
+
+/// Returns why a run ends with a goal that was met.
+fn if_met(is_met: bool) -> Option<EndWhy>
+    ensures { result ≡ if_met is_met }
+{
+    if is_met {
+        Some(EndWhy::Led(LedWhy::Met))
+    } else {
+        None
+    }
+}
+
+/// Returns why a run ends after a step that did not end it by itself, if it does.
+fn end_of(session: &Session, stops: &Stops, goal: Goal, before: Sight) -> Option<EndWhy>
+    ensures { (s : State) → before ≡ sight_of s → result
+        ≡ end_between stops.now.watches.items goal s session.now.current }
+{
+    match watched_since(session, stops, before) {
+        Some(why) => Some(why),
+        None => if_met(is_met(goal, before, session.regs(), session.cycles())),
+    }
+}
+
+/// Makes a step that is looked at.
+fn make_step(session: &mut Session, stops: &mut Stops, goal: Goal, until: Option<u16>) -> Made
+    ensures steps { session.new ≡ after_steps result.did session.old }
+    ensures did { result.did ≡ (run_end 1 session.old).did }
+    ensures why { result.why ≡ why_of_step stops.old.watches.items goal until
+        (session.old, stops.old.breaks.items) }
+    ensures after { (session.new, stops.new.breaks.items)
+        ≡ after_stretch until 1 (session.old, stops.old.breaks.items) }
+    ensures watches { stops.new.watches ≡ stops.old.watches }
+    ensures changes { stops.new.changes ≡ stops.old.changes }
+{
+    let before = look(session);
+    let end = session.run(1);
+    let why = if is_end(session, stops, until, end.why) {
+        Some(EndWhy::Led(LedWhy::Stopped(end.why)))
+    } else {
+        end_of(session, stops, goal, before)
+    };
+    Made { did: end.did, why }
+}
+
+/// Makes up to `limit` steps, each of which is looked at, until one meets the goal or ends the run.
+pub fn lead(
+    session: &mut Session,
+    stops: &mut Stops,
+    goal: Goal,
+    until: Option<u16>,
+    limit: u32,
+) -> Ended
+    requires { limit ≤ 2 ^ 29 }
+    ensures steps { session.new ≡ after_steps result.did session.old }
+    ensures run { looked_run stops.old.watches.items goal until limit
+        (session.old, stops.old.breaks.items)
+        ≡ (result, (session.new, stops.new.breaks.items)) }
+    ensures watches { stops.new.watches ≡ stops.old.watches }
+    ensures changes { stops.new.changes ≡ stops.old.changes }
+{
+    let mut did = 0u64;
+    for _ in 0..limit {
+        let made = make_step(session, stops, goal, until);
+        did += made.did as u64;
+        if let Some(why) = made.why {
+            return Ended { did, why };
+        }
+    }
+    Ended {
+        did,
+        why: EndWhy::Led(LedWhy::Many),
+    }
+}

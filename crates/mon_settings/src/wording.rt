@@ -1,0 +1,39 @@
+//! The words of what lines say that change the session, each once. Definitions in `specs` name
+//! them.
+
+// Breaks and watches.
+pub const NO_LINE_BEGINS: &str = "no line of the source begins there\n";
+
+pub const PORT_UNWATCHED: &str =
+    "no byte of memory stands at the console's port; watch it with read or write\n";
+
+pub const WATCHES_FULL: &str = "256 bytes are watched; delete a watch first\n";
+
+pub const WATCH_TOO_WIDE: &str = "at most 256 bytes are watched for changes\n";
+
+pub const DELETED: &str = "deleted: ";
+
+pub const NOTHING_AT: &str = "there is no break and no watch at ";
+
+pub const NOTHING_SET: &str = "no break and no watch is set\n";
+
+// Interrupts.
+pub const IRQ_MASKED: &str = "IRQ is asked for, but I is 1: it waits until a CLI\n";
+
+pub const IRQ_NEXT: &str =
+    "IRQ is asked for: the next step enters it, or an NMI that is asked for too\n";
+
+pub const NO_IRQ: &str = "the line asks for no IRQ\n";
+
+pub const NMI_NEXT: &str = "NMI is asked for: the next step enters it\n";
+
+// Bytes and instructions.
+pub const BYTE_AT: &str = " byte at ";
+
+pub const BYTES_AT: &str = " bytes at ";
+
+pub const BYTE_HANDED_IN: &str = " byte handed in\n";
+
+pub const BYTES_HANDED_IN: &str = " bytes handed in\n";
+
+pub const NOT_ASSEMBLED: &str = "this is not assembled: ";

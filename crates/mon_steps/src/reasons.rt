@@ -1,0 +1,108 @@
+//! Why a led run has ended, and after how many steps.
+
+ghost use Rattle.std.specs.Prelude.{◌≡◌, ◌++◌, OnOk};
+ghost use Rattle.model.specs.declared.run_end.Why.TheVariants.{Watch};
+ghost use Rattle.mon_steps.specs.Reasons.{after_text, break_text, end_line, steps_text, stop_text};
+ghost use Rattle.mon_steps.specs.Reasons.{why_text};
+
+use crate::wording::{AFTER, DONE, IS_NOW, NO_STOP, STEP, STEPS, WATCH};
+use formatting::{push_byte, push_count, push_text};
+use mon_runs::{LedEnd, LedWhy, Session, Why};
+use mon_texts::wording::BREAK_AT;
+use mon_texts::{push_fault, push_place};
+use source_map::Places;
+use std::alloc::AllocError;
+
+/// Appends how many steps were made.
+fn push_steps(text: &mut Vec<u8>, count: u64) -> Result<(), AllocError>
+    ensures { OnOk result (text.new.items ≡ text.old.items ++ steps_text count) }
+{
+    push_count(text, count)?;
+    push_text(text, if count == 1 { STEP } else { STEPS })
+}
+
+/// Appends after how many steps a run has ended, and ends the line.
+pub fn push_after(text: &mut Vec<u8>, count: u64) -> Result<(), AllocError>
+    ensures { OnOk result (text.new.items ≡ text.old.items ++ after_text count) }
+{
+    push_text(text, AFTER)?;
+    push_steps(text, count)?;
+    push_text(text, "\n")
+}
+
+/// Appends what a watched byte is now.
+fn push_watched(
+    text: &mut Vec<u8>,
+    session: &Session,
+    places: &Places,
+    address: u16,
+) -> Result<(), AllocError>
+    ensures { OnOk result (text.new.items ≡ text.old.items
+        ++ stop_text session.now.current.bus.memory places.now.names (Watch address)) }
+{
+    push_text(text, WATCH)?;
+    push_place(text, places, address)?;
+    push_text(text, IS_NOW)?;
+    push_byte(text, session.peek(address))
+}
+
+/// Appends where the break is at which a run has stopped.
+fn push_at(text: &mut Vec<u8>, places: &Places, address: u16) -> Result<(), AllocError>
+    ensures { OnOk result (text.new.items ≡ text.old.items
+        ++ break_text places.now.names address) }
+{
+    push_text(text, BREAK_AT)?;
+    push_place(text, places, address)
+}
+
+/// Appends what has stopped a run.
+fn push_stop(
+    text: &mut Vec<u8>,
+    session: &Session,
+    places: &Places,
+    why: Why,
+) -> Result<(), AllocError>
+    ensures { OnOk result (text.new.items ≡ text.old.items
+        ++ stop_text session.now.current.bus.memory places.now.names why) }
+{
+    match why {
+        Why::Break(address) => push_at(text, places, address),
+        Why::Watch(address) => push_watched(text, session, places, address),
+        Why::Limit => push_text(text, DONE),
+        Why::Refused(fault) => push_fault(text, places, fault),
+    }
+}
+
+/// Appends why a led run has ended.
+fn push_why(
+    text: &mut Vec<u8>,
+    session: &Session,
+    places: &Places,
+    why: LedWhy,
+    met: &str,
+) -> Result<(), AllocError>
+    ensures { OnOk result (text.new.items ≡ text.old.items
+        ++ why_text session.now.current.bus.memory places.now.names met.now why) }
+{
+    match why {
+        LedWhy::Met => push_text(text, met),
+        LedWhy::Many => push_text(text, NO_STOP),
+        LedWhy::Stopped(why) => push_stop(text, session, places, why),
+    }
+}
+
+/// Appends the line that says how a led run has ended. Where it met its goal, `met` says what that
+/// means.
+pub fn push_end(
+    text: &mut Vec<u8>,
+    session: &Session,
+    places: &Places,
+    end: LedEnd,
+    met: &str,
+) -> Result<(), AllocError>
+    ensures ok { OnOk result (text.new.items ≡ text.old.items
+        ++ end_line session.now.current places.now.names met.now end) }
+{
+    push_why(text, session, places, end.why, met)?;
+    push_after(text, end.did)
+}

@@ -1,0 +1,66 @@
+//! The words of what lines that run or go back say, each once. Definitions in `specs` name them.
+
+// How a run has ended.
+pub const STUCK: &str = "nothing is left to do: the instruction jumps to itself";
+
+pub const RETURNED: &str = "the subroutine has returned";
+
+pub const WATCHED_READ: &str = "watch: a read of ";
+
+pub const WATCHED_WRITE: &str = "watch: a write to ";
+
+pub const IS_NOW: &str = " is now $";
+
+pub const WATCH: &str = "watch: ";
+
+pub const DONE: &str = "done";
+
+pub const NO_STOP: &str = "no stop so far";
+
+pub const AFTER: &str = ", after ";
+
+pub const STEP: &str = " step";
+
+pub const STEPS: &str = " steps";
+
+pub const HERE: &str = "here: ";
+
+// Back.
+pub const NONE_HELD: &str = "nothing can be undone: no step was made yet, or its history is gone\n";
+
+pub const EVENT_UNDONE: &str = " event undone\n";
+
+pub const EVENTS_UNDONE: &str = " events undone\n";
+
+pub const ONLY: &str = "only ";
+
+pub const EVENT_HELD: &str = " event can be undone\n";
+
+pub const EVENTS_HELD: &str = " events can be undone\n";
+
+pub const BACK_AT_BREAK: &str = "back at the break at ";
+
+pub const BACK_AT_OLDEST: &str = "back at the oldest state";
+
+pub const BACK_BEFORE_CHANGE: &str = "back before a change at a watch";
+
+pub const TOO_MANY_WATCHED: &str = "more than 256 bytes are watched\n";
+
+// Events made again.
+pub const NOTHING_UNDONE: &str = "there is nothing to make again\n";
+
+pub const EVENT_REMADE: &str = " event made again\n";
+
+pub const EVENTS_REMADE: &str = " events made again\n";
+
+pub const REGISTER_SET: &str = "      (a register was set)\n";
+
+pub const MEMORY_CHANGED: &str = "      (memory was changed by a line)\n";
+
+pub const BYTE_HANDED_IN: &str = "      (a byte was handed in)\n";
+
+pub const LINE_SET: &str = "      (the interrupt line was set)\n";
+
+pub const NMI_ASKED_FOR: &str = "      (an NMI was asked for)\n";
+
+pub const RESET_MADE: &str = "      (a reset)\n";

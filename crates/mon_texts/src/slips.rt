@@ -1,0 +1,129 @@
+//! What is missing or wrong in a line.
+
+ghost use Rattle.std.specs.Prelude.{◌≡◌, ◌++◌, OnOk, codes};
+ghost use Rattle.std.specs.List.{flat_map};
+ghost use Rattle.mon_line_parts.specs.Reading.{why_view};
+ghost use Rattle.mon_texts.specs.Help.{example_text};
+ghost use Rattle.mon_texts.specs.Slips.{lack_text, quoted, quoted_and, quoted_byte, range_text};
+ghost use Rattle.mon_texts.specs.Slips.{slip_text};
+
+use crate::help::push_example;
+use crate::wording::{
+    A_NUMBER, A_REGISTER, A_VALUE, ADDEND, AN_ADDRESS, AN_INSTRUCTION, AND, BINARY_DIGITS,
+    COMPARISON, HEX_DIGITS, LAST_ADDRESS, LEFT_OVER, LEVEL, MISSING, NO_NAME, NO_WORD, NOT_BETWEEN,
+    POINTS, QUOTED_TEXT, SEVERAL_WORDS, SUBTRAHEND, TIMES_NUMBER, TOO_MANY, UNREADABLE,
+};
+use formatting::{push_count, push_text};
+use mon_line_parts::{Lack, Why};
+use mon_lines::Slip;
+use std::alloc::AllocError;
+
+/// Appends a byte between quotes.
+fn push_quoted_byte(text: &mut Vec<u8>, byte: u8) -> Result<(), AllocError>
+    ensures { OnOk result (text.new.items ≡ text.old.items ++ quoted_byte byte) }
+{
+    let shown = match byte {
+        b' '..=b'~' => byte,
+        _ => b'?',
+    };
+    text.push(shown)?;
+    Ok(())
+}
+
+/// Appends the bytes of a piece of a line.
+fn push_piece(text: &mut Vec<u8>, piece: &[u8]) -> Result<(), AllocError>
+    ensures { OnOk result (text.new.items ≡ text.old.items ++ flat_map quoted_byte piece.now) }
+{
+    for byte in piece {
+        push_quoted_byte(text, *byte)?;
+    }
+    Ok(())
+}
+
+/// Appends a piece of a line between quotes.
+fn push_quoted(text: &mut Vec<u8>, piece: &[u8]) -> Result<(), AllocError>
+    ensures { OnOk result (text.new.items ≡ text.old.items ++ quoted piece.now) }
+{
+    text.push(b'\'')?;
+    push_piece(text, piece)?;
+    text.push(b'\'')?;
+    Ok(())
+}
+
+/// Appends a piece of a line between quotes, and words.
+fn push_quoted_and(text: &mut Vec<u8>, piece: &[u8], words: &str) -> Result<(), AllocError>
+    ensures { OnOk result (text.new.items ≡ text.old.items ++ quoted_and piece.now words.now) }
+{
+    push_quoted(text, piece)?;
+    push_text(text, words)
+}
+
+/// The words for what is missing in a line.
+fn words_of(lack: Lack) -> &'static str
+    ensures { result.now ≡ lack_text lack }
+{
+    match lack {
+        Lack::HexDigits => HEX_DIGITS,
+        Lack::BinaryDigits => BINARY_DIGITS,
+        Lack::Address => AN_ADDRESS,
+        Lack::Value => A_VALUE,
+        Lack::Number => A_NUMBER,
+        Lack::Addend => ADDEND,
+        Lack::Subtrahend => SUBTRAHEND,
+        Lack::Text => QUOTED_TEXT,
+        Lack::Comparison => COMPARISON,
+        Lack::Times => TIMES_NUMBER,
+        Lack::Points => POINTS,
+        Lack::LastAddress => LAST_ADDRESS,
+        Lack::Register => A_REGISTER,
+        Lack::Level => LEVEL,
+        Lack::Instruction => AN_INSTRUCTION,
+    }
+}
+
+/// Appends what is missing.
+fn push_missing(text: &mut Vec<u8>, lack: Lack) -> Result<(), AllocError>
+    ensures { OnOk result (text.new.items ≡ text.old.items ++ MISSING.now ++ lack_text lack) }
+{
+    push_text(text, MISSING)?;
+    push_text(text, words_of(lack))
+}
+
+/// Appends between which numbers a number has to be.
+fn push_range(text: &mut Vec<u8>, least: u32, most: u32) -> Result<(), AllocError>
+    ensures { OnOk result (text.new.items ≡ text.old.items ++ range_text least most) }
+{
+    push_text(text, NOT_BETWEEN)?;
+    push_count(text, least as u64)?;
+    push_text(text, AND)?;
+    push_count(text, most as u64)
+}
+
+/// Appends why a line cannot be read.
+#[tactic(auto, unfolding(crate::specs::Slips::slip_text))]
+fn push_why(text: &mut Vec<u8>, why: Why<'_>) -> Result<(), AllocError>
+    ensures { OnOk result (text.new.items ≡ text.old.items ++ slip_text (why_view why.entry)) }
+{
+    match why {
+        Why::Unknown(word) => push_quoted_and(text, word, NO_WORD),
+        Why::Several(word) => push_quoted_and(text, word, SEVERAL_WORDS),
+        Why::Missing(what) => push_missing(text, what),
+        Why::Unreadable(piece) => push_quoted_and(text, piece, UNREADABLE),
+        Why::Behind(piece) => push_quoted_and(text, piece, LEFT_OVER),
+        Why::NoName(word) => push_quoted_and(text, word, NO_NAME),
+        Why::Range { least, most } => push_range(text, least, most),
+        Why::Many => push_text(text, TOO_MANY),
+    }
+}
+
+/// Appends the line that says what is wrong in a line, with an example.
+///
+/// Errors: `AllocError` if an allocation fails.
+pub fn push_slip(text: &mut Vec<u8>, slip: Slip<'_>) -> Result<(), AllocError>
+    ensures ok { OnOk result (text.new.items ≡ text.old.items
+        ++ slip_text (why_view slip.entry.why) ++ example_text slip.entry.topic ++ codes "\n") }
+{
+    push_why(text, slip.why)?;
+    push_example(text, slip.topic)?;
+    push_text(text, "\n")
+}
