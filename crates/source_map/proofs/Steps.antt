@@ -1,5 +1,5 @@
 -- Names and lines of an assembly, taken one after another.
-use Rattle.std.proofs.Common.{◌≡◌, ℕ, ℤ, zero, suc, ◌+◌, Bool, List, [], ◌∷◌, ◌++◌, Option, Some, None, take, refl, ap, sym, ◌∙◌, add-one, append_assoc}
+use Rattle.std.proofs.Common.{◌≡◌, ℕ, zero, suc, ◌+◌, List, [], ◌∷◌, ◌++◌, Option, Some, None, take, refl, ap, sym, ◌∙◌, add-one, append_assoc, append-nil}
 use Rattle.std.specs.Prelude.{slice_get}
 use Rattle.std.specs.List.{flat_map, zip}
 use Rattle.std.specs.Option.{option_to_list}
@@ -33,3 +33,10 @@ zip_no_other [] ys i e = refl
 zip_no_other (a ∷ xs) [] i e = refl
 zip_no_other (a ∷ xs) (b ∷ ys) zero e = absurd cc
 zip_no_other (a ∷ xs) (b ∷ ys) (suc i) e = zip_no_other xs ys i e
+
+-- the row or the names of one element
+pub one_taken : {X Y : Type 0} (f : X → List Y) (o : Option X) (x : X) → o ≡ Some x → f x ≡ flat_map f (option_to_list o)
+one_taken {X} f o x e = sym (ap (λ (p : Option X). flat_map f (option_to_list p)) e ∙ append-nil (f x))
+
+pub none_taken : {X Y : Type 0} (f : X → List Y) (o : Option X) (before : List Y) → o ≡ None → before ≡ before ++ flat_map f (option_to_list o)
+none_taken {X} f o before e = sym (ap (λ (p : Option X). before ++ flat_map f (option_to_list p)) e ∙ append-nil before)

@@ -1,5 +1,5 @@
 -- Names of addresses, and which of them a text or an address means. Source: mos65.
-use Rattle.std.specs.Prelude.{ℕ, ℤ, pos, negsuc, ◌-◌, ◌==◌, ◌&&◌, nat_le, nat_lt, not, Bool, true, false, is_some, if◌then◌else◌, List, [], ◌∷◌, map, find, Option, Some, None}
+use Rattle.std.specs.Prelude.{ℕ, ℤ, pos, negsuc, ◌-◌, ◌==◌, ◌&&◌, nat_le, nat_lt, not, Bool, true, false, is_some, if◌then◌else◌, List, [], ◌∷◌, find, Option, Some, None}
 use Rattle.std.specs.List.{flat_map, zip}
 use Rattle.std.specs.Option.{option_map, option_or}
 use Rattle.std.specs.Borrow.{Bor}

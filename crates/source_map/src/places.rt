@@ -70,7 +70,7 @@ impl Places {
         ensures err { OnErr result ((count : ℕ) × (self.new ≡ record self.old {
           names
               = self.old.names ++ names_of assembly.now.image
-                  (take count (named_numbers assembly.now));
+              (take count (named_numbers assembly.now));
         })) }
     {
         self.names.append(alloc, assembly)

@@ -8,11 +8,13 @@ use Rattle.std.proofs.lemmas.List.Folds.{position_or_len_push}
 use Rattle.std.proofs.lemmas.List.Sums.{prefix_len-le-length}
 use Rattle.std.proofs.lemmas.Bool.{cases_eq, cases_lt, eq-eqb, eqb-true, eqb-false, le-ltb, leb-true, lt-ltb, ne_eqb}
 use Rattle.model.specs.Image.{cell_at}
+use Rattle.model.specs.Names.{Definitions}
+use Rattle.assembler.specs.Assembly.{AssemblyView}
 use Rattle.assembler.specs.Lines.{LineView}
 use Rattle.trace_rows.specs.declared.lines.SourceLine.{SourceLine}
 use Rattle.trace_rows.specs.declared.sites.Label.{Label}
-use Rattle.trace_rows.specs.SourceLines.{listed}
-use Rattle.trace_rows.specs.Sites.{IsTable, Labelled, Numbered, addresses_of, first_at, index_at, index_of, is_wanted, labelled, line_addresses, name_if_free, name_of, names_of, or_below, put_if_none}
+use Rattle.trace_rows.specs.SourceLines.{line_of, lines_of, listed}
+use Rattle.trace_rows.specs.Sites.{IsTable, Labelled, Numbered, addresses_of, first_at, index_at, index_of, is_wanted, label_for, label_place, labelled, labels_in, line_addresses, name_if_free, name_of, names_in, names_of, nowhere, numbered, or_below, put_if_none}
 
 -- ---- options
 
@@ -366,3 +368,66 @@ spread_over image old table place first o t = record {
   size = t.size;
   rows = λ address lt. t.rows address lt ∙ below_same image (λ a. option_or (index_at old a) (first a)) (λ a. option_or (place a) (first a)) 65536 (λ a below. ap (λ p. option_or p (first a)) (o.rows a below)) address lt;
 }
+
+-- the name of an index
+pub name_taken : (image : List (Option ℕ)) (place : ℕ → Option ℕ) (labels : Bool) (names : Definitions) (flags : List Bool) (i : ℕ) (text : List ℕ) (number : ℤ) (flag : Bool)
+    → slice_get names i ≡ Some (text, number) → slice_get flags i ≡ Some flag → is_wanted labels flag ≡ true
+    → names_of image place labels (option_to_list (slice_get (zip names flags) i)) ≡ name_if_free image place text number
+unfolding names_of
+name_taken image place labels names flags i text number flag e f wanted =
+    ap (λ (o : Option Numbered). names_of image place labels (option_to_list o)) (zip_at names flags i (text, number) flag e f)
+    ∙ (ap (λ (b : Bool). (if b then name_if_free image place text number else []) ++ []) wanted ∙ append-nil (name_if_free image place text number))
+
+pub name_left : (image : List (Option ℕ)) (place : ℕ → Option ℕ) (labels : Bool) (names : Definitions) (flags : List Bool) (i : ℕ) (text : List ℕ) (number : ℤ) (flag : Bool)
+    → slice_get names i ≡ Some (text, number) → slice_get flags i ≡ Some flag → is_wanted labels flag ≡ false
+    → names_of image place labels (option_to_list (slice_get (zip names flags) i)) ≡ []
+unfolding names_of
+name_left image place labels names flags i text number flag e f other =
+    ap (λ (o : Option Numbered). names_of image place labels (option_to_list o)) (zip_at names flags i (text, number) flag e f)
+    ∙ ap (λ (b : Bool). (if b then name_if_free image place text number else []) ++ []) other
+
+pub name_none : (image : List (Option ℕ)) (place : ℕ → Option ℕ) (labels : Bool) (o : Option Numbered) → o ≡ None → names_of image place labels (option_to_list o) ≡ []
+unfolding names_of
+name_none image place labels o e = ap (λ (n : Option Numbered). names_of image place labels (option_to_list n)) e
+
+-- nothing is appended
+pub none_more : (old more : List Labelled) → more ≡ [] → old ≡ old ++ more
+none_more old more e = sym (ap (λ ls. old ++ ls) e ∙ append-nil old)
+
+-- ---- the names of a source: first its labels, then the others
+
+pub first_names : (a : AssemblyView) (table : List ℕ) (old new : List Labelled) → IsTable table (λ address. None) → old ≡ []
+    → new ≡ old ++ names_of a.image (index_at table) true (numbered a) → new ≡ labels_in a
+first_names a table old new t e n = n ∙ (ap (λ ls. ls ++ names_of a.image (index_at table) true (numbered a)) e ∙ same_names a.image table nowhere true (numbered a) t)
+
+pub first_places : (a : AssemblyView) (table new : List ℕ) (labels : List Labelled) → IsTable table (λ address. None) → labels ≡ labels_in a
+    → IsTable new (or_below a.image (λ address. option_or (index_at table address) (first_at (addresses_of labels) address))) → IsTable new (label_place a)
+first_places a table new labels t e n = subst (λ ls. IsTable new (or_below a.image (first_at (addresses_of ls)))) e (spread_over a.image table new nowhere (first_at (addresses_of labels)) t n)
+
+pub then_names : (a : AssemblyView) (table : List ℕ) (old new : List Labelled) → IsTable table (label_place a) → old ≡ labels_in a
+    → new ≡ old ++ names_of a.image (index_at table) false (numbered a) → new ≡ names_in a
+then_names a table old new t e n = n ∙ (ap (λ ls. ls ++ names_of a.image (index_at table) false (numbered a)) e
+    ∙ ap (λ ls. labels_in a ++ ls) (same_names a.image table (label_place a) false (numbered a) t))
+
+pub then_places : (a : AssemblyView) (table new : List ℕ) (names : List Labelled) → IsTable table (label_place a) → names ≡ names_in a
+    → IsTable new (or_below a.image (λ address. option_or (index_at table address) (first_at (addresses_of names) address))) → IsTable new (label_for a)
+then_places a table new names t e n = subst (λ ls. IsTable new (or_below a.image (λ address. option_or (label_place a address) (first_at (addresses_of ls) address)))) e
+    (spread_over a.image table new (label_place a) (first_at (addresses_of names)) t n)
+
+-- ---- lines, taken one after another
+
+pub lines_none : lines_of [] ≡ []
+unfolding lines_of
+lines_none = refl
+
+lines_suc : (lines : List LineView) (i : ℕ) → lines_of (take (suc i) lines) ≡ lines_of (take i lines) ++ lines_of (option_to_list (slice_get lines i))
+unfolding lines_of
+lines_suc [] zero = refl
+lines_suc [] (suc i) = refl
+lines_suc (l ∷ ls) zero = refl
+lines_suc (l ∷ ls) (suc i) = ap (λ (more : List LineView). line_of l ++ more) (lines_suc ls i)
+    ∙ sym (append_assoc (line_of l) (lines_of (take i ls)) (lines_of (option_to_list (slice_get ls i))))
+
+pub lines_more : (lines : List LineView) (i : ℕ) (old new : List LineView) → old ≡ lines_of (take i lines) → new ≡ old ++ lines_of (option_to_list (slice_get lines i)) → new ≡ lines_of (take (i + 1) lines)
+lines_more lines i old new e n =
+    n ∙ (ap (λ ls. ls ++ lines_of (option_to_list (slice_get lines i))) e ∙ sym (ap (λ k. lines_of (take k lines)) (add-one i) ∙ lines_suc lines i))

@@ -133,7 +133,8 @@ names_in assembly = labels_in assembly
 -- definition that stands there, or otherwise of the nearest one below, likewise.
 abbrev pub label_for : AssemblyView → ℕ → Option ℕ
 label_for assembly = or_below assembly.image
-    (λ address. option_or (label_place assembly address) (first_at (addresses_of (names_in assembly)) address))
+    (λ address. option_or (label_place assembly address)
+    (first_at (addresses_of (names_in assembly)) address))
 
 -- The index of the first line that begins at an address.
 abbrev pub line_for : AssemblyView → ℕ → Option ℕ

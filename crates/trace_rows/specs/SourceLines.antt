@@ -1,5 +1,5 @@
 -- The lines of a source that have bytes. Source: mos65.
-use Rattle.std.specs.Prelude.{ℕ, ◌&&◌, min, nat_le, nat_lt, if◌then◌else◌, List, [], ◌∷◌}
+use Rattle.std.specs.Prelude.{◌&&◌, min, nat_le, nat_lt, if◌then◌else◌, List, [], ◌∷◌}
 use Rattle.std.specs.List.{flat_map}
 use Rattle.assembler.specs.Assembly.{AssemblyView, source_lines}
 use Rattle.assembler.specs.Lines.{LineView}

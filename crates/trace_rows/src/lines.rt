@@ -30,8 +30,8 @@ fn push_line(
     lines: &mut Vec<SourceLine>,
     line: assembler::SourceLine<'_>,
 ) -> Result<(), AllocError>
-    ensures { OnOk result
-        (map listed lines.new.items ≡ map listed lines.old.items ++ line_of (line_view line.entry)) }
+    ensures { OnOk result (map listed lines.new.items
+        ≡ map listed lines.old.items ++ line_of (line_view line.entry)) }
 {
     if line.count > 0 && line.address <= 65535 {
         let text = Vec::from_slice(alloc, line.text)?;

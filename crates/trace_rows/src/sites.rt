@@ -14,8 +14,8 @@ use crate::lines::{SourceLine, lines_of};
 use assembler::Assembly;
 use std::alloc::{AllocError, Global};
 
-/// A name of the source for an address at which it puts a byte: a label, which stands before `:`, or
-/// a definition where no label's bytes are.
+/// A name of the source for an address at which it puts a byte: a label, which stands before `:`,
+/// or a definition where no label's bytes are.
 #[derive(Drop)]
 pub struct Label {
     pub text: Vec<u8>,
@@ -269,7 +269,8 @@ impl Sites {
         })
     }
 
-    /// Returns the labels in the order of definition, and then the definitions that name an address.
+    /// Returns the labels in the order of definition, and then the definitions that name an
+    /// address.
     pub fn labels(&self) -> &[Label]
         ensures { result.now ≡ self.now.labels.items }
     {
@@ -284,8 +285,8 @@ impl Sites {
     }
 
     /// Returns the index of the label that an address belongs to: the first that stands there, or
-    /// otherwise the nearest below it, if the source puts bytes at all addresses between. Where there
-    /// is none, it is that of a definition, likewise.
+    /// otherwise the nearest below it, if the source puts bytes at all addresses between. Where
+    /// there is none, it is that of a definition, likewise.
     pub fn label_index(&self, address: u16) -> Option<usize>
         ensures { result ≡ index_at self.now.label_of.items address }
     {

@@ -1,4 +1,4 @@
-use Rattle.std.proofs.Common.{map, min, length, arith}
+use Rattle.std.proofs.Common.{map, length, arith}
 use Rattle.std.proofs.Math.Nat.{min-le_left}
 use Rattle.std.proofs.lemmas.Slice.Zip.{length-zip}
 use Rattle.trace_rows.specs.Sites.{index_at, labelled, numbered}

@@ -1,4 +1,4 @@
-use Rattle.std.proofs.Common.{None, map}
+use Rattle.std.proofs.Common.{map}
 use Rattle.trace_rows.specs.SourceLines.{listed}
 use Rattle.trace_rows.specs.Sites.{index_at, line_addresses}
 use Rattle.trace_rows.proofs.Places.{all_rows, line_row, line_rows, line_size, no_rows, over_none, row_more}
