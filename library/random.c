@@ -77,7 +77,8 @@ static void look_at_one(mos65_t *m, mos65_assembly_t *a) {
     uint32_t count;
     size_t length, n = draw(40);
     int32_t value;
-    switch (draw(9)) {
+    mos65_line_t line;
+    switch (draw(11)) {
     case 0: told(mos65_registers(m, &r)); break;
     case 1: told(mos65_read(m, (uint16_t)draw(65536), bytes, draw(65537))); break;
     case 2: told(mos65_output_length(m, &count)); break;
@@ -86,6 +87,8 @@ static void look_at_one(mos65_t *m, mos65_assembly_t *a) {
     case 5: told(mos65_held(m, &count)); break;
     case 6: told(mos65_symbol_at(a, draw(3), bytes, n, &length, &value)); break;
     case 7: told(mos65_symbol(a, bytes, n, &value)); break;
+    case 8: told(mos65_line(a, draw(12), &line, bytes, draw(260), &length)); break;
+    case 9: told(mos65_line_count(a, &length)); break;
     default: told(mos65_listing(a, bytes, draw(300), &length));
     }
 }

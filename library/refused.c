@@ -66,11 +66,13 @@ static void round_of_calls(void) {
     mos65_assembly_t a = MOS65_INIT;
     mos65_t m = MOS65_INIT, taped = MOS65_INIT, bare = MOS65_INIT;
     mos65_fault_t fault;
+    mos65_line_t line;
     uint8_t text[300];
     size_t n;
     config.history = 8;
     if (told(mos65_assemble(&a, &config, (const uint8_t *)source, sizeof source - 1, &fault)) == MOS65_OK) {
         told(mos65_listing(&a, text, sizeof text, &n));
+        CHECK(mos65_line(&a, 0, &line, text, sizeof text, &n) == MOS65_OK && line.number == 1);
         if (told(mos65_open(&m, &config, &a)) == MOS65_OK) session(&m);
     }
     if (told(mos65_open_tape(&taped, &config, (const uint8_t *)tape, sizeof tape - 1, &fault)) == MOS65_OK) session(&taped);
