@@ -12,7 +12,6 @@ use Rattle.model.specs.declared.registers.Regs.{Regs}
 use Rattle.model.specs.declared.session_fault.SessionFault.{SessionFault}
 use Rattle.source_map.specs.Lines.{PlacesView, line_at}
 use Rattle.t65_reports.specs.Texts.{named_byte, visible}
-use Rattle.t65_reports.specs.declared.wording.TheConstants.{LAST_STEPS}
 
 -- ---- a step
 
@@ -76,7 +75,7 @@ told_count did = min did 20
 
 -- The steps that were undone, from the session before them on; nothing if they cannot be undone.
 abbrev pub undone_text : PlacesView → ℕ → Result Session SessionFault → List ℕ
-undone_text places count (Ok s) = LAST_STEPS.now
+undone_text places count (Ok s) = codes "the last steps, and the registers after each:\n"
     ++ steps_text places count s
 undone_text places count (Err fault) = []
 

@@ -11,7 +11,6 @@ use Rattle.t65_reader.specs.declared.row.Register.{Register}
 use Rattle.t65_reader.specs.declared.row.Register.TheVariants as register
 use Rattle.t65_reader.specs.declared.row.Relation.{Relation}
 use Rattle.t65_reader.specs.declared.row.Relation.TheVariants.{Equal, Below, Above}
-use Rattle.t65_reports.specs.declared.wording.TheConstants.{OUT_BYTE, BYTES_OF_OUT}
 
 -- A tab is told as a space, and what is no visible character of ASCII as `?`.
 abbrev pub visible : ℕ → ℕ
@@ -53,8 +52,8 @@ place_text (place.Register register) = register_name register
 place_text (place.Flag flag) = flag_name flag
 place_text (place.Byte address) = codes "[" ++ hex_of 4 address ++ codes "]"
 place_text place.Input = codes "in"
-place_text (place.Output index) = OUT_BYTE.now ++ decimal index
-place_text place.OutputCount = BYTES_OF_OUT.now
+place_text (place.Output index) = codes "out byte " ++ decimal index
+place_text place.OutputCount = codes "bytes of out"
 place_text place.Cycles = codes "cycles"
 
 -- A relation as a row writes it.

@@ -17,7 +17,6 @@ use crate::texts::{
     push_named_address, push_named_byte, push_named_count, push_number, push_place, push_relation,
     push_value,
 };
-use crate::wording;
 use bus::{Image, MapSpec};
 use debugger::{EventFault, Regs, RunEnd, Session, Why};
 use rig::call;
@@ -61,7 +60,7 @@ fn push_values(text: &mut String, row: &Row, pair: Pair) -> Result<(), AllocErro
     let Some(first) = row.first else {
         return Ok(());
     };
-    text.push_str(wording::FOR)?;
+    text.push_str("for ")?;
     push_value(text, first, pair.first)?;
     push_second_value(text, row.second, pair.second)?;
     text.push('\n')
@@ -73,7 +72,7 @@ fn push_untaken(text: &mut String, pair: Pair, item: Item) -> Result<(), AllocEr
         ≡ string_bytes text.old ++ untaken_text (pair_of pair) item) }
 {
     push_place(text, item.place)?;
-    text.push_str(wording::CANNOT_BE_GIVEN)?;
+    text.push_str(" cannot be given ")?;
     push_number(text, item.place, number_of(pair, item.value) as u64)?;
     text.push('\n')
 }
@@ -105,8 +104,8 @@ fn push_other_stack(text: &mut String, stack: u8, regs: Regs) -> Result<(), Allo
     ensures { OnOk result (string_bytes text.new
         ≡ string_bytes text.old ++ other_stack_text stack regs) }
 {
-    push_named_byte(text, wording::RETURNED_WITH_S, regs.s)?;
-    push_named_byte(text, wording::CALLED_WITH_S, stack)?;
+    push_named_byte(text, "returned with S=", regs.s)?;
+    push_named_byte(text, ", called with S=", stack)?;
     text.push_str("\n")?;
     Ok(())
 }
@@ -116,8 +115,8 @@ fn push_no_return(text: &mut String, did: u32, regs: Regs) -> Result<(), AllocEr
     ensures { OnOk result (string_bytes text.new
         ≡ string_bytes text.old ++ no_return_text did regs) }
 {
-    push_named_count(text, wording::NO_RETURN_IN, did)?;
-    push_named_address(text, wording::STEPS_THEN_AT, regs.pc)?;
+    push_named_count(text, "no return in ", did)?;
+    push_named_address(text, " steps; then at ", regs.pc)?;
     text.push_str("\n")?;
     Ok(())
 }
@@ -135,7 +134,7 @@ fn push_refused(text: &mut String, fault: EventFault, regs: Regs) -> Result<(), 
     ensures { OnOk result (string_bytes text.new
         ≡ string_bytes text.old ++ refused_text fault regs) }
 {
-    push_named_address(text, wording::STOPPED_AT, regs.pc)?;
+    push_named_address(text, "stopped at ", regs.pc)?;
     push_fault(text, fault)
 }
 
@@ -167,10 +166,10 @@ fn push_came(text: &mut String, place: Place, found: Option<u64>) -> Result<(), 
 {
     match found {
         Some(number) => {
-            text.push_str(wording::CAME)?;
+            text.push_str(", came ")?;
             push_number(text, place, number)
         }
-        None => text.push_str(wording::NOTHING_CAME),
+        None => text.push_str(", nothing came"),
     }
 }
 
@@ -184,7 +183,7 @@ fn push_expected(
     ensures { OnOk result (string_bytes text.new
         ≡ string_bytes text.old ++ expected_text item wanted found) }
 {
-    text.push_str(wording::EXPECTED)?;
+    text.push_str("expected ")?;
     push_place(text, item.place)?;
     push_relation(text, item.relation)?;
     push_number(text, item.place, wanted as u64)?;

@@ -10,7 +10,6 @@ mod reports;
 mod row_lines;
 mod steps;
 mod texts;
-mod wording;
 
 pub use detail::{Bench, detail_of};
 pub use reports::{Case, Reports};

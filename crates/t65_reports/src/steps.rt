@@ -10,7 +10,6 @@ ghost use Rattle.t65_reports.specs.Steps.{row_character, source_text, step_text,
 ghost use Rattle.t65_reports.specs.Texts.{named_byte};
 
 use crate::texts::{push_bytes, push_named_byte};
-use crate::wording;
 use debugger::Session;
 use disasm::row_text_in;
 use model::{Flags, Regs};
@@ -171,7 +170,7 @@ fn push_undone(
         ≡ string_bytes text.old ++ undone_text places.now count (Ok session.old)) }
     ensures session { OnOk result (session.new ≡ after_steps count session.old) }
 {
-    text.push_str(wording::LAST_STEPS)?;
+    text.push_str("the last steps, and the registers after each:\n")?;
     push_each_step(text, session, places, count)?;
     Ok(())
 }

@@ -4,7 +4,6 @@ ghost use Rattle.std.specs.Prelude.{◌≡◌, ◌++◌, ◌∷◌, [], OnOk, ma
 ghost use Rattle.t65_reports.specs.Texts.{flag_name, named_address, named_byte, named_count};
 ghost use Rattle.t65_reports.specs.Texts.{number_text, place_text, register_name, relation_sign, value_text, visible};
 
-use crate::wording;
 use std::alloc::AllocError;
 use t65_reader::{Flag, Place, Range, Register, Relation};
 
@@ -64,11 +63,8 @@ pub fn push_place(text: &mut String, place: Place) -> Result<(), AllocError>
         Place::Flag(flag) => text.push_str(flag_name(flag)),
         Place::Byte(address) => write!(text, "[{address:04X}]"),
         Place::Input => text.push_str("in"),
-        Place::Output(index) => {
-            text.push_str(wording::OUT_BYTE)?;
-            write!(text, "{index}")
-        }
-        Place::OutputCount => text.push_str(wording::BYTES_OF_OUT),
+        Place::Output(index) => write!(text, "out byte {index}"),
+        Place::OutputCount => text.push_str("bytes of out"),
         Place::Cycles => text.push_str("cycles"),
     }
 }
