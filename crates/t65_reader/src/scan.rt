@@ -148,13 +148,41 @@ fn decimal_in_word(word: &[u8]) -> Option<u32>
     digits(word)
 }
 
+/// Returns whether a byte is a hex digit.
+fn is_hex_byte(byte: u8) -> bool
+    ensures { result ≡ is_hex_byte byte }
+{
+    hex_value(byte).is_some()
+}
+
+/// Returns whether a byte is a decimal digit.
+fn is_digit(byte: u8) -> bool
+    ensures { result ≡ is_digit byte }
+{
+    matches!(byte, b'0'..=b'9')
+}
+
+/// Returns whether a word has hex digits alone.
+fn has_hex_alone(word: &[u8]) -> bool
+    ensures { result ≡ list_all is_hex_byte word.now }
+{
+    word.iter().all(|byte| is_hex_byte(*byte))
+}
+
+/// Returns whether a word has decimal digits alone.
+fn has_digits_alone(word: &[u8]) -> bool
+    ensures { result ≡ list_all is_digit word.now }
+{
+    word.iter().all(|byte| is_digit(*byte))
+}
+
 /// Returns whether a word has digits alone, and too many of them.
 fn is_long(base: Base, word: &[u8]) -> bool
     ensures { result ≡ is_long base word.now }
 {
     match base {
-        Base::Hex => word.len() > 4 && word.iter().all(|byte| hex_value(*byte).is_some()),
-        Base::Decimal => word.len() > 7 && word.iter().all(|byte| matches!(*byte, b'0'..=b'9')),
+        Base::Hex => word.len() > 4 && has_hex_alone(word),
+        Base::Decimal => word.len() > 7 && has_digits_alone(word),
     }
 }
 
