@@ -2,3 +2,4 @@ mod Heads
 mod Hex
 mod Items
 mod Rows
+pub mod Passed

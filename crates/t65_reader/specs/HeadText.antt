@@ -9,7 +9,7 @@ use Rattle.t65_reader.specs.declared.fault.RowFault.{RowFault}
 use Rattle.t65_reader.specs.declared.fault.RowFaultKind.TheVariants.{NoSource, Syntax}
 use Rattle.t65_reader.specs.declared.fault.TextFault.{TextFault}
 use Rattle.t65_reader.specs.declared.head.Head.{Head}
-use Rattle.t65_reader.specs.declared.scan.Base.TheVariants.{Hex}
+use Rattle.t65_reader.specs.declared.fault.Base.TheVariants.{Hex}
 
 -- The source that a file names, and the machine that its rows run on.
 pub record SeenHead : Type 0 where

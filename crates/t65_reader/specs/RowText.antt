@@ -1,20 +1,20 @@
 -- What a line of a test file says. Source: mos65.
 use Rattle.std.specs.Prelude.{ℕ, zero, suc, ℤ, pos, negsuc, ◌+◌, ◌-◌, ◌==◌, ◌/◌, ◌%◌, ◌&&◌, ◌||◌, nat_le, nat_lt, Bool, true, false, is_some, if◌then◌else◌, List, [], ◌∷◌, ◌++◌, length, take, drop, codes, Option, Some, None, Result, Ok, Err}
 use Rattle.std.specs.Str.{byte, bytes_eq}
-use Rattle.std.specs.List.{prefix_len}
-use Rattle.model.specs.Digits.{hex_number, decimal_number}
+use Rattle.std.specs.List.{list_all, prefix_len}
+use Rattle.model.specs.Digits.{hex_number, decimal_number, is_hex_byte}
 use Rattle.model.specs.Names.{Definitions, number_in}
 use Rattle.model.specs.Token.{is_blank, is_digit, is_word_byte, is_string_byte, begins}
 use Rattle.t65_reader.specs.declared.fault.RowFault.{RowFault}
 use Rattle.t65_reader.specs.declared.fault.RowFaultKind.{RowFaultKind}
-use Rattle.t65_reader.specs.declared.fault.RowFaultKind.TheVariants.{Syntax, UndefinedName, AddressRange, EmptyRange, SecondSource}
+use Rattle.t65_reader.specs.declared.fault.RowFaultKind.TheVariants.{Syntax, LongNumber, UndefinedName, AddressRange, EmptyRange, SecondSource}
 use Rattle.t65_reader.specs.declared.fault.TextFault.{TextFault}
 use Rattle.t65_reader.specs.declared.item.Side.{Side}
 use Rattle.t65_reader.specs.declared.item.Side.TheVariants.{Given, Wanted}
 use Rattle.t65_reader.specs.declared.item.StringPlace.{StringPlace}
 use Rattle.t65_reader.specs.declared.item.StringPlace.TheVariants.{InMemory, InInput, InOutput}
-use Rattle.t65_reader.specs.declared.scan.Base.{Base}
-use Rattle.t65_reader.specs.declared.scan.Base.TheVariants.{Hex, Decimal}
+use Rattle.t65_reader.specs.declared.fault.Base.{Base}
+use Rattle.t65_reader.specs.declared.fault.Base.TheVariants.{Hex, Decimal}
 use Rattle.t65_reader.specs.declared.value.Letters.{Letters}
 use Rattle.t65_reader.specs.declared.row.Atom.{Atom}
 use Rattle.t65_reader.specs.declared.row.Atom.TheVariants.{Number, First, Second}
@@ -79,16 +79,26 @@ abbrev pub number_in_word : Base → List ℕ → Option ℕ
 number_in_word Hex digits = up_to 4 digits (hex_number digits)
 number_in_word Decimal digits = up_to 7 digits (decimal_number digits)
 
-abbrev pub number_or_fault : List ℕ → List ℕ → Option ℕ → Reads ℕ
-number_or_fault text after (Some number) = Ok (number, after)
-number_or_fault text after None = Err (fault_at Syntax text)
+-- Whether a word has digits alone, and more than four hex ones, or more than seven decimal ones.
+abbrev pub is_long : Base → List ℕ → Bool
+is_long Hex word = nat_lt 4 (length word) && list_all is_hex_byte word
+is_long Decimal word = nat_lt 7 (length word) && list_all is_digit word
+
+-- Why a word is no number.
+abbrev pub number_fault : Base → List ℕ → RowFaultKind
+number_fault base word = if is_long base word then LongNumber base else Syntax
+
+-- The number of the word at the front, if it is one.
+abbrev pub number_or_fault : Base → List ℕ → Option ℕ → Reads ℕ
+number_or_fault base text (Some number) = Ok (number, after_word text)
+number_or_fault base text None = Err (fault_at (number_fault base (word_of text)) text)
 
 -- A number. `$` before it says that its digits are hex.
 unfoldable pub number_of : Base → List ℕ → Reads ℕ
 number_of base text =
     if is_next (byte "$") text
-    then number_or_fault (drop 1 text) (after_word (drop 1 text)) (number_in_word Hex (word_of (drop 1 text)))
-    else number_or_fault text (after_word text) (number_in_word base (word_of text))
+    then number_or_fault Hex (drop 1 text) (number_in_word Hex (word_of (drop 1 text)))
+    else number_or_fault base text (number_in_word base (word_of text))
 
 -- ---- addresses
 

@@ -3,13 +3,23 @@
 ghost use Rattle.std.specs.Prelude.{◌≡◌, Some};
 ghost use Rattle.t65_reader.specs.FaultWords.{fault_words};
 
+use crate::wording;
 use std::fmt;
+
+/// How the digits of a bare number are read.
+#[derive(Clone, Copy)]
+pub enum Base {
+    Hex,
+    Decimal,
+}
 
 /// Why a line is no row.
 #[derive(Clone, Copy)]
 pub enum RowFaultKind {
     /// Something else has to stand there.
     Syntax,
+    /// A number has more than four hex digits, or more than seven decimal ones.
+    LongNumber(Base),
     /// The source does not define the name.
     UndefinedName,
     /// The number of the name or the address is outside 0..65535.
@@ -30,13 +40,15 @@ impl RowFaultKind {
         ensures { result.now ≡ fault_words self.now }
     {
         match self {
-            RowFaultKind::Syntax => "something else has to stand here",
-            RowFaultKind::UndefinedName => "the source does not define this name",
-            RowFaultKind::AddressRange => "this is no address",
-            RowFaultKind::EmptyRange => "the last value is below the first",
-            RowFaultKind::SecondSource => "a file has one source",
-            RowFaultKind::NoSource => "a file names its source first",
-            RowFaultKind::OutOfMemory => "out of memory",
+            RowFaultKind::Syntax => wording::SYNTAX,
+            RowFaultKind::LongNumber(Base::Hex) => wording::LONG_HEX,
+            RowFaultKind::LongNumber(Base::Decimal) => wording::LONG_DECIMAL,
+            RowFaultKind::UndefinedName => wording::UNDEFINED_NAME,
+            RowFaultKind::AddressRange => wording::ADDRESS_RANGE,
+            RowFaultKind::EmptyRange => wording::EMPTY_RANGE,
+            RowFaultKind::SecondSource => wording::SECOND_SOURCE,
+            RowFaultKind::NoSource => wording::NO_SOURCE,
+            RowFaultKind::OutOfMemory => wording::OUT_OF_MEMORY,
         }
     }
 }

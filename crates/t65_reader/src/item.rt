@@ -12,10 +12,10 @@ ghost use Rattle.t65_reader.specs.RowText.{string_place, string_word, is_over, l
 ghost use Rattle.t65_reader.specs.RowText.{word_of};
 ghost use Rattle.t65_reader.specs.declared.row.Item.{Item as SeenItem};
 
-use crate::fault::{RowFault, RowFaultKind};
+use crate::fault::{Base, RowFault, RowFaultKind};
 use crate::row::{Atom, Flag, Item, Place, Register, Relation, Value};
 use crate::scan::{
-    Base, address_of, after, after_sign, after_word, ends, fault_at, is_next, is_text, word_of,
+    address_of, after, after_sign, after_word, ends, fault_at, is_next, is_text, word_of,
 };
 use crate::value::{Letters, letter_in, value_of};
 use assembler::Assembly;
@@ -108,12 +108,7 @@ fn base_of(place: Place) -> Base
 {
     match place {
         Place::Cycles => Base::Decimal,
-        Place::Register(_)
-        | Place::Flag(_)
-        | Place::Byte(_)
-        | Place::Input
-        | Place::Output(_)
-        | Place::OutputCount => Base::Hex,
+        _ => Base::Hex,
     }
 }
 
@@ -122,20 +117,11 @@ fn base_of(place: Place) -> Base
 fn fits(side: Side, place: Place, relation: Relation) -> bool
     ensures { result ≡ fits side place relation }
 {
-    match side {
-        Side::Wanted => true,
-        Side::Given => match place {
-            Place::Cycles => false,
-            Place::Register(_)
-            | Place::Flag(_)
-            | Place::Byte(_)
-            | Place::Input
-            | Place::Output(_)
-            | Place::OutputCount => match relation {
-                Relation::Equal => true,
-                Relation::Below | Relation::Above => false,
-            },
-        },
+    match (side, place, relation) {
+        (Side::Wanted, _, _) => true,
+        (Side::Given, Place::Cycles, _) => false,
+        (Side::Given, _, Relation::Equal) => true,
+        (Side::Given, _, _) => false,
     }
 }
 
@@ -439,10 +425,7 @@ pub fn items_of<'a>(
         if is_over(side, rest) {
             return Ok((found, rest));
         }
-        match item_of(&mut found, names, letters, side, rest) {
-            Ok(behind) => rest = behind,
-            Err(fault) => return Err(fault),
-        }
+        rest = item_of(&mut found, names, letters, side, rest)?;
     }
     if is_over(side, rest) {
         Ok((found, rest))

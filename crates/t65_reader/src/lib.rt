@@ -12,9 +12,10 @@ mod row;
 mod scan;
 mod text;
 mod value;
+mod wording;
 
 pub use assembler::Assembly;
-pub use fault::{RowFault, RowFaultKind, TextFault};
+pub use fault::{Base, RowFault, RowFaultKind, TextFault};
 pub use head::{Head, Opened, read_head};
 pub use line::read_row;
 pub use row::{

@@ -2,26 +2,20 @@
 
 ghost use Rattle.std.specs.Prelude.{◌≡◌, ◌==◌, ◌+◌, ◌<◌, ◌≤◌, drop, false, IfErr, IfOk, IfSome, length};
 ghost use Rattle.std.specs.Prelude.{take, true};
-ghost use Rattle.std.specs.List.{prefix_len};
+ghost use Rattle.std.specs.List.{list_all, prefix_len};
 ghost use Rattle.std.specs.Str.{bytes_eq};
-ghost use Rattle.model.specs.Digits.{hex_number};
+ghost use Rattle.model.specs.Digits.{hex_number, is_hex_byte};
 ghost use Rattle.model.specs.Token.{begins, is_blank, is_digit, is_word_byte};
 ghost use Rattle.t65_reader.specs.RowText.{address_of, address_or_fault, after_sign, after_word};
 ghost use Rattle.t65_reader.specs.RowText.{base_address_of, ends, fault_at, is_next, name_of};
-ghost use Rattle.t65_reader.specs.RowText.{number_in_word, number_of, number_or_fault, skip_blanks};
+ghost use Rattle.t65_reader.specs.RowText.{is_long, number_fault, number_in_word, number_of};
+ghost use Rattle.t65_reader.specs.RowText.{number_or_fault, skip_blanks};
 ghost use Rattle.t65_reader.specs.RowText.{sum_or_fault, unnamed, word_of};
 
-use crate::fault::{RowFault, RowFaultKind};
+use crate::fault::{Base, RowFault, RowFaultKind};
 use assembler::Assembly;
 use commands::digits;
 use formatting::hex_value;
-
-/// How the digits of a bare number are read.
-#[derive(Clone, Copy)]
-pub enum Base {
-    Hex,
-    Decimal,
-}
 
 /// Returns the fault that is seen where a text begins.
 pub fn fault_at(kind: RowFaultKind, text: &[u8]) -> RowFault
@@ -154,16 +148,65 @@ fn decimal_in_word(word: &[u8]) -> Option<u32>
     digits(word)
 }
 
+/// Returns whether a byte is a hex digit.
+fn is_hex_byte(byte: u8) -> bool
+    ensures { result ≡ is_hex_byte byte }
+{
+    hex_value(byte).is_some()
+}
+
+/// Returns whether a byte is a decimal digit.
+fn is_digit(byte: u8) -> bool
+    ensures { result ≡ is_digit byte }
+{
+    matches!(byte, b'0'..=b'9')
+}
+
+/// Returns whether a word has hex digits alone.
+fn has_hex_alone(word: &[u8]) -> bool
+    ensures { result ≡ list_all is_hex_byte word.now }
+{
+    word.iter().all(|byte| is_hex_byte(*byte))
+}
+
+/// Returns whether a word has decimal digits alone.
+fn has_digits_alone(word: &[u8]) -> bool
+    ensures { result ≡ list_all is_digit word.now }
+{
+    word.iter().all(|byte| is_digit(*byte))
+}
+
+/// Returns whether a word has digits alone, and too many of them.
+fn is_long(base: Base, word: &[u8]) -> bool
+    ensures { result ≡ is_long base word.now }
+{
+    match base {
+        Base::Hex => word.len() > 4 && has_hex_alone(word),
+        Base::Decimal => word.len() > 7 && has_digits_alone(word),
+    }
+}
+
+/// Returns why a word is no number.
+fn number_fault(base: Base, word: &[u8]) -> RowFaultKind
+    ensures { result ≡ number_fault base word.now }
+{
+    if is_long(base, word) {
+        RowFaultKind::LongNumber(base)
+    } else {
+        RowFaultKind::Syntax
+    }
+}
+
 /// Reads hex digits.
 fn bare_hex(text: &[u8]) -> Result<(u16, &[u8]), RowFault>
-    ensures ok { IfOk result (λ p. number_or_fault text.now (after_word text.now)
+    ensures ok { IfOk result (λ p. number_or_fault Base.Hex text.now
         (number_in_word Base.Hex (word_of text.now)) ≡ Ok (p.0, p.1.now)) }
-    ensures err { IfErr result (λ fault. number_or_fault text.now (after_word text.now)
+    ensures err { IfErr result (λ fault. number_or_fault Base.Hex text.now
         (number_in_word Base.Hex (word_of text.now)) ≡ Err fault) }
 {
     match hex_in_word(word_of(text)) {
         Some(number) => Ok((number, after_word(text))),
-        None => Err(fault_at(RowFaultKind::Syntax, text)),
+        None => Err(fault_at(number_fault(Base::Hex, word_of(text)), text)),
     }
 }
 
@@ -192,7 +235,7 @@ fn decimal_of(text: &[u8]) -> Result<(u32, &[u8]), RowFault>
     }
     match decimal_in_word(word_of(text)) {
         Some(number) => Ok((number, after_word(text))),
-        None => Err(fault_at(RowFaultKind::Syntax, text)),
+        None => Err(fault_at(number_fault(Base::Decimal, word_of(text)), text)),
     }
 }
 

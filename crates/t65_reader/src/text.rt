@@ -80,13 +80,9 @@ pub fn read_rows(
     let mut number = first;
     while rest.len() > 0 {
         let (line, behind) = next_line(rest);
-        match push_line(alloc, names, &mut rows, number, line) {
-            Ok(()) => {
-                rest = behind;
-                number += 1;
-            }
-            Err(fault) => return Err(fault),
-        }
+        push_line(alloc, names, &mut rows, number, line)?;
+        rest = behind;
+        number += 1;
     }
     Ok(rows)
 }

@@ -6,9 +6,9 @@ ghost use Rattle.t65_reader.specs.RowText.{atom_of, base_after, is_letter_of, le
 ghost use Rattle.t65_reader.specs.RowText.{letter_or_number, operation_at, operation_of, operator_by};
 ghost use Rattle.t65_reader.specs.RowText.{operator_of, value_of, word_of};
 
-use crate::fault::RowFault;
+use crate::fault::{Base, RowFault};
 use crate::row::{Atom, Operation, Operator, Value};
-use crate::scan::{Base, address_of, after, after_word, is_next, number_of, word_of};
+use crate::scan::{address_of, after, after_word, is_next, number_of, word_of};
 use assembler::Assembly;
 
 /// The letters of a row's ranges.

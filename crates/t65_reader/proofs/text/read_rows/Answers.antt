@@ -2,6 +2,7 @@ use Rattle.std.proofs.Common.{◌∙◌, ◌+◌, sym, ap, arith, map}
 use Rattle.model.specs.TextLines.{lines_of}
 use Rattle.t65_reader.specs.RowText.{numbered_view, rows_after, rows_from}
 use Rattle.t65_reader.proofs.Rows.{after_fault, after_none, at_end, line_more}
+use Rattle.t65_reader.proofs.Passed.{passed}
 use Rattle.t65_reader.proofs.text.read_rows.Goals as goal
 
 pub loop-rest-init : goal.loop-rest-init
@@ -17,17 +18,17 @@ loop-rest-preserved c =
     let front = map numbered_view c.loop-rest.rows.items in
     record {
       room = omega (arith, c.next_line.ensures.shorter, c.loop-rest.invariant.room);
-      rows = sym (c.in-Ok.ensures.ok (rows_from names (n + 1) (lines_of c.next_line.result.1.now)))
+      rows = sym (c.in_ok-push_line.ensures.ok (rows_from names (n + 1) (lines_of c.next_line.result.1.now)))
           ∙ (ap (rows_after front) (sym (ap (rows_from names n) c.next_line.ensures.cut ∙ line_more names n _ _)) ∙ c.loop-rest.invariant.rows);
     }
 
-pub returns-in-Err-clause-err : goal.returns-in-Err-clause-err
-returns-in-Err-clause-err c =
+pub returns-in_err-push_line-clause-err : goal.returns-in_err-push_line-clause-err
+returns-in_err-push_line-clause-err c =
     let names = c.args.names.now.names in
     let n = c.loop-rest.number in
     let front = map numbered_view c.loop-rest.rows.items in
-    λ other. sym c.loop-rest.invariant.rows
-    ∙ after_fault front _ _ (ap (rows_from names n) c.next_line.ensures.cut ∙ (line_more names n _ _ ∙ c.in-Err.ensures.err other (rows_from names (n + 1) (lines_of c.next_line.result.1.now))))
+    passed _ c.from_residual.result c.in_err-push_line.field-0.0 c.from_residual.ensures.1 (λ other. sym c.loop-rest.invariant.rows
+    ∙ after_fault front _ _ (ap (rows_from names n) c.next_line.ensures.cut ∙ (line_more names n _ _ ∙ c.in_err-push_line.ensures.err other (rows_from names (n + 1) (lines_of c.next_line.result.1.now)))))
 
 pub returns-clause-ok : goal.returns-clause-ok
 returns-clause-ok c = sym c.loop-rest.invariant.rows ∙ at_end _ _ _ _ (omega arith)
