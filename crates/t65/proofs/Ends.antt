@@ -1,12 +1,15 @@
 -- Why a file of rows cannot be tested, by what its parts say.
-use Rattle.std.proofs.Common.{◌≡◌, ℕ, List, Ok, Err, false, sym, subst, inl, inr}
+use Rattle.std.proofs.Common.{◌≡◌, ℕ, List, Result, Ok, Err, false, sym, subst, inl, inr}
+use Rattle.std.specs.Prelude.{IfErr, IsErrAnd}
 use Rattle.model.specs.State.{Map, is_map}
 use Rattle.model.specs.TextLines.{lines_of}
 use Rattle.t65_reader.specs.HeadText.{SeenHead, head_from}
 use Rattle.t65_reader.specs.declared.fault.TextFault.{TextFault}
-use Rattle.t65.specs.Ends.{EndsRows, EndsSource, EndsTest, HeadedFile, IsUntested}
+use Rattle.t65.specs.Ends.{EndsRows, EndsSource, EndsTest, HeadedFile, IsUntested, fault_in}
 use Rattle.t65.specs.Statuses.{status_of}
 use Rattle.t65.specs.Tested.{map_of}
+use Rattle.t65.specs.declared.fault.FileFault.{FileFault}
+use Rattle.t65.specs.declared.fault.FileFault.TheVariants.{InRows}
 use Rattle.t65.specs.declared.fault.TestFault.{TestFault}
 use Rattle.t65.specs.declared.fault.TestFault.TheVariants.{Rows, Source, TooLarge, Map as NoMap, OutOfMemory, Read, Replaced}
 use Rattle.assembler.specs.Assembly.{AssemblyView, IsAssembled}
@@ -52,6 +55,14 @@ rows_end text head next lines bus_map assembly NoMap headed is a ends = absurd e
 rows_end text head next lines bus_map assembly OutOfMemory headed is a ends = tt
 rows_end text head next lines bus_map assembly Read headed is a ends = tt
 rows_end text head next lines bus_map assembly Replaced headed is a ends = tt
+
+-- The fault of rows that are not read, passed on.
+pub rows_passed_on : {X : Type 0} (result : Result X FileFault) (text : List ℕ) (head : SeenHead) (next : ℕ) (lines : List (List ℕ)) (bus_map : Map) (assembly : AssemblyView) (fault : TestFault)
+    → IsErrAnd result (λ e. e ≡ InRows fault) → head_from 1 (lines_of text) ≡ Ok (head, next, lines) → bus_map ≡ map_of head → IsAssembled bus_map assembly
+    → EndsRows assembly.names next lines fault → IfErr result (λ f. EndsTest (fault_in f))
+rows_passed_on (Ok x) text head next lines bus_map assembly fault h headed is a ends = absurd h
+rows_passed_on (Err e) text head next lines bus_map assembly fault h headed is a ends =
+    subst (λ f. EndsTest (fault_in f)) (sym h) (rows_end text head next lines bus_map assembly fault headed is a ends)
 
 pub untested : (fault : TestFault) (status : ℕ) → EndsTest fault → status ≡ status_of fault → IsUntested status
 untested fault status ends is = record { fault = fault; ends = ends; status_is = is }
