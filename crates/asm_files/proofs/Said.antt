@@ -7,8 +7,8 @@ use Rattle.program.specs.Refusals.{EndsAsm}
 use Rattle.program.specs.Statuses.{status_of, IsStatusOf as IsProgramStatusOf}
 use Rattle.program.specs.declared.refusal.Refusal.{Refusal}
 use Rattle.program.specs.declared.refusal.Refusal.TheVariants as refusal
-use Rattle.program_words.specs.declared.fault.WordsFault.{WordsFault}
-use Rattle.program_words.specs.declared.fault.WordsFault.TheVariants.{Help, OutOfMemory, Usage, Value}
+use Rattle.arguments_core.specs.declared.fault.WordsFault.{WordsFault}
+use Rattle.arguments_core.specs.declared.fault.WordsFault.TheVariants.{Help, OutOfMemory, Usage, Value}
 use Rattle.word_streams.specs.Words.{IsStatusOf}
 
 -- the status of refused words

@@ -4,7 +4,7 @@ use Rattle.std.specs.Prelude.{ℕ, Bool, false, List, [], ◌∷◌, Option, Som
 use Rattle.std.specs.List.{starts_with}
 use Rattle.std.specs.Str.{bytes_eq}
 use Rattle.clap.specs.Words.{Text}
-use Rattle.program_words.specs.Asked.{AsmAsked, asm_asked, is_named}
+use Rattle.arguments_core.specs.Asked.{AsmAsked, asm_asked, is_named}
 use Rattle.asm_files.specs.declared.format.SymbolsFormat.{SymbolsFormat}
 use Rattle.asm_files.specs.declared.format.SymbolsFormat.TheVariants.{Plain, Vice}
 

@@ -7,7 +7,7 @@ use Rattle.clap.specs.Words.{App, Text, with_rule}
 use Rattle.model.specs.Source.{Denotes, HasFault}
 use Rattle.model.specs.State.{Map}
 use Rattle.model.specs.declared.source_fault.AsmFault.{AsmFault}
-use Rattle.program_words.specs.CommandLine.{file_rule, option_rule}
+use Rattle.arguments_core.specs.CommandLine.{file_rule, option_rule}
 use Rattle.word_streams.specs.Words.{Fits, unnamed, value_in}
 
 abbrev pub asm : App

@@ -1,6 +1,6 @@
 -- What was read from the words, as what they ask for.
 use Rattle.std.specs.Prelude.{option_map}
-use Rattle.program_words.specs.Views.{asm_view}
+use Rattle.arguments_core.specs.Views.{asm_view}
 use Rattle.asm_files.specs.Asked.{FilesAsked}
 use Rattle.asm_files.specs.declared.asked.FilesWords.{FilesWords}
 

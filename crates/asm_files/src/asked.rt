@@ -5,14 +5,14 @@ ghost use Rattle.asm_files.specs.Asked.{files_asked, format_asked, is_used, is_w
 ghost use Rattle.asm_files.specs.CommandLine.{asm, words_asked};
 ghost use Rattle.asm_files.specs.Views.{files_view};
 ghost use Rattle.clap.specs.Words.{first_value, found_of};
-ghost use Rattle.program_words.specs.Asked.{asm_asked, is_named, overwrites};
-ghost use Rattle.program_words.specs.Views.{asm_view};
+ghost use Rattle.arguments_core.specs.Asked.{asm_asked, is_named, overwrites};
+ghost use Rattle.arguments_core.specs.Views.{asm_view};
 ghost use Rattle.word_streams.specs.Words.{Fits, IsRefusalOf};
 
 use crate::command::command;
 use crate::format::SymbolsFormat;
 use clap::ArgMatches;
-use program_words::{AsmWords, WordsFault, port_asked, profile_asked};
+use arguments_core::{AsmWords, WordsFault, port_asked, profile_asked};
 use std::alloc::Global;
 
 /// What the words of `asm` with `--symbols` or `--map` ask for.

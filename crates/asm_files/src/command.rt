@@ -3,7 +3,7 @@
 ghost use Rattle.std.specs.Prelude.{◌≡◌, IfErr, IfOk, false};
 ghost use Rattle.asm_files.specs.CommandLine.{asm};
 ghost use Rattle.clap.specs.Words.{app_of, kind_of, rule_of};
-ghost use Rattle.program_words.specs.CommandLine.{file_rule, option_rule};
+ghost use Rattle.arguments_core.specs.CommandLine.{file_rule, option_rule};
 
 use clap::error::ErrorKind;
 use clap::{Arg, ArgAction, Command, Error};

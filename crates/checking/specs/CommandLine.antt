@@ -5,9 +5,9 @@ use Rattle.std.specs.Prelude.{ℕ, Bool, Option, Some, None, List, codes}
 use Rattle.clap.specs.Words.{App, Text, with_rule}
 use Rattle.model.specs.State.{Map}
 use Rattle.model.specs.declared.instruction.Profile.{Profile}
-use Rattle.program_words.specs.Asked.{is_flag}
-use Rattle.program_words.specs.CommandLine.{file_rule, flag_rule, option_rule}
-use Rattle.program_words.specs.Values.{port_asked, profile_asked}
+use Rattle.arguments_core.specs.Asked.{is_flag}
+use Rattle.arguments_core.specs.CommandLine.{file_rule, flag_rule, option_rule}
+use Rattle.arguments_core.specs.Values.{port_asked, profile_asked}
 use Rattle.checking.specs.declared.words.CheckWords.{CheckWords}
 use Rattle.word_streams.specs.Words.{unnamed, value_in}
 

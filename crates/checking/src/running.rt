@@ -14,7 +14,7 @@ use crate::words::{CheckWords, read_words};
 use bus::MapSpec;
 use model::Profile;
 use papertape::looks_like_tape;
-use program_words::WordsFault;
+use arguments_core::WordsFault;
 use std::alloc::Global;
 use std::fs::File;
 use std::io;

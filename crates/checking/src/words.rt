@@ -3,13 +3,13 @@
 ghost use Rattle.std.specs.Prelude.{◌≡◌, IfErr, IfOk, None, Some, codes, false, map, option_map};
 ghost use Rattle.checking.specs.CommandLine.{check, check_asked, check_by, check_view};
 ghost use Rattle.clap.specs.Words.{app_of, first_value, found_of, kind_of, rule_of};
-ghost use Rattle.program_words.specs.CommandLine.{file_rule, flag_rule, option_rule};
+ghost use Rattle.arguments_core.specs.CommandLine.{file_rule, flag_rule, option_rule};
 ghost use Rattle.word_streams.specs.Words.{Fits, IsRefusalOf};
 
 use clap::error::ErrorKind;
 use clap::{Arg, ArgAction, ArgMatches, Command, Error};
 use model::Profile;
-use program_words::{WordsFault, is_given, port_asked, profile_asked};
+use arguments_core::{WordsFault, is_given, port_asked, profile_asked};
 use std::alloc::Global;
 
 /// What the words of `check SOURCE [--strict] [--port HHHH] [--profile N|C]` ask for.

@@ -5,9 +5,9 @@ use Rattle.clap.specs.Words.{Text}
 use Rattle.clap.specs.declared.parser.matches.Found.{Found}
 use Rattle.clap.specs.Matches.{matched_of, raw_values}
 use Rattle.model.specs.Commands.{address_of}
-use Rattle.program_words.specs.Asked.{is_flag}
+use Rattle.arguments_core.specs.Asked.{is_flag}
 use Rattle.model.specs.declared.instruction.Profile.{Profile}
-use Rattle.program_words.specs.Values.{profile_asked}
+use Rattle.arguments_core.specs.Values.{profile_asked}
 
 pub record SourceAsked : Type 0 where
   pub tape : Text

@@ -7,7 +7,7 @@ use Rattle.clap.specs.Words.{App, Rule, Text, all_of, matches_of, new_rule, with
 use Rattle.clap.specs.declared.builder.action.ArgAction.TheVariants.{Append, Set}
 use Rattle.clap.specs.declared.builder.range.ValueRange.{ValueRange}
 use Rattle.dis_source.specs.Asked.{SourceAsked, source_asked}
-use Rattle.program_words.specs.CommandLine.{file_rule, flag_rule, option_rule}
+use Rattle.arguments_core.specs.CommandLine.{file_rule, flag_rule, option_rule}
 use Rattle.word_streams.specs.Words.{Fits, unnamed, value_in}
 
 -- a word that may be left out

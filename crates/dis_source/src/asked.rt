@@ -13,7 +13,7 @@ use crate::command::command;
 use clap::ArgMatches;
 use commands::address_of;
 use model::Profile;
-use program_words::{WordsFault, is_given, profile_asked};
+use arguments_core::{WordsFault, is_given, profile_asked};
 use std::alloc::{AllocError, Global};
 
 /// What the words of `dis TAPE [LO HI] --source` and its options ask for.

@@ -3,7 +3,7 @@
 ghost use Rattle.std.specs.Prelude.{◌≡◌, IfErr, IfOk, false};
 ghost use Rattle.clap.specs.Words.{app_of, kind_of, rule_of};
 ghost use Rattle.dis_source.specs.CommandLine.{bound_rule, dis, list_rule};
-ghost use Rattle.program_words.specs.CommandLine.{file_rule, flag_rule, option_rule};
+ghost use Rattle.arguments_core.specs.CommandLine.{file_rule, flag_rule, option_rule};
 
 use clap::error::ErrorKind;
 use clap::{Arg, ArgAction, Command, Error};

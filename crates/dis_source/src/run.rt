@@ -17,7 +17,7 @@ use assembler::Assembly;
 use bus::Image;
 use model::Profile;
 use papertape::read_tape_from;
-use program_words::WordsFault;
+use arguments_core::WordsFault;
 use std::fs::File;
 use std::io;
 use std::io::{Read, Write};

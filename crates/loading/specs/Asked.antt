@@ -4,8 +4,8 @@ use Rattle.std.specs.Prelude.{ℕ, Bool, Option, Some, None, codes}
 use Rattle.clap.specs.Words.{Text}
 use Rattle.model.specs.State.{Map}
 use Rattle.model.specs.declared.instruction.Profile.{Profile}
-use Rattle.program_words.specs.Asked.{is_flag}
-use Rattle.program_words.specs.Values.{port_asked, profile_asked, rom_asked}
+use Rattle.arguments_core.specs.Asked.{is_flag}
+use Rattle.arguments_core.specs.Values.{port_asked, profile_asked, rom_asked}
 
 pub record FileAsked : Type 0 where
   pub file : Text

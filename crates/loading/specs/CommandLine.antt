@@ -2,7 +2,7 @@
 -- Source: mos65.
 use Rattle.std.specs.Prelude.{codes}
 use Rattle.clap.specs.Words.{App, with_rule}
-use Rattle.program_words.specs.CommandLine.{file_rule, flag_rule, option_rule}
+use Rattle.arguments_core.specs.CommandLine.{file_rule, flag_rule, option_rule}
 
 -- `FILE [--tape] [--port HHHH] [--rom LO-HI] [--profile N|C]`, after what a command line has.
 abbrev pub with_file : App → App

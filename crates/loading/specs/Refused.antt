@@ -2,8 +2,8 @@
 use Rattle.std.specs.Prelude.{◌≡◌, ◌≢◌, List, []}
 use Rattle.clap.specs.Words.{App, IsAmong, Text, fault_of, kind_of}
 use Rattle.clap.specs.declared.error.kind.ErrorKind.TheVariants as kind
-use Rattle.program_words.specs.declared.fault.WordsFault.{WordsFault}
-use Rattle.program_words.specs.declared.fault.WordsFault.TheVariants.{Help, OutOfMemory, Usage, Value}
+use Rattle.arguments_core.specs.declared.fault.WordsFault.{WordsFault}
+use Rattle.arguments_core.specs.declared.fault.WordsFault.TheVariants.{Help, OutOfMemory, Usage, Value}
 
 -- By clap's definition the words fit the command line.
 abbrev pub IsTakenBy : App → List Text → Type 0

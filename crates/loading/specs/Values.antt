@@ -1,7 +1,7 @@
 -- What the values of `--steps` and of `--history` of `mon` mean. Source: mos65.
 use Rattle.std.specs.Prelude.{ℕ, List, length, nat_lt, ◌==◌, if◌then◌else◌, Option, Some, None}
 use Rattle.model.specs.Digits.{decimal_number}
-use Rattle.program_words.specs.Values.{at_most_65536}
+use Rattle.arguments_core.specs.Values.{at_most_65536}
 
 -- A number is written by one to eighteen decimal digits.
 abbrev pub number_of : List ℕ → Option ℕ

@@ -5,12 +5,12 @@ ghost use Rattle.clap.specs.Words.{app_of, first_value, found_of, kind_of, rule_
 ghost use Rattle.loading.specs.Asked.{file_asked};
 ghost use Rattle.loading.specs.CommandLine.{with_file};
 ghost use Rattle.loading.specs.Views.{file_view};
-ghost use Rattle.program_words.specs.CommandLine.{file_rule, flag_rule, option_rule};
+ghost use Rattle.arguments_core.specs.CommandLine.{file_rule, flag_rule, option_rule};
 
 use clap::error::ErrorKind;
 use clap::{Arg, ArgAction, ArgMatches, Command, Error};
 use model::Profile;
-use program_words::{is_given, port_asked, profile_asked, rom_asked};
+use arguments_core::{is_given, port_asked, profile_asked, rom_asked};
 use std::alloc::Global;
 
 /// A file, and the map that it is loaded on.

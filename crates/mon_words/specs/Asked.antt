@@ -5,7 +5,7 @@ use Rattle.clap.specs.Words.{Text, first_of, matches_of}
 use Rattle.loading.specs.Asked.{FileAsked, file_asked}
 use Rattle.loading.specs.Values.{history_asked}
 use Rattle.mon_words.specs.CommandLine.{mon}
-use Rattle.program_words.specs.Asked.{is_flag}
+use Rattle.arguments_core.specs.Asked.{is_flag}
 
 pub record MonAsked : Type 0 where
   pub file : FileAsked

@@ -7,13 +7,13 @@ ghost use Rattle.loading.specs.Refused.{IsRightRefusalBy, IsTakenBy};
 ghost use Rattle.mon_words.specs.Asked.{MonAsked, asked, mon_asked};
 ghost use Rattle.mon_words.specs.CommandLine.{mon};
 ghost use Rattle.mon_words.specs.Views.{mon_view};
-ghost use Rattle.program_words.specs.CommandLine.{flag_rule};
+ghost use Rattle.arguments_core.specs.CommandLine.{flag_rule};
 
 use crate::asked::MonWords;
 use clap::error::ErrorKind;
 use clap::{Arg, ArgAction, ArgMatches, Command, Error};
 use loading::{file_words, history_of, option, with_file_options};
-use program_words::{WordsFault, is_given};
+use arguments_core::{WordsFault, is_given};
 use std::alloc::Global;
 
 /// What the help of `mon` shows below its options.

@@ -5,9 +5,9 @@ use Rattle.model.specs.Writers.{AppendsFront, Writes}
 use Rattle.program.specs.FaultLines.{IsTold, IsToldOfWords}
 use Rattle.program.specs.Statuses.{IsStatusOf}
 use Rattle.program.specs.declared.refusal.Refusal.TheVariants as refusal
-use Rattle.program_words.specs.Refused.{IsRightRefusal, IsTaken}
-use Rattle.program_words.specs.declared.fault.WordsFault.{WordsFault}
-use Rattle.program_words.specs.declared.fault.WordsFault.TheVariants.{Help, Usage, Value, OutOfMemory}
+use Rattle.arguments_core.specs.Refused.{IsRightRefusal, IsTaken}
+use Rattle.arguments_core.specs.declared.fault.WordsFault.{WordsFault}
+use Rattle.arguments_core.specs.declared.fault.WordsFault.TheVariants.{Help, Usage, Value, OutOfMemory}
 
 -- All of a text is a beginning of it.
 pub front_of : {X E : Type 0} (a b : Option (List ℕ)) (xs : List ℕ) (r : Result X E) → Writes a b xs r → AppendsFront a b xs

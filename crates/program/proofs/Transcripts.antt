@@ -9,7 +9,7 @@ use Rattle.program.specs.Statuses.{status_of}
 use Rattle.program.specs.Streams.{IsServed}
 use Rattle.program.specs.declared.refusal.Refusal.{Refusal}
 use Rattle.program.specs.declared.refusal.Refusal.TheVariants.{Words, Map, Source, Tape, Session, OutOfMemory, Read, Write}
-use Rattle.program_words.specs.Asked.{Asked, DebugAsked, debug}
+use Rattle.arguments_core.specs.Asked.{Asked, DebugAsked, debug}
 
 -- Words ask for one thing.
 pub one_debug : (a : Option Asked) (x y : DebugAsked) → a ≡ Some (debug x) → a ≡ Some (debug y) → x ≡ y

@@ -5,9 +5,9 @@ use Rattle.model.specs.Writers.{AppendsFront}
 use Rattle.program.specs.Statuses.{status_of}
 use Rattle.program.specs.declared.refusal.Refusal.{Refusal}
 use Rattle.program.specs.declared.refusal.Refusal.TheVariants.{Words, Map, Source, Tape, Session, OutOfMemory, Read, Write}
-use Rattle.program_words.specs.declared.fault.WordsFault.{WordsFault}
-use Rattle.program_words.specs.declared.fault.WordsFault.TheVariants.{Help, Usage, Value}
-use Rattle.program_words.specs.declared.fault.WordsFault.TheVariants as words_fault
+use Rattle.arguments_core.specs.declared.fault.WordsFault.{WordsFault}
+use Rattle.arguments_core.specs.declared.fault.WordsFault.TheVariants.{Help, Usage, Value}
+use Rattle.arguments_core.specs.declared.fault.WordsFault.TheVariants as words_fault
 
 -- What is rejected, and where the fault is in it.
 unfoldable pub place_part : Refusal → List ℕ

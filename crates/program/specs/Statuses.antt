@@ -2,9 +2,9 @@
 use Rattle.std.specs.Prelude.{◌≡◌, ◌⊎◌, ℕ}
 use Rattle.program.specs.declared.refusal.Refusal.{Refusal}
 use Rattle.program.specs.declared.refusal.Refusal.TheVariants.{Words, Map, Source, Tape, Session, OutOfMemory, Read, Write}
-use Rattle.program_words.specs.declared.fault.WordsFault.{WordsFault}
-use Rattle.program_words.specs.declared.fault.WordsFault.TheVariants.{Help, Usage, Value}
-use Rattle.program_words.specs.declared.fault.WordsFault.TheVariants as words_fault
+use Rattle.arguments_core.specs.declared.fault.WordsFault.{WordsFault}
+use Rattle.arguments_core.specs.declared.fault.WordsFault.TheVariants.{Help, Usage, Value}
+use Rattle.arguments_core.specs.declared.fault.WordsFault.TheVariants as words_fault
 
 -- 1 for a source or a tape, 2 for the words or the map, 3 for memory, 4 for reading or writing
 abbrev pub status_of : Refusal → ℕ

@@ -18,7 +18,7 @@ use bus::MapSpec;
 use law_sources::{each_source_has_one_meaning, one_assignment};
 use model::{AsmFault, AsmFaultKind};
 use papertape::write_tape;
-use program_words::AsmWords;
+use arguments_core::AsmWords;
 use std::alloc::Global;
 use std::fs::File;
 use std::io::Read;

@@ -9,7 +9,7 @@ use crate::assembling::read_source;
 use crate::map::map_of;
 use crate::refusal::Refusal;
 use engine::{EngineFault, debug_source, debug_tape_from};
-use program_words::DebugWords;
+use arguments_core::DebugWords;
 use std::fs::File;
 use std::io;
 use std::io::{Read, Write};

@@ -18,7 +18,7 @@ use crate::refusal::Refusal;
 use disasm::disassembly;
 use model::{Profile, TAPE_OUT_OF_MEMORY};
 use papertape::{TapeReadFault, read_tape_from};
-use program_words::DisWords;
+use arguments_core::DisWords;
 use replies::put;
 use std::alloc::Global;
 use std::fs::File;

@@ -5,7 +5,7 @@ use Rattle.std.specs.Str.{bytes_eq}
 use Rattle.clap.specs.Words.{Text, first_of, matches_of}
 use Rattle.loading.specs.Asked.{FileAsked, file_asked}
 use Rattle.loading.specs.Values.{steps_asked}
-use Rattle.program_words.specs.Asked.{is_flag}
+use Rattle.arguments_core.specs.Asked.{is_flag}
 use Rattle.running.specs.CommandLine.{run}
 
 pub record RunAsked : Type 0 where

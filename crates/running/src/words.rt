@@ -4,7 +4,7 @@ ghost use Rattle.std.specs.Prelude.{◌≡◌, IsOkUnless, IfErr, IfOk, None, So
 ghost use Rattle.std.specs.Prelude.{option_map};
 ghost use Rattle.clap.specs.Words.{app_of, first_value, found_of, kind_of, rule_of};
 ghost use Rattle.loading.specs.Refused.{IsRightRefusalBy, IsTakenBy};
-ghost use Rattle.program_words.specs.CommandLine.{flag_rule};
+ghost use Rattle.arguments_core.specs.CommandLine.{flag_rule};
 ghost use Rattle.running.specs.Asked.{RunAsked, asked, run_asked, status_asked};
 ghost use Rattle.running.specs.CommandLine.{run};
 ghost use Rattle.running.specs.Views.{run_view};
@@ -12,7 +12,7 @@ ghost use Rattle.running.specs.Views.{run_view};
 use clap::error::ErrorKind;
 use clap::{Arg, ArgAction, ArgMatches, Command, Error};
 use loading::{FileWords, file_words, option, steps_of, with_file_options};
-use program_words::{WordsFault, is_given};
+use arguments_core::{WordsFault, is_given};
 use std::alloc::Global;
 
 /// What the words of `run` ask for.

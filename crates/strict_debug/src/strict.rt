@@ -13,15 +13,15 @@ ghost use Rattle.program.specs.FaultLines.{IsTold, IsToldOfWords};
 ghost use Rattle.program.specs.Statuses.{IsStatusOf};
 ghost use Rattle.program.specs.Streams.{IsServed};
 ghost use Rattle.program.specs.declared.refusal.Refusal.{Refusal};
-ghost use Rattle.program_words.specs.Asked.{DebugAsked, asked, debug};
-ghost use Rattle.program_words.specs.CommandLine.{mos65};
-ghost use Rattle.program_words.specs.Refused.{IsTaken};
+ghost use Rattle.arguments_core.specs.Asked.{DebugAsked, asked, debug};
+ghost use Rattle.arguments_core.specs.CommandLine.{mos65};
+ghost use Rattle.arguments_core.specs.Refused.{IsTaken};
 ghost use Rattle.strict_debug.specs.Strict.{IsDone, IsStrictStatus, plain_words, strict_status};
 
 use crate::Watch;
 use crate::asked::plain_words;
 use program::{Refusal, program, refuse, refused_words};
-use program_words::{WordsFault, read_words};
+use arguments_core::{WordsFault, read_words};
 use std::io::{Read, Write};
 use std::rt::Files;
 

@@ -1,8 +1,8 @@
 -- The exit status of words that are rejected.
 use Rattle.std.proofs.Common.{ℕ}
 use Rattle.program.specs.Statuses.{IsStatusOf as IsStatusByProgram}
-use Rattle.program_words.specs.declared.fault.WordsFault.{WordsFault}
-use Rattle.program_words.specs.declared.fault.WordsFault.TheVariants.{Help, OutOfMemory, Usage, Value}
+use Rattle.arguments_core.specs.declared.fault.WordsFault.{WordsFault}
+use Rattle.arguments_core.specs.declared.fault.WordsFault.TheVariants.{Help, OutOfMemory, Usage, Value}
 use Rattle.word_streams.specs.Words.{IsStatusOf}
 
 pub same_status : (fault : WordsFault) (status : ℕ) → IsStatusByProgram fault status → IsStatusOf fault status

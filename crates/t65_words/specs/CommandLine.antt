@@ -5,7 +5,7 @@ use Rattle.clap.specs.Lexer.{usize_max}
 use Rattle.clap.specs.Words.{App, Rule, Text, all_of, matches_of, new_rule, with_rule}
 use Rattle.clap.specs.declared.builder.action.ArgAction.TheVariants.{Append}
 use Rattle.clap.specs.declared.builder.range.ValueRange.{ValueRange}
-use Rattle.program_words.specs.CommandLine.{option_rule}
+use Rattle.arguments_core.specs.CommandLine.{option_rule}
 use Rattle.t65_words.specs.Asked.{TestAsked, test_asked}
 use Rattle.word_streams.specs.Words.{Fits, unnamed, value_in}
 

@@ -3,5 +3,5 @@
 
 mod words;
 
-pub use program_words::WordsFault;
+pub use arguments_core::WordsFault;
 pub use words::{TestWords, read_words};

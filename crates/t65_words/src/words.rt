@@ -3,7 +3,7 @@
 ghost use Rattle.std.specs.Prelude.{◌≡◌, IfErr, IfOk, None, Some, codes, false, map, option_map};
 ghost use Rattle.std.specs.List.{list_any};
 ghost use Rattle.clap.specs.Words.{app_of, first_value, found_of, kind_of, rule_of};
-ghost use Rattle.program_words.specs.CommandLine.{option_rule};
+ghost use Rattle.arguments_core.specs.CommandLine.{option_rule};
 ghost use Rattle.t65_words.specs.Asked.{all_values, has_name, replaces, test_asked, test_of};
 ghost use Rattle.t65_words.specs.CommandLine.{files_rule, test, words_asked};
 ghost use Rattle.t65_words.specs.Views.{test_view};
@@ -11,7 +11,7 @@ ghost use Rattle.word_streams.specs.Words.{Fits, IsRefusalOf};
 
 use clap::error::ErrorKind;
 use clap::{Arg, ArgAction, ArgMatches, Command, Error};
-use program_words::WordsFault;
+use arguments_core::WordsFault;
 use std::alloc::{AllocError, Global};
 
 /// What the words of `test` ask for.

@@ -4,7 +4,7 @@ use Rattle.std.specs.Prelude.{ℕ, List, Option, Some, None, codes, if◌then◌
 use Rattle.std.specs.Str.{bytes_eq}
 use Rattle.clap.specs.Words.{Text}
 use Rattle.model.specs.declared.instruction.Profile.{Profile}
-use Rattle.program_words.specs.Values.{port_asked, profile_asked}
+use Rattle.arguments_core.specs.Values.{port_asked, profile_asked}
 use Rattle.tape_words.specs.CommandLines.{cmp, info, mend}
 use Rattle.tape_words.specs.declared.words.CmpWords.{CmpWords}
 use Rattle.tape_words.specs.declared.words.InfoWords.{InfoWords}

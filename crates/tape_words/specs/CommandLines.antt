@@ -3,7 +3,7 @@
 -- to say. Source: mos65.
 use Rattle.std.specs.Prelude.{codes}
 use Rattle.clap.specs.Words.{App, with_rule}
-use Rattle.program_words.specs.CommandLine.{file_rule, option_rule}
+use Rattle.arguments_core.specs.CommandLine.{file_rule, option_rule}
 use Rattle.word_streams.specs.Words.{unnamed}
 
 abbrev pub info : App

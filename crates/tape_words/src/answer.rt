@@ -6,7 +6,7 @@ ghost use Rattle.tape_words.specs.Statuses.{status_of};
 ghost use Rattle.word_streams.specs.Words.{IsStatusOf};
 
 use crate::refusal::Refusal;
-use program_words::WordsFault;
+use arguments_core::WordsFault;
 use std::io::Write;
 use word_streams::write_text;
 

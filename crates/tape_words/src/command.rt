@@ -2,7 +2,7 @@
 
 ghost use Rattle.std.specs.Prelude.{◌≡◌, IfErr, IfOk, codes, false};
 ghost use Rattle.clap.specs.Words.{app_of, kind_of, rule_of};
-ghost use Rattle.program_words.specs.CommandLine.{file_rule, option_rule};
+ghost use Rattle.arguments_core.specs.CommandLine.{file_rule, option_rule};
 ghost use Rattle.tape_words.specs.CommandLines.{cmp, info, mend};
 
 use clap::error::ErrorKind;

@@ -19,7 +19,7 @@ pub use answer::{Answer, answered, refused, refused_words};
 pub use files::{image_of, read_text, write_file};
 pub use instruction::{instruction_len, push_count, push_instruction};
 pub use meanings::push_there;
-pub use program_words::WordsFault;
+pub use arguments_core::WordsFault;
 pub use records::{EndRecord, are_digits, end_record};
 pub use refusal::Refusal;
 pub use tape_faults::fault_text;

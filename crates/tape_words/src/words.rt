@@ -10,7 +10,7 @@ ghost use Rattle.word_streams.specs.Words.{Fits, IsRefusalOf};
 use crate::command;
 use clap::ArgMatches;
 use model::Profile;
-use program_words::{WordsFault, port_asked, profile_asked};
+use arguments_core::{WordsFault, port_asked, profile_asked};
 use std::alloc::Global;
 
 /// What the words of `info TAPE [--port HHHH] [--profile N|C]` ask for.

@@ -4,7 +4,7 @@ use Rattle.std.specs.Prelude.{ℕ, Bool, List, Option, Some, None, codes}
 use Rattle.clap.specs.Words.{Text, first_of, matches_of}
 use Rattle.loading.specs.Asked.{FileAsked, file_asked}
 use Rattle.loading.specs.Values.{steps_asked}
-use Rattle.program_words.specs.Asked.{is_flag}
+use Rattle.arguments_core.specs.Asked.{is_flag}
 use Rattle.trace_words.specs.CommandLine.{trace}
 
 pub record TraceAsked : Type 0 where

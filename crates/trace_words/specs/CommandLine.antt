@@ -3,7 +3,7 @@
 use Rattle.std.specs.Prelude.{true, codes}
 use Rattle.clap.specs.Words.{App, new_app, with_rule}
 use Rattle.loading.specs.CommandLine.{with_file}
-use Rattle.program_words.specs.CommandLine.{flag_rule, option_rule}
+use Rattle.arguments_core.specs.CommandLine.{flag_rule, option_rule}
 
 -- The words begin without the word `trace`.
 abbrev pub unnamed : App

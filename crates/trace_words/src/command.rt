@@ -2,7 +2,7 @@
 
 ghost use Rattle.std.specs.Prelude.{◌≡◌, IfErr, IfOk, false};
 ghost use Rattle.clap.specs.Words.{app_of, kind_of, rule_of};
-ghost use Rattle.program_words.specs.CommandLine.{flag_rule};
+ghost use Rattle.arguments_core.specs.CommandLine.{flag_rule};
 ghost use Rattle.trace_words.specs.CommandLine.{trace};
 
 use clap::error::ErrorKind;

@@ -10,7 +10,7 @@ ghost use Rattle.trace_words.specs.Views.{trace_view};
 use crate::command::command;
 use clap::ArgMatches;
 use loading::{FileWords, file_words, steps_of};
-use program_words::{WordsFault, is_given};
+use arguments_core::{WordsFault, is_given};
 use std::alloc::Global;
 
 /// What the words of `trace` ask for.

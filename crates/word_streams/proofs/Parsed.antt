@@ -6,9 +6,9 @@ use Rattle.clap.specs.Words.{App, HasKind, HasMatchesOf, IsAmong, Text, fault_of
 use Rattle.clap.specs.declared.error.Error.{Error}
 use Rattle.clap.specs.declared.parser.matches.ArgMatches.{ArgMatches}
 use Rattle.clap.proofs.WalkLemmas.{first_value-rows}
-use Rattle.program_words.specs.Refused.{AnswersWords}
-use Rattle.program_words.specs.declared.fault.WordsFault.{WordsFault}
-use Rattle.program_words.specs.declared.fault.WordsFault.TheVariants.{Help, OutOfMemory, Usage, Value}
+use Rattle.arguments_core.specs.Refused.{AnswersWords}
+use Rattle.arguments_core.specs.declared.fault.WordsFault.{WordsFault}
+use Rattle.arguments_core.specs.declared.fault.WordsFault.TheVariants.{Help, OutOfMemory, Usage, Value}
 use Rattle.word_streams.specs.Words.{Fits, IsRefusalOf, IsStatusOf, SaysOfWords, value_in}
 
 -- the words fit

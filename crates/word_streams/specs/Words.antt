@@ -3,8 +3,8 @@ use Rattle.std.specs.Prelude.{◌≡◌, ◌≢◌, ◌⊎◌, ℕ, true, List, 
 use Rattle.clap.specs.Words.{App, IsAmong, Text, fault_of, first_of, kind_of, matches_of, new_app}
 use Rattle.clap.specs.declared.error.kind.ErrorKind.{ErrorKind}
 use Rattle.clap.specs.declared.error.kind.ErrorKind.TheVariants as kind
-use Rattle.program_words.specs.declared.fault.WordsFault.{WordsFault}
-use Rattle.program_words.specs.declared.fault.WordsFault.TheVariants.{Help, OutOfMemory, Usage, Value}
+use Rattle.arguments_core.specs.declared.fault.WordsFault.{WordsFault}
+use Rattle.arguments_core.specs.declared.fault.WordsFault.TheVariants.{Help, OutOfMemory, Usage, Value}
 
 -- A command line whose words begin without the program's name.
 abbrev pub unnamed : Text → App

@@ -1,6 +1,6 @@
 use Rattle.std.proofs.Common.{rules, ap₂, codes, ◌≡◌, ◌∙◌, refl}
 use Rattle.clap.specs.Words.{app_of, rule_of, with_rule}
-use Rattle.program_words.specs.CommandLine.{file_rule, flag_rule, option_rule}
+use Rattle.arguments_core.specs.CommandLine.{file_rule, flag_rule, option_rule}
 use Rattle.loading.proofs.options.with_file_options.Goals as goal
 
 pub returns-clause-shape : goal.returns-clause-shape

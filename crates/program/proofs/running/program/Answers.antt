@@ -1,8 +1,8 @@
 use Rattle.std.proofs.Common.{◌≡◌, Err, arith, inl, refl, subst}
 use Rattle.program.specs.Statuses.{IsStatusOf}
 use Rattle.program.specs.declared.refusal.Refusal.TheVariants.{OutOfMemory}
-use Rattle.program_words.specs.Asked.{debug, dis}
-use Rattle.program_words.specs.Views.{debug_view}
+use Rattle.arguments_core.specs.Asked.{debug, dis}
+use Rattle.arguments_core.specs.Views.{debug_view}
 use Rattle.program.proofs.Lines.{told_of_words}
 use Rattle.program.proofs.Transcripts.{ended_served, one_debug}
 use Rattle.program.proofs.running.program.Goals as goal

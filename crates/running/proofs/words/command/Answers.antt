@@ -3,7 +3,7 @@ use Rattle.clap.specs.Simple.{app_of_fields}
 use Rattle.clap.specs.Words.{App, app_of, new_app, rule_of}
 use Rattle.loading.specs.CommandLine.{with_file}
 use Rattle.clap.specs.Words.{with_rule}
-use Rattle.program_words.specs.CommandLine.{flag_rule, option_rule}
+use Rattle.arguments_core.specs.CommandLine.{flag_rule, option_rule}
 use Rattle.running.specs.CommandLine.{unnamed}
 use Rattle.running.proofs.words.command.Goals as goal
 

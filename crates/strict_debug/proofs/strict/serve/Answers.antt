@@ -2,7 +2,7 @@ use Rattle.std.proofs.Common.{◌≡◌, ◌∙◌, Err, ap, arith, inl, refl, s
 use Rattle.program.proofs.Lines.{told_of_words}
 use Rattle.program.specs.Statuses.{IsStatusOf}
 use Rattle.program.specs.declared.refusal.Refusal.TheVariants.{OutOfMemory}
-use Rattle.program_words.specs.Asked.{debug}
+use Rattle.arguments_core.specs.Asked.{debug}
 use Rattle.strict_debug.proofs.Ends.{ended_of, failed_of, not_done, strict_of}
 use Rattle.strict_debug.proofs.Passing.{passes_of, served_passes, strict_served}
 use Rattle.strict_debug.proofs.strict.serve.Goals as goal

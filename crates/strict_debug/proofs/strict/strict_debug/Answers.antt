@@ -1,7 +1,7 @@
 use Rattle.std.proofs.Common.{◌≤◌, ◌⊎◌, Err, inl, refl, sym, ap, subst, map, ◌∙◌}
 use Rattle.program.specs.declared.refusal.Refusal.TheVariants.{OutOfMemory}
-use Rattle.program_words.specs.Asked.{asked}
-use Rattle.program_words.specs.Refused.{IsTaken}
+use Rattle.arguments_core.specs.Asked.{asked}
+use Rattle.arguments_core.specs.Refused.{IsTaken}
 use Rattle.strict_debug.proofs.strict.strict_debug.Goals as goal
 
 pub returns-in-Ok-clause-told : goal.returns-in-Ok-clause-told

@@ -1,7 +1,7 @@
 use Rattle.std.proofs.Common.{rules, ap, ap₂, codes, true, ◌≡◌, ◌∙◌}
 use Rattle.clap.specs.Simple.{app_of_fields}
 use Rattle.clap.specs.Words.{App, app_of, new_app, rule_of, with_rule}
-use Rattle.program_words.specs.CommandLine.{option_rule}
+use Rattle.arguments_core.specs.CommandLine.{option_rule}
 use Rattle.t65_words.specs.CommandLine.{files_rule}
 use Rattle.word_streams.specs.Words.{unnamed}
 use Rattle.t65_words.proofs.words.command.Goals as goal

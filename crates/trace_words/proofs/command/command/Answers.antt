@@ -2,7 +2,7 @@ use Rattle.std.proofs.Common.{rules, ap, ap₂, codes, true, ◌≡◌, ◌∙�
 use Rattle.clap.specs.Simple.{app_of_fields}
 use Rattle.clap.specs.Words.{App, app_of, new_app, rule_of, with_rule}
 use Rattle.loading.specs.CommandLine.{with_file}
-use Rattle.program_words.specs.CommandLine.{flag_rule, option_rule}
+use Rattle.arguments_core.specs.CommandLine.{flag_rule, option_rule}
 use Rattle.trace_words.specs.CommandLine.{unnamed}
 use Rattle.trace_words.proofs.command.command.Goals as goal
 

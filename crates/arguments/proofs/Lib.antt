@@ -1,0 +1,6 @@
+mod Digits
+mod Ends
+mod Lines
+mod Parses
+pub mod Parsed
+pub mod Writing

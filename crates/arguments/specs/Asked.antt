@@ -1,0 +1,47 @@
+-- What the words of a file and its map ask for, by the values that clap's definition of a parse finds
+-- among them. Source: mos65.
+use Rattle.std.specs.Prelude.{ℕ, Bool, false, Option, Some, None, codes}
+use Rattle.std.specs.Str.{bytes_eq}
+use Rattle.arguments.specs.Values.{port_asked, profile_asked, rom_asked}
+use Rattle.arguments.specs.declared.file_options.FileWords.{FileWords}
+use Rattle.clap.specs.Words.{Text}
+use Rattle.model.specs.State.{Map}
+use Rattle.model.specs.declared.instruction.Profile.{Profile}
+
+-- clap gives a flag that is there the value `true`.
+abbrev pub is_flag : Option Text → Bool
+is_flag None = false
+is_flag (Some text) = bytes_eq text (codes "true")
+
+pub record FileAsked : Type 0 where
+  pub file : Text
+  pub is_tape : Bool
+  pub port : ℕ
+  pub rom : Option (ℕ × ℕ)
+  pub profile : Profile
+
+-- The map that the file is loaded on, if its port and its ROM make one.
+abbrev pub map_of : FileAsked → Map
+map_of file = record { profile = file.profile; rom = file.rom; port = file.port }
+
+abbrev pub file_of : Option Text → Bool → Option ℕ → Option (Option (ℕ × ℕ)) → Option Profile
+    → Option FileAsked
+file_of (Some file) is_tape (Some port) (Some rom) (Some profile) = Some
+    (record { file = file; is_tape = is_tape; port = port; rom = rom; profile = profile })
+file_of file is_tape port rom profile = None
+
+-- What the values of the names ask for, where each is one that its name can have.
+abbrev pub file_asked : (Text → Option Text) → Option FileAsked
+file_asked value = file_of (value (codes "FILE")) (is_flag (value (codes "tape")))
+    (port_asked (value (codes "port"))) (rom_asked (value (codes "rom")))
+    (profile_asked (value (codes "profile")))
+
+-- What was read from the words of a file, as what they ask for.
+abbrev pub file_view : FileWords → FileAsked
+file_view w = record {
+  file = w.file.now;
+  is_tape = w.is_tape;
+  port = w.port;
+  rom = w.rom;
+  profile = w.profile;
+}

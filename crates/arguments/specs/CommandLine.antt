@@ -1,0 +1,28 @@
+-- Parts of command lines, as clap's definitions describe one. How words are matched with a command
+-- line is clap's to say. Source: mos65.
+use Rattle.std.specs.Prelude.{true, Some, codes}
+use Rattle.clap.specs.Words.{App, Rule, Text, new_app, new_rule, with_rule}
+use Rattle.clap.specs.declared.builder.action.ArgAction.TheVariants.{Set, SetTrue}
+
+-- A word that has to be there.
+abbrev pub file_rule : Text → Rule
+file_rule name = record (new_rule name) { required = true; action = Some Set }
+
+-- An option with no value, as `--tape`.
+abbrev pub flag_rule : Text → Rule
+flag_rule name = record (new_rule name) { long = Some name; action = Some SetTrue }
+
+-- An option with one value, as `--port HHHH` or `--port=HHHH`.
+abbrev pub option_rule : Text → Rule
+option_rule name = record (new_rule name) { long = Some name; action = Some Set; value_names = 1 }
+
+-- A command line whose words begin without the program's name.
+abbrev pub unnamed : Text → App
+unnamed name = let new = new_app name in record
+    new { top = record new.top { no_binary_name = true } }
+
+-- `FILE [--tape] [--port HHHH] [--rom LO-HI] [--profile N|C]`, after what a command line has.
+abbrev pub with_file : App → App
+with_file app = with_rule (with_rule (with_rule (with_rule (with_rule app
+    (file_rule (codes "FILE"))) (flag_rule (codes "tape"))) (option_rule (codes "port")))
+    (option_rule (codes "rom"))) (option_rule (codes "profile"))

@@ -1,0 +1,73 @@
+-- The fault lines of the program. Source: mos65.
+use Rattle.std.specs.Prelude.{◌≡◌, ◌≤◌, ⊤, ℕ, List, [], ◌∷◌, ◌++◌, codes, decimal, Option}
+use Rattle.arguments.specs.Statuses.{status_of}
+use Rattle.arguments.specs.declared.fault.WordsFault.{WordsFault}
+use Rattle.arguments.specs.declared.fault.WordsFault.TheVariants.{Help, Usage, Value, Wrong}
+use Rattle.arguments.specs.declared.fault.WordsFault.TheVariants as words_fault
+use Rattle.arguments.specs.declared.load_fault.LoadFault.{LoadFault}
+use Rattle.arguments.specs.declared.load_fault.LoadFault.TheVariants.{LooksLikeTape, Refused}
+use Rattle.arguments.specs.declared.refusal.Refusal.{Refusal}
+use Rattle.arguments.specs.declared.refusal.Refusal.TheVariants.{Words, Map, Source, Tape, Session, OutOfMemory, Read, Write}
+use Rattle.model.specs.FaultTexts.{bus_fault_text, session_fault_text, source_fault_text, tape_fault_text}
+use Rattle.model.specs.Writers.{AppendsFront}
+
+-- What is rejected, and where the fault is in it.
+unfoldable pub place_part : Refusal → List ℕ
+place_part Words = codes "WORDS"
+place_part (Map fault) = codes "MAP "
+place_part (Source fault) = codes "SOURCE line " ++ decimal fault.line ++ 32 ∷ []
+place_part (Tape fault) = codes "TAPE byte " ++ decimal fault.offset ++ 32 ∷ []
+place_part (Session fault) = codes "TAPE "
+place_part OutOfMemory = codes "OutOfMemory"
+place_part Read = codes "READ"
+place_part Write = codes "WRITE"
+
+-- The fault's name and number, if it has them.
+unfoldable pub name_part : Refusal → List ℕ
+name_part (Map fault) = bus_fault_text fault
+name_part (Source fault) = source_fault_text fault.kind
+name_part (Tape fault) = tape_fault_text fault.kind
+name_part (Session fault) = session_fault_text fault
+name_part refusal = []
+
+-- The line that says why the program ends, for example `mos65: SOURCE line 2 Syntax 4`.
+abbrev pub fault_line : Refusal → List ℕ
+fault_line refusal = codes "mos65: " ++ place_part refusal ++ name_part refusal ++ 10 ∷ []
+
+-- The same with the file's name, for example `mos65: first.a65: SOURCE line 2 Syntax 4`.
+abbrev pub named_line : List ℕ → Refusal → List ℕ
+named_line file refusal = codes "mos65: " ++ (file ++ (codes ": " ++ (place_part refusal
+    ++ (name_part refusal ++ 10 ∷ []))))
+
+-- Words, a map and memory are of no file.
+unfoldable pub file_line : List ℕ → Refusal → List ℕ
+file_line file Words = fault_line Words
+file_line file (Map fault) = fault_line (Map fault)
+file_line file OutOfMemory = fault_line OutOfMemory
+file_line file refusal = named_line file refusal
+
+-- A file is given as a source, and begins with a record of a tape.
+abbrev pub tape_line : List ℕ → List ℕ
+tape_line file = codes "mos65: " ++ (file ++ codes " looks like a tape: use --tape\n")
+
+unfoldable pub load_line : LoadFault → List ℕ → List ℕ
+load_line LooksLikeTape file = tape_line file
+load_line (Refused refusal) file = file_line file refusal
+
+-- The error stream got the fault line of a refusal with this status, or a beginning of the line if
+-- it cannot be written.
+abbrev pub IsTold : ℕ → Option (List ℕ) → Option (List ℕ) → Type 0
+IsTold status held now = (refusal : Refusal) × (status ≡ status_of refusal)
+    × AppendsFront held now (fault_line refusal)
+
+-- What the error stream got of rejected words, or a beginning of it: the fault line of what is
+-- wrong with them, and of help that could not be written. Words that do not fit the command line
+-- get the text of `clap`, which no clause can name.
+abbrev pub IsToldOfWords : WordsFault → ℕ → Option (List ℕ) → Option (List ℕ) → Type 0
+IsToldOfWords (Help text) status held now = 1 ≤ status → AppendsFront held now (fault_line Write)
+IsToldOfWords (Usage text) status held now = ⊤
+IsToldOfWords Value status held now = AppendsFront held now (fault_line Words)
+IsToldOfWords (Wrong which) status held now = AppendsFront held now
+    (codes "mos65: " ++ (codes "WORDS: " ++ (which.now ++ 10 ∷ [])))
+IsToldOfWords words_fault.OutOfMemory status held now
+    = AppendsFront held now (fault_line OutOfMemory)

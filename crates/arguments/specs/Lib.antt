@@ -1,0 +1,9 @@
+pub mod Asked
+pub mod CommandLine
+pub mod FaultLines
+pub mod Files
+pub mod Refusals
+pub mod Statuses
+pub mod Streams
+pub mod Values
+pub mod Words

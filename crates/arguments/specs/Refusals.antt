@@ -1,0 +1,34 @@
+-- Which refusal the fault of a part becomes. Running out of memory in any part is one refusal.
+-- Source: mos65.
+use Rattle.arguments.specs.declared.refusal.Refusal.{Refusal}
+use Rattle.arguments.specs.declared.refusal.Refusal.TheVariants.{Source, Tape, Session, OutOfMemory, Read}
+use Rattle.model.specs.declared.session_fault.SessionFault.{SessionFault}
+use Rattle.model.specs.declared.session_fault.SessionFault.TheVariants as session_fault
+use Rattle.model.specs.declared.source_fault.AsmFault.{AsmFault}
+use Rattle.model.specs.declared.source_fault.AsmFaultKind.{AsmFaultKind}
+use Rattle.model.specs.declared.source_fault.AsmFaultKind.TheVariants as source_fault
+use Rattle.model.specs.declared.tape.TapeFault.{TapeFault}
+use Rattle.model.specs.declared.tape.TapeFaultKind.{TapeFaultKind}
+use Rattle.model.specs.declared.tape.TapeFaultKind.TheVariants as tape_fault
+use Rattle.papertape.specs.declared.stream.TapeReadFault.{TapeReadFault}
+use Rattle.papertape.specs.declared.stream.TapeReadFault.TheVariants as tape_read_fault
+
+abbrev pub of_source_kind : AsmFaultKind → AsmFault → Refusal
+of_source_kind source_fault.OutOfMemory fault = OutOfMemory
+of_source_kind _ fault = Source fault
+
+abbrev pub of_source : AsmFault → Refusal
+of_source fault = of_source_kind fault.kind fault
+
+abbrev pub of_tape_kind : TapeFaultKind → TapeFault → Refusal
+of_tape_kind tape_fault.OutOfMemory fault = OutOfMemory
+of_tape_kind _ fault = Tape fault
+
+-- A tape read from a reader: its fault, or a read of it failed.
+abbrev pub of_tape_read : TapeReadFault → Refusal
+of_tape_read (tape_read_fault.Tape fault) = of_tape_kind fault.kind fault
+of_tape_read tape_read_fault.Read = Read
+
+abbrev pub of_session : SessionFault → Refusal
+of_session session_fault.OutOfMemory = OutOfMemory
+of_session fault = Session fault

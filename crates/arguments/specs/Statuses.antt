@@ -1,0 +1,22 @@
+-- The exit status of a word that ends without an answer. Source: mos65.
+use Rattle.std.specs.Prelude.{ℕ}
+use Rattle.arguments.specs.declared.load_fault.LoadFault.{LoadFault}
+use Rattle.arguments.specs.declared.load_fault.LoadFault.TheVariants.{LooksLikeTape, Refused}
+use Rattle.arguments.specs.declared.refusal.Refusal.{Refusal}
+use Rattle.arguments.specs.declared.refusal.Refusal.TheVariants.{Words, Map, Source, Tape, Session, OutOfMemory, Read, Write}
+
+-- 1 for a source or a tape, 2 for the words or the map, 3 for memory, 4 for reading or writing
+abbrev pub status_of : Refusal → ℕ
+status_of Words = 2
+status_of (Map fault) = 2
+status_of (Source fault) = 1
+status_of (Tape fault) = 1
+status_of (Session fault) = 1
+status_of OutOfMemory = 3
+status_of Read = 4
+status_of Write = 4
+
+-- 2 for a tape that is given as a source; otherwise that of the refusal
+abbrev pub status_of_load : LoadFault → ℕ
+status_of_load LooksLikeTape = 2
+status_of_load (Refused refusal) = status_of refusal

@@ -1,0 +1,74 @@
+-- What the words that stand for values mean. Source: mos65.
+use Rattle.model.specs.Digits.{decimal_number}
+use Rattle.model.specs.Commands.{address_of}
+use Rattle.model.specs.declared.instruction.Profile.{Profile}
+use Rattle.model.specs.declared.instruction.Profile.TheVariants.{C, N}
+use Rattle.std.specs.Prelude.{ℕ, List, length, take, drop, get_or, nat_lt, nat_le, ◌==◌, ◌&&◌, if◌then◌else◌, Option, Some, None, option_map}
+
+-- a number of at most 65,536
+abbrev pub at_most_65536 : Option ℕ → Option ℕ
+at_most_65536 None = None
+at_most_65536 (Some number) = if nat_le number 65536 then Some number else None
+
+-- the history is written by one to five decimal digits, and is at most 65,536
+abbrev pub history_of : List ℕ → Option ℕ
+history_of word =
+    if length word == 0 then None
+    else if nat_lt 5 (length word) then None
+    else at_most_65536 (decimal_number word)
+
+-- both addresses, where there are both
+abbrev pub both : Option ℕ → Option ℕ → Option (ℕ × ℕ)
+both (Some low) (Some high) = Some (low, high)
+both low high = None
+
+-- LO-HI, each an address
+abbrev pub range_of : List ℕ → Option (ℕ × ℕ)
+range_of word =
+    if length word == 9 && get_or word 4 0 == 45
+    then both (address_of (take 4 word)) (address_of (drop 5 word))
+    else None
+
+-- the history of `debug` that is asked for: 1,024 where no word says it
+abbrev pub debug_history_asked : Option (List ℕ) → Option ℕ
+debug_history_asked None = Some 1024
+debug_history_asked (Some word) = history_of word
+
+-- the port that is asked for: $F000 where no word says it
+abbrev pub port_asked : Option (List ℕ) → Option ℕ
+port_asked None = Some 61440
+port_asked (Some word) = address_of word
+
+-- the ROM that is asked for: none where no word says it
+abbrev pub rom_asked : Option (List ℕ) → Option (Option (ℕ × ℕ))
+rom_asked None = Some None
+rom_asked (Some word) = option_map Some (range_of word)
+
+-- a profile is written by its letter, 78 for N and 67 for C
+abbrev pub profile_of : List ℕ → Option Profile
+profile_of word =
+    if length word == 1 && get_or word 0 0 == 78 then Some N
+    else if length word == 1 && get_or word 0 0 == 67 then Some C
+    else None
+
+-- the profile that is asked for: N where no word says it
+abbrev pub profile_asked : Option (List ℕ) → Option Profile
+profile_asked None = Some N
+profile_asked (Some word) = profile_of word
+
+-- A number is written by one to eighteen decimal digits.
+abbrev pub number_of : List ℕ → Option ℕ
+number_of word =
+    if length word == 0 then None
+    else if nat_lt 18 (length word) then None
+    else decimal_number word
+
+-- The most steps that are asked for: 2 ^ 64 - 1 where no word says it.
+abbrev pub steps_asked : Option (List ℕ) → Option ℕ
+steps_asked None = Some 18446744073709551615
+steps_asked (Some word) = number_of word
+
+-- The history of `mon` that is asked for: at most 65,536, and as many where no word says it.
+abbrev pub history_asked : Option (List ℕ) → Option ℕ
+history_asked None = Some 65536
+history_asked (Some word) = at_most_65536 (number_of word)

@@ -1,0 +1,65 @@
+-- What the words of a command line ask for, by clap's definition of a parse, and why they are
+-- rejected. Source: mos65.
+use Rattle.std.specs.Prelude.{◌≡◌, ◌≢◌, ◌⊎◌, ℕ, List, [], Option}
+use Rattle.clap.specs.Words.{App, IsAmong, Text, fault_of, first_of, kind_of, matches_of}
+use Rattle.clap.specs.declared.error.Error.{Error}
+use Rattle.clap.specs.declared.error.kind.ErrorKind.{ErrorKind}
+use Rattle.clap.specs.declared.error.kind.ErrorKind.TheVariants as kind
+use Rattle.arguments.specs.declared.fault.WordsFault.{WordsFault}
+use Rattle.arguments.specs.declared.fault.WordsFault.TheVariants.{Help, OutOfMemory, Usage, Value, Wrong}
+
+-- The words fit the command line.
+abbrev pub Fits : App → List Text → Type 0
+Fits app words = fault_of app words ≡ []
+
+-- They ask for help.
+abbrev pub AsksForHelp : App → List Text → Type 0
+AsksForHelp app words = IsAmong kind.DisplayHelp (fault_of app words)
+
+-- They do not fit it, and it is not help that they ask for.
+abbrev pub Misfits : App → List Text → Type 0
+Misfits app words = (k : ErrorKind) × (k ≢ kind.DisplayHelp) × IsAmong k (fault_of app words)
+
+-- The first value of a name among the words.
+abbrev pub value_in : App → List Text → Text → Option Text
+value_in app words name = first_of name (matches_of app words)
+
+-- What an error of clap is returned as.
+abbrev pub AnswersWords : Error → WordsFault → Type 0
+AnswersWords e OutOfMemory = kind_of e ≡ kind.OutOfMemory
+AnswersWords e (Help text) = (text ≡ e) × (kind_of e ≡ kind.DisplayHelp)
+AnswersWords e (Usage text) = (text ≡ e) × (kind_of e ≢ kind.OutOfMemory)
+    × (kind_of e ≢ kind.DisplayHelp)
+AnswersWords e Value = ⊥
+AnswersWords e (Wrong which) = ⊥
+
+-- Why words are refused: they ask for help, or do not fit; or they fit, and a value is wrong, so
+-- that nothing is asked for. Memory may run out at any words.
+abbrev pub IsRefusalOf : App → List Text → Type 0 → WordsFault → Type 0
+IsRefusalOf app words IsWrong (Help text) = (kind_of text ≡ kind.DisplayHelp)
+    × AsksForHelp app words
+IsRefusalOf app words IsWrong (Usage text)
+    = (kind_of text ≢ kind.DisplayHelp) × IsAmong (kind_of text) (fault_of app words)
+IsRefusalOf app words IsWrong Value = Fits app words × IsWrong
+IsRefusalOf app words IsWrong (Wrong which) = Fits app words × IsWrong
+IsRefusalOf app words IsWrong OutOfMemory = Unit {0}
+
+-- Why words do not fit. Nothing is said yet of values.
+abbrev pub IsMisfit : App → List Text → WordsFault → Type 0
+IsMisfit app words fault = IsRefusalOf app words ⊥ fault
+
+-- The exit status of words that are refused: 0 for help that was written and 4 for help that could
+-- not be, 2 for wrong words, 3 for memory.
+abbrev pub IsStatusOf : WordsFault → ℕ → Type 0
+IsStatusOf (Help text) status = (status ≡ 0) ⊎ (status ≡ 4)
+IsStatusOf (Usage text) status = status ≡ 2
+IsStatusOf Value status = status ≡ 2
+IsStatusOf (Wrong which) status = status ≡ 2
+IsStatusOf OutOfMemory status = status ≡ 3
+
+-- What the exit status says of words that are refused.
+pub record SaysOfWords (app : App) (words : List Text) (IsWrong : Type 0) (status : ℕ)
+    : Type 0 where
+  pub help : (status ≡ 0) ⊎ (status ≡ 4) → AsksForHelp app words
+  pub never : status ≢ 1
+  pub wrong : status ≡ 2 → Misfits app words ⊎ (Fits app words × IsWrong)

@@ -1,0 +1,163 @@
+//! Fault lines: why the program ends, put together without allocating.
+ghost use Rattle.std.specs.Prelude.{◌≡◌, ◌+◌, ◌≤◌, ◌++◌, ◌∷◌, [], codes, decimal, length};
+ghost use Rattle.model.specs.Writers.{AppendsFront};
+ghost use Rattle.arguments.specs.FaultLines.{fault_line, file_line, name_part, named_line, place_part};
+
+use crate::output::put;
+use crate::refusal::Refusal;
+use formatting::{Text, push_bytes, push_decimal};
+use std::io::Write;
+
+/// Returns what is rejected, and where the fault is in it.
+#[tactic(auto, unfolding(crate::specs::FaultLines::place_part))]
+fn place_text(refusal: Refusal) -> Text
+    ensures { result.items ≡ place_part refusal }
+{
+    let mut text = Text::new();
+    match refusal {
+        Refusal::Words => push_bytes(&mut text, b"WORDS"),
+        Refusal::Map(_) => push_bytes(&mut text, b"MAP "),
+        Refusal::Source(fault) => {
+            push_bytes(&mut text, b"SOURCE line ");
+            push_decimal(&mut text, fault.line as u64);
+            push_bytes(&mut text, b" ");
+        }
+        Refusal::Tape(fault) => {
+            push_bytes(&mut text, b"TAPE byte ");
+            push_decimal(&mut text, fault.offset);
+            push_bytes(&mut text, b" ");
+        }
+        Refusal::Session(_) => push_bytes(&mut text, b"TAPE "),
+        Refusal::OutOfMemory => push_bytes(&mut text, b"OutOfMemory"),
+        Refusal::Read => push_bytes(&mut text, b"READ"),
+        Refusal::Write => push_bytes(&mut text, b"WRITE"),
+    }
+    text
+}
+
+/// Appends a fault's name and number.
+fn push_name(text: &mut Text, name: &str, number: u8)
+    requires { length text.old.items + length name.now ≤ 43 }
+    ensures written { text.new.items ≡ text.old.items ++ name.now ++ 32 ∷ decimal number }
+    ensures short { length text.new.items ≤ 64 }
+{
+    push_bytes(text, name.as_bytes());
+    push_bytes(text, b" ");
+    push_decimal(text, number as u64);
+}
+
+/// Returns the rest of a fault line: the fault's name and number, if it has them, and the end of
+/// the line.
+#[tactic(auto, unfolding(crate::specs::FaultLines::name_part))]
+fn name_text(refusal: Refusal) -> Text
+    ensures { result.items ≡ name_part refusal ++ 10 ∷ [] }
+{
+    let mut text = Text::new();
+    match refusal {
+        Refusal::Map(fault) => push_name(&mut text, fault.name(), fault.number()),
+        Refusal::Source(fault) => push_name(&mut text, fault.kind.name(), fault.kind.number()),
+        Refusal::Tape(fault) => push_name(&mut text, fault.kind.name(), fault.kind.number()),
+        Refusal::Session(fault) => push_name(&mut text, fault.name(), fault.number()),
+        Refusal::Words | Refusal::OutOfMemory | Refusal::Read | Refusal::Write => {}
+    }
+    push_bytes(&mut text, b"\n");
+    text
+}
+
+/// Writes a line of two parts, or a beginning of it if a write fails.
+pub fn put_two<E: Write>(first: &[u8], second: &[u8], errors: &mut E)
+    ensures { AppendsFront (E.contents errors.old) (E.contents errors.new)
+        (first.now ++ second.now) }
+{
+    match put(errors, first) {
+        Ok(()) => {
+            let _ = put(errors, second);
+        }
+        Err(_) => {}
+    }
+}
+
+/// Writes a line of three parts, or a beginning of it if a write fails.
+pub fn put_three<E: Write>(first: &[u8], second: &[u8], third: &[u8], errors: &mut E)
+    ensures { AppendsFront (E.contents errors.old) (E.contents errors.new)
+        (first.now ++ (second.now ++ third.now)) }
+{
+    match put(errors, first) {
+        Ok(()) => put_two(second, third, errors),
+        Err(_) => {}
+    }
+}
+
+/// Writes a line of four parts, or a beginning of it if a write fails.
+pub fn put_four<E: Write>(first: &[u8], second: &[u8], third: &[u8], fourth: &[u8], errors: &mut E)
+    ensures { AppendsFront (E.contents errors.old) (E.contents errors.new)
+        (first.now ++ (second.now ++ (third.now ++ fourth.now))) }
+{
+    match put(errors, first) {
+        Ok(()) => put_three(second, third, fourth, errors),
+        Err(_) => {}
+    }
+}
+
+/// Writes a line of five parts, or a beginning of it if a write fails.
+fn put_five<E: Write>(
+    first: &[u8],
+    second: &[u8],
+    third: &[u8],
+    fourth: &[u8],
+    fifth: &[u8],
+    errors: &mut E,
+)
+    ensures { AppendsFront (E.contents errors.old) (E.contents errors.new)
+        (first.now ++ (second.now ++ (third.now ++ (fourth.now ++ fifth.now)))) }
+{
+    match put(errors, first) {
+        Ok(()) => put_four(second, third, fourth, fifth, errors),
+        Err(_) => {}
+    }
+}
+
+/// Writes the fault line of a refusal, or a beginning of it if a write fails.
+pub fn put_fault_line<E: Write>(refusal: Refusal, errors: &mut E)
+    ensures { AppendsFront (E.contents errors.old) (E.contents errors.new) (fault_line refusal) }
+{
+    put_three(
+        b"mos65: ",
+        place_text(refusal).as_slice(),
+        name_text(refusal).as_slice(),
+        errors,
+    );
+}
+
+/// Writes the fault line of a refusal with the name of a file, or a beginning of it if a write
+/// fails.
+fn put_named_line<E: Write>(refusal: Refusal, file: &str, errors: &mut E)
+    ensures { AppendsFront (E.contents errors.old) (E.contents errors.new)
+        (named_line file.now refusal) }
+{
+    put_five(
+        b"mos65: ",
+        file.as_bytes(),
+        b": ",
+        place_text(refusal).as_slice(),
+        name_text(refusal).as_slice(),
+        errors,
+    );
+}
+
+/// Writes the fault line of a refusal, with the name of the file unless the refusal is of none, or a
+/// beginning of it if a write fails.
+#[tactic(auto, unfolding(crate::specs::FaultLines::file_line))]
+pub fn put_file_line<E: Write>(refusal: Refusal, file: &str, errors: &mut E)
+    ensures { AppendsFront (E.contents errors.old) (E.contents errors.new)
+        (file_line file.now refusal) }
+{
+    match refusal {
+        Refusal::Words | Refusal::Map(_) | Refusal::OutOfMemory => put_fault_line(refusal, errors),
+        Refusal::Source(_)
+        | Refusal::Tape(_)
+        | Refusal::Session(_)
+        | Refusal::Read
+        | Refusal::Write => put_named_line(refusal, file, errors),
+    }
+}

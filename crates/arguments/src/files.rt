@@ -1,0 +1,66 @@
+//! Files that are read and written.
+
+ghost use Rattle.std.specs.Prelude.{◌≡◌, ℕ, List, Option, IfErr, IfOk};
+ghost use Rattle.arguments.specs.Files.{EndsReading, EndsWriting, IsUnread};
+ghost use Rattle.model.specs.TapePieces.{IsReadInPieces};
+
+use crate::refusal::Refusal;
+use memory_map::Image;
+use papertape::read_tape_from;
+use std::fs::File;
+use std::io::Read;
+use std::rt::Files;
+use std::{fs, io};
+
+/// One byte more than the longest source, so that a longer file is rejected for its size without
+/// being read to its end.
+const MOST_OF_SOURCE: u64 = 1_048_577;
+
+/// Reads the first bytes of a file.
+fn first_bytes<H: Files + AllocGlobal>(rt: &H, path: &str, most: u64) -> io::Result<Vec<u8>> {
+    let mut bytes = Vec::new(rt.alloc());
+    File::open(rt, path)?.take(most).read_to_end(&mut bytes)?;
+    Ok(bytes)
+}
+
+/// Returns the bytes of a file, or the first of them if it has more than `most`.
+///
+/// Errors: `OutOfMemory` if an allocation fails, `Read` if the file cannot be read.
+pub fn read_most<H: Files + AllocGlobal>(rt: &H, path: &str, most: u64) -> Result<Vec<u8>, Refusal>
+    ensures { IfErr result EndsReading }
+{
+    first_bytes(rt, path, most).map_err(|error| Refusal::unreadable(&error))
+}
+
+/// Returns the bytes of a source's file, or the first of them if it is too long for a source.
+///
+/// Errors: `OutOfMemory` if an allocation fails, `Read` if the file cannot be read.
+pub fn read_source<H: Files + AllocGlobal>(rt: &H, path: &str) -> Result<Vec<u8>, Refusal>
+    ensures { IfErr result EndsReading }
+{
+    read_most(rt, path, MOST_OF_SOURCE)
+}
+
+/// Returns the image of a tape's file, which is read in pieces.
+///
+/// Errors: `Read` if the file cannot be read, `Tape` with the tape's fault, `OutOfMemory` if an
+/// allocation fails.
+pub fn image_of_tape<H: Files + AllocGlobal>(rt: &H, path: &str) -> Result<Image, Refusal>
+    // The image is one that some tape denotes, and a fault of a tape is one that some tape has: no
+    // clause can say what is in a file.
+    ensures denoted { IfOk result (λ image. (text : List ℕ) × IsReadInPieces text image) }
+    ensures refused { IfErr result IsUnread }
+{
+    let mut tape = File::open(rt, path).map_err(|error| Refusal::unreadable(&error))?;
+    let image = read_tape_from(rt.alloc(), &mut tape)?;
+    Ok(image)
+}
+
+/// Writes a text to a file of that name. A file that is there is replaced.
+///
+/// Errors: `OutOfMemory` if an allocation fails, `Write` if the file cannot be written.
+pub fn write_file<H: Files>(rt: &H, path: &str, text: &[u8]) -> Result<(), Refusal>
+    ensures { IfErr result EndsWriting }
+{
+    fs::write(rt, path, text).map_err(|error| Refusal::unwritable(&error))
+}

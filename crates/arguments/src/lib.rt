@@ -1,0 +1,39 @@
+//! What the words of command lines have in common: options and their values, why words are
+//! refused, files that are read and written, and one refusal with its line and exit status.
+//!
+//! A crate for a word makes its command line of the options here, and reads the process's words by
+//! `matched`, whose clauses say what `clap`'s own definition of a parse finds. `Refusal` says why a
+//! word ends without an answer. `refuse` writes its line as `asm`, `dis` and `debug` do, and
+//! `refuse_file` with the file's name.
+#![tactic(auto)]
+
+mod fault;
+mod fault_line;
+mod file_options;
+mod files;
+mod load_fault;
+mod map;
+mod matching;
+mod options;
+mod output;
+mod refusal;
+mod refused;
+mod same_file;
+mod value;
+
+pub use fault::WordsFault;
+pub use fault_line::{put_fault_line, put_three, put_two};
+pub use file_options::{FileWords, file_words, with_file_options};
+pub use files::{image_of_tape, read_most, read_source, write_file};
+pub use load_fault::LoadFault;
+pub use map::map_of;
+pub use matching::{is_given, matched};
+pub use options::{begin, file, flag, option, port, profile, rom, tape};
+pub use output::{NotWritten, put, write_text};
+pub use refusal::Refusal;
+pub use refused::{finish, refuse, refuse_file, refused_words};
+pub use same_file::is_one_file;
+pub use value::{
+    address_asked, debug_history_asked, history_asked, port_asked, profile_asked, rom_asked,
+    steps_asked, wrong_value,
+};

@@ -1,0 +1,46 @@
+//! Words, matched with a command line.
+
+ghost use Rattle.std.specs.Prelude.{◌≡◌, IsOkUnless, IfErr, IfOk, map, true};
+ghost use Rattle.arguments.specs.Asked.{is_flag};
+ghost use Rattle.arguments.specs.Words.{Fits, IsMisfit, value_in};
+ghost use Rattle.clap.specs.Words.{app_of, first_value, found_of, is_simple, subcommand_of};
+ghost use Rattle.clap.specs.Words.{is_simple_and_free, subcommand_rows_of};
+
+use crate::fault::WordsFault;
+use clap::{ArgMatches, Command};
+
+/// Returns whether a flag is among the words.
+pub fn is_given(matches: &ArgMatches<'_>, name: &str) -> bool
+    ensures { result ≡ is_flag (first_value (found_of matches.now) name.now) }
+{
+    match matches.get_str(name) {
+        Some(value) => value == "true",
+        None => false,
+    }
+}
+
+/// Matches words with a command line, and returns what was found.
+///
+/// # Errors
+///
+/// - `Help`: the words ask for help. The text is `clap`'s.
+/// - `Usage`: a word is missing or unknown, or there are too many. The text is `clap`'s.
+/// - `OutOfMemory`: an allocation failed.
+pub fn matched<'a>(command: Command<'a>, words: &'a [&'a str]) -> Result<ArgMatches<'a>, WordsFault>
+    requires simple { is_simple (app_of command) ≡ true }
+    requires free { is_simple_and_free (app_of command) ≡ true }
+    ensures fits { IfOk result (λ _. Fits (app_of command.entry)
+        (map (λ s. s.now) words.entry.now)) }
+    // What was found of each name, and of a subcommand, is what `clap`'s definition finds.
+    ensures values { IfOk result (λ m. first_value (found_of m)
+        ≡ value_in (app_of command.entry) (map (λ s. s.now) words.entry.now)) }
+    ensures subcommand { IfOk result (λ m. subcommand_rows_of m
+        ≡ subcommand_of (app_of command.entry) (map (λ s. s.now) words.entry.now)) }
+    ensures served { Fits (app_of command.entry) (map (λ s. s.now) words.entry.now)
+        → IsOkUnless result WordsFault.OutOfMemory }
+    ensures refused { IfErr result (IsMisfit (app_of command.entry)
+        (map (λ s. s.now) words.entry.now)) }
+{
+    let matches = command.try_get_matches_from(words)?;
+    Ok(matches)
+}

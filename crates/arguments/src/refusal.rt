@@ -1,0 +1,120 @@
+//! Refusals, and how each part's fault becomes one.
+ghost use Rattle.std.specs.Prelude.{◌≡◌};
+ghost use Rattle.std.specs.IoError.{error_kind};
+ghost use Rattle.arguments.specs.Refusals.{of_session, of_source, of_tape_read};
+ghost use Rattle.arguments.specs.declared.refusal.Refusal.TheVariants.{Map};
+
+use model::{AsmFault, AsmFaultKind, BusFault, SessionFault, TapeFault, TapeFaultKind};
+use papertape::TapeReadFault;
+use std::io;
+use std::io::ErrorKind;
+
+/// Why a word ends without having done what it was asked for.
+///
+/// Each but `OutOfMemory`, `Read` and `Write` is found before anything is written.
+#[derive(Clone, Copy, Debug, PartialEq, Eq)]
+pub enum Refusal {
+    /// The word does not take one of the words after it.
+    Words,
+    /// The port and the ROM do not make a map.
+    Map(BusFault),
+    /// The source has a fault.
+    Source(AsmFault),
+    /// The tape has a fault.
+    Tape(TapeFault),
+    /// The image has bytes at the port's addresses. Only a tape can have them.
+    Session(SessionFault),
+    /// Memory ran out.
+    OutOfMemory,
+    /// A file or the standard input cannot be read.
+    Read,
+    /// A file or the standard output cannot be written.
+    Write,
+}
+
+impl Refusal {
+    ghost use Rattle.arguments.specs.Statuses.{status_of};
+
+    /// Returns the exit status.
+    ///
+    /// It is 1 for a source or tape, 2 for the words or the map, 3 for memory, 4 for reading and
+    /// writing.
+    pub fn status(&self) -> u8
+        ensures { result ≡ status_of self.now }
+    {
+        match self {
+            Refusal::Source(_) | Refusal::Tape(_) | Refusal::Session(_) => 1,
+            Refusal::Words | Refusal::Map(_) => 2,
+            Refusal::OutOfMemory => 3,
+            Refusal::Read | Refusal::Write => 4,
+        }
+    }
+
+    /// Returns why a file could not be read.
+    pub fn unreadable(error: &io::Error) -> Refusal
+        ensures memory { error_kind error.now ≡ ErrorKind.OutOfMemory
+            → result ≡ Refusal.OutOfMemory }
+        ensures other { ¬ (error_kind error.now ≡ ErrorKind.OutOfMemory) → result ≡ Refusal.Read }
+    {
+        match error.kind() {
+            ErrorKind::OutOfMemory => Refusal::OutOfMemory,
+            _ => Refusal::Read,
+        }
+    }
+
+    /// Returns why a file could not be written.
+    pub fn unwritable(error: &io::Error) -> Refusal
+        ensures memory { error_kind error.now ≡ ErrorKind.OutOfMemory
+            → result ≡ Refusal.OutOfMemory }
+        ensures other { ¬ (error_kind error.now ≡ ErrorKind.OutOfMemory) → result ≡ Refusal.Write }
+    {
+        match error.kind() {
+            ErrorKind::OutOfMemory => Refusal::OutOfMemory,
+            _ => Refusal::Write,
+        }
+    }
+}
+
+impl From<BusFault> for Refusal {
+    ghost from_gives = { λ fault refusal. refusal ≡ Map fault };
+
+    fn from(fault: BusFault) -> Refusal {
+        Refusal::Map(fault)
+    }
+}
+
+impl From<AsmFault> for Refusal {
+    ghost from_gives = { λ fault refusal. refusal ≡ of_source fault };
+
+    fn from(fault: AsmFault) -> Refusal {
+        match fault.kind {
+            AsmFaultKind::OutOfMemory => Refusal::OutOfMemory,
+            _ => Refusal::Source(fault),
+        }
+    }
+}
+
+impl From<TapeReadFault> for Refusal {
+    ghost from_gives = { λ fault refusal. refusal ≡ of_tape_read fault };
+
+    fn from(fault: TapeReadFault) -> Refusal {
+        match fault {
+            TapeReadFault::Read => Refusal::Read,
+            TapeReadFault::Tape(fault) => match fault.kind {
+                TapeFaultKind::OutOfMemory => Refusal::OutOfMemory,
+                _ => Refusal::Tape(fault),
+            },
+        }
+    }
+}
+
+impl From<SessionFault> for Refusal {
+    ghost from_gives = { λ fault refusal. refusal ≡ of_session fault };
+
+    fn from(fault: SessionFault) -> Refusal {
+        match fault {
+            SessionFault::OutOfMemory => Refusal::OutOfMemory,
+            fault => Refusal::Session(fault),
+        }
+    }
+}

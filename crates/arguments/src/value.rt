@@ -1,0 +1,180 @@
+//! The values of options.
+
+ghost use Rattle.std.specs.Prelude.{◌≡◌, ◌≤◌, IfSome, length, option_and_then, option_map};
+ghost use Rattle.arguments.specs.Values.{debug_history_asked, history_asked, history_of, number_of};
+ghost use Rattle.arguments.specs.Values.{port_asked, profile_asked, profile_of, range_of};
+ghost use Rattle.arguments.specs.Values.{rom_asked, steps_asked};
+ghost use Rattle.model.specs.Commands.{address_of};
+ghost use Rattle.model.specs.Digits.{decimal_number};
+
+use clap::ArgMatches;
+use commands::{address_of, digits};
+use formatting::decimal_value;
+use model::Profile;
+
+/// Returns the number of events to hold, of one to five decimal digits and at most 65,536.
+///
+/// Returns `None` for any other word.
+fn history(word: &[u8]) -> Option<u32>
+    ensures { result ≡ history_of word.now }
+{
+    if word.is_empty() || word.len() > 5 {
+        return None;
+    }
+    match digits(word) {
+        Some(number) if number <= 65536 => Some(number),
+        _ => None,
+    }
+}
+
+/// Returns the two addresses of `LO-HI`, each of exactly four hex digits; otherwise `None`.
+fn range(word: &[u8]) -> Option<(u16, u16)>
+    ensures { result ≡ range_of word.now }
+{
+    if word.len() != 9 || word[4] != b'-' {
+        return None;
+    }
+    match (address_of(&word[..4]), address_of(&word[5..])) {
+        (Some(low), Some(high)) => Some((low, high)),
+        _ => None,
+    }
+}
+
+/// Returns the profile that a letter names, or `None` for any other word.
+fn profile(word: &[u8]) -> Option<Profile>
+    ensures { result ≡ profile_of word.now }
+{
+    if word.len() != 1 {
+        return None;
+    }
+    match word[0] {
+        b'N' => Some(Profile::N),
+        b'C' => Some(Profile::C),
+        _ => None,
+    }
+}
+
+/// Returns the history that the word after `--history` of `debug` asks for, or `None` if it is wrong.
+///
+/// Without the word it is 1,024.
+pub fn debug_history_asked(word: Option<&str>) -> Option<u32>
+    ensures { result ≡ debug_history_asked (option_map (λ w. w.now) word.entry) }
+{
+    match word {
+        None => Some(1024),
+        Some(word) => history(word.as_bytes()),
+    }
+}
+
+/// Returns the port that the word after `--port` asks for, or `None` if it is wrong.
+pub fn port_asked(word: Option<&str>) -> Option<u16>
+    ensures { result ≡ port_asked (option_map (λ w. w.now) word.entry) }
+{
+    match word {
+        None => Some(0xf000),
+        Some(word) => address_of(word.as_bytes()),
+    }
+}
+
+/// Returns the profile that the word after `--profile` asks for, or `None` if it is wrong.
+pub fn profile_asked(word: Option<&str>) -> Option<Profile>
+    ensures { result ≡ profile_asked (option_map (λ w. w.now) word.entry) }
+{
+    match word {
+        None => Some(Profile::N),
+        Some(word) => profile(word.as_bytes()),
+    }
+}
+
+/// Returns the ROM that the word after `--rom` asks for, if any, or `None` if the word is wrong.
+pub fn rom_asked(word: Option<&str>) -> Option<Option<(u16, u16)>>
+    ensures { result ≡ rom_asked (option_map (λ w. w.now) word.entry) }
+{
+    match word {
+        None => Some(None),
+        Some(word) => match range(word.as_bytes()) {
+            None => None,
+            Some(rom) => Some(Some(rom)),
+        },
+    }
+}
+
+/// Returns the address that a word writes, or `None` if there is no word, or it writes none.
+pub fn address_asked(word: Option<&str>) -> Option<u16>
+    ensures { result ≡ option_and_then address_of (option_map (λ w. w.now) word.entry) }
+{
+    match word {
+        None => None,
+        Some(word) => address_of(word.as_bytes()),
+    }
+}
+
+/// Returns the number that at most eighteen decimal digits write, or `None` if a byte is no digit.
+fn decimal_number(word: &[u8]) -> Option<u64>
+    requires { length word.now ≤ 18 }
+    ensures { result ≡ decimal_number word.now }
+{
+    let mut value = 0u64;
+    for byte in word {
+        let digit = decimal_value(*byte)?;
+        value = value * 10 + digit as u64;
+    }
+    Some(value)
+}
+
+/// Returns a number of one to eighteen decimal digits, or `None` for any other word.
+fn number_of(word: &[u8]) -> Option<u64>
+    ensures { result ≡ number_of word.now }
+{
+    if word.is_empty() || word.len() > 18 {
+        return None;
+    }
+    decimal_number(word)
+}
+
+/// Returns how many steps the word after `--steps` asks for at most, or `None` if it is wrong.
+///
+/// Without the word, no number of steps ends a run.
+pub fn steps_asked(word: Option<&str>) -> Option<u64>
+    ensures { result ≡ steps_asked (option_map (λ w. w.now) word.entry) }
+{
+    match word {
+        None => Some(u64::MAX),
+        Some(word) => number_of(word.as_bytes()),
+    }
+}
+
+/// Returns how many events the word after `--history` of `mon` asks for, at most 65,536, or `None`
+/// if it is wrong.
+///
+/// Without the word, 65,536 are held.
+pub fn history_asked(word: Option<&str>) -> Option<u32>
+    ensures asked { result ≡ history_asked (option_map (λ w. w.now) word.entry) }
+    ensures within { IfSome result (λ history. history ≤ 65536) }
+{
+    match word {
+        None => Some(65536),
+        Some(word) => match number_of(word.as_bytes()) {
+            Some(number) if number <= 65536 => Some(number as u32),
+            _ => None,
+        },
+    }
+}
+
+/// Returns a sentence that says which of the values that were found is wrong, or `otherwise` where
+/// it is none of an option that several words have.
+pub fn wrong_value(matches: &ArgMatches<'_>, otherwise: &'static str) -> &'static str {
+    if port_asked(matches.get_str("port")).is_none() {
+        "--port takes four hex digits"
+    } else if rom_asked(matches.get_str("rom")).is_none() {
+        "--rom takes two addresses of four hex digits, as 8000-8FFF"
+    } else if profile_asked(matches.get_str("profile")).is_none() {
+        "--profile takes N or C"
+    } else if history_asked(matches.get_str("history")).is_none() {
+        "--history takes a number up to 65536"
+    } else if steps_asked(matches.get_str("steps")).is_none() {
+        "--steps takes a number of at most eighteen digits"
+    } else {
+        otherwise
+    }
+}
