@@ -1,12 +1,17 @@
 -- What the words of a command line ask for, by clap's definition of a parse, and why they are
 -- rejected. Source: mos65.
-use Rattle.std.specs.Prelude.{◌≡◌, ◌≢◌, ◌⊎◌, ℕ, List, [], Option}
+use Rattle.std.specs.Borrow.{Bor}
+use Rattle.std.specs.Prelude.{◌≡◌, ◌≢◌, ◌≤◌, ◌⊎◌, ℕ, List, [], ◌∷◌, Option, map}
 use Rattle.clap.specs.Words.{App, IsAmong, Text, fault_of, first_of, kind_of, matches_of}
 use Rattle.clap.specs.declared.error.Error.{Error}
 use Rattle.clap.specs.declared.error.kind.ErrorKind.{ErrorKind}
 use Rattle.clap.specs.declared.error.kind.ErrorKind.TheVariants as kind
 use Rattle.arguments.specs.declared.fault.WordsFault.{WordsFault}
 use Rattle.arguments.specs.declared.fault.WordsFault.TheVariants.{Help, OutOfMemory, Usage, Value, Wrong}
+
+-- The texts of words that a word of the program is called with.
+abbrev pub texts : List (Bor Text) → List Text
+texts words = map (λ s. s.now) words
 
 -- The words fit the command line.
 abbrev pub Fits : App → List Text → Type 0
@@ -63,3 +68,18 @@ pub record SaysOfWords (app : App) (words : List Text) (IsWrong : Type 0) (statu
   pub help : (status ≡ 0) ⊎ (status ≡ 4) → AsksForHelp app words
   pub never : status ≢ 1
   pub wrong : status ≡ 2 → Misfits app words ⊎ (Fits app words × IsWrong)
+
+-- What the exit status and the streams say of words that ask for nothing, since they do not fit or
+-- since a value is wrong, `IsWrong`. The input is left alone, `Unread`, and so is the output but for
+-- help, `Unwritten`.
+pub record Refuses (app : App) (words : List Text) (IsWrong : Type 0) (status : ℕ)
+    (Unread Unwritten : Type 0) : Type 0 where
+  pub untaken : ¬ Fits app words → Unread × (1 ≤ status → status ≤ 3 → Unwritten)
+  pub unasked : IsWrong → Unread × (1 ≤ status → status ≤ 3 → Unwritten)
+  -- Words that fit nothing have the status 2, unless they ask for help or memory runs out; help
+  -- that is asked for has 0 if it was written.
+  pub usage : ¬ Fits app words → ¬ AsksForHelp app words → (status ≡ 2) ⊎ (status ≡ 3)
+  pub help : fault_of app words ≡ kind.DisplayHelp ∷ []
+      → (status ≡ 0) ⊎ (status ≡ 3) ⊎ (status ≡ 4)
+  -- A wrong value has the status 2, unless memory runs out.
+  pub value : Fits app words → IsWrong → (status ≡ 2) ⊎ (status ≡ 3)

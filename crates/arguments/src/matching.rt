@@ -1,8 +1,8 @@
 //! Words, matched with a command line.
 
-ghost use Rattle.std.specs.Prelude.{◌≡◌, IsOkUnless, IfErr, IfOk, map, true};
+ghost use Rattle.std.specs.Prelude.{◌≡◌, IsOkUnless, IfErr, IfOk, true};
 ghost use Rattle.arguments.specs.Asked.{is_flag};
-ghost use Rattle.arguments.specs.Words.{Fits, IsMisfit, value_in};
+ghost use Rattle.arguments.specs.Words.{Fits, IsMisfit, texts, value_in};
 ghost use Rattle.clap.specs.Words.{app_of, first_value, found_of, is_simple, subcommand_of};
 ghost use Rattle.clap.specs.Words.{is_simple_and_free, subcommand_rows_of};
 
@@ -30,16 +30,16 @@ pub fn matched<'a>(command: Command<'a>, words: &'a [&'a str]) -> Result<ArgMatc
     requires simple { is_simple (app_of command) ≡ true }
     requires free { is_simple_and_free (app_of command) ≡ true }
     ensures fits { IfOk result (λ _. Fits (app_of command.entry)
-        (map (λ s. s.now) words.entry.now)) }
+        (texts words.entry.now)) }
     // What was found of each name, and of a subcommand, is what `clap`'s definition finds.
     ensures values { IfOk result (λ m. first_value (found_of m)
-        ≡ value_in (app_of command.entry) (map (λ s. s.now) words.entry.now)) }
+        ≡ value_in (app_of command.entry) (texts words.entry.now)) }
     ensures subcommand { IfOk result (λ m. subcommand_rows_of m
-        ≡ subcommand_of (app_of command.entry) (map (λ s. s.now) words.entry.now)) }
-    ensures served { Fits (app_of command.entry) (map (λ s. s.now) words.entry.now)
+        ≡ subcommand_of (app_of command.entry) (texts words.entry.now)) }
+    ensures served { Fits (app_of command.entry) (texts words.entry.now)
         → IsOkUnless result WordsFault.OutOfMemory }
     ensures refused { IfErr result (IsMisfit (app_of command.entry)
-        (map (λ s. s.now) words.entry.now)) }
+        (texts words.entry.now)) }
 {
     let matches = command.try_get_matches_from(words)?;
     Ok(matches)
