@@ -5,7 +5,8 @@ use Rattle.clap.specs.Words.{Row, Text, first_of, subcommand_of}
 use Rattle.arguments_core.specs.CommandLine.{mos65}
 use Rattle.model.specs.Commands.{address_of}
 use Rattle.model.specs.declared.instruction.Profile.{Profile}
-use Rattle.arguments_core.specs.Values.{history_asked, port_asked, profile_asked, rom_asked}
+use Rattle.arguments.specs.Asked.{is_flag}
+use Rattle.arguments.specs.Values.{debug_history_asked, port_asked, profile_asked, rom_asked}
 
 pub record AsmAsked : Type 0 where
   pub source : Text
@@ -58,11 +59,6 @@ dis_of (Some tape) (Some first) (Some last) (Some profile) =
     then Some (record { tape = tape; first = first; last = last; profile = profile }) else None
 dis_of tape first last profile = None
 
--- clap gives a flag that is there the value `true`
-abbrev pub is_flag : Option Text → Bool
-is_flag None = false
-is_flag (Some text) = bytes_eq text (codes "true")
-
 abbrev pub debug_of : Option Text → Bool → Option ℕ → Option ℕ → Option (Option (ℕ × ℕ))
     → Option Profile → Option DebugAsked
 debug_of (Some file) is_tape (Some history) (Some port) (Some rom) (Some profile) =
@@ -89,7 +85,7 @@ dis_asked value = dis_of (value (codes "TAPE")) (option_and_then address_of (val
 -- what the values of the names of `debug` ask for, where each is one that its name can have
 abbrev pub debug_asked : (Text → Option Text) → Option DebugAsked
 debug_asked value = debug_of (value (codes "FILE")) (is_flag (value (codes "tape")))
-    (history_asked (value (codes "history"))) (port_asked (value (codes "port")))
+    (debug_history_asked (value (codes "history"))) (port_asked (value (codes "port")))
     (rom_asked (value (codes "rom")))
     (profile_asked (value (codes "profile")))
 

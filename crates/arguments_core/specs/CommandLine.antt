@@ -2,21 +2,9 @@
 -- N|C]`, `dis TAPE LO HI [--profile N|C]` or `debug FILE [--tape] [--history N] [--port HHHH]
 -- [--rom LO-HI] [--profile N|C]`, as clap's definitions describe one. How words are matched with it
 -- is clap's to say.
-use Rattle.std.specs.Prelude.{true, Some, codes}
-use Rattle.clap.specs.Words.{App, Rule, Text, new_app, new_rule, with_rule, with_subcommand}
-use Rattle.clap.specs.declared.builder.action.ArgAction.TheVariants.{Set, SetTrue}
-
--- a word that has to be there
-abbrev pub file_rule : Text → Rule
-file_rule name = record (new_rule name) { required = true; action = Some Set }
-
--- an option with no value, as `--tape`
-abbrev pub flag_rule : Text → Rule
-flag_rule name = record (new_rule name) { long = Some name; action = Some SetTrue }
-
--- an option with one value, as `--port HHHH` or `--port=HHHH`
-abbrev pub option_rule : Text → Rule
-option_rule name = record (new_rule name) { long = Some name; action = Some Set; value_names = 1 }
+use Rattle.std.specs.Prelude.{true, codes}
+use Rattle.clap.specs.Words.{App, new_app, with_rule, with_subcommand}
+use Rattle.arguments.specs.CommandLine.{file_rule, flag_rule, option_rule}
 
 abbrev pub asm : App
 asm = with_rule (with_rule (with_rule (with_rule (with_rule (new_app (codes "asm"))

@@ -1,65 +1,16 @@
 //! The command line as it is described to `clap`.
-ghost use Rattle.std.specs.Prelude.{◌≡◌, IfErr, IfOk, codes, false};
-ghost use Rattle.clap.specs.Words.{app_of, kind_of, rule_of};
+ghost use Rattle.std.specs.Prelude.{◌≡◌, IfErr, IfOk, false};
+ghost use Rattle.clap.specs.Words.{app_of, kind_of};
 ghost use Rattle.clap.specs.declared.builder.command.Command.TheViews.{out-Command};
-ghost use Rattle.arguments_core.specs.CommandLine.{asm, debug, dis, file_rule, flag_rule, mos65};
-ghost use Rattle.arguments_core.specs.CommandLine.{option_rule};
+ghost use Rattle.arguments_core.specs.CommandLine.{asm, debug, dis, mos65};
 
+use arguments::{file, option, port, profile, rom, tape};
 use clap::error::ErrorKind;
-use clap::{Arg, ArgAction, Command, Error};
+use clap::{Command, Error};
 use std::alloc::Global;
 
-/// Returns a word that has to be there.
-fn file<'a>(alloc: Global, name: &'a str, help: &'a str) -> Arg<'a>
-    ensures rule { rule_of result ≡ file_rule name.entry.now }
-    ensures local { result.global ≡ false }
-{
-    Arg::new(alloc, name)
-        .required(true)
-        .action(ArgAction::Set)
-        .help(help)
-}
-
-/// Returns an option that takes no value.
-fn flag<'a>(alloc: Global, name: &'a str, help: &'a str) -> Arg<'a>
-    ensures rule { rule_of result ≡ flag_rule name.entry.now }
-    ensures local { result.global ≡ false }
-{
-    Arg::new(alloc, name)
-        .long(name)
-        .action(ArgAction::SetTrue)
-        .help(help)
-}
-
-/// Returns an option with one value.
-fn option<'a>(alloc: Global, name: &'a str, value: &'a str, help: &'a str) -> Arg<'a>
-    ensures rule { rule_of result ≡ option_rule name.entry.now }
-    ensures local { result.global ≡ false }
-{
-    Arg::new(alloc, name)
-        .long(name)
-        .value_name(value)
-        .action(ArgAction::Set)
-        .help(help)
-}
-
-fn port<'a>(alloc: Global) -> Arg<'a>
-    ensures rule { rule_of result ≡ option_rule (codes "port") }
-    ensures local { result.global ≡ false }
-{
-    let help = "The first of the port's four addresses, four hex digits [default: F000]";
-    option(alloc, "port", "HHHH", help)
-}
-
-fn profile<'a>(alloc: Global) -> Arg<'a>
-    ensures rule { rule_of result ≡ option_rule (codes "profile") }
-    ensures local { result.global ≡ false }
-{
-    let help = "The processor, N or C: C has 19 opcodes more [default: N]";
-    option(alloc, "profile", "N|C", help)
-}
-
-fn asm_command<'a>(alloc: Global) -> Result<Command<'a>, Error>
+/// Returns the command line of `asm`. The only error is that an allocation failed.
+pub fn asm_command<'a>(alloc: Global) -> Result<Command<'a>, Error>
     ensures shape { IfOk result (λ c. app_of c ≡ asm) }
     ensures local { IfOk result (λ c. (out-Command c).has_globals ≡ false) }
     ensures memory { IfErr result (λ e. kind_of e ≡ ErrorKind.OutOfMemory) }
@@ -76,7 +27,8 @@ fn asm_command<'a>(alloc: Global) -> Result<Command<'a>, Error>
     Ok(command)
 }
 
-fn dis_command<'a>(alloc: Global) -> Result<Command<'a>, Error>
+/// Returns the command line of `dis`. The only error is that an allocation failed.
+pub fn dis_command<'a>(alloc: Global) -> Result<Command<'a>, Error>
     ensures shape { IfOk result (λ c. app_of c ≡ dis) }
     ensures local { IfOk result (λ c. (out-Command c).has_globals ≡ false) }
     ensures memory { IfErr result (λ e. kind_of e ≡ ErrorKind.OutOfMemory) }
@@ -105,21 +57,21 @@ With --strict the status is 5 where a reply began with ? or !, or a run ended in
 Example:
   mos65 debug hello.a65 --history 4096 --rom 8000-8FFF";
 
-fn debug_command<'a>(alloc: Global) -> Result<Command<'a>, Error>
+/// Returns the command line of `debug`. The only error is that an allocation failed.
+pub fn debug_command<'a>(alloc: Global) -> Result<Command<'a>, Error>
     ensures shape { IfOk result (λ c. app_of c ≡ debug) }
     ensures local { IfOk result (λ c. (out-Command c).has_globals ≡ false) }
     ensures memory { IfErr result (λ e. kind_of e ≡ ErrorKind.OutOfMemory) }
 {
     let history = "How many events can be undone, at most 65536 [default: 1024]";
-    let rom = "The addresses that the program cannot write [default: none]";
     let command = Command::new(alloc, "debug")
         .about("Debugs a source: commands on standard input, replies on standard output")
         .after_help(COMMANDS)
         .arg(file(alloc, "FILE", "The source to assemble and load"))?
-        .arg(flag(alloc, "tape", "FILE is a tape, not a source"))?
+        .arg(tape(alloc))?
         .arg(option(alloc, "history", "N", history))?
         .arg(port(alloc))?
-        .arg(option(alloc, "rom", "LO-HI", rom))?
+        .arg(rom(alloc))?
         .arg(profile(alloc))?;
     Ok(command)
 }

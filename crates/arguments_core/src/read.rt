@@ -1,28 +1,21 @@
 //! From words to what they ask for.
-ghost use Rattle.std.specs.Prelude.{◌≡◌, ◌⊎◌, Err, None, Some, IsOkUnless, IfErr, IfOk, codes, map};
+ghost use Rattle.std.specs.Prelude.{◌≡◌, ◌⊎◌, Err, None, Some, IsOkUnless, IfErr, IfOk};
 ghost use Rattle.std.specs.Prelude.{option_map};
+ghost use Rattle.arguments.specs.Words.{texts};
 ghost use Rattle.clap.specs.Words.{first_value, found_of, subcommand_rows_of};
 ghost use Rattle.arguments_core.specs.Asked.{Asked, asked, asked_of, asm_asked, debug_asked, dis_asked};
-ghost use Rattle.arguments_core.specs.Asked.{is_flag, overwrites};
+ghost use Rattle.arguments_core.specs.Asked.{overwrites};
 ghost use Rattle.arguments_core.specs.Refused.{IsRightRefusal, IsTaken};
 ghost use Rattle.arguments_core.specs.Views.{asm_view, debug_view, dis_view, view};
 
 use crate::asked::{AsmWords, DebugWords, DisWords, Words};
 use crate::command::command;
-use crate::fault::WordsFault;
-use crate::value::{address_asked, history_asked, port_asked, profile_asked, rom_asked};
+use arguments::{
+    WordsFault, address_asked, debug_history_asked, is_given, matched, port_asked, profile_asked,
+    rom_asked,
+};
 use clap::ArgMatches;
 use std::alloc::Global;
-
-/// Returns whether a flag is among the words.
-pub fn is_given(matches: &ArgMatches<'_>, name: &str) -> bool
-    ensures { result ≡ is_flag (first_value (found_of matches.now) name.now) }
-{
-    match matches.get_str(name) {
-        Some(value) => value == "true",
-        None => false,
-    }
-}
 
 /// Returns whether a file to write has the name of the source, or of the other file to write.
 ///
@@ -83,7 +76,7 @@ fn debug_words<'a>(matches: &ArgMatches<'a>) -> Option<DebugWords<'a>>
     ensures { option_map debug_view result ≡ debug_asked (first_value (found_of matches.now)) }
 {
     let file = matches.get_str("FILE")?;
-    let history = history_asked(matches.get_str("history"))?;
+    let history = debug_history_asked(matches.get_str("history"))?;
     let port = port_asked(matches.get_str("port"))?;
     let rom = rom_asked(matches.get_str("rom"))?;
     let profile = profile_asked(matches.get_str("profile"))?;
@@ -124,16 +117,16 @@ fn asked<'a>(matches: &ArgMatches<'a>) -> Option<Words<'a>>
 ///   name.
 /// - `OutOfMemory`: an allocation failed.
 pub fn read_words<'a>(alloc: Global, words: &'a [&'a str]) -> Result<Words<'a>, WordsFault>
-    ensures asked { IfOk result (λ w. asked (map (λ s. s.now) words.entry.now) ≡ Some (view w)) }
-    ensures taken { IfOk result (λ w. IsTaken (map (λ s. s.now) words.entry.now)) }
-    ensures served { (a : Asked) → IsTaken (map (λ s. s.now) words.entry.now) → asked
-        (map (λ s. s.now) words.entry.now) ≡ Some a → IsOkUnless result WordsFault.OutOfMemory }
-    ensures wrong { IsTaken (map (λ s. s.now) words.entry.now)
-        → asked (map (λ s. s.now) words.entry.now) ≡ None
+    ensures asked { IfOk result (λ w. asked (texts words.entry.now) ≡ Some (view w)) }
+    ensures taken { IfOk result (λ w. IsTaken (texts words.entry.now)) }
+    ensures served { (a : Asked) → IsTaken (texts words.entry.now) → asked
+        (texts words.entry.now) ≡ Some a → IsOkUnless result WordsFault.OutOfMemory }
+    ensures wrong { IsTaken (texts words.entry.now)
+        → asked (texts words.entry.now) ≡ None
         → (result ≡ Err WordsFault.Value) ⊎ (result ≡ Err WordsFault.OutOfMemory) }
-    ensures refused { IfErr result (IsRightRefusal (map (λ s. s.now) words.entry.now)) }
+    ensures refused { IfErr result (IsRightRefusal (texts words.entry.now)) }
 {
-    let matches = command(alloc)?.try_get_matches_from(words)?;
+    let matches = matched(command(alloc)?, words)?;
     match asked(&matches) {
         Some(words) => Ok(words),
         None => Err(WordsFault::Value),

@@ -5,7 +5,8 @@ use Rattle.std.specs.Prelude.{OnErr}
 use Rattle.std.specs.Result.{IsErrAnd}
 use Rattle.assembler.specs.Assembly.{out_of_memory}
 use Rattle.engine.specs.Outcome.{Reaches, Serves}
-use Rattle.engine.specs.Refusals.{of_source, of_source_kind, of_tape, of_tape_kind, of_tape_read, IfSession, IfSource, IfTape}
+use Rattle.arguments.specs.Refusals.{of_source, of_source_kind, of_tape_kind, of_tape_read}
+use Rattle.engine.specs.Refusals.{IfSession, IfSource, IfTape}
 use Rattle.engine.specs.TapeReads.{ReachesFrom}
 use Rattle.engine.specs.declared.fault.EngineFault.{EngineFault}
 use Rattle.engine.specs.declared.fault.EngineFault.TheVariants as engine_fault
@@ -31,8 +32,8 @@ use Rattle.papertape.specs.declared.stream.TapeReadFault.TheVariants as tape_rea
 use Rattle.program.specs.Refusals.{EndsAsm, EndsDebug, EndsDis, of_engine}
 use Rattle.program.specs.Streams.{IsListed, IsServed}
 use Rattle.program.specs.Texts.{ReadsText, ShowsText}
-use Rattle.program.specs.declared.refusal.Refusal.{Refusal}
-use Rattle.program.specs.declared.refusal.Refusal.TheVariants.{Write}
+use Rattle.arguments.specs.declared.refusal.Refusal.{Refusal}
+use Rattle.arguments.specs.declared.refusal.Refusal.TheVariants.{OutOfMemory, Source, Tape, Write}
 
 -- ---- a source that was refused
 
@@ -59,22 +60,22 @@ pub not_refused : {A E : Type 0} (a : A) (f g : E) → (Ok a ≡ Err f) ⊎ (Ok 
 not_refused a f g (inl e) = absurd cc
 not_refused a f g (inr e) = absurd cc
 
-either : (kind : AsmFaultKind) (f : AsmFault) → (of_source_kind kind f ≡ engine_fault.Source f) ⊎ (of_source_kind kind f ≡ engine_fault.OutOfMemory)
+either : (kind : AsmFaultKind) (f : AsmFault) → (of_source_kind kind f ≡ Source f) ⊎ (of_source_kind kind f ≡ OutOfMemory)
 either source_fault.OutOfMemory f = inr refl
 either _ f = inl refl
 
-pub ends_asm : {X : Type 0} (result : Result X Refusal) (map wanted : Map) (source : List ℕ) (f : AsmFault) → IsErrAnd result (λ e. e ≡ of_engine (of_source f)) → map ≡ wanted
+pub ends_asm : {X : Type 0} (result : Result X Refusal) (map wanted : Map) (source : List ℕ) (f : AsmFault) → IsErrAnd result (λ e. e ≡ of_source f) → map ≡ wanted
     → (f ≡ out_of_memory) ⊎ HasFault map source f → IfErr result (EndsAsm wanted)
 ends_asm (Ok x) map wanted source f h same why = absurd h
-ends_asm (Err e) map wanted source f h same (inl memory) = subst (EndsAsm wanted) (sym (h ∙ ap (λ g. of_engine (of_source g)) memory)) tt
+ends_asm (Err e) map wanted source f h same (inl memory) = subst (EndsAsm wanted) (sym (h ∙ ap of_source memory)) tt
 ends_asm (Err e) map wanted source f h same (inr fault) = elim (either f.kind f) [
-  | inl s ↦ subst (EndsAsm wanted) (sym (h ∙ ap of_engine s)) (source, subst (λ m. HasFault m source f) same fault)
-  | inr m ↦ subst (EndsAsm wanted) (sym (h ∙ ap of_engine m)) tt
+  | inl s ↦ subst (EndsAsm wanted) (sym (h ∙ s)) (source, subst (λ m. HasFault m source f) same fault)
+  | inr m ↦ subst (EndsAsm wanted) (sym (h ∙ m)) tt
 ]
 
 -- ---- a tape that was listed, or was not
 
-tape_either : (kind : TapeFaultKind) (f : TapeFault) → (of_tape_kind kind f ≡ engine_fault.Tape f) ⊎ (of_tape_kind kind f ≡ engine_fault.OutOfMemory)
+tape_either : (kind : TapeFaultKind) (f : TapeFault) → (of_tape_kind kind f ≡ Tape f) ⊎ (of_tape_kind kind f ≡ OutOfMemory)
 tape_either tape_fault.OutOfMemory f = inr refl
 tape_either _ f = inl refl
 
@@ -188,26 +189,26 @@ reads_text image before now (told, c, shows) = (told, c, (shows.0, (image, shows
 pub reads_memory : (image : Image) (before now : Option (List ℕ)) → Reads before now (read_ok image) → ReadsText before now (read_err (tape_read_fault.Tape tape_out_of_memory))
 reads_memory image before now (told, c, shows) = (told, c, inl (refl, inl (shows.0, (image, shows.1))))
 
-dis_refusal : (a : Option (List ℕ)) (f : TapeReadFault) → EndsReading a f → EndsDis (of_engine (of_tape_read f))
+dis_refusal : (a : Option (List ℕ)) (f : TapeReadFault) → EndsReading a f → EndsDis (of_tape_read f)
 dis_refusal a tape_read_fault.Read h = tt
-dis_refusal a (tape_read_fault.Tape g) (inl memory) = subst EndsDis (sym (ap (λ x. of_engine (of_tape x)) memory)) tt
+dis_refusal a (tape_read_fault.Tape g) (inl memory) = subst EndsDis (sym (ap (λ (x : TapeFault). of_tape_kind x.kind x) memory)) tt
 dis_refusal a (tape_read_fault.Tape g) (inr refused) = elim (tape_either g.kind g) [
-  | inl s ↦ subst EndsDis (sym (ap of_engine s)) (refused.0, refused.2)
-  | inr m ↦ subst EndsDis (sym (ap of_engine m)) tt
+  | inl s ↦ subst EndsDis (sym s) (refused.0, refused.2)
+  | inr m ↦ subst EndsDis (sym m) tt
 ]
 
-pub ends_dis : {X : Type 0} (result : Result X Refusal) (a : Option (List ℕ)) (f : TapeReadFault) → IsErrAnd result (λ e. e ≡ of_engine (of_tape_read f)) → EndsReading a f → IfErr result EndsDis
+pub ends_dis : {X : Type 0} (result : Result X Refusal) (a : Option (List ℕ)) (f : TapeReadFault) → IsErrAnd result (λ e. e ≡ of_tape_read f) → EndsReading a f → IfErr result EndsDis
 ends_dis (Ok x) a f h why = absurd h
 ends_dis (Err e) a f h why = subst EndsDis (sym h) (dis_refusal a f why)
 
 -- Nothing was listed.
 pub none_listed : (result : Result (Unit {0}) Refusal) (profile : Profile) (first last : ℕ) (held now : Option (List ℕ)) (Alone : Type 0) (f : TapeReadFault)
-    → IsErrAnd result (λ e. e ≡ of_engine (of_tape_read f)) → Alone → IsListed profile first last held now result Alone
+    → IsErrAnd result (λ e. e ≡ of_tape_read f) → Alone → IsListed profile first last held now result Alone
 none_listed (Ok x) profile first last held now Alone f h alone = absurd h
 none_listed (Err e) profile first last held now Alone tape_read_fault.Read h alone = subst (λ r. IsListed profile first last held now (Err r) Alone) (sym h) alone
 none_listed (Err e) profile first last held now Alone (tape_read_fault.Tape g) h alone = elim (tape_either g.kind g) [
-  | inl s ↦ subst (λ r. IsListed profile first last held now (Err r) Alone) (sym (h ∙ ap of_engine s)) alone
-  | inr m ↦ subst (λ r. IsListed profile first last held now (Err r) Alone) (sym (h ∙ ap of_engine m)) alone
+  | inl s ↦ subst (λ r. IsListed profile first last held now (Err r) Alone) (sym (h ∙ s)) alone
+  | inr m ↦ subst (λ r. IsListed profile first last held now (Err r) Alone) (sym (h ∙ m)) alone
 ]
 
 abbrev refusal_in : Refusal → Result (Unit {0}) Refusal → Refusal

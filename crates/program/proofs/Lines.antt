@@ -2,17 +2,12 @@
 use Rattle.std.proofs.Common.{◌≤◌, ℕ, List, [], Option, Result, Ok, Err, ◌⊎◌, inl, inr, sym, append-nil, arith, subst}
 use Rattle.clap.specs.Words.{IsAmong, Text, kind_of}
 use Rattle.model.specs.Writers.{AppendsFront, Writes}
-use Rattle.program.specs.FaultLines.{IsTold, IsToldOfWords}
-use Rattle.program.specs.Statuses.{IsStatusOf}
-use Rattle.program.specs.declared.refusal.Refusal.TheVariants as refusal
+use Rattle.arguments.specs.FaultLines.{IsTold, IsToldOfWords}
+use Rattle.arguments.specs.Words.{IsStatusOf}
+use Rattle.arguments.specs.declared.refusal.Refusal.TheVariants as refusal
 use Rattle.arguments_core.specs.Refused.{IsRightRefusal, IsTaken}
-use Rattle.arguments_core.specs.declared.fault.WordsFault.{WordsFault}
-use Rattle.arguments_core.specs.declared.fault.WordsFault.TheVariants.{Help, Usage, Value, OutOfMemory}
-
--- All of a text is a beginning of it.
-pub front_of : {X E : Type 0} (a b : Option (List ℕ)) (xs : List ℕ) (r : Result X E) → Writes a b xs r → AppendsFront a b xs
-front_of a b xs (Ok x) p = (xs, [], sym (append-nil xs), p)
-front_of a b xs (Err e) p = p
+use Rattle.arguments.specs.declared.fault.WordsFault.{WordsFault}
+use Rattle.arguments.specs.declared.fault.WordsFault.TheVariants.{Help, Usage, Value, Wrong, OutOfMemory}
 
 -- Rejected words have a fault line, unless they do not fit the command line and the status is 2.
 pub told_of_words : (fault : WordsFault) (words : List Text) (status : ℕ) (held now : Option (List ℕ)) → IsRightRefusal words fault → IsStatusOf fault status
@@ -23,5 +18,6 @@ told_of_words (Help text) words status held now right is told some which = elim 
 ]
 told_of_words (Usage text) words status held now right is told some (inl taken) = absurd (subst (λ faults. IsAmong (kind_of text) faults) taken right.1)
 told_of_words (Usage text) words status held now right is told some (inr three) = absurd (omega (arith, is, three))
+told_of_words (Wrong which) words status held now right is told some way = absurd right
 told_of_words Value words status held now right is told some which = (refusal.Words, is, told)
 told_of_words OutOfMemory words status held now right is told some which = (refusal.OutOfMemory, is, told)

@@ -5,10 +5,10 @@ use Rattle.std.specs.Io.KnownBytes.{Appends}
 use Rattle.model.specs.Event.{start}
 use Rattle.model.specs.Session.{new_session}
 use Rattle.model.specs.Transcript.{transcript}
-use Rattle.program.specs.Statuses.{status_of}
+use Rattle.arguments.specs.Statuses.{status_of}
 use Rattle.program.specs.Streams.{IsServed}
-use Rattle.program.specs.declared.refusal.Refusal.{Refusal}
-use Rattle.program.specs.declared.refusal.Refusal.TheVariants.{Words, Map, Source, Tape, Session, OutOfMemory, Read, Write}
+use Rattle.arguments.specs.declared.refusal.Refusal.{Refusal}
+use Rattle.arguments.specs.declared.refusal.Refusal.TheVariants.{Words, Map, Source, Tape, Session, OutOfMemory, Read, Write}
 use Rattle.arguments_core.specs.Asked.{Asked, DebugAsked, debug}
 
 -- Words ask for one thing.

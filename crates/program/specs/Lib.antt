@@ -1,5 +1,3 @@
-pub mod FaultLines
 pub mod Refusals
-pub mod Statuses
 pub mod Streams
 pub mod Texts

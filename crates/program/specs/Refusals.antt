@@ -8,11 +8,10 @@ use Rattle.model.specs.declared.bus_fault.BusFault.TheVariants.{BadMap}
 use Rattle.model.specs.declared.session_fault.SessionFault.TheVariants.{PortAddress}
 use Rattle.engine.specs.declared.fault.EngineFault.{EngineFault}
 use Rattle.engine.specs.declared.fault.EngineFault.TheVariants as engine_fault
-use Rattle.program.specs.declared.refusal.Refusal.{Refusal}
-use Rattle.program.specs.declared.refusal.Refusal.TheVariants.{Words, Map, Source, Tape, Session, OutOfMemory, Read, Write}
+use Rattle.arguments.specs.declared.refusal.Refusal.{Refusal}
+use Rattle.arguments.specs.declared.refusal.Refusal.TheVariants.{Words, Map, Source, Tape, Session, OutOfMemory, Read, Write}
 
--- The refusal of an engine's fault. A part's own fault is first the engine's, so that running out
--- of memory in any part is one fault.
+-- The refusal of an engine's fault.
 abbrev pub of_engine : EngineFault → Refusal
 of_engine (engine_fault.Source fault) = Source fault
 of_engine (engine_fault.Tape fault) = Tape fault

@@ -11,9 +11,9 @@ use Rattle.model.specs.Session.{new_session}
 use Rattle.model.specs.State.{memory_of}
 use Rattle.model.specs.Writers.{AppendsFront}
 use Rattle.model.specs.declared.instruction.Profile.{Profile}
-use Rattle.program.specs.Statuses.{status_of}
-use Rattle.program.specs.declared.refusal.Refusal.{Refusal}
-use Rattle.program.specs.declared.refusal.Refusal.TheVariants.{OutOfMemory, Read, Write}
+use Rattle.arguments.specs.Statuses.{status_of}
+use Rattle.arguments.specs.declared.refusal.Refusal.{Refusal}
+use Rattle.arguments.specs.declared.refusal.Refusal.TheVariants.{OutOfMemory, Read, Write}
 
 -- A session that starts with some image was served, and its serving ended so. No clause can say
 -- which image a file stands for.

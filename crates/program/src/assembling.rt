@@ -1,6 +1,7 @@
 //! `asm`: a source to the text of its tape, and to its listing.
 ghost use Rattle.std.specs.Prelude.{◌≡◌, ◌⊎◌, ℕ, List, None, Option, Some, Err, IfErr, IfOk};
 ghost use Rattle.std.specs.Prelude.{IfSome, MatchResult, false, if◌then◌else◌, option_map};
+ghost use Rattle.arguments.specs.Files.{EndsWriting};
 ghost use Rattle.assembler.specs.Assembly.{listing_of, out_of_memory};
 ghost use Rattle.model.specs.Listing.{IsListing};
 ghost use Rattle.model.specs.Source.{Denotes, HasFault};
@@ -11,8 +12,7 @@ ghost use Rattle.model.specs.declared.source_fault.AsmFault.{AsmFault};
 ghost use Rattle.program.specs.Refusals.{EndsAsm};
 ghost use Rattle.program.specs.Texts.{IsAsked};
 
-use crate::map::map_of;
-use crate::refusal::Refusal;
+use arguments::{Refusal, map_of, read_source, write_file};
 use assembler::{Assembly, assemble};
 use bus::MapSpec;
 use law_sources::{each_source_has_one_meaning, one_assignment};
@@ -20,23 +20,7 @@ use model::{AsmFault, AsmFaultKind};
 use papertape::write_tape;
 use arguments_core::AsmWords;
 use std::alloc::Global;
-use std::fs::File;
-use std::io::Read;
 use std::rt::Files;
-use std::{fs, io};
-
-/// One byte more than the longest source, so that a longer file is rejected for its size without
-/// being read to its end.
-const MOST_READ: u64 = 1_048_577;
-
-/// Returns the bytes of a source's file, or the first of them if it is too long for a source.
-pub fn read_source<H: Files + AllocGlobal>(rt: &H, path: &str) -> io::Result<Vec<u8>> {
-    let mut source = Vec::new(rt.alloc());
-    File::open(rt, path)?
-        .take(MOST_READ)
-        .read_to_end(&mut source)?;
-    Ok(source)
-}
 
 /// The texts that `mos65 asm` writes.
 #[derive(Debug, Drop)]
@@ -114,16 +98,9 @@ pub fn asm_texts(
     }
 }
 
-/// Writes a text to a file of that name. A file that is there is replaced.
-fn write_file<H: Files>(rt: &H, file: &str, text: &[u8]) -> Result<(), Refusal>
-    ensures only { IfErr result (λ e. (e ≡ Refusal.OutOfMemory) ⊎ (e ≡ Refusal.Write)) }
-{
-    fs::write(rt, file, text).map_err(|error| Refusal::unwritable(&error))
-}
-
 /// Writes the tape's file, and then the listing's if there is a listing.
 fn write_texts<H: Files>(rt: &H, words: &AsmWords<'_>, texts: &AsmTexts) -> Result<(), Refusal>
-    ensures only { IfErr result (λ e. (e ≡ Refusal.OutOfMemory) ⊎ (e ≡ Refusal.Write)) }
+    ensures only { IfErr result EndsWriting }
 {
     write_file(rt, words.tape, texts.tape.as_slice())?;
     match (words.listing, &texts.listing) {
@@ -141,7 +118,7 @@ pub fn asm<H: Files + AllocGlobal>(rt: &H, words: &AsmWords<'_>) -> Result<(), R
         (EndsAsm (record { profile = words.now.profile; rom = None; port = words.now.port })) }
 {
     let map = map_of(words.profile, None, words.port)?;
-    let source = read_source(rt, words.source).map_err(|error| Refusal::unreadable(&error))?;
+    let source = read_source(rt, words.source)?;
     let is_listed = words.listing.is_some();
     let texts = asm_texts(rt.alloc(), source.as_slice(), &map, is_listed)?;
     write_texts(rt, words, &texts)

@@ -5,9 +5,7 @@ ghost use Rattle.model.specs.declared.bus_fault.BusFault.TheVariants.{BadMap};
 ghost use Rattle.program.specs.Refusals.{EndsDebug, of_engine};
 ghost use Rattle.program.specs.Streams.{IsServed};
 
-use crate::assembling::read_source;
-use crate::map::map_of;
-use crate::refusal::Refusal;
+use arguments::{Refusal, map_of, read_source};
 use engine::{EngineFault, debug_source, debug_tape_from};
 use arguments_core::DebugWords;
 use std::fs::File;
@@ -41,7 +39,7 @@ pub fn debug<H: Files + AllocGlobal, R: Read, O: Write>(
         let mut tape = opened(rt, words.file).map_err(|error| Refusal::unreadable(&error))?;
         answered(debug_tape_from(alloc, map, history, &mut tape, input, output))
     } else {
-        let source = read_source(rt, words.file).map_err(|error| Refusal::unreadable(&error))?;
+        let source = read_source(rt, words.file)?;
         answered(debug_source(alloc, map, history, source.as_slice(), input, output))
     }
 }
@@ -57,12 +55,26 @@ fn opened<H: Files>(rt: &H, path: &str) -> io::Result<H::File> {
     file
 }
 
+/// Returns the refusal of an engine's fault.
+fn of_engine(fault: EngineFault) -> Refusal
+    ensures { result ≡ of_engine fault }
+{
+    match fault {
+        EngineFault::Source(fault) => Refusal::Source(fault),
+        EngineFault::Tape(fault) => Refusal::Tape(fault),
+        EngineFault::Session(fault) => Refusal::Session(fault),
+        EngineFault::Read => Refusal::Read,
+        EngineFault::Write => Refusal::Write,
+        EngineFault::OutOfMemory => Refusal::OutOfMemory,
+    }
+}
+
 /// Returns the engine's result as the program's own.
 fn answered(answer: Result<(), EngineFault>) -> Result<(), Refusal>
     ensures { MatchResult answer (λ _. result ≡ Ok tt) (λ fault. result ≡ Err (of_engine fault)) }
 {
     match answer {
         Ok(()) => Ok(()),
-        Err(fault) => Err(Refusal::from(fault)),
+        Err(fault) => Err(of_engine(fault)),
     }
 }

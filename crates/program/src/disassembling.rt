@@ -14,12 +14,11 @@ ghost use Rattle.program.specs.Refusals.{EndsDis};
 ghost use Rattle.program.specs.Streams.{IsListed};
 ghost use Rattle.program.specs.Texts.{ReadsText};
 
-use crate::refusal::Refusal;
+use arguments::Refusal;
 use disasm::disassembly;
 use model::{Profile, TAPE_OUT_OF_MEMORY};
 use papertape::{TapeReadFault, read_tape_from};
 use arguments_core::DisWords;
-use replies::put;
 use std::alloc::Global;
 use std::fs::File;
 use std::io::{Read, Write};
@@ -73,11 +72,8 @@ fn write_text<O: Write>(output: &mut O, text: &[u8]) -> Result<(), Refusal>
     ensures writes { Writes (O.contents output.old) (O.contents output.new) text.now result }
     ensures only { OnErr result (result ≡ Err Refusal.Write) }
 {
-    match put(output, text) {
-        Ok(()) => match output.flush() {
-            Ok(()) => Ok(()),
-            Err(_) => Err(Refusal::Write),
-        },
+    match arguments::write_text(output, text) {
+        Ok(()) => Ok(()),
         Err(_) => Err(Refusal::Write),
     }
 }

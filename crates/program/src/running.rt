@@ -1,6 +1,6 @@
 //! What the program does with its words.
 ghost use Rattle.std.specs.Prelude.{◌≡◌, ◌≤◌, ◌⊎◌, ℕ, List, [], ◌∷◌, Option, Result, Some, None};
-ghost use Rattle.std.specs.Prelude.{IfSome, MatchResult, ⊤, true, false, map};
+ghost use Rattle.std.specs.Prelude.{IfSome, ⊤, true, false};
 ghost use Rattle.std.specs.IoError.{error_kind};
 ghost use Rattle.std.specs.Io.KnownBytes.{Appends};
 ghost use Rattle.clap.specs.Words.{IsAmong, fault_of};
@@ -9,11 +9,10 @@ ghost use Rattle.model.specs.Event.{start};
 ghost use Rattle.model.specs.Session.{new_session};
 ghost use Rattle.model.specs.State.{is_map};
 ghost use Rattle.model.specs.Transcript.{transcript};
-ghost use Rattle.model.specs.Writers.{AppendsFront};
-ghost use Rattle.program.specs.FaultLines.{IsTold, IsToldOfWords, fault_line};
-ghost use Rattle.program.specs.Statuses.{IsStatusOf, status_of};
+ghost use Rattle.arguments.specs.FaultLines.{IsTold};
+ghost use Rattle.arguments.specs.Words.{texts};
+ghost use Rattle.arguments.specs.declared.refusal.Refusal.{Refusal};
 ghost use Rattle.program.specs.Streams.{IsListed, IsServed, IsStatus};
-ghost use Rattle.program.specs.declared.refusal.Refusal.{Refusal};
 ghost use Rattle.arguments_core.specs.Asked.{AsmAsked, DebugAsked, DisAsked, asked, asm, debug, dis};
 ghost use Rattle.arguments_core.specs.CommandLine.{mos65};
 ghost use Rattle.arguments_core.specs.Refused.{IsTaken};
@@ -21,58 +20,11 @@ ghost use Rattle.arguments_core.specs.Refused.{IsTaken};
 use crate::assembling::asm;
 use crate::debugging::debug;
 use crate::disassembling::dis;
-use crate::fault_line::put_fault_line;
-use crate::refusal::Refusal;
-use arguments_core::{Words, WordsFault, read_words};
+use arguments::{Refusal, finish, refuse, refused_words};
+use arguments_core::{Words, read_words};
 use std::io;
 use std::io::{ErrorKind, Read, Write};
 use std::rt::Files;
-
-/// Writes the fault line, and returns the exit status, even if the line cannot be written.
-pub fn refuse<E: Write>(refusal: Refusal, errors: &mut E) -> u8
-    ensures status { result ≡ status_of refusal }
-    ensures told { AppendsFront (E.contents errors.old) (E.contents errors.new)
-        (fault_line refusal) }
-{
-    put_fault_line(refusal, errors);
-    refusal.status()
-}
-
-/// Returns the exit status of what was tried: 0 if it is done; otherwise a fault line is written.
-pub fn finish<E: Write>(outcome: Result<(), Refusal>, errors: &mut E) -> u8
-    ensures status { MatchResult outcome (λ _. result ≡ 0) (λ refusal. result ≡ status_of refusal) }
-    ensures quiet { result ≡ 0 → errors.new ≡ errors.old }
-    ensures told { 1 ≤ result → IsTold result (E.contents errors.old) (E.contents errors.new) }
-{
-    match outcome {
-        Ok(()) => 0,
-        Err(refusal) => refuse(refusal, errors),
-    }
-}
-
-/// Writes why words are rejected, or the help that they ask for, and returns the exit status.
-///
-/// It is 0 if the help was written, 2 if the words are wrong, 3 if memory ran out, and 4 if the
-/// help could not be written. A line that cannot be written on `errors` changes no status.
-pub fn refused_words<O: Write, E: Write>(fault: WordsFault, output: &mut O, errors: &mut E) -> u8
-    ensures status { IsStatusOf fault result }
-    ensures untouched { 1 ≤ result → result ≤ 3 → output.new ≡ output.old }
-    ensures quiet { result ≡ 0 → errors.new ≡ errors.old }
-    ensures told { IsToldOfWords fault result (E.contents errors.old) (E.contents errors.new) }
-{
-    match fault {
-        WordsFault::Help(text) => match write!(output, "{text}") {
-            Ok(()) => 0,
-            Err(_) => refuse(Refusal::Write, errors),
-        },
-        WordsFault::Usage(text) => {
-            let _ = write!(errors, "{text}");
-            2
-        }
-        WordsFault::Value => refuse(Refusal::Words, errors),
-        WordsFault::OutOfMemory => refuse(Refusal::OutOfMemory, errors),
-    }
-}
 
 /// Writes why the process's words could not be collected, and returns the exit status.
 ///
@@ -113,62 +65,62 @@ pub fn program<H: Files + AllocGlobal, R: Read, O: Write, E: Write>(
     // Otherwise the error stream gets the fault line of a refusal with that status, or a beginning
     // of it if it cannot be written. Words that do not fit the command line get `clap`'s text, with
     // the status 2.
-    ensures told { 1 ≤ result → IsTaken (map (λ s. s.now) words.entry.now) ⊎ (3 ≤ result)
+    ensures told { 1 ≤ result → IsTaken (texts words.entry.now) ⊎ (3 ≤ result)
         → IsTold result (E.contents errors.old) (E.contents errors.new) }
     // A source, a tape, words or a map that are rejected leave the input and the output unchanged.
     ensures untouched { 1 ≤ result → result ≤ 2
         → (input.new ≡ input.old) × (output.new ≡ output.old) }
     // So do words that fit nothing, or one of whose values is wrong, also if memory runs out.
-    ensures untaken { ¬ IsTaken (map (λ s. s.now) words.entry.now) → 1 ≤ result → result ≤ 3
+    ensures untaken { ¬ IsTaken (texts words.entry.now) → 1 ≤ result → result ≤ 3
         → (input.new ≡ input.old) × (output.new ≡ output.old) }
-    ensures unasked { asked (map (λ s. s.now) words.entry.now) ≡ None → 1 ≤ result → result ≤ 3
+    ensures unasked { asked (texts words.entry.now) ≡ None → 1 ≤ result → result ≤ 3
         → (input.new ≡ input.old) × (output.new ≡ output.old) }
     // Words that fit nothing read nothing, however the program ends.
-    ensures unread { ¬ IsTaken (map (λ s. s.now) words.entry.now) → input.new ≡ input.old }
+    ensures unread { ¬ IsTaken (texts words.entry.now) → input.new ≡ input.old }
     // Words that fit nothing have the status 2, unless they ask for help or memory runs out; help
     // that is asked for has 0 if it was written.
-    ensures usage { ¬ IsTaken (map (λ s. s.now) words.entry.now) → ¬ IsAmong DisplayHelp
-        (fault_of mos65 (map (λ s. s.now) words.entry.now)) → (result ≡ 2) ⊎ (result ≡ 3) }
-    ensures help { fault_of mos65 (map (λ s. s.now) words.entry.now) ≡ DisplayHelp ∷ []
+    ensures usage { ¬ IsTaken (texts words.entry.now) → ¬ IsAmong DisplayHelp
+        (fault_of mos65 (texts words.entry.now)) → (result ≡ 2) ⊎ (result ≡ 3) }
+    ensures help { fault_of mos65 (texts words.entry.now) ≡ DisplayHelp ∷ []
         → (result ≡ 0) ⊎ (result ≡ 3) ⊎ (result ≡ 4) }
     // A wrong value has the status 2, unless memory runs out.
-    ensures value { IsTaken (map (λ s. s.now) words.entry.now)
-        → asked (map (λ s. s.now) words.entry.now) ≡ None → (result ≡ 2) ⊎ (result ≡ 3) }
+    ensures value { IsTaken (texts words.entry.now)
+        → asked (texts words.entry.now) ≡ None → (result ≡ 2) ⊎ (result ≡ 3) }
     // So has a wrong map, whatever the file and the profile.
-    ensures asm_map { (a : AsmAsked) → asked (map (λ s. s.now) words.entry.now) ≡ Some (asm a)
-        → IsTaken (map (λ s. s.now) words.entry.now) → is_map None a.port ≡ false
+    ensures asm_map { (a : AsmAsked) → asked (texts words.entry.now) ≡ Some (asm a)
+        → IsTaken (texts words.entry.now) → is_map None a.port ≡ false
         → (result ≡ 2) ⊎ (result ≡ 3) }
-    ensures debug_map { (d : DebugAsked) → asked (map (λ s. s.now) words.entry.now) ≡ Some (debug d)
-        → IsTaken (map (λ s. s.now) words.entry.now) → is_map d.rom d.port ≡ false
+    ensures debug_map { (d : DebugAsked) → asked (texts words.entry.now) ≡ Some (debug d)
+        → IsTaken (texts words.entry.now) → is_map d.rom d.port ≡ false
         → (result ≡ 2) ⊎ (result ≡ 3) }
     // If the words and the map are right, the status is another one.
-    ensures asm_right { (a : AsmAsked) → asked (map (λ s. s.now) words.entry.now) ≡ Some (asm a)
-        → IsTaken (map (λ s. s.now) words.entry.now) → is_map None a.port ≡ true → ¬ (result ≡ 2) }
+    ensures asm_right { (a : AsmAsked) → asked (texts words.entry.now) ≡ Some (asm a)
+        → IsTaken (texts words.entry.now) → is_map None a.port ≡ true → ¬ (result ≡ 2) }
     ensures debug_right { (d : DebugAsked)
-        → asked (map (λ s. s.now) words.entry.now) ≡ Some (debug d)
-        → IsTaken (map (λ s. s.now) words.entry.now) → is_map d.rom d.port ≡ true → ¬ (result ≡ 2) }
+        → asked (texts words.entry.now) ≡ Some (debug d)
+        → IsTaken (texts words.entry.now) → is_map d.rom d.port ≡ true → ¬ (result ≡ 2) }
     // `asm` leaves the input and the output unchanged, however it ends.
-    ensures asm_alone { (a : AsmAsked) → asked (map (λ s. s.now) words.entry.now) ≡ Some (asm a)
-        → IsTaken (map (λ s. s.now) words.entry.now)
+    ensures asm_alone { (a : AsmAsked) → asked (texts words.entry.now) ≡ Some (asm a)
+        → IsTaken (texts words.entry.now)
         → (input.new ≡ input.old) × (output.new ≡ output.old) }
     // `dis` leaves the input unchanged, and wrote the rows of some image, a beginning of them, or
     // nothing, as the status says.
-    ensures listed { (d : DisAsked) → asked (map (λ s. s.now) words.entry.now) ≡ Some (dis d)
-        → IsTaken (map (λ s. s.now) words.entry.now) → (outcome : Result ⊤ Refusal)
+    ensures listed { (d : DisAsked) → asked (texts words.entry.now) ≡ Some (dis d)
+        → IsTaken (texts words.entry.now) → (outcome : Result ⊤ Refusal)
         × IsStatus outcome result × (input.new ≡ input.old) × IsListed d.profile d.first d.last
         (O.contents output.old) (O.contents output.new) outcome (output.new ≡ output.old) }
     // `debug` served a session, to its end or to a failure that the status says, or left both
     // unchanged.
-    ensures debugged { (d : DebugAsked) → asked (map (λ s. s.now) words.entry.now) ≡ Some (debug d)
-        → IsTaken (map (λ s. s.now) words.entry.now) → (outcome : Result ⊤ Refusal) × IsStatus
+    ensures debugged { (d : DebugAsked) → asked (texts words.entry.now) ≡ Some (debug d)
+        → IsTaken (texts words.entry.now) → (outcome : Result ⊤ Refusal) × IsStatus
         outcome result × IsServed (record { profile = d.profile; rom = d.rom; port = d.port })
         d.history (R.remaining input.old) (R.remaining input.new) (O.contents output.old)
         (O.contents output.new) outcome ((input.new ≡ input.old) × (output.new ≡ output.old)) }
     // If a session has ended, the output has the transcript of the input, from some image on the
     // map of the words.
     ensures served { result ≡ 0 → (d : DebugAsked)
-        → asked (map (λ s. s.now) words.entry.now) ≡ Some (debug d)
-        → IsTaken (map (λ s. s.now) words.entry.now)
+        → asked (texts words.entry.now) ≡ Some (debug d)
+        → IsTaken (texts words.entry.now)
         → (image : List (Option ℕ)) × IfSome (R.remaining input.old)
         (λ given. Appends (O.contents output.old) (O.contents output.new) (transcript
         (new_session d.history (start (record { profile = d.profile; rom = d.rom; port = d.port })

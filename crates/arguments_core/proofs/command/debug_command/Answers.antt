@@ -1,16 +1,16 @@
 use Rattle.std.proofs.Common.{rules, ap, ap₂, codes, ◌≡◌, ◌∙◌}
 use Rattle.clap.specs.Simple.{app_of_fields}
 use Rattle.clap.specs.Words.{app_of, new_app, rule_of, with_rule}
-use Rattle.arguments_core.specs.CommandLine.{file_rule, flag_rule, option_rule}
+use Rattle.arguments.specs.CommandLine.{file_rule, flag_rule, option_rule}
 use Rattle.arguments_core.proofs.command.debug_command.Goals as goal
 
 pub returns-clause-shape : goal.returns-clause-shape
 returns-clause-shape c =
     let file_is : rule_of c.file.result ≡ file_rule (codes "FILE") = search rules in
-    let tape_is : rule_of c.flag.result ≡ flag_rule (codes "tape") = search rules in
+    let tape_is : rule_of c.tape.result ≡ flag_rule (codes "tape") = search rules in
     let history_is : rule_of c.option.result ≡ option_rule (codes "history") = search rules in
     let port_is : rule_of c.port.result ≡ option_rule (codes "port") = search rules in
-    let rom_is : rule_of c.option-2.result ≡ option_rule (codes "rom") = search rules in
+    let rom_is : rule_of c.rom.result ≡ option_rule (codes "rom") = search rules in
     let profile_is : rule_of c.profile.result ≡ option_rule (codes "profile") = search rules in
     let begun : app_of c.after_help.result ≡ new_app (codes "debug") = ap app_of_fields c.after_help.ensures ∙ ap app_of_fields c.about.ensures ∙ c.new.ensures.app in
     let with_file : app_of c.in_ok-arg.field-0 ≡ with_rule (new_app (codes "debug")) (file_rule (codes "FILE"))

@@ -1,7 +1,7 @@
 use Rattle.std.proofs.Common.{rules, ap, ap₂, codes, ◌≡◌, ◌∙◌}
 use Rattle.clap.specs.Simple.{app_of_fields}
 use Rattle.clap.specs.Words.{app_of, new_app, rule_of, with_rule}
-use Rattle.arguments_core.specs.CommandLine.{file_rule, option_rule}
+use Rattle.arguments.specs.CommandLine.{file_rule, option_rule}
 use Rattle.arguments_core.proofs.command.dis_command.Goals as goal
 
 pub returns-clause-shape : goal.returns-clause-shape

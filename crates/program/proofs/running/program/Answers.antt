@@ -1,6 +1,6 @@
 use Rattle.std.proofs.Common.{◌≡◌, Err, arith, inl, refl, subst}
-use Rattle.program.specs.Statuses.{IsStatusOf}
-use Rattle.program.specs.declared.refusal.Refusal.TheVariants.{OutOfMemory}
+use Rattle.arguments.specs.Words.{IsStatusOf}
+use Rattle.arguments.specs.declared.refusal.Refusal.TheVariants.{OutOfMemory}
 use Rattle.arguments_core.specs.Asked.{debug, dis}
 use Rattle.arguments_core.specs.Views.{debug_view}
 use Rattle.program.proofs.Lines.{told_of_words}
