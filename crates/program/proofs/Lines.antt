@@ -1,7 +1,6 @@
 -- What the error stream got.
-use Rattle.std.proofs.Common.{◌≤◌, ℕ, List, [], Option, Result, Ok, Err, ◌⊎◌, inl, inr, sym, append-nil, arith, subst}
+use Rattle.std.proofs.Common.{◌≤◌, ℕ, List, Option, ◌⊎◌, inl, inr, arith, subst}
 use Rattle.clap.specs.Words.{IsAmong, Text, kind_of}
-use Rattle.model.specs.Writers.{AppendsFront, Writes}
 use Rattle.arguments.specs.FaultLines.{IsTold, IsToldOfWords}
 use Rattle.arguments.specs.Words.{IsStatusOf}
 use Rattle.arguments.specs.declared.refusal.Refusal.TheVariants as refusal

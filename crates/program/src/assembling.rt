@@ -13,12 +13,12 @@ ghost use Rattle.program.specs.Refusals.{EndsAsm};
 ghost use Rattle.program.specs.Texts.{IsAsked};
 
 use arguments::{Refusal, map_of, read_source, write_file};
+use arguments_core::AsmWords;
 use assembler::{Assembly, assemble};
 use bus::MapSpec;
 use law_sources::{each_source_has_one_meaning, one_assignment};
 use model::{AsmFault, AsmFaultKind};
 use papertape::write_tape;
-use arguments_core::AsmWords;
 use std::alloc::Global;
 use std::rt::Files;
 

@@ -6,8 +6,8 @@ ghost use Rattle.program.specs.Refusals.{EndsDebug, of_engine};
 ghost use Rattle.program.specs.Streams.{IsServed};
 
 use arguments::{Refusal, map_of, read_source};
-use engine::{EngineFault, debug_source, debug_tape_from};
 use arguments_core::DebugWords;
+use engine::{EngineFault, debug_source, debug_tape_from};
 use std::fs::File;
 use std::io;
 use std::io::{Read, Write};

@@ -15,10 +15,10 @@ ghost use Rattle.program.specs.Streams.{IsListed};
 ghost use Rattle.program.specs.Texts.{ReadsText};
 
 use arguments::Refusal;
+use arguments_core::DisWords;
 use disasm::disassembly;
 use model::{Profile, TAPE_OUT_OF_MEMORY};
 use papertape::{TapeReadFault, read_tape_from};
-use arguments_core::DisWords;
 use std::alloc::Global;
 use std::fs::File;
 use std::io::{Read, Write};
