@@ -1,91 +1,78 @@
 //! The program `mos65`: it collects the process's words and hands them, with the standard streams,
-//! to the crate that serves them.
+//! to the call that serves them.
 #![tactic(auto)]
 
-use asm_files::{asks_for_files, asm_files};
+mod command_line;
+mod routes;
+
+use crate::command_line::tell_whole;
+use crate::routes::{Route, route_of};
+use asm_files::asm_files;
 use checking::check;
 use dis_source::dis_source;
 use mon::mon;
-use program::{program, unreadable_words};
+use program::{process_words, program, unreadable_words, words_of};
 use running::run_program;
+use std::io;
 use std::process::ExitCode;
-use std::{env, io};
-use strict_debug::{is_strict, strict_debug};
+use strict_debug::strict_debug;
 use t65::test;
 use tape_info::{tape_cmp, tape_info};
 use tape_mend::tape_mend;
 use tracing::trace_program;
 
-/// Serves `debug --strict`, and returns the exit status.
-fn debug_strictly(rt: &HostRuntime, words: &[&str]) -> u8 {
-    let (status, _) = strict_debug(
-        rt,
-        words,
-        &mut rt.reader(),
-        io::writer(rt),
-        &mut rt.stderr(),
-    );
-    status
+/// Does what words after the name of their word ask for, without reading standard input, and returns
+/// the exit status.
+fn serve_files(rt: &HostRuntime, route: Route, words: &[&str]) -> u8 {
+    let output = &mut io::writer(rt);
+    let errors = &mut rt.stderr();
+    match route {
+        Route::Check => check(rt, words, output, errors),
+        Route::Info => tape_info(rt, words, output, errors),
+        Route::Cmp => tape_cmp(rt, words, output, errors),
+        Route::Mend => tape_mend(rt, words, output, errors),
+        Route::Test => test(rt, words, output, errors),
+        Route::DisSource => dis_source(rt, words, output, errors),
+        _ => asm_files(rt, words, output, errors),
+    }
 }
 
-/// Does what words ask for, and returns the exit status. A word beside those of `program`, and one
-/// of them with a word that `program` does not know, is served by a crate of its own.
+/// Does what words ask for that are served with standard input, and returns the exit status.
+fn serve_sessions(rt: &HostRuntime, route: Route, words: &[&str]) -> u8 {
+    let input = &mut rt.reader();
+    let errors = &mut rt.stderr();
+    match route {
+        Route::Mon => mon(rt, words, input, &mut io::writer(rt), errors),
+        Route::Run => run_program(rt, words, input, &mut io::writer(rt), errors),
+        Route::Trace => trace_program(rt, words, input, &mut io::writer(rt), errors),
+        _ => strict_debug(rt, words, input, io::writer(rt), errors).0,
+    }
+}
+
+/// Does what words ask for, and returns the exit status.
 fn serve(rt: &HostRuntime, words: &[&str]) -> u8 {
-    match words {
-        ["check", rest @ ..] => check(rt, rest, &mut io::writer(rt), &mut rt.stderr()),
-        ["info", rest @ ..] => tape_info(rt, rest, &mut io::writer(rt), &mut rt.stderr()),
-        ["cmp", rest @ ..] => tape_cmp(rt, rest, &mut io::writer(rt), &mut rt.stderr()),
-        ["mend", rest @ ..] => tape_mend(rt, rest, &mut io::writer(rt), &mut rt.stderr()),
-        ["test", rest @ ..] => test(rt, rest, &mut io::writer(rt), &mut rt.stderr()),
-        ["dis", rest @ ..] if rest.contains(&"--source") => {
-            dis_source(rt, rest, &mut io::writer(rt), &mut rt.stderr())
-        }
-        ["asm", rest @ ..] if asks_for_files(rest) => {
-            asm_files(rt, rest, &mut io::writer(rt), &mut rt.stderr())
-        }
-        ["debug", rest @ ..] if is_strict(rest) => debug_strictly(rt, rest),
-        ["mon", rest @ ..] => mon(
-            rt,
-            rest,
-            &mut rt.reader(),
-            &mut io::writer(rt),
-            &mut rt.stderr(),
-        ),
-        ["run", rest @ ..] => run_program(
-            rt,
-            rest,
-            &mut rt.reader(),
-            &mut io::writer(rt),
-            &mut rt.stderr(),
-        ),
-        ["trace", rest @ ..] => trace_program(
-            rt,
-            rest,
-            &mut rt.reader(),
-            &mut io::writer(rt),
-            &mut rt.stderr(),
-        ),
-        _ => program(
+    let rest = words.get(1..).unwrap_or(&[]);
+    match route_of(words) {
+        Route::Program => program(
             rt,
             words,
             &mut rt.reader(),
             &mut io::writer(rt),
             &mut rt.stderr(),
         ),
+        Route::Whole => tell_whole(rt.alloc(), words, &mut io::writer(rt), &mut rt.stderr()),
+        route @ (Route::Mon | Route::Run | Route::Trace | Route::StrictDebug) => {
+            serve_sessions(rt, route, rest)
+        }
+        route => serve_files(rt, route, rest),
     }
 }
 
 /// Does what the process's words ask for, and returns the exit status.
 fn run(rt: &HostRuntime) -> io::Result<u8> {
-    let mut arguments = Vec::new(rt.alloc());
-    for argument in env::args(rt)? {
-        arguments.push(argument)?;
-    }
-    let mut words = Vec::new(rt.alloc());
-    for argument in arguments.iter().skip(1) {
-        words.push(argument.as_str())?;
-    }
-    Ok(serve(rt, words.as_slice()))
+    let arguments = process_words(rt)?;
+    let words = words_of(rt.alloc(), &arguments)?;
+    Ok(serve(rt, &words))
 }
 
 fn main(rt: HostRuntime) -> ExitCode {

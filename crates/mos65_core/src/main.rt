@@ -2,23 +2,17 @@
 //! than the whole program, so it is proved sooner.
 #![tactic(auto)]
 
-use program::{program, unreadable_words};
+use program::{process_words, program, unreadable_words, words_of};
+use std::io;
 use std::process::ExitCode;
-use std::{env, io};
 
 /// Does what the process's words ask for, and returns the exit status.
 fn run(rt: &HostRuntime) -> io::Result<u8> {
-    let mut arguments = Vec::new(rt.alloc());
-    for argument in env::args(rt)? {
-        arguments.push(argument)?;
-    }
-    let mut words = Vec::new(rt.alloc());
-    for argument in arguments.iter().skip(1) {
-        words.push(argument.as_str())?;
-    }
+    let arguments = process_words(rt)?;
+    let words = words_of(rt.alloc(), &arguments)?;
     Ok(program(
         rt,
-        words.as_slice(),
+        &words,
         &mut rt.reader(),
         &mut io::writer(rt),
         &mut rt.stderr(),

@@ -1,7 +1,7 @@
 //! The program `mos65` as a library: what `asm`, `dis` and `debug` do with files and streams, and
 //! their exit status.
 //!
-//! `mos65` is its main. A caller may use `program`, which does everything, and `asm_texts` and
+//! `mos65` is its main, which collects the process's words by `process_words`. A caller may use `program`, which does everything, and `asm_texts` and
 //! `dis_text`, which make the texts that `asm` and `dis` write.
 //! No clause can say what is in a file, so the contracts speak of the words, the streams and the
 //! status.
@@ -9,9 +9,11 @@
 
 pub use assembling::{AsmTexts, asm_texts};
 pub use disassembling::dis_text;
+pub use process::{process_words, words_of};
 pub use running::{program, unreadable_words};
 
 mod assembling;
 mod debugging;
 mod disassembling;
+mod process;
 mod running;

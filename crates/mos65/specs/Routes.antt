@@ -1,0 +1,46 @@
+-- Which call serves the words of the program. Source: mos65.
+use Rattle.std.specs.Prelude.{Bool, true, false, List, [], ◌∷◌, ◌||◌, bytes_eq, codes, if◌then◌else◌}
+use Rattle.asm_files.specs.Asked.{asks_for_files}
+use Rattle.clap.specs.Words.{Text}
+use Rattle.mos65.specs.declared.routes.Route.{Route}
+use Rattle.mos65.specs.declared.routes.Route.TheVariants as to
+use Rattle.strict_debug.specs.Strict.{is_strict}
+
+-- A word is among others.
+abbrev pub has : Text → List Text → Bool
+has word [] = false
+has word (first ∷ rest) = bytes_eq first word || has word rest
+
+-- A single word asks for help.
+abbrev pub asks_for_help : List Text → Bool
+asks_for_help (word ∷ []) = bytes_eq word (codes "--help") || bytes_eq word (codes "-h")
+asks_for_help words = false
+
+-- The words that one call each serves, by their names.
+abbrev pub added : List (Text × Route)
+added = (codes "check", to.Check) ∷ (codes "info", to.Info) ∷ (codes "cmp", to.Cmp)
+    ∷ (codes "mend", to.Mend) ∷ (codes "test", to.Test) ∷ (codes "mon", to.Mon)
+    ∷ (codes "run", to.Run) ∷ (codes "trace", to.Trace) ∷ []
+
+-- The first of these of a name; the whole command line has all others.
+abbrev pub find : Text → List (Text × Route) → Route
+find name [] = to.Whole
+find name (row ∷ rows) = if bytes_eq name row.0 then row.1 else find name rows
+
+-- `asm`, `dis` and `debug` as promised, unless a word after them asks for what is beside that.
+abbrev pub named : Text → List Text → Route
+named name rest =
+    if bytes_eq name (codes "asm") then
+      (if asks_for_help rest then to.Whole else if asks_for_files rest then to.AsmFiles
+      else to.Program)
+    else if bytes_eq name (codes "dis") then
+      (if asks_for_help rest then to.Whole else if has (codes "--source") rest then to.DisSource
+      else to.Program)
+    else if bytes_eq name (codes "debug") then
+      (if asks_for_help rest then to.Whole else if is_strict rest then to.StrictDebug
+      else to.Program)
+    else find name added
+
+abbrev pub route_of : List Text → Route
+route_of [] = to.Whole
+route_of (name ∷ rest) = named name rest

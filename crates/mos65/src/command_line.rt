@@ -1,0 +1,100 @@
+//! The whole command line of the program: every word with its options, help and the version.
+
+ghost use Rattle.std.specs.Prelude.{◌≡◌, ◌≤◌};
+
+use arguments::{Refusal, WordsFault, flag, refuse, refused_words};
+use arguments_core::debug_command;
+use arguments_play::{mon_command, run_command, trace_command};
+use asm_files::asm_files_command;
+use checking::check_command;
+use clap::error::ErrorKind;
+use clap::{Command, Error};
+use dis_source::dis_source_command;
+use std::alloc::Global;
+use std::io::Write;
+use t65::test_command;
+use tape_words::{cmp_command, info_command, mend_command};
+
+/// The version of the program.
+const VERSION: &str = "0.2.0";
+
+/// What the program's help shows below its words.
+const STATUSES: &str = "Exit status: 0 done, 1 bad source or tape (check: a fault, cmp: a difference, test: a failed row),
+2 bad words or map, 3 out of memory, 4 reading or writing failed,
+5 debug --strict: a reply told of a fault,
+10 run, trace: the limit of steps, 11 a fault of the program, 12 the console is full
+
+mos65 help WORD shows the options of a word, and an example";
+
+/// Returns the words that read a source or a tape and write another file.
+fn with_files<'a>(alloc: Global, command: Command<'a>) -> Result<Command<'a>, Error> {
+    command
+        .subcommand(asm_files_command(alloc)?)?
+        .subcommand(dis_source_command(alloc)?)?
+        .subcommand(check_command(alloc)?)?
+        .subcommand(info_command(alloc)?)?
+        .subcommand(cmp_command(alloc)?)?
+        .subcommand(mend_command(alloc)?)
+}
+
+/// Returns the words that run a program.
+fn with_runs<'a>(alloc: Global, command: Command<'a>) -> Result<Command<'a>, Error> {
+    let strict = "Ends with status 5 if a reply tells of a fault";
+    let debug = debug_command(alloc)?.arg(flag(alloc, "strict", strict))?;
+    command
+        .subcommand(run_command(alloc)?)?
+        .subcommand(mon_command(alloc)?)?
+        .subcommand(trace_command(alloc)?)?
+        .subcommand(test_command(alloc)?)?
+        .subcommand(debug)
+}
+
+/// Returns the whole command line. The only error is that an allocation failed.
+pub fn command_line<'a>(alloc: Global) -> Result<Command<'a>, Error> {
+    let command = Command::new(alloc, "mos65")
+        .about("A development system for the MOS 6502")
+        .version(VERSION)
+        .after_help(STATUSES)
+        .no_binary_name(true)
+        .subcommand_required(true)
+        .bin_name("mos65")?;
+    with_runs(alloc, with_files(alloc, command)?)
+}
+
+/// Returns why words are refused that no word of the program serves. Help and the version are
+/// refusals here too.
+fn fault_of(error: Error) -> WordsFault {
+    match error.kind() {
+        ErrorKind::DisplayVersion => WordsFault::Help(error),
+        _ => WordsFault::from(error),
+    }
+}
+
+/// Returns why words are refused, by the whole command line.
+fn refused_by(alloc: Global, words: &[&str]) -> WordsFault {
+    let command = match command_line(alloc) {
+        Ok(command) => command,
+        Err(error) => return fault_of(error),
+    };
+    match command.try_get_matches_from(words) {
+        Ok(_) => WordsFault::Value,
+        Err(error) => fault_of(error),
+    }
+}
+
+/// Serves words that ask for help or for the version, and words that are none of the program's.
+///
+/// Returns the exit status: 0 for help that was written, 2 for wrong words, 3 if memory ran out, 4
+/// if the help could not be written.
+pub fn tell_whole<O: Write, E: Write>(
+    alloc: Global,
+    words: &[&str],
+    output: &mut O,
+    errors: &mut E,
+) -> u8
+    ensures status { result ≤ 4 }
+    ensures untouched { 1 ≤ result → result ≤ 3 → output.new ≡ output.old }
+    ensures quiet { result ≤ 1 → errors.new ≡ errors.old }
+{
+    refused_words(refused_by(alloc, words), output, errors)
+}

@@ -1,0 +1,96 @@
+//! Which call serves the words of the program.
+
+ghost use Rattle.std.specs.Prelude.{◌≡◌};
+ghost use Rattle.arguments.specs.Words.{texts};
+ghost use Rattle.mos65.specs.Routes.{asks_for_help, find, added, has, named, route_of};
+
+use asm_files::asks_for_files;
+use strict_debug::is_strict;
+
+/// A call that serves words.
+#[derive(Clone, Copy, Debug, PartialEq, Eq)]
+pub enum Route {
+    /// `check`.
+    Check,
+    /// `info`.
+    Info,
+    /// `cmp`.
+    Cmp,
+    /// `mend`.
+    Mend,
+    /// `test`.
+    Test,
+    /// `mon`.
+    Mon,
+    /// `run`.
+    Run,
+    /// `trace`.
+    Trace,
+    /// `dis` with `--source`.
+    DisSource,
+    /// `asm` with files for other programs.
+    AsmFiles,
+    /// `debug` with `--strict`.
+    StrictDebug,
+    /// `asm`, `dis` and `debug` as promised.
+    Program,
+    /// The whole command line: help, the version, and words that are none.
+    Whole,
+}
+
+/// Returns the call for a name among those that are added to the promised words.
+fn added(name: &str) -> Route
+    ensures { result ≡ find name.now added }
+{
+    match name {
+        "check" => Route::Check,
+        "info" => Route::Info,
+        "cmp" => Route::Cmp,
+        "mend" => Route::Mend,
+        "test" => Route::Test,
+        "mon" => Route::Mon,
+        "run" => Route::Run,
+        "trace" => Route::Trace,
+        _ => Route::Whole,
+    }
+}
+
+/// Returns whether a single word asks for help.
+fn asks_for_help(words: &[&str]) -> bool
+    ensures { result ≡ asks_for_help (texts words.entry.now) }
+{
+    match words {
+        [word] => *word == "--help" || *word == "-h",
+        _ => false,
+    }
+}
+
+/// Returns whether a word is among others.
+fn has(word: &str, words: &[&str]) -> bool
+    ensures { result ≡ has word.now (texts words.entry.now) }
+{
+    for other in words {
+        if *other == word {
+            return true;
+        }
+    }
+    false
+}
+
+/// Returns the call that serves these words, the program's own name left out.
+pub fn route_of(words: &[&str]) -> Route
+    ensures { result ≡ route_of (texts words.entry.now) }
+{
+    let [name, rest @ ..] = words else {
+        return Route::Whole;
+    };
+    let is_help = asks_for_help(rest);
+    match *name {
+        "asm" | "dis" | "debug" if is_help => Route::Whole,
+        "asm" if asks_for_files(rest) => Route::AsmFiles,
+        "dis" if has("--source", rest) => Route::DisSource,
+        "debug" if is_strict(rest) => Route::StrictDebug,
+        "asm" | "dis" | "debug" => Route::Program,
+        name => added(name),
+    }
+}
