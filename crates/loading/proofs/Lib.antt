@@ -1,4 +1,3 @@
 mod Assembling
 pub mod DigitLemmas
-pub mod Reading
 mod Ends
