@@ -1,5 +1,5 @@
--- The command line of `trace`, and what its words ask for, by the values that clap's definition of a
--- parse finds among them. Source: mos65.
+-- The command line of `trace`, and what its words ask for, by the values that clap's definition of
+-- a parse finds among them. Source: mos65.
 use Rattle.std.specs.Prelude.{ℕ, Bool, List, Option, Some, None, codes, option_map}
 use Rattle.arguments.specs.Asked.{FileAsked, file_asked, file_view, is_flag}
 use Rattle.arguments.specs.CommandLine.{flag_rule, option_rule, unnamed, with_file}
@@ -8,7 +8,8 @@ use Rattle.arguments.specs.Words.{value_in}
 use Rattle.arguments_play.specs.declared.trace.TraceWords.{TraceWords}
 use Rattle.clap.specs.Words.{App, Text, with_rule}
 
--- `FILE` with its map, `[--from WHERE] [--to WHERE] [--steps N] [--stores] [--count] [--unwritten]`.
+-- `FILE` with its map, `[--from WHERE] [--to WHERE] [--steps N] [--stores] [--count]
+-- [--unwritten]`.
 abbrev pub trace : App
 trace = with_rule (with_rule (with_rule (with_rule (with_rule (with_rule
     (with_file (unnamed (codes "trace"))) (option_rule (codes "from")))

@@ -1,3 +1,4 @@
 mod Assembling
 pub mod DigitLemmas
 mod Ends
+mod Starts

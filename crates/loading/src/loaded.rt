@@ -1,6 +1,7 @@
 //! A file loaded into a session.
 
-ghost use Rattle.std.specs.Prelude.{◌≡◌, ◌≤◌, ℕ, List, Option, Err, IfErr, IfOk, Some, false, true};
+ghost use Rattle.std.specs.Prelude.{◌≡◌, ◌≤◌, ℕ, List, [], Option, Err, IfErr, IfOk, Some, false};
+ghost use Rattle.std.specs.Prelude.{true};
 ghost use Rattle.arguments.specs.Asked.{file_view, map_of};
 ghost use Rattle.arguments.specs.declared.load_fault.LoadFault.TheVariants.{Refused};
 ghost use Rattle.assembler.specs.Assembly.{IsAssembled};
@@ -8,7 +9,7 @@ ghost use Rattle.loading.specs.Loads.{EndsFile, EndsLoad, EndsNames, EndsSource,
 ghost use Rattle.loading.specs.Loads.{IsBadMap, IsImageOf, IsLoaded};
 ghost use Rattle.model.specs.Event.{start};
 ghost use Rattle.model.specs.Session.{new_session};
-ghost use Rattle.model.specs.State.{has_port_byte, is_map};
+ghost use Rattle.model.specs.State.{has_port_byte, input_waits, is_map};
 ghost use Rattle.model.specs.declared.bus_fault.BusFault.TheVariants.{BadMap};
 
 use arguments::{FileWords, LoadFault, Refusal, image_of_tape, map_of, read_source};
@@ -124,7 +125,7 @@ fn load_tape<H: Files + AllocGlobal>(
 }
 
 /// Loads the file of the words: returns a session that starts with its image and holds no earlier
-/// state, with the assembly if the file is a source.
+/// state, with the assembly if the file is a source. No input waits in it, and nothing was put out.
 ///
 /// # Errors
 ///
@@ -136,6 +137,8 @@ pub fn load<H: Files + AllocGlobal>(rt: &H, words: &FileWords<'_>) -> Result<Loa
     ensures started { IfOk result (λ loaded. (image : List (Option ℕ))
         × IsLoaded (file_view words.now) image loaded.assembly
         × (loaded.session ≡ new_session 0 (start (map_of (file_view words.now)) image))) }
+    ensures idle { IfOk result (λ loaded. input_waits loaded.session.current.bus ≡ false) }
+    ensures silent { IfOk result (λ loaded. loaded.session.current.bus.out ≡ []) }
     ensures bad_map { is_map words.now.rom words.now.port ≡ false
         → result ≡ Err (Refused (Refusal.Map BadMap)) }
     ensures refused { IfErr result (EndsLoad (file_view words.now)) }
