@@ -1,9 +1,10 @@
 //! The words that name a file and its map.
 
-ghost use Rattle.std.specs.Prelude.{◌≡◌, IfErr, IfOk, option_map};
+ghost use Rattle.std.specs.Prelude.{◌≡◌, IfErr, IfOk, false, option_map};
 ghost use Rattle.arguments.specs.Asked.{file_asked, file_view};
 ghost use Rattle.arguments.specs.CommandLine.{with_file};
 ghost use Rattle.clap.specs.Words.{app_of, first_value, found_of, kind_of};
+ghost use Rattle.clap.specs.declared.builder.command.Command.TheViews.{out-Command};
 
 use crate::matching::is_given;
 use crate::options::{file, port, profile, rom, tape};
@@ -33,6 +34,8 @@ pub struct FileWords<'a> {
 /// The only error is that an allocation failed.
 pub fn with_file_options<'a>(alloc: Global, command: Command<'a>) -> Result<Command<'a>, Error>
     ensures shape { IfOk result (λ c. app_of c ≡ with_file (app_of command.entry)) }
+    ensures local { IfOk result (λ c. (out-Command command.entry).has_globals ≡ false
+        → (out-Command c).has_globals ≡ false) }
     ensures memory { IfErr result (λ e. kind_of e ≡ ErrorKind.OutOfMemory) }
 {
     let command = command

@@ -1,5 +1,5 @@
 -- The image of a source's assembly.
-use Rattle.std.proofs.Common.{◌≡◌, ℕ, List, Option, None, Some, refl, sym, subst, false}
+use Rattle.std.proofs.Common.{◌≡◌, Option, Some, refl, sym, subst, false}
 use Rattle.assembler.specs.Assembly.{AssemblyView, IsAssembled}
 use Rattle.loading.specs.Loads.{IsImageOf}
 use Rattle.model.specs.State.{Map}

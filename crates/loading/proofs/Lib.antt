@@ -1,4 +1,4 @@
 mod Assembling
 pub mod DigitLemmas
-pub mod Reading
 mod Ends
+mod Starts

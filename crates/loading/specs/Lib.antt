@@ -1,9 +1,2 @@
-pub mod Asked
-pub mod CommandLine
 pub mod Loads
 pub mod Place
-pub mod Refused
-pub mod Statuses
-pub mod Told
-pub mod Values
-pub mod Views

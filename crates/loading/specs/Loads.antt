@@ -2,16 +2,17 @@
 -- whether memory is there, nor what is in a file. Source: mos65.
 use Rattle.std.specs.Prelude.{◌≡◌, ◌⊎◌, ⊤, ℕ, true, false, Bool, List, Option, None, Some}
 use Rattle.assembler.specs.Assembly.{AssemblyView, IsAssembled}
-use Rattle.loading.specs.Asked.{FileAsked, map_of}
-use Rattle.loading.specs.declared.loaded.LoadFault.{LoadFault}
-use Rattle.loading.specs.declared.loaded.LoadFault.TheVariants.{LooksLikeTape, Refused}
+use Rattle.arguments.specs.Asked.{FileAsked, map_of}
+use Rattle.arguments.specs.Files.{IsUnread}
+use Rattle.arguments.specs.declared.load_fault.LoadFault.{LoadFault}
+use Rattle.arguments.specs.declared.load_fault.LoadFault.TheVariants.{LooksLikeTape, Refused}
+use Rattle.arguments.specs.declared.refusal.Refusal.{Refusal}
+use Rattle.arguments.specs.declared.refusal.Refusal.TheVariants as refusal
 use Rattle.model.specs.Source.{HasFault}
 use Rattle.model.specs.State.{Map, has_port_byte, is_map}
-use Rattle.model.specs.TapePieces.{IsReadInPieces, IsRefusedInPieces}
+use Rattle.model.specs.TapePieces.{IsReadInPieces}
 use Rattle.model.specs.declared.bus_fault.BusFault.TheVariants.{BadMap}
 use Rattle.model.specs.declared.session_fault.SessionFault.TheVariants.{PortAddress}
-use Rattle.program.specs.declared.refusal.Refusal.{Refusal}
-use Rattle.program.specs.declared.refusal.Refusal.TheVariants as refusal
 use Rattle.papertape.specs.Hint.{BeginsTape}
 
 -- A port and a ROM that make no map are rejected for that.
@@ -24,13 +25,6 @@ EndsSource bus_map (refusal.Source fault) = (source : List ℕ) × HasFault bus_
 EndsSource bus_map refusal.OutOfMemory = ⊤
 EndsSource bus_map refusal.Read = ⊤
 EndsSource bus_map fault = ⊥
-
--- Why a tape is not read: it has this fault, memory ran out, or the file cannot be read.
-abbrev pub IsUnread : Refusal → Type 0
-IsUnread (refusal.Tape fault) = (text : List ℕ) × IsRefusedInPieces text fault
-IsUnread refusal.OutOfMemory = ⊤
-IsUnread refusal.Read = ⊤
-IsUnread fault = ⊥
 
 -- Why a tape is not loaded: it is not read, or it has a byte at the port.
 abbrev pub EndsTape : Map → Refusal → Type 0

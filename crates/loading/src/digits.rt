@@ -1,23 +1,10 @@
 //! The numbers that digits write.
 
-ghost use Rattle.std.specs.Prelude.{◌≡◌, ◌≤◌, length};
+ghost use Rattle.std.specs.Prelude.{◌≡◌};
 ghost use Rattle.loading.specs.Place.{as_address};
 ghost use Rattle.model.specs.Digits.{decimal_number, hex_number};
 
 use formatting::{decimal_value, hex_value};
-
-/// Returns the number that at most eighteen decimal digits write, or `None` if a byte is no digit.
-pub fn decimal_number(word: &[u8]) -> Option<u64>
-    requires { length word.now ≤ 18 }
-    ensures { result ≡ decimal_number word.now }
-{
-    let mut value = 0u64;
-    for byte in word {
-        let digit = decimal_value(*byte)?;
-        value = value * 10 + digit as u64;
-    }
-    Some(value)
-}
 
 /// Returns the number up to 65,535 that decimal digits write.
 pub fn decimal_address(word: &[u8]) -> Option<u16>

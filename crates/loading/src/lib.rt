@@ -1,5 +1,4 @@
-//! A file loaded into a session, and the words that say how: the file, its port, ROM and profile,
-//! and places in it by name or by number.
+//! A file loaded into a session, and places in it by name or by number.
 //!
 //! `load` returns a session at the start of an image that some such file denotes on the map of the
 //! words, with the assembly of a source, or says why not (`specs/Loads.antt`). Which file it is, no
@@ -9,11 +8,7 @@
 
 mod digits;
 mod loaded;
-mod options;
 mod place;
-mod value;
 
-pub use loaded::{LoadFault, Loaded, image_of_tape, load, load_names, load_with_history};
-pub use options::{FileWords, file_words, option, with_file_options};
+pub use loaded::{Loaded, load, load_names, load_with_history};
 pub use place::place_of;
-pub use value::{history_of, steps_of};

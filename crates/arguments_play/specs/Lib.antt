@@ -1,0 +1,3 @@
+pub mod Mon
+pub mod Run
+pub mod Trace

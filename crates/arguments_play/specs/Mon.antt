@@ -1,0 +1,47 @@
+-- The command line of `mon`, and what its words ask for, by the values that clap's definition of a
+-- parse finds among them. Source: mos65.
+use Rattle.std.specs.Prelude.{ℕ, Bool, List, Option, Some, None, codes, option_map}
+use Rattle.arguments.specs.Asked.{FileAsked, file_asked, file_view, is_flag}
+use Rattle.arguments.specs.CommandLine.{flag_rule, option_rule, unnamed, with_file}
+use Rattle.arguments.specs.Values.{history_asked}
+use Rattle.arguments.specs.Words.{value_in}
+use Rattle.arguments_play.specs.declared.mon_words.MonWords.{MonWords}
+use Rattle.clap.specs.Words.{App, Text, with_rule}
+
+-- `FILE` with its map, `[--history N] [--symbols FILE] [--prompt]`.
+abbrev pub mon : App
+mon = with_rule (with_rule (with_rule (with_file (unnamed (codes "mon")))
+    (option_rule (codes "history"))) (option_rule (codes "symbols"))) (flag_rule (codes "prompt"))
+
+pub record MonAsked : Type 0 where
+  pub file : FileAsked
+  pub history : ℕ
+  pub symbols : Option Text
+  pub prompts : Bool
+
+abbrev pub mon_of : Option FileAsked → Option ℕ → Option Text → Bool → Option MonAsked
+mon_of (Some file) (Some history) symbols prompts = Some (record {
+  file = file;
+  history = history;
+  symbols = symbols;
+  prompts = prompts;
+})
+mon_of file history symbols prompts = None
+
+-- What the values of the names ask for, where each is one that its name can have.
+abbrev pub mon_asked : (Text → Option Text) → Option MonAsked
+mon_asked value = mon_of (file_asked value) (history_asked (value (codes "history")))
+    (value (codes "symbols")) (is_flag (value (codes "prompt")))
+
+-- What the words ask for, where the values that clap finds are right.
+abbrev pub asked : List Text → Option MonAsked
+asked words = mon_asked (value_in mon words)
+
+-- What was read from the words, as what they ask for.
+abbrev pub mon_view : MonWords → MonAsked
+mon_view w = record {
+  file = file_view w.file;
+  history = w.history;
+  symbols = option_map (λ s. s.now) w.symbols;
+  prompts = w.prompts;
+}

@@ -1,0 +1,59 @@
+-- The command line of `run`, and what its words ask for, by the values that clap's definition of a
+-- parse finds among them. Source: mos65.
+use Rattle.std.specs.Prelude.{ℕ, Bool, true, false, List, Option, Some, None, codes, if◌then◌else◌, option_map}
+use Rattle.std.specs.Str.{bytes_eq}
+use Rattle.arguments.specs.Asked.{FileAsked, file_asked, file_view, is_flag}
+use Rattle.arguments.specs.CommandLine.{flag_rule, option_rule, unnamed, with_file}
+use Rattle.arguments.specs.Values.{steps_asked}
+use Rattle.arguments.specs.Words.{value_in}
+use Rattle.arguments_play.specs.declared.run.RunWords.{RunWords}
+use Rattle.clap.specs.Words.{App, Text, with_rule}
+
+-- `FILE` with its map, `[--until WHERE] [--steps N] [--status A] [--cycles]`.
+abbrev pub run : App
+run = with_rule (with_rule (with_rule (with_rule (with_file (unnamed (codes "run")))
+    (option_rule (codes "until"))) (option_rule (codes "steps"))) (option_rule (codes "status")))
+    (flag_rule (codes "cycles"))
+
+pub record RunAsked : Type 0 where
+  pub file : FileAsked
+  pub until : Option Text
+  pub steps : ℕ
+  pub is_status_of_a : Bool
+  pub tells_cycles : Bool
+
+-- The word after `--status` is `A`, if there is one.
+abbrev pub status_asked : Option Text → Option Bool
+status_asked None = Some false
+status_asked (Some word) = if bytes_eq word (codes "A") then Some true else None
+
+abbrev pub run_of : Option FileAsked → Option Text → Option ℕ → Option Bool → Bool
+    → Option RunAsked
+run_of (Some file) until (Some steps) (Some is_status_of_a) tells_cycles = Some (record {
+  file = file;
+  until = until;
+  steps = steps;
+  is_status_of_a = is_status_of_a;
+  tells_cycles = tells_cycles;
+})
+run_of file until steps is_status_of_a tells_cycles = None
+
+-- What the values of the names ask for, where each is one that its name can have.
+abbrev pub run_asked : (Text → Option Text) → Option RunAsked
+run_asked value = run_of (file_asked value) (value (codes "until"))
+    (steps_asked (value (codes "steps"))) (status_asked (value (codes "status")))
+    (is_flag (value (codes "cycles")))
+
+-- What the words ask for, where the values that clap finds are right.
+abbrev pub asked : List Text → Option RunAsked
+asked words = run_asked (value_in run words)
+
+-- What was read from the words, as what they ask for.
+abbrev pub run_view : RunWords → RunAsked
+run_view w = record {
+  file = file_view w.file;
+  until = option_map (λ s. s.now) w.until;
+  steps = w.steps;
+  is_status_of_a = w.is_status_of_a;
+  tells_cycles = w.tells_cycles;
+}

@@ -1,0 +1,61 @@
+-- The command line of `trace`, and what its words ask for, by the values that clap's definition of
+-- a parse finds among them. Source: mos65.
+use Rattle.std.specs.Prelude.{ℕ, Bool, List, Option, Some, None, codes, option_map}
+use Rattle.arguments.specs.Asked.{FileAsked, file_asked, file_view, is_flag}
+use Rattle.arguments.specs.CommandLine.{flag_rule, option_rule, unnamed, with_file}
+use Rattle.arguments.specs.Values.{steps_asked}
+use Rattle.arguments.specs.Words.{value_in}
+use Rattle.arguments_play.specs.declared.trace.TraceWords.{TraceWords}
+use Rattle.clap.specs.Words.{App, Text, with_rule}
+
+-- `FILE` with its map, `[--from WHERE] [--to WHERE] [--steps N] [--stores] [--count]
+-- [--unwritten]`.
+abbrev pub trace : App
+trace = with_rule (with_rule (with_rule (with_rule (with_rule (with_rule
+    (with_file (unnamed (codes "trace"))) (option_rule (codes "from")))
+    (option_rule (codes "to"))) (option_rule (codes "steps"))) (flag_rule (codes "stores")))
+    (flag_rule (codes "count"))) (flag_rule (codes "unwritten"))
+
+pub record TraceAsked : Type 0 where
+  pub file : FileAsked
+  pub from : Option Text
+  pub to : Option Text
+  pub steps : ℕ
+  pub shows_stores : Bool
+  pub counts : Bool
+  pub finds_unwritten : Bool
+
+abbrev pub trace_of : Option FileAsked → Option Text → Option Text → Option ℕ → Bool → Bool → Bool
+    → Option TraceAsked
+trace_of (Some file) from to (Some steps) shows_stores counts finds_unwritten = Some (record {
+  file = file;
+  from = from;
+  to = to;
+  steps = steps;
+  shows_stores = shows_stores;
+  counts = counts;
+  finds_unwritten = finds_unwritten;
+})
+trace_of file from to steps shows_stores counts finds_unwritten = None
+
+-- What the values of the names ask for, where each is one that its name can have.
+abbrev pub trace_asked : (Text → Option Text) → Option TraceAsked
+trace_asked value = trace_of (file_asked value) (value (codes "from")) (value (codes "to"))
+    (steps_asked (value (codes "steps"))) (is_flag (value (codes "stores")))
+    (is_flag (value (codes "count"))) (is_flag (value (codes "unwritten")))
+
+-- What the words ask for, where the values that clap finds are right.
+abbrev pub asked : List Text → Option TraceAsked
+asked words = trace_asked (value_in trace words)
+
+-- What was read from the words, as what they ask for.
+abbrev pub trace_view : TraceWords → TraceAsked
+trace_view w = record {
+  file = file_view w.file;
+  from = option_map (λ s. s.now) w.from;
+  to = option_map (λ s. s.now) w.to;
+  steps = w.steps;
+  shows_stores = w.shows_stores;
+  counts = w.counts;
+  finds_unwritten = w.finds_unwritten;
+}

@@ -1,0 +1,16 @@
+//! The words of `run`, `trace` and `mon`, the words that a program is played by.
+//!
+//! Each word has a command line and the words that it asks for, as a person wrote them. Places are
+//! not looked up here. What a word asks for is said by `clap`'s own definition of a parse
+//! (`specs/Run.antt`, `specs/Trace.antt`, `specs/Mon.antt`).
+#![tactic(auto)]
+
+mod mon;
+mod mon_words;
+mod run;
+mod trace;
+
+pub use mon::{mon_command, read_mon_words};
+pub use mon_words::MonWords;
+pub use run::{RunWords, read_run_words, run_command};
+pub use trace::{TraceWords, read_trace_words, trace_command};

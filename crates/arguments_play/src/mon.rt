@@ -1,0 +1,80 @@
+//! The words of `mon`.
+
+ghost use Rattle.std.specs.Prelude.{◌≡◌, IsOkUnless, IfErr, IfOk, None, Some, false, option_map};
+ghost use Rattle.arguments.specs.Words.{Fits, IsRefusalOf, texts};
+ghost use Rattle.arguments_play.specs.Mon.{MonAsked, asked, mon, mon_asked, mon_view};
+ghost use Rattle.clap.specs.Words.{app_of, first_value, found_of, kind_of};
+ghost use Rattle.clap.specs.declared.builder.command.Command.TheViews.{out-Command};
+
+use crate::mon_words::MonWords;
+use arguments::{
+    WordsFault, begin, file_words, flag, history_asked, is_given, matched, option,
+    with_file_options, wrong_value,
+};
+use clap::error::ErrorKind;
+use clap::{ArgMatches, Command, Error};
+use std::alloc::Global;
+
+/// What the help of `mon` shows below its options.
+const STATUSES: &str = "Lines come from standard input; the line help lists what they ask for.
+
+Exit status: 0 the input has ended, or quit,
+1 bad source or tape, 2 bad words or map, 3 out of memory, 4 I/O failed
+
+Example:
+  mos65 mon count.a65";
+
+/// Returns the command line of `mon`.
+///
+/// The only error is that an allocation failed.
+pub fn mon_command<'a>(alloc: Global) -> Result<Command<'a>, Error>
+    ensures shape { IfOk result (λ c. app_of c ≡ mon) }
+    ensures local { IfOk result (λ c. (out-Command c).has_globals ≡ false) }
+    ensures memory { IfErr result (λ e. kind_of e ≡ ErrorKind.OutOfMemory) }
+{
+    let about = "Steps through a program with a person at a terminal";
+    let history = "How many events can be undone, at most 65536 [default: 65536]";
+    let symbols = "A file of names, as asm --symbols writes it [default: none]";
+    let prompt = "Writes a prompt where standard input is no terminal, too";
+    let command = begin(alloc, "mon", "mos65 mon", about, STATUSES)?;
+    let command = with_file_options(alloc, command)?
+        .arg(option(alloc, "history", "N", history))?
+        .arg(option(alloc, "symbols", "FILE", symbols))?
+        .arg(flag(alloc, "prompt", prompt))?;
+    Ok(command)
+}
+
+/// Returns what the values that were found ask for, or `None` if one is wrong.
+fn asked<'a>(matches: &ArgMatches<'a>) -> Option<MonWords<'a>>
+    ensures { option_map mon_view result ≡ mon_asked (first_value (found_of matches.now)) }
+{
+    Some(MonWords {
+        file: file_words(matches)?,
+        history: history_asked(matches.get_str("history"))?,
+        symbols: matches.get_str("symbols"),
+        prompts: is_given(matches, "prompt"),
+    })
+}
+
+/// Reads the words of `mon`, its own name left out.
+///
+/// # Errors
+///
+/// - `Help`: the words ask for help. The text is `clap`'s.
+/// - `Usage`: a word is missing or unknown, or there are too many. The text is `clap`'s.
+/// - `Wrong`: an option has a value that it cannot have.
+/// - `OutOfMemory`: an allocation failed.
+pub fn read_mon_words<'a>(alloc: Global, words: &'a [&'a str]) -> Result<MonWords<'a>, WordsFault>
+    ensures asked { IfOk result (λ w. asked (texts words.entry.now) ≡ Some (mon_view w)) }
+    ensures fits { IfOk result (λ _. Fits mon (texts words.entry.now)) }
+    ensures served { (a : MonAsked) → Fits mon (texts words.entry.now)
+        → asked (texts words.entry.now) ≡ Some a → IsOkUnless result WordsFault.OutOfMemory }
+    ensures refused { IfErr result (IsRefusalOf mon (texts words.entry.now)
+        (asked (texts words.entry.now) ≡ None)) }
+{
+    let matches = matched(mon_command(alloc)?, words)?;
+    match asked(&matches) {
+        Some(words) => Ok(words),
+        None => Err(WordsFault::Wrong(wrong_value(&matches, "a value is wrong"))),
+    }
+}

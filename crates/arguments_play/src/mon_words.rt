@@ -1,0 +1,20 @@
+//! What the words of `mon` ask for.
+
+ghost use Rattle.std.specs.Prelude.{◌≤◌};
+
+use arguments::FileWords;
+
+/// What the words of `mon` ask for.
+#[derive(Clone, Copy, Debug, PartialEq, Eq)]
+pub struct MonWords<'a> {
+    /// The file to load, and its map.
+    pub file: FileWords<'a>,
+    /// How many events can be undone.
+    pub history: u32,
+    /// A file of names, if one is named.
+    pub symbols: Option<&'a str>,
+    /// Whether a prompt is asked for.
+    pub prompts: bool,
+
+    ghost history_held: { history ≤ 65536 },
+}

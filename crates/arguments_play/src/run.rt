@@ -1,0 +1,106 @@
+//! The words of `run`.
+
+ghost use Rattle.std.specs.Prelude.{◌≡◌, IsOkUnless, IfErr, IfOk, None, Some, false, option_map};
+ghost use Rattle.arguments.specs.Words.{Fits, IsRefusalOf, texts};
+ghost use Rattle.arguments_play.specs.Run.{RunAsked, asked, run, run_asked, run_view, status_asked};
+ghost use Rattle.clap.specs.Words.{app_of, first_value, found_of, kind_of};
+ghost use Rattle.clap.specs.declared.builder.command.Command.TheViews.{out-Command};
+
+use arguments::{
+    FileWords, WordsFault, begin, file_words, flag, is_given, matched, option, steps_asked,
+    with_file_options, wrong_value,
+};
+use clap::error::ErrorKind;
+use clap::{ArgMatches, Command, Error};
+use std::alloc::Global;
+
+/// What the words of `run` ask for.
+#[derive(Clone, Copy, Debug, PartialEq, Eq)]
+pub struct RunWords<'a> {
+    /// The file to run, and its map.
+    pub file: FileWords<'a>,
+    /// The place that ends the run, if one is named.
+    pub until: Option<&'a str>,
+    /// The most steps that are made.
+    pub steps: u64,
+    /// Whether the exit status is the value of A.
+    pub is_status_of_a: bool,
+    /// Whether cycles and steps are told at the end.
+    pub tells_cycles: bool,
+}
+
+/// What the help of `run` shows below its options.
+const STATUSES: &str = "Exit status: 0 the run came to its end (with --status A the value of A),
+10 the limit of steps, 11 a fault of the program, 12 the console is full,
+1 bad source or tape, 2 bad words or map, 3 out of memory, 4 I/O failed
+
+Example:
+  mos65 run guess.a65";
+
+/// Returns the command line of `run`.
+///
+/// The only error is that an allocation failed.
+pub fn run_command<'a>(alloc: Global) -> Result<Command<'a>, Error>
+    ensures shape { IfOk result (λ c. app_of c ≡ run) }
+    ensures local { IfOk result (λ c. (out-Command c).has_globals ≡ false) }
+    ensures memory { IfErr result (λ e. kind_of e ≡ ErrorKind.OutOfMemory) }
+{
+    let about = "Runs a program: its console is the terminal";
+    let until = "Where the run ends: a name, an address, or a sum of both [default: none]";
+    let steps = "The most steps to make [default: no limit]";
+    let status = "A: the exit status is the value of A [default: 0]";
+    let cycles = "Prints cycles and steps at the end, on the error stream";
+    let command = begin(alloc, "run", "mos65 run", about, STATUSES)?;
+    let command = with_file_options(alloc, command)?
+        .arg(option(alloc, "until", "WHERE", until))?
+        .arg(option(alloc, "steps", "N", steps))?
+        .arg(option(alloc, "status", "A", status))?
+        .arg(flag(alloc, "cycles", cycles))?;
+    Ok(command)
+}
+
+/// Returns whether the word after `--status` asks for the value of A, or `None` if it is wrong.
+fn status_asked(word: Option<&str>) -> Option<bool>
+    ensures { result ≡ status_asked (option_map (λ w. w.now) word.entry) }
+{
+    match word {
+        None => Some(false),
+        Some(word) => { if word == "A" { Some(true) } else { None } }
+    }
+}
+
+/// Returns what the values that were found ask for, or `None` if one is wrong.
+fn asked<'a>(matches: &ArgMatches<'a>) -> Option<RunWords<'a>>
+    ensures { option_map run_view result ≡ run_asked (first_value (found_of matches.now)) }
+{
+    Some(RunWords {
+        file: file_words(matches)?,
+        until: matches.get_str("until"),
+        steps: steps_asked(matches.get_str("steps"))?,
+        is_status_of_a: status_asked(matches.get_str("status"))?,
+        tells_cycles: is_given(matches, "cycles"),
+    })
+}
+
+/// Reads the words of `run`, its own name left out.
+///
+/// # Errors
+///
+/// - `Help`: the words ask for help. The text is `clap`'s.
+/// - `Usage`: a word is missing or unknown, or there are too many. The text is `clap`'s.
+/// - `Wrong`: an option has a value that it cannot have.
+/// - `OutOfMemory`: an allocation failed.
+pub fn read_run_words<'a>(alloc: Global, words: &'a [&'a str]) -> Result<RunWords<'a>, WordsFault>
+    ensures asked { IfOk result (λ w. asked (texts words.entry.now) ≡ Some (run_view w)) }
+    ensures fits { IfOk result (λ _. Fits run (texts words.entry.now)) }
+    ensures served { (a : RunAsked) → Fits run (texts words.entry.now)
+        → asked (texts words.entry.now) ≡ Some a → IsOkUnless result WordsFault.OutOfMemory }
+    ensures refused { IfErr result (IsRefusalOf run (texts words.entry.now)
+        (asked (texts words.entry.now) ≡ None)) }
+{
+    let matches = matched(run_command(alloc)?, words)?;
+    match asked(&matches) {
+        Some(words) => Ok(words),
+        None => Err(WordsFault::Wrong(wrong_value(&matches, "--status takes A"))),
+    }
+}

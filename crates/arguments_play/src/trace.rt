@@ -1,0 +1,111 @@
+//! The words of `trace`.
+
+ghost use Rattle.std.specs.Prelude.{◌≡◌, IsOkUnless, IfErr, IfOk, None, Some, false, option_map};
+ghost use Rattle.arguments.specs.Words.{Fits, IsRefusalOf, texts};
+ghost use Rattle.arguments_play.specs.Trace.{TraceAsked, asked, trace, trace_asked, trace_view};
+ghost use Rattle.clap.specs.Words.{app_of, first_value, found_of, kind_of};
+ghost use Rattle.clap.specs.declared.builder.command.Command.TheViews.{out-Command};
+
+use arguments::{
+    FileWords, WordsFault, begin, file_words, flag, is_given, matched, option, steps_asked,
+    with_file_options, wrong_value,
+};
+use clap::error::ErrorKind;
+use clap::{ArgMatches, Command, Error};
+use std::alloc::Global;
+
+/// What the words of `trace` ask for.
+#[derive(Clone, Copy, Debug, PartialEq, Eq)]
+pub struct TraceWords<'a> {
+    /// The file to run, and its map.
+    pub file: FileWords<'a>,
+    /// The place where the trace begins, if one is named.
+    pub from: Option<&'a str>,
+    /// The place where the trace ends, if one is named.
+    pub to: Option<&'a str>,
+    /// The most steps that are made from the beginning of the trace on.
+    pub steps: u64,
+    /// Whether a row shows what its step stored.
+    pub shows_stores: bool,
+    /// Whether visits and cycles are shown in place of rows.
+    pub counts: bool,
+    /// Whether reads of memory that was never written are shown in place of rows.
+    pub finds_unwritten: bool,
+}
+
+/// What the help of `trace` shows below its options.
+const STATUSES: &str = "The program's own output goes to the error stream.
+Exit status: 0 the program came to its end, 10 the limit of steps,
+11 a fault of the program, 12 the console is full,
+1 bad source or tape, 2 bad words or map, 3 out of memory, 4 I/O failed
+
+Examples:
+  mos65 trace sort.a65 --from sort --steps 20 --stores
+  mos65 trace sort.a65 --count";
+
+/// Returns the command line of `trace`.
+///
+/// The only error is that an allocation failed.
+pub fn trace_command<'a>(alloc: Global) -> Result<Command<'a>, Error>
+    ensures shape { IfOk result (λ c. app_of c ≡ trace) }
+    ensures local { IfOk result (λ c. (out-Command c).has_globals ≡ false) }
+    ensures memory { IfErr result (λ e. kind_of e ≡ ErrorKind.OutOfMemory) }
+{
+    let about = "Shows what a program does, a row for each step";
+    let from = "Where the trace begins: a name, an address, or a sum of both [default: the start]";
+    let to = "Where the trace ends, likewise [default: where the program ends]";
+    let steps = "The most steps from where the trace begins [default: no limit]";
+    let stores = "Shows what each step stored, and where";
+    let count = "Shows no rows, but the visits and cycles of labels and lines";
+    let unwritten = "Shows no rows, but reads of memory that nobody ever wrote";
+    let command = begin(alloc, "trace", "mos65 trace", about, STATUSES)?;
+    let command = with_file_options(alloc, command)?
+        .arg(option(alloc, "from", "WHERE", from))?
+        .arg(option(alloc, "to", "WHERE", to))?
+        .arg(option(alloc, "steps", "N", steps))?
+        .arg(flag(alloc, "stores", stores))?
+        .arg(flag(alloc, "count", count))?
+        .arg(flag(alloc, "unwritten", unwritten))?;
+    Ok(command)
+}
+
+/// Returns what the values that were found ask for, or `None` if one is wrong.
+fn asked<'a>(matches: &ArgMatches<'a>) -> Option<TraceWords<'a>>
+    ensures { option_map trace_view result ≡ trace_asked (first_value (found_of matches.now)) }
+{
+    Some(TraceWords {
+        file: file_words(matches)?,
+        from: matches.get_str("from"),
+        to: matches.get_str("to"),
+        steps: steps_asked(matches.get_str("steps"))?,
+        shows_stores: is_given(matches, "stores"),
+        counts: is_given(matches, "count"),
+        finds_unwritten: is_given(matches, "unwritten"),
+    })
+}
+
+/// Reads the words of `trace`, its own name left out.
+///
+/// # Errors
+///
+/// - `Help`: the words ask for help. The text is `clap`'s.
+/// - `Usage`: a word is missing or unknown, or there are too many. The text is `clap`'s.
+/// - `Wrong`: an option has a value that it cannot have.
+/// - `OutOfMemory`: an allocation failed.
+pub fn read_trace_words<'a>(
+    alloc: Global,
+    words: &'a [&'a str],
+) -> Result<TraceWords<'a>, WordsFault>
+    ensures asked { IfOk result (λ w. asked (texts words.entry.now) ≡ Some (trace_view w)) }
+    ensures fits { IfOk result (λ _. Fits trace (texts words.entry.now)) }
+    ensures served { (a : TraceAsked) → Fits trace (texts words.entry.now)
+        → asked (texts words.entry.now) ≡ Some a → IsOkUnless result WordsFault.OutOfMemory }
+    ensures refused { IfErr result (IsRefusalOf trace (texts words.entry.now)
+        (asked (texts words.entry.now) ≡ None)) }
+{
+    let matches = matched(trace_command(alloc)?, words)?;
+    match asked(&matches) {
+        Some(words) => Ok(words),
+        None => Err(WordsFault::Wrong(wrong_value(&matches, "a value is wrong"))),
+    }
+}

@@ -1,0 +1,27 @@
+-- At a start no input waits, and nothing was put out.
+use Rattle.std.proofs.Common.{◌≡◌, ◌∙◌, ℕ, false, List, [], Option, Result, Ok, Err, IfOk, refl, ap}
+use Rattle.arguments.specs.Asked.{FileAsked, map_of}
+use Rattle.loading.specs.Loads.{IsLoaded}
+use Rattle.loading.specs.declared.loaded.Loaded.{Loaded}
+use Rattle.model.specs.Event.{start, reset_state}
+use Rattle.model.specs.Session.{Session, new_session}
+use Rattle.model.specs.State.{Map, input_waits, loaded_bus}
+
+starts_idle : (map : Map) (image : List (Option ℕ)) → input_waits (start map image).bus ≡ false
+unfolding start reset_state loaded_bus
+starts_idle map image = refl
+
+starts_silent : (map : Map) (image : List (Option ℕ)) → (start map image).bus.out ≡ []
+unfolding start reset_state loaded_bus
+starts_silent map image = refl
+
+abbrev IsStarted : FileAsked → Loaded → Type 0
+IsStarted asked loaded = (image : List (Option ℕ)) × IsLoaded asked image loaded.assembly × (loaded.session ≡ new_session 0 (start (map_of asked) image))
+
+pub started_idle : {E : Type 0} (asked : FileAsked) (result : Result Loaded E) → IfOk result (IsStarted asked) → IfOk result (λ loaded. input_waits loaded.session.current.bus ≡ false)
+started_idle asked (Ok loaded) started = ap (λ (s : Session). input_waits s.current.bus) started.2 ∙ starts_idle _ started.0
+started_idle asked (Err fault) started = tt
+
+pub started_silent : {E : Type 0} (asked : FileAsked) (result : Result Loaded E) → IfOk result (IsStarted asked) → IfOk result (λ loaded. loaded.session.current.bus.out ≡ [])
+started_silent asked (Ok loaded) started = ap (λ (s : Session). s.current.bus.out) started.2 ∙ starts_silent _ started.0
+started_silent asked (Err fault) started = tt

@@ -1,9 +1,0 @@
-use Rattle.std.proofs.Common.{◌≡◌, ◌<◌, ◌^◌, drop}
-use Rattle.model.specs.Digits.{decimal_value, number_from}
-use Rattle.loading.proofs.digits.decimal_number.Given as goal
-
-abbrev pub invariant-loop-byte : goal.invariant-loop-byte
-invariant-loop-byte l = record {
-  small : l.value < 10 ^ l.byte-index;
-  rest : number_from decimal_value 10 0 l.word ≡ number_from decimal_value 10 l.value (drop l.byte-index l.word);
-}

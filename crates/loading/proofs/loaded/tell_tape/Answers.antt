@@ -1,4 +1,0 @@
-use Rattle.loading.proofs.loaded.tell_tape.Goals as goal
-
-pub returns : goal.returns
-returns g c = rw c.as_bytes.ensures.value at c.put_three.ensures
