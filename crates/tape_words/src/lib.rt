@@ -6,22 +6,22 @@
 
 mod answer;
 mod command;
+mod file_refusal;
 mod files;
 mod instruction;
 mod meanings;
 mod records;
-mod refusal;
 mod tape_faults;
 mod wording;
 mod words;
 
-pub use answer::{Answer, answered, refused, refused_words};
-pub use files::{image_of, read_text, write_file};
+pub use answer::{Answer, answered};
+pub use command::{cmp_command, info_command, mend_command};
+pub use file_refusal::FileRefusal;
+pub use files::read_text;
 pub use instruction::{instruction_len, push_count, push_instruction};
 pub use meanings::push_there;
-pub use arguments_core::WordsFault;
 pub use records::{EndRecord, are_digits, end_record};
-pub use refusal::Refusal;
 pub use tape_faults::fault_text;
 pub use wording::{COUNT_TWICE, RECORD, RECORDS};
 pub use words::{CmpWords, InfoWords, MendWords, read_cmp_words, read_info_words, read_mend_words};
