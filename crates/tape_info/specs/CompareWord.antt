@@ -1,5 +1,7 @@
 -- What `cmp` has done. Source: mos65. No clause can say which tapes two files have.
 use Rattle.std.specs.Prelude.{◌≡◌, ◌≢◌, ℕ, Bool, true, false, List, [], Option, Some, string_bytes}
+use Rattle.arguments.specs.Streams.{Tells, TellsFront}
+use Rattle.arguments.specs.Words.{Fits}
 use Rattle.clap.specs.Words.{Text}
 use Rattle.model.specs.TapePieces.{IsReadInPieces, IsRefusedInPieces}
 use Rattle.model.specs.declared.tape.TapeFault.{TapeFault}
@@ -9,8 +11,6 @@ use Rattle.tape_words.specs.Answers.{EndsLine}
 use Rattle.tape_words.specs.Asked.{CmpAsked, cmp_asked}
 use Rattle.tape_words.specs.CommandLines.{cmp}
 use Rattle.tape_words.specs.declared.answer.Answer.{Answer}
-use Rattle.word_streams.specs.Streams.{Tells, TellsFront}
-use Rattle.word_streams.specs.Words.{Fits}
 
 -- What is said of two sides: nothing if their images are equal, and the rows of their differences
 -- if they are not. The rows end with a line's end.

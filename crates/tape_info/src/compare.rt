@@ -1,86 +1,93 @@
 //! What the word `cmp` does.
 
-ghost use Rattle.std.specs.Prelude.{◌≡◌, ◌≤◌, ◌⊎◌, IfErr, IfOk, None, false, map, true};
+ghost use Rattle.std.specs.Prelude.{◌≡◌, ◌≤◌, ◌⊎◌, IfErr, IfOk, None, false, true};
+ghost use Rattle.arguments.specs.Files.{IsUnread};
+ghost use Rattle.arguments.specs.Streams.{Tells, TellsFront};
+ghost use Rattle.arguments.specs.Words.{AsksForHelp, Fits, Misfits, texts};
 ghost use Rattle.tape_info.specs.DifferenceRows.{side_of};
 ghost use Rattle.tape_info.specs.Sides.{side_view};
 ghost use Rattle.tape_info.specs.CompareWord.{Asks, HasTapeFault, IsAnswerOf, IsOfTape, IsSaid};
 ghost use Rattle.tape_info.specs.CompareWord.{TellsAsked, TellsAskedFront};
 ghost use Rattle.tape_words.specs.Asked.{cmp_asked, cmp_view};
 ghost use Rattle.tape_words.specs.CommandLines.{cmp};
-ghost use Rattle.tape_words.specs.Unread.{EndsReading};
-ghost use Rattle.word_streams.specs.Streams.{Tells, TellsFront};
-ghost use Rattle.word_streams.specs.Words.{AsksForHelp, Fits, Misfits};
 
 use crate::comparing::differences;
 use crate::row_text::{Side, rows};
+use arguments::{FileRefusal, Refusal, image_of_tape, refused_words};
+use std::alloc::{AllocError, Global};
 use std::io::Write;
 use std::rt::Files;
-use tape_words::{Answer, CmpWords, Refusal, answered, image_of, read_cmp_words, refused_words};
+use tape_words::{Answer, CmpWords, answered, read_cmp_words};
 
-/// Returns a tape's side of the comparison, or the name of its file with why there is none.
+/// Returns a tape's side of the comparison.
+///
+/// Errors: those of `image_of_tape`, with the name of the file.
 fn side_of<'a, H: Files + AllocGlobal>(
     rt: &H,
     words: &CmpWords<'a>,
-    name: &'a str,
-) -> Result<Side<'a>, (&'a str, Refusal)>
+    file: &'a str,
+) -> Result<Side<'a>, FileRefusal<'a>>
     ensures tape { IfOk result (λ side. IsOfTape side.image) }
     ensures side { IfOk result
-        (λ side. side_view side ≡ side_of name.now side.image words.now.profile) }
-    ensures refused { IfErr result (λ why. EndsReading why.1) }
+        (λ side. side_view side ≡ side_of file.now side.image words.now.profile) }
+    ensures refused { IfErr result (λ why. IsUnread why.refusal) }
 {
-    match image_of(rt, name) {
-        Ok(image) => match Side::new(rt.alloc(), name, image, words.profile) {
-            Ok(side) => Ok(side),
-            Err(_) => Err((name, Refusal::OutOfMemory)),
-        },
-        Err(refusal) => Err((name, refusal)),
+    match image_of_tape(rt, file) {
+        Ok(image) => Side::new(rt.alloc(), file, image, words.profile).map_err(|_| FileRefusal {
+            file,
+            refusal: Refusal::OutOfMemory,
+        }),
+        Err(refusal) => Err(FileRefusal { file, refusal }),
     }
 }
 
-/// Returns the rows of the differences between two sides.
-fn compared<H: AllocGlobal>(rt: &H, one: &Side<'_>, other: &Side<'_>) -> Result<Answer, Refusal>
-    ensures rows { IfOk result (IsAnswerOf (side_view one.now) (side_view other.now)) }
-    ensures only { IfErr result (λ r. r ≡ Refusal.OutOfMemory) }
+/// Returns the rows of the differences between two sides. The only error is that an allocation
+/// failed.
+fn rows_between(alloc: Global, one: &Side<'_>, other: &Side<'_>) -> Result<Answer, AllocError>
+    ensures { IfOk result (IsAnswerOf (side_view one.now) (side_view other.now)) }
 {
-    let alloc = rt.alloc();
-    let Ok(found) = differences(alloc, one.image(), other.image()) else {
-        return Err(Refusal::OutOfMemory);
-    };
+    let found = differences(alloc, one.image(), other.image())?;
     if found.is_empty() {
         return Ok(Answer {
             text: String::new(alloc),
             is_right: true,
         });
     }
-    match rows(alloc, one, other, &found) {
-        Ok(text) => Ok(Answer {
-            text,
-            is_right: false,
-        }),
-        Err(_) => Err(Refusal::OutOfMemory),
-    }
+    let text = rows(alloc, one, other, &found)?;
+    Ok(Answer {
+        text,
+        is_right: false,
+    })
 }
 
-/// Says which tape is not compared, and why, and returns the exit status.
-fn not_compared<E: Write>(name: &str, refusal: Refusal, errors: &mut E) -> u8
-    requires { EndsReading refusal }
+/// Returns the rows of the differences between the two tapes of the words.
+fn compared<'a>(
+    alloc: Global,
+    words: &CmpWords<'a>,
+    one: &Side<'_>,
+    other: &Side<'_>,
+) -> Result<Answer, FileRefusal<'a>>
+    ensures rows { IfOk result (IsAnswerOf (side_view one.now) (side_view other.now)) }
+    ensures only { IfErr result (λ why. why.refusal ≡ Refusal.OutOfMemory) }
+{
+    rows_between(alloc, one, other).map_err(|_| FileRefusal {
+        file: words.tape,
+        refusal: Refusal::OutOfMemory,
+    })
+}
+
+/// Says which tape is not compared, and why, and returns the exit status: 2 for a tape with a
+/// fault.
+fn not_compared<E: Write>(why: FileRefusal<'_>, errors: &mut E) -> u8
+    requires { IsUnread why.refusal }
     ensures least { 2 ≤ result }
     ensures most { result ≤ 4 }
     ensures fault { result ≡ 2 → HasTapeFault }
 {
-    match refusal {
-        Refusal::OutOfMemory => {
-            let _ = writeln!(errors, "mos65: {refusal}");
-            3
-        }
-        Refusal::Read | Refusal::Write => {
-            let _ = writeln!(errors, "mos65: {name}: {refusal}");
-            4
-        }
-        _ => {
-            let _ = writeln!(errors, "mos65: {name}: {refusal}");
-            2
-        }
+    let status = why.tell(errors);
+    match why.refusal {
+        Refusal::Tape(_) => 2,
+        _ => status,
     }
 }
 
@@ -105,13 +112,13 @@ fn done<H: Files + AllocGlobal, O: Write, E: Write>(
 {
     let one = match side_of(rt, words, words.tape) {
         Ok(side) => side,
-        Err((name, refusal)) => return not_compared(name, refusal, errors),
+        Err(why) => return not_compared(why, errors),
     };
     let other = match side_of(rt, words, words.other) {
         Ok(side) => side,
-        Err((name, refusal)) => return not_compared(name, refusal, errors),
+        Err(why) => return not_compared(why, errors),
     };
-    answered(compared(rt, &one, &other), output, errors)
+    answered(compared(rt.alloc(), words, &one, &other), output, errors)
 }
 
 /// Does what the words after `cmp` ask for, and returns the exit status: 0 if both tapes have the
@@ -131,22 +138,22 @@ pub fn tape_cmp<H: Files + AllocGlobal, O: Write, E: Write>(
     ensures untouched { 2 ≤ result → result ≤ 3 → output.new ≡ output.old }
     // 0 means that two tapes were found equal, with nothing to write, or that the help that is
     // asked for was written.
-    ensures right { result ≡ 0 → AsksForHelp cmp (map (λ s. s.now) words.entry.now)
-        ⊎ TellsAsked (map (λ s. s.now) words.entry.now) true
+    ensures right { result ≡ 0 → AsksForHelp cmp (texts words.entry.now)
+        ⊎ TellsAsked (texts words.entry.now) true
         (O.contents output.old) (O.contents output.new) }
     // 1 means that two tapes differ, and the rows of their differences were written.
-    ensures wrong { result ≡ 1 → TellsAsked (map (λ s. s.now) words.entry.now) false
+    ensures wrong { result ≡ 1 → TellsAsked (texts words.entry.now) false
         (O.contents output.old) (O.contents output.new) }
     // 2 means that the words do not fit, that a value is wrong, or that a tape has a fault.
-    ensures refused { result ≡ 2 → Misfits cmp (map (λ s. s.now) words.entry.now)
-        ⊎ ((Fits cmp (map (λ s. s.now) words.entry.now)
-        × (cmp_asked (map (λ s. s.now) words.entry.now) ≡ None))
-        ⊎ (Asks (map (λ s. s.now) words.entry.now) × HasTapeFault)) }
+    ensures refused { result ≡ 2 → Misfits cmp (texts words.entry.now)
+        ⊎ ((Fits cmp (texts words.entry.now)
+        × (cmp_asked (texts words.entry.now) ≡ None))
+        ⊎ (Asks (texts words.entry.now) × HasTapeFault)) }
     // 4 means that a beginning of the rows was written, or nothing; or help is asked for.
-    ensures begun { result ≡ 4 → AsksForHelp cmp (map (λ s. s.now) words.entry.now)
-        ⊎ (TellsAskedFront (map (λ s. s.now) words.entry.now)
+    ensures begun { result ≡ 4 → AsksForHelp cmp (texts words.entry.now)
+        ⊎ (TellsAskedFront (texts words.entry.now)
         (O.contents output.old) (O.contents output.new)
-        ⊎ (Asks (map (λ s. s.now) words.entry.now) × (output.new ≡ output.old))) }
+        ⊎ (Asks (texts words.entry.now) × (output.new ≡ output.old))) }
 {
     match read_cmp_words(rt.alloc(), words) {
         Ok(words) => done(rt, &words, output, errors),

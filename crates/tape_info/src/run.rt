@@ -1,7 +1,8 @@
 //! What the word `info` does.
 
-ghost use Rattle.std.specs.Prelude.{◌≡◌, ◌≤◌, ◌⊎◌, IfErr, IfOk, None, false, map, string_bytes};
-ghost use Rattle.std.specs.Prelude.{true};
+ghost use Rattle.std.specs.Prelude.{◌≡◌, ◌≤◌, ◌⊎◌, IfErr, IfOk, None, false, string_bytes, true};
+ghost use Rattle.arguments.specs.Streams.{Tells, TellsFront};
+ghost use Rattle.arguments.specs.Words.{AsksForHelp, Fits, Misfits, texts};
 ghost use Rattle.model.specs.State.{is_map};
 ghost use Rattle.model.specs.Tape.{FirstFault, TapeDenotes};
 ghost use Rattle.tape_info.specs.Facts.{data_records};
@@ -9,12 +10,11 @@ ghost use Rattle.tape_info.specs.Told.{AreRows, IsFaultText, IsHint};
 ghost use Rattle.tape_info.specs.Word.{Asks, EndsInfo, IsAbout, IsSaid};
 ghost use Rattle.tape_words.specs.Asked.{info_asked, info_view};
 ghost use Rattle.tape_words.specs.CommandLines.{info};
-ghost use Rattle.word_streams.specs.Streams.{Tells, TellsFront};
-ghost use Rattle.word_streams.specs.Words.{AsksForHelp, Fits, Misfits};
 
 use crate::fact_list::{data_records, facts_of};
 use crate::fact_text::image_text;
 use crate::wording;
+use arguments::{FileRefusal, Refusal, refused_words};
 use memory_map::{Image, MapSpec};
 use model::{TapeFault, TapeFaultKind};
 use papertape::read_tape;
@@ -22,9 +22,7 @@ use std::alloc::{AllocError, Global};
 use std::io::Write;
 use std::rt::Files;
 use tape_mend::mend_text;
-use tape_words::{
-    Answer, InfoWords, Refusal, answered, fault_text, read_info_words, read_text, refused_words,
-};
+use tape_words::{Answer, InfoWords, answered, fault_text, read_info_words, read_text};
 
 /// Returns what is on a tape, by its text and its image.
 fn right_tape(
@@ -72,86 +70,91 @@ fn wrong_tape(
     Ok(said)
 }
 
-/// Returns what is to be said of a right tape.
+/// Returns what is to be said of a right tape. The only error is that an allocation failed.
 fn right_answer(
     alloc: Global,
     words: &InfoWords<'_>,
     map: &MapSpec,
     text: &[u8],
     image: &Image,
-) -> Result<Answer, Refusal>
+) -> Result<Answer, AllocError>
     requires port { map.now.port ≡ words.now.port }
     requires denotes { TapeDenotes text.now image.now }
-    ensures about { IfOk result (IsAbout (info_view words.now)) }
-    ensures only { IfErr result (λ r. r ≡ Refusal.OutOfMemory) }
+    ensures { IfOk result (IsAbout (info_view words.now)) }
 {
-    match right_tape(alloc, words, map, text, image) {
-        Ok(text) => Ok(Answer {
-            text,
-            is_right: true,
-        }),
-        Err(_) => Err(Refusal::OutOfMemory),
-    }
+    let text = right_tape(alloc, words, map, text, image)?;
+    Ok(Answer {
+        text,
+        is_right: true,
+    })
 }
 
-/// Returns what is to be said of a tape with a fault.
+/// Returns what is to be said of a tape with a fault. The only error is that an allocation failed.
 fn wrong_answer(
     alloc: Global,
     words: &InfoWords<'_>,
     text: &[u8],
     fault: TapeFault,
-) -> Result<Answer, Refusal>
+) -> Result<Answer, AllocError>
     requires { FirstFault text.now fault.kind fault.offset }
-    ensures about { IfOk result (IsAbout (info_view words.now)) }
-    ensures only { IfErr result (λ r. r ≡ Refusal.OutOfMemory) }
+    ensures { IfOk result (IsAbout (info_view words.now)) }
 {
-    match wrong_tape(alloc, words, text, fault) {
-        Ok(text) => Ok(Answer {
-            text,
-            is_right: false,
-        }),
-        Err(_) => Err(Refusal::OutOfMemory),
-    }
+    let text = wrong_tape(alloc, words, text, fault)?;
+    Ok(Answer {
+        text,
+        is_right: false,
+    })
 }
 
-/// Returns what is to be said of the text of a tape.
+/// Returns what is to be said of the text of a tape. The only error is that an allocation failed.
 fn answer_of(
     alloc: Global,
     words: &InfoWords<'_>,
     map: &MapSpec,
     text: &[u8],
-) -> Result<Answer, Refusal>
+) -> Result<Answer, AllocError>
     requires { map.now.port ≡ words.now.port }
-    ensures about { IfOk result (IsAbout (info_view words.now)) }
-    ensures only { IfErr result (λ r. r ≡ Refusal.OutOfMemory) }
+    ensures { IfOk result (IsAbout (info_view words.now)) }
 {
     match read_tape(alloc, text) {
         Ok(image) => right_answer(alloc, words, map, text, &image),
         Err(fault) => match fault.kind {
-            TapeFaultKind::OutOfMemory => Err(Refusal::OutOfMemory),
+            TapeFaultKind::OutOfMemory => Err(AllocError),
             _ => wrong_answer(alloc, words, text, fault),
         },
     }
 }
 
 /// Returns what is to be said of the tape that the words name.
-fn done<H: Files + AllocGlobal>(rt: &H, words: &InfoWords<'_>) -> Result<Answer, Refusal>
+fn done<'a, H: Files + AllocGlobal>(
+    rt: &H,
+    words: &InfoWords<'a>,
+) -> Result<Answer, FileRefusal<'a>>
     ensures about { IfOk result (IsAbout (info_view words.now)) }
-    ensures refused { IfErr result (EndsInfo (info_view words.now)) }
+    ensures refused { IfErr result (λ why. EndsInfo (info_view words.now) why.refusal) }
 {
-    let Ok(map) = MapSpec::new(None, words.port) else {
-        return Err(Refusal::Map);
+    let file = words.tape;
+    let map = match MapSpec::new(None, words.port) {
+        Ok(map) => map,
+        Err(fault) => {
+            return Err(FileRefusal {
+                file,
+                refusal: Refusal::Map(fault),
+            });
+        }
     };
-    match read_text(rt, words.tape) {
-        Ok(text) => answer_of(rt.alloc(), words, &map, &text),
-        Err(refusal) => Err(refusal),
-    }
+    let text = read_text(rt, file)?;
+    answer_of(rt.alloc(), words, &map, &text).map_err(|_| FileRefusal {
+        file,
+        refusal: Refusal::OutOfMemory,
+    })
 }
 
 /// Does what the words after `info` ask for, and returns the exit status: 0 if the tape is right, 1
 /// if it has a fault, 2 if the words or the map are wrong, 3 if memory ran out, 4 if reading or
 /// writing failed. What is on the tape, or what is wrong with it, goes to `output`. For 2 and above
-/// a line on `errors` says why; that it cannot be written changes no status.
+/// a line on `errors` says why, with the name of the file; that it cannot be written changes no
+/// status.
 pub fn tape_info<H: Files + AllocGlobal, O: Write, E: Write>(
     rt: &H,
     words: &[&str],
@@ -164,22 +167,22 @@ pub fn tape_info<H: Files + AllocGlobal, O: Write, E: Write>(
     // Words or a map that are refused leave the output as it was.
     ensures untouched { 2 ≤ result → result ≤ 3 → output.new ≡ output.old }
     // 0 means that the rows of some right tape were written, or the help that is asked for.
-    ensures right { result ≡ 0 → AsksForHelp info (map (λ s. s.now) words.entry.now)
-        ⊎ Asks (map (λ s. s.now) words.entry.now) (λ asked. Tells (IsSaid asked) true
+    ensures right { result ≡ 0 → AsksForHelp info (texts words.entry.now)
+        ⊎ Asks (texts words.entry.now) (λ asked. Tells (IsSaid asked) true
         (O.contents output.old) (O.contents output.new)) }
     // 1 means that the first fault of some tape was written, or that the file is too long.
-    ensures wrong { result ≡ 1 → Asks (map (λ s. s.now) words.entry.now)
+    ensures wrong { result ≡ 1 → Asks (texts words.entry.now)
         (λ asked. Tells (IsSaid asked) false (O.contents output.old) (O.contents output.new)
         ⊎ (output.new ≡ output.old)) }
     // 2 means that the words do not fit, that a value is wrong, or that the port makes no map.
-    ensures refused { result ≡ 2 → Misfits info (map (λ s. s.now) words.entry.now)
-        ⊎ ((Fits info (map (λ s. s.now) words.entry.now)
-        × (info_asked (map (λ s. s.now) words.entry.now) ≡ None))
-        ⊎ Asks (map (λ s. s.now) words.entry.now) (λ asked. is_map None asked.port ≡ false)) }
+    ensures refused { result ≡ 2 → Misfits info (texts words.entry.now)
+        ⊎ ((Fits info (texts words.entry.now)
+        × (info_asked (texts words.entry.now) ≡ None))
+        ⊎ Asks (texts words.entry.now) (λ asked. is_map None asked.port ≡ false)) }
     // 4 means that a beginning was written of what is said of some tape, or nothing; or help is
     // asked for.
-    ensures begun { result ≡ 4 → AsksForHelp info (map (λ s. s.now) words.entry.now)
-        ⊎ Asks (map (λ s. s.now) words.entry.now) (λ asked. TellsFront (IsSaid asked)
+    ensures begun { result ≡ 4 → AsksForHelp info (texts words.entry.now)
+        ⊎ Asks (texts words.entry.now) (λ asked. TellsFront (IsSaid asked)
         (O.contents output.old) (O.contents output.new) ⊎ (output.new ≡ output.old)) }
 {
     match read_info_words(rt.alloc(), words) {

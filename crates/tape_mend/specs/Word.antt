@@ -1,6 +1,9 @@
 -- What `mend` has done. Source: mos65. No clause can say which tape a file has, nor that OUT has
 -- the mended text.
 use Rattle.std.specs.Prelude.{◌≡◌, ⊤, ℕ, Bool, true, false, List, Option, Some, None, string_bytes}
+use Rattle.arguments.specs.Words.{Fits}
+use Rattle.arguments.specs.declared.refusal.Refusal.{Refusal}
+use Rattle.arguments.specs.declared.refusal.Refusal.TheVariants.{Tape, OutOfMemory, Read, Write}
 use Rattle.clap.specs.Words.{Text}
 use Rattle.model.specs.Tape.{FirstFault, TapeDenotes}
 use Rattle.model.specs.declared.tape.TapeFault.{TapeFault}
@@ -9,12 +12,9 @@ use Rattle.tape_mend.specs.Mending.{HasRecords, IsMendedText, mended_text}
 use Rattle.tape_mend.specs.Reported.{faults_text, moved}
 use Rattle.tape_words.specs.Asked.{MendAsked, mend_asked}
 use Rattle.tape_words.specs.CommandLines.{mend}
+use Rattle.tape_words.specs.Files.{too_long_file}
 use Rattle.tape_words.specs.Meanings.{fault_line}
-use Rattle.tape_words.specs.Unread.{too_long_file}
 use Rattle.tape_words.specs.declared.answer.Answer.{Answer}
-use Rattle.tape_words.specs.declared.refusal.Refusal.{Refusal}
-use Rattle.tape_words.specs.declared.refusal.Refusal.TheVariants.{Words, Map, Tape, OutOfMemory, Read, Write}
-use Rattle.word_streams.specs.Words.{Fits}
 use Rattle.tape_mend.specs.declared.wording.TheConstants.{NOTHING_WAS_WRONG}
 
 -- What is said of a text that had this first fault, or none.
@@ -51,12 +51,11 @@ IsAbout asked answer = IsSaid asked answer.is_right (string_bytes answer.text)
 
 -- Why there is no answer: the file is too long.
 abbrev pub EndsMend : Refusal → Type 0
-EndsMend Words = ⊥
-EndsMend Map = ⊥
 EndsMend (Tape fault) = fault ≡ too_long_file
 EndsMend OutOfMemory = ⊤
 EndsMend Read = ⊤
 EndsMend Write = ⊤
+EndsMend refusal = ⊥
 
 -- The words fit, the files have two names, and a fact holds of what is asked for.
 abbrev pub Asks : List Text → (MendAsked → Type 0) → Type 0

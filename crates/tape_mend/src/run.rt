@@ -1,6 +1,9 @@
 //! What the word `mend` does.
 
-ghost use Rattle.std.specs.Prelude.{◌≡◌, ◌≤◌, ◌⊎◌, IfErr, IfOk, None, false, map, true};
+ghost use Rattle.std.specs.Prelude.{◌≡◌, ◌≤◌, ◌⊎◌, IfErr, IfOk, None, false, true};
+ghost use Rattle.arguments.specs.Files.{EndsWriting};
+ghost use Rattle.arguments.specs.Streams.{Tells, TellsFront};
+ghost use Rattle.arguments.specs.Words.{AsksForHelp, Fits, Misfits, texts};
 ghost use Rattle.model.specs.Tape.{FirstFault, TapeDenotes};
 ghost use Rattle.model.specs.TapeFault.{out_of_memory};
 ghost use Rattle.tape_mend.specs.Mending.{HasRecords, IsMendedText, mended_text};
@@ -8,21 +11,16 @@ ghost use Rattle.tape_mend.specs.Reported.{ends_before, moved, place_in};
 ghost use Rattle.tape_mend.specs.Word.{Asks, EndsMend, IsAbout, IsSaid};
 ghost use Rattle.tape_words.specs.Asked.{mend_asked, mend_view};
 ghost use Rattle.tape_words.specs.CommandLines.{mend};
-ghost use Rattle.word_streams.specs.Streams.{Tells, TellsFront};
-ghost use Rattle.word_streams.specs.Words.{AsksForHelp, Fits, Misfits};
 
 use crate::mending::{Mended, mend_text};
 use crate::parts::is_kept;
 use crate::reporting::report;
+use arguments::{FileRefusal, Refusal, is_one_file, refused_words, write_file};
 use model::{TapeFault, TapeFaultKind};
-use std::alloc::Global;
+use std::alloc::{AllocError, Global};
 use std::io::Write;
 use std::rt::Files;
-use tape_words::{
-    Answer, MendWords, Refusal, answered, fault_text, read_mend_words, read_text, refused_words,
-    write_file,
-};
-use word_streams::is_one_file;
+use tape_words::{Answer, MendWords, answered, fault_text, read_mend_words, read_text};
 
 /// Returns how many bytes of a mended text come directly before a byte: CR LF before each `;` but
 /// the first byte.
@@ -66,97 +64,112 @@ fn moved(text: &[u8], made: TapeFault) -> TapeFault
     TapeFault { offset, kind }
 }
 
-/// Returns the answer for a tape of which more is wrong.
+/// Returns the answer for a tape of which more is wrong. The only error is that an allocation
+/// failed.
 fn still_wrong(
     alloc: Global,
     words: &MendWords<'_>,
     text: &[u8],
     fault: TapeFault,
-) -> Result<Answer, Refusal>
+) -> Result<Answer, AllocError>
     requires { FirstFault (mended_text text.now) fault.kind fault.offset }
-    ensures about { IfOk result (IsAbout (mend_view words.now)) }
-    ensures only { IfErr result (λ r. r ≡ Refusal.OutOfMemory) }
+    ensures { IfOk result (IsAbout (mend_view words.now)) }
 {
-    let shown = moved(text, fault);
-    match fault_text(alloc, words.tape, text, shown) {
-        Ok(text) => Ok(Answer {
-            text,
-            is_right: false,
-        }),
-        Err(_) => Err(Refusal::OutOfMemory),
-    }
+    let text = fault_text(alloc, words.tape, text, moved(text, fault))?;
+    Ok(Answer {
+        text,
+        is_right: false,
+    })
 }
 
-/// Returns the answer for a tape that is not mended, or that memory ran out.
+/// Returns the answer for a tape that is not mended. The only error is that an allocation failed.
 fn not_mended(
     alloc: Global,
     words: &MendWords<'_>,
     text: &[u8],
     fault: TapeFault,
-) -> Result<Answer, Refusal>
+) -> Result<Answer, AllocError>
     requires { (fault ≡ out_of_memory) ⊎ FirstFault (mended_text text.now) fault.kind fault.offset }
-    ensures about { IfOk result (IsAbout (mend_view words.now)) }
-    ensures only { IfErr result (λ r. r ≡ Refusal.OutOfMemory) }
+    ensures { IfOk result (IsAbout (mend_view words.now)) }
 {
     match fault.kind {
-        TapeFaultKind::OutOfMemory => Err(Refusal::OutOfMemory),
+        TapeFaultKind::OutOfMemory => Err(AllocError),
         _ => still_wrong(alloc, words, text, fault),
     }
 }
 
+/// Writes OUT, unless it is the tape under another name.
+///
+/// Errors: `Write` if OUT is the tape, or cannot be written; `OutOfMemory` if an allocation fails.
+fn write_out<H: Files>(rt: &H, words: &MendWords<'_>, text: &[u8]) -> Result<(), Refusal>
+    ensures { IfErr result EndsWriting }
+{
+    if is_one_file(rt, words.tape, words.out) {
+        return Err(Refusal::Write);
+    }
+    write_file(rt, words.out, text)
+}
+
 /// Writes OUT, and returns what is said of a tape that is mended. If OUT is the tape under another
 /// name, nothing is written.
-fn put_out<H: Files + AllocGlobal>(
+fn put_out<'a, H: Files + AllocGlobal>(
     rt: &H,
-    words: &MendWords<'_>,
+    words: &MendWords<'a>,
     text: &[u8],
     mended: &Mended,
-) -> Result<Answer, Refusal>
+) -> Result<Answer, FileRefusal<'a>>
     requires text { IsMendedText text.now mended.now.text.items mended.now.fault }
     requires denotes { TapeDenotes mended.now.text.items mended.now.image }
     requires records { HasRecords text.now mended.now.image }
     ensures about { IfOk result (IsAbout (mend_view words.now)) }
-    ensures only { IfErr result (λ r. (r ≡ Refusal.OutOfMemory) ⊎ (r ≡ Refusal.Write)) }
+    ensures refused { IfErr result (λ why. EndsWriting why.refusal) }
 {
+    let file = words.out;
     let Ok(said) = report(rt.alloc(), text, mended) else {
-        return Err(Refusal::OutOfMemory);
+        return Err(FileRefusal {
+            file,
+            refusal: Refusal::OutOfMemory,
+        });
     };
-    if is_one_file(rt, words.tape, words.out) {
-        return Err(Refusal::Write);
-    }
-    match write_file(rt, words.out, &mended.text) {
+    match write_out(rt, words, &mended.text) {
         Ok(()) => Ok(Answer {
             text: said,
             is_right: true,
         }),
-        Err(refusal) => Err(refusal),
+        Err(refusal) => Err(FileRefusal { file, refusal }),
     }
 }
 
 /// Mends the text of a tape: what is said of it. OUT is written only if the tape is mended.
-fn mended<H: Files + AllocGlobal>(
+fn mended<'a, H: Files + AllocGlobal>(
     rt: &H,
-    words: &MendWords<'_>,
+    words: &MendWords<'a>,
     text: &[u8],
-) -> Result<Answer, Refusal>
+) -> Result<Answer, FileRefusal<'a>>
     ensures about { IfOk result (IsAbout (mend_view words.now)) }
-    ensures only { IfErr result (λ r. (r ≡ Refusal.OutOfMemory) ⊎ (r ≡ Refusal.Write)) }
+    ensures refused { IfErr result (λ why. EndsWriting why.refusal) }
 {
     match mend_text(rt.alloc(), text) {
         Ok(mended) => put_out(rt, words, text, &mended),
-        Err(fault) => not_mended(rt.alloc(), words, text, fault),
+        Err(fault) => {
+            not_mended(rt.alloc(), words, text, fault).map_err(|_| FileRefusal {
+                file: words.tape,
+                refusal: Refusal::OutOfMemory,
+            })
+        }
     }
 }
 
 /// Mends a tape's file: what is said of it.
-fn done<H: Files + AllocGlobal>(rt: &H, words: &MendWords<'_>) -> Result<Answer, Refusal>
+fn done<'a, H: Files + AllocGlobal>(
+    rt: &H,
+    words: &MendWords<'a>,
+) -> Result<Answer, FileRefusal<'a>>
     ensures about { IfOk result (IsAbout (mend_view words.now)) }
-    ensures refused { IfErr result EndsMend }
+    ensures refused { IfErr result (λ why. EndsMend why.refusal) }
 {
-    match read_text(rt, words.tape) {
-        Ok(text) => mended(rt, words, &text),
-        Err(refusal) => Err(refusal),
-    }
+    let text = read_text(rt, words.tape)?;
+    mended(rt, words, &text)
 }
 
 /// Does what the words after `mend` ask for, and returns the exit status.
@@ -166,7 +179,7 @@ fn done<H: Files + AllocGlobal>(rt: &H, words: &MendWords<'_>) -> Result<Answer,
 /// - 4: reading or writing failed, or OUT is the tape under another name.
 ///
 /// What was mended, or what is wrong, goes to `output`. For 2 and above a line on `errors` says
-/// why; that it cannot be written changes no status.
+/// why, with the name of the file; that it cannot be written changes no status.
 pub fn tape_mend<H: Files + AllocGlobal, O: Write, E: Write>(
     rt: &H,
     words: &[&str],
@@ -180,21 +193,21 @@ pub fn tape_mend<H: Files + AllocGlobal, O: Write, E: Write>(
     ensures untouched { 2 ≤ result → result ≤ 3 → output.new ≡ output.old }
     // 0 means that some tape was mended and what was wrong with it was written, or the help that is
     // asked for.
-    ensures right { result ≡ 0 → AsksForHelp mend (map (λ s. s.now) words.entry.now)
-        ⊎ Asks (map (λ s. s.now) words.entry.now) (λ asked. Tells (IsSaid asked) true
+    ensures right { result ≡ 0 → AsksForHelp mend (texts words.entry.now)
+        ⊎ Asks (texts words.entry.now) (λ asked. Tells (IsSaid asked) true
         (O.contents output.old) (O.contents output.new)) }
     // 1 means that a fault was written that some tape still has, or that the file is too long.
-    ensures wrong { result ≡ 1 → Asks (map (λ s. s.now) words.entry.now)
+    ensures wrong { result ≡ 1 → Asks (texts words.entry.now)
         (λ asked. Tells (IsSaid asked) false (O.contents output.old) (O.contents output.new)
         ⊎ (output.new ≡ output.old)) }
     // 2 means that the words do not fit, or that both files have one name.
-    ensures refused { result ≡ 2 → Misfits mend (map (λ s. s.now) words.entry.now)
-        ⊎ (Fits mend (map (λ s. s.now) words.entry.now)
-        × (mend_asked (map (λ s. s.now) words.entry.now) ≡ None)) }
+    ensures refused { result ≡ 2 → Misfits mend (texts words.entry.now)
+        ⊎ (Fits mend (texts words.entry.now)
+        × (mend_asked (texts words.entry.now) ≡ None)) }
     // 4 means that a beginning was written of what is said of some tape, or nothing; or help is
     // asked for.
-    ensures begun { result ≡ 4 → AsksForHelp mend (map (λ s. s.now) words.entry.now)
-        ⊎ Asks (map (λ s. s.now) words.entry.now) (λ asked. TellsFront (IsSaid asked)
+    ensures begun { result ≡ 4 → AsksForHelp mend (texts words.entry.now)
+        ⊎ Asks (texts words.entry.now) (λ asked. TellsFront (IsSaid asked)
         (O.contents output.old) (O.contents output.new) ⊎ (output.new ≡ output.old)) }
 {
     match read_mend_words(rt.alloc(), words) {

@@ -1,5 +1,4 @@
-pub mod Read
+mod Read
 pub mod Said
-pub mod Unread
 pub mod LineLemmas
 pub mod RecordBytes

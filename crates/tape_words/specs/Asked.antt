@@ -4,12 +4,12 @@ use Rattle.std.specs.Prelude.{ℕ, List, Option, Some, None, codes, if◌then◌
 use Rattle.std.specs.Str.{bytes_eq}
 use Rattle.clap.specs.Words.{Text}
 use Rattle.model.specs.declared.instruction.Profile.{Profile}
-use Rattle.arguments_core.specs.Values.{port_asked, profile_asked}
+use Rattle.arguments.specs.Values.{port_asked, profile_asked}
+use Rattle.arguments.specs.Words.{value_in}
 use Rattle.tape_words.specs.CommandLines.{cmp, info, mend}
 use Rattle.tape_words.specs.declared.words.CmpWords.{CmpWords}
 use Rattle.tape_words.specs.declared.words.InfoWords.{InfoWords}
 use Rattle.tape_words.specs.declared.words.MendWords.{MendWords}
-use Rattle.word_streams.specs.Words.{value_in}
 
 pub record InfoAsked : Type 0 where
   pub tape : Text

@@ -3,8 +3,7 @@
 -- to say. Source: mos65.
 use Rattle.std.specs.Prelude.{codes}
 use Rattle.clap.specs.Words.{App, with_rule}
-use Rattle.arguments_core.specs.CommandLine.{file_rule, option_rule}
-use Rattle.word_streams.specs.Words.{unnamed}
+use Rattle.arguments.specs.CommandLine.{file_rule, option_rule, unnamed}
 
 abbrev pub info : App
 info = with_rule (with_rule (with_rule (unnamed (codes "info")) (file_rule (codes "TAPE")))

@@ -1,6 +1,5 @@
 -- The instruction at an address of an image. Source: mos65.
 use Rattle.std.specs.Prelude.{ℕ, ◌+◌, nat_lt, if◌then◌else◌, List, [], ◌∷◌, Option, Some, None, codes}
-use Rattle.std.specs.Option.{option_map}
 use Rattle.model.specs.Image.{cell_at}
 use Rattle.model.specs.InstructionText.{TextRow, row_of}
 use Rattle.model.specs.declared.instruction.Profile.{Profile}

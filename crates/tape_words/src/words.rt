@@ -1,17 +1,23 @@
 //! What the words ask for.
 
-ghost use Rattle.std.specs.Prelude.{◌≡◌, IfErr, IfOk, None, Some, map, option_map};
+ghost use Rattle.std.specs.Prelude.{◌≡◌, IfErr, IfOk, None, Some, option_map};
+ghost use Rattle.arguments.specs.Words.{Fits, IsRefusalOf, texts};
 ghost use Rattle.clap.specs.Words.{first_value, found_of};
 ghost use Rattle.tape_words.specs.Asked.{cmp_asked, cmp_by, cmp_view, info_asked, info_by};
 ghost use Rattle.tape_words.specs.Asked.{info_view, mend_asked, mend_by, mend_view};
 ghost use Rattle.tape_words.specs.CommandLines.{cmp, info, mend};
-ghost use Rattle.word_streams.specs.Words.{Fits, IsRefusalOf};
 
-use crate::command;
+use crate::command::{cmp_command, info_command, mend_command};
+use arguments::{WordsFault, matched, port_asked, profile_asked, wrong_value};
 use clap::ArgMatches;
 use model::Profile;
-use arguments_core::{WordsFault, port_asked, profile_asked};
 use std::alloc::Global;
+
+/// What is said of a wrong value that is none of an option that several words have.
+const OTHERWISE: &str = "a value is wrong";
+
+/// What is said where the tape and the file to write have one name.
+const ONE_NAME: &str = "TAPE and OUT have one name";
 
 /// What the words of `info TAPE [--port HHHH] [--profile N|C]` ask for.
 #[derive(Clone, Copy)]
@@ -80,19 +86,19 @@ fn mend_words<'a>(matches: &ArgMatches<'a>) -> Option<MendWords<'a>>
 
 /// Reads the words after `info`.
 ///
-/// Errors: `Help` and `Usage` with `clap`'s text; `Value` if an option has a wrong value;
+/// Errors: `Help` and `Usage` with `clap`'s text; `Wrong` if an option has a wrong value;
 /// `OutOfMemory` if an allocation fails.
 pub fn read_info_words<'a>(alloc: Global, words: &'a [&'a str]) -> Result<InfoWords<'a>, WordsFault>
     ensures asked { IfOk result
-        (λ w. info_asked (map (λ s. s.now) words.entry.now) ≡ Some (info_view w)) }
-    ensures taken { IfOk result (λ w. Fits info (map (λ s. s.now) words.entry.now)) }
-    ensures refused { IfErr result (IsRefusalOf info (map (λ s. s.now) words.entry.now)
-        (info_asked (map (λ s. s.now) words.entry.now) ≡ None)) }
+        (λ w. info_asked (texts words.entry.now) ≡ Some (info_view w)) }
+    ensures taken { IfOk result (λ w. Fits info (texts words.entry.now)) }
+    ensures refused { IfErr result (IsRefusalOf info (texts words.entry.now)
+        (info_asked (texts words.entry.now) ≡ None)) }
 {
-    let matches = command::info(alloc)?.try_get_matches_from(words)?;
+    let matches = matched(info_command(alloc)?, words)?;
     match info_words(&matches) {
         Some(words) => Ok(words),
-        None => Err(WordsFault::Value),
+        None => Err(WordsFault::Wrong(wrong_value(&matches, OTHERWISE))),
     }
 }
 
@@ -101,31 +107,31 @@ pub fn read_info_words<'a>(alloc: Global, words: &'a [&'a str]) -> Result<InfoWo
 /// Errors: as those of `read_info_words`.
 pub fn read_cmp_words<'a>(alloc: Global, words: &'a [&'a str]) -> Result<CmpWords<'a>, WordsFault>
     ensures asked { IfOk result
-        (λ w. cmp_asked (map (λ s. s.now) words.entry.now) ≡ Some (cmp_view w)) }
-    ensures taken { IfOk result (λ w. Fits cmp (map (λ s. s.now) words.entry.now)) }
-    ensures refused { IfErr result (IsRefusalOf cmp (map (λ s. s.now) words.entry.now)
-        (cmp_asked (map (λ s. s.now) words.entry.now) ≡ None)) }
+        (λ w. cmp_asked (texts words.entry.now) ≡ Some (cmp_view w)) }
+    ensures taken { IfOk result (λ w. Fits cmp (texts words.entry.now)) }
+    ensures refused { IfErr result (IsRefusalOf cmp (texts words.entry.now)
+        (cmp_asked (texts words.entry.now) ≡ None)) }
 {
-    let matches = command::cmp(alloc)?.try_get_matches_from(words)?;
+    let matches = matched(cmp_command(alloc)?, words)?;
     match cmp_words(&matches) {
         Some(words) => Ok(words),
-        None => Err(WordsFault::Value),
+        None => Err(WordsFault::Wrong(wrong_value(&matches, OTHERWISE))),
     }
 }
 
 /// Reads the words after `mend`.
 ///
-/// Errors: as those of `read_info_words`; `Value` if both files have one name.
+/// Errors: as those of `read_info_words`; `Wrong` if both files have one name.
 pub fn read_mend_words<'a>(alloc: Global, words: &'a [&'a str]) -> Result<MendWords<'a>, WordsFault>
     ensures asked { IfOk result
-        (λ w. mend_asked (map (λ s. s.now) words.entry.now) ≡ Some (mend_view w)) }
-    ensures taken { IfOk result (λ w. Fits mend (map (λ s. s.now) words.entry.now)) }
-    ensures refused { IfErr result (IsRefusalOf mend (map (λ s. s.now) words.entry.now)
-        (mend_asked (map (λ s. s.now) words.entry.now) ≡ None)) }
+        (λ w. mend_asked (texts words.entry.now) ≡ Some (mend_view w)) }
+    ensures taken { IfOk result (λ w. Fits mend (texts words.entry.now)) }
+    ensures refused { IfErr result (IsRefusalOf mend (texts words.entry.now)
+        (mend_asked (texts words.entry.now) ≡ None)) }
 {
-    let matches = command::mend(alloc)?.try_get_matches_from(words)?;
+    let matches = matched(mend_command(alloc)?, words)?;
     match mend_words(&matches) {
         Some(words) => Ok(words),
-        None => Err(WordsFault::Value),
+        None => Err(WordsFault::Wrong(wrong_value(&matches, ONE_NAME))),
     }
 }

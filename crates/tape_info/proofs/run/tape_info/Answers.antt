@@ -1,10 +1,11 @@
-use Rattle.std.proofs.Common.{inl, inr, map}
+use Rattle.std.proofs.Common.{inl, inr}
+use Rattle.arguments.proofs.Parsed.{says_of_words}
+use Rattle.arguments.specs.Words.{texts}
 use Rattle.tape_info.specs.Word.{EndsInfo, IsSaid}
 use Rattle.tape_info.proofs.Word.{no_map}
 use Rattle.tape_words.specs.Asked.{info_view}
 use Rattle.tape_words.specs.CommandLines.{info}
 use Rattle.tape_words.proofs.Said.{said_right, said_wrong, said_front, said_two}
-use Rattle.word_streams.proofs.Parsed.{says_of_words}
 use Rattle.tape_info.proofs.run.tape_info.Goals as goal
 
 pub returns-in-Ok-clause-right : goal.returns-in-Ok-clause-right
@@ -40,13 +41,13 @@ returns-in-Ok-clause-begun g c = λ four. inr (
 )
 
 pub returns-in-Err-clause-right : goal.returns-in-Err-clause-right
-returns-in-Err-clause-right g c = λ zero. inl ((says_of_words info (map (λ s. s.now) c.args.words.now) _ _ _ c.in-Err.ensures.refused c.refused_words.ensures.why).help (inl zero))
+returns-in-Err-clause-right g c = λ zero. inl ((says_of_words info (texts c.args.words.now) _ _ _ c.in-Err.ensures.refused c.refused_words.ensures.status).help (inl zero))
 
 pub returns-in-Err-clause-wrong : goal.returns-in-Err-clause-wrong
-returns-in-Err-clause-wrong g c = λ one. absurd ((says_of_words info (map (λ s. s.now) c.args.words.now) _ _ _ c.in-Err.ensures.refused c.refused_words.ensures.why).never one)
+returns-in-Err-clause-wrong g c = λ one. absurd ((says_of_words info (texts c.args.words.now) _ _ _ c.in-Err.ensures.refused c.refused_words.ensures.status).never one)
 
 pub returns-in-Err-clause-refused : goal.returns-in-Err-clause-refused
-returns-in-Err-clause-refused g c = λ two. elim ((says_of_words info (map (λ s. s.now) c.args.words.now) _ _ _ c.in-Err.ensures.refused c.refused_words.ensures.why).wrong two) [ inl m ↦ inl m | inr w ↦ inr (inl w) ]
+returns-in-Err-clause-refused g c = λ two. elim ((says_of_words info (texts c.args.words.now) _ _ _ c.in-Err.ensures.refused c.refused_words.ensures.status).wrong two) [ inl m ↦ inl m | inr w ↦ inr (inl w) ]
 
 pub returns-in-Err-clause-begun : goal.returns-in-Err-clause-begun
-returns-in-Err-clause-begun g c = λ four. inl ((says_of_words info (map (λ s. s.now) c.args.words.now) _ _ _ c.in-Err.ensures.refused c.refused_words.ensures.why).help (inr four))
+returns-in-Err-clause-begun g c = λ four. inl ((says_of_words info (texts c.args.words.now) _ _ _ c.in-Err.ensures.refused c.refused_words.ensures.status).help (inr four))

@@ -1,4 +1,4 @@
-use Rattle.std.proofs.Common.{◌≡◌, ◌∙◌, ◌++◌, ◌+◌, ℕ, List, [], ◌∷◌, append_assoc, append-nil, ap, sym, take, get_or, refl}
+use Rattle.std.proofs.Common.{◌≡◌, ◌∙◌, ◌++◌, ℕ, List, [], ◌∷◌, append_assoc, append-nil, ap, sym, take, get_or}
 use Rattle.std.proofs.lemmas.List.{take_more}
 use Rattle.std.specs.Prelude.{encode_utf8, encode_utf8_all, string_bytes}
 use Rattle.tape_words.proofs.instruction.push_characters.Goals as goal

@@ -1,4 +1,4 @@
-use Rattle.std.proofs.Common.{◌≡◌, ◌+◌, ◌-◌, ap, length, drop, arith}
+use Rattle.std.proofs.Common.{◌+◌, ◌-◌, ap, length, arith}
 use Rattle.tape_words.specs.Lines.{line_ends}
 use Rattle.tape_words.proofs.LineLemmas.{no_more, none_ends, none_left, one_more, shorter}
 use Rattle.tape_words.proofs.tape_faults.line_of.Goals as goal

@@ -1,24 +1,17 @@
-use Rattle.std.proofs.Common.{sym, map, ◌∙◌}
-use Rattle.clap.specs.Words.{app_of}
+use Rattle.std.proofs.Common.{sym, ◌∙◌}
+use Rattle.arguments.specs.Words.{texts}
+use Rattle.clap.specs.Words.{app_of, first_value, found_of}
+use Rattle.tape_words.specs.Asked.{mend_by}
 use Rattle.tape_words.specs.CommandLines.{mend}
-use Rattle.tape_words.proofs.Read.{mend_found, mend_free}
-use Rattle.word_streams.proofs.Parsed.{fits, refused}
+use Rattle.tape_words.proofs.Read.{asked_of, fits_of}
 use Rattle.tape_words.proofs.words.read_mend_words.Goals as goal
-
-pub returns-in_err-matches-clause-refused : goal.returns-in_err-matches-clause-refused
-returns-in_err-matches-clause-refused c =
-    refused (app_of c.in_ok-mend.field-0) mend (map (λ s. s.now) c.args.words.now) _ c.in_err-matches.field-0.0 c.from_residual-in_err-matches.result
-    c.in_ok-mend.ensures.shape mend_free c.in_err-matches.ensures.kinds c.from_residual-in_err-matches.ensures.1
 
 pub returns-in-Some-clause-asked : goal.returns-in-Some-clause-asked
 returns-in-Some-clause-asked c =
-    sym (c.in-Some.ensures ∙ mend_found (app_of c.in_ok-mend.field-0) (map (λ s. s.now) c.args.words.now) c.in_ok-matches.matches c.in_ok-mend.ensures.shape c.in_ok-matches.ensures.matches)
-
-pub returns-in-Some-clause-taken : goal.returns-in-Some-clause-taken
-returns-in-Some-clause-taken c = fits (app_of c.in_ok-mend.field-0) mend (map (λ s. s.now) c.args.words.now) c.in_ok-mend.ensures.shape mend_free c.in_ok-matches.ensures.kinds
+    sym (c.in-Some.ensures ∙ asked_of mend_by (app_of c.in_ok-mend_command.field-0) mend (texts c.args.words.now) (first_value (found_of c.in_ok-matches.matches)) c.in_ok-mend_command.ensures.shape c.in_ok-matches.ensures.values)
 
 pub returns-clause-refused : goal.returns-clause-refused
 returns-clause-refused c = (
-  fits (app_of c.in_ok-mend.field-0) mend (map (λ s. s.now) c.args.words.now) c.in_ok-mend.ensures.shape mend_free c.in_ok-matches.ensures.kinds,
-  sym (c.in-None.ensures ∙ mend_found (app_of c.in_ok-mend.field-0) (map (λ s. s.now) c.args.words.now) c.in_ok-matches.matches c.in_ok-mend.ensures.shape c.in_ok-matches.ensures.matches),
+  fits_of (app_of c.in_ok-mend_command.field-0) mend (texts c.args.words.now) c.in_ok-mend_command.ensures.shape c.in_ok-matches.ensures.fits,
+  sym (c.in-None.ensures ∙ asked_of mend_by (app_of c.in_ok-mend_command.field-0) mend (texts c.args.words.now) (first_value (found_of c.in_ok-matches.matches)) c.in_ok-mend_command.ensures.shape c.in_ok-matches.ensures.values),
 )
