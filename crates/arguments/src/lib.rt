@@ -10,6 +10,7 @@
 mod fault;
 mod fault_line;
 mod file_options;
+mod file_refusal;
 mod files;
 mod load_fault;
 mod map;
@@ -24,6 +25,7 @@ mod value;
 pub use fault::WordsFault;
 pub use fault_line::{put_fault_line, put_three, put_two};
 pub use file_options::{FileWords, file_words, with_file_options};
+pub use file_refusal::FileRefusal;
 pub use files::{image_of_tape, read_most, read_source, write_file};
 pub use load_fault::LoadFault;
 pub use map::map_of;

@@ -3,8 +3,8 @@
 ghost use Rattle.std.specs.Prelude.{◌≡◌, IsOkUnless, IfErr, IfOk, true};
 ghost use Rattle.arguments.specs.Asked.{is_flag};
 ghost use Rattle.arguments.specs.Words.{Fits, IsMisfit, texts, value_in};
-ghost use Rattle.clap.specs.Words.{app_of, first_value, found_of, is_simple, subcommand_of};
-ghost use Rattle.clap.specs.Words.{is_simple_and_free, subcommand_rows_of};
+ghost use Rattle.clap.specs.Words.{app_of, first_value, found_of, is_simple, is_simple_and_free};
+ghost use Rattle.clap.specs.Words.{matches_of, rows_of, subcommand_of, subcommand_rows_of};
 
 use crate::fault::WordsFault;
 use clap::{ArgMatches, Command};
@@ -31,9 +31,12 @@ pub fn matched<'a>(command: Command<'a>, words: &'a [&'a str]) -> Result<ArgMatc
     requires free { is_simple_and_free (app_of command) ≡ true }
     ensures fits { IfOk result (λ _. Fits (app_of command.entry)
         (texts words.entry.now)) }
-    // What was found of each name, and of a subcommand, is what `clap`'s definition finds.
+    // The first value of each name, all that was found, and a subcommand, are what `clap`'s
+    // definition finds.
     ensures values { IfOk result (λ m. first_value (found_of m)
         ≡ value_in (app_of command.entry) (texts words.entry.now)) }
+    ensures rows { IfOk result (λ m. rows_of (found_of m)
+        ≡ matches_of (app_of command.entry) (texts words.entry.now)) }
     ensures subcommand { IfOk result (λ m. subcommand_rows_of m
         ≡ subcommand_of (app_of command.entry) (texts words.entry.now)) }
     ensures served { Fits (app_of command.entry) (texts words.entry.now)
