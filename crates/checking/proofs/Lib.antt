@@ -1,4 +1,3 @@
 pub mod KindWords
-pub mod Read
 pub mod Said
 pub mod Told

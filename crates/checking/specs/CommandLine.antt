@@ -2,14 +2,14 @@
 -- describe one, and what its words ask for. How words are matched with it is clap's to say. Source:
 -- mos65.
 use Rattle.std.specs.Prelude.{ℕ, Bool, Option, Some, None, List, codes}
+use Rattle.arguments.specs.Asked.{is_flag}
+use Rattle.arguments.specs.CommandLine.{file_rule, flag_rule, option_rule, unnamed}
+use Rattle.arguments.specs.Values.{port_asked, profile_asked}
+use Rattle.arguments.specs.Words.{value_in}
+use Rattle.checking.specs.declared.words.CheckWords.{CheckWords}
 use Rattle.clap.specs.Words.{App, Text, with_rule}
 use Rattle.model.specs.State.{Map}
 use Rattle.model.specs.declared.instruction.Profile.{Profile}
-use Rattle.arguments_core.specs.Asked.{is_flag}
-use Rattle.arguments_core.specs.CommandLine.{file_rule, flag_rule, option_rule}
-use Rattle.arguments_core.specs.Values.{port_asked, profile_asked}
-use Rattle.checking.specs.declared.words.CheckWords.{CheckWords}
-use Rattle.word_streams.specs.Words.{unnamed, value_in}
 
 abbrev pub check : App
 check = with_rule (with_rule (with_rule (with_rule (unnamed (codes "check"))

@@ -1,16 +1,18 @@
 -- What `check` finds of a source, and what it writes of it. Source: mos65.
 use Rattle.std.specs.Prelude.{◌≡◌, ◌⊎◌, ⊤, ℕ, ◌==◌, ◌&&◌, ◌||◌, Bool, not, true, false, List, Some, None, length}
+use Rattle.arguments.specs.Words.{Fits}
+use Rattle.arguments.specs.declared.load_fault.LoadFault.{LoadFault}
+use Rattle.arguments.specs.declared.load_fault.LoadFault.TheVariants.{LooksLikeTape, Refused}
+use Rattle.arguments.specs.declared.refusal.Refusal.TheVariants.{Map, OutOfMemory, Read}
 use Rattle.checking.specs.Checked.{IsCheckedText}
 use Rattle.checking.specs.CommandLine.{CheckAsked, check, check_asked, map_asked}
-use Rattle.checking.specs.declared.refusal.Refusal.{Refusal}
-use Rattle.checking.specs.declared.refusal.Refusal.TheVariants.{Words, Map, LooksLikeTape, OutOfMemory, Read, Write}
 use Rattle.checking.specs.declared.text.CheckedText.{CheckedText}
 use Rattle.clap.specs.Words.{Text}
 use Rattle.model.specs.AllFaults.{faults_of}
 use Rattle.model.specs.State.{is_map}
+use Rattle.model.specs.declared.bus_fault.BusFault.TheVariants.{BadMap}
 use Rattle.papertape.specs.Hint.{BeginsTape}
 use Rattle.warnings.specs.Warnings.{warnings_of}
-use Rattle.word_streams.specs.Words.{Fits}
 
 -- The port that is asked for makes a map.
 abbrev pub HasMap : CheckAsked → Type 0
@@ -45,13 +47,12 @@ HasTape = (text : List ℕ) × BeginsTape text
 
 -- Why no source was checked: the port makes no map; or it makes one, and the file begins with a
 -- record of a tape or cannot be read. Memory may run out at any file.
-abbrev pub EndsCheck : CheckAsked → Refusal → Type 0
-EndsCheck asked Words = ⊥
-EndsCheck asked Map = is_map None asked.port ≡ false
+abbrev pub EndsCheck : CheckAsked → LoadFault → Type 0
 EndsCheck asked LooksLikeTape = HasMap asked × HasTape
-EndsCheck asked OutOfMemory = ⊤
-EndsCheck asked Read = HasMap asked
-EndsCheck asked Write = ⊥
+EndsCheck asked (Refused (Map fault)) = (fault ≡ BadMap) × (is_map None asked.port ≡ false)
+EndsCheck asked (Refused OutOfMemory) = ⊤
+EndsCheck asked (Refused Read) = HasMap asked
+EndsCheck asked (Refused refusal) = ⊥
 
 -- What is asked for is refused before a source is checked.
 abbrev pub IsRefused : CheckAsked → Type 0

@@ -1,28 +1,29 @@
-use Rattle.std.proofs.Common.{inl, inr, map}
+use Rattle.std.proofs.Common.{inl, inr}
 use Rattle.checking.specs.CommandLine.{check, check_view}
-use Rattle.word_streams.proofs.Parsed.{says_of_words}
+use Rattle.arguments.proofs.Parsed.{says_of_words}
+use Rattle.arguments.specs.Words.{texts}
 use Rattle.checking.proofs.running.check.Goals as goal
 
 pub returns-in-Ok-clause-right : goal.returns-in-Ok-clause-right
-returns-in-Ok-clause-right g c = λ zero. inr (check_view c.in-Ok.words, c.in-Ok.ensures.taken, c.in-Ok.ensures.asked, c.done.ensures.right zero)
+returns-in-Ok-clause-right g c = λ zero. inr (check_view c.in-Ok.words, c.in-Ok.ensures.fits, c.in-Ok.ensures.asked, c.done.ensures.right zero)
 
 pub returns-in-Ok-clause-told : goal.returns-in-Ok-clause-told
-returns-in-Ok-clause-told g c = λ one. (check_view c.in-Ok.words, c.in-Ok.ensures.taken, c.in-Ok.ensures.asked, c.done.ensures.told one)
+returns-in-Ok-clause-told g c = λ one. (check_view c.in-Ok.words, c.in-Ok.ensures.fits, c.in-Ok.ensures.asked, c.done.ensures.told one)
 
 pub returns-in-Ok-clause-refused : goal.returns-in-Ok-clause-refused
-returns-in-Ok-clause-refused g c = λ two. inr (inr (check_view c.in-Ok.words, c.in-Ok.ensures.taken, c.in-Ok.ensures.asked, c.done.ensures.refused two))
+returns-in-Ok-clause-refused g c = λ two. inr (inr (check_view c.in-Ok.words, c.in-Ok.ensures.fits, c.in-Ok.ensures.asked, c.done.ensures.refused two))
 
 pub returns-in-Ok-clause-begun : goal.returns-in-Ok-clause-begun
-returns-in-Ok-clause-begun g c = λ four. inr (check_view c.in-Ok.words, c.in-Ok.ensures.taken, c.in-Ok.ensures.asked, c.done.ensures.begun four)
+returns-in-Ok-clause-begun g c = λ four. inr (check_view c.in-Ok.words, c.in-Ok.ensures.fits, c.in-Ok.ensures.asked, c.done.ensures.begun four)
 
 pub returns-in-Err-clause-right : goal.returns-in-Err-clause-right
-returns-in-Err-clause-right g c = λ zero. inl ((says_of_words check (map (λ s. s.now) c.args.words.now) _ _ _ c.in-Err.ensures.refused c.refused_words.ensures.why).help (inl zero))
+returns-in-Err-clause-right g c = λ zero. inl ((says_of_words check (texts c.args.words.now) _ _ _ c.in-Err.ensures.refused c.refused_words.ensures.status).help (inl zero))
 
 pub returns-in-Err-clause-told : goal.returns-in-Err-clause-told
-returns-in-Err-clause-told g c = λ one. absurd ((says_of_words check (map (λ s. s.now) c.args.words.now) _ _ _ c.in-Err.ensures.refused c.refused_words.ensures.why).never one)
+returns-in-Err-clause-told g c = λ one. absurd ((says_of_words check (texts c.args.words.now) _ _ _ c.in-Err.ensures.refused c.refused_words.ensures.status).never one)
 
 pub returns-in-Err-clause-refused : goal.returns-in-Err-clause-refused
-returns-in-Err-clause-refused g c = λ two. elim ((says_of_words check (map (λ s. s.now) c.args.words.now) _ _ _ c.in-Err.ensures.refused c.refused_words.ensures.why).wrong two) [ inl m ↦ inl m | inr w ↦ inr (inl w) ]
+returns-in-Err-clause-refused g c = λ two. elim ((says_of_words check (texts c.args.words.now) _ _ _ c.in-Err.ensures.refused c.refused_words.ensures.status).wrong two) [ inl m ↦ inl m | inr w ↦ inr (inl w) ]
 
 pub returns-in-Err-clause-begun : goal.returns-in-Err-clause-begun
-returns-in-Err-clause-begun g c = λ four. inl ((says_of_words check (map (λ s. s.now) c.args.words.now) _ _ _ c.in-Err.ensures.refused c.refused_words.ensures.why).help (inr four))
+returns-in-Err-clause-begun g c = λ four. inl ((says_of_words check (texts c.args.words.now) _ _ _ c.in-Err.ensures.refused c.refused_words.ensures.status).help (inr four))
