@@ -1,13 +1,13 @@
 -- Why no session begins.
 use Rattle.std.proofs.Common.{◌≡◌, ◌⊎◌, Bool, true, false, inl, inr, sym, subst, Result, Ok, Err, IfErr}
-use Rattle.loading.specs.Asked.{map_of}
+use Rattle.arguments.specs.Asked.{map_of}
 use Rattle.loading.specs.Loads.{EndsFile}
-use Rattle.loading.specs.declared.loaded.LoadFault.{LoadFault}
-use Rattle.loading.specs.declared.loaded.LoadFault.TheVariants.{Refused}
+use Rattle.arguments.specs.declared.load_fault.LoadFault.{LoadFault}
+use Rattle.arguments.specs.declared.load_fault.LoadFault.TheVariants.{Refused}
 use Rattle.model.specs.State.{Map}
 use Rattle.mon.specs.Done.{EndsMon, EndsNamed}
-use Rattle.mon_words.specs.Asked.{MonAsked}
-use Rattle.program.specs.declared.refusal.Refusal.TheVariants.{OutOfMemory}
+use Rattle.arguments_play.specs.Mon.{MonAsked}
+use Rattle.arguments.specs.declared.refusal.Refusal.TheVariants.{OutOfMemory}
 
 memory_by : (is_tape : Bool) (bus_map : Map) → EndsFile is_tape bus_map (Refused OutOfMemory)
 memory_by true bus_map = tt

@@ -9,7 +9,7 @@ use Rattle.mon.specs.Pieces.{GoesOn, IsOver, Piece, ServesPiece, unless_over}
 use Rattle.mon.proofs.LinesServed.{line_alone, line_kept, line_on, line_over, lines_more, lines_then, no_lines}
 use Rattle.mon_session.specs.Course.{ShowsOnly}
 use Rattle.mon_session.specs.declared.desk.Desk.{Desk}
-use Rattle.program.specs.declared.refusal.Refusal.{Refusal}
+use Rattle.arguments.specs.declared.refusal.Refusal.{Refusal}
 
 pub begins : (prompt : List ℕ) (first : Desk) → GoesOn prompt [] [] first first []
 begins prompt first = record {

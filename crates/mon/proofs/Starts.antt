@@ -1,14 +1,14 @@
 -- How a session begins.
 use Rattle.std.proofs.Common.{◌≡◌, ℕ, List, Option, Some, option_map, subst, sym, Result, Ok, Err, IfOk, Bor}
 use Rattle.assembler.specs.Assembly.{AssemblyView, IsAssembled}
-use Rattle.loading.specs.Asked.{FileAsked, map_of}
+use Rattle.arguments.specs.Asked.{FileAsked, map_of}
 use Rattle.loading.specs.Loads.{IsLoaded}
-use Rattle.loading.specs.declared.loaded.LoadFault.{LoadFault}
+use Rattle.arguments.specs.declared.load_fault.LoadFault.{LoadFault}
 use Rattle.model.specs.Event.{start}
 use Rattle.model.specs.Session.{Session, new_session}
 use Rattle.mon.specs.Done.{AreNamed, IsNewDesk, StartsMon, places_in, with_names}
 use Rattle.mon_session.specs.declared.desk.Desk.{Desk}
-use Rattle.mon_words.specs.Asked.{MonAsked}
+use Rattle.arguments_play.specs.Mon.{MonAsked}
 
 -- The session of a new desk is the one that was loaded.
 pub named_starts : (asked : MonAsked) (session : Session) (assembly : Option AssemblyView) (r : Result Desk LoadFault)

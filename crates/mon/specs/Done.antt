@@ -3,21 +3,21 @@ use Rattle.std.specs.Prelude.{◌≡◌, ◌⊎◌, ⊤, ℕ, Bool, true, if◌t
 use Rattle.std.specs.Io.KnownBytes.{Appends}
 use Rattle.assembler.specs.Assembly.{AssemblyView, IsAssembled}
 use Rattle.clap.specs.Words.{Text}
-use Rattle.loading.specs.Asked.{FileAsked, map_of}
+use Rattle.arguments.specs.Asked.{FileAsked, map_of}
 use Rattle.loading.specs.Loads.{EndsLoad, EndsNames, IsLoaded}
-use Rattle.loading.specs.Statuses.{status_of_load}
-use Rattle.loading.specs.declared.loaded.LoadFault.{LoadFault}
-use Rattle.loading.specs.declared.loaded.LoadFault.TheVariants.{LooksLikeTape, Refused}
+use Rattle.arguments.specs.Statuses.{status_of_load}
+use Rattle.arguments.specs.declared.load_fault.LoadFault.{LoadFault}
+use Rattle.arguments.specs.declared.load_fault.LoadFault.TheVariants.{LooksLikeTape, Refused}
 use Rattle.model.specs.Event.{start}
 use Rattle.model.specs.Session.{Session, new_session}
 use Rattle.mon.specs.Attended.{IsAttended}
 use Rattle.mon_session.specs.EventTexts.{shown_text}
 use Rattle.mon_session.specs.declared.desk.Desk.{Desk}
-use Rattle.mon_words.specs.Asked.{MonAsked}
+use Rattle.arguments_play.specs.Mon.{MonAsked}
 use Rattle.source_map.specs.Lines.{PlacesView, places_of}
 use Rattle.source_map.specs.Names.{names_in}
-use Rattle.program.specs.declared.refusal.Refusal.{Refusal}
-use Rattle.program.specs.declared.refusal.Refusal.TheVariants.{OutOfMemory, Read, Write}
+use Rattle.arguments.specs.declared.refusal.Refusal.{Refusal}
+use Rattle.arguments.specs.declared.refusal.Refusal.TheVariants.{OutOfMemory, Read, Write}
 use Rattle.mon.specs.declared.wording.TheConstants.{GREETING}
 
 -- Why a file of names is not assembled, if one is named.

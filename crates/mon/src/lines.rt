@@ -12,10 +12,10 @@ ghost use Rattle.mon_session.specs.Course.{ShowsOnly};
 ghost use Rattle.mon_session.specs.declared.desk.Desk.{Desk};
 
 use crate::wording::PROMPT;
+use arguments::Refusal;
 use arrayvec::ArrayVec;
 use mon_dispatch::serve;
 use mon_session::Desk;
-use program::Refusal;
 use std::alloc::{AllocError, Global};
 use std::io::{Read, Write};
 

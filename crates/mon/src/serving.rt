@@ -1,14 +1,15 @@
 //! What the word `mon` does.
 
-ghost use Rattle.std.specs.Prelude.{◌≡◌, ◌≤◌, ◌⊎◌, ◌∷◌, [], ℕ, List, Option, None, Some, Err, IfErr, IfOk, false};
-ghost use Rattle.std.specs.Prelude.{◌++◌, OnOk, map, option_map, true};
-ghost use Rattle.assembler.specs.Assembly.{AssemblyView};
-ghost use Rattle.clap.specs.Words.{IsAmong, fault_of};
-ghost use Rattle.clap.specs.declared.error.kind.ErrorKind.TheVariants.{DisplayHelp};
-ghost use Rattle.loading.specs.Asked.{map_of};
-ghost use Rattle.loading.specs.Refused.{IsTakenBy};
-ghost use Rattle.loading.specs.Views.{file_view};
-ghost use Rattle.loading.specs.declared.loaded.LoadFault.TheVariants.{Refused};
+ghost use Rattle.std.specs.Prelude.{◌≡◌, ◌⊎◌, ◌++◌, ℕ, List, Option, None, Some, Err, IfErr, IfOk};
+ghost use Rattle.std.specs.Prelude.{OnErr, OnOk, false, true};
+ghost use Rattle.arguments.specs.Asked.{map_of};
+ghost use Rattle.assembler.specs.Assembly.{AssemblyView, IsAssembled};
+ghost use Rattle.loading.specs.Loads.{EndsNames};
+ghost use Rattle.std.specs.Prelude.{IsErrAnd};
+ghost use Rattle.arguments.specs.Asked.{file_view};
+ghost use Rattle.arguments.specs.Words.{Fits, Refuses, texts};
+ghost use Rattle.arguments.specs.declared.load_fault.LoadFault.TheVariants.{Refused};
+ghost use Rattle.arguments_play.specs.Mon.{MonAsked, asked, mon, mon_view};
 ghost use Rattle.model.specs.State.{is_map};
 ghost use Rattle.model.specs.declared.bus_fault.BusFault.TheVariants.{BadMap};
 ghost use Rattle.mon.specs.Attended.{IsAttended, IsAttendedSoFar};
@@ -16,90 +17,124 @@ ghost use Rattle.mon.specs.Done.{AreNamed, EndsAt, EndsMon, EndsNamed, EndsSessi
 ghost use Rattle.mon.specs.Done.{IsNewDesk, StartsMon, greeting_of, places_in, with_names};
 ghost use Rattle.mon_session.specs.EventTexts.{shown_text};
 ghost use Rattle.std.specs.Io.KnownBytes.{Appends};
-ghost use Rattle.mon_words.specs.Asked.{MonAsked, asked};
-ghost use Rattle.mon_words.specs.CommandLine.{mon};
-ghost use Rattle.mon_words.specs.Views.{mon_view};
 
 use crate::lines::{attend, of_memory, say_if};
 use crate::wording::GREETING;
-use loading::{FileWords, LoadFault, Loaded, load_names, load_with_history};
+use arguments::{LoadFault, Refusal, refuse, refused_words};
+use arguments_play::{MonWords, read_mon_words};
+use loading::{Loaded, load_names, load_with_history};
 use mon_session::Desk;
-use mon_words::{MonWords, read_words};
-use program::{Refusal, refuse, refused_words};
 use source_map::Places;
-use std::alloc::Global;
+use std::alloc::{AllocError, Global};
 use std::io::{IsTerminal, Read, Write};
 use std::rt::Files;
 
+/// Why no session begins, with the file that it is of.
+#[derive(Clone, Copy)]
+struct Unbegun<'a> {
+    file: &'a str,
+    fault: LoadFault,
+}
+
+/// Returns that memory ran out before a session began.
+fn out_of_memory(file: &str) -> Unbegun<'_>
+    ensures { result.fault ≡ Refused (Refusal.OutOfMemory) }
+{
+    Unbegun {
+        file,
+        fault: LoadFault::Refused(Refusal::OutOfMemory),
+    }
+}
+
 /// Returns the places of what was loaded.
-fn places_of(alloc: Global, file: &str, loaded: &Loaded) -> Result<Places, LoadFault>
-    ensures places { IfOk result (λ p. p ≡ places_in file.now loaded.now.assembly) }
-    ensures refused { IfErr result (λ fault. fault ≡ Refused (Refusal.OutOfMemory)) }
+fn places_of(alloc: Global, file: &str, loaded: &Loaded) -> Result<Places, AllocError>
+    ensures { IfOk result (λ p. p ≡ places_in file.now loaded.now.assembly) }
 {
     match &loaded.assembly {
-        Some(assembly) => match Places::of_source(alloc, file.as_bytes(), assembly) {
-            Ok(places) => Ok(places),
-            Err(_) => Err(LoadFault::Refused(Refusal::OutOfMemory)),
-        },
+        Some(assembly) => Places::of_source(alloc, file.as_bytes(), assembly),
         None => Ok(Places::new(alloc)),
     }
 }
 
-/// Adds the names of a file of names, if one is named.
+/// Adds the names of a file of names.
 fn add_names<H: Files + AllocGlobal>(
     rt: &H,
     words: &MonWords<'_>,
+    path: &str,
     places: &mut Places,
-) -> Result<(), LoadFault>
+) -> Result<(), Refusal>
+    ensures named { OnOk result ((names : AssemblyView)
+        × IsAssembled (map_of (file_view words.now.file)) names
+        × (places.new ≡ with_names (Some names) places.old)) }
+    ensures refused { IfErr result (λ refusal. (refusal ≡ Refusal.OutOfMemory)
+        ⊎ EndsNames (file_view words.now.file) refusal) }
+{
+    let names = load_names(rt, &words.file, path)?;
+    of_memory(places.add_names(rt.alloc(), &names))
+}
+
+/// Adds the names of the file of names that the words name, if they name one.
+fn add_named<'a, H: Files + AllocGlobal>(
+    rt: &H,
+    words: &MonWords<'a>,
+    places: &mut Places,
+) -> Result<(), Unbegun<'a>>
     ensures named { OnOk result ((names : Option AssemblyView)
         × AreNamed (mon_view words.now).symbols (file_view words.now.file) names
         × (places.new ≡ with_names names places.old)) }
-    ensures refused { IfErr result (λ fault. (fault ≡ Refused (Refusal.OutOfMemory))
-        ⊎ EndsNamed (mon_view words.now).symbols (file_view words.now.file) fault) }
+    ensures refused { IfErr result (λ unbegun. (unbegun.fault ≡ Refused (Refusal.OutOfMemory))
+        ⊎ EndsNamed (mon_view words.now).symbols (file_view words.now.file) unbegun.fault) }
 {
-    match words.symbols {
-        None => Ok(()),
-        Some(path) => match load_names(rt, &words.file, path) {
-            Ok(names) => match places.add_names(rt.alloc(), &names) {
-                Ok(()) => Ok(()),
-                Err(_) => Err(LoadFault::Refused(Refusal::OutOfMemory)),
-            },
-            Err(refusal) => Err(LoadFault::Refused(refusal)),
-        },
+    let Some(path) = words.symbols else {
+        return Ok(());
+    };
+    match add_names(rt, words, path, places) {
+        Ok(()) => Ok(()),
+        Err(refusal) => Err(Unbegun {
+            file: path,
+            fault: LoadFault::Refused(refusal),
+        }),
     }
 }
 
 /// Returns the desk of what was loaded, with the names of a file of names, if one is named.
-fn named_desk<H: Files + AllocGlobal>(
+fn named_desk<'a, H: Files + AllocGlobal>(
     rt: &H,
-    words: &MonWords<'_>,
+    words: &MonWords<'a>,
     loaded: Loaded,
-) -> Result<Desk, LoadFault>
+) -> Result<Desk, Unbegun<'a>>
     ensures made { IfOk result (λ desk. (names : Option AssemblyView)
         × AreNamed (mon_view words.now).symbols (file_view words.now.file) names
         × IsNewDesk loaded.session words.now.history
         (with_names names (places_in words.now.file.file.now loaded.assembly)) desk) }
-    ensures refused { IfErr result (λ fault. (fault ≡ Refused (Refusal.OutOfMemory))
-        ⊎ EndsNamed (mon_view words.now).symbols (file_view words.now.file) fault) }
+    ensures refused { IfErr result (λ unbegun. (unbegun.fault ≡ Refused (Refusal.OutOfMemory))
+        ⊎ EndsNamed (mon_view words.now).symbols (file_view words.now.file) unbegun.fault) }
 {
-    let mut places = places_of(rt.alloc(), words.file.file, &loaded)?;
-    add_names(rt, words, &mut places)?;
+    let file = words.file.file;
+    let mut places = match places_of(rt.alloc(), file, &loaded) {
+        Ok(places) => places,
+        Err(_) => return Err(out_of_memory(file)),
+    };
+    add_named(rt, words, &mut places)?;
     match Desk::new(rt.alloc(), loaded.session, places, words.history) {
         Ok(desk) => Ok(desk),
-        Err(_) => Err(LoadFault::Refused(Refusal::OutOfMemory)),
+        Err(_) => Err(out_of_memory(file)),
     }
 }
 
 /// Loads what the words name, and returns the desk of its session.
-fn desk_of<H: Files + AllocGlobal>(rt: &H, words: &MonWords<'_>) -> Result<Desk, LoadFault>
+fn desk_of<'a, H: Files + AllocGlobal>(rt: &H, words: &MonWords<'a>) -> Result<Desk, Unbegun<'a>>
     ensures made { IfOk result (StartsMon (mon_view words.now)) }
-    ensures bad_map { is_map words.now.file.rom words.now.file.port ≡ false
-        → result ≡ Err (Refused (Refusal.Map BadMap)) }
-    ensures refused { IfErr result (EndsMon (mon_view words.now)) }
+    ensures bad_map { is_map words.now.file.rom words.now.file.port ≡ false → IsErrAnd result
+        (λ unbegun. unbegun.fault ≡ Refused (Refusal.Map BadMap)) }
+    ensures refused { IfErr result (λ unbegun. EndsMon (mon_view words.now) unbegun.fault) }
 {
     match load_with_history(rt, &words.file, words.history) {
         Ok(loaded) => named_desk(rt, words, loaded),
-        Err(fault) => Err(fault),
+        Err(fault) => Err(Unbegun {
+            file: words.file.file,
+            fault,
+        }),
     }
 }
 
@@ -177,7 +212,7 @@ fn mon_words<H: Files + AllocGlobal, R: Read + IsTerminal, O: Write, E: Write>(
             let mut desk = desk;
             served(rt.alloc(), &mut desk, prompts, input, output, errors)
         }
-        Err(fault) => fault.tell(words.file.file, errors),
+        Err(unbegun) => unbegun.fault.tell(unbegun.file, errors),
     }
 }
 
@@ -200,32 +235,20 @@ pub fn mon<H: Files + AllocGlobal, R: Read + IsTerminal, O: Write, E: Write>(
     // Words that fit the command line, with right values: a session began on their file and ended,
     // or none began and the streams are unchanged, as the status says. At 0 the session has served
     // the lines of the input, and has written what is said of them and nothing else.
-    ensures done { (a : MonAsked) → asked (map (λ s. s.now) words.entry.now) ≡ Some a
-        → IsTakenBy mon (map (λ s. s.now) words.entry.now)
+    ensures done { (a : MonAsked) → asked (texts words.entry.now) ≡ Some a
+        → Fits mon (texts words.entry.now)
         → IsDone a (R.remaining input.old) (R.remaining input.new)
         (O.contents output.old) (O.contents output.new) result
         ((input.new ≡ input.old) × (output.new ≡ output.old)) }
-    // Other words read nothing, and write nothing on the output but help.
-    ensures untaken { ¬ IsTakenBy mon (map (λ s. s.now) words.entry.now)
-        → (input.new ≡ input.old) × (1 ≤ result → result ≤ 3 → output.new ≡ output.old) }
-    ensures unasked { asked (map (λ s. s.now) words.entry.now) ≡ None
-        → (input.new ≡ input.old) × (1 ≤ result → result ≤ 3 → output.new ≡ output.old) }
-    // Words that fit nothing have the status 2, unless they ask for help or memory runs out; help
-    // that is asked for has 0 if it was written.
-    ensures usage { ¬ IsTakenBy mon (map (λ s. s.now) words.entry.now) → ¬ IsAmong DisplayHelp
-        (fault_of mon (map (λ s. s.now) words.entry.now)) → (result ≡ 2) ⊎ (result ≡ 3) }
-    ensures help { fault_of mon (map (λ s. s.now) words.entry.now) ≡ DisplayHelp ∷ []
-        → (result ≡ 0) ⊎ (result ≡ 3) ⊎ (result ≡ 4) }
-    // A wrong value has the status 2, unless memory runs out.
-    ensures value { IsTakenBy mon (map (λ s. s.now) words.entry.now)
-        → asked (map (λ s. s.now) words.entry.now) ≡ None → (result ≡ 2) ⊎ (result ≡ 3) }
+    // Other words are refused.
+    ensures refuses { Refuses mon (texts words.entry.now) (asked (texts words.entry.now) ≡ None)
+        result (input.new ≡ input.old) (output.new ≡ output.old) }
     // A port and a ROM that make no map have the status 2, unless memory runs out.
-    ensures bad_map { (a : MonAsked) → asked (map (λ s. s.now) words.entry.now) ≡ Some a
-        → IsTakenBy mon (map (λ s. s.now) words.entry.now)
-        → is_map a.file.rom a.file.port ≡ false → (result ≡ 2) ⊎ (result ≡ 3) }
+    ensures bad_map { (a : MonAsked) → asked (texts words.entry.now) ≡ Some a
+        → Fits mon (texts words.entry.now) → is_map a.file.rom a.file.port ≡ false → (result ≡ 2) ⊎ (result ≡ 3) }
     ensures quiet { result ≡ 0 → errors.new ≡ errors.old }
 {
-    match read_words(rt.alloc(), words) {
+    match read_mon_words(rt.alloc(), words) {
         Ok(words) => mon_words(rt, &words, input, output, errors),
         Err(fault) => refused_words(fault, output, errors),
     }

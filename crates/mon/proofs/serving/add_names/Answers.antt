@@ -1,5 +1,5 @@
 use Rattle.std.proofs.Common.{Some}
-use Rattle.loading.specs.Views.{file_view}
+use Rattle.arguments.specs.Asked.{file_view}
 use Rattle.mon.proofs.Starts.{named_with}
 use Rattle.mon.proofs.serving.add_names.Goals as goal
 

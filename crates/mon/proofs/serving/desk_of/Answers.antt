@@ -1,6 +1,6 @@
 use Rattle.mon.proofs.Ends.{named_ends}
 use Rattle.mon.proofs.Starts.{named_starts}
-use Rattle.mon_words.specs.Views.{mon_view}
+use Rattle.arguments_play.specs.Mon.{mon_view}
 use Rattle.mon.proofs.serving.desk_of.Goals as goal
 
 pub returns-in-Ok-clause-made : goal.returns-in-Ok-clause-made

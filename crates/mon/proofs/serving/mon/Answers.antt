@@ -1,10 +1,10 @@
 use Rattle.std.proofs.Common.{◌≡◌, ◌∙◌, ap, arith, inl, refl, subst, sym, unwrap_or}
-use Rattle.loading.specs.declared.loaded.LoadFault.TheVariants.{Refused}
+use Rattle.arguments.specs.declared.load_fault.LoadFault.TheVariants.{Refused}
 use Rattle.mon.proofs.Ends.{memory_ends}
-use Rattle.program.specs.Statuses.{IsStatusOf}
-use Rattle.program.specs.declared.refusal.Refusal.TheVariants.{OutOfMemory}
+use Rattle.arguments.specs.Words.{IsStatusOf}
+use Rattle.arguments.specs.declared.refusal.Refusal.TheVariants.{OutOfMemory}
 use Rattle.mon.specs.Done.{IsDone}
-use Rattle.mon_words.specs.Views.{mon_view}
+use Rattle.arguments_play.specs.Mon.{mon_view}
 use Rattle.mon.proofs.serving.mon.Goals as goal
 
 -- The words ask for one thing alone.
