@@ -7,19 +7,17 @@ use Rattle.console.specs.Written.{AreBytesOf}
 use Rattle.console.specs.declared.ending.Ending.{Ending}
 use Rattle.console.specs.declared.ending.PlayFault.{PlayFault}
 use Rattle.assembler.specs.Assembly.{AssemblyView}
-use Rattle.loading.specs.Asked.{FileAsked, map_of}
+use Rattle.arguments.specs.Asked.{FileAsked, map_of}
 use Rattle.loading.specs.Loads.{EndsLoad, IsLoaded}
 use Rattle.loading.specs.Place.{names_of}
-use Rattle.loading.specs.Statuses.{status_of_load}
-use Rattle.loading.specs.Told.{load_line}
-use Rattle.loading.specs.declared.loaded.LoadFault.{LoadFault}
+use Rattle.arguments.specs.FaultLines.{fault_line, load_line}
+use Rattle.arguments.specs.Statuses.{status_of, status_of_load}
+use Rattle.arguments.specs.declared.load_fault.LoadFault.{LoadFault}
 use Rattle.model.specs.Event.{start}
 use Rattle.model.specs.Session.{Session, new_session}
 use Rattle.model.specs.State.{State}
 use Rattle.model.specs.Writers.{AppendsFront}
-use Rattle.program.specs.FaultLines.{fault_line}
-use Rattle.program.specs.Statuses.{status_of}
-use Rattle.running.specs.Asked.{RunAsked}
+use Rattle.arguments_play.specs.Run.{RunAsked}
 use Rattle.running.specs.Places.{place_asked}
 use Rattle.running.specs.Statuses.{refusal_of, status_of_ending}
 use Rattle.running.specs.Told.{cycles_line, ending_line, unplaced_line}
