@@ -19,6 +19,9 @@ asked_by of app is words found same values = ap of (values ∙ ap (λ (a : App).
 pub not_both : {A : Type 0} (o : Option A) (a : A) → o ≡ Some a → o ≡ None → ⊥
 not_both o a some none = absurd cc
 
+pub one_asked : {A : Type 0} (o : Option A) (a b : A) → o ≡ Some a → o ≡ Some b → a ≡ b
+one_asked o a b x y = cc
+
 -- ---- words that do not fit, where their fault is passed on
 
 pub served_by : {X : Type 0} (app is : App) (words : List Text) (fault : WordsFault) (result : Result X WordsFault) → app ≡ is

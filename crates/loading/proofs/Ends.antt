@@ -1,16 +1,20 @@
--- Why a source is not assembled, by its fault.
-use Rattle.std.proofs.Common.{◌≡◌, ◌∙◌, ℕ, List, ◌⊎◌, inl, inr, Result, Ok, Err, IfErr, refl, sym, ap, subst}
+-- Why a file is not loaded.
+use Rattle.std.proofs.Common.{Bool, true, false, ◌≡◌, ◌∙◌, ℕ, List, ◌⊎◌, inl, inr, Result, Ok, Err, IfErr, refl, sym, ap, subst}
 use Rattle.std.specs.Result.{IsErrAnd}
+use Rattle.arguments.specs.Asked.{FileAsked, map_of}
 use Rattle.arguments.specs.Refusals.{of_source, of_source_kind}
+use Rattle.arguments.specs.declared.load_fault.LoadFault.TheVariants.{Refused}
 use Rattle.arguments.specs.declared.refusal.Refusal.{Refusal}
 use Rattle.arguments.specs.declared.refusal.Refusal.TheVariants.{OutOfMemory, Source}
 use Rattle.assembler.specs.Assembly.{out_of_memory}
-use Rattle.loading.specs.Loads.{EndsSource}
+use Rattle.loading.specs.Loads.{EndsFile, EndsLoad, EndsSource}
 use Rattle.model.specs.Source.{HasFault}
 use Rattle.model.specs.State.{Map}
 use Rattle.model.specs.declared.source_fault.AsmFault.{AsmFault}
 use Rattle.model.specs.declared.source_fault.AsmFaultKind.{AsmFaultKind}
 use Rattle.model.specs.declared.source_fault.AsmFaultKind.TheVariants as source_fault
+
+-- ---- a source that is not assembled, by its fault
 
 of_kind : (kind : AsmFaultKind) (f : AsmFault) → (of_source_kind kind f ≡ Source f) ⊎ (of_source_kind kind f ≡ OutOfMemory)
 of_kind source_fault.OutOfMemory f = inr refl
@@ -27,3 +31,12 @@ pub source_ends : {X : Type 0} (bus_map : Map) (source : List ℕ) (f : AsmFault
 source_ends bus_map source f (Ok x) ends is = absurd is
 source_ends bus_map source f (Err r) (inl memory) is = subst (EndsSource bus_map) (sym (is ∙ ap of_source memory)) tt
 source_ends bus_map source f (Err r) (inr has) is = subst (EndsSource bus_map) (sym is) (by_kind bus_map source f has)
+
+-- ---- memory may run out for any words
+
+memory_by : (is_tape : Bool) (bus_map : Map) → EndsFile is_tape bus_map (Refused OutOfMemory)
+memory_by true bus_map = tt
+memory_by false bus_map = tt
+
+pub memory_ends : (asked : FileAsked) → EndsLoad asked (Refused OutOfMemory)
+memory_ends asked = inr (memory_by asked.is_tape (map_of asked))

@@ -1,4 +1,4 @@
 mod Assembling
 pub mod DigitLemmas
-mod Ends
+pub mod Ends
 mod Starts

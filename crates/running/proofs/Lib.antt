@@ -1,3 +1,2 @@
-pub mod Starts
-mod Found
 pub mod Ran
+pub mod Unloaded

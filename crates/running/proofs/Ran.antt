@@ -1,26 +1,22 @@
 -- How a run ended, from what `play` says of it.
-use Rattle.std.proofs.Common.{◌≡◌, ◌∙◌, ◌++◌, ℕ, Bool, true, false, List, [], Option, Some, None, Result, Ok, Err, IfOk, refl, sym, ap, subst, if◌then◌else◌, inl, inr}
+use Rattle.std.proofs.Common.{◌≡◌, ◌∙◌, ◌++◌, ℕ, Bool, List, [], Option, Ok, Err, refl, sym, ap, subst, if◌then◌else◌, inr}
 use Rattle.std.specs.Io.KnownBytes.{Appends}
 use Rattle.assembler.specs.Assembly.{AssemblyView}
 use Rattle.console.specs.Playing.{Outcome, begun, played}
 use Rattle.console.specs.Written.{AreBytesOf, RanAs}
 use Rattle.console.specs.declared.ending.Ending.{Ending}
-use Rattle.console.specs.declared.ending.Ending.TheVariants.{Until, Rest, InputOver, Limit, Refused}
 use Rattle.console.specs.declared.ending.PlayFault.{PlayFault}
 use Rattle.console.specs.declared.ending.Played.{Played}
-use Rattle.loading.specs.Asked.{FileAsked, map_of}
-use Rattle.loading.specs.Loads.{EndsFile, EndsLoad, IsLoaded}
+use Rattle.arguments.specs.Asked.{map_of}
+use Rattle.loading.specs.Loads.{IsLoaded}
 use Rattle.loading.specs.Place.{names_of}
-use Rattle.loading.specs.declared.loaded.LoadFault.TheVariants.{Refused as NotLoaded}
 use Rattle.model.specs.Event.{start}
-use Rattle.model.specs.State.{Map, State}
-use Rattle.program.specs.declared.refusal.Refusal.{Refusal}
-use Rattle.program.specs.declared.refusal.Refusal.TheVariants.{OutOfMemory}
+use Rattle.model.specs.State.{State}
 use Rattle.model.specs.Session.{Session, new_session}
 use Rattle.model.specs.Writers.{AppendsFront}
-use Rattle.program.specs.FaultLines.{fault_line}
-use Rattle.program.specs.Statuses.{status_of}
-use Rattle.running.specs.Asked.{RunAsked}
+use Rattle.arguments.specs.FaultLines.{fault_line}
+use Rattle.arguments.specs.Statuses.{status_of}
+use Rattle.arguments_play.specs.Run.{RunAsked}
 use Rattle.running.specs.Runs.{Heard, IsDone, RanIfFound, RanTo, Streams, Tells, TellsEnd}
 use Rattle.running.specs.Places.{place_asked}
 use Rattle.running.specs.Statuses.{refusal_of, status_of_ending}
@@ -78,11 +74,3 @@ pub ran_file : (a : RunAsked) (s : Session) (assembly : Option AssemblyView) (im
     → s ≡ new_session 0 (start (map_of a.file) image) → RanIfFound a (place_asked (names_of assembly) a.until) s streams heard status Alone → IsDone a streams heard status Alone
 ran_file a s assembly image streams heard status A loaded begins ran =
     inr (image, assembly, loaded, subst (λ (t : Session). RanIfFound a (place_asked (names_of assembly) a.until) t streams heard status A) begins ran)
-
--- Memory may run out for any words.
-memory_by : (is_tape : Bool) (bus_map : Map) → EndsFile is_tape bus_map (NotLoaded OutOfMemory)
-memory_by true bus_map = tt
-memory_by false bus_map = tt
-
-pub memory_ends : (asked : FileAsked) → EndsLoad asked (NotLoaded OutOfMemory)
-memory_ends asked = inr (memory_by asked.is_tape (map_of asked))

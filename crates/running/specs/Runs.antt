@@ -1,5 +1,5 @@
--- What `run` does to its streams, and its exit status. No clause can say which image and names a file
--- stands for. Source: mos65.
+-- What `run` does to its streams, and its exit status. No clause can say which image and names a
+-- file stands for. Source: mos65.
 use Rattle.std.specs.Prelude.{◌≡◌, ◌⊎◌, ℕ, Bool, true, false, if◌then◌else◌, List, Option, Result, Ok, Err}
 use Rattle.std.specs.Io.KnownBytes.{Appends}
 use Rattle.console.specs.Playing.{Outcome, begun, played}
@@ -7,19 +7,17 @@ use Rattle.console.specs.Written.{AreBytesOf}
 use Rattle.console.specs.declared.ending.Ending.{Ending}
 use Rattle.console.specs.declared.ending.PlayFault.{PlayFault}
 use Rattle.assembler.specs.Assembly.{AssemblyView}
-use Rattle.loading.specs.Asked.{FileAsked, map_of}
+use Rattle.arguments.specs.Asked.{FileAsked, map_of}
 use Rattle.loading.specs.Loads.{EndsLoad, IsLoaded}
 use Rattle.loading.specs.Place.{names_of}
-use Rattle.loading.specs.Statuses.{status_of_load}
-use Rattle.loading.specs.Told.{load_line}
-use Rattle.loading.specs.declared.loaded.LoadFault.{LoadFault}
+use Rattle.arguments.specs.FaultLines.{fault_line, load_line}
+use Rattle.arguments.specs.Statuses.{status_of, status_of_load}
+use Rattle.arguments.specs.declared.load_fault.LoadFault.{LoadFault}
 use Rattle.model.specs.Event.{start}
 use Rattle.model.specs.Session.{Session, new_session}
 use Rattle.model.specs.State.{State}
 use Rattle.model.specs.Writers.{AppendsFront}
-use Rattle.program.specs.FaultLines.{fault_line}
-use Rattle.program.specs.Statuses.{status_of}
-use Rattle.running.specs.Asked.{RunAsked}
+use Rattle.arguments_play.specs.Run.{RunAsked}
 use Rattle.running.specs.Places.{place_asked}
 use Rattle.running.specs.Statuses.{refusal_of, status_of_ending}
 use Rattle.running.specs.Told.{cycles_line, ending_line, unplaced_line}
@@ -31,9 +29,9 @@ pub record Streams : Type 0 where
   pub held : Option (List ℕ)
   pub now : Option (List ℕ)
 
--- A session ran to its end by the definition of a run, over some input, which is the reader's if its
--- bytes are known: what the run did not ask for is left, and its output was written. If a stream
--- failed, something was written.
+-- A session ran to its end by the definition of a run, over some input, which is the reader's if
+-- its bytes are known: what the run did not ask for is left, and its output was written. If a
+-- stream failed, something was written.
 abbrev pub Ran : Session → Option ℕ → ℕ → Streams → Result Outcome PlayFault → Type 0
 Ran s until limit streams (Ok end) = (input : List ℕ)
     × (end ≡ played until limit (begun s input))
@@ -50,7 +48,8 @@ pub record Heard : Type 0 where
 abbrev pub Tells : Heard → List ℕ → Type 0
 Tells heard line = AppendsFront heard.held heard.now line
 
--- The error stream got why a run did not come to its end, and then its cycles if they are asked for.
+-- The error stream got why a run did not come to its end, and then its cycles if they are asked
+-- for.
 abbrev pub TellsEnd : Bool → Heard → Ending → ℕ → State → Type 0
 TellsEnd false heard ending steps state = Tells heard (ending_line ending steps state.regs.pc)
 TellsEnd true heard ending steps state = (between : Option (List ℕ))
@@ -75,7 +74,7 @@ RanTo a until s streams heard status = (outcome : Result Outcome PlayFault)
     × Ran s until a.steps streams outcome × (status ≡ status_of_run a.is_status_of_a outcome)
     × TellsRun a heard outcome
 
--- A session ran up to the place of the words, if it is found; else the streams were left alone,
+-- A session ran up to the place of the words, if it is found; otherwise the streams were left alone,
 -- `Alone`, and the error stream got that it is no place.
 abbrev pub RanIfFound : RunAsked → Result (Option ℕ) ℕ → Session → Streams → Heard → ℕ → Type 0
     → Type 0

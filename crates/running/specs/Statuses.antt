@@ -4,12 +4,12 @@ use Rattle.model.specs.declared.event.EventFault.TheVariants.{ConsoleFull}
 use Rattle.console.specs.declared.ending.Ending.{Ending}
 use Rattle.console.specs.declared.ending.PlayFault.{PlayFault}
 use Rattle.console.specs.declared.ending.PlayFault.TheVariants as play_fault
-use Rattle.program.specs.declared.refusal.Refusal.{Refusal}
-use Rattle.program.specs.declared.refusal.Refusal.TheVariants as refusal
+use Rattle.arguments.specs.declared.refusal.Refusal.{Refusal}
+use Rattle.arguments.specs.declared.refusal.Refusal.TheVariants as refusal
 use Rattle.console.specs.declared.ending.Ending.TheVariants.{Until, Rest, InputOver, Limit, Refused}
 
--- 10 for the limit, 12 for a full console, 11 for any other fault; otherwise that of a run that came
--- to its end.
+-- 10 for the limit, 12 for a full console, 11 for any other fault; otherwise that of a run that
+-- came to its end.
 abbrev pub status_of_ending : Ending → ℕ → ℕ
 status_of_ending Until ended = ended
 status_of_ending Rest ended = ended

@@ -6,12 +6,14 @@ ghost use Rattle.model.specs.Text.{hex_byte};
 ghost use Rattle.model.specs.Writers.{AppendsFront};
 ghost use Rattle.running.specs.Statuses.{status_of_ending};
 ghost use Rattle.running.specs.Told.{cycles_line, ending_line, refused_line, step_word, stop_text};
+ghost use Rattle.running.specs.declared.wording.TheConstants as the_text;
 
+use crate::wording::{AFTER, CONSOLE_FULL, CYCLES, NO_INSTRUCTION, PROGRAM, STEP, STEPS, STOPPED};
+use arguments::put_two;
 use console::{Ending, Played};
 use debugger::Session;
 use formatting::{Text, push_bytes, push_decimal, push_hex_address, push_hex_byte};
 use model::EventFault;
-use program::put_two;
 use std::io::Write;
 
 /// Returns the exit status of a run: the given one if the run came to its end, and otherwise 10, 11
@@ -34,9 +36,9 @@ fn push_steps(text: &mut Text, steps: u64)
 {
     push_decimal(text, steps);
     if steps == 1 {
-        push_bytes(text, b" step\n");
+        push_bytes(text, STEP.as_bytes());
     } else {
-        push_bytes(text, b" steps\n");
+        push_bytes(text, STEPS.as_bytes());
     }
 }
 
@@ -45,17 +47,17 @@ fn stop_text(pc: u16) -> Text
     ensures { result.items ≡ stop_text pc }
 {
     let mut text = Text::new();
-    push_bytes(&mut text, b"mos65: stopped at ");
+    push_bytes(&mut text, STOPPED.as_bytes());
     push_hex_address(&mut text, pc);
     text
 }
 
 /// Returns after how many steps a run stopped, as its line ends.
 fn after_text(steps: u64) -> Text
-    ensures { result.items ≡ codes " after " ++ decimal steps ++ step_word steps }
+    ensures { result.items ≡ the_text.AFTER.now ++ decimal steps ++ step_word steps }
 {
     let mut text = Text::new();
-    push_bytes(&mut text, b" after ");
+    push_bytes(&mut text, AFTER.as_bytes());
     push_steps(&mut text, steps);
     text
 }
@@ -63,12 +65,12 @@ fn after_text(steps: u64) -> Text
 /// Returns that a byte is no instruction, as a line ends.
 fn opcode_text(opcode: u8) -> Text
     ensures { result.items ≡ codes ": " ++ hex_byte opcode
-        ++ codes " is no instruction of this processor\n" }
+        ++ the_text.NO_INSTRUCTION.now }
 {
     let mut text = Text::new();
     push_bytes(&mut text, b": ");
     push_hex_byte(&mut text, opcode);
-    push_bytes(&mut text, b" is no instruction of this processor\n");
+    push_bytes(&mut text, NO_INSTRUCTION.as_bytes());
     text
 }
 
@@ -93,8 +95,7 @@ fn tell_refusal<E: Write>(fault: EventFault, pc: u16, errors: &mut E)
 {
     match fault {
         EventFault::ConsoleFull => {
-            let why = b": the console is full, with 65536 bytes of output\n";
-            put_two(stop_text(pc).as_slice(), why, errors);
+            put_two(stop_text(pc).as_slice(), CONSOLE_FULL.as_bytes(), errors);
         }
         EventFault::Undocumented { opcode, pc } => {
             put_two(
@@ -134,12 +135,12 @@ pub fn tell_ending<E: Write>(played: Played, pc: u16, errors: &mut E)
 
 /// Returns the cycles of a run, as a line begins.
 fn cycles_text(cycles: u64) -> Text
-    ensures { result.items ≡ codes "mos65: " ++ decimal cycles ++ codes " cycles, " }
+    ensures { result.items ≡ the_text.PROGRAM.now ++ decimal cycles ++ the_text.CYCLES.now }
 {
     let mut text = Text::new();
-    push_bytes(&mut text, b"mos65: ");
+    push_bytes(&mut text, PROGRAM.as_bytes());
     push_decimal(&mut text, cycles);
-    push_bytes(&mut text, b" cycles, ");
+    push_bytes(&mut text, CYCLES.as_bytes());
     text
 }
 

@@ -8,8 +8,8 @@
 mod ended;
 mod run;
 mod started;
-mod words;
+mod wording;
 
 pub use ended::{status_of_ending, tell_ending};
 pub use run::run_program;
-pub use started::{load_at_start, place_named, refusal_of};
+pub use started::{place_named, refusal_of};

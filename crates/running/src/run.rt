@@ -1,26 +1,21 @@
 //! What the word `run` does.
 
-ghost use Rattle.std.specs.Prelude.{◌≡◌, ◌≤◌, ◌⊎◌, [], ◌∷◌, None, Some, false, map};
-ghost use Rattle.std.specs.Prelude.{if◌then◌else◌, option_map};
-ghost use Rattle.clap.specs.Words.{IsAmong, fault_of};
-ghost use Rattle.clap.specs.declared.error.kind.ErrorKind.TheVariants.{DisplayHelp};
+ghost use Rattle.std.specs.Prelude.{◌≡◌, ◌⊎◌, [], None, Some, false, if◌then◌else◌};
+ghost use Rattle.arguments.specs.Words.{Fits, Refuses, texts};
+ghost use Rattle.arguments_play.specs.Run.{RunAsked, asked, run, run_view};
 ghost use Rattle.loading.specs.Place.{names_of};
-ghost use Rattle.loading.specs.Refused.{IsTakenBy};
 ghost use Rattle.model.specs.State.{input_waits, is_map};
-ghost use Rattle.running.specs.Asked.{RunAsked, asked};
-ghost use Rattle.running.specs.CommandLine.{run};
 ghost use Rattle.running.specs.Places.{place_asked};
 ghost use Rattle.running.specs.Runs.{IsDone, RanIfFound, RanTo, TellsEnd};
 ghost use Rattle.running.specs.Statuses.{status_of_ending};
-ghost use Rattle.running.specs.Views.{run_view};
 
 use crate::ended::{status_of_ending, tell_cycles, tell_ending};
-use crate::started::{load_at_start, place_named, refusal_of};
-use crate::words::{RunWords, read_words};
+use crate::started::{place_named, refusal_of};
+use arguments::{refuse, refused_words};
+use arguments_play::{RunWords, read_run_words};
 use console::{Played, play};
 use debugger::Session;
-use loading::Loaded;
-use program::{refuse, refused_words};
+use loading::{Loaded, load};
 use std::io::{Read, Write};
 use std::rt::Files;
 
@@ -135,11 +130,8 @@ fn run_words<H: Files + AllocGlobal, R: Read, O: Write, E: Write>(
     ensures bad_map { is_map words.now.file.rom words.now.file.port ≡ false → result ≡ 2 }
     ensures quiet { words.now.tells_cycles ≡ false → result ≡ 0 → errors.new ≡ errors.old }
 {
-    match load_at_start(rt, &words.file) {
-        Ok(loaded) => {
-            let mut loaded = loaded;
-            run_loaded(words, &mut loaded, input, output, errors)
-        }
+    match load(rt, &words.file) {
+        Ok(mut loaded) => run_loaded(words, &mut loaded, input, output, errors),
         Err(fault) => fault.tell(words.file.file, errors),
     }
 }
@@ -164,8 +156,8 @@ pub fn run_program<H: Files + AllocGlobal, R: Read, O: Write, E: Write>(
     // Words that fit the command line, with right values: their file was loaded and ran by the
     // definition of a run, or it was not and the streams are unchanged, as the status says. The
     // error stream gets why, or how the run ended.
-    ensures done { (a : RunAsked) → asked (map (λ s. s.now) words.entry.now) ≡ Some a
-        → IsTakenBy run (map (λ s. s.now) words.entry.now) → IsDone a (record {
+    ensures done { (a : RunAsked) → asked (texts words.entry.now) ≡ Some a
+        → Fits run (texts words.entry.now) → IsDone a (record {
           given = R.remaining input.old;
           left = R.remaining input.new;
           held = O.contents output.old;
@@ -175,28 +167,17 @@ pub fn run_program<H: Files + AllocGlobal, R: Read, O: Write, E: Write>(
           now = E.contents errors.new;
         }) result ((input.new ≡ input.old) × (output.new ≡ output.old)) }
     // Other words read nothing, and write nothing on the output but help.
-    ensures untaken { ¬ IsTakenBy run (map (λ s. s.now) words.entry.now)
-        → (input.new ≡ input.old) × (1 ≤ result → result ≤ 3 → output.new ≡ output.old) }
-    ensures unasked { asked (map (λ s. s.now) words.entry.now) ≡ None
-        → (input.new ≡ input.old) × (1 ≤ result → result ≤ 3 → output.new ≡ output.old) }
-    // Words that fit nothing have the status 2, unless they ask for help or memory runs out; help
-    // that is asked for has 0 if it was written.
-    ensures usage { ¬ IsTakenBy run (map (λ s. s.now) words.entry.now) → ¬ IsAmong DisplayHelp
-        (fault_of run (map (λ s. s.now) words.entry.now)) → (result ≡ 2) ⊎ (result ≡ 3) }
-    ensures help { fault_of run (map (λ s. s.now) words.entry.now) ≡ DisplayHelp ∷ []
-        → (result ≡ 0) ⊎ (result ≡ 3) ⊎ (result ≡ 4) }
-    // A wrong value has the status 2, unless memory runs out.
-    ensures value { IsTakenBy run (map (λ s. s.now) words.entry.now)
-        → asked (map (λ s. s.now) words.entry.now) ≡ None → (result ≡ 2) ⊎ (result ≡ 3) }
+    ensures refused { Refuses run (texts words.entry.now) (asked (texts words.entry.now) ≡ None)
+        result (input.new ≡ input.old) (output.new ≡ output.old) }
     // A port and a ROM that make no map have the status 2, unless memory runs out.
-    ensures bad_map { (a : RunAsked) → asked (map (λ s. s.now) words.entry.now) ≡ Some a
-        → IsTakenBy run (map (λ s. s.now) words.entry.now)
+    ensures bad_map { (a : RunAsked) → asked (texts words.entry.now) ≡ Some a
+        → Fits run (texts words.entry.now)
         → is_map a.file.rom a.file.port ≡ false → (result ≡ 2) ⊎ (result ≡ 3) }
     // Nothing is written on the error stream with the status 0, unless cycles are asked for.
-    ensures quiet { ((a : RunAsked) → asked (map (λ s. s.now) words.entry.now) ≡ Some a
+    ensures quiet { ((a : RunAsked) → asked (texts words.entry.now) ≡ Some a
         → a.tells_cycles ≡ false) → result ≡ 0 → errors.new ≡ errors.old }
 {
-    match read_words(rt.alloc(), words) {
+    match read_run_words(rt.alloc(), words) {
         Ok(words) => run_words(rt, &words, input, output, errors),
         Err(fault) => refused_words(fault, output, errors),
     }

@@ -3,8 +3,8 @@ use Rattle.std.proofs.Common.{◌≡◌, ◌∙◌, ◌⊎◌, inl, inr, List, m
 use Rattle.assembler.specs.Assembly.{AssemblyView}
 use Rattle.console.specs.declared.ending.PlayFault.{PlayFault}
 use Rattle.console.specs.declared.ending.PlayFault.TheVariants as play_fault
-use Rattle.program.specs.declared.refusal.Refusal.{Refusal}
-use Rattle.program.specs.declared.refusal.Refusal.TheVariants as refusal
+use Rattle.arguments.specs.declared.refusal.Refusal.{Refusal}
+use Rattle.arguments.specs.declared.refusal.Refusal.TheVariants as refusal
 use Rattle.running.specs.Statuses.{refusal_of}
 use Rattle.trace_rows.specs.Sites.{IsTable, label_for, labelled, line_for, names_in}
 use Rattle.trace_rows.specs.SourceLines.{lines_in, listed}

@@ -5,22 +5,22 @@ use Rattle.console.specs.Playing.{Outcome, begun}
 use Rattle.console.specs.Written.{AreBytesOf, RanAs}
 use Rattle.console.specs.declared.ending.Ending.{Ending}
 use Rattle.console.specs.declared.ending.Played.{Played}
-use Rattle.loading.specs.Asked.{FileAsked, map_of}
+use Rattle.arguments.specs.Asked.{FileAsked, map_of}
 use Rattle.loading.specs.Loads.{EndsFile, EndsLoad, IsLoaded}
 use Rattle.loading.specs.Place.{names_of}
-use Rattle.loading.specs.declared.loaded.LoadFault.TheVariants.{Refused as NotLoaded}
+use Rattle.arguments.specs.declared.load_fault.LoadFault.TheVariants.{Refused as NotLoaded}
 use Rattle.model.specs.Event.{start}
 use Rattle.model.specs.Session.{Session, new_session}
 use Rattle.model.specs.State.{Map}
 use Rattle.model.specs.Writers.{AppendsFront}
-use Rattle.program.specs.Statuses.{status_of}
-use Rattle.program.specs.declared.refusal.Refusal.{Refusal}
-use Rattle.program.specs.declared.refusal.Refusal.TheVariants.{OutOfMemory}
+use Rattle.arguments.specs.Statuses.{status_of}
+use Rattle.arguments.specs.declared.refusal.Refusal.{Refusal}
+use Rattle.arguments.specs.declared.refusal.Refusal.TheVariants.{OutOfMemory}
 use Rattle.running.specs.Places.{place_asked}
 use Rattle.running.specs.Runs.{Heard, Streams, Tells}
 use Rattle.running.specs.Statuses.{status_of_ending}
 use Rattle.running.specs.Told.{unplaced_line}
-use Rattle.trace_words.specs.Asked.{TraceAsked}
+use Rattle.arguments_play.specs.Trace.{TraceAsked}
 use Rattle.tracing.specs.Traces.{BreaksOff, IsDone, TracedIfFound, TracedTo, WroteNotes, trace_noted, traced}
 
 abbrev TracedAs : TraceAsked → Option AssemblyView → Option ℕ → Option ℕ → Session → Streams → Session → Played → Type 0
@@ -44,9 +44,6 @@ traced_between asked assembly from to a b s streams heard status A is_from is_to
     let F : Result (Option ℕ) ℕ → Type 0 = λ r. TracedIfFound asked assembly r b s streams heard status A in
     let T : Result (Option ℕ) ℕ → Type 0 = λ r. TracedIfFound asked assembly (Ok from) r s streams heard status A in
     subst F is_from (subst T is_to done)
-
-pub one_asked : (o : Option TraceAsked) (a b : TraceAsked) → o ≡ Some a → o ≡ Some b → a ≡ b
-one_asked o a b x y = cc
 
 -- A place that is not found.
 pub unfound_from : (asked : TraceAsked) (assembly : Option AssemblyView) (a b : Result (Option ℕ) ℕ) (s : Session) (streams : Streams) (heard : Heard) (status : ℕ) (Alone : Type 0)
@@ -72,11 +69,3 @@ pub traced_file : (a : TraceAsked) (s : Session) (assembly : Option AssemblyView
     → TracedIfFound a assembly (place_asked (names_of assembly) a.from) (place_asked (names_of assembly) a.to) s streams heard status Alone → IsDone a streams heard status Alone
 traced_file a s assembly image streams heard status A loaded begins done =
     inr (image, assembly, loaded, subst (λ (t : Session). TracedIfFound a assembly (place_asked (names_of assembly) a.from) (place_asked (names_of assembly) a.to) t streams heard status A) begins done)
-
--- Memory may run out for any words.
-memory_by : (is_tape : Bool) (bus_map : Map) → EndsFile is_tape bus_map (NotLoaded OutOfMemory)
-memory_by true bus_map = tt
-memory_by false bus_map = tt
-
-pub memory_ends : (asked : FileAsked) → EndsLoad asked (NotLoaded OutOfMemory)
-memory_ends asked = inr (memory_by asked.is_tape (map_of asked))

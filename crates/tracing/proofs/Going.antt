@@ -13,10 +13,10 @@ use Rattle.console.specs.declared.ending.Played.{Played}
 use Rattle.console.specs.declared.turn.Player.{Player}
 use Rattle.console.specs.declared.memo.Memo.{Memo}
 use Rattle.model.specs.Session.{Session}
-use Rattle.program.specs.declared.refusal.Refusal.{Refusal}
+use Rattle.arguments.specs.declared.refusal.Refusal.{Refusal}
 use Rattle.std.specs.Io.KnownBytes.{Appends}
 use Rattle.trace_rows.specs.declared.sites.Sites.{Sites}
-use Rattle.trace_words.specs.Asked.{TraceAsked}
+use Rattle.arguments_play.specs.Trace.{TraceAsked}
 use Rattle.tracing.specs.Beginnings.{AreSites, AreWritten}
 use Rattle.tracing.specs.Gathered.{Gathered, Gathers, none_gathered, text_at_end}
 use Rattle.tracing.specs.Texts.{GotText, Noted, by_steps, no_text, note_step, pass_step}

@@ -4,14 +4,13 @@ use Rattle.std.proofs.lemmas.Grind.{flat_map-append}
 use Rattle.accesses.specs.Moments.{entered}
 use Rattle.accesses.specs.declared.moment.Moment.{Moment}
 use Rattle.model.specs.State.{State}
-use Rattle.program.specs.declared.refusal.Refusal.{Refusal}
+use Rattle.arguments.specs.declared.refusal.Refusal.{Refusal}
 use Rattle.trace_rows.specs.Findings.{finding_row}
 use Rattle.trace_rows.specs.declared.sites.Sites.{Sites}
 use Rattle.trace_rows.specs.declared.unwritten.Finding.{Finding}
 use Rattle.trace_rows.specs.declared.unwritten.Part.{Part}
 use Rattle.trace_rows.specs.declared.unwritten.Part.TheVariants.{Code, Data}
-use Rattle.trace_words.specs.Asked.{TraceAsked}
-use Rattle.trace_words.specs.Views.{trace_view}
+use Rattle.arguments_play.specs.Trace.{TraceAsked, trace_view}
 use Rattle.tracing.specs.Gathered.{Gathered, Gathers, counted, counted_here, counted_step, cycles_of, findings, gathered, is_told, marked, reads_text, row_text, step_of, text_of_step, told, with_told}
 use Rattle.tracing.specs.Notes.{code_of, left_at}
 use Rattle.tracing.specs.declared.notes.Ahead.{Ahead}

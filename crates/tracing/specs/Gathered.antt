@@ -9,7 +9,7 @@ use Rattle.accesses.specs.Tallies.{Counts, no_counts, noted, saturated}
 use Rattle.accesses.specs.Writing.{is_written}
 use Rattle.accesses.specs.declared.moment.Moment.{Moment}
 use Rattle.accesses.specs.declared.tally.Count.{Count}
-use Rattle.loading.specs.Asked.{FileAsked}
+use Rattle.arguments.specs.Asked.{FileAsked}
 use Rattle.model.specs.State.{Map, State, is_port}
 use Rattle.trace_rows.specs.Counts.{with_counts}
 use Rattle.trace_rows.specs.Findings.{finding_row}
@@ -18,8 +18,7 @@ use Rattle.trace_rows.specs.declared.sites.Sites.{Sites}
 use Rattle.trace_rows.specs.declared.steps.Step.{Step}
 use Rattle.trace_rows.specs.declared.unwritten.Part.{Part}
 use Rattle.trace_rows.specs.declared.unwritten.Part.TheVariants.{Code, Data, Vector}
-use Rattle.trace_words.specs.Asked.{TraceAsked}
-use Rattle.trace_words.specs.Views.{trace_view}
+use Rattle.arguments_play.specs.Trace.{TraceAsked, trace_view}
 use Rattle.tracing.specs.Notes.{code_of, entry_reads, if_asked, left_at}
 use Rattle.tracing.specs.declared.notes.Ahead.{Ahead}
 use Rattle.tracing.specs.declared.tracer.Tracer.{Tracer}

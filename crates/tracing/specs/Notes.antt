@@ -1,6 +1,6 @@
 -- The addresses that a step is about to touch, and those where it has left a byte. Source: mos65.
 use Rattle.std.specs.Prelude.{ℕ, ◌+◌, ◌%◌, ◌==◌, Bool, true, false, not, if◌then◌else◌, List, [], ◌∷◌, Option, None, Some, take}
-use Rattle.loading.specs.Asked.{FileAsked}
+use Rattle.arguments.specs.Asked.{FileAsked}
 use Rattle.model.specs.State.{Map, State, is_port, lies_in}
 use Rattle.model.specs.declared.instruction.Row.{Row}
 use Rattle.accesses.specs.Footprint.{below}

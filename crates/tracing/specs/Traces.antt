@@ -1,5 +1,5 @@
--- Where a trace leads, what it writes, and how its exit status tells of it. No clause can say which image and names a
--- file stands for. Source: mos65.
+-- Where a trace leads, what it writes, and how its exit status tells of it. No clause can say which
+-- image and names a file stands for. Source: mos65.
 use Rattle.std.specs.Prelude.{◌≡◌, ◌⊎◌, ⊤, ℕ, true, Bool, if◌then◌else◌, List, [], ◌++◌, Option, Some, None, Result, Ok, Err}
 use Rattle.std.specs.Io.KnownBytes.{Consumes, IsAtEnd}
 use Rattle.assembler.specs.Assembly.{AssemblyView}
@@ -10,21 +10,22 @@ use Rattle.console.specs.declared.ending.Ending.{Ending}
 use Rattle.console.specs.declared.ending.Ending.TheVariants.{Until}
 use Rattle.console.specs.declared.ending.Played.{Played}
 use Rattle.console.specs.declared.turn.Player.{Player}
-use Rattle.loading.specs.Asked.{map_of}
-use Rattle.loading.specs.Loads.{IsLoaded, IsUnread}
+use Rattle.arguments.specs.Asked.{map_of}
+use Rattle.arguments.specs.Files.{IsUnread}
+use Rattle.loading.specs.Loads.{IsLoaded}
 use Rattle.loading.specs.Place.{names_of}
 use Rattle.model.specs.Event.{start}
 use Rattle.model.specs.Session.{Session, new_session}
 use Rattle.model.specs.State.{State}
-use Rattle.program.specs.Statuses.{status_of}
-use Rattle.program.specs.declared.refusal.Refusal.{Refusal}
-use Rattle.program.specs.declared.refusal.Refusal.TheVariants.{OutOfMemory, Read, Write}
+use Rattle.arguments.specs.Statuses.{status_of}
+use Rattle.arguments.specs.declared.refusal.Refusal.{Refusal}
+use Rattle.arguments.specs.declared.refusal.Refusal.TheVariants.{OutOfMemory, Read, Write}
 use Rattle.running.specs.Places.{place_asked}
 use Rattle.running.specs.Runs.{Heard, IsUnloaded, Streams, Tells}
 use Rattle.running.specs.Statuses.{status_of_ending}
 use Rattle.running.specs.Told.{unplaced_line}
 use Rattle.trace_rows.specs.declared.sites.Sites.{Sites}
-use Rattle.trace_words.specs.Asked.{TraceAsked}
+use Rattle.arguments_play.specs.Trace.{TraceAsked}
 use Rattle.tracing.specs.Beginnings.{AreSites, AreWritten}
 use Rattle.tracing.specs.Gathered.{Gathered, none_gathered}
 use Rattle.tracing.specs.Texts.{GotText, Noted, by_steps, no_text, note_step, pass_step}

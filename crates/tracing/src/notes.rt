@@ -3,14 +3,14 @@
 ghost use Rattle.std.specs.Prelude.{◌≡◌, ◌≤◌, length};
 ghost use Rattle.accesses.specs.Footprint.{below, reads_here, stores_here};
 ghost use Rattle.accesses.specs.Moments.{moment_of};
-ghost use Rattle.loading.specs.Views.{file_view};
+ghost use Rattle.arguments.specs.Asked.{file_view};
 ghost use Rattle.model.specs.State.{lies_in};
 ghost use Rattle.tracing.specs.Notes.{code_of, entry_reads, entry_stores, if_asked, is_kept, kept};
 ghost use Rattle.tracing.specs.Notes.{left_at, len_of};
 
 use accesses::{Addresses, Moment, moment_of, reads_here, stores_here};
 use debugger::Session;
-use loading::FileWords;
+use arguments::FileWords;
 use model::Row;
 
 /// What is known of a step before it is made.

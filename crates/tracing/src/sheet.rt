@@ -2,10 +2,10 @@
 
 ghost use Rattle.std.specs.Prelude.{◌≡◌, ◌≤◌, ◌<◌, [], IsOk, OnErr, OnOk, Err, length};
 ghost use Rattle.std.specs.Io.KnownBytes.{Appends};
-ghost use Rattle.program.specs.declared.refusal.Refusal.{Refusal};
+ghost use Rattle.arguments.specs.declared.refusal.Refusal.{Refusal};
 ghost use Rattle.tracing.specs.Gathered.{Gathers};
 
-use program::Refusal;
+use arguments::Refusal;
 use std::alloc::{AllocError, Global};
 use std::io::Write;
 

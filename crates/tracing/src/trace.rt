@@ -2,19 +2,15 @@
 
 ghost use Rattle.std.specs.Prelude.{◌≡◌, ◌≤◌, ◌⊎◌, [], ◌∷◌, ℕ, List, None, IfErr, IfOk, OnOk};
 ghost use Rattle.std.specs.Prelude.{Bool, Option, Some, false, is_some, map};
-ghost use Rattle.clap.specs.Words.{IsAmong, fault_of};
-ghost use Rattle.clap.specs.declared.error.kind.ErrorKind.TheVariants.{DisplayHelp};
+ghost use Rattle.arguments.specs.Words.{Fits, Refuses, texts};
 ghost use Rattle.console.specs.Playing.{begun, is_at, played};
 ghost use Rattle.console.specs.Taking.{Waits};
 ghost use Rattle.console.specs.Written.{AreBytesOf, RanAs};
 ghost use Rattle.loading.specs.Place.{names_of};
-ghost use Rattle.loading.specs.Refused.{IsTakenBy};
 ghost use Rattle.model.specs.State.{input_waits, is_map};
 ghost use Rattle.running.specs.Places.{place_asked};
 ghost use Rattle.trace_rows.specs.declared.sites.Sites.{Sites};
-ghost use Rattle.trace_words.specs.Asked.{TraceAsked, asked};
-ghost use Rattle.trace_words.specs.CommandLine.{trace};
-ghost use Rattle.trace_words.specs.Views.{trace_view};
+ghost use Rattle.arguments_play.specs.Trace.{TraceAsked, asked, trace, trace_view};
 ghost use Rattle.tracing.specs.Beginnings.{AreSites, AreWritten, HasBytesAt};
 ghost use Rattle.tracing.specs.Gathered.{Gathers, gathered, none_gathered};
 ghost use Rattle.tracing.specs.Texts.{GotText, Noted, by_steps, no_text, note_step, noted_in};
@@ -25,17 +21,17 @@ ghost use Rattle.tracing.specs.Traces.{WroteNotes, gathered_at, is_begun, reache
 
 use crate::tracer::Tracer;
 use accesses::Written;
+use arguments::{Refusal, image_of_tape, refuse, refused_words};
+use arguments_play::{TraceWords, read_trace_words};
 use bus::Image;
 use console::{Ending, PlayFault, Played, Player, begin, take_turn};
 use debugger::Session;
-use loading::{Loaded, image_of_tape};
-use program::{Refusal, refuse, refused_words};
-use running::{load_at_start, place_named, refusal_of, status_of_ending, tell_ending};
+use loading::{Loaded, load};
+use running::{place_named, refusal_of, status_of_ending, tell_ending};
 use std::alloc::{AllocError, Global};
 use std::io::{Read, Write};
 use std::rt::Files;
 use trace_rows::Sites;
-use trace_words::{TraceWords, read_words};
 
 /// Where a trace begins and ends, if such places are named, and the most steps that it has.
 #[derive(Clone, Copy)]
@@ -183,10 +179,7 @@ fn bytes_of(alloc: Global, image: &Image) -> Result<Written, Refusal>
     ensures written { IfOk result (λ written. written ≡ map is_some image.now) }
     ensures fault { IfErr result (λ refusal. refusal ≡ Refusal.OutOfMemory) }
 {
-    match Written::of_image(alloc, image) {
-        Ok(written) => Ok(written),
-        Err(_) => Err(Refusal::OutOfMemory),
-    }
+    Written::of_image(alloc, image).map_err(|_| Refusal::OutOfMemory)
 }
 
 /// Returns the addresses where the file of the words has a byte. A tape is read once more.
@@ -202,10 +195,7 @@ fn bytes_of_file<H: Files + AllocGlobal>(
 {
     match &loaded.assembly {
         Some(assembly) => bytes_of(rt.alloc(), assembly.image()),
-        None => match image_of_tape(rt, words.file.file) {
-            Ok(image) => bytes_of(rt.alloc(), &image),
-            Err(refusal) => Err(refusal),
-        },
+        None => bytes_of(rt.alloc(), &image_of_tape(rt, words.file.file)?),
     }
 }
 
@@ -223,10 +213,7 @@ fn written_of<H: Files + AllocGlobal>(
     if !words.finds_unwritten {
         return Ok(None);
     }
-    match bytes_of_file(rt, words, loaded) {
-        Ok(written) => Ok(Some(written)),
-        Err(refusal) => Err(refusal),
-    }
+    Ok(Some(bytes_of_file(rt, words, loaded)?))
 }
 
 /// Returns the labels and the lines of what was loaded.
@@ -256,19 +243,9 @@ fn make_tracer<'a, H: Files + AllocGlobal>(
     ensures sheet { IfOk result (λ t. t.sheet.text.items ≡ []) }
     ensures fault { IfErr result (BreaksOff (trace_view words.now) loaded.now.assembly) }
 {
-    let alloc = rt.alloc();
-    let sites = sites_of(alloc, loaded);
-    let written = match written_of(rt, words, loaded) {
-        Ok(written) => written,
-        Err(refusal) => return Err(refusal),
-    };
-    let Ok(sites) = sites else {
-        return Err(Refusal::OutOfMemory);
-    };
-    match Tracer::new(alloc, words, sites, written) {
-        Ok(tracer) => Ok(tracer),
-        Err(_) => Err(Refusal::OutOfMemory),
-    }
+    let sites = sites_of(rt.alloc(), loaded).map_err(|_| Refusal::OutOfMemory)?;
+    let written = written_of(rt, words, loaded)?;
+    Tracer::new(rt.alloc(), words, sites, written).map_err(|_| Refusal::OutOfMemory)
 }
 
 /// Makes the steps of the trace from where it begins, and writes what was gathered.
@@ -297,13 +274,9 @@ fn trace_on<R: Read, O: Write, E: Write>(
         tracer, session, player, span.to, span.limit, input, output, errors,
     );
     let written = tracer.finish(alloc, output);
-    match played {
-        Ok(played) => match written {
-            Ok(()) => Ok(played),
-            Err(refusal) => Err(refusal),
-        },
-        Err(refusal) => Err(refusal),
-    }
+    let played = played?;
+    written?;
+    Ok(played)
 }
 
 /// Runs a session, and traces it from one place to another.
@@ -328,10 +301,8 @@ fn trace_between<R: Read, O: Write, E: Write>(
     ensures fault { IfErr result IsOfStreams }
 {
     let mut player = begin(session);
-    let reached = match run_to_start(tracer, session, &mut player, span.from, input, errors) {
-        Ok(reached) => reached,
-        Err(fault) => return Err(refusal_of(fault)),
-    };
+    let reached = run_to_start(tracer, session, &mut player, span.from, input, errors)
+        .map_err(|fault| refusal_of(fault))?;
     match reached.ending {
         Ending::Until => trace_on(
             alloc,
@@ -369,10 +340,7 @@ fn trace_span<H: Files + AllocGlobal, R: Read, O: Write, E: Write>(
         (O.contents output.old) (O.contents output.new)) }
     ensures fault { IfErr result (BreaksOff (trace_view words.now) loaded.old.assembly) }
 {
-    let mut tracer = match make_tracer(rt, words, loaded) {
-        Ok(tracer) => tracer,
-        Err(refusal) => return Err(refusal),
-    };
+    let mut tracer = make_tracer(rt, words, loaded)?;
     let session = &mut loaded.session;
     trace_between(
         rt.alloc(),
@@ -472,11 +440,8 @@ fn trace_words<H: Files + AllocGlobal, R: Read, O: Write, E: Write>(
     }) result ((input.new ≡ input.old) × (output.new ≡ output.old)) }
     ensures bad_map { is_map words.now.file.rom words.now.file.port ≡ false → result ≡ 2 }
 {
-    match load_at_start(rt, &words.file) {
-        Ok(loaded) => {
-            let mut loaded = loaded;
-            trace_loaded(rt, words, &mut loaded, input, output, errors)
-        }
+    match load(rt, &words.file) {
+        Ok(mut loaded) => trace_loaded(rt, words, &mut loaded, input, output, errors),
         Err(fault) => fault.tell(words.file.file, errors),
     }
 }
@@ -495,8 +460,8 @@ pub fn trace_program<H: Files + AllocGlobal, R: Read, O: Write, E: Write>(
     // Words that fit the command line, with right values: their file was loaded and traced by the
     // definition of a trace, and what that notes was written; or it was not and the streams are
     // unchanged, as the status says.
-    ensures done { (a : TraceAsked) → asked (map (λ s. s.now) words.entry.now) ≡ Some a
-        → IsTakenBy trace (map (λ s. s.now) words.entry.now) → IsDone a (record {
+    ensures done { (a : TraceAsked) → asked (texts words.entry.now) ≡ Some a
+        → Fits trace (texts words.entry.now) → IsDone a (record {
           given = R.remaining input.old;
           left = R.remaining input.new;
           held = O.contents output.old;
@@ -506,25 +471,14 @@ pub fn trace_program<H: Files + AllocGlobal, R: Read, O: Write, E: Write>(
           now = E.contents errors.new;
         }) result ((input.new ≡ input.old) × (output.new ≡ output.old)) }
     // Other words read nothing, and write nothing on the output but help.
-    ensures untaken { ¬ IsTakenBy trace (map (λ s. s.now) words.entry.now)
-        → (input.new ≡ input.old) × (1 ≤ result → result ≤ 3 → output.new ≡ output.old) }
-    ensures unasked { asked (map (λ s. s.now) words.entry.now) ≡ None
-        → (input.new ≡ input.old) × (1 ≤ result → result ≤ 3 → output.new ≡ output.old) }
-    // Words that fit nothing have the status 2, unless they ask for help or memory runs out; help
-    // that is asked for has 0 if it was written.
-    ensures usage { ¬ IsTakenBy trace (map (λ s. s.now) words.entry.now) → ¬ IsAmong DisplayHelp
-        (fault_of trace (map (λ s. s.now) words.entry.now)) → (result ≡ 2) ⊎ (result ≡ 3) }
-    ensures help { fault_of trace (map (λ s. s.now) words.entry.now) ≡ DisplayHelp ∷ []
-        → (result ≡ 0) ⊎ (result ≡ 3) ⊎ (result ≡ 4) }
-    // A wrong value has the status 2, unless memory runs out.
-    ensures value { IsTakenBy trace (map (λ s. s.now) words.entry.now)
-        → asked (map (λ s. s.now) words.entry.now) ≡ None → (result ≡ 2) ⊎ (result ≡ 3) }
+    ensures refused { Refuses trace (texts words.entry.now) (asked (texts words.entry.now) ≡ None)
+        result (input.new ≡ input.old) (output.new ≡ output.old) }
     // A port and a ROM that make no map have the status 2, unless memory runs out.
-    ensures bad_map { (a : TraceAsked) → asked (map (λ s. s.now) words.entry.now) ≡ Some a
-        → IsTakenBy trace (map (λ s. s.now) words.entry.now)
+    ensures bad_map { (a : TraceAsked) → asked (texts words.entry.now) ≡ Some a
+        → Fits trace (texts words.entry.now)
         → is_map a.file.rom a.file.port ≡ false → (result ≡ 2) ⊎ (result ≡ 3) }
 {
-    match read_words(rt.alloc(), words) {
+    match read_trace_words(rt.alloc(), words) {
         Ok(words) => trace_words(rt, &words, input, output, errors),
         Err(fault) => refused_words(fault, output, errors),
     }

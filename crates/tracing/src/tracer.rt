@@ -2,8 +2,8 @@
 
 ghost use Rattle.std.specs.Prelude.{◌≡◌, ◌⊎◌, [], ◌∷◌, Err, IfOk, OnErr, OnOk};
 ghost use Rattle.std.specs.Io.KnownBytes.{Appends};
-ghost use Rattle.program.specs.declared.refusal.Refusal.{Refusal};
-ghost use Rattle.trace_words.specs.Views.{trace_view};
+ghost use Rattle.arguments.specs.declared.refusal.Refusal.{Refusal};
+ghost use Rattle.arguments_play.specs.Trace.{trace_view};
 ghost use Rattle.tracing.specs.Gathered.{Gathers, ahead_of, counted, counted_here};
 ghost use Rattle.tracing.specs.Gathered.{counted_step, findings, gathered, is_told, marked};
 ghost use Rattle.tracing.specs.Gathered.{none_gathered, noted_here, passed, reads_text, row_text};
@@ -15,11 +15,11 @@ use crate::notes::{Ahead, code_of, entry_reads, left_at, look_ahead};
 use crate::sheet::Sheet;
 use accesses::{Addresses, Count, Moment, Tally, Written};
 use debugger::Session;
-use program::Refusal;
+use arguments::Refusal;
 use std::alloc::{AllocError, Global};
 use std::io::Write;
 use trace_rows::{Finding, Part, Sites, Step, push_counts, push_finding, push_step};
-use trace_words::TraceWords;
+use arguments_play::TraceWords;
 
 /// What a trace gathers: rows, and with the words that ask for it the visits and cycles of each
 /// address, and which addresses were ever written.

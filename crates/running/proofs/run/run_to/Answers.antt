@@ -1,7 +1,7 @@
 use Rattle.std.proofs.Common.{◌∙◌, ap}
-use Rattle.program.specs.Statuses.{status_of}
+use Rattle.arguments.specs.Statuses.{status_of}
 use Rattle.running.proofs.Ran.{failed_to, ran_to}
-use Rattle.running.specs.Views.{run_view}
+use Rattle.arguments_play.specs.Run.{run_view}
 use Rattle.running.proofs.run.run_to.Goals as goal
 
 pub returns-in-Ok-clause-ran : goal.returns-in-Ok-clause-ran

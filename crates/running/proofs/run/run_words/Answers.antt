@@ -1,6 +1,6 @@
 use Rattle.std.proofs.Common.{◌≡◌}
 use Rattle.running.proofs.Ran.{ran_file}
-use Rattle.running.specs.Views.{run_view}
+use Rattle.arguments_play.specs.Run.{run_view}
 use Rattle.running.proofs.run.run_words.Goals as goal
 
 pub returns-in-Ok-clause-done : goal.returns-in-Ok-clause-done

@@ -1,7 +1,7 @@
 use Rattle.std.proofs.Common.{◌≡◌, refl}
 use Rattle.loading.specs.Place.{names_of}
 use Rattle.running.specs.Places.{place_asked}
-use Rattle.trace_words.specs.Views.{trace_view}
+use Rattle.arguments_play.specs.Trace.{trace_view}
 use Rattle.tracing.proofs.Done.{told_second, traced_between, unfound_from, unfound_to}
 use Rattle.tracing.proofs.trace.trace_loaded.Goals as goal
 

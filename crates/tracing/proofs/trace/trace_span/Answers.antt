@@ -1,4 +1,4 @@
-use Rattle.trace_words.specs.Views.{trace_view}
+use Rattle.arguments_play.specs.Trace.{trace_view}
 use Rattle.tracing.proofs.Going.{wrote_notes}
 use Rattle.tracing.proofs.trace.trace_span.Goals as goal
 

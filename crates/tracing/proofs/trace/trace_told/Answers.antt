@@ -1,4 +1,4 @@
-use Rattle.trace_words.specs.Views.{trace_view}
+use Rattle.arguments_play.specs.Trace.{trace_view}
 use Rattle.tracing.proofs.Done.{cut_off, traced_to}
 use Rattle.tracing.proofs.Going.{as_long}
 use Rattle.tracing.proofs.trace.trace_told.Goals as goal

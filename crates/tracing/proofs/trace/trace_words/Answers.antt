@@ -1,5 +1,5 @@
 use Rattle.std.proofs.Common.{◌≡◌}
-use Rattle.trace_words.specs.Views.{trace_view}
+use Rattle.arguments_play.specs.Trace.{trace_view}
 use Rattle.tracing.proofs.Done.{traced_file}
 use Rattle.tracing.proofs.trace.trace_words.Goals as goal
 
