@@ -8,7 +8,7 @@ use Rattle.tape_info.specs.CompareWord.{IsAnswerOf, IsOfTape, IsSaid, IsSaidOf}
 use Rattle.tape_words.specs.Answers.{IsAnswered}
 use Rattle.tape_words.specs.Asked.{CmpAsked}
 use Rattle.tape_words.specs.declared.answer.Answer.{Answer}
-use Rattle.tape_words.specs.declared.file_refusal.FileRefusal.{FileRefusal}
+use Rattle.arguments.specs.declared.file_refusal.FileRefusal.{FileRefusal}
 
 pub about_of : (asked : CmpAsked) (one other : SideView) (r : Result Answer FileRefusal)
     → one ≡ side_of asked.tape one.image asked.profile → other ≡ side_of asked.other other.image asked.profile

@@ -13,11 +13,11 @@ ghost use Rattle.tape_words.specs.CommandLines.{cmp};
 
 use crate::comparing::differences;
 use crate::row_text::{Side, rows};
-use arguments::{Refusal, image_of_tape, refused_words};
+use arguments::{FileRefusal, Refusal, image_of_tape, refused_words};
 use std::alloc::{AllocError, Global};
 use std::io::Write;
 use std::rt::Files;
-use tape_words::{Answer, CmpWords, FileRefusal, answered, read_cmp_words};
+use tape_words::{Answer, CmpWords, answered, read_cmp_words};
 
 /// Returns a tape's side of the comparison.
 ///

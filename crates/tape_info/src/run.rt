@@ -14,7 +14,7 @@ ghost use Rattle.tape_words.specs.CommandLines.{info};
 use crate::fact_list::{data_records, facts_of};
 use crate::fact_text::image_text;
 use crate::wording;
-use arguments::{Refusal, refused_words};
+use arguments::{FileRefusal, Refusal, refused_words};
 use memory_map::{Image, MapSpec};
 use model::{TapeFault, TapeFaultKind};
 use papertape::read_tape;
@@ -22,9 +22,7 @@ use std::alloc::{AllocError, Global};
 use std::io::Write;
 use std::rt::Files;
 use tape_mend::mend_text;
-use tape_words::{
-    Answer, FileRefusal, InfoWords, answered, fault_text, read_info_words, read_text,
-};
+use tape_words::{Answer, InfoWords, answered, fault_text, read_info_words, read_text};
 
 /// Returns what is on a tape, by its text and its image.
 fn right_tape(

@@ -15,14 +15,12 @@ ghost use Rattle.tape_words.specs.CommandLines.{mend};
 use crate::mending::{Mended, mend_text};
 use crate::parts::is_kept;
 use crate::reporting::report;
-use arguments::{Refusal, is_one_file, refused_words, write_file};
+use arguments::{FileRefusal, Refusal, is_one_file, refused_words, write_file};
 use model::{TapeFault, TapeFaultKind};
 use std::alloc::{AllocError, Global};
 use std::io::Write;
 use std::rt::Files;
-use tape_words::{
-    Answer, FileRefusal, MendWords, answered, fault_text, read_mend_words, read_text,
-};
+use tape_words::{Answer, MendWords, answered, fault_text, read_mend_words, read_text};
 
 /// Returns how many bytes of a mended text come directly before a byte: CR LF before each `;` but
 /// the first byte.

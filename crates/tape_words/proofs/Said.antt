@@ -8,7 +8,7 @@ use Rattle.arguments.specs.declared.refusal.Refusal.{Refusal}
 use Rattle.arguments.specs.declared.refusal.Refusal.TheVariants.{Words, Map, Source, Tape, Session, OutOfMemory, Read, Write}
 use Rattle.tape_words.specs.Answers.{IsAnswered}
 use Rattle.tape_words.specs.declared.answer.Answer.{Answer}
-use Rattle.tape_words.specs.declared.file_refusal.FileRefusal.{FileRefusal}
+use Rattle.arguments.specs.declared.file_refusal.FileRefusal.{FileRefusal}
 
 abbrev Says : Result Answer FileRefusal → ℕ → Option (List ℕ) → Option (List ℕ) → Type 0
 Says r status held now = MatchResult r (λ a. IsAnswered a status held now) (λ f. status ≡ status_of f.refusal)

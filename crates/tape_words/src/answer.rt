@@ -6,8 +6,7 @@ ghost use Rattle.arguments.specs.Statuses.{status_of};
 ghost use Rattle.model.specs.Writers.{AppendsFront};
 ghost use Rattle.tape_words.specs.Answers.{IsAnswered};
 
-use crate::file_refusal::FileRefusal;
-use arguments::{Refusal, refuse, write_text};
+use arguments::{FileRefusal, Refusal, refuse, write_text};
 use std::io::Write;
 
 /// What a word writes, and whether its exit status is then 0, or 1.

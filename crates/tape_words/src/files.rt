@@ -3,8 +3,7 @@
 ghost use Rattle.std.specs.Prelude.{◌≡◌, IfErr};
 ghost use Rattle.tape_words.specs.Files.{EndsReadingText};
 
-use crate::file_refusal::FileRefusal;
-use arguments::{Refusal, read_most};
+use arguments::{FileRefusal, Refusal, read_most};
 use model::{TapeFault, TapeFaultKind};
 use std::rt::Files;
 

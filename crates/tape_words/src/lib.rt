@@ -6,7 +6,6 @@
 
 mod answer;
 mod command;
-mod file_refusal;
 mod files;
 mod instruction;
 mod meanings;
@@ -17,7 +16,6 @@ mod words;
 
 pub use answer::{Answer, answered};
 pub use command::{cmp_command, info_command, mend_command};
-pub use file_refusal::FileRefusal;
 pub use files::read_text;
 pub use instruction::{instruction_len, push_count, push_instruction};
 pub use meanings::push_there;
