@@ -1,0 +1,17 @@
+use Rattle.std.proofs.Common.{sym, ◌∙◌}
+use Rattle.arguments.specs.Words.{texts}
+use Rattle.clap.specs.Words.{app_of}
+use Rattle.t65.proofs.Read.{asked_found, test_fits}
+use Rattle.t65.proofs.words.read_words.Goals as goal
+
+pub returns-in-Ok-Some-clause-asked : goal.returns-in-Ok-Some-clause-asked
+returns-in-Ok-Some-clause-asked c =
+    let told = rw c.in-Ok-Some.field-0-is at c.in-Ok-Some.ensures in
+    sym (told ∙ asked_found (app_of c.in_ok-test_command.field-0) (texts c.args.words.now) c.in_ok-matches.matches c.in_ok-test_command.ensures.shape c.in_ok-matches.ensures.values c.in_ok-matches.ensures.rows)
+
+pub returns-in-Ok-None-clause-refused : goal.returns-in-Ok-None-clause-refused
+returns-in-Ok-None-clause-refused c =
+    let told = rw c.in-Ok-None.field-0-is at c.in-Ok-None.ensures in (
+      test_fits (app_of c.in_ok-test_command.field-0) (texts c.args.words.now) c.in_ok-test_command.ensures.shape c.in_ok-matches.ensures.fits,
+      sym (told ∙ asked_found (app_of c.in_ok-test_command.field-0) (texts c.args.words.now) c.in_ok-matches.matches c.in_ok-test_command.ensures.shape c.in_ok-matches.ensures.values c.in_ok-matches.ensures.rows),
+    )
