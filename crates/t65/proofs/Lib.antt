@@ -1,4 +1,4 @@
-mod Paths
-mod Facts
 mod Ends
-mod Words
+mod Facts
+mod Paths
+mod Read

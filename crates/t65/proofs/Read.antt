@@ -1,33 +1,34 @@
 -- What clap's definition of a parse finds among the words of `test`.
-use Rattle.std.proofs.Common.{◌≡◌, ◌∙◌, List, Option, true, refl, codes, ap}
+use Rattle.std.proofs.Common.{◌≡◌, ◌∙◌, List, Option, true, refl, codes, ap, subst}
+use Rattle.arguments.specs.Words.{Fits, value_in}
 use Rattle.clap.proofs.OnLiterals.{clap_on_literals}
 use Rattle.clap.proofs.WalkLemmas.{raw_values-rows}
-use Rattle.clap.specs.Faults.{is_simple_and_free}
-use Rattle.clap.specs.Words.{App, HasMatchesOf, Text, all_of, first_value, found_of, is_simple, matches_of}
+use Rattle.clap.specs.Words.{App, Text, all_of, first_value, found_of, is_simple, is_simple_and_free, matches_of, rows_of}
 use Rattle.clap.specs.declared.parser.matches.ArgMatches.{ArgMatches}
-use Rattle.t65_words.specs.Asked.{all_values, test_asked}
-use Rattle.t65_words.specs.CommandLine.{test, values_in, words_asked}
-use Rattle.word_streams.specs.Words.{value_in}
-use Rattle.word_streams.proofs.Parsed.{found}
+use Rattle.t65.specs.Asked.{all_values, test_asked}
+use Rattle.t65.specs.CommandLine.{test, values_in, words_asked}
 
 pub test_free : is_simple_and_free test ≡ true
 unfolding clap_on_literals
 test_free = refl
 
-test_simple : is_simple test ≡ true
+pub test_simple : is_simple test ≡ true
 unfolding clap_on_literals
 test_simple = refl
 
+pub test_fits : (app : App) (words : List Text) → app ≡ test → Fits app words → Fits test words
+test_fits app words is fits = subst (λ (a : App). Fits a words) is fits
+
 -- All values that are found of a name are those of the definition.
-all_found : (app : App) (words : List Text) (m : ArgMatches) (name : Text) → app ≡ test → HasMatchesOf app words m → all_values (found_of m) name ≡ values_in words name
-all_found app words m name is parse =
-    raw_values-rows (found_of m) name ∙ ap (all_of name) ((parse (ap is_simple is ∙ test_simple)).0 ∙ ap (λ (a : App). matches_of a words) is)
+all_found : (app : App) (words : List Text) (m : ArgMatches) (name : Text) → app ≡ test → rows_of (found_of m) ≡ matches_of app words → all_values (found_of m) name ≡ values_in words name
+all_found app words m name is rows =
+    raw_values-rows (found_of m) name ∙ ap (all_of name) (rows ∙ ap (λ (a : App). matches_of a words) is)
 
 -- What is asked for depends on the values alone.
-same_asked : (f g : Text → Option Text) (k h : Text → Option (List Text)) → ((name : Text) → f name ≡ g name) → ((name : Text) → k name ≡ h name) → test_asked f k ≡ test_asked g h
-same_asked f g k h one all = rw (one (codes "junit"), all (codes "FILE")) refl
+same_asked : (f g : Text → Option Text) (k h : Text → Option (List Text)) → f ≡ g → ((name : Text) → k name ≡ h name) → test_asked f k ≡ test_asked g h
+same_asked f g k h one all = rw (one, all (codes "FILE")) refl
 
-pub asked_found : (app : App) (words : List Text) (m : ArgMatches) → app ≡ test → HasMatchesOf app words m → test_asked (first_value (found_of m)) (all_values (found_of m)) ≡ words_asked words
-asked_found app words m is parse =
+pub asked_found : (app : App) (words : List Text) (m : ArgMatches) → app ≡ test → first_value (found_of m) ≡ value_in app words → rows_of (found_of m) ≡ matches_of app words → test_asked (first_value (found_of m)) (all_values (found_of m)) ≡ words_asked words
+asked_found app words m is first rows =
     same_asked (first_value (found_of m)) (value_in test words) (all_values (found_of m)) (values_in words)
-    (λ name. found app test words m name is test_simple parse) (λ name. all_found app words m name is parse)
+    (first ∙ ap (λ (a : App). value_in a words) is) (λ name. all_found app words m name is rows)

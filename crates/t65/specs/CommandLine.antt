@@ -1,13 +1,13 @@
 -- The command line of `test FILE .. [--junit FILE]`, as clap's definitions describe one. How words
 -- are matched with it is clap's to say. Source: mos65.
 use Rattle.std.specs.Prelude.{◌≡◌, true, List, Option, Some, codes}
+use Rattle.arguments.specs.CommandLine.{option_rule, unnamed}
+use Rattle.arguments.specs.Words.{Fits, value_in}
 use Rattle.clap.specs.Lexer.{usize_max}
 use Rattle.clap.specs.Words.{App, Rule, Text, all_of, matches_of, new_rule, with_rule}
 use Rattle.clap.specs.declared.builder.action.ArgAction.TheVariants.{Append}
 use Rattle.clap.specs.declared.builder.range.ValueRange.{ValueRange}
-use Rattle.arguments_core.specs.CommandLine.{option_rule}
-use Rattle.t65_words.specs.Asked.{TestAsked, test_asked}
-use Rattle.word_streams.specs.Words.{Fits, unnamed, value_in}
+use Rattle.t65.specs.Asked.{TestAsked, test_asked}
 
 abbrev pub one_or_more : ValueRange
 one_or_more = record { start_inclusive = 1; end_inclusive = usize_max }

@@ -1,11 +1,14 @@
 -- Why a file of rows cannot be tested. No clause can say whether memory is there, what is in a file,
 -- nor which names are one file. Source: mos65.
-use Rattle.std.specs.Prelude.{◌≡◌, ◌⊎◌, ⊤, ℕ, false, List, Option, Ok, Err}
+use Rattle.std.specs.Prelude.{◌≡◌, ◌⊎◌, ⊤, ℕ, false, List, Ok, Err}
+use Rattle.arguments.specs.declared.refusal.Refusal.{Refusal}
+use Rattle.arguments.specs.declared.refusal.Refusal.TheVariants.{Map as NoMap, Source, OutOfMemory, Read}
 use Rattle.assembler.specs.Assembly.{AssemblyView, IsAssembled}
 use Rattle.model.specs.Names.{Definitions}
 use Rattle.model.specs.Source.{HasFault}
 use Rattle.model.specs.State.{Map, is_map}
 use Rattle.model.specs.TextLines.{lines_of}
+use Rattle.model.specs.declared.bus_fault.BusFault.TheVariants.{BadMap}
 use Rattle.t65_reader.specs.HeadText.{SeenHead, head_from}
 use Rattle.t65_reader.specs.RowText.{rows_from}
 use Rattle.t65_reader.specs.declared.fault.TextFault.{TextFault}
@@ -14,7 +17,7 @@ use Rattle.t65.specs.Tested.{map_of}
 use Rattle.t65.specs.declared.fault.FileFault.{FileFault}
 use Rattle.t65.specs.declared.fault.FileFault.TheVariants.{InRows, InSource}
 use Rattle.t65.specs.declared.fault.TestFault.{TestFault}
-use Rattle.t65.specs.declared.fault.TestFault.TheVariants.{Rows, Source, TooLarge, Map as NoMap, OutOfMemory, Read, Replaced}
+use Rattle.t65.specs.declared.fault.TestFault.TheVariants.{Rows, TooLarge, Replaced, Refused}
 
 -- The head of some file of rows, and the lines after it.
 pub record HeadedFile : Type 0 where
@@ -31,18 +34,24 @@ pub record IsRowFault (fault : TextFault) : Type 0 where
   pub assembled : IsAssembled (map_of file.head) assembly
   pub refused : rows_from assembly.names file.next file.lines ≡ Err fault
 
--- Why a file cannot be tested: its head or a row has this fault, or its source, on the map of its
--- head; or its head asks for a map that is none.
+-- Why a file cannot be tested, where it is what other words are refused for: its source, on the map
+-- of its head, has this fault, or its head asks for a map that is none.
+abbrev pub EndsRefused : Refusal → Type 0
+EndsRefused (Source fault) = (file : HeadedFile) × (source : List ℕ)
+    × HasFault (map_of file.head) source fault
+EndsRefused (NoMap fault) = (file : HeadedFile) × (fault ≡ BadMap)
+    × (is_map file.head.rom file.head.port ≡ false)
+EndsRefused OutOfMemory = ⊤
+EndsRefused Read = ⊤
+EndsRefused refusal = ⊥
+
+-- Why a file cannot be tested: its head or a row has this fault, or it is refused.
 abbrev pub EndsTest : TestFault → Type 0
 EndsTest (Rows fault) = ((text : List ℕ) × (head_from 1 (lines_of text) ≡ Err fault))
     ⊎ IsRowFault fault
-EndsTest (Source fault) = (file : HeadedFile) × (source : List ℕ)
-    × HasFault (map_of file.head) source fault
-EndsTest NoMap = (file : HeadedFile) × (is_map file.head.rom file.head.port ≡ false)
 EndsTest TooLarge = ⊤
-EndsTest OutOfMemory = ⊤
-EndsTest Read = ⊤
 EndsTest Replaced = ⊤
+EndsTest (Refused refusal) = EndsRefused refusal
 
 abbrev pub fault_in : FileFault → TestFault
 fault_in (InRows fault) = fault
@@ -55,15 +64,19 @@ pub record IsUntested (status : ℕ) : Type 0 where
   pub status_is : status ≡ status_of fault
 
 -- Why a source is not assembled on a map.
+abbrev pub EndsAssembling : Map → Refusal → Type 0
+EndsAssembling bus_map (Source fault) = (source : List ℕ) × HasFault bus_map source fault
+EndsAssembling bus_map OutOfMemory = ⊤
+EndsAssembling bus_map Read = ⊤
+EndsAssembling bus_map refusal = ⊥
+
+-- The same of a source that the report is not to replace.
 abbrev pub EndsSource : Map → TestFault → Type 0
-EndsSource bus_map (Source fault) = (source : List ℕ) × HasFault bus_map source fault
-EndsSource bus_map OutOfMemory = ⊤
-EndsSource bus_map Read = ⊤
+EndsSource bus_map (Refused refusal) = EndsAssembling bus_map refusal
 EndsSource bus_map Replaced = ⊤
 EndsSource bus_map fault = ⊥
 
 -- Why rows are not read under some names.
 abbrev pub EndsRows : Definitions → ℕ → List (List ℕ) → TestFault → Type 0
 EndsRows names next lines (Rows fault) = rows_from names next lines ≡ Err fault
-EndsRows names next lines OutOfMemory = ⊤
-EndsRows names next lines fault = ⊥
+EndsRows names next lines fault = fault ≡ Refused OutOfMemory

@@ -1,5 +1,5 @@
 -- What a file of rows is that was tested, and whether its rows pass. Source: mos65.
-use Rattle.std.specs.Prelude.{◌≡◌, ℕ, Bool, List, Option, Ok, length, map}
+use Rattle.std.specs.Prelude.{◌≡◌, ℕ, Bool, List, Ok, length, map}
 use Rattle.std.specs.List.{list_all}
 use Rattle.assembler.specs.Assembly.{AssemblyView, IsAssembled}
 use Rattle.model.specs.State.{Map}

@@ -1,7 +1,7 @@
 -- What was read from the words of `test`, as what they ask for. Source: mos65.
 use Rattle.std.specs.Prelude.{map, option_map}
-use Rattle.t65_words.specs.Asked.{TestAsked}
-use Rattle.t65_words.specs.declared.words.TestWords.{TestWords}
+use Rattle.t65.specs.Asked.{TestAsked}
+use Rattle.t65.specs.declared.words.TestWords.{TestWords}
 
 abbrev pub test_view : TestWords → TestAsked
 test_view w = record {

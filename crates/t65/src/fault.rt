@@ -1,12 +1,11 @@
 //! Why a file cannot be tested.
 
-ghost use Rattle.std.specs.Prelude.{◌≡◌, ◌≤◌, ◌⊎◌};
+ghost use Rattle.std.specs.Prelude.{◌≡◌, ◌≤◌};
 ghost use Rattle.t65.specs.Statuses.{status_of};
 ghost use Rattle.t65.specs.declared.fault.FileFault.TheVariants.{InRows};
+ghost use Rattle.t65.specs.declared.fault.TestFault.TheVariants.{Refused};
 
-use model::AsmFault;
-use std::io;
-use std::io::ErrorKind;
+use arguments::Refusal;
 use t65_reader::TextFault;
 
 /// Why a file of rows cannot be tested.
@@ -14,18 +13,12 @@ use t65_reader::TextFault;
 pub enum TestFault {
     /// A line of the file is no row.
     Rows(TextFault),
-    /// The source that the file names has a fault.
-    Source(AsmFault),
     /// The file has more than 1,048,576 bytes.
     TooLarge,
-    /// The port and the ROM make no map.
-    Map,
-    /// A request for memory was refused.
-    OutOfMemory,
-    /// A file cannot be read.
-    Read,
     /// The report would replace a file that is read.
     Replaced,
+    /// What other words are refused for too: the source, the map, reading, memory.
+    Refused(Refusal),
 }
 
 impl TestFault {
@@ -37,21 +30,18 @@ impl TestFault {
         ensures high { result ≤ 4 }
     {
         match self {
-            TestFault::Rows(_) | TestFault::Source(_) | TestFault::TooLarge => 1,
-            TestFault::Map => 2,
-            TestFault::OutOfMemory => 3,
-            TestFault::Read | TestFault::Replaced => 4,
+            TestFault::Rows(_) | TestFault::TooLarge => 1,
+            TestFault::Replaced => 4,
+            TestFault::Refused(refusal) => refusal.status(),
         }
     }
+}
 
-    /// Returns why a file could not be read.
-    pub fn unreadable(error: &io::Error) -> TestFault
-        ensures { (result ≡ TestFault.OutOfMemory) ⊎ (result ≡ TestFault.Read) }
-    {
-        match error.kind() {
-            ErrorKind::OutOfMemory => TestFault::OutOfMemory,
-            _ => TestFault::Read,
-        }
+impl From<Refusal> for TestFault {
+    ghost from_gives = { λ refusal fault. fault ≡ Refused refusal };
+
+    fn from(refusal: Refusal) -> TestFault {
+        TestFault::Refused(refusal)
     }
 }
 

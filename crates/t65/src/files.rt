@@ -9,6 +9,7 @@ ghost use Rattle.t65.specs.Tested.{AreTested, IsTested};
 use crate::fault::{FileFault, TestFault};
 use crate::prepared::{Prepared, prepare};
 use crate::telling::tell_file;
+use arguments::Refusal;
 use debugger::Session;
 use std::alloc::Global;
 use std::rt::Files;
@@ -23,12 +24,11 @@ fn judged(alloc: Global, file: &Prepared) -> Result<Vec<Option<Pair>>, TestFault
 {
     let image = file.assembly.image();
     let Ok(mut session) = Session::new(alloc, file.map, image, HISTORY) else {
-        return Err(TestFault::OutOfMemory);
+        return Err(TestFault::Refused(Refusal::OutOfMemory));
     };
-    match judge(alloc, &mut session, file.map, image, &file.rows) {
-        Ok(found) => Ok(found),
-        Err(_) => Err(TestFault::OutOfMemory),
-    }
+    judge(alloc, &mut session, file.map, image, &file.rows).map_err(|_| TestFault::Refused(
+        Refusal::OutOfMemory,
+    ))
 }
 
 /// Runs a file and tells of its rows. Returns whether all of them pass.
@@ -45,7 +45,7 @@ fn run_file<H: Files + AllocGlobal>(
     let found = judged(rt.alloc(), &readied)?;
     match tell_file(rt.alloc(), reports, file, &readied, &found) {
         Ok(()) => Ok(all_pass(&found)),
-        Err(_) => Err(FileFault::InRows(TestFault::OutOfMemory)),
+        Err(_) => Err(FileFault::InRows(TestFault::Refused(Refusal::OutOfMemory))),
     }
 }
 

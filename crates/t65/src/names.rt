@@ -6,36 +6,26 @@ ghost use Rattle.t65.specs.Ends.{EndsTest};
 ghost use Rattle.t65.specs.Paths.{begins_at_root, folder_for, name_start, source_path};
 
 use crate::fault::TestFault;
+use arguments::{Refusal, read_most};
 use std::alloc::{AllocError, Global};
-use std::fs::File;
-use std::io;
-use std::io::Read;
 use std::rt::Files;
 
-/// The most bytes of a source or of a file of rows. Source: mos65.
+/// The most bytes of a file of rows. Source: mos65.
 const LARGEST: u64 = 1_048_576;
-
-/// Returns the bytes of a file, or the first of them where it is too large.
-pub fn read_most<H: Files + AllocGlobal>(rt: &H, path: &str) -> io::Result<Vec<u8>> {
-    let mut text = Vec::new(rt.alloc());
-    File::open(rt, path)?
-        .take(LARGEST + 1)
-        .read_to_end(&mut text)?;
-    Ok(text)
-}
 
 /// Returns the bytes of a file of rows.
 ///
-/// Errors: `TooLarge`, `Read`, `OutOfMemory`.
+/// Errors: `TooLarge` if it has more than 1,048,576; `Read` if it cannot be read; `OutOfMemory` if
+/// an allocation fails.
 pub fn read_rows_text<H: Files + AllocGlobal>(rt: &H, path: &str) -> Result<Vec<u8>, TestFault>
     ensures small { IfOk result (λ text. vec_len text ≤ 1048576) }
     ensures refused { IfErr result EndsTest }
 {
-    match read_most(rt, path) {
-        Ok(text) if text.len() <= LARGEST as usize => Ok(text),
-        Ok(_) => Err(TestFault::TooLarge),
-        Err(error) => Err(TestFault::unreadable(&error)),
+    let text = read_most(rt, path, LARGEST + 1)?;
+    if text.len() > LARGEST as usize {
+        return Err(TestFault::TooLarge);
     }
+    Ok(text)
 }
 
 /// Returns where the name of the file begins in its path: after the last `/`, if there is one.
@@ -89,16 +79,13 @@ fn joined(alloc: Global, front: &[u8], back: &[u8]) -> Result<Vec<u8>, AllocErro
 /// Errors: `Read` if the name is no text of UTF-8; `OutOfMemory`.
 pub fn source_path(alloc: Global, file: &str, name: &[u8]) -> Result<String, TestFault>
     ensures path { IfOk result (λ path. string_bytes path ≡ source_path file.now name.now) }
-    ensures fault { IfErr result (λ fault. (fault ≡ TestFault.OutOfMemory)
-        ⊎ ((fault ≡ TestFault.Read) × ¬ IsUtf8 (source_path file.now name.now))) }
+    ensures fault { IfErr result (λ fault. (fault ≡ TestFault.Refused Refusal.OutOfMemory)
+        ⊎ ((fault ≡ TestFault.Refused Refusal.Read) × ¬ IsUtf8 (source_path file.now name.now))) }
     ensures refused { IfErr result EndsTest }
 {
     let folder = folder_for(file.as_bytes(), name);
     match joined(alloc, folder, name) {
-        Ok(path) => match String::from_utf8(path) {
-            Ok(path) => Ok(path),
-            Err(_) => Err(TestFault::Read),
-        },
-        Err(_) => Err(TestFault::OutOfMemory),
+        Ok(path) => String::from_utf8(path).map_err(|_| TestFault::Refused(Refusal::Read)),
+        Err(_) => Err(TestFault::Refused(Refusal::OutOfMemory)),
     }
 }

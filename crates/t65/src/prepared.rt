@@ -7,20 +7,20 @@ ghost use Rattle.model.specs.State.{is_map};
 ghost use Rattle.model.specs.TextLines.{lines_of};
 ghost use Rattle.t65_reader.specs.HeadText.{head_from, head_view};
 ghost use Rattle.t65_reader.specs.RowText.{numbered_view, rows_from};
-ghost use Rattle.t65.specs.Ends.{EndsRows, EndsSource, EndsTest, fault_in};
+ghost use Rattle.t65.specs.Ends.{EndsAssembling, EndsRows, EndsSource, EndsTest, fault_in};
 ghost use Rattle.t65.specs.Tested.{IsPrepared, map_of};
-ghost use Rattle.t65_words.specs.Asked.{replaces};
+ghost use Rattle.t65.specs.Asked.{replaces};
 
 use crate::fault::{FileFault, TestFault};
-use crate::names::{read_most, read_rows_text, source_path};
+use crate::names::{read_rows_text, source_path};
+use arguments::{Refusal, is_one_file, read_source};
 use assembler::{Assembly, assemble};
-use bus::MapSpec;
-use model::{AsmFaultKind, Profile};
+use memory_map::MapSpec;
+use model::BusFault;
 use source_map::Places;
 use std::alloc::Global;
 use std::rt::Files;
 use t65_reader::{Head, Opened, Row, RowFaultKind, read_head, read_rows};
-use word_streams::is_one_file;
 
 /// A file of rows, its source assembled, and its rows.
 #[derive(Drop)]
@@ -35,62 +35,46 @@ pub struct Prepared {
 /// Returns the map that a head asks for.
 fn map_of(head: Head<'_>) -> Result<MapSpec, TestFault>
     ensures map { IfOk result (λ map. map ≡ map_of (head_view head.entry)) }
-    ensures none { IfErr result (λ fault. (fault ≡ TestFault.Map)
+    ensures none { IfErr result (λ fault. (fault ≡ TestFault.Refused (Refusal.Map BusFault.BadMap))
         × (is_map (head_view head.entry).rom (head_view head.entry).port ≡ false)) }
 {
-    match MapSpec::new(head.rom, head.port) {
-        Ok(map) => match head.profile {
-            Profile::N => Ok(map),
-            Profile::C => Ok(map.profile_c()),
-        },
-        Err(_) => Err(TestFault::Map),
-    }
-}
-
-/// Returns a source, assembled.
-fn assembled_text(alloc: Global, source: &[u8], map: &MapSpec) -> Result<Assembly, TestFault>
-    ensures assembled { IfOk result (IsAssembled map.now) }
-    ensures refused { IfErr result (EndsSource map.now) }
-{
-    match assemble(alloc, source, map) {
-        Ok(assembly) => Ok(assembly),
-        Err(fault) => match fault.kind {
-            AsmFaultKind::OutOfMemory => Err(TestFault::OutOfMemory),
-            _ => Err(TestFault::Source(fault)),
-        },
-    }
+    arguments::map_of(head.profile, head.rom, head.port).map_err(|fault| TestFault::Refused(
+        Refusal::Map(fault),
+    ))
 }
 
 /// Returns the source of a file, assembled.
+///
+/// Errors: `Read` if the file cannot be read; `Source` with the source's fault; `OutOfMemory` if an
+/// allocation fails.
 fn assembled_file<H: Files + AllocGlobal>(
     rt: &H,
     path: &str,
     map: &MapSpec,
-) -> Result<Assembly, TestFault>
+) -> Result<Assembly, Refusal>
     ensures assembled { IfOk result (IsAssembled map.now) }
-    ensures refused { IfErr result (EndsSource map.now) }
+    ensures refused { IfErr result (EndsAssembling map.now) }
 {
-    match read_most(rt, path) {
-        Ok(source) => assembled_text(rt.alloc(), &source, map),
-        Err(error) => Err(TestFault::unreadable(&error)),
-    }
+    let source = read_source(rt, path)?;
+    let assembly = assemble(rt.alloc(), &source, map)?;
+    Ok(assembly)
 }
 
 /// Returns the source of a file, assembled, and its places.
+///
+/// Errors: those of `assembled_file`.
 fn assembled<H: Files + AllocGlobal>(
     rt: &H,
     path: &str,
     map: &MapSpec,
-) -> Result<(Assembly, Places), TestFault>
+) -> Result<(Assembly, Places), Refusal>
     ensures assembled { IfOk result (λ found. IsAssembled map.now found.0) }
-    ensures refused { IfErr result (EndsSource map.now) }
+    ensures refused { IfErr result (EndsAssembling map.now) }
 {
-    match assembled_file(rt, path, map) {
-        Ok(assembly) => match Places::of_source(rt.alloc(), path.as_bytes(), &assembly) {
-            Ok(places) => Ok((assembly, places)),
-            Err(_) => Err(TestFault::OutOfMemory),
-        },
-        Err(fault) => Err(fault),
+    let assembly = assembled_file(rt, path, map)?;
+    match Places::of_source(rt.alloc(), path.as_bytes(), &assembly) {
+        Ok(places) => Ok((assembly, places)),
+        Err(_) => Err(Refusal::OutOfMemory),
     }
 }
 
@@ -104,13 +88,7 @@ fn opened_in(text: &[u8]) -> Result<Opened<'_>, TestFault>
         (λ opened. opened.next + length opened.rest.now ≤ 1 + length text.now) }
     ensures refused { IfErr result EndsTest }
 {
-    match read_head(text) {
-        Ok(opened) => Ok(opened),
-        Err(fault) => match fault.kind {
-            RowFaultKind::OutOfMemory => Err(TestFault::OutOfMemory),
-            _ => Err(TestFault::Rows(fault)),
-        },
-    }
+    read_head(text).map_err(TestFault::Rows)
 }
 
 /// Returns the rows of a text, under the names of a source.
@@ -125,13 +103,10 @@ fn rows_in(
         ≡ Ok (map numbered_view rows.items)) }
     ensures refused { IfErr result (EndsRows names.now.names first (lines_of text.now)) }
 {
-    match read_rows(alloc, names, first, text) {
-        Ok(rows) => Ok(rows),
-        Err(fault) => match fault.kind {
-            RowFaultKind::OutOfMemory => Err(TestFault::OutOfMemory),
-            _ => Err(TestFault::Rows(fault)),
-        },
-    }
+    read_rows(alloc, names, first, text).map_err(|fault| match fault.kind {
+        RowFaultKind::OutOfMemory => TestFault::Refused(Refusal::OutOfMemory),
+        _ => TestFault::Rows(fault),
+    })
 }
 
 /// Lets go on where the report is not to replace a file that is read.
@@ -140,7 +115,7 @@ fn rows_in(
 fn spare<H: Files>(rt: &H, path: &str, report: Option<&str>) -> Result<(), TestFault>
     ensures spared { IfOk result
         (λ _. replaces (option_map (λ f. f.now) report.entry) (path.now ∷ []) ≡ false) }
-    ensures refused { IfErr result EndsTest }
+    ensures refused { IfErr result (λ fault. fault ≡ TestFault.Replaced) }
 {
     match report {
         None => Ok(()),
@@ -167,10 +142,9 @@ fn assembled_for<H: Files + AllocGlobal>(
         (λ _. replaces (option_map (λ f. f.now) report.entry) (path.now ∷ []) ≡ false) }
     ensures refused { IfErr result (EndsSource map.now) }
 {
-    match spare(rt, path, report) {
-        Ok(()) => assembled(rt, path, map),
-        Err(_) => Err(TestFault::Replaced),
-    }
+    spare(rt, path, report)?;
+    let found = assembled(rt, path, map)?;
+    Ok(found)
 }
 
 /// Reads a file of rows, assembles the source that it names, and reads its rows under the names of

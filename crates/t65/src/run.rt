@@ -1,22 +1,21 @@
 //! What the word `test` does.
 
-ghost use Rattle.std.specs.Prelude.{◌≡◌, ◌≢◌, ◌⊎◌, ◌≤◌, IfErr, None, false, length, map, true};
+ghost use Rattle.std.specs.Prelude.{◌≡◌, ◌≢◌, ◌⊎◌, ◌≤◌, IfErr, None, false, length, true};
+ghost use Rattle.arguments.specs.Words.{AsksForHelp, Fits, Misfits, texts};
+ghost use Rattle.t65.specs.CommandLine.{Asks, test, words_asked};
 ghost use Rattle.t65.specs.Ends.{EndsTest, IsUntested, fault_in};
 ghost use Rattle.t65.specs.Statuses.{status_of};
 ghost use Rattle.t65.specs.Tested.{AreTested};
-ghost use Rattle.t65_words.specs.CommandLine.{Asks, test, words_asked};
-ghost use Rattle.t65_words.specs.Views.{test_view};
-ghost use Rattle.word_streams.specs.Words.{AsksForHelp, Fits, Misfits};
+ghost use Rattle.t65.specs.Views.{test_view};
 
 use crate::fault::{FileFault, TestFault};
 use crate::files::run_files;
-use program::{Refusal, refuse, refused_words};
-use std::fs;
-use std::io::{ErrorKind, Write};
+use crate::words::{TestWords, read_words};
+use arguments::{Refusal, refuse, refuse_file, refused_words, write_file, write_text};
+use std::io::Write;
 use std::rt::Files;
-use t65_reader::RowFaultKind;
+use t65_reader::{RowFaultKind, TextFault};
 use t65_reports::Reports;
-use t65_words::{TestWords, read_words};
 
 /// Returns an example of what has to stand there, for the faults that a first file has.
 fn example_of(kind: RowFaultKind) -> &'static str {
@@ -27,6 +26,18 @@ fn example_of(kind: RowFaultKind) -> &'static str {
     }
 }
 
+/// Writes which line of a file of rows is none, and why, even if it cannot be written.
+fn tell_rows<E: Write>(path: &str, fault: TextFault, errors: &mut E) {
+    let _ = writeln!(
+        errors,
+        "mos65: {path}:{}:{}: {}{}",
+        fault.line,
+        fault.column,
+        fault.kind,
+        example_of(fault.kind)
+    );
+}
+
 /// Writes why a file cannot be tested, and returns the exit status, even if the line cannot be
 /// written.
 fn refuse_at<E: Write>(path: &str, fault: TestFault, errors: &mut E) -> u8
@@ -35,26 +46,26 @@ fn refuse_at<E: Write>(path: &str, fault: TestFault, errors: &mut E) -> u8
     ensures high { result ≤ 4 }
 {
     let _ = match fault {
-        TestFault::Rows(fault) => writeln!(
-            errors,
-            "mos65: {path}:{}:{}: {}{}",
-            fault.line,
-            fault.column,
-            fault.kind,
-            example_of(fault.kind)
-        ),
-        TestFault::Source(fault) => writeln!(errors, "mos65: {path}: SOURCE {fault}"),
-        TestFault::TooLarge => writeln!(errors, "mos65: {path}: more than 1048576 bytes"),
-        TestFault::Map => writeln!(errors, "mos65: {path}: MAP BadMap 1"),
-        TestFault::OutOfMemory => writeln!(errors, "mos65: OutOfMemory"),
-        TestFault::Read => writeln!(errors, "mos65: {path}: READ"),
-        TestFault::Replaced => writeln!(errors, "mos65: {path}: the report would replace it"),
+        TestFault::Rows(fault) => tell_rows(path, fault, errors),
+        TestFault::TooLarge => {
+            let _ = writeln!(errors, "mos65: {path}: more than 1048576 bytes");
+        }
+        TestFault::Replaced => {
+            let _ = writeln!(errors, "mos65: {path}: the report would replace it");
+        }
+        // The map is one that the file asks for.
+        TestFault::Refused(Refusal::Map(fault)) => {
+            let _ = writeln!(errors, "mos65: {path}: MAP {fault}");
+        }
+        TestFault::Refused(refusal) => {
+            let _ = refuse_file(refusal, path, errors);
+        }
     };
     fault.status()
 }
 
 /// Writes why a file cannot be tested, and returns the exit status.
-fn refuse_file<E: Write>(file: &str, fault: FileFault, errors: &mut E) -> u8
+fn refuse_untested<E: Write>(file: &str, fault: FileFault, errors: &mut E) -> u8
     ensures value { result ≡ status_of (fault_in fault) }
     ensures low { 1 ≤ result }
     ensures high { result ≤ 4 }
@@ -82,18 +93,12 @@ fn written<H: Files, O: Write, E: Write>(
     ensures untouched { 2 ≤ result → result ≤ 3 → output.new ≡ output.old }
 {
     if let Some(file) = words.junit {
-        if let Err(error) = fs::write(rt, file, reports.junit.as_bytes()) {
-            return match error.kind() {
-                ErrorKind::OutOfMemory => refuse(Refusal::OutOfMemory, errors),
-                _ => refuse(Refusal::Write, errors),
-            };
+        if let Err(refusal) = write_file(rt, file, reports.junit.as_bytes()) {
+            return refuse(refusal, errors);
         }
     }
-    match output.write_all(reports.tap.as_bytes()) {
-        Ok(()) => match output.flush() {
-            Ok(()) => { if all { 0 } else { 1 } }
-            Err(_) => refuse(Refusal::Write, errors),
-        },
+    match write_text(output, reports.tap.as_bytes()) {
+        Ok(()) => { if all { 0 } else { 1 } }
         Err(_) => refuse(Refusal::Write, errors),
     }
 }
@@ -107,8 +112,8 @@ fn refuse_one<E: Write>(files: &[&str], index: usize, fault: FileFault, errors: 
     ensures high { result ≤ 4 }
 {
     match files.get(index) {
-        Some(file) => refuse_file(file, fault, errors),
-        None => refuse_file("", fault, errors),
+        Some(file) => refuse_untested(file, fault, errors),
+        None => refuse_untested("", fault, errors),
     }
 }
 
@@ -162,23 +167,23 @@ pub fn test<H: Files + AllocGlobal, O: Write, E: Write>(
     ensures untouched { 2 ≤ result → result ≤ 3 → output.new ≡ output.old }
     // 0 means that as many files were tested as the words name, and all of their rows pass, or that
     // it is help that is asked for.
-    ensures passed { result ≡ 0 → AsksForHelp test (map (λ s. s.now) words.entry.now)
-        ⊎ Asks (map (λ s. s.now) words.entry.now)
+    ensures passed { result ≡ 0 → AsksForHelp test (texts words.entry.now)
+        ⊎ Asks (texts words.entry.now)
         (λ asked. AreTested (length asked.files) true) }
     // 1 means that a row of such files fails, and nothing is written on the error stream; or that
     // some file cannot be tested, and the output is unchanged.
-    ensures failed { result ≡ 1 → Asks (map (λ s. s.now) words.entry.now)
+    ensures failed { result ≡ 1 → Asks (texts words.entry.now)
         (λ asked. (AreTested (length asked.files) false × (errors.new ≡ errors.old))
         ⊎ (IsUntested 1 × (output.new ≡ output.old))) }
     // 2 means that the words do not fit or name no file, or that some file asks for a map that is
     // none.
-    ensures refused { result ≡ 2 → Misfits test (map (λ s. s.now) words.entry.now)
-        ⊎ ((Fits test (map (λ s. s.now) words.entry.now)
-        × (words_asked (map (λ s. s.now) words.entry.now) ≡ None))
-        ⊎ Asks (map (λ s. s.now) words.entry.now) (λ asked. IsUntested 2)) }
+    ensures refused { result ≡ 2 → Misfits test (texts words.entry.now)
+        ⊎ ((Fits test (texts words.entry.now)
+        × (words_asked (texts words.entry.now) ≡ None))
+        ⊎ Asks (texts words.entry.now) (λ asked. IsUntested 2)) }
     // 4 means that a stream or a file failed, or that it is help that is asked for.
-    ensures begun { result ≡ 4 → AsksForHelp test (map (λ s. s.now) words.entry.now)
-        ⊎ Fits test (map (λ s. s.now) words.entry.now) }
+    ensures begun { result ≡ 4 → AsksForHelp test (texts words.entry.now)
+        ⊎ Fits test (texts words.entry.now) }
 {
     match read_words(rt.alloc(), words) {
         Ok(asked) => run_words(rt, &asked, output, errors),

@@ -2,16 +2,16 @@
 
 ghost use Rattle.std.specs.Prelude.{◌≡◌, IfErr, IfOk, None, Some, codes, false, map, option_map};
 ghost use Rattle.std.specs.List.{list_any};
+ghost use Rattle.arguments.specs.Words.{Fits, IsRefusalOf, texts};
 ghost use Rattle.clap.specs.Words.{app_of, first_value, found_of, kind_of, rule_of};
-ghost use Rattle.arguments_core.specs.CommandLine.{option_rule};
-ghost use Rattle.t65_words.specs.Asked.{all_values, has_name, replaces, test_asked, test_of};
-ghost use Rattle.t65_words.specs.CommandLine.{files_rule, test, words_asked};
-ghost use Rattle.t65_words.specs.Views.{test_view};
-ghost use Rattle.word_streams.specs.Words.{Fits, IsRefusalOf};
+ghost use Rattle.clap.specs.declared.builder.command.Command.TheViews.{out-Command};
+ghost use Rattle.t65.specs.Asked.{all_values, has_name, replaces, test_asked, test_of};
+ghost use Rattle.t65.specs.CommandLine.{files_rule, test, words_asked};
+ghost use Rattle.t65.specs.Views.{test_view};
 
+use arguments::{WordsFault, begin, matched, option};
 use clap::error::ErrorKind;
 use clap::{Arg, ArgAction, ArgMatches, Command, Error};
-use arguments_core::WordsFault;
 use std::alloc::{AllocError, Global};
 
 /// What the words of `test` ask for.
@@ -43,30 +43,17 @@ fn files<'a>(alloc: Global) -> Arg<'a>
         .help("Files of rows, each of which names its source")
 }
 
-/// Returns the option that asks for a report for JUnit.
-fn junit<'a>(alloc: Global) -> Arg<'a>
-    ensures rule { rule_of result ≡ option_rule (codes "junit") }
-    ensures local { result.global ≡ false }
-{
-    Arg::new(alloc, "junit")
-        .long("junit")
-        .value_name("FILE")
-        .action(ArgAction::Set)
-        .help("The file to write a report for JUnit to [default: none]")
-}
-
-/// Returns the command line of `test`.
-fn command<'a>(alloc: Global) -> Result<Command<'a>, Error>
+/// Returns the command line of `test`. The only error is that an allocation failed.
+pub fn test_command<'a>(alloc: Global) -> Result<Command<'a>, Error>
     ensures shape { IfOk result (λ c. app_of c ≡ test) }
+    ensures local { IfOk result (λ c. (out-Command c).has_globals ≡ false) }
     ensures memory { IfErr result (λ e. kind_of e ≡ ErrorKind.OutOfMemory) }
 {
-    let command = Command::new(alloc, "test")
-        .about("Tests routines by rows: what is given to a call, and what it has to leave")
-        .after_help(STATUSES)
-        .no_binary_name(true)
-        .bin_name("mos65 test")?
+    let about = "Tests routines by rows: what is given to a call, and what it has to leave";
+    let junit = "The file to write a report for JUnit to [default: none]";
+    let command = begin(alloc, "test", "mos65 test", about, STATUSES)?
         .arg(files(alloc))?
-        .arg(junit(alloc))?;
+        .arg(option(alloc, "junit", "FILE", junit))?;
     Ok(command)
 }
 
@@ -130,19 +117,19 @@ fn asked<'a>(alloc: Global, matches: &ArgMatches<'a>) -> Result<Option<TestWords
 ///
 /// - `Help` if they ask for help, and `Usage` if they do not fit the command line, with `clap`'s
 ///   text.
-/// - `Value` if they name no file, or the report has the name of one.
+/// - `Wrong` if they name no file, or the report has the name of one.
 /// - `OutOfMemory` if an allocation failed.
 pub fn read_words<'a>(alloc: Global, words: &'a [&'a str]) -> Result<TestWords<'a>, WordsFault>
     ensures asked { IfOk result
-        (λ w. words_asked (map (λ s. s.now) words.entry.now) ≡ Some (test_view w)) }
-    ensures taken { IfOk result (λ w. Fits test (map (λ s. s.now) words.entry.now)) }
-    ensures refused { IfErr result (IsRefusalOf test (map (λ s. s.now) words.entry.now)
-        (words_asked (map (λ s. s.now) words.entry.now) ≡ None)) }
+        (λ w. words_asked (texts words.entry.now) ≡ Some (test_view w)) }
+    ensures taken { IfOk result (λ w. Fits test (texts words.entry.now)) }
+    ensures refused { IfErr result (IsRefusalOf test (texts words.entry.now)
+        (words_asked (texts words.entry.now) ≡ None)) }
 {
-    let matches = command(alloc)?.try_get_matches_from(words)?;
+    let matches = matched(test_command(alloc)?, words)?;
     match asked(alloc, &matches) {
         Ok(Some(words)) => Ok(words),
-        Ok(None) => Err(WordsFault::Value),
+        Ok(None) => Err(WordsFault::Wrong("--junit names a file of rows")),
         Err(_) => Err(WordsFault::OutOfMemory),
     }
 }

@@ -1,4 +1,4 @@
-use Rattle.std.proofs.Common.{◌≡◌, ◌≤◌, ◌+◌, ◌==◌, ℕ, arith, get_or, if◌then◌else◌, sym, refl}
+use Rattle.std.proofs.Common.{◌≡◌, ◌+◌, ◌==◌, arith, get_or, if◌then◌else◌}
 use Rattle.t65.proofs.Paths.{start_end, start_kept, start_moved, start_on}
 use Rattle.t65.proofs.names.name_start.Goals as goal
 use Rattle.t65.proofs.names.name_start.Goals.{then-byte-eq47, else-byte-eq47}

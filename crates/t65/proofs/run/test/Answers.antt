@@ -1,8 +1,8 @@
-use Rattle.std.proofs.Common.{inl, inr, map}
-use Rattle.t65_words.specs.CommandLine.{test}
-use Rattle.t65_words.specs.Views.{test_view}
-use Rattle.word_streams.proofs.Parsed.{says_of_words}
-use Rattle.t65.proofs.Words.{same_status}
+use Rattle.std.proofs.Common.{inl, inr}
+use Rattle.arguments.proofs.Parsed.{says_of_words}
+use Rattle.arguments.specs.Words.{texts}
+use Rattle.t65.specs.CommandLine.{test}
+use Rattle.t65.specs.Views.{test_view}
 use Rattle.t65.proofs.run.test.Goals as goal
 
 pub returns-in-Ok-clause-passed : goal.returns-in-Ok-clause-passed
@@ -18,13 +18,13 @@ pub returns-in-Ok-clause-begun : goal.returns-in-Ok-clause-begun
 returns-in-Ok-clause-begun g c = λ four. inr c.in-Ok.ensures.taken
 
 pub returns-in-Err-clause-passed : goal.returns-in-Err-clause-passed
-returns-in-Err-clause-passed g c = λ zero. inl ((says_of_words test (map (λ s. s.now) c.args.words.now) _ _ _ c.in-Err.ensures.refused (same_status _ _ c.refused_words.ensures.status)).help (inl zero))
+returns-in-Err-clause-passed g c = λ zero. inl ((says_of_words test (texts c.args.words.now) _ _ _ c.in-Err.ensures.refused c.refused_words.ensures.status).help (inl zero))
 
 pub returns-in-Err-clause-failed : goal.returns-in-Err-clause-failed
-returns-in-Err-clause-failed g c = λ one. absurd ((says_of_words test (map (λ s. s.now) c.args.words.now) _ _ _ c.in-Err.ensures.refused (same_status _ _ c.refused_words.ensures.status)).never one)
+returns-in-Err-clause-failed g c = λ one. absurd ((says_of_words test (texts c.args.words.now) _ _ _ c.in-Err.ensures.refused c.refused_words.ensures.status).never one)
 
 pub returns-in-Err-clause-refused : goal.returns-in-Err-clause-refused
-returns-in-Err-clause-refused g c = λ two. elim ((says_of_words test (map (λ s. s.now) c.args.words.now) _ _ _ c.in-Err.ensures.refused (same_status _ _ c.refused_words.ensures.status)).wrong two) [ inl m ↦ inl m | inr w ↦ inr (inl w) ]
+returns-in-Err-clause-refused g c = λ two. elim ((says_of_words test (texts c.args.words.now) _ _ _ c.in-Err.ensures.refused c.refused_words.ensures.status).wrong two) [ inl m ↦ inl m | inr w ↦ inr (inl w) ]
 
 pub returns-in-Err-clause-begun : goal.returns-in-Err-clause-begun
-returns-in-Err-clause-begun g c = λ four. inl ((says_of_words test (map (λ s. s.now) c.args.words.now) _ _ _ c.in-Err.ensures.refused (same_status _ _ c.refused_words.ensures.status)).help (inr four))
+returns-in-Err-clause-begun g c = λ four. inl ((says_of_words test (texts c.args.words.now) _ _ _ c.in-Err.ensures.refused c.refused_words.ensures.status).help (inr four))
