@@ -2,5 +2,5 @@ pub mod Between
 pub mod Marked
 pub mod Words
 pub mod Parts
-pub mod Unread
+pub mod NamesRefused
 pub mod Read

@@ -1,13 +1,13 @@
 -- What the words of `dis` with `--source` ask for, by the values that clap's definition of a parse
 -- finds among them. Source: mos65.
 use Rattle.std.specs.Prelude.{ℕ, Bool, List, [], ◌∷◌, Option, Some, None, codes, length, take, drop, get_or, nat_le, ◌==◌, ◌&&◌, if◌then◌else◌, option_map}
+use Rattle.arguments.specs.Asked.{is_flag}
+use Rattle.arguments.specs.Values.{profile_asked}
 use Rattle.clap.specs.Words.{Text}
 use Rattle.clap.specs.declared.parser.matches.Found.{Found}
 use Rattle.clap.specs.Matches.{matched_of, raw_values}
 use Rattle.model.specs.Commands.{address_of}
-use Rattle.arguments_core.specs.Asked.{is_flag}
 use Rattle.model.specs.declared.instruction.Profile.{Profile}
-use Rattle.arguments_core.specs.Values.{profile_asked}
 
 pub record SourceAsked : Type 0 where
   pub tape : Text

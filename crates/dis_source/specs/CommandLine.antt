@@ -2,13 +2,13 @@
 -- [--follow ADDRESS ..] [--symbols FILE] [--profile N|C]`, as clap's definitions describe one. How
 -- words are matched with it is clap's to say. Source: mos65.
 use Rattle.std.specs.Prelude.{◌≡◌, ℕ, List, Option, Some, codes}
+use Rattle.arguments.specs.CommandLine.{file_rule, flag_rule, option_rule, unnamed}
+use Rattle.arguments.specs.Words.{Fits, value_in}
 use Rattle.clap.specs.Lexer.{usize_max}
 use Rattle.clap.specs.Words.{App, Rule, Text, all_of, matches_of, new_rule, with_rule}
 use Rattle.clap.specs.declared.builder.action.ArgAction.TheVariants.{Append, Set}
 use Rattle.clap.specs.declared.builder.range.ValueRange.{ValueRange}
 use Rattle.dis_source.specs.Asked.{SourceAsked, source_asked}
-use Rattle.arguments_core.specs.CommandLine.{file_rule, flag_rule, option_rule}
-use Rattle.word_streams.specs.Words.{Fits, unnamed, value_in}
 
 -- a word that may be left out
 abbrev pub bound_rule : Text → Rule

@@ -1,7 +1,6 @@
 pub mod Asked
 pub mod CommandLine
 pub mod Marks
-pub mod Statuses
 pub mod Views
 pub mod Written
 pub mod Word

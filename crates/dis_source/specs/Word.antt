@@ -1,22 +1,19 @@
 -- What `dis --source` has done. Source: mos65. No clause can say what a file has.
-use Rattle.std.specs.Prelude.{◌≡◌, ⊤, ℕ, Bool, List, Option, Some, None}
+use Rattle.std.specs.Prelude.{◌≡◌, ◌⊎◌, ⊤, ℕ, Bool, List, Option, Some, None}
+use Rattle.arguments.specs.declared.file_refusal.FileRefusal.{FileRefusal}
+use Rattle.arguments.specs.declared.refusal.Refusal.{Refusal}
+use Rattle.arguments.specs.declared.refusal.Refusal.TheVariants.{Source, Tape, OutOfMemory, Read}
 use Rattle.assembler.specs.Assembly.{AssemblyView, IsAssembled}
 use Rattle.clap.specs.Words.{Text}
 use Rattle.dis_source.specs.Asked.{SourceAsked}
 use Rattle.dis_source.specs.Written.{IsSourceOfPart}
-use Rattle.dis_source.specs.declared.refusal.Refusal.{Refusal}
-use Rattle.dis_source.specs.declared.refusal.Refusal.TheVariants.{Words, Tape, Symbols, OutOfMemory, Read, Write}
 use Rattle.model.specs.Names.{Definitions}
 use Rattle.model.specs.Source.{HasFault}
 use Rattle.model.specs.State.{Map}
 use Rattle.model.specs.TapePieces.{IsReadInPieces, IsRefusedInPieces}
-use Rattle.model.specs.declared.source_fault.AsmFault.{AsmFault}
 use Rattle.model.specs.declared.instruction.Profile.{Profile}
+use Rattle.model.specs.declared.source_fault.AsmFault.{AsmFault}
 use Rattle.model.specs.declared.tape.TapeFault.{TapeFault}
-use Rattle.model.specs.declared.tape.TapeFaultKind.{TapeFaultKind}
-use Rattle.model.specs.declared.tape.TapeFaultKind.TheVariants as kind
-use Rattle.papertape.specs.declared.stream.TapeReadFault.{TapeReadFault}
-use Rattle.papertape.specs.declared.stream.TapeReadFault.TheVariants as stream
 
 -- The map by which a source of names is read: no ROM, and a port at $F000.
 abbrev pub names_map : Profile → Map
@@ -45,27 +42,15 @@ pub record IsSource (asked : SourceAsked) (text : List ℕ) : Type 0 where
 abbrev pub IsSaid : SourceAsked → Bool → List ℕ → Type 0
 IsSaid asked is_right text = IsSource asked text
 
--- The refusal of a tape that is not read: memory that ran out is no fault of the tape.
-abbrev pub of_kind : TapeFaultKind → TapeFault → Refusal
-of_kind kind.OutOfMemory fault = OutOfMemory
-of_kind other fault = Tape fault
-
-abbrev pub unread_of : TapeReadFault → Refusal
-unread_of stream.Read = Read
-unread_of (stream.Tape fault) = of_kind fault.kind fault
-
 -- Some tape has a fault.
 abbrev pub HasTapeFault : Type 0
 HasTapeFault = (fault : TapeFault) × ((text : List ℕ) × IsRefusedInPieces text fault)
 
 -- Why a source of names is refused: it has this fault. Memory may run out at any source.
 abbrev pub EndsNames : Profile → List ℕ → Refusal → Type 0
-EndsNames profile source Words = ⊥
-EndsNames profile source (Tape fault) = ⊥
-EndsNames profile source (Symbols fault) = HasFault (names_map profile) source fault
+EndsNames profile source (Source fault) = HasFault (names_map profile) source fault
 EndsNames profile source OutOfMemory = ⊤
-EndsNames profile source Read = ⊥
-EndsNames profile source Write = ⊥
+EndsNames profile source refusal = ⊥
 
 -- Some source of names has this fault, for a processor.
 abbrev pub IsNamesFault : Profile → AsmFault → Type 0
@@ -74,12 +59,23 @@ IsNamesFault profile fault = (source : List ℕ) × HasFault (names_map profile)
 abbrev pub HasNamesFault : Profile → Type 0
 HasNamesFault profile = (fault : AsmFault) × IsNamesFault profile fault
 
--- Why there is no source: some tape has this fault, or some source of names has. No clause can say
--- whether memory is there, or a file can be read.
-abbrev pub EndsSource : Profile → Refusal → Type 0
-EndsSource profile Words = ⊥
-EndsSource profile (Tape fault) = (text : List ℕ) × IsRefusedInPieces text fault
-EndsSource profile (Symbols fault) = IsNamesFault profile fault
-EndsSource profile OutOfMemory = ⊤
-EndsSource profile Read = ⊤
-EndsSource profile Write = ⊥
+-- Why there are no names: the file cannot be read, or some source has this fault. Memory may run
+-- out at any file.
+abbrev pub EndsDefined : Profile → Refusal → Type 0
+EndsDefined profile (Source fault) = IsNamesFault profile fault
+EndsDefined profile OutOfMemory = ⊤
+EndsDefined profile Read = ⊤
+EndsDefined profile refusal = ⊥
+
+-- Why there is no source, by the file that this is of: some tape has this fault, or some source of
+-- names has, or the file cannot be read. No clause can say whether memory is there.
+abbrev pub EndsAt : SourceAsked → Text → Refusal → Type 0
+EndsAt asked file (Tape fault) = (file ≡ asked.tape)
+    × ((text : List ℕ) × IsRefusedInPieces text fault)
+EndsAt asked file (Source fault) = (asked.symbols ≡ Some file) × IsNamesFault asked.profile fault
+EndsAt asked file OutOfMemory = ⊤
+EndsAt asked file Read = (file ≡ asked.tape) ⊎ (asked.symbols ≡ Some file)
+EndsAt asked file refusal = ⊥
+
+abbrev pub EndsSource : SourceAsked → FileRefusal → Type 0
+EndsSource asked why = EndsAt asked why.file.now why.refusal

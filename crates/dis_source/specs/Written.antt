@@ -1,5 +1,5 @@
 -- The source that is written of what an image has between two addresses. Source: mos65.
-use Rattle.std.specs.Prelude.{◌≡◌, ℕ, ◌<◌, ◌||◌, Bool, true, false, is_some, List, [], ◌∷◌, length, Option, Some, None, if◌then◌else◌}
+use Rattle.std.specs.Prelude.{◌≡◌, ℕ, ◌<◌, ◌||◌, false, is_some, List, [], ◌∷◌, length, Option, Some, None, if◌then◌else◌}
 use Rattle.model.specs.Image.{cell_at}
 use Rattle.model.specs.Names.{Definitions}
 use Rattle.model.specs.Source.{Denotes}

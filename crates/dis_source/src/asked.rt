@@ -1,5 +1,6 @@
 //! What the words ask for.
 ghost use Rattle.std.specs.Prelude.{◌≡◌, IfErr, IfOk, None, Some, map, option_map};
+ghost use Rattle.arguments.specs.Words.{Fits, IsRefusalOf, texts};
 ghost use Rattle.clap.specs.Words.{first_value, found_of};
 ghost use Rattle.dis_source.specs.Asked.{addresses_of, all_of, all_values, bounds_asked};
 ghost use Rattle.dis_source.specs.Asked.{follow_asked, range_of, ranges_asked};
@@ -7,13 +8,12 @@ ghost use Rattle.dis_source.specs.Asked.{source_asked};
 ghost use Rattle.dis_source.specs.CommandLine.{dis, words_asked};
 ghost use Rattle.dis_source.specs.Views.{source_view};
 ghost use Rattle.model.specs.Commands.{address_of};
-ghost use Rattle.word_streams.specs.Words.{Fits, IsRefusalOf};
 
-use crate::command::command;
+use crate::command::dis_source_command;
+use arguments::{WordsFault, is_given, matched, profile_asked, wrong_value};
 use clap::ArgMatches;
 use commands::address_of;
 use model::Profile;
-use arguments_core::{WordsFault, is_given, profile_asked};
 use std::alloc::{AllocError, Global};
 
 /// What the words of `dis TAPE [LO HI] --source` and its options ask for.
@@ -183,29 +183,38 @@ fn source_words<'a>(
     }))
 }
 
+/// Returns a sentence that says which of the values that were found is wrong.
+fn wrong_word(matches: &ArgMatches<'_>) -> &'static str {
+    if bounds_asked(matches.get_str("LO"), matches.get_str("HI")).is_none() {
+        "LO and HI take four hex digits each, the lower first"
+    } else {
+        let lists = "--data and --text take ranges as 0200-02FF, --follow takes four hex digits";
+        wrong_value(matches, lists)
+    }
+}
+
 /// Reads the words after `dis`.
 ///
 /// # Errors
 ///
-/// - `Help` where they ask for help, and `Usage` where they do not fit the command line, with
-///   `clap`'s text.
-/// - `Value`: they fit, and a value is wrong: an address or a range that is none, LO without HI, or
+/// - `Help` if they ask for help, and `Usage` if they do not fit the command line, with `clap`'s
+///   text.
+/// - `Wrong`: they fit, and a value is wrong: an address or a range that is none, LO without HI, or
 ///   a first address above the last.
-/// - `OutOfMemory`: a request for memory was refused.
+/// - `OutOfMemory`: an allocation failed.
 pub fn read_source_words<'a>(
     alloc: Global,
     words: &'a [&'a str],
 ) -> Result<SourceWords<'a>, WordsFault>
-    ensures asked { IfOk result
-        (λ w. words_asked (map (λ s. s.now) words.entry.now) ≡ Some (source_view w)) }
-    ensures taken { IfOk result (λ w. Fits dis (map (λ s. s.now) words.entry.now)) }
-    ensures refused { IfErr result (IsRefusalOf dis (map (λ s. s.now) words.entry.now)
-        (words_asked (map (λ s. s.now) words.entry.now) ≡ None)) }
+    ensures asked { IfOk result (λ w. words_asked (texts words.entry.now) ≡ Some (source_view w)) }
+    ensures fits { IfOk result (λ w. Fits dis (texts words.entry.now)) }
+    ensures refused { IfErr result
+        (IsRefusalOf dis (texts words.entry.now) (words_asked (texts words.entry.now) ≡ None)) }
 {
-    let matches = command(alloc)?.try_get_matches_from(words)?;
+    let matches = matched(dis_source_command(alloc)?, words)?;
     match source_words(alloc, &matches) {
         Ok(Some(words)) => Ok(words),
-        Ok(None) => Err(WordsFault::Value),
+        Ok(None) => Err(WordsFault::Wrong(wrong_word(&matches))),
         Err(_) => Err(WordsFault::OutOfMemory),
     }
 }

@@ -10,9 +10,8 @@
 mod asked;
 mod command;
 mod marks;
-mod refusal;
 mod run;
 mod written;
 
-pub use refusal::Refusal;
+pub use command::dis_source_command;
 pub use run::dis_source;

@@ -1,6 +1,6 @@
 //! The source that the words ask for.
 
-ghost use Rattle.std.specs.Prelude.{◌≡◌, IfErr, IfOk, IfSome, IsSome, false, option_map};
+ghost use Rattle.std.specs.Prelude.{◌≡◌, IfErr, IfOk, false, option_map};
 ghost use Rattle.dis_source.specs.Views.{source_view};
 ghost use Rattle.dis_source.specs.Word.{AreNames, EndsNames, names_map};
 ghost use Rattle.dis_source.specs.Written.{AreMarkedBy, IsSourceOfPart, IsText, starts_of};
@@ -10,48 +10,28 @@ ghost use Rattle.reached.specs.Reached.{AreFollowed};
 
 use crate::asked::SourceWords;
 use crate::marks::{between, marks_of};
-use crate::refusal::Refusal;
-use assembler::{AsmFaultKind, Assembly, assemble};
-use bus::{Image, MapSpec};
+use arguments::{Refusal, map_of};
+use assembler::{Assembly, assemble};
+use bus::Image;
 use model::Profile;
 use named_source::named_text;
 use reached::{followed_marks, vectors};
 use round_trips::{Mark, labelled_text, source_text};
 use std::alloc::{AllocError, Global};
 
-/// Returns the map by which a source of names is read.
+/// Returns what a source with names for addresses defines.
+///
+/// Errors: `Source` with the source's fault, or `OutOfMemory`.
 #[tactic(auto, unfolding(model::specs::State::is_map))]
-fn map_of_names(profile: Profile) -> Option<MapSpec>
-    ensures map { IfSome result (λ map. map ≡ names_map profile) }
-    ensures some { IsSome result }
-{
-    let Ok(map) = MapSpec::new(None, 0xf000) else {
-        return None;
-    };
-    match profile {
-        Profile::N => Some(map),
-        Profile::C => Some(map.profile_c()),
-    }
-}
-
-/// Returns what a source with names for addresses defines. Its fault, or that memory ran out, is
-/// why not.
 pub fn defined(alloc: Global, profile: Profile, source: &[u8]) -> Result<Assembly, Refusal>
     ensures denoted { IfOk result (λ a. Denotes (names_map profile) source.now a.image) }
     ensures named { IfOk result (λ a. AreNames profile a.names) }
     ensures kept { IfOk result (λ a. a.source ≡ source.now) }
     ensures refused { IfErr result (EndsNames profile source.now) }
 {
-    let Some(map) = map_of_names(profile) else {
-        return Err(Refusal::Words);
-    };
-    match assemble(alloc, source, &map) {
-        Ok(names) => Ok(names),
-        Err(fault) => match fault.kind {
-            AsmFaultKind::OutOfMemory => Err(Refusal::OutOfMemory),
-            _ => Err(Refusal::Symbols(fault)),
-        },
-    }
+    let map = map_of(profile, None, 0xf000)?;
+    let names = assemble(alloc, source, &map)?;
+    Ok(names)
 }
 
 /// Follows control from these addresses, or from the vectors where there is none, and returns the

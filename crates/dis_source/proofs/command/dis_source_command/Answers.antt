@@ -1,20 +1,12 @@
-use Rattle.std.proofs.Common.{rules, ap, ap₂, codes, true, ◌≡◌, ◌∙◌}
-use Rattle.clap.specs.Simple.{app_of_fields}
-use Rattle.clap.specs.Words.{App, app_of, new_app, rule_of, with_rule}
+use Rattle.std.proofs.Common.{rules, ap₂, codes, ◌≡◌, ◌∙◌}
+use Rattle.arguments.specs.CommandLine.{file_rule, flag_rule, option_rule}
+use Rattle.clap.specs.Words.{rule_of, with_rule}
 use Rattle.dis_source.specs.CommandLine.{bound_rule, list_rule}
-use Rattle.arguments_core.specs.CommandLine.{file_rule, flag_rule, option_rule}
-use Rattle.word_streams.specs.Words.{unnamed}
-use Rattle.dis_source.proofs.command.command.Goals as goal
-
-abbrev without_name : App → App
-without_name a = record a { top = record a.top { no_binary_name = true } }
+use Rattle.dis_source.proofs.command.dis_source_command.Goals as goal
 
 pub returns-clause-shape : goal.returns-clause-shape
 returns-clause-shape c =
-    let new_is : app_of c.after_help.result ≡ new_app (codes "dis") = ap app_of_fields c.after_help.ensures ∙ ap app_of_fields c.about.ensures ∙ c.new.ensures.app in
-    let unnamed_is : app_of c.no_binary_name.result ≡ unnamed (codes "dis") = ap app_of_fields c.no_binary_name.ensures ∙ ap without_name new_is in
-    let begun : app_of c.in_ok-bin_name.field-0 ≡ unnamed (codes "dis") = ap app_of_fields c.in_ok-bin_name.ensures.0 ∙ unnamed_is in
-    let rule_0 : rule_of c.word.result ≡ file_rule (codes "TAPE") = search rules in
+    let rule_0 : rule_of c.file.result ≡ file_rule (codes "TAPE") = search rules in
     let rule_1 : rule_of c.bound.result ≡ bound_rule (codes "LO") = search rules in
     let rule_2 : rule_of c.bound-2.result ≡ bound_rule (codes "HI") = search rules in
     let rule_3 : rule_of c.flag.result ≡ flag_rule (codes "source") = search rules in
@@ -23,8 +15,8 @@ returns-clause-shape c =
     let rule_6 : rule_of c.list-2.result ≡ list_rule 1 (codes "text") = search rules in
     let rule_7 : rule_of c.list-3.result ≡ list_rule 0 (codes "follow") = search rules in
     let rule_8 : rule_of c.option.result ≡ option_rule (codes "symbols") = search rules in
-    let rule_9 : rule_of c.option-2.result ≡ option_rule (codes "profile") = search rules in
-    let with_0 = c.in_ok-arg.ensures.shape (search rules) ∙ ap₂ with_rule begun rule_0 in
+    let rule_9 : rule_of c.profile.result ≡ option_rule (codes "profile") = search rules in
+    let with_0 = c.in_ok-arg.ensures.shape (search rules) ∙ ap₂ with_rule c.in_ok-begin.ensures.shape rule_0 in
     let with_1 = c.in_ok-arg-2.ensures.shape (search rules) ∙ ap₂ with_rule with_0 rule_1 in
     let with_2 = c.in_ok-arg-3.ensures.shape (search rules) ∙ ap₂ with_rule with_1 rule_2 in
     let with_3 = c.in_ok-arg-4.ensures.shape (search rules) ∙ ap₂ with_rule with_2 rule_3 in
