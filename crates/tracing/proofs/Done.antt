@@ -1,21 +1,18 @@
 -- What was done for the words of `trace`, from what was traced.
-use Rattle.std.proofs.Common.{◌≡◌, ◌∙◌, ℕ, Bool, true, false, List, Option, Some, Result, Ok, Err, inr, refl, ap, subst}
+use Rattle.std.proofs.Common.{◌≡◌, ◌∙◌, ℕ, List, Option, Result, Ok, Err, inr, refl, ap, subst}
 use Rattle.assembler.specs.Assembly.{AssemblyView}
 use Rattle.console.specs.Playing.{Outcome, begun}
 use Rattle.console.specs.Written.{AreBytesOf, RanAs}
 use Rattle.console.specs.declared.ending.Ending.{Ending}
 use Rattle.console.specs.declared.ending.Played.{Played}
-use Rattle.arguments.specs.Asked.{FileAsked, map_of}
-use Rattle.loading.specs.Loads.{EndsFile, EndsLoad, IsLoaded}
+use Rattle.arguments.specs.Asked.{map_of}
+use Rattle.loading.specs.Loads.{IsLoaded}
 use Rattle.loading.specs.Place.{names_of}
-use Rattle.arguments.specs.declared.load_fault.LoadFault.TheVariants.{Refused as NotLoaded}
 use Rattle.model.specs.Event.{start}
 use Rattle.model.specs.Session.{Session, new_session}
-use Rattle.model.specs.State.{Map}
 use Rattle.model.specs.Writers.{AppendsFront}
 use Rattle.arguments.specs.Statuses.{status_of}
 use Rattle.arguments.specs.declared.refusal.Refusal.{Refusal}
-use Rattle.arguments.specs.declared.refusal.Refusal.TheVariants.{OutOfMemory}
 use Rattle.running.specs.Places.{place_asked}
 use Rattle.running.specs.Runs.{Heard, Streams, Tells}
 use Rattle.running.specs.Statuses.{status_of_ending}

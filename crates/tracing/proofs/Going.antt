@@ -8,7 +8,6 @@ use Rattle.console.specs.Turns.{EndsOnce, MayCome, play_at}
 use Rattle.console.specs.Written.{AreBytesOf, RanAs}
 use Rattle.console.specs.declared.ending.Ending.{Ending}
 use Rattle.console.specs.declared.ending.Ending.TheVariants.{Until, Rest, InputOver, Limit, Refused}
-use Rattle.console.specs.declared.ending.PlayFault.{PlayFault}
 use Rattle.console.specs.declared.ending.Played.{Played}
 use Rattle.console.specs.declared.turn.Player.{Player}
 use Rattle.console.specs.declared.memo.Memo.{Memo}
@@ -53,7 +52,7 @@ reached_later from s t before after given left g h end away went = record {
   leads = λ rest may. (rw away (went.leads rest may).0, rw away (went.leads rest may).1);
 }
 
-pub reached_if_made : (from : Option ℕ) (s t : Session) (before after : Player) (given left : Option (List ℕ)) (g h : Gathered) (r : Result Played PlayFault) → is_begun from s.current ≡ false
+pub reached_if_made : (from : Option ℕ) (s t : Session) (before after : Player) (given left : Option (List ℕ)) (g h : Gathered) (r : Result Played Refusal) → is_begun from s.current ≡ false
     → IfOk r (λ end. WentOn (played from 18446744073709551615) (λ p. by_steps pass_step from 18446744073709551615 p g) s before given left end t after h)
     → IfOk r (λ end. WentOn (reached from) (gathered_at from g) s before given left end t after h)
 reached_if_made from s t before after given left g h (Ok end) away went = reached_later from s t before after given left g h end away went

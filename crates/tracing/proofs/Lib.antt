@@ -1,4 +1,3 @@
-mod Beginning
 mod Done
 mod Gathering
 mod Going

@@ -1,5 +1,5 @@
 -- What the steps of a run make of something, one turn after another.
-use Rattle.std.proofs.Common.{◌≡◌, ◌∙◌, ℕ, suc, ◌+◌, ◌-◌, ◌<◌, ◌≤◌, Bool, true, false, cond, List, [], ◌++◌, Option, Some, None, refl, sym, ap, arith, append_assoc}
+use Rattle.std.proofs.Common.{◌≡◌, ◌∙◌, ℕ, suc, ◌+◌, ◌-◌, ◌<◌, ◌≤◌, Bool, true, false, cond, List, [], ◌++◌, Option, Some, None, sym, ap, arith, append_assoc}
 use Rattle.std.proofs.Math.Nat.{sub-zero}
 use Rattle.console.specs.Playing.{Play, Turn, is_at, turn_of}
 use Rattle.console.specs.Turns.{EndsOnce, MayCome, TurnsTo, play_at, turn_to}

@@ -2,9 +2,8 @@
 -- Source: mos65.
 use Rattle.std.specs.Prelude.{◌≡◌, ℕ, zero, suc, if◌then◌else◌, List, [], ◌++◌, Option, None, Some}
 use Rattle.std.specs.Io.KnownBytes.{Appends}
-use Rattle.console.specs.Playing.{Outcome, Play, Turn, is_at, turn_of}
+use Rattle.console.specs.Playing.{Play, Turn, is_at, turn_of}
 use Rattle.console.specs.declared.ending.Ending.{Ending}
-use Rattle.console.specs.declared.ending.Ending.TheVariants.{Until}
 use Rattle.model.specs.State.{State}
 use Rattle.tracing.specs.Gathered.{Gathered, ahead_of, gathered, noted_here, passed, text_at_end, text_of_step}
 use Rattle.tracing.specs.declared.tracer.Tracer.{Tracer}

@@ -9,8 +9,8 @@ ghost use Rattle.tracing.specs.Notes.{code_of, entry_reads, entry_stores, if_ask
 ghost use Rattle.tracing.specs.Notes.{left_at, len_of};
 
 use accesses::{Addresses, Moment, moment_of, reads_here, stores_here};
-use debugger::Session;
 use arguments::FileWords;
+use debugger::Session;
 use model::Row;
 
 /// What is known of a step before it is made.

@@ -42,10 +42,7 @@ impl Sheet {
     {
         let written = output.write_all(self.text.as_slice());
         self.text.clear();
-        match written {
-            Ok(()) => Ok(()),
-            Err(_) => Err(Refusal::Write),
-        }
+        written.map_err(|_| Refusal::Write)
     }
 
     /// Ends a row: writes the text that was gathered if it is enough. Otherwise nothing changes,

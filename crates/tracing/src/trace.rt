@@ -24,11 +24,11 @@ use accesses::Written;
 use arguments::{Refusal, image_of_tape, refuse, refused_words};
 use arguments_play::{TraceWords, read_trace_words};
 use bus::Image;
-use console::{Ending, PlayFault, Played, Player, begin, take_turn};
+use console::{Ending, Played, Player, begin, take_turn};
 use debugger::Session;
 use loading::{Loaded, load};
 use running::{place_named, refusal_of, status_of_ending, tell_ending};
-use std::alloc::{AllocError, Global};
+use std::alloc::Global;
 use std::io::{Read, Write};
 use std::rt::Files;
 use trace_rows::Sites;
@@ -69,13 +69,14 @@ fn run_to_place<R: Read, E: Write>(
     place: Option<u16>,
     input: &mut R,
     errors: &mut E,
-) -> Result<Played, PlayFault>
+) -> Result<Played, Refusal>
     requires waits { Waits session.old.current player.old.waiting }
     requires over { EndsAt player.old.is_over (R.remaining input.old) }
     ensures ok { IfOk result (λ end. WentOn (played place 18446744073709551615)
         (λ p. by_steps pass_step place 18446744073709551615 p (gathered tracer.old))
         session.old player.old (R.remaining input.old) (R.remaining input.new)
         end session.new player.new (gathered tracer.new)) }
+    ensures fault { IfErr result IsOfStreams }
     ensures sheet { tracer.new.sheet ≡ tracer.old.sheet }
     ensures waits { OnOk result (Waits session.new.current player.new.waiting) }
     ensures over { OnOk result (EndsAt player.new.is_over (R.remaining input.new)) }
@@ -85,7 +86,7 @@ fn run_to_place<R: Read, E: Write>(
         match take_turn(session, player, input, errors) {
             Ok(None) => tracer.pass(session, ahead),
             Ok(Some(ending)) => return Ok(Played { steps, ending }),
-            Err(fault) => return Err(fault),
+            Err(fault) => return Err(refusal_of(fault)),
         }
         if is_at(place, session) {
             return Ok(Played {
@@ -109,12 +110,13 @@ fn run_to_start<R: Read, E: Write>(
     from: Option<u16>,
     input: &mut R,
     errors: &mut E,
-) -> Result<Played, PlayFault>
+) -> Result<Played, Refusal>
     requires waits { Waits session.old.current player.old.waiting }
     requires over { EndsAt player.old.is_over (R.remaining input.old) }
     ensures ok { IfOk result (λ end. WentOn (reached from) (gathered_at from (gathered tracer.old))
         session.old player.old (R.remaining input.old) (R.remaining input.new)
         end session.new player.new (gathered tracer.new)) }
+    ensures fault { IfErr result IsOfStreams }
     ensures sheet { tracer.new.sheet ≡ tracer.old.sheet }
     ensures waits { OnOk result (Waits session.new.current player.new.waiting) }
     ensures over { OnOk result (EndsAt player.new.is_over (R.remaining input.new)) }
@@ -218,13 +220,14 @@ fn written_of<H: Files + AllocGlobal>(
 
 /// Returns the labels and the lines of what was loaded.
 ///
-/// Errors: `AllocError` if an allocation fails.
-fn sites_of(alloc: Global, loaded: &Loaded) -> Result<Sites, AllocError>
-    ensures { IfOk result (AreSites loaded.now.assembly) }
+/// Errors: `OutOfMemory` if an allocation fails.
+fn sites_of(alloc: Global, loaded: &Loaded) -> Result<Sites, Refusal>
+    ensures sites { IfOk result (AreSites loaded.now.assembly) }
+    ensures fault { IfErr result (λ refusal. refusal ≡ Refusal.OutOfMemory) }
 {
     match &loaded.assembly {
         None => Ok(Sites::new(alloc)),
-        Some(assembly) => Sites::of_source(alloc, assembly),
+        Some(assembly) => Sites::of_source(alloc, assembly).map_err(|_| Refusal::OutOfMemory),
     }
 }
 
@@ -243,9 +246,9 @@ fn make_tracer<'a, H: Files + AllocGlobal>(
     ensures sheet { IfOk result (λ t. t.sheet.text.items ≡ []) }
     ensures fault { IfErr result (BreaksOff (trace_view words.now) loaded.now.assembly) }
 {
-    let sites = sites_of(rt.alloc(), loaded).map_err(|_| Refusal::OutOfMemory)?;
+    let sites = sites_of(rt.alloc(), loaded)?;
     let written = written_of(rt, words, loaded)?;
-    Tracer::new(rt.alloc(), words, sites, written).map_err(|_| Refusal::OutOfMemory)
+    Ok(Tracer::new(rt.alloc(), words, sites, written)?)
 }
 
 /// Makes the steps of the trace from where it begins, and writes what was gathered.
@@ -301,8 +304,7 @@ fn trace_between<R: Read, O: Write, E: Write>(
     ensures fault { IfErr result IsOfStreams }
 {
     let mut player = begin(session);
-    let reached = run_to_start(tracer, session, &mut player, span.from, input, errors)
-        .map_err(|fault| refusal_of(fault))?;
+    let reached = run_to_start(tracer, session, &mut player, span.from, input, errors)?;
     match reached.ending {
         Ending::Until => trace_on(
             alloc,

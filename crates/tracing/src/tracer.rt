@@ -1,6 +1,6 @@
 //! What a trace gathers while its program runs.
 
-ghost use Rattle.std.specs.Prelude.{◌≡◌, ◌⊎◌, [], ◌∷◌, Err, IfOk, OnErr, OnOk};
+ghost use Rattle.std.specs.Prelude.{◌≡◌, ◌⊎◌, [], ◌∷◌, Err, IfErr, IfOk, OnErr, OnOk};
 ghost use Rattle.std.specs.Io.KnownBytes.{Appends};
 ghost use Rattle.arguments.specs.declared.refusal.Refusal.{Refusal};
 ghost use Rattle.arguments_play.specs.Trace.{trace_view};
@@ -14,12 +14,12 @@ ghost use Rattle.tracing.specs.Gathered.{with_told, with_written};
 use crate::notes::{Ahead, code_of, entry_reads, left_at, look_ahead};
 use crate::sheet::Sheet;
 use accesses::{Addresses, Count, Moment, Tally, Written};
-use debugger::Session;
 use arguments::Refusal;
-use std::alloc::{AllocError, Global};
+use arguments_play::TraceWords;
+use debugger::Session;
+use std::alloc::Global;
 use std::io::Write;
 use trace_rows::{Finding, Part, Sites, Step, push_counts, push_finding, push_step};
-use arguments_play::TraceWords;
 
 /// What a trace gathers: rows, and with the words that ask for it the visits and cycles of each
 /// address, and which addresses were ever written.
@@ -46,19 +46,20 @@ impl<'a> Tracer<'a> {
     /// Makes a tracer with nothing gathered. `written` has the addresses where the file has a byte,
     /// if reads of others are asked for.
     ///
-    /// Errors: `AllocError` if an allocation fails.
+    /// Errors: `OutOfMemory` if an allocation fails.
     pub fn new(
         alloc: Global,
         words: &TraceWords<'a>,
         sites: Sites,
         written: Option<Written>,
-    ) -> Result<Tracer<'a>, AllocError>
+    ) -> Result<Tracer<'a>, Refusal>
         ensures gathered { IfOk result
             (λ t. gathered t ≡ none_gathered (trace_view words.now) sites written) }
         ensures sheet { IfOk result (λ t. t.sheet.text.items ≡ []) }
+        ensures fault { IfErr result (λ refusal. refusal ≡ Refusal.OutOfMemory) }
     {
         let tally = if words.counts {
-            Some(Tally::new(alloc)?)
+            Some(Tally::new(alloc).map_err(|_| Refusal::OutOfMemory)?)
         } else {
             None
         };
@@ -304,10 +305,9 @@ impl<'a> Tracer<'a> {
     {
         if let Some(tally) = &self.tally {
             let text = &mut self.sheet.text;
-            let told = push_counts(text, alloc, &self.sites, tally, self.entries, self.all);
-            if told.is_err() {
-                return Err(Refusal::OutOfMemory);
-            }
+            push_counts(text, alloc, &self.sites, tally, self.entries, self.all).map_err(
+                |_| Refusal::OutOfMemory,
+            )?;
         }
         Ok(())
     }
@@ -325,9 +325,6 @@ impl<'a> Tracer<'a> {
     {
         self.tell_counts(alloc)?;
         self.sheet.write_out(output)?;
-        match output.flush() {
-            Ok(()) => Ok(()),
-            Err(_) => Err(Refusal::Write),
-        }
+        output.flush().map_err(|_| Refusal::Write)
     }
 }
