@@ -1,5 +1,4 @@
 pub mod Ends
 pub mod Laid
-pub mod Rows
 pub mod Read
-pub mod Said
+pub mod Rows

@@ -2,13 +2,13 @@
 -- plain|vice] [--map FILE] [--port HHHH] [--profile N|C]`, as clap's definitions describe one. How
 -- words are matched with it is clap's to say. Source: mos65.
 use Rattle.std.specs.Prelude.{◌≡◌, ℕ, List, Option, Some, None, codes}
+use Rattle.arguments.specs.CommandLine.{file_rule, option_rule, unnamed}
+use Rattle.arguments.specs.Words.{Fits, value_in}
 use Rattle.asm_files.specs.Asked.{FilesAsked, files_asked}
 use Rattle.clap.specs.Words.{App, Text, with_rule}
 use Rattle.model.specs.Source.{Denotes, HasFault}
 use Rattle.model.specs.State.{Map}
 use Rattle.model.specs.declared.source_fault.AsmFault.{AsmFault}
-use Rattle.arguments_core.specs.CommandLine.{file_rule, option_rule}
-use Rattle.word_streams.specs.Words.{Fits, unnamed, value_in}
 
 abbrev pub asm : App
 asm = with_rule (with_rule (with_rule (with_rule (with_rule (with_rule (with_rule (with_rule

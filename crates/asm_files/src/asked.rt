@@ -1,18 +1,19 @@
 //! What the words ask for.
 
-ghost use Rattle.std.specs.Prelude.{◌≡◌, IfErr, IfOk, None, Some, map, option_map};
+ghost use Rattle.std.specs.Prelude.{◌≡◌, IfErr, IfOk, None, Some, option_map};
+ghost use Rattle.arguments.specs.Words.{Fits, IsRefusalOf, texts};
+ghost use Rattle.arguments_core.specs.Asked.{asm_asked, is_named, overwrites};
+ghost use Rattle.arguments_core.specs.Views.{asm_view};
 ghost use Rattle.asm_files.specs.Asked.{files_asked, format_asked, is_used, is_wrong};
 ghost use Rattle.asm_files.specs.CommandLine.{asm, words_asked};
 ghost use Rattle.asm_files.specs.Views.{files_view};
 ghost use Rattle.clap.specs.Words.{first_value, found_of};
-ghost use Rattle.arguments_core.specs.Asked.{asm_asked, is_named, overwrites};
-ghost use Rattle.arguments_core.specs.Views.{asm_view};
-ghost use Rattle.word_streams.specs.Words.{Fits, IsRefusalOf};
 
-use crate::command::command;
+use crate::command::asm_files_command;
 use crate::format::SymbolsFormat;
+use arguments::{WordsFault, matched, port_asked, profile_asked, wrong_value};
+use arguments_core::AsmWords;
 use clap::ArgMatches;
-use arguments_core::{AsmWords, WordsFault, port_asked, profile_asked};
 use std::alloc::Global;
 
 /// What the words of `asm` with `--symbols` or `--map` ask for.
@@ -136,28 +137,39 @@ fn files_words<'a>(matches: &ArgMatches<'a>) -> Option<FilesWords<'a>>
     })
 }
 
+/// Returns a sentence that says which of the values that were found is wrong.
+fn wrong_word(matches: &ArgMatches<'_>) -> &'static str {
+    let format = matches.get_str("symbols-format");
+    if format_asked(format).is_none() {
+        "--symbols-format takes plain or vice"
+    } else if format.is_some() && matches.get_str("symbols").is_none() {
+        "--symbols-format needs --symbols"
+    } else {
+        wrong_value(matches, "two of the files have one name")
+    }
+}
+
 /// Reads the words after `asm`.
 ///
 /// # Errors
 ///
 /// - `Help` if they ask for help, and `Usage` if they do not fit the command line, with `clap`'s
 ///   text.
-/// - `Value`: they fit, and a value is wrong: one of those of `asm`, a format that is neither
+/// - `Wrong`: they fit, and a value is wrong: one of those of `asm`, a format that is neither
 ///   `plain` nor `vice` or has no file, or two files with one name.
 /// - `OutOfMemory`: an allocation failed.
 pub fn read_files_words<'a>(
     alloc: Global,
     words: &'a [&'a str],
 ) -> Result<FilesWords<'a>, WordsFault>
-    ensures asked { IfOk result
-        (λ w. words_asked (map (λ s. s.now) words.entry.now) ≡ Some (files_view w)) }
-    ensures taken { IfOk result (λ w. Fits asm (map (λ s. s.now) words.entry.now)) }
-    ensures refused { IfErr result (IsRefusalOf asm (map (λ s. s.now) words.entry.now)
-        (words_asked (map (λ s. s.now) words.entry.now) ≡ None)) }
+    ensures asked { IfOk result (λ w. words_asked (texts words.entry.now) ≡ Some (files_view w)) }
+    ensures fits { IfOk result (λ w. Fits asm (texts words.entry.now)) }
+    ensures refused { IfErr result
+        (IsRefusalOf asm (texts words.entry.now) (words_asked (texts words.entry.now) ≡ None)) }
 {
-    let matches = command(alloc)?.try_get_matches_from(words)?;
+    let matches = matched(asm_files_command(alloc)?, words)?;
     match files_words(&matches) {
         Some(words) => Ok(words),
-        None => Err(WordsFault::Value),
+        None => Err(WordsFault::Wrong(wrong_word(&matches))),
     }
 }

@@ -15,6 +15,7 @@ mod run;
 mod texts;
 mod words;
 
+pub use command::asm_files_command;
 pub use format::SymbolsFormat;
 pub use names::symbols_text;
 pub use places::map_text;

@@ -1,95 +1,79 @@
 //! The tape and the files of a source, written.
 
-ghost use Rattle.std.specs.Prelude.{◌≡◌, ◌≤◌, ◌⊎◌, None, Err, IfErr, IfOk, false, map};
+ghost use Rattle.std.specs.Prelude.{◌≡◌, ◌≤◌, ◌⊎◌, None, Err, IfErr, IfOk, false};
+ghost use Rattle.arguments.specs.Files.{EndsWriting};
+ghost use Rattle.arguments.specs.Words.{AsksForHelp, Fits, Misfits, texts};
 ghost use Rattle.asm_files.specs.CommandLine.{Asks, HasSource, HasSourceFault, asm, map_asked};
 ghost use Rattle.asm_files.specs.CommandLine.{words_asked};
 ghost use Rattle.asm_files.specs.Views.{files_view};
 ghost use Rattle.model.specs.State.{is_map};
 ghost use Rattle.model.specs.declared.bus_fault.BusFault.TheVariants.{BadMap};
 ghost use Rattle.program.specs.Refusals.{EndsAsm};
-ghost use Rattle.word_streams.specs.Words.{AsksForHelp, Fits, Misfits};
 
 use crate::asked::{FilesWords, read_files_words};
 use crate::texts::{FileTexts, TextsAsked, file_texts};
-use bus::MapSpec;
-use model::{BusFault, Profile};
-use program::{Refusal, finish, refused_words};
-use std::fs::File;
-use std::io::{Read, Write};
+use arguments::{
+    FileRefusal, Refusal, is_one_file, map_of, read_source, refused_words, write_file,
+};
+use std::io::Write;
 use std::rt::Files;
-use std::{fs, io};
-use word_streams::is_one_file;
 
-/// One byte more than the longest source.
-const MOST_READ: u64 = 1_048_577;
-
-/// Returns the bytes of a source's file, or the first of them if it is too long for a source.
-fn read_source<H: Files + AllocGlobal>(rt: &H, path: &str) -> io::Result<Vec<u8>> {
-    let mut source = Vec::new(rt.alloc());
-    File::open(rt, path)?
-        .take(MOST_READ)
-        .read_to_end(&mut source)?;
-    Ok(source)
-}
-
-/// Returns the map of a profile with this port.
-///
-/// Errors: `BadMap` if the port makes no map.
-fn map_of(profile: Profile, port: u16) -> Result<MapSpec, BusFault>
-    ensures map { IfOk result (λ map. map ≡ record { profile = profile; rom = None; port = port }) }
-    ensures bad { is_map None port ≡ false → result ≡ Err BadMap }
-    ensures only { IfErr result (λ fault. (fault ≡ BadMap) × (is_map None port ≡ false)) }
+/// Writes a text to a file of that name. A file that is there is replaced.
+fn write_named<'a, H: Files>(rt: &H, file: &'a str, text: &[u8]) -> Result<(), FileRefusal<'a>>
+    ensures only { IfErr result (λ why. EndsWriting why.refusal) }
 {
-    let map = MapSpec::new(None, port)?;
-    match profile {
-        Profile::N => Ok(map),
-        Profile::C => Ok(map.profile_c()),
-    }
+    write_file(rt, file, text).map_err(|refusal| FileRefusal { file, refusal })
 }
 
 /// Writes a text to a file of that name, if both are there. A file that is there is replaced.
-fn write_file<H: Files>(rt: &H, file: Option<&str>, text: &Option<Vec<u8>>) -> Result<(), Refusal>
-    ensures only { IfErr result (λ e. (e ≡ Refusal.OutOfMemory) ⊎ (e ≡ Refusal.Write)) }
+fn write_asked<'a, H: Files>(
+    rt: &H,
+    file: Option<&'a str>,
+    text: &Option<Vec<u8>>,
+) -> Result<(), FileRefusal<'a>>
+    ensures only { IfErr result (λ why. EndsWriting why.refusal) }
 {
     match (file, text) {
-        (Some(file), Some(text)) => {
-            fs::write(rt, file, text.as_slice()).map_err(|error| Refusal::unwritable(&error))
-        }
+        (Some(file), Some(text)) => write_named(rt, file, text.as_slice()),
         _ => Ok(()),
     }
 }
 
-/// Returns whether a file to write is the source under another name.
-fn is_source<H: Files>(rt: &H, source: &str, file: Option<&str>) -> bool {
-    match file {
-        Some(file) => is_one_file(rt, source, file),
-        None => false,
+/// Returns the first of the files to write that is the source under another name.
+fn replaced_source<'a, H: Files>(rt: &H, words: &FilesWords<'a>) -> Option<&'a str> {
+    for file in [
+        Some(words.asm.tape),
+        words.asm.listing,
+        words.symbols,
+        words.map,
+    ] {
+        match file {
+            Some(file) if is_one_file(rt, words.asm.source, file) => return Some(file),
+            _ => {}
+        }
     }
-}
-
-/// Returns whether one of the files to write is the source under another name.
-fn replaces_source<H: Files>(rt: &H, words: &FilesWords<'_>) -> bool {
-    let source = words.asm.source;
-    is_one_file(rt, source, words.asm.tape)
-        || is_source(rt, source, words.asm.listing)
-        || is_source(rt, source, words.symbols)
-        || is_source(rt, source, words.map)
+    None
 }
 
 /// Writes the tape's file, and then the listing's, that of the names and that of the places. None
 /// is written if one of the files is the source.
-fn write_texts<H: Files>(rt: &H, words: &FilesWords<'_>, texts: &FileTexts) -> Result<(), Refusal>
-    ensures only { IfErr result (λ e. (e ≡ Refusal.OutOfMemory) ⊎ (e ≡ Refusal.Write)) }
+fn write_texts<'a, H: Files>(
+    rt: &H,
+    words: &FilesWords<'a>,
+    texts: &FileTexts,
+) -> Result<(), FileRefusal<'a>>
+    ensures only { IfErr result (λ why. EndsWriting why.refusal) }
 {
-    if replaces_source(rt, words) {
-        return Err(Refusal::Write);
+    if let Some(file) = replaced_source(rt, words) {
+        return Err(FileRefusal {
+            file,
+            refusal: Refusal::Write,
+        });
     }
-    fs::write(rt, words.asm.tape, texts.asm.tape.as_slice()).map_err(|error| Refusal::unwritable(
-        &error,
-    ))?;
-    write_file(rt, words.asm.listing, &texts.asm.listing)?;
-    write_file(rt, words.symbols, &texts.symbols)?;
-    write_file(rt, words.map, &texts.map)
+    write_named(rt, words.asm.tape, texts.asm.tape.as_slice())?;
+    write_asked(rt, words.asm.listing, &texts.asm.listing)?;
+    write_asked(rt, words.symbols, &texts.symbols)?;
+    write_asked(rt, words.map, &texts.map)
 }
 
 /// Returns which texts the words ask for beside that of the tape.
@@ -104,29 +88,62 @@ fn texts_asked(words: &FilesWords<'_>) -> TextsAsked {
     }
 }
 
+/// Returns the texts of the source that the words name.
+fn texts_of<H: Files + AllocGlobal>(rt: &H, words: &FilesWords<'_>) -> Result<FileTexts, Refusal>
+    ensures bad_map { is_map None words.now.asm.port ≡ false → result ≡ Err (Refusal.Map BadMap) }
+    ensures refused { IfErr result (EndsAsm (map_asked (files_view words.now))) }
+    ensures done { IfOk result (λ _. HasSource (map_asked (files_view words.now))) }
+{
+    let map = map_of(words.asm.profile, None, words.asm.port)?;
+    let source = read_source(rt, words.asm.source)?;
+    let texts = file_texts(rt.alloc(), source.as_slice(), &map, texts_asked(words))?;
+    Ok(texts)
+}
+
 /// Assembles a file, and writes its tape and the files that are asked for.
 ///
 /// All texts are whole before a file is made.
-fn assembled<H: Files + AllocGlobal>(rt: &H, words: &FilesWords<'_>) -> Result<(), Refusal>
-    ensures bad_map { is_map None words.now.asm.port ≡ false → result ≡ Err (Refusal.Map BadMap) }
-    ensures refused { IfErr result (EndsAsm
-        (record { profile = words.now.asm.profile; rom = None; port = words.now.asm.port })) }
+fn assembled<'a, H: Files + AllocGlobal>(
+    rt: &H,
+    words: &FilesWords<'a>,
+) -> Result<(), FileRefusal<'a>>
+    ensures refused { IfErr result (λ why. EndsAsm (map_asked (files_view words.now)) why.refusal) }
     ensures done { IfOk result (λ _. HasSource (map_asked (files_view words.now))) }
 {
-    let map = map_of(words.asm.profile, words.asm.port)?;
-    let source = read_source(rt, words.asm.source).map_err(|error| Refusal::unreadable(&error))?;
-    let texts = file_texts(rt.alloc(), source.as_slice(), &map, texts_asked(words))?;
-    write_texts(rt, words, &texts)
+    match texts_of(rt, words) {
+        Ok(texts) => write_texts(rt, words, &texts),
+        Err(refusal) => Err(FileRefusal {
+            file: words.asm.source,
+            refusal,
+        }),
+    }
+}
+
+/// Assembles a file and writes the files that are asked for, or why not, and returns the exit
+/// status.
+fn done<H: Files + AllocGlobal, E: Write>(rt: &H, words: &FilesWords<'_>, errors: &mut E) -> u8
+    ensures status { result ≤ 4 }
+    ensures quiet { result ≡ 0 → errors.new ≡ errors.old }
+    ensures done { result ≡ 0 → HasSource (map_asked (files_view words.now)) }
+    ensures rejected { result ≡ 1 → HasSourceFault (map_asked (files_view words.now)) }
+    ensures refused { result ≡ 2 → is_map None words.now.asm.port ≡ false }
+{
+    match assembled(rt, words) {
+        Ok(()) => 0,
+        Err(why) => why.tell(errors),
+    }
 }
 
 /// Does what the words after `asm` ask for if `--symbols` or `--map` is among them, and returns the
 /// exit status.
 ///
-/// The status and the fault line are those of `asm`: 0 if it is done, 1 if the source is rejected,
-/// 2 if the words or the map are wrong, 3 if memory ran out, 4 if reading or writing failed. The
-/// tape is written first, then the listing, the names and the places of the lines; all texts are
-/// whole before the first file is made. Where a file to write is the source under another name, the
-/// status is 4 and nothing is written. The output gets nothing but help.
+/// The status is that of `asm`: 0 if it is done, 1 if the source is rejected, 2 if the words or the
+/// map are wrong, 3 if memory ran out, 4 if reading or writing failed. For each but 0 a line on
+/// `errors` says why, with the name of the file that has the fault or cannot be read or written; the
+/// status is the same if it cannot be written. The tape is written first, then the listing, the
+/// names and the places of the lines; all texts are whole before the first file is made. If a file
+/// to write is the source under another name, the status is 4 and nothing is written. The output
+/// gets nothing but help.
 pub fn asm_files<H: Files + AllocGlobal, O: Write, E: Write>(
     rt: &H,
     words: &[&str],
@@ -141,24 +158,24 @@ pub fn asm_files<H: Files + AllocGlobal, O: Write, E: Write>(
     ensures untouched { 1 ≤ result → result ≤ 3 → output.new ≡ output.old }
     // 0 means that some source was assembled, on the map of the words, or that the help that is
     // asked for was written.
-    ensures done { result ≡ 0 → AsksForHelp asm (map (λ s. s.now) words.entry.now)
-        ⊎ Asks (map (λ s. s.now) words.entry.now) (λ asked. HasSource (map_asked asked)
+    ensures done { result ≡ 0 → AsksForHelp asm (texts words.entry.now)
+        ⊎ Asks (texts words.entry.now) (λ asked. HasSource (map_asked asked)
         × (output.new ≡ output.old)) }
     // 1 means that some source has a fault on that map.
-    ensures rejected { result ≡ 1 → Asks (map (λ s. s.now) words.entry.now)
+    ensures rejected { result ≡ 1 → Asks (texts words.entry.now)
         (λ asked. HasSourceFault (map_asked asked)) }
     // 2 means that the words do not fit, that a value is wrong, or that the port makes no map.
-    ensures refused { result ≡ 2 → Misfits asm (map (λ s. s.now) words.entry.now)
-        ⊎ ((Fits asm (map (λ s. s.now) words.entry.now)
-        × (words_asked (map (λ s. s.now) words.entry.now) ≡ None))
-        ⊎ Asks (map (λ s. s.now) words.entry.now)
+    ensures refused { result ≡ 2 → Misfits asm (texts words.entry.now)
+        ⊎ ((Fits asm (texts words.entry.now)
+        × (words_asked (texts words.entry.now) ≡ None))
+        ⊎ Asks (texts words.entry.now)
         (λ asked. is_map None asked.asm.port ≡ false)) }
     // 4 means that the output is as it was, or that help is asked for.
-    ensures begun { result ≡ 4 → AsksForHelp asm (map (λ s. s.now) words.entry.now)
-        ⊎ (Fits asm (map (λ s. s.now) words.entry.now) × (output.new ≡ output.old)) }
+    ensures begun { result ≡ 4 → AsksForHelp asm (texts words.entry.now)
+        ⊎ (Fits asm (texts words.entry.now) × (output.new ≡ output.old)) }
 {
     match read_files_words(rt.alloc(), words) {
-        Ok(words) => finish(assembled(rt, &words), errors),
+        Ok(words) => done(rt, &words, errors),
         Err(fault) => refused_words(fault, output, errors),
     }
 }

@@ -1,24 +1,25 @@
-use Rattle.std.proofs.Common.{sym, map, ◌∙◌}
-use Rattle.clap.specs.Words.{app_of}
-use Rattle.asm_files.specs.CommandLine.{asm}
-use Rattle.asm_files.proofs.Read.{asm_free, files_found}
-use Rattle.word_streams.proofs.Parsed.{fits, refused}
+use Rattle.std.proofs.Common.{None, ap, subst, sym, ◌≡◌, ◌∙◌}
+use Rattle.arguments.specs.Words.{Fits, texts, value_in}
+use Rattle.asm_files.specs.Asked.{files_asked}
+use Rattle.asm_files.specs.CommandLine.{asm, words_asked}
+use Rattle.clap.specs.Words.{App, app_of, first_value, found_of}
+use Rattle.asm_files.proofs.Read.{still_refused}
 use Rattle.asm_files.proofs.asked.read_files_words.Goals as goal
-
-pub returns-in_err-matches-clause-refused : goal.returns-in_err-matches-clause-refused
-returns-in_err-matches-clause-refused c =
-    refused (app_of c.in_ok-command.field-0) asm (map (λ s. s.now) c.args.words.now) _ c.in_err-matches.field-0.0 c.from_residual-in_err-matches.result
-    c.in_ok-command.ensures.shape asm_free c.in_err-matches.ensures.kinds c.from_residual-in_err-matches.ensures.1
 
 pub returns-in-Some-clause-asked : goal.returns-in-Some-clause-asked
 returns-in-Some-clause-asked c =
-    sym (c.in-Some.ensures ∙ files_found (app_of c.in_ok-command.field-0) (map (λ s. s.now) c.args.words.now) c.in_ok-matches.matches c.in_ok-command.ensures.shape c.in_ok-matches.ensures.matches)
+    let values : first_value (found_of c.in_ok-matches.matches) ≡ value_in asm (texts c.args.words.now) = rw c.in_ok-asm_files_command.ensures.shape at c.in_ok-matches.ensures.values in
+    sym (c.in-Some.ensures ∙ ap files_asked values)
 
-pub returns-in-Some-clause-taken : goal.returns-in-Some-clause-taken
-returns-in-Some-clause-taken c = fits (app_of c.in_ok-command.field-0) asm (map (λ s. s.now) c.args.words.now) c.in_ok-command.ensures.shape asm_free c.in_ok-matches.ensures.kinds
+pub returns-in-Some-clause-fits : goal.returns-in-Some-clause-fits
+returns-in-Some-clause-fits c = subst (λ (a : App). Fits a (texts c.args.words.now)) c.in_ok-asm_files_command.ensures.shape c.in_ok-matches.ensures.fits
+
+pub returns-in_err-matches-clause-refused : goal.returns-in_err-matches-clause-refused
+returns-in_err-matches-clause-refused c =
+    still_refused (app_of c.in_ok-asm_files_command.field-0) asm (texts c.args.words.now) (words_asked (texts c.args.words.now) ≡ None) c.in_err-matches.field-0.0 c.from_residual-in_err-matches.result
+    c.in_ok-asm_files_command.ensures.shape c.in_err-matches.ensures.refused c.from_residual-in_err-matches.ensures.1
 
 pub returns-clause-refused : goal.returns-clause-refused
-returns-clause-refused c = (
-  fits (app_of c.in_ok-command.field-0) asm (map (λ s. s.now) c.args.words.now) c.in_ok-command.ensures.shape asm_free c.in_ok-matches.ensures.kinds,
-  sym (c.in-None.ensures ∙ files_found (app_of c.in_ok-command.field-0) (map (λ s. s.now) c.args.words.now) c.in_ok-matches.matches c.in_ok-command.ensures.shape c.in_ok-matches.ensures.matches),
-)
+returns-clause-refused c =
+    let values : first_value (found_of c.in_ok-matches.matches) ≡ value_in asm (texts c.args.words.now) = rw c.in_ok-asm_files_command.ensures.shape at c.in_ok-matches.ensures.values in
+    (subst (λ (a : App). Fits a (texts c.args.words.now)) c.in_ok-asm_files_command.ensures.shape c.in_ok-matches.ensures.fits, sym (c.in-None.ensures ∙ ap files_asked values))

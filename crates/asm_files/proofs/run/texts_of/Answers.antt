@@ -1,5 +1,5 @@
 use Rattle.asm_files.proofs.Ends.{ends_asm}
-use Rattle.asm_files.proofs.run.assembled.Goals as goal
+use Rattle.asm_files.proofs.run.texts_of.Goals as goal
 
 pub returns-in_err-texts-clause-refused : goal.returns-in_err-texts-clause-refused
 returns-in_err-texts-clause-refused g c =
