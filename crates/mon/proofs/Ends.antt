@@ -21,7 +21,7 @@ either_ends : (asked : MonAsked) (fault : LoadFault) → (fault ≡ Refused OutO
 either_ends asked fault (inl memory) = subst (EndsMon asked) (sym memory) (memory_ends asked)
 either_ends asked fault (inr named) = inr named
 
-pub named_ends : {X : Type 0} (asked : MonAsked) (r : Result X LoadFault)
-    → IfErr r (λ fault. (fault ≡ Refused OutOfMemory) ⊎ EndsNamed asked.symbols asked.file fault) → IfErr r (EndsMon asked)
-named_ends asked (Ok x) h = tt
-named_ends asked (Err fault) h = either_ends asked fault h
+pub named_ends : {X E : Type 0} (asked : MonAsked) (fault_of : E → LoadFault) (r : Result X E)
+    → IfErr r (λ e. (fault_of e ≡ Refused OutOfMemory) ⊎ EndsNamed asked.symbols asked.file (fault_of e)) → IfErr r (λ e. EndsMon asked (fault_of e))
+named_ends asked fault_of (Ok x) h = tt
+named_ends asked fault_of (Err e) h = either_ends asked (fault_of e) h

@@ -3,7 +3,6 @@ use Rattle.std.proofs.Common.{◌≡◌, ℕ, List, Option, Some, option_map, su
 use Rattle.assembler.specs.Assembly.{AssemblyView, IsAssembled}
 use Rattle.arguments.specs.Asked.{FileAsked, map_of}
 use Rattle.loading.specs.Loads.{IsLoaded}
-use Rattle.arguments.specs.declared.load_fault.LoadFault.{LoadFault}
 use Rattle.model.specs.Event.{start}
 use Rattle.model.specs.Session.{Session, new_session}
 use Rattle.mon.specs.Done.{AreNamed, IsNewDesk, StartsMon, places_in, with_names}
@@ -11,7 +10,7 @@ use Rattle.mon_session.specs.declared.desk.Desk.{Desk}
 use Rattle.arguments_play.specs.Mon.{MonAsked}
 
 -- The session of a new desk is the one that was loaded.
-pub named_starts : (asked : MonAsked) (session : Session) (assembly : Option AssemblyView) (r : Result Desk LoadFault)
+pub named_starts : {E : Type 0} (asked : MonAsked) (session : Session) (assembly : Option AssemblyView) (r : Result Desk E)
     → (image : List (Option ℕ)) × IsLoaded asked.file image assembly × (session ≡ new_session asked.history (start (map_of asked.file) image))
     → IfOk r (λ desk. (names : Option AssemblyView) × AreNamed asked.symbols asked.file names × IsNewDesk session asked.history (with_names names (places_in asked.file.file assembly)) desk)
     → IfOk r (StartsMon asked)

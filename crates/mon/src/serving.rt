@@ -1,7 +1,7 @@
 //! What the word `mon` does.
 
 ghost use Rattle.std.specs.Prelude.{◌≡◌, ◌⊎◌, ◌++◌, ℕ, List, Option, None, Some, Err, IfErr, IfOk};
-ghost use Rattle.std.specs.Prelude.{OnErr, OnOk, false, true};
+ghost use Rattle.std.specs.Prelude.{OnOk, [], false, true};
 ghost use Rattle.arguments.specs.Asked.{map_of};
 ghost use Rattle.assembler.specs.Assembly.{AssemblyView, IsAssembled};
 ghost use Rattle.loading.specs.Loads.{EndsNames};

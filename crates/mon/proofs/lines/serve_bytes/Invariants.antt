@@ -1,7 +1,7 @@
 use Rattle.std.proofs.Common.{◌≡◌, [], false, take, List, ℕ}
 use Rattle.std.specs.Io.KnownBytes.{Appends}
 use Rattle.mon.specs.Attended.{prompt_of}
-use Rattle.mon.specs.Pieces.{Piece, ServesPiece}
+use Rattle.mon.specs.Pieces.{ServesPiece}
 use Rattle.mon.proofs.lines.serve_bytes.Given as goal
 
 -- the bytes so far were served, and what was said then was written

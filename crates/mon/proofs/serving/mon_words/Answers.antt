@@ -11,4 +11,4 @@ returns-in-Ok-clause-done g c = inr (
 )
 
 pub returns-in-Err-clause-done : goal.returns-in-Err-clause-done
-returns-in-Err-clause-done g c = inl (c.in-Err.fault, c.in-Err.ensures.refused, c.tell.ensures.status, (refl, refl))
+returns-in-Err-clause-done g c = inl (c.in-Err.unbegun.fault, c.in-Err.ensures.refused, c.tell.ensures.status, (refl, refl))
