@@ -2,3 +2,4 @@ mod Assembling
 pub mod DigitLemmas
 pub mod Ends
 mod Starts
+pub mod Unloaded

@@ -17,7 +17,8 @@ use Rattle.model.specs.Writers.{AppendsFront}
 use Rattle.arguments.specs.FaultLines.{fault_line}
 use Rattle.arguments.specs.Statuses.{status_of}
 use Rattle.arguments_play.specs.Run.{RunAsked}
-use Rattle.running.specs.Runs.{Heard, IsDone, RanIfFound, RanTo, Streams, Tells, TellsEnd}
+use Rattle.loading.specs.Told.{Heard, Tells}
+use Rattle.running.specs.Runs.{IsDone, RanIfFound, RanTo, Streams, TellsEnd}
 use Rattle.running.specs.Places.{place_asked}
 use Rattle.running.specs.Statuses.{refusal_of, status_of_ending}
 

@@ -10,6 +10,7 @@ use Rattle.assembler.specs.Assembly.{AssemblyView}
 use Rattle.arguments.specs.Asked.{FileAsked, map_of}
 use Rattle.loading.specs.Loads.{EndsLoad, IsLoaded}
 use Rattle.loading.specs.Place.{names_of}
+use Rattle.loading.specs.Told.{Heard, IsUnloaded, Tells}
 use Rattle.arguments.specs.FaultLines.{fault_line, load_line}
 use Rattle.arguments.specs.Statuses.{status_of, status_of_load}
 use Rattle.arguments.specs.declared.load_fault.LoadFault.{LoadFault}
@@ -39,15 +40,6 @@ Ran s until limit streams (Ok end) = (input : List ℕ)
     × Appends streams.held streams.now end.play.session.current.bus.out
 Ran s until limit streams (Err fault) = (text : List ℕ) × Appends streams.held streams.now text
 
--- What is known of the error stream, before and after.
-pub record Heard : Type 0 where
-  pub held : Option (List ℕ)
-  pub now : Option (List ℕ)
-
--- The error stream got a line, or a beginning of it where a write failed.
-abbrev pub Tells : Heard → List ℕ → Type 0
-Tells heard line = AppendsFront heard.held heard.now line
-
 -- The error stream got why a run did not come to its end, and then its cycles if they are asked
 -- for.
 abbrev pub TellsEnd : Bool → Heard → Ending → ℕ → State → Type 0
@@ -74,18 +66,13 @@ RanTo a until s streams heard status = (outcome : Result Outcome PlayFault)
     × Ran s until a.steps streams outcome × (status ≡ status_of_run a.is_status_of_a outcome)
     × TellsRun a heard outcome
 
--- A session ran up to the place of the words, if it is found; otherwise the streams were left alone,
--- `Alone`, and the error stream got that it is no place.
+-- A session ran up to the place of the words, if it is found; otherwise the streams were left
+-- alone, `Alone`, and the error stream got that it is no place.
 abbrev pub RanIfFound : RunAsked → Result (Option ℕ) ℕ → Session → Streams → Heard → ℕ → Type 0
     → Type 0
 RanIfFound a (Ok until) s streams heard status Alone = RanTo a until s streams heard status
 RanIfFound a (Err refused) s streams heard status Alone = (status ≡ refused)
     × Tells heard (unplaced_line a.until) × Alone
-
--- The file was not loaded, the error stream got why, and the others were left alone.
-abbrev pub IsUnloaded : FileAsked → Heard → ℕ → Type 0 → Type 0
-IsUnloaded file heard status Alone = (fault : LoadFault) × EndsLoad file fault
-    × (status ≡ status_of_load fault) × Tells heard (load_line fault file.file) × Alone
 
 -- A file was loaded: from the start of an image that it can have, on the map of the words and with
 -- the names of the image's source, a session ran.

@@ -14,7 +14,8 @@ use Rattle.model.specs.Writers.{AppendsFront}
 use Rattle.arguments.specs.Statuses.{status_of}
 use Rattle.arguments.specs.declared.refusal.Refusal.{Refusal}
 use Rattle.running.specs.Places.{place_asked}
-use Rattle.running.specs.Runs.{Heard, Streams, Tells}
+use Rattle.loading.specs.Told.{Heard, Tells}
+use Rattle.running.specs.Runs.{Streams}
 use Rattle.running.specs.Statuses.{status_of_ending}
 use Rattle.running.specs.Told.{unplaced_line}
 use Rattle.arguments_play.specs.Trace.{TraceAsked}

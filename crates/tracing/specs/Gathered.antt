@@ -1,5 +1,5 @@
--- What a trace gathers of a step: what it counts, which addresses it holds for written, and the text
--- that comes of it. Source: mos65.
+-- What a trace gathers of a step: what it counts, which addresses it holds for written, and the
+-- text that comes of it. Source: mos65.
 use Rattle.std.specs.Prelude.{◌≡◌, ℕ, ◌+◌, ◌-◌, Bool, true, false, not, ◌&&◌, ◌||◌, if◌then◌else◌, List, [], ◌∷◌, ◌++◌, Option, None, Some, is_some, slice_set, option_map}
 use Rattle.std.specs.Io.KnownBytes.{Appends}
 use Rattle.std.specs.List.{flat_map}

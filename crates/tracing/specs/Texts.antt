@@ -22,8 +22,8 @@ by_turn {A} each until before turn a rest = by turn.ending
         then each before turn.play.session.current a
         else rest turn.play (each before turn.play.session.current a)
 
--- What the steps of a run make of something: at most so many, up to one that leads to an address, if
--- one is given.
+-- What the steps of a run make of something: at most so many, up to one that leads to an address,
+-- if one is given.
 unfoldable pub by_steps : {A : Type 0} → (State → State → A → A) → Option ℕ → ℕ → Play → A → A
 by_steps each until zero p a = a
 by_steps each until (suc n) p a = by_turn each until p.session.current (turn_of p) a

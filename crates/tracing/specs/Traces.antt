@@ -21,7 +21,8 @@ use Rattle.arguments.specs.Statuses.{status_of}
 use Rattle.arguments.specs.declared.refusal.Refusal.{Refusal}
 use Rattle.arguments.specs.declared.refusal.Refusal.TheVariants.{OutOfMemory, Read, Write}
 use Rattle.running.specs.Places.{place_asked}
-use Rattle.running.specs.Runs.{Heard, IsUnloaded, Streams, Tells}
+use Rattle.loading.specs.Told.{Heard, IsUnloaded, Tells}
+use Rattle.running.specs.Runs.{Streams}
 use Rattle.running.specs.Statuses.{status_of_ending}
 use Rattle.running.specs.Told.{unplaced_line}
 use Rattle.trace_rows.specs.declared.sites.Sites.{Sites}
@@ -112,8 +113,8 @@ IsOfStreams Read = ⊤
 IsOfStreams Write = ⊤
 IsOfStreams refusal = ⊥
 
--- Why the addresses at which a file has a byte are not known: memory runs out, or a tape is not read
--- once more.
+-- Why the addresses at which a file has a byte are not known: memory runs out, or a tape is not
+-- read once more.
 abbrev pub IsNotRead : Option AssemblyView → Refusal → Type 0
 IsNotRead None refusal = IsUnread refusal
 IsNotRead (Some assembly) refusal = refusal ≡ OutOfMemory
@@ -146,8 +147,8 @@ abbrev pub TracedTo : TraceAsked → Option AssemblyView → Option ℕ → Opti
 TracedTo a assembly from to s streams status = (outcome : Result Outcome Refusal)
     × IsTraced a assembly s from to streams outcome × (status ≡ status_of_trace outcome)
 
--- A session was traced between the places of the words, if they are found; else the streams were
--- left alone, `Alone`, and the error stream got which word is no place.
+-- A session was traced between the places of the words, if they are found; otherwise the streams
+-- were left alone, `Alone`, and the error stream got which word is no place.
 abbrev pub TracedIfFound : TraceAsked → Option AssemblyView → Result (Option ℕ) ℕ
     → Result (Option ℕ) ℕ → Session → Streams → Heard → ℕ → Type 0 → Type 0
 TracedIfFound a assembly (Ok from) (Ok to) s streams heard status Alone
@@ -157,8 +158,8 @@ TracedIfFound a assembly (Ok from) (Err refused) s streams heard status Alone
 TracedIfFound a assembly (Err refused) to s streams heard status Alone
     = (status ≡ refused) × Tells heard (unplaced_line a.from) × Alone
 
--- What was done for words: a file was not loaded, the error stream got why, and the others were left
--- alone; or from the start of an image that it can have, on the map of the words and with the names
+-- What was done for words: a file was not loaded, the error stream got why, and the others were
+-- left alone; or from the start of an image that it can have, on the map of the words and with the names
 -- of the image's source, a session was traced.
 abbrev pub IsDone : TraceAsked → Streams → Heard → ℕ → Type 0 → Type 0
 IsDone a streams heard status Alone = IsUnloaded a.file heard status Alone

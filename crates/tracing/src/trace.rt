@@ -17,7 +17,8 @@ ghost use Rattle.tracing.specs.Texts.{GotText, Noted, by_steps, no_text, note_st
 ghost use Rattle.tracing.specs.Texts.{pass_step};
 ghost use Rattle.tracing.specs.Traces.{BreaksOff, EndsAt, IsDone, IsNotRead, IsOfStreams};
 ghost use Rattle.tracing.specs.Traces.{TracedIfFound, TracedTo, WentOn};
-ghost use Rattle.tracing.specs.Traces.{WroteNotes, gathered_at, is_begun, reached, trace_noted, traced};
+ghost use Rattle.tracing.specs.Traces.{WroteNotes, gathered_at, is_begun, reached};
+ghost use Rattle.tracing.specs.Traces.{trace_noted, traced};
 
 use crate::tracer::Tracer;
 use accesses::Written;

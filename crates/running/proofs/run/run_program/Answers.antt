@@ -4,7 +4,7 @@ use Rattle.arguments.specs.Words.{IsStatusOf, texts}
 use Rattle.arguments_play.proofs.Found.{not_both, one_asked}
 use Rattle.arguments_play.specs.Run.{RunAsked, asked, run, run_view}
 use Rattle.running.specs.Runs.{IsDone}
-use Rattle.running.proofs.Unloaded.{unloaded_by_memory}
+use Rattle.loading.proofs.Unloaded.{unloaded_by_memory}
 use Rattle.running.proofs.run.run_program.Goals as goal
 
 pub returns-in-Ok-clause-done : goal.returns-in-Ok-clause-done

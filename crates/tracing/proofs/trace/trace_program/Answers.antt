@@ -3,7 +3,7 @@ use Rattle.arguments.proofs.Refusing.{not_refused, refuses}
 use Rattle.arguments.specs.Words.{IsStatusOf, texts}
 use Rattle.arguments_play.proofs.Found.{not_both, one_asked}
 use Rattle.arguments_play.specs.Trace.{TraceAsked, asked, trace, trace_view}
-use Rattle.running.proofs.Unloaded.{unloaded_by_memory}
+use Rattle.loading.proofs.Unloaded.{unloaded_by_memory}
 use Rattle.tracing.specs.Traces.{IsDone}
 use Rattle.tracing.proofs.trace.trace_program.Goals as goal
 

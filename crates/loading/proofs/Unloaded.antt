@@ -8,7 +8,7 @@ use Rattle.arguments.specs.declared.fault.WordsFault.TheVariants as words_fault
 use Rattle.arguments.specs.declared.load_fault.LoadFault.TheVariants.{Refused}
 use Rattle.arguments.specs.declared.refusal.Refusal.TheVariants.{OutOfMemory}
 use Rattle.loading.proofs.Ends.{memory_ends}
-use Rattle.running.specs.Runs.{Heard, IsUnloaded}
+use Rattle.loading.specs.Told.{Heard, IsUnloaded}
 
 pub unloaded_by_memory : (file : FileAsked) (heard : Heard) (fault : WordsFault) (status : ℕ) (Unread Unwritten : Type 0) → fault ≡ words_fault.OutOfMemory
     → IsStatusOf fault status → IsToldOfWords fault status heard.held heard.now → Unread → (1 ≤ status → status ≤ 3 → Unwritten) → IsUnloaded file heard status (Unread × Unwritten)
