@@ -1,10 +1,11 @@
 -- The exit status with `--strict`, by the plain one.
-use Rattle.std.proofs.Common.{◌≡◌, ◌≤◌, inl, inr, ℕ, zero, suc, Bool, true, false, Result, Ok, Err, if◌then◌else◌, refl, ◌∙◌, arith}
+use Rattle.std.proofs.Common.{◌≡◌, ◌≤◌, inl, inr, ℕ, zero, suc, Bool, true, false, Option, Result, Ok, Err, if◌then◌else◌, refl, subst, sym, ◌∙◌, arith}
 use Rattle.std.specs.Prelude.{⊤}
-use Rattle.program.specs.Statuses.{status_of}
+use Rattle.arguments.specs.Statuses.{status_of}
+use Rattle.arguments.specs.declared.refusal.Refusal.{Refusal}
+use Rattle.arguments.specs.declared.refusal.Refusal.TheVariants.{Words, Map, Source, Tape, Session, OutOfMemory, Read, Write}
+use Rattle.program.specs.Runs.{TellsMap}
 use Rattle.program.specs.Streams.{IsStatus}
-use Rattle.program.specs.declared.refusal.Refusal.{Refusal}
-use Rattle.program.specs.declared.refusal.Refusal.TheVariants.{Words, Map, Source, Tape, Session, OutOfMemory, Read, Write}
 use Rattle.strict_debug.specs.Strict.{IsDone, IsStrictStatus}
 
 at_least_one : (refusal : Refusal) → 1 ≤ status_of refusal
@@ -43,3 +44,16 @@ ended_of (suc n) result failed four (inr is) = absurd (omega (arith, failed (ome
 pub not_done : (status : ℕ) → status ≡ 3 → IsDone status → ⊥
 not_done status three (inl is) = omega (arith, three, is)
 not_done status three (inr is) = omega (arith, three, is)
+
+not_two : (fault : Bool) (result : ℕ) → result ≡ (if fault then 5 else 0) → result ≡ 2 → ⊥
+not_two true result is two = omega (arith, is, two)
+not_two false result is two = omega (arith, is, two)
+
+-- What the plain status tells of the map, the strict one tells too.
+pub tells_of : (rom : Option (ℕ × ℕ)) (port status result : ℕ) (fault : Bool) → (status ≡ 0 → result ≡ (if fault then 5 else 0)) → (1 ≤ status → result ≡ status)
+    → TellsMap rom port status → TellsMap rom port result
+tells_of rom port zero result fault ended failed tells = record {
+  bad = λ no. elim (tells.bad no) [ inl two ↦ absurd (omega (arith, two)) | inr three ↦ absurd (omega (arith, three)) ];
+  right = λ makes two. not_two fault result (ended refl) two;
+}
+tells_of rom port (suc n) result fault ended failed tells = subst (TellsMap rom port) (sym (failed (omega arith))) tells

@@ -1,5 +1,6 @@
 pub mod Left
 pub mod Passing
+pub mod Running
 pub mod Ends
 pub mod Made
 pub mod Seeing

@@ -10,8 +10,8 @@ use Rattle.engine.specs.Outcome.{Begins, Serves}
 use Rattle.engine.specs.declared.fault.EngineFault.{EngineFault}
 use Rattle.engine.specs.declared.fault.EngineFault.TheVariants as engine_fault
 use Rattle.program.specs.Streams.{IsServed}
-use Rattle.program.specs.declared.refusal.Refusal.{Refusal}
-use Rattle.program.specs.declared.refusal.Refusal.TheVariants.{Words, Map, Source, Tape, Session as session_refusal, OutOfMemory, Read, Write}
+use Rattle.arguments.specs.declared.refusal.Refusal.{Refusal}
+use Rattle.arguments.specs.declared.refusal.Refusal.TheVariants.{Words, Map, Source, Tape, Session as session_refusal, OutOfMemory, Read, Write}
 use Rattle.strict_debug.specs.Seen.{seen_in}
 use Rattle.strict_debug.specs.Told.{known_framed}
 use Rattle.strict_debug.specs.Strict.{strict_status}

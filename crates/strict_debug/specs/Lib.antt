@@ -1,3 +1,4 @@
+pub mod CommandLine
 pub mod Strict
 pub mod Seen
 pub mod Told

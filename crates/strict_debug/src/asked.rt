@@ -1,13 +1,14 @@
 //! The words of `debug` with `--strict`.
 
-ghost use Rattle.std.specs.Prelude.{◌≡◌, IfOk, map};
+ghost use Rattle.std.specs.Prelude.{◌≡◌, IfOk};
+ghost use Rattle.arguments.specs.Words.{texts};
 ghost use Rattle.strict_debug.specs.Strict.{is_strict, plain_words};
 
 use std::alloc::{AllocError, Global};
 
 /// Returns whether `--strict` is among the words after `debug`, before a word `--`.
 pub fn is_strict(words: &[&str]) -> bool
-    ensures { result ≡ is_strict (map (λ s. s.now) words.entry.now) }
+    ensures { result ≡ is_strict (texts words.entry.now) }
 {
     for word in words {
         if *word == "--" {
@@ -22,8 +23,7 @@ pub fn is_strict(words: &[&str]) -> bool
 
 /// Returns `debug` and the words after it, but for `--strict` before a word `--`.
 pub fn plain_words<'a>(alloc: Global, words: &[&'a str]) -> Result<Vec<&'a str>, AllocError>
-    ensures { IfOk result (λ plain. map (λ s. s.now) plain.items
-        ≡ plain_words (map (λ s. s.now) words.entry.now)) }
+    ensures { IfOk result (λ plain. texts plain.items ≡ plain_words (texts words.entry.now)) }
 {
     let mut plain = Vec::new(alloc);
     plain.push("debug")?;

@@ -7,6 +7,7 @@
 #![tactic(auto)]
 
 mod asked;
+mod command;
 mod heard;
 mod log;
 mod seen;
@@ -14,6 +15,7 @@ mod strict;
 mod watch;
 
 pub use asked::is_strict;
+pub use command::strict_debug_command;
 pub use heard::Heard;
 pub use log::Log;
 pub use seen::{Place, Seen};
