@@ -31,14 +31,14 @@ find name (row ∷ rows) = if bytes_eq name row.0 then row.1 else find name rows
 abbrev pub named : Text → List Text → Route
 named name rest =
     if bytes_eq name (codes "asm") then
-      (if asks_for_help rest then to.Whole else if asks_for_files rest then to.AsmFiles
-      else to.Program)
+    (if asks_for_help rest then to.Whole else if asks_for_files rest then to.AsmFiles
+    else to.Program)
     else if bytes_eq name (codes "dis") then
-      (if asks_for_help rest then to.Whole else if has (codes "--source") rest then to.DisSource
-      else to.Program)
+    (if asks_for_help rest then to.Whole else if has (codes "--source") rest then to.DisSource
+    else to.Program)
     else if bytes_eq name (codes "debug") then
-      (if asks_for_help rest then to.Whole else if is_strict rest then to.StrictDebug
-      else to.Program)
+    (if asks_for_help rest then to.Whole else if is_strict rest then to.StrictDebug
+    else to.Program)
     else find name added
 
 abbrev pub route_of : List Text → Route

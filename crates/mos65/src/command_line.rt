@@ -2,7 +2,7 @@
 
 ghost use Rattle.std.specs.Prelude.{◌≡◌, ◌≤◌};
 
-use arguments::{Refusal, WordsFault, flag, refuse, refused_words};
+use arguments::{WordsFault, flag, refused_words};
 use arguments_core::debug_command;
 use arguments_play::{mon_command, run_command, trace_command};
 use asm_files::asm_files_command;
@@ -19,7 +19,8 @@ use tape_words::{cmp_command, info_command, mend_command};
 const VERSION: &str = "0.2.0";
 
 /// What the program's help shows below its words.
-const STATUSES: &str = "Exit status: 0 done, 1 bad source or tape (check: a fault, cmp: a difference, test: a failed row),
+const STATUSES: &str =
+    "Exit status: 0 done, 1 bad source or tape (check: a fault, cmp: a difference, test: a failed row),
 2 bad words or map, 3 out of memory, 4 reading or writing failed,
 5 debug --strict: a reply told of a fault,
 10 run, trace: the limit of steps, 11 a fault of the program, 12 the console is full
@@ -28,25 +29,27 @@ mos65 help WORD shows the options of a word, and an example";
 
 /// Returns the words that read a source or a tape and write another file.
 fn with_files<'a>(alloc: Global, command: Command<'a>) -> Result<Command<'a>, Error> {
-    command
+    let command = command
         .subcommand(asm_files_command(alloc)?)?
         .subcommand(dis_source_command(alloc)?)?
         .subcommand(check_command(alloc)?)?
         .subcommand(info_command(alloc)?)?
         .subcommand(cmp_command(alloc)?)?
-        .subcommand(mend_command(alloc)?)
+        .subcommand(mend_command(alloc)?)?;
+    Ok(command)
 }
 
 /// Returns the words that run a program.
 fn with_runs<'a>(alloc: Global, command: Command<'a>) -> Result<Command<'a>, Error> {
     let strict = "Ends with status 5 if a reply tells of a fault";
     let debug = debug_command(alloc)?.arg(flag(alloc, "strict", strict))?;
-    command
+    let command = command
         .subcommand(run_command(alloc)?)?
         .subcommand(mon_command(alloc)?)?
         .subcommand(trace_command(alloc)?)?
         .subcommand(test_command(alloc)?)?
-        .subcommand(debug)
+        .subcommand(debug)?;
+    Ok(command)
 }
 
 /// Returns the whole command line. The only error is that an allocation failed.

@@ -21,50 +21,47 @@ use tape_info::{tape_cmp, tape_info};
 use tape_mend::tape_mend;
 use tracing::trace_program;
 
-/// Does what words after the name of their word ask for, without reading standard input, and returns
-/// the exit status.
-fn serve_files(rt: &HostRuntime, route: Route, words: &[&str]) -> u8 {
-    let output = &mut io::writer(rt);
-    let errors = &mut rt.stderr();
-    match route {
-        Route::Check => check(rt, words, output, errors),
-        Route::Info => tape_info(rt, words, output, errors),
-        Route::Cmp => tape_cmp(rt, words, output, errors),
-        Route::Mend => tape_mend(rt, words, output, errors),
-        Route::Test => test(rt, words, output, errors),
-        Route::DisSource => dis_source(rt, words, output, errors),
-        _ => asm_files(rt, words, output, errors),
-    }
+/// Serves `debug --strict`, and returns the exit status.
+fn debug_strictly(rt: &HostRuntime, words: &[&str]) -> u8 {
+    let (status, _) = strict_debug(
+        rt,
+        words,
+        &mut rt.reader(),
+        io::writer(rt),
+        &mut rt.stderr(),
+    );
+    status
 }
 
-/// Does what words ask for that are served with standard input, and returns the exit status.
-fn serve_sessions(rt: &HostRuntime, route: Route, words: &[&str]) -> u8 {
-    let input = &mut rt.reader();
-    let errors = &mut rt.stderr();
+/// Serves a word that runs a program with the standard input, and returns the exit status.
+fn play(rt: &HostRuntime, route: Route, words: &[&str]) -> u8 {
+    let mut input = rt.reader();
+    let mut output = io::writer(rt);
+    let mut errors = rt.stderr();
     match route {
-        Route::Mon => mon(rt, words, input, &mut io::writer(rt), errors),
-        Route::Run => run_program(rt, words, input, &mut io::writer(rt), errors),
-        Route::Trace => trace_program(rt, words, input, &mut io::writer(rt), errors),
-        _ => strict_debug(rt, words, input, io::writer(rt), errors).0,
+        Route::Mon => mon(rt, words, &mut input, &mut output, &mut errors),
+        Route::Run => run_program(rt, words, &mut input, &mut output, &mut errors),
+        _ => trace_program(rt, words, &mut input, &mut output, &mut errors),
     }
 }
 
 /// Does what words ask for, and returns the exit status.
 fn serve(rt: &HostRuntime, words: &[&str]) -> u8 {
-    let rest = words.get(1..).unwrap_or(&[]);
+    let rest = if words.is_empty() { words } else { &words[1..] };
+    let mut output = io::writer(rt);
+    let mut errors = rt.stderr();
     match route_of(words) {
-        Route::Program => program(
-            rt,
-            words,
-            &mut rt.reader(),
-            &mut io::writer(rt),
-            &mut rt.stderr(),
-        ),
-        Route::Whole => tell_whole(rt.alloc(), words, &mut io::writer(rt), &mut rt.stderr()),
-        route @ (Route::Mon | Route::Run | Route::Trace | Route::StrictDebug) => {
-            serve_sessions(rt, route, rest)
-        }
-        route => serve_files(rt, route, rest),
+        Route::Check => check(rt, rest, &mut output, &mut errors),
+        Route::Info => tape_info(rt, rest, &mut output, &mut errors),
+        Route::Cmp => tape_cmp(rt, rest, &mut output, &mut errors),
+        Route::Mend => tape_mend(rt, rest, &mut output, &mut errors),
+        Route::Test => test(rt, rest, &mut output, &mut errors),
+        Route::DisSource => dis_source(rt, rest, &mut output, &mut errors),
+        Route::AsmFiles => asm_files(rt, rest, &mut output, &mut errors),
+        Route::StrictDebug => debug_strictly(rt, rest),
+        route @ (Route::Mon | Route::Run | Route::Trace) => play(rt, route, rest),
+        Route::Program => program(rt, words, &mut rt.reader(), &mut output, &mut errors),
+        Route::Whole => tell_whole(rt.alloc(), words, &mut output, &mut errors),
     }
 }
 

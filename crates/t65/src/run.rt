@@ -94,7 +94,7 @@ fn written<H: Files, O: Write, E: Write>(
 {
     if let Some(file) = words.junit {
         if let Err(refusal) = write_file(rt, file, reports.junit.as_bytes()) {
-            return refuse(refusal, errors);
+            return refuse_file(refusal, file, errors);
         }
     }
     match write_text(output, reports.tap.as_bytes()) {
