@@ -139,8 +139,8 @@ fn done<H: Files + AllocGlobal, E: Write>(rt: &H, words: &FilesWords<'_>, errors
 ///
 /// The status is that of `asm`: 0 if it is done, 1 if the source is rejected, 2 if the words or the
 /// map are wrong, 3 if memory ran out, 4 if reading or writing failed. For each but 0 a line on
-/// `errors` says why, with the name of the file that has the fault or cannot be read or written; the
-/// status is the same if it cannot be written. The tape is written first, then the listing, the
+/// `errors` says why, with the name of the file that has the fault or cannot be read or written;
+/// the status is the same if it cannot be written. The tape is written first, then the listing, the
 /// names and the places of the lines; all texts are whole before the first file is made. If a file
 /// to write is the source under another name, the status is 4 and nothing is written. The output
 /// gets nothing but help.

@@ -11,7 +11,9 @@ use clap::error::ErrorKind;
 use clap::{Command, Error};
 use std::alloc::Global;
 
-/// Returns the command line of `debug` with `--strict`. The only error is that an allocation failed.
+/// Returns the command line of `debug` with `--strict`.
+///
+/// The only error is that an allocation failed.
 pub fn strict_debug_command<'a>(alloc: Global) -> Result<Command<'a>, Error>
     ensures shape { IfOk result (λ c. app_of c ≡ strict) }
     ensures local { IfOk result (λ c. (out-Command c).has_globals ≡ false) }
