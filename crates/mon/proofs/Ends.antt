@@ -1,27 +1,31 @@
 -- Why no session begins.
-use Rattle.std.proofs.Common.{◌≡◌, ◌⊎◌, Bool, true, false, inl, inr, sym, subst, Result, Ok, Err, IfErr}
-use Rattle.arguments.specs.Asked.{map_of}
-use Rattle.loading.specs.Loads.{EndsFile}
-use Rattle.arguments.specs.declared.load_fault.LoadFault.{LoadFault}
+use Rattle.std.proofs.Common.{◌≡◌, ◌⊎◌, ℕ, inl, inr, subst, List, Option, None, Some, Bor, option_map, unwrap_or}
+use Rattle.arguments.specs.FaultLines.{file_line, load_line}
+use Rattle.arguments.specs.Statuses.{status_of}
+use Rattle.arguments.specs.Asked.{FileAsked}
 use Rattle.arguments.specs.declared.load_fault.LoadFault.TheVariants.{Refused}
-use Rattle.model.specs.State.{Map}
-use Rattle.mon.specs.Done.{EndsMon, EndsNamed}
-use Rattle.arguments_play.specs.Mon.{MonAsked}
+use Rattle.arguments.specs.declared.refusal.Refusal.{Refusal}
 use Rattle.arguments.specs.declared.refusal.Refusal.TheVariants.{OutOfMemory}
+use Rattle.loading.proofs.Ends.{memory_ends}
+use Rattle.loading.specs.Told.{Heard, IsUnloaded, Tells}
+use Rattle.mon.specs.Done.{EndsNamed, IsUnnamed}
 
-memory_by : (is_tape : Bool) (bus_map : Map) → EndsFile is_tape bus_map (Refused OutOfMemory)
-memory_by true bus_map = tt
-memory_by false bus_map = tt
+-- Memory ran out: the line names no file.
+memory_unloads : (file : FileAsked) (heard : Heard) (path : List ℕ) (fault : Refusal) (status : ℕ) (Alone : Type 0) → fault ≡ OutOfMemory
+    → status ≡ status_of fault → Tells heard (file_line path fault) → Alone → IsUnloaded file heard status Alone
+unfolding load_line file_line
+memory_unloads file heard path fault status A memory is told alone =
+    (Refused OutOfMemory, memory_ends file, subst (λ f. status ≡ status_of f) memory is, subst (λ f. Tells heard (file_line path f)) memory told, alone)
 
--- Memory may run out for any words.
-pub memory_ends : (asked : MonAsked) → EndsMon asked (Refused OutOfMemory)
-memory_ends asked = inl (inr (memory_by asked.file.is_tape (map_of asked.file)))
+unnamed_ends : (symbols : Option (Bor (List ℕ))) (other : Bor (List ℕ)) (file : FileAsked) (heard : Heard) (fault : Refusal) (status : ℕ) (Alone : Type 0)
+    → EndsNamed (option_map (λ s. s.now) symbols) file fault → status ≡ status_of fault → Tells heard (file_line (unwrap_or symbols other).now fault) → Alone
+    → IsUnnamed (option_map (λ s. s.now) symbols) file heard status Alone
+unnamed_ends None other file heard fault status A ends is told alone = absurd ends
+unnamed_ends (Some path) other file heard fault status A ends is told alone = (fault, ends, is, told, alone)
 
-either_ends : (asked : MonAsked) (fault : LoadFault) → (fault ≡ Refused OutOfMemory) ⊎ EndsNamed asked.symbols asked.file fault → EndsMon asked fault
-either_ends asked fault (inl memory) = subst (EndsMon asked) (sym memory) (memory_ends asked)
-either_ends asked fault (inr named) = inr named
-
-pub named_ends : {X E : Type 0} (asked : MonAsked) (fault_of : E → LoadFault) (r : Result X E)
-    → IfErr r (λ e. (fault_of e ≡ Refused OutOfMemory) ⊎ EndsNamed asked.symbols asked.file (fault_of e)) → IfErr r (λ e. EndsMon asked (fault_of e))
-named_ends asked fault_of (Ok x) h = tt
-named_ends asked fault_of (Err e) h = either_ends asked (fault_of e) h
+-- What was told of the file of names if there is one, and otherwise of another file.
+pub ends_named : (symbols : Option (Bor (List ℕ))) (other : Bor (List ℕ)) (file : FileAsked) (heard : Heard) (fault : Refusal) (status : ℕ) (Alone Begun : Type 0)
+    → (fault ≡ OutOfMemory) ⊎ EndsNamed (option_map (λ s. s.now) symbols) file fault → status ≡ status_of fault → Tells heard (file_line (unwrap_or symbols other).now fault) → Alone
+    → IsUnloaded file heard status Alone ⊎ (IsUnnamed (option_map (λ s. s.now) symbols) file heard status Alone ⊎ Begun)
+ends_named symbols other file heard fault status A B (inl memory) is told alone = inl (memory_unloads file heard (unwrap_or symbols other).now fault status A memory is told alone)
+ends_named symbols other file heard fault status A B (inr ends) is told alone = inr (inl (unnamed_ends symbols other file heard fault status A ends is told alone))

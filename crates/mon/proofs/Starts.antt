@@ -1,5 +1,5 @@
 -- How a session begins.
-use Rattle.std.proofs.Common.{◌≡◌, ℕ, List, Option, Some, option_map, subst, sym, Result, Ok, Err, IfOk, Bor}
+use Rattle.std.proofs.Common.{◌≡◌, ℕ, List, Option, Some, option_map, subst, sym, Bor}
 use Rattle.assembler.specs.Assembly.{AssemblyView, IsAssembled}
 use Rattle.arguments.specs.Asked.{FileAsked, map_of}
 use Rattle.loading.specs.Loads.{IsLoaded}
@@ -10,13 +10,12 @@ use Rattle.mon_session.specs.declared.desk.Desk.{Desk}
 use Rattle.arguments_play.specs.Mon.{MonAsked}
 
 -- The session of a new desk is the one that was loaded.
-pub named_starts : {E : Type 0} (asked : MonAsked) (session : Session) (assembly : Option AssemblyView) (r : Result Desk E)
+pub named_starts : (asked : MonAsked) (session : Session) (assembly : Option AssemblyView) (desk : Desk)
     → (image : List (Option ℕ)) × IsLoaded asked.file image assembly × (session ≡ new_session asked.history (start (map_of asked.file) image))
-    → IfOk r (λ desk. (names : Option AssemblyView) × AreNamed asked.symbols asked.file names × IsNewDesk session asked.history (with_names names (places_in asked.file.file assembly)) desk)
-    → IfOk r (StartsMon asked)
-named_starts asked session assembly (Ok desk) loaded new =
+    → (names : Option AssemblyView) × AreNamed asked.symbols asked.file names × IsNewDesk session asked.history (with_names names (places_in asked.file.file assembly)) desk
+    → StartsMon asked desk
+named_starts asked session assembly desk loaded new =
     (loaded.0, assembly, loaded.1, new.0, new.1, subst (λ s. IsNewDesk s asked.history (with_names new.0 (places_in asked.file.file assembly)) desk) loaded.2 new.2)
-named_starts asked session assembly (Err fault) loaded new = tt
 
 -- A file of names that was assembled is the one that is named.
 pub named_with : (symbols : Option (Bor (List ℕ))) (path : Bor (List ℕ)) (file : FileAsked) (names : AssemblyView) → symbols ≡ Some path → IsAssembled (map_of file) names

@@ -2,33 +2,35 @@
 use Rattle.std.specs.Prelude.{◌≡◌, ◌⊎◌, ⊤, ℕ, Bool, true, if◌then◌else◌, List, [], ◌++◌, Option, Some, None}
 use Rattle.std.specs.Io.KnownBytes.{Appends}
 use Rattle.assembler.specs.Assembly.{AssemblyView, IsAssembled}
-use Rattle.clap.specs.Words.{Text}
 use Rattle.arguments.specs.Asked.{FileAsked, map_of}
-use Rattle.loading.specs.Loads.{EndsLoad, EndsNames, IsLoaded}
-use Rattle.arguments.specs.Statuses.{status_of_load}
-use Rattle.arguments.specs.declared.load_fault.LoadFault.{LoadFault}
-use Rattle.arguments.specs.declared.load_fault.LoadFault.TheVariants.{LooksLikeTape, Refused}
+use Rattle.arguments.specs.FaultLines.{file_line}
+use Rattle.arguments.specs.Statuses.{status_of}
+use Rattle.arguments.specs.declared.refusal.Refusal.{Refusal}
+use Rattle.arguments.specs.declared.refusal.Refusal.TheVariants.{OutOfMemory, Read, Write}
+use Rattle.arguments_play.specs.Mon.{MonAsked}
+use Rattle.clap.specs.Words.{Text}
+use Rattle.loading.specs.Loads.{EndsNames, IsLoaded}
+use Rattle.loading.specs.Told.{Heard, IsUnloaded, Tells}
 use Rattle.model.specs.Event.{start}
 use Rattle.model.specs.Session.{Session, new_session}
 use Rattle.mon.specs.Attended.{IsAttended}
 use Rattle.mon_session.specs.EventTexts.{shown_text}
 use Rattle.mon_session.specs.declared.desk.Desk.{Desk}
-use Rattle.arguments_play.specs.Mon.{MonAsked}
 use Rattle.source_map.specs.Lines.{PlacesView, places_of}
 use Rattle.source_map.specs.Names.{names_in}
-use Rattle.arguments.specs.declared.refusal.Refusal.{Refusal}
-use Rattle.arguments.specs.declared.refusal.Refusal.TheVariants.{OutOfMemory, Read, Write}
 use Rattle.mon.specs.declared.wording.TheConstants.{GREETING}
 
 -- Why a file of names is not assembled, if one is named.
-abbrev pub EndsNamed : Option Text → FileAsked → LoadFault → Type 0
+abbrev pub EndsNamed : Option Text → FileAsked → Refusal → Type 0
 EndsNamed None file fault = ⊥
-EndsNamed (Some path) file LooksLikeTape = ⊥
-EndsNamed (Some path) file (Refused fault) = EndsNames file fault
+EndsNamed (Some path) file fault = EndsNames file fault
 
--- Why no session begins: the file is not loaded, or the file of names is not assembled.
-abbrev pub EndsMon : MonAsked → LoadFault → Type 0
-EndsMon asked fault = EndsLoad asked.file fault ⊎ EndsNamed asked.symbols asked.file fault
+-- The file of names was not assembled, the error stream got why, and the others were left alone,
+-- `Alone`.
+abbrev pub IsUnnamed : Option Text → FileAsked → Heard → ℕ → Type 0 → Type 0
+IsUnnamed None file heard status Alone = ⊥
+IsUnnamed (Some path) file heard status Alone = (fault : Refusal) × EndsNames file fault
+    × (status ≡ status_of fault) × Tells heard (file_line path fault) × Alone
 
 -- Why a session ends before its input does.
 abbrev pub EndsSession : Refusal → Type 0
@@ -104,9 +106,9 @@ EndsAt prompts first given left old new status = IsEnded status
 -- at its desk, with some input given, and ended so, with some input left. Prompts are written if
 -- the words ask for them, or if the input is a terminal.
 abbrev pub IsDone : MonAsked → Option (List ℕ) → Option (List ℕ) → Option (List ℕ)
-    → Option (List ℕ) → ℕ → Type 0 → Type 0
-IsDone asked given left old new status Alone =
-    ((fault : LoadFault) × EndsMon asked fault × (status ≡ status_of_load fault) × Alone)
+    → Option (List ℕ) → Heard → ℕ → Type 0 → Type 0
+IsDone asked given left old new heard status Alone = IsUnloaded asked.file heard status Alone
+    ⊎ (IsUnnamed asked.symbols asked.file heard status Alone
     ⊎ ((desk : Desk) × StartsMon asked desk × (prompts : Bool)
     × (asked.prompts ≡ true → prompts ≡ true)
-    × EndsAt prompts desk given left old new status)
+    × EndsAt prompts desk given left old new status))

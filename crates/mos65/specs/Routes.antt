@@ -28,19 +28,21 @@ find name [] = to.Whole
 find name (row ∷ rows) = if bytes_eq name row.0 then row.1 else find name rows
 
 -- `asm`, `dis` and `debug` as promised, unless a word after them asks for what is beside that.
-abbrev pub named : Text → List Text → Route
-named name rest =
-    if bytes_eq name (codes "asm") then
-    (if asks_for_help rest then to.Whole else if asks_for_files rest then to.AsmFiles
-    else to.Program)
-    else if bytes_eq name (codes "dis") then
-    (if asks_for_help rest then to.Whole else if has (codes "--source") rest then to.DisSource
-    else to.Program)
-    else if bytes_eq name (codes "debug") then
-    (if asks_for_help rest then to.Whole else if is_strict rest then to.StrictDebug
-    else to.Program)
-    else find name added
+abbrev pub asm_route : List Text → Route
+asm_route rest = if asks_for_help rest then to.Whole
+    else if asks_for_files rest then to.AsmFiles else to.Program
+
+abbrev pub dis_route : List Text → Route
+dis_route rest = if asks_for_help rest then to.Whole
+    else if has (codes "--source") rest then to.DisSource else to.Program
+
+abbrev pub debug_route : List Text → Route
+debug_route rest = if asks_for_help rest then to.Whole
+    else if is_strict rest then to.StrictDebug else to.Program
 
 abbrev pub route_of : List Text → Route
 route_of [] = to.Whole
-route_of (name ∷ rest) = named name rest
+route_of (name ∷ rest) = if bytes_eq name (codes "asm") then asm_route rest
+    else if bytes_eq name (codes "dis") then dis_route rest
+    else if bytes_eq name (codes "debug") then debug_route rest
+    else find name added

@@ -2,8 +2,7 @@
 
 ghost use Rattle.std.specs.Prelude.{◌≡◌, ◌≤◌};
 
-use arguments::{WordsFault, flag, refused_words};
-use arguments_core::debug_command;
+use arguments::{WordsFault, refused_words};
 use arguments_play::{mon_command, run_command, trace_command};
 use asm_files::asm_files_command;
 use checking::check_command;
@@ -12,6 +11,7 @@ use clap::{Command, Error};
 use dis_source::dis_source_command;
 use std::alloc::Global;
 use std::io::Write;
+use strict_debug::strict_debug_command;
 use t65::test_command;
 use tape_words::{cmp_command, info_command, mend_command};
 
@@ -41,14 +41,12 @@ fn with_files<'a>(alloc: Global, command: Command<'a>) -> Result<Command<'a>, Er
 
 /// Returns the words that run a program.
 fn with_runs<'a>(alloc: Global, command: Command<'a>) -> Result<Command<'a>, Error> {
-    let strict = "Ends with status 5 if a reply tells of a fault";
-    let debug = debug_command(alloc)?.arg(flag(alloc, "strict", strict))?;
     let command = command
         .subcommand(run_command(alloc)?)?
         .subcommand(mon_command(alloc)?)?
         .subcommand(trace_command(alloc)?)?
         .subcommand(test_command(alloc)?)?
-        .subcommand(debug)?;
+        .subcommand(strict_debug_command(alloc)?)?;
     Ok(command)
 }
 

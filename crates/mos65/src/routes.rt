@@ -2,7 +2,8 @@
 
 ghost use Rattle.std.specs.Prelude.{◌≡◌};
 ghost use Rattle.arguments.specs.Words.{texts};
-ghost use Rattle.mos65.specs.Routes.{asks_for_help, find, added, has, named, route_of};
+ghost use Rattle.mos65.specs.Routes.{added, asks_for_help, asm_route, debug_route, dis_route, find};
+ghost use Rattle.mos65.specs.Routes.{has, route_of};
 
 use asm_files::asks_for_files;
 use strict_debug::is_strict;
@@ -77,6 +78,45 @@ fn has(word: &str, words: &[&str]) -> bool
     false
 }
 
+/// Returns the call for the words after `asm`.
+fn asm_route(rest: &[&str]) -> Route
+    ensures { result ≡ asm_route (texts rest.entry.now) }
+{
+    if asks_for_help(rest) {
+        Route::Whole
+    } else if asks_for_files(rest) {
+        Route::AsmFiles
+    } else {
+        Route::Program
+    }
+}
+
+/// Returns the call for the words after `dis`.
+fn dis_route(rest: &[&str]) -> Route
+    ensures { result ≡ dis_route (texts rest.entry.now) }
+{
+    if asks_for_help(rest) {
+        Route::Whole
+    } else if has("--source", rest) {
+        Route::DisSource
+    } else {
+        Route::Program
+    }
+}
+
+/// Returns the call for the words after `debug`.
+fn debug_route(rest: &[&str]) -> Route
+    ensures { result ≡ debug_route (texts rest.entry.now) }
+{
+    if asks_for_help(rest) {
+        Route::Whole
+    } else if is_strict(rest) {
+        Route::StrictDebug
+    } else {
+        Route::Program
+    }
+}
+
 /// Returns the call that serves these words, the program's own name left out.
 pub fn route_of(words: &[&str]) -> Route
     ensures { result ≡ route_of (texts words.entry.now) }
@@ -84,13 +124,10 @@ pub fn route_of(words: &[&str]) -> Route
     let [name, rest @ ..] = words else {
         return Route::Whole;
     };
-    let is_help = asks_for_help(rest);
     match *name {
-        "asm" | "dis" | "debug" if is_help => Route::Whole,
-        "asm" if asks_for_files(rest) => Route::AsmFiles,
-        "dis" if has("--source", rest) => Route::DisSource,
-        "debug" if is_strict(rest) => Route::StrictDebug,
-        "asm" | "dis" | "debug" => Route::Program,
+        "asm" => asm_route(rest),
+        "dis" => dis_route(rest),
+        "debug" => debug_route(rest),
         name => added(name),
     }
 }
