@@ -35,7 +35,8 @@ fn list<'a>(alloc: Global, name: &'a str, value: &'a str, least: usize, help: &'
 }
 
 /// What the help of `dis --source` shows below its options.
-const EXAMPLE: &str = "Example:
+const EXAMPLE: &str = "Examples:
+  mos65 dis hello.tape 0200 020F
   mos65 dis hello.tape --source --text 0210-021C > hello.a65";
 
 /// Returns the command line of `dis` with `--source`. The only error is that an allocation failed.
@@ -49,11 +50,19 @@ pub fn dis_source_command<'a>(alloc: Global) -> Result<Command<'a>, Error>
     let follow = "Code is what control reaches from here, or from the vectors; the rest is data";
     let symbols = "Labels, and names for addresses: lines NAME = $HHHH, as asm --symbols writes";
     let source = "Writes a source that `asm` takes, and no listing";
-    let about = "Writes what a tape has as a source that `asm` takes";
+    let about = "Lists what a tape has, or writes it as a source that `asm` takes";
     let command = begin(alloc, "dis", "mos65 dis", about, EXAMPLE)?
         .arg(file(alloc, "TAPE", "The tape to read"))?
-        .arg(bound(alloc, "LO", "The first address [default: 0000]"))?
-        .arg(bound(alloc, "HI", "The last address [default: FFFF]"))?
+        .arg(bound(
+            alloc,
+            "LO",
+            "The first address; with --source [default: 0000]",
+        ))?
+        .arg(bound(
+            alloc,
+            "HI",
+            "The last address; with --source [default: FFFF]",
+        ))?
         .arg(flag(alloc, "source", source))?
         .arg(flag(alloc, "labels", "Labels where the tape refers to itself"))?
         .arg(list(alloc, "data", "LO-HI", 1, data))?
