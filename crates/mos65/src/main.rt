@@ -35,33 +35,57 @@ fn debug_strictly(rt: &HostRuntime, words: &[&str]) -> u8 {
 
 /// Serves a word that runs a program with the standard input, and returns the exit status.
 fn play(rt: &HostRuntime, route: Route, words: &[&str]) -> u8 {
-    let mut input = rt.reader();
-    let mut output = io::writer(rt);
-    let mut errors = rt.stderr();
     match route {
-        Route::Mon => mon(rt, words, &mut input, &mut output, &mut errors),
-        Route::Run => run_program(rt, words, &mut input, &mut output, &mut errors),
-        _ => trace_program(rt, words, &mut input, &mut output, &mut errors),
+        Route::Mon => mon(
+            rt,
+            words,
+            &mut rt.reader(),
+            &mut io::writer(rt),
+            &mut rt.stderr(),
+        ),
+        Route::Run => run_program(
+            rt,
+            words,
+            &mut rt.reader(),
+            &mut io::writer(rt),
+            &mut rt.stderr(),
+        ),
+        _ => trace_program(
+            rt,
+            words,
+            &mut rt.reader(),
+            &mut io::writer(rt),
+            &mut rt.stderr(),
+        ),
     }
+}
+
+/// Serves `asm`, `dis` and `debug` as promised, and returns the exit status.
+fn serve_promised(rt: &HostRuntime, words: &[&str]) -> u8 {
+    program(
+        rt,
+        words,
+        &mut rt.reader(),
+        &mut io::writer(rt),
+        &mut rt.stderr(),
+    )
 }
 
 /// Does what words ask for, and returns the exit status.
 fn serve(rt: &HostRuntime, words: &[&str]) -> u8 {
     let rest = if words.is_empty() { words } else { &words[1..] };
-    let mut output = io::writer(rt);
-    let mut errors = rt.stderr();
     match route_of(words) {
-        Route::Check => check(rt, rest, &mut output, &mut errors),
-        Route::Info => tape_info(rt, rest, &mut output, &mut errors),
-        Route::Cmp => tape_cmp(rt, rest, &mut output, &mut errors),
-        Route::Mend => tape_mend(rt, rest, &mut output, &mut errors),
-        Route::Test => test(rt, rest, &mut output, &mut errors),
-        Route::DisSource => dis_source(rt, rest, &mut output, &mut errors),
-        Route::AsmFiles => asm_files(rt, rest, &mut output, &mut errors),
+        Route::Check => check(rt, rest, &mut io::writer(rt), &mut rt.stderr()),
+        Route::Info => tape_info(rt, rest, &mut io::writer(rt), &mut rt.stderr()),
+        Route::Cmp => tape_cmp(rt, rest, &mut io::writer(rt), &mut rt.stderr()),
+        Route::Mend => tape_mend(rt, rest, &mut io::writer(rt), &mut rt.stderr()),
+        Route::Test => test(rt, rest, &mut io::writer(rt), &mut rt.stderr()),
+        Route::DisSource => dis_source(rt, rest, &mut io::writer(rt), &mut rt.stderr()),
+        Route::AsmFiles => asm_files(rt, rest, &mut io::writer(rt), &mut rt.stderr()),
         Route::StrictDebug => debug_strictly(rt, rest),
         route @ (Route::Mon | Route::Run | Route::Trace) => play(rt, route, rest),
-        Route::Program => program(rt, words, &mut rt.reader(), &mut output, &mut errors),
-        Route::Whole => tell_whole(rt.alloc(), words, &mut output, &mut errors),
+        Route::Program => serve_promised(rt, words),
+        Route::Whole => tell_whole(rt.alloc(), words, &mut io::writer(rt), &mut rt.stderr()),
     }
 }
 
