@@ -1,5 +1,5 @@
 -- Which call serves the words of the program. Source: mos65.
-use Rattle.std.specs.Prelude.{Bool, true, false, List, [], ◌∷◌, ◌||◌, bytes_eq, codes, if◌then◌else◌}
+use Rattle.std.specs.Prelude.{Bool, false, List, [], ◌∷◌, ◌||◌, bytes_eq, codes, if◌then◌else◌}
 use Rattle.asm_files.specs.Asked.{asks_for_files}
 use Rattle.clap.specs.Words.{Text}
 use Rattle.mos65.specs.declared.routes.Route.{Route}
