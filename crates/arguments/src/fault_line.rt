@@ -145,8 +145,9 @@ fn put_named_line<E: Write>(refusal: Refusal, file: &str, errors: &mut E)
     );
 }
 
-/// Writes the fault line of a refusal, with the name of the file unless the refusal is of none, or a
-/// beginning of it if a write fails.
+/// Writes the fault line of a refusal, or a beginning of it if a write fails.
+///
+/// The line has the name of the file, unless the refusal is of none.
 #[tactic(auto, unfolding(crate::specs::FaultLines::file_line))]
 pub fn put_file_line<E: Write>(refusal: Refusal, file: &str, errors: &mut E)
     ensures { AppendsFront (E.contents errors.old) (E.contents errors.new)

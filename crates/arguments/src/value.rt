@@ -54,9 +54,10 @@ fn profile(word: &[u8]) -> Option<Profile>
     }
 }
 
-/// Returns the history that the word after `--history` of `debug` asks for, or `None` if it is wrong.
+/// Returns how many events the word after `--history` of `debug` asks for, or `None` if it is
+/// wrong.
 ///
-/// Without the word it is 1,024.
+/// Without the word, 1,024 are held.
 pub fn debug_history_asked(word: Option<&str>) -> Option<u32>
     ensures { result ≡ debug_history_asked (option_map (λ w. w.now) word.entry) }
 {

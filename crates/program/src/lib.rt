@@ -1,8 +1,9 @@
 //! The program `mos65` as a library: what `asm`, `dis` and `debug` do with files and streams, and
 //! their exit status.
 //!
-//! `mos65` is its main, which collects the process's words by `process_words`. A caller may use `program`, which does everything, and `asm_texts` and
-//! `dis_text`, which make the texts that `asm` and `dis` write.
+//! `mos65` is its main, which collects the process's words by `process_words`. A caller may use
+//! `program`, which does everything, and `asm_texts` and `dis_text`, which make the texts that
+//! `asm` and `dis` write.
 //! No clause can say what is in a file, so the contracts speak of the words, the streams and the
 //! status.
 #![tactic(auto)]
