@@ -27,27 +27,29 @@ const STATUSES: &str =
 
 mos65 help WORD shows the options of a word, and an example";
 
-/// Returns the words that read a source or a tape and write another file.
-fn with_files<'a>(alloc: Global, command: Command<'a>) -> Result<Command<'a>, Error> {
-    let command = command
-        .subcommand(asm_files_command(alloc)?)?
-        .subcommand(dis_source_command(alloc)?)?
-        .subcommand(check_command(alloc)?)?
-        .subcommand(info_command(alloc)?)?
-        .subcommand(cmp_command(alloc)?)?
-        .subcommand(mend_command(alloc)?)?;
+/// Returns a command line with a word added. The only error is that an allocation failed.
+fn with<'a>(command: Command<'a>, word: Result<Command<'a>, Error>) -> Result<Command<'a>, Error> {
+    let command = command.subcommand(word?)?;
     Ok(command)
 }
 
-/// Returns the words that run a program.
+/// Adds the words that read a source or a tape and write another file.
+fn with_files<'a>(alloc: Global, command: Command<'a>) -> Result<Command<'a>, Error> {
+    let command = with(command, asm_files_command(alloc))?;
+    let command = with(command, dis_source_command(alloc))?;
+    let command = with(command, check_command(alloc))?;
+    let command = with(command, info_command(alloc))?;
+    let command = with(command, cmp_command(alloc))?;
+    with(command, mend_command(alloc))
+}
+
+/// Adds the words that run a program.
 fn with_runs<'a>(alloc: Global, command: Command<'a>) -> Result<Command<'a>, Error> {
-    let command = command
-        .subcommand(run_command(alloc)?)?
-        .subcommand(mon_command(alloc)?)?
-        .subcommand(trace_command(alloc)?)?
-        .subcommand(test_command(alloc)?)?
-        .subcommand(strict_debug_command(alloc)?)?;
-    Ok(command)
+    let command = with(command, run_command(alloc))?;
+    let command = with(command, mon_command(alloc))?;
+    let command = with(command, trace_command(alloc))?;
+    let command = with(command, test_command(alloc))?;
+    with(command, strict_debug_command(alloc))
 }
 
 /// Returns the whole command line. The only error is that an allocation failed.
