@@ -55,13 +55,13 @@ def refusal(text: str, status: int) -> Fault:
     """The fault that the program's last line on its error stream tells."""
     lines = text.strip().split("\n")
     line = lines[-1]
-    if found := re.fullmatch(r"mos65: SOURCE line (\d+) (\w+) (\d+)", line):
+    if found := re.fullmatch(r"mos65: (?:.+: )?SOURCE line (\d+) (\w+) (\d+)", line):
         return AssemblyFault(found[2], int(found[3]), line=int(found[1]))
-    if found := re.fullmatch(r"mos65: TAPE byte (\d+) (\w+) (\d+)", line):
+    if found := re.fullmatch(r"mos65: (?:.+: )?TAPE byte (\d+) (\w+) (\d+)", line):
         return TapeFault(found[2], int(found[3]), offset=int(found[1]))
-    if found := re.fullmatch(r"mos65: TAPE (\w+) (\d+)", line):
+    if found := re.fullmatch(r"mos65: (?:.+: )?TAPE (\w+) (\d+)", line):
         return SessionFault(found[1], int(found[2]))
-    if found := re.fullmatch(r"mos65: MAP (\w+) (\d+)", line):
+    if found := re.fullmatch(r"mos65: (?:.+: )?MAP (\w+) (\d+)", line):
         return MapFault(found[1], int(found[2]))
     return EngineDied("EngineDied", text=f"status {status}: {line}")
 
