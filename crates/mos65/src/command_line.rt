@@ -16,7 +16,7 @@ use t65::test_command;
 use tape_words::{cmp_command, info_command, mend_command};
 
 /// The version of the program.
-const VERSION: &str = "0.2.0";
+const VERSION: &str = "0.1.0";
 
 /// What the program's help shows below its words.
 const STATUSES: &str =
