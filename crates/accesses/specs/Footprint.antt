@@ -1,6 +1,6 @@
--- The addresses that the instruction at PC reads as data, and those that it stores at. `Effect.antt`
--- of model says what is done there. Source: mos65.
-use Rattle.std.specs.Prelude.{ℕ, ◌+◌, ◌*◌, ◌/◌, ◌%◌, ◌==◌, if◌then◌else◌, List, [], ◌∷◌, Option, Some, None}
+-- The addresses that the instruction at PC reads as data, and, as `Stored.antt` of `cpu_step` says it,
+-- those that it stores at. `Effect.antt` of model says what is done there. Source: mos65.
+use Rattle.std.specs.Prelude.{ℕ, ◌+◌, ◌*◌, ◌/◌, ◌%◌, List, [], ◌∷◌, Option, Some, None}
 use Rattle.model.specs.State.{State, Bus}
 use Rattle.model.specs.Operand.{address_at, byte_at, next_byte}
 use Rattle.model.specs.Effect.{operation_of}
@@ -12,18 +12,15 @@ use Rattle.model.specs.declared.instruction.Row.{Row}
 use Rattle.model.specs.declared.operation.Operation.{Operation}
 use Rattle.model.specs.declared.operation.Operation.TheVariants.{PullA, PullX, PullY, PullStatus, Return, ReturnInterrupt, Break}
 use Rattle.model.specs.declared.registers.Regs.{Regs}
-use Rattle.accesses.specs.Access.{access_here, row_here}
-use Rattle.accesses.specs.declared.access.Access.{Access}
+use Rattle.cpu_step.specs.Access.{access_here, row_here}
+pub use Rattle.cpu_step.specs.Stored.{below, pushed_at, stored_at}
+unfoldable pub use Rattle.cpu_step.specs.Stored.{stores_by, stores_here}
 
 -- ---- the stack
 
 -- The address so many bytes above the stack pointer: it is pulled from.
 abbrev pub above : ℕ → ℕ → ℕ
 above s count = 256 + (s + count) % 256
-
--- The address of a push, after so many pushes.
-abbrev pub below : ℕ → ℕ → ℕ
-below s count = 256 + (s + 255 * count) % 256
 
 -- ---- pointers
 
@@ -72,23 +69,3 @@ reads_of (Some row) state = reads_by (operation_of row.mnemonic)
 -- What the instruction at PC reads as data, in this order.
 unfoldable pub reads_here : State → List ℕ
 reads_here state = reads_of (row_here state) state
-
--- ---- what is stored at
-
--- Up to three pushes.
-abbrev pub pushed_at : ℕ → ℕ → List ℕ
-pushed_at pushes s = if pushes == 0 then [] else
-    if pushes == 1 then below s 0 ∷ [] else
-    if pushes == 2 then below s 0 ∷ below s 1 ∷ [] else
-    below s 0 ∷ below s 1 ∷ below s 2 ∷ []
-
-abbrev pub stored_at : Option ℕ → List ℕ → List ℕ
-stored_at None pushed = pushed
-stored_at (Some address) pushed = address ∷ []
-
-unfoldable pub stores_by : Access → ℕ → List ℕ
-stores_by access s = stored_at access.store (pushed_at access.pushes s)
-
--- What the instruction at PC stores at, in this order.
-unfoldable pub stores_here : State → List ℕ
-stores_here state = stores_by (access_here state) state.regs.s

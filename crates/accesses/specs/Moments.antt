@@ -1,10 +1,8 @@
 -- What is about to happen in a state, and whether an interrupt came in its place. Source: mos65.
-use Rattle.std.specs.Prelude.{ℕ, ◌+◌, ◌/◌, ◌%◌, ◌^◌, Bool, false, true, not, ◌&&◌, ◌==◌, Option, None, Some, slice_index}
+use Rattle.std.specs.Prelude.{ℕ, ◌+◌, ◌/◌, ◌%◌, ◌^◌, Bool, not, ◌&&◌, ◌==◌, slice_index}
 use Rattle.model.specs.State.{State}
-use Rattle.model.specs.declared.instruction.Row.{Row}
-use Rattle.model.specs.declared.instruction.Mnemonic.{Mnemonic}
-use Rattle.model.specs.declared.instruction.Mnemonic.TheVariants.{Brk}
-use Rattle.accesses.specs.Access.{row_here}
+use Rattle.cpu_step.specs.Access.{row_here}
+pub use Rattle.cpu_step.specs.PlainSteps.{is_brk, is_break}
 use Rattle.accesses.specs.declared.moment.Moment.{Moment}
 
 abbrev pub moment_of : State → Moment
@@ -16,14 +14,6 @@ moment_of state = record {
   second = slice_index state.bus.memory ((state.regs.pc + 1) % 65536);
   third = slice_index state.bus.memory ((state.regs.pc + 2) % 65536);
 }
-
-abbrev pub is_brk : Mnemonic → Bool
-is_brk Brk = true
-is_brk mnemonic = false
-
-abbrev pub is_break : Option Row → Bool
-is_break None = false
-is_break (Some row) = is_brk row.mnemonic
 
 -- Bit 4 of the status that was pushed last.
 abbrev pub pushed_break : State → Bool

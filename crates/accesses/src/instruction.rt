@@ -2,9 +2,9 @@
 
 ghost use Rattle.std.specs.Prelude.{◌≡◌};
 ghost use Rattle.model.specs.Effect.{operation_of};
-ghost use Rattle.accesses.specs.Access.{access_here, access_of, row_here};
+ghost use Rattle.cpu_step.specs.Access.{access_here, access_of, row_here};
 
-use crate::access::Access;
+use cpu_step::Access;
 use debugger::Session;
 use model::{Mode, Operation, Row};
 use modes::resolve;
@@ -20,7 +20,7 @@ pub fn row_here(session: &Session) -> Option<Row>
 
 /// Returns what an operation reads and stores.
 #[inline(always)]
-#[tactic(auto, unfolding(crate::specs::Access::access_of))]
+#[tactic(auto, unfolding(cpu_step::specs::Access::access_of))]
 fn access_of(operation: Operation, mode: Mode, address: u16) -> Access
     ensures { result ≡ access_of operation mode address }
 {
@@ -57,7 +57,7 @@ fn access_of(operation: Operation, mode: Mode, address: u16) -> Access
 /// An interrupt entry may come in its place. Nothing is read or stored by an opcode that is not
 /// documented. Source: MCS6500 manual, appendix B; mos65 for the port.
 #[inline(always)]
-#[tactic(auto, unfolding(crate::specs::Access::access_here))]
+#[tactic(auto, unfolding(cpu_step::specs::Access::access_here))]
 pub fn access_here(session: &Session) -> Access
     ensures { result ≡ access_here session.now.current }
 {

@@ -7,14 +7,13 @@
 //! says what each returns.
 #![tactic(auto)]
 
-mod access;
 mod instruction;
 mod moment;
 mod tally;
 mod touches;
 mod written;
 
-pub use access::Access;
+pub use cpu_step::Access;
 pub use instruction::{access_here, row_here};
 pub use moment::{Moment, moment_of};
 pub use tally::{Count, Tally};

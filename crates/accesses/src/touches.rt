@@ -2,9 +2,9 @@
 
 ghost use Rattle.std.specs.Prelude.{◌≡◌, ◌≤◌, length};
 ghost use Rattle.model.specs.Operand.{address_at};
-ghost use Rattle.accesses.specs.Footprint.{above, below, in_page, jump_pointer};
-ghost use Rattle.accesses.specs.Footprint.{pointer_and_operand, pointer_in};
-ghost use Rattle.accesses.specs.Footprint.{reads_by, reads_here, stores_by, stores_here};
+ghost use Rattle.accesses.specs.Footprint.{above, in_page, jump_pointer, pointer_and_operand};
+ghost use Rattle.accesses.specs.Footprint.{pointer_in, reads_by, reads_here};
+ghost use Rattle.cpu_step.specs.Stored.{below, stores_by, stores_here};
 
 use crate::{Access, access_here, row_here};
 use arrayvec::ArrayVec;
@@ -141,7 +141,7 @@ pub fn reads_here(session: &Session) -> Addresses
 }
 
 /// Returns the addresses that an access stores at, by the stack pointer before it.
-#[tactic(auto, unfolding(crate::specs::Footprint::stores_by))]
+#[tactic(auto, unfolding(cpu_step::specs::Stored::stores_by))]
 fn stores_by(access: Access, s: u8) -> Addresses
     ensures { result.items ≡ stores_by access s }
 {
@@ -160,7 +160,7 @@ fn stores_by(access: Access, s: u8) -> Addresses
 /// A store at an address of the ROM leaves the byte there as it is. An opcode that is not
 /// documented stores nothing. An interrupt entry may come in the instruction's place. Source:
 /// MCS6500 manual, chapters 5 and 8.
-#[tactic(auto, unfolding(crate::specs::Footprint::stores_here))]
+#[tactic(auto, unfolding(cpu_step::specs::Stored::stores_here))]
 pub fn stores_here(session: &Session) -> Addresses
     ensures { result.items ≡ stores_here session.now.current }
 {

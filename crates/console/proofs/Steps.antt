@@ -22,7 +22,7 @@ use Rattle.model.specs.declared.operation.BranchOp.{BranchOp}
 use Rattle.model.specs.declared.event.EventFault.TheVariants.{CyclesFull, ConsoleFull}
 use Rattle.accesses.specs.Access.{access_of, access_by, access_here, no_access}
 use Rattle.console.specs.Taking.{take_count, counted}
-use Rattle.accesses.specs.declared.access.Access.{Access}
+use Rattle.cpu_step.specs.declared.access.Access.{Access}
 
 -- a bus that has given n bytes of input to the program, and may have more output
 pub record Leads (n : ℕ) (before after : Bus) : Type 0 where

@@ -1,3 +1,4 @@
 pub mod Calm
+pub mod PlainSteps
 pub mod Pushing
 pub mod Reading

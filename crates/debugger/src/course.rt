@@ -13,12 +13,13 @@ ghost use Rattle.debugger.specs.Pages.{TellsPages};
 ghost use Rattle.debugger.specs.Replay.{Follows, IsHistory, held_states};
 ghost use Rattle.debugger.specs.Running.{session_of};
 ghost use Rattle.debugger.specs.Trail.{HasRoom, IsNoted};
+ghost use Rattle.cpu.specs.PlainRuns.{RanPlainly};
 ghost use Rattle.cpu.specs.Running.{AllButLast, AllGoOn};
 
 use crate::pages::Pages;
 use crate::trail;
 use crate::trail::{PART, Trail};
-use cpu::{Machine, QuickRun};
+use cpu::{Machine, PlainRun, QuickRun};
 use model::{Event, SessionFault};
 use std::alloc::Global;
 use std::marker::Model;
@@ -213,6 +214,40 @@ pub fn run_quietly(
     let most = limit.min(course.quiet);
     let now = pages.now;
     let ran = machine.quick_run(most, stops, watches, &mut pages.stamps, now);
+    course.quiet -= ran.steps;
+    course.steps += ran.steps;
+    ran
+}
+
+/// Makes steps as `Machine::run_plainly` does, none of which makes a checkpoint or drops the oldest
+/// part.
+#[inline(always)]
+pub fn run_plainly(
+    course: &mut Course,
+    machine: &mut Machine,
+    pages: &mut Pages,
+    limit: u32,
+    stops: &[u8],
+    marks: &[u8],
+) -> PlainRun
+    requires stops { length stops.now ≡ 65536 }
+    requires marks { length marks.now ≡ 65536 }
+    requires history { IsHistory 1024 course.old.kept.items course.old.events.items machine.old }
+    requires pages { TellsPages pages.old course.old.kept.items course.old.spare.items
+        machine.old.bus.memory }
+    ensures within { result.steps ≤ limit }
+    ensures ran { RanPlainly stops.now marks.now result machine.old machine.new }
+    ensures room { HasRoom course.new }
+    ensures history { IsHistory 1024 course.new.kept.items course.new.events.items machine.new }
+    ensures steps { (breaks watched : List ℕ) (replayed : ℕ)
+        → session_of course.new machine.new breaks watched replayed
+        ≡ after_steps result.steps (session_of course.old machine.old breaks watched replayed) }
+    ensures pages { TellsPages pages.new course.new.kept.items course.new.spare.items
+        machine.new.bus.memory }
+{
+    let most = limit.min(course.quiet);
+    let now = pages.now;
+    let ran = machine.run_plainly(most, stops, marks, &mut pages.stamps, now);
     course.quiet -= ran.steps;
     course.steps += ran.steps;
     ran

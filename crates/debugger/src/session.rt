@@ -10,18 +10,19 @@ ghost use Rattle.model.specs.Session.{with_state, new_session};
 ghost use Rattle.model.specs.Back.{back_of, without_last};
 ghost use Rattle.model.specs.Run.{run_end, after_steps};
 ghost use Rattle.model.specs.Breakpoints.{break_set, break_cleared, watch_set, watch_cleared};
+ghost use Rattle.cpu.specs.PlainRuns.{AllPlain, AllPlainButLast, RanPlainly};
 ghost use Rattle.debugger.specs.Pages.{TellsPages};
 ghost use Rattle.debugger.specs.Replay.{IsHistory, held_states};
 ghost use Rattle.debugger.specs.Running.{RunsTo, StepsTo};
 ghost use Rattle.debugger.specs.Trail.{HasRoom};
 
 use crate::address_table::AddressTable;
-use crate::course::{Course, go_back, new_course, note_event, note_step, run_quietly};
+use crate::course::{Course, go_back, new_course, note_event, note_step, run_plainly, run_quietly};
 use crate::pages::Pages;
 use crate::stops::{Stretch, break_at, stop_after};
 use crate::trail::happen;
 use bus::{Bus, BusFault, Image, MapSpec};
-use cpu::Machine;
+use cpu::{Machine, PlainRun};
 use model::{Event, EventFault, Profile, Regs, RunEnd, SessionFault, Why};
 use std::alloc::Global;
 use std::marker::Model;
@@ -226,6 +227,88 @@ impl Session {
             }
             Err(fault) => Err(fault),
         }
+    }
+
+    /// Makes plain steps, at most `limit`, until one cannot be made plainly, of which nothing is
+    /// done then, or one leads to an address whose byte of `stops` is not 0; `stopped` is true in
+    /// the second case. The session's breakpoints and watches do not end it. Does not allocate.
+    ///
+    /// A plain step is no interrupt entry and no BRK. It reads no byte of the port, stores only at
+    /// addresses that are not the port's and whose byte of `marks` is 0, and is no jump and no
+    /// branch to itself. A step that stores in ROM, or that clears I while an IRQ is asked for, may
+    /// be declined too. Source: mos65.
+    pub fn run_plainly(&mut self, limit: u32, stops: &[u8], marks: &[u8]) -> PlainRun
+        requires stops { length stops.now ≡ 65536 }
+        requires marks { length marks.now ≡ 65536 }
+        ensures within { result.steps ≤ limit }
+        ensures session { self.new ≡ after_steps result.steps self.old }
+        ensures on { result.stopped ≡ false
+            → AllPlain stops.now marks.now result.steps self.old.current self.new.current }
+        ensures last { 0 < result.steps → AllPlainButLast stops.now marks.now result.steps
+            result.from self.old.current self.new.current }
+        ensures some { result.stopped ≡ true → 0 < result.steps }
+        ensures stop { result.stopped ≡ true
+            → slice_index stops.now self.new.current.regs.pc ≢ 0 }
+    {
+        let mut ran = PlainRun {
+            steps: 0,
+            stopped: false,
+            from: 0,
+        };
+        while ran.steps < limit && !ran.stopped {
+            let more = self.run_plainly_on(limit - ran.steps, stops, marks);
+            if more.steps == 0 {
+                return ran;
+            }
+            ran = PlainRun {
+                steps: ran.steps + more.steps,
+                ..more
+            };
+        }
+        ran
+    }
+
+    /// Makes the first steps of such a run: none if none can be made.
+    fn run_plainly_on(&mut self, limit: u32, stops: &[u8], marks: &[u8]) -> PlainRun
+        requires limit { 0 < limit }
+        requires stops { length stops.now ≡ 65536 }
+        requires marks { length marks.now ≡ 65536 }
+        ensures within { result.steps ≤ limit }
+        ensures session { self.new ≡ after_steps result.steps self.old }
+        ensures ran { RanPlainly stops.now marks.now result self.old.current self.new.current }
+    {
+        let ran = run_plainly(
+            &mut self.trail,
+            &mut self.machine,
+            &mut self.pages,
+            limit,
+            stops,
+            marks,
+        );
+        if ran.steps > 0 {
+            return ran;
+        }
+        self.step_plainly(stops, marks)
+    }
+
+    /// Makes one step of such a run by itself, if one can be made.
+    #[inline(never)]
+    fn step_plainly(&mut self, stops: &[u8], marks: &[u8]) -> PlainRun
+        requires stops { length stops.now ≡ 65536 }
+        requires marks { length marks.now ≡ 65536 }
+        ensures within { result.steps ≤ 1 }
+        ensures session { self.new ≡ after_steps result.steps self.old }
+        ensures ran { RanPlainly stops.now marks.now result self.old.current self.new.current }
+    {
+        let now = self.pages.now;
+        let ran = self
+            .machine
+            .run_plainly(1, stops, marks, &mut self.pages.stamps, now);
+        if ran.steps == 0 {
+            return ran;
+        }
+        note_step(&mut self.trail, &self.machine, &mut self.pages);
+        ran
     }
 
     /// Undoes the last `count` events. The machine, its memory, its cycle count and the console are

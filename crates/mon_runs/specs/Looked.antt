@@ -19,7 +19,7 @@ use Rattle.mon_stops.specs.declared.watches.Watch.{Watch}
 use Rattle.mon_runs.specs.Goals.{is_behind, has_left, is_jump_to_itself, opcode_at_pc}
 use Rattle.mon_runs.specs.declared.led.LedWhy.TheVariants as led_why
 use Rattle.accesses.specs.Access.{access_here}
-use Rattle.accesses.specs.declared.access.Access.{Access}
+use Rattle.cpu_step.specs.declared.access.Access.{Access}
 
 -- ---- what ends a run after a step
 

@@ -15,7 +15,7 @@ pub struct Access {
 }
 
 impl Access {
-    ghost use Rattle.accesses.specs.Access.{puts_byte};
+    ghost use Rattle.cpu_step.specs.Access.{puts_byte};
 
     /// Returns whether a byte is stored or pushed.
     pub fn puts_byte(&self) -> bool
