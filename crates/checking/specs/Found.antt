@@ -51,7 +51,7 @@ abbrev pub EndsCheck : CheckAsked → LoadFault → Type 0
 EndsCheck asked LooksLikeTape = HasMap asked × HasTape
 EndsCheck asked (Refused (Map fault)) = (fault ≡ BadMap) × (is_map None asked.port ≡ false)
 EndsCheck asked (Refused OutOfMemory) = ⊤
-EndsCheck asked (Refused Read) = HasMap asked
+EndsCheck asked (Refused (Read why)) = HasMap asked
 EndsCheck asked (Refused refusal) = ⊥
 
 -- What is asked for is refused before a source is checked.

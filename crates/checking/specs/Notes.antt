@@ -9,9 +9,9 @@ use Rattle.model.specs.Token.{is_blank, is_word_byte, tokens_of}
 use Rattle.source_notes.specs.Lines.{without_blanks}
 use Rattle.source_notes.specs.Operands.{operand_of, operand_place}
 use Rattle.source_notes.specs.declared.note.Note.{Note}
-use Rattle.checking.specs.declared.wording.TheConstants.{ANOTHER_NAME, DIFFERS_IN_CASE, HAS_NO_BYTES, IS_AN_ADDRESS, IS_NEVER_USED, IS_NOT_READ, ON_LINE, TAKES_TWO_BYTES}
+use Rattle.checking.specs.declared.wording.TheConstants.{ANOTHER_NAME, DIFFERS_IN_CASE, HAS_NO_BYTES, HAS_NO_VECTOR, IS_AN_ADDRESS, IS_A_REGISTER, IS_NEVER_USED, IS_NOT_READ, ON_LINE, RUNS_ON, TAKES_THE_PAGE, TAKES_TWO_BYTES}
 use Rattle.warnings.specs.declared.kinds.WarningKind.{WarningKind}
-use Rattle.warnings.specs.declared.kinds.WarningKind.TheVariants.{PlainNumber, UnusedName, LongForm, LetterCase, NoBytes, AfterEnd}
+use Rattle.warnings.specs.declared.kinds.WarningKind.TheVariants.{PlainNumber, UnusedName, LongForm, LetterCase, NoBytes, AfterEnd, NoVector, FallsOff, PointerWrap, RegisterName}
 
 -- How many letters, digits and `_` stand after the blanks with which a line begins.
 abbrev pub word_length : List ℕ → ℕ
@@ -79,3 +79,9 @@ IsNote names LetterCase number line note
     = Says (word_place line) (case_words names number (first_word line)) note
 IsNote names NoBytes number line note = Says (word_place line) HAS_NO_BYTES.now note
 IsNote names AfterEnd number line note = Says (word_place line) IS_NOT_READ.now note
+IsNote names NoVector number line note = Says (word_place line) HAS_NO_VECTOR.now note
+IsNote names FallsOff number line note = Says (word_place line) RUNS_ON.now note
+IsNote names PointerWrap number line note = (tokens : List Token) × AreTokens line tokens
+    × Says (operand_place line tokens) TAKES_THE_PAGE.now note
+IsNote names RegisterName number line note
+    = Says (word_place line) (first_word line ++ IS_A_REGISTER.now) note

@@ -8,8 +8,8 @@ ghost use Rattle.source_notes.specs.Lines.{name_view, names_of, texts_of};
 
 use crate::note::note_of;
 use crate::wording::{
-    AFTER_END, LETTER_CASE, LONG_FORM, NO_BYTES, ONE_WARNING, PLAIN_NUMBER, UNUSED_NAME, WARNING,
-    WARNINGS,
+    AFTER_END, FALLS_OFF, LETTER_CASE, LONG_FORM, NO_BYTES, NO_VECTOR, ONE_WARNING, PLAIN_NUMBER,
+    POINTER_WRAP, REGISTER_NAME, UNUSED_NAME, WARNING, WARNINGS,
 };
 use formatting::push_text;
 use source_notes::{
@@ -30,6 +30,10 @@ fn kind_name(kind: WarningKind) -> &'static str
         WarningKind::LetterCase => LETTER_CASE,
         WarningKind::NoBytes => NO_BYTES,
         WarningKind::AfterEnd => AFTER_END,
+        WarningKind::NoVector => NO_VECTOR,
+        WarningKind::FallsOff => FALLS_OFF,
+        WarningKind::PointerWrap => POINTER_WRAP,
+        WarningKind::RegisterName => REGISTER_NAME,
     }
 }
 

@@ -9,8 +9,8 @@ ghost use Rattle.checking.specs.Notes.{AreTokens, IsNote, case_words, first_word
 ghost use Rattle.checking.specs.Notes.{last_text, like_words, plain_words, word_place};
 
 use crate::wording::{
-    ANOTHER_NAME, DIFFERS_IN_CASE, HAS_NO_BYTES, IS_AN_ADDRESS, IS_NEVER_USED, IS_NOT_READ,
-    ON_LINE, TAKES_TWO_BYTES,
+    ANOTHER_NAME, DIFFERS_IN_CASE, HAS_NO_BYTES, HAS_NO_VECTOR, IS_A_REGISTER, IS_AN_ADDRESS,
+    IS_NEVER_USED, IS_NOT_READ, ON_LINE, RUNS_ON, TAKES_THE_PAGE, TAKES_TWO_BYTES,
 };
 use formatting::{push_count, push_text};
 use lexer::tokens;
@@ -100,6 +100,21 @@ fn long_note(
     Ok(about_operand(line, &found, words))
 }
 
+/// Returns a note about a pointer at the end of a page.
+fn wrap_note(
+    alloc: Global,
+    names: &[Name<'_>],
+    number: u32,
+    line: &[u8],
+) -> Result<Note, AllocError>
+    ensures { IfOk result
+        (IsNote (map name_view names.now) WarningKind.PointerWrap number line.now) }
+{
+    let found = tokens_or_none(alloc, line)?;
+    let words = phrase(alloc, TAKES_THE_PAGE)?;
+    Ok(about_operand(line, &found, words))
+}
+
 /// Returns whether two words are the same but for capitals.
 fn is_same_word(one: &[u8], other: &[u8]) -> bool
     ensures { result ≡ str_eq_ignore_ascii_case one.now other.now }
@@ -178,6 +193,19 @@ pub fn note_of(
         }
         WarningKind::AfterEnd => {
             let words = phrase(alloc, IS_NOT_READ)?;
+            Ok(about_word(line, words))
+        }
+        WarningKind::NoVector => {
+            let words = phrase(alloc, HAS_NO_VECTOR)?;
+            Ok(about_word(line, words))
+        }
+        WarningKind::FallsOff => {
+            let words = phrase(alloc, RUNS_ON)?;
+            Ok(about_word(line, words))
+        }
+        WarningKind::PointerWrap => wrap_note(alloc, names, number, line),
+        WarningKind::RegisterName => {
+            let words = describe(alloc, first_word(line), IS_A_REGISTER)?;
             Ok(about_word(line, words))
         }
     }

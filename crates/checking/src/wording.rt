@@ -21,6 +21,18 @@ pub const NO_BYTES: &str = "NoBytes";
 /// The name of the kind `AfterEnd`.
 pub const AFTER_END: &str = "AfterEnd";
 
+/// The name of the kind `NoVector`.
+pub const NO_VECTOR: &str = "NoVector";
+
+/// The name of the kind `FallsOff`.
+pub const FALLS_OFF: &str = "FallsOff";
+
+/// The name of the kind `PointerWrap`.
+pub const POINTER_WRAP: &str = "PointerWrap";
+
+/// The name of the kind `RegisterName`.
+pub const REGISTER_NAME: &str = "RegisterName";
+
 /// Stands between a number that is an address and the same number.
 pub const IS_AN_ADDRESS: &str = " is an address, and nothing writes there; the number is #";
 
@@ -44,6 +56,19 @@ pub const HAS_NO_BYTES: &str = "the source has names, but neither an instruction
 
 /// What is said of a line after `.END`.
 pub const IS_NOT_READ: &str = "this line is not read: .END stands before it";
+
+/// What is said of a source without a byte of the reset vector.
+pub const HAS_NO_VECTOR: &str = "there is no reset vector: write *=$FFFC and .WORD start";
+
+/// What is said of an instruction after which none is in memory.
+pub const RUNS_ON: &str = "no instruction follows it in memory: JMP, RTS or BRK may be missing";
+
+/// What is said of a pointer at the end of a page.
+pub const TAKES_THE_PAGE: &str =
+    "profile N takes the high byte from the start of the same page: move the pointer";
+
+/// Follows a name that is a register's.
+pub const IS_A_REGISTER: &str = " is a register in mon: give the name one letter more";
 
 /// What follows the count of one warning.
 pub const ONE_WARNING: &str = " warning\n";

@@ -8,7 +8,7 @@ ghost use Rattle.clap.specs.declared.builder.command.Command.TheViews.{out-Comma
 
 use arguments::{
     WordsFault, begin, file, flag, is_given, matched, port, port_asked, profile, profile_asked,
-    wrong_value,
+    value_fault,
 };
 use clap::error::ErrorKind;
 use clap::{ArgMatches, Command, Error};
@@ -76,6 +76,6 @@ pub fn read_words<'a>(alloc: Global, words: &'a [&'a str]) -> Result<CheckWords<
     let matches = matched(check_command(alloc)?, words)?;
     match asked(&matches) {
         Some(words) => Ok(words),
-        None => Err(WordsFault::Wrong(wrong_value(&matches, "a value is wrong"))),
+        None => Err(value_fault(&matches)),
     }
 }

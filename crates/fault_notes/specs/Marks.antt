@@ -136,6 +136,12 @@ form_place profile (first ∷ second ∷ rest) = if is_symbol second 61 && may_b
     then expression_place (end_of second) rest
     else operation_place profile first.kind first (second ∷ rest)
 
+-- A line: what stands before a `:` and is no name; otherwise what is behind the label.
+abbrev pub line_place : Profile → List Token → Place
+line_place profile (label ∷ colon ∷ rest) = if is_symbol colon 58 && not (is_word label.kind)
+    then token_place label else form_place profile (after_label (label ∷ colon ∷ rest))
+line_place profile tokens = form_place profile (after_label tokens)
+
 -- ---- names
 
 abbrev pub is_register : List ℕ → Bool
@@ -200,7 +206,7 @@ unknown_place known at_once number line tokens = token_or (operand_place line to
 
 -- A fault of this kind in a line of this number and of these tokens.
 abbrev pub tokens_place : Known → AsmFaultKind → ℕ → List ℕ → List Token → Place
-tokens_place known Syntax number line tokens = form_place known.profile (after_label tokens)
+tokens_place known Syntax number line tokens = line_place known.profile tokens
 tokens_place known ReservedName number line tokens = token_or (operand_place line tokens)
     (find (is_reserved known.profile) (places_of_names tokens))
 tokens_place known DuplicateName number line tokens = token_or (0, 1) (slice_get tokens 0)

@@ -6,6 +6,7 @@ ghost use Rattle.std.specs.Option.{option_map};
 ghost use Rattle.fault_notes.specs.Blocks.{IsToldText, fault_blocks, known_in, means_first, means_in};
 ghost use Rattle.fault_notes.specs.Blocks.{shown_lines, title_of};
 ghost use Rattle.fault_notes.specs.Marks.{IsMeant, known_of};
+ghost use Rattle.model.specs.AllFaults.{faults_of};
 ghost use Rattle.model.specs.TextLines.{lines_of};
 ghost use Rattle.source_notes.specs.Blocks.{AreBlocks, block_of};
 ghost use Rattle.source_notes.specs.Lines.{name_view, names_of, texts_of};
@@ -15,7 +16,7 @@ use crate::wording::{FAULTS, ONE_FAULT};
 use bus::MapSpec;
 use formatting::{push_count, push_text};
 use model::{AsmFault, AsmFaultKind};
-use source_faults::{Mending, lay_out};
+use source_faults::{Mending, lay_out, source_faults};
 use source_notes::{
     Name, Note, every_line, first_told, line_of, line_or_none, names_of, phrase, push_block,
     push_total,
@@ -184,4 +185,22 @@ pub fn faults_text(
     let mut text = blocks_of(alloc, file, source, map, &first)?;
     push_total(&mut text, faults.len(), ONE_FAULT, FAULTS)?;
     Ok(text)
+}
+
+/// Returns the text of all faults of a source on a map, as `faults_text` writes it under the name
+/// of the source's file. It is empty if the source has no fault.
+///
+/// Errors: `AllocError` if an allocation fails. Source: mos65.
+pub fn all_faults_text(
+    alloc: Global,
+    file: &[u8],
+    source: &[u8],
+    map: &MapSpec,
+) -> Result<Vec<u8>, AllocError>
+    // Blocks of all faults that the source has on the map.
+    ensures told { IfOk result (λ text. IsToldText file.now source.now map.now.profile
+        (faults_of map.now source.now) text.items) }
+{
+    let faults = source_faults(alloc, source, map)?;
+    faults_text(alloc, file, source, map, &faults)
 }

@@ -2,10 +2,11 @@
 //! name, by how much a value misses.
 //!
 //! `faults_text` writes a block for each fault: the fault's line, name and number, words, and the
-//! source's own line with a mark under the bytes that are meant. Which bytes these are is proved
-//! (`Marks.antt`); what the words say is tested and not proved. `note` finds both for each kind of
-//! fault, with `scan` for bytes that begin no token, `form` for tokens that are none of the
-//! grammar, `values` for values and `near` for names that are nearly the same.
+//! source's own line with a mark under the bytes that are meant. `all_faults_text` finds the faults
+//! itself. Which bytes are meant is proved (`Marks.antt`); what the words say is tested and not
+//! proved. `note` finds both for each kind of fault, with `scan` for bytes that begin no token,
+//! `form` for tokens that are none of the grammar, `values` for values, and `near` for names that
+//! are nearly the same.
 #![tactic(auto)]
 
 mod block;
@@ -16,4 +17,4 @@ mod scan;
 mod values;
 mod wording;
 
-pub use block::faults_text;
+pub use block::{all_faults_text, faults_text};

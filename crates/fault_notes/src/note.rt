@@ -11,19 +11,19 @@ ghost use Rattle.fault_notes.specs.Marks.{token_or, tokens_place, unknown_place}
 ghost use Rattle.source_notes.specs.Lines.{name_view};
 ghost use Rattle.source_notes.specs.Operands.{operand_place, operand_of};
 
-use crate::form::{about, form_note, is_word};
+use crate::form::{about, is_word, line_note};
 use crate::near::is_near;
 use crate::scan::text_note;
 use crate::values::{Outside, branch_miss, first_outside};
 use formatting::push_count;
 use lexer::tokens;
 use line_parts::{KeptLine, Token};
-use model::{AsmFault, AsmFaultKind, LineFault, Mode, Profile};
+use model::{AsmFault, AsmFaultKind, LineFault, Mnemonic, Mode, Profile};
 use optable::{encode_in, mnemonic_in};
 use source_faults::Found;
 use source_notes::{
-    Class, Name, Note, about_operand, after_label, describe, is_symbol, operand_of, phrase,
-    push_dollar_address, push_signed, run_of,
+    Class, Name, Note, about_operand, after, after_label, concat, describe, further, is_symbol,
+    operand_of, phrase, push_dollar_address, push_signed, run_of,
 };
 use std::alloc::{AllocError, Global};
 use symbols::Symbols;
@@ -306,45 +306,95 @@ fn reserved_note(
     Ok(about_or_operand(line, tokens, token, words))
 }
 
-/// Returns the operands that an instruction takes, each as it is written.
+/// Each mode with its operand as it is written.
+const MODES: [(Mode, &[u8]); 14] = [
+    (Mode::Imp, b"no operand"),
+    (Mode::Acc, b"A"),
+    (Mode::Imm, b"#n"),
+    (Mode::Zp, b"zp"),
+    (Mode::ZpX, b"zp,X"),
+    (Mode::ZpY, b"zp,Y"),
+    (Mode::Abs, b"abs"),
+    (Mode::AbsX, b"abs,X"),
+    (Mode::AbsY, b"abs,Y"),
+    (Mode::IndX, b"(zp,X)"),
+    (Mode::IndY, b"(zp),Y"),
+    (Mode::Ind, b"(abs)"),
+    (Mode::IndZ, b"(zp)"),
+    (Mode::Rel, b"target"),
+];
+
+/// Appends the operands that a mnemonic takes, each as it is written.
+fn push_modes(words: &mut Vec<u8>, profile: Profile, mnemonic: Mnemonic) -> Result<(), AllocError> {
+    let mut is_first = true;
+    for (mode, text) in &MODES {
+        if encode_in(profile, mnemonic, *mode).is_some() {
+            if !is_first {
+                words.extend_from_slice(b"  ")?;
+            }
+            words.extend_from_slice(text)?;
+            is_first = false;
+        }
+    }
+    Ok(())
+}
+
+/// Returns words about a mnemonic without an operand, before the operands that it takes.
+fn alone_words(
+    alloc: Global,
+    profile: Profile,
+    name: &[u8],
+    mnemonic: Mnemonic,
+) -> Result<Vec<u8>, AllocError> {
+    if encode_in(profile, mnemonic, Mode::Acc).is_some() {
+        let pieces: [&[u8]; 3] = [b"write ", name, b" A; it takes "];
+        return concat(alloc, &pieces);
+    }
+    describe(alloc, name, " needs an operand; it takes ")
+}
+
+/// Returns words about an operand that an instruction has not, with those that it takes.
 fn modes_words(
     alloc: Global,
     profile: Profile,
     tokens: &[Token<'_>],
 ) -> Result<Vec<u8>, AllocError> {
-    const MODES: [(Mode, &[u8]); 14] = [
-        (Mode::Imp, b"no operand"),
-        (Mode::Acc, b"A"),
-        (Mode::Imm, b"#n"),
-        (Mode::Zp, b"zp"),
-        (Mode::ZpX, b"zp,X"),
-        (Mode::ZpY, b"zp,Y"),
-        (Mode::Abs, b"abs"),
-        (Mode::AbsX, b"abs,X"),
-        (Mode::AbsY, b"abs,Y"),
-        (Mode::IndX, b"(zp,X)"),
-        (Mode::IndY, b"(zp),Y"),
-        (Mode::Ind, b"(abs)"),
-        (Mode::IndZ, b"(zp)"),
-        (Mode::Rel, b"target"),
-    ];
-    let Some(token) = after_label(tokens).first() else {
+    let [name, operand @ ..] = after_label(tokens) else {
         return phrase(alloc, "the instruction has no such form");
     };
-    let mut words = describe(alloc, token.text, " has no such operand; it takes ")?;
-    if let Some(mnemonic) = mnemonic_in(profile, token.text) {
-        let mut is_first = true;
-        for (mode, text) in &MODES {
-            if encode_in(profile, mnemonic, *mode).is_some() {
-                if !is_first {
-                    words.extend_from_slice(b"  ")?;
-                }
-                words.extend_from_slice(text)?;
-                is_first = false;
-            }
-        }
-    }
+    let Some(mnemonic) = mnemonic_in(profile, name.text) else {
+        return phrase(alloc, "the instruction has no such form");
+    };
+    let mut words = if operand.is_empty() {
+        alone_words(alloc, profile, name.text, mnemonic)?
+    } else {
+        describe(alloc, name.text, " has no such operand; it takes ")?
+    };
+    push_modes(&mut words, profile, mnemonic)?;
     Ok(words)
+}
+
+/// Appends which operand in the zero page an instruction takes, if it takes one there alone.
+fn push_zero_page(
+    words: &mut Vec<u8>,
+    line: &KeptLine<'_>,
+    tokens: &[Token<'_>],
+) -> Result<(), AllocError> {
+    let (Some(code), Some(name)) = (line.code, after_label(tokens).first()) else {
+        return Ok(());
+    };
+    let text: &[u8] = match code.mode {
+        Mode::ZpX => b"zp,X",
+        Mode::ZpY => b"zp,Y",
+        Mode::IndX => b"(zp,X)",
+        Mode::IndY => b"(zp),Y",
+        Mode::IndZ => b"(zp)",
+        _ => return Ok(()),
+    };
+    words.extend_from_slice(b"; ")?;
+    words.extend_from_slice(name.text)?;
+    words.extend_from_slice(b" takes ")?;
+    words.extend_from_slice(text)
 }
 
 /// Returns words about a value outside its range.
@@ -411,10 +461,13 @@ fn placed_words(
     context: &Context<'_, '_>,
     kind: AsmFaultKind,
     line: &KeptLine<'_>,
+    tokens: &[Token<'_>],
 ) -> Result<Vec<u8>, AllocError> {
     match kind {
         AsmFaultKind::ByteRange | AsmFaultKind::WordRange => {
-            outside_words(alloc, first_outside(line, context.symbols))
+            let mut words = outside_words(alloc, first_outside(line, context.symbols))?;
+            push_zero_page(&mut words, line, tokens)?;
+            Ok(words)
         }
         AsmFaultKind::BranchRange => branch_words(alloc, branch_miss(line, context.symbols)),
         AsmFaultKind::Overlap => overlap_words(alloc, context, line),
@@ -463,7 +516,7 @@ fn other_words(
         (AsmFaultKind::ValueExprRange | AsmFaultKind::ValueDivideByZero, _) => {
             phrase(alloc, plain_words(kind))
         }
-        (_, Some(Found::Bytes(kept))) => placed_words(alloc, context, kind, kept),
+        (_, Some(Found::Bytes(kept))) => placed_words(alloc, context, kind, kept, tokens),
         _ => phrase(alloc, plain_words(kind)),
     }
 }
@@ -481,7 +534,7 @@ fn tokens_note(
         ≡ tokens_place (known_of context.now) kind number line.now tokens.now) }
 {
     match kind {
-        AsmFaultKind::Syntax => form_note(alloc, context.profile, after_label(tokens)),
+        AsmFaultKind::Syntax => line_note(alloc, context.profile, tokens),
         AsmFaultKind::ReservedName => reserved_note(alloc, context.profile, line, tokens),
         AsmFaultKind::DuplicateName => duplicate_note(alloc, context, tokens),
         AsmFaultKind::UnknownHere => unknown_note(alloc, context, true, number, line, tokens),
@@ -511,6 +564,16 @@ fn read_note(
     }
 }
 
+/// Returns words about the first of some bytes, which stands in no line.
+fn ascii_words(alloc: Global, bytes: &[u8]) -> Result<Vec<u8>, AllocError> {
+    let more = further(bytes);
+    if more > 0 && more < bytes.len() {
+        let reason = " is not ASCII: a source, its comments too, has printable ASCII and tabs";
+        return describe(alloc, &bytes[..more + 1], reason);
+    }
+    phrase(alloc, "a byte is neither printable ASCII nor a tab")
+}
+
 /// Returns what is said of a fault of a line, by its number.
 pub fn note_of(
     alloc: Global,
@@ -526,8 +589,8 @@ pub fn note_of(
             Ok(Note::new(255, 1, phrase(alloc, "a line has at most 255 bytes")?))
         }
         AsmFaultKind::NotAscii => {
-            let words = phrase(alloc, "a byte is neither printable ASCII nor a tab")?;
-            Ok(Note::new(run_of(Class::Line, line), 1, words))
+            let start = run_of(Class::Line, line);
+            Ok(Note::new(start, 1, ascii_words(alloc, after(line, start))?))
         }
         kind => read_note(alloc, context, kind, fault.line, line),
     }

@@ -10,18 +10,37 @@ use lexer::first_stray;
 use source_notes::{Class, Note, after, blank_run, phrase, run_of, word_run};
 use std::alloc::{AllocError, Global};
 
-/// Returns why a number after its mark is none, where so many of its bytes are digits.
-fn number_reason(bytes: &[u8], count: usize) -> &'static str {
+/// Returns whether some bytes are hex digits and an `H`, as other assemblers write a hex number.
+fn ends_in_h(bytes: &[u8]) -> bool {
+    match after(bytes, run_of(Class::Hex, bytes)) {
+        [b'H' | b'h', rest @ ..] => word_run(rest) == 0,
+        _ => false,
+    }
+}
+
+/// Returns why a decimal number is none.
+fn decimal_reason(bytes: &[u8]) -> &'static str {
     match bytes {
-        [b'0', b'x', ..] | [b'0', b'X', ..] => "a hex number is written $FF, not 0xFF",
+        [b'0', b'x' | b'X', ..] => "a hex number is written $FF, not 0xFF",
         _ => {
-            if count == 0 {
-                "digits are missing after the mark of a number"
+            if ends_in_h(bytes) {
+                "a hex number is written $FF, not 0FFH"
             } else {
                 "a number ends in a byte that is none of its digits"
             }
         }
     }
+}
+
+/// Returns why a hex number after its mark is none.
+fn hex_reason(bytes: &[u8]) -> &'static str {
+    if run_of(Class::Hex, bytes) > 0 {
+        return "a number ends in a byte that is none of its digits";
+    }
+    if word_run(bytes) > 0 {
+        return "digits are missing after the mark of a number";
+    }
+    "digits are missing after $; the address of this line is *"
 }
 
 /// Returns why a binary number after its mark is none.
@@ -33,11 +52,30 @@ fn binary_reason(bytes: &[u8]) -> &'static str {
     }
 }
 
+/// Returns whether a text of several bytes ends at a `'`, before a comment.
+fn is_quoted_text(bytes: &[u8]) -> bool {
+    let mut count = 0usize;
+    for byte in bytes {
+        match *byte {
+            b'\'' => return count > 1,
+            b';' => return false,
+            _ => count = count.saturating_add(1),
+        }
+    }
+    false
+}
+
 /// Returns why the bytes after a `'` are no character.
 fn character_reason(bytes: &[u8]) -> &'static str {
     match bytes {
         [b'\t', b'\'', ..] => "a tab is no character here: write $09",
-        _ => "a character stands between two quotes, as 'A'; here one is missing",
+        _ => {
+            if is_quoted_text(bytes) {
+                "a text of several characters is written \"..\", in .BYTE"
+            } else {
+                "a character stands between two quotes, as 'A'; here one is missing"
+            }
+        }
     }
 }
 
@@ -47,7 +85,7 @@ fn string_reason(bytes: &[u8]) -> &'static str {
     if after(bytes, inside).is_empty() {
         "the string has no quote at its end"
     } else if inside == 0 {
-        "a string has at least one byte"
+        "a string has at least one byte; a quote inside one is the number 34: .., 34, .."
     } else {
         "a string has no tab: end it before, and write $09"
     }
@@ -61,12 +99,13 @@ fn reason_of(bytes: &[u8]) -> &'static str {
     let rest = after(bytes, 1);
     match *first {
         b'A'..=b'Z' | b'a'..=b'z' => "a name has at most 31 bytes",
-        b'0'..=b'9' => number_reason(bytes, run_of(Class::Decimal, bytes)),
-        b'$' => number_reason(rest, run_of(Class::Hex, rest)),
+        b'0'..=b'9' => decimal_reason(bytes),
+        b'$' => hex_reason(rest),
         b'%' => binary_reason(rest),
         b'\'' => character_reason(rest),
         b'"' => string_reason(rest),
         b'.' => "a directive's letters are missing after the point",
+        b'@' => "there are no local labels: each label is a name of its own",
         _ => "this byte has no meaning here",
     }
 }

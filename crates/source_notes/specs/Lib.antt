@@ -1,3 +1,4 @@
+pub mod Characters
 pub mod Blocks
 pub mod Classes
 pub mod Lines

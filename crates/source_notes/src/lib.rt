@@ -5,10 +5,13 @@
 //! is `FILE:LINE:COLUMN: `, a title, the note's words and the marked line; `Blocks.antt` defines
 //! blocks for faults and warnings alike. `lines` finds the lines of a source and the names that
 //! they begin with, `operands` the tokens of an operand, `runs` how many bytes of a class stand in
-//! front. `words` puts words together.
+//! front, `characters` how many bytes a character has. `words` puts words together, and `dialects`
+//! knows words of other assemblers and processors.
 #![tactic(auto)]
 
 mod block;
+mod characters;
+mod dialects;
 mod lines;
 mod note;
 mod operands;
@@ -18,6 +21,8 @@ mod wording;
 mod words;
 
 pub use block::{first_told, push_block, push_total};
+pub use characters::further;
+pub use dialects::{defines_next, directive_hint, gives_value, operation_hint};
 pub use lines::{Name, every_line, line_of, line_or_none, names_of};
 pub use note::Note;
 pub use operands::{about_operand, after_label, is_symbol, operand_of};

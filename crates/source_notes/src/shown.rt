@@ -1,13 +1,15 @@
 //! Where something stands, and the line with a mark.
 
-ghost use Rattle.std.specs.Prelude.{◌≡◌, ◌++◌, IfOk, OnOk, map, replicate, slice_get};
+ghost use Rattle.std.specs.Prelude.{◌≡◌, ◌++◌, ◌<◌, IfOk, OnOk, drop, get_or, length, replicate};
 ghost use Rattle.std.specs.Option.{option_map};
 ghost use Rattle.source_notes.specs.Places.{place_of};
-ghost use Rattle.source_notes.specs.Shown.{after_head, blank_below, blanks_under, mark, marked_line};
-ghost use Rattle.source_notes.specs.Shown.{shown};
+ghost use Rattle.source_notes.specs.Shown.{after_head, blank_below, blank_under, blanks_under};
+ghost use Rattle.source_notes.specs.Shown.{left_after, mark, marked_line, shown_byte, shown_first};
+ghost use Rattle.source_notes.specs.Shown.{shown_from};
 
+use crate::characters::further;
 use crate::note::Note;
-use crate::runs::Class;
+use crate::runs::{Class, after};
 use formatting::push_count;
 use std::alloc::{AllocError, Global};
 
@@ -24,39 +26,81 @@ pub fn push_place(text: &mut Vec<u8>, file: &[u8], line: u32, column: u32) -> Re
     Ok(())
 }
 
-/// Returns how a byte of a line is shown.
-fn shown(byte: u8) -> u8
-    ensures { result ≡ shown byte }
+/// Returns how many bytes after the first of some belong to its character, where so many of them
+/// belong to one that began before.
+fn left_after(left: usize, bytes: &[u8]) -> usize
+    ensures { result ≡ left_after left bytes.now }
 {
-    if Class::Line.has(byte) { byte } else { b'?' }
+    match left {
+        0 => further(bytes),
+        _ => left - 1,
+    }
 }
 
-/// Returns the blank under a place of a line.
-fn blank_under(line: &[u8], at: usize) -> u8
-    ensures { result ≡ blank_below (slice_get line.now at) }
+/// Returns how the first byte of a character is shown, which has so many more.
+fn shown_first(more: usize, byte: u8) -> u8
+    ensures { result ≡ shown_first more byte }
 {
-    match line.get(at).copied() {
-        Some(b'\t') => b'\t',
-        _ => b' ',
+    if more > 0 || Class::Line.has(byte) {
+        byte
+    } else {
+        b'?'
+    }
+}
+
+/// Returns how the first of some bytes is shown.
+fn shown_byte(left: usize, bytes: &[u8]) -> u8
+    requires { 0 < length bytes.now }
+    ensures { result ≡ shown_byte left (get_or bytes.now 0 0) (drop 1 bytes.now) }
+{
+    match left {
+        0 => shown_first(further(bytes), bytes[0]),
+        _ => bytes[0],
     }
 }
 
 /// Appends a line as it is shown.
 fn push_shown(text: &mut Vec<u8>, line: &[u8]) -> Result<(), AllocError>
-    ensures { OnOk result (text.new.items ≡ text.old.items ++ map shown line.now) }
+    ensures { OnOk result (text.new.items ≡ text.old.items ++ shown_from 0 line.now) }
 {
-    for byte in line {
-        text.push(shown(*byte))?;
+    let mut left = 0usize;
+    for at in 0..line.len() {
+        let bytes = &line[at..];
+        text.push(shown_byte(left, bytes))?;
+        left = left_after(left, bytes);
+    }
+    Ok(())
+}
+
+/// Returns the blank under the first of some bytes.
+fn blank_below(bytes: &[u8]) -> u8
+    ensures { result ≡ blank_below bytes.now }
+{
+    match bytes {
+        [b'\t', ..] => b'\t',
+        _ => b' ',
+    }
+}
+
+/// Appends the blank under the first of some bytes, if it begins a character.
+fn push_blank(text: &mut Vec<u8>, left: usize, bytes: &[u8]) -> Result<(), AllocError>
+    ensures { OnOk result (text.new.items ≡ text.old.items ++ blank_under left bytes.now) }
+{
+    if left == 0 {
+        text.push(blank_below(bytes))?;
     }
     Ok(())
 }
 
 /// Appends the blanks under so many bytes of a line.
 fn push_blanks_under(text: &mut Vec<u8>, line: &[u8], count: usize) -> Result<(), AllocError>
-    ensures { OnOk result (text.new.items ≡ text.old.items ++ blanks_under count line.now) }
+    ensures { OnOk result (text.new.items ≡ text.old.items ++ blanks_under 0 count line.now) }
 {
+    let mut left = 0usize;
     for at in 0..count {
-        text.push(blank_under(line, at))?;
+        let bytes = after(line, at);
+        push_blank(text, left, bytes)?;
+        left = left_after(left, bytes);
     }
     Ok(())
 }

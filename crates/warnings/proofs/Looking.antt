@@ -1,8 +1,8 @@
 -- Warnings, one line after another.
-use Rattle.std.proofs.Common.{◌≡◌, ℕ, ◌+◌, ◌<◌, ◌≤◌, nat_lt, Bool, true, false, not, ◌||◌, List, [], ◌∷◌, ◌++◌, length, drop, take, get_or, refl, sym, ap, ◌∙◌, append_assoc, append-nil, Result, Ok, Err}
+use Rattle.std.proofs.Common.{◌≡◌, arith, ℕ, zero, suc, ◌+◌, ◌-◌, ◌<◌, ◌≤◌, nat_lt, Bool, true, false, not, ◌||◌, ◌==◌, List, [], ◌∷◌, ◌++◌, length, drop, take, get_or, refl, sym, ap, ◌∙◌, append_assoc, append-nil, Result, Ok, Err}
 use Rattle.std.specs.Prelude.{OnOk}
 use Rattle.std.proofs.lemmas.List.{drop_more, drop_all, length-map, nil_from_length, take_all}
-use Rattle.std.proofs.lemmas.Bool.{lt-ltb}
+use Rattle.std.proofs.lemmas.Bool.{lt-ltb, ne_eqb}
 use Rattle.std.proofs.lemmas.List.Folds.{list_any_at}
 use Rattle.std.specs.List.{list_any}
 use Rattle.model.specs.Names.{Definitions}
@@ -11,6 +11,7 @@ use Rattle.model.specs.declared.instruction.Profile.{Profile}
 use Rattle.model.specs.AllFaults as all
 use Rattle.source_faults.specs.Views.{found_all, found_view}
 use Rattle.source_faults.specs.declared.found.Found.{Found}
+use Rattle.warnings.specs.Flow.{meets, meets_line}
 use Rattle.warnings.specs.Placed.{Placed, meaning_of, placed_lines}
 use Rattle.warnings.specs.Views.{placed_view, placed_views}
 use Rattle.warnings.specs.declared.placed_line.PlacedLine.{PlacedLine}
@@ -25,13 +26,22 @@ first_left xs i x within is = drop_more xs i x within ∙ ap (λ (y : PlacedLine
 abbrev pub so_on : Known → List Warning → ℕ → Definitions → List PlacedLine → List Warning
 so_on k ws i capitals ps = ws ++ lines_warnings k (i + 1) capitals (placed_views (drop i ps))
 
+rest_length : (n : ℕ) (ps : List PlacedLine) → length (drop n ps) ≤ length ps - n
+rest_length zero ps = omega arith
+rest_length (suc n) [] = omega arith
+rest_length (suc n) (p ∷ ps) = let shorter : length (drop n ps) ≤ length ps - n = rest_length n ps in omega (arith, shorter)
+
+-- a slice up to the end
+pub rest_is : (n : ℕ) (ps : List PlacedLine) → take (length ps - n) (drop n ps) ≡ drop n ps
+rest_is n ps = take_all (length ps - n) (drop n ps) (rest_length n ps)
+
 -- a line more
 pub goes_on : (k : Known) (ws new : List Warning) (i n : ℕ) (capitals now : Definitions) (ps : List PlacedLine) (p : PlacedLine) (alike : Bool) (total : List Warning) → i < length ps → p ≡ get_or ps i p
     → n ≡ i + 1 → alike ≡ is_alike capitals (name_in (placed_view p).line) → now ≡ with_capitals (name_in (placed_view p).line) capitals
-    → new ≡ ws ++ warnings_with k n alike (placed_view p) → so_on k ws i capitals ps ≡ total → so_on k new (i + 1) now ps ≡ total
+    → new ≡ ws ++ warnings_with k n alike (placed_view p) (placed_views (drop n ps)) → so_on k ws i capitals ps ≡ total → so_on k new (i + 1) now ps ≡ total
 goes_on k ws new i n capitals now ps p alike total within is count same noted told so_far =
     let left : Definitions → List Warning = λ (c : Definitions). lines_warnings k (i + 1 + 1) c (placed_views (drop (i + 1) ps)) in
-    let here : ℕ → Bool → List Warning = λ (m : ℕ) (b : Bool). warnings_with k m b (placed_view p) in
+    let here : ℕ → Bool → List Warning = λ (m : ℕ) (b : Bool). warnings_with k m b (placed_view p) (placed_views (drop m ps)) in
     let opened : so_on k ws i capitals ps ≡ ws ++ (here (i + 1) (is_alike capitals (name_in (placed_view p).line)) ++ left (with_capitals (name_in (placed_view p).line) capitals)) = rw (first_left ps i p within is) refl in
     ap (λ (x : List Warning). x ++ left now) told
     ∙ append_assoc ws (here n alike) (left now)
@@ -75,17 +85,51 @@ none_found profile n rest first ws total same empty so_far =
 
 -- ---- bytes
 
-any_map : (ps : List PlacedLine) → has_bytes (placed_views ps) ≡ list_any (λ p. nat_lt 0 p.count) ps
-any_map [] = refl
-any_map (p ∷ ps) = ap (λ (b : Bool). nat_lt 0 p.count || b) (any_map ps)
+any_map : (f : Placed → Bool) (ps : List PlacedLine) → list_any f (placed_views ps) ≡ list_any (λ p. f (placed_view p)) ps
+any_map f [] = refl
+any_map f (p ∷ ps) = ap (λ (b : Bool). f (placed_view p) || b) (any_map f ps)
+
+-- one line is such
+pub one_such : (f : Placed → Bool) (ps : List PlacedLine) (i : ℕ) (p : PlacedLine) → i < length ps → p ≡ get_or ps i p → f (placed_view p) ≡ true → true ≡ list_any f (placed_views ps)
+one_such f ps i p within is such = sym (any_map f ps ∙ list_any_at (λ q. f (placed_view q)) ps i p within (ap (λ (q : PlacedLine). f (placed_view q)) (sym is) ∙ such))
+
+-- no line is left
+pub none_such : (f : Placed → Bool) (ps : List PlacedLine) (i : ℕ) → length ps ≤ i → list_any (λ p. f (placed_view p)) (take i ps) ≡ false → false ≡ list_any f (placed_views ps)
+none_such f ps i past none = sym (any_map f ps ∙ ap (λ (x : List PlacedLine). list_any (λ p. f (placed_view p)) x) (sym (take_all i ps past)) ∙ none)
 
 -- a line with a byte
 pub one_byte : (ps : List PlacedLine) (i : ℕ) (p : PlacedLine) → i < length ps → p ≡ get_or ps i p → 0 < p.count → true ≡ has_bytes (placed_views ps)
-one_byte ps i p within is more = sym (any_map ps ∙ list_any_at (λ q. nat_lt 0 q.count) ps i p within (ap (λ (q : PlacedLine). nat_lt 0 q.count) (sym is) ∙ lt-ltb 0 p.count more))
+one_byte ps i p within is more = one_such (λ q. nat_lt 0 q.size) ps i p within is (lt-ltb 0 p.count more)
 
--- no line is left
 pub no_byte : (ps : List PlacedLine) (i : ℕ) → length ps ≤ i → list_any (λ p. nat_lt 0 p.count) (take i ps) ≡ false → false ≡ has_bytes (placed_views ps)
-no_byte ps i past none = sym (any_map ps ∙ ap (λ (x : List PlacedLine). list_any (λ p. nat_lt 0 p.count) x) (sym (take_all i ps past)) ∙ none)
+no_byte ps i past none = none_such (λ q. nat_lt 0 q.size) ps i past none
+
+-- ---- what control comes to
+
+pub meets_nothing : (next : ℕ) (ps : List PlacedLine) (i : ℕ) (answer : Bool) → length ps ≤ i → meets next (placed_views (drop i ps)) ≡ answer → false ≡ answer
+unfolding meets
+meets_nothing next ps i answer past so_far = sym (rw (drop_all i ps past) refl) ∙ so_far
+
+-- a line without bytes is passed
+pub meets_later : (next : ℕ) (ps : List PlacedLine) (i : ℕ) (p : PlacedLine) (answer : Bool) → i < length ps → p ≡ get_or ps i p → p.count ≡ 0
+    → meets next (placed_views (drop i ps)) ≡ answer → meets next (placed_views (drop (i + 1) ps)) ≡ answer
+unfolding meets
+meets_later next ps i p answer within is none so_far =
+    let opened : meets next (placed_views (drop i ps)) ≡ meets next (placed_views (drop (i + 1) ps)) = rw (first_left ps i p within is, none) refl in
+    sym opened ∙ so_far
+
+not_none : (n : ℕ) → 0 < n → (n == 0) ≡ false
+not_none n some = ne_eqb n 0 (λ same. omega (arith, some, same))
+
+-- a line with bytes
+pub meets_here : (next : ℕ) (ps : List PlacedLine) (i : ℕ) (p : PlacedLine) (answer found : Bool) → i < length ps → p ≡ get_or ps i p → 0 < p.count
+    → found ≡ meets_line next (placed_view p)
+    → meets next (placed_views (drop i ps)) ≡ answer → found ≡ answer
+unfolding meets
+meets_here next ps i p answer found within is some same so_far =
+    let is_some : (p.count == 0) ≡ false = not_none p.count some in
+    let opened : meets next (placed_views (drop i ps)) ≡ meets_line next (placed_view p) = rw (first_left ps i p within is, is_some) refl in
+    same ∙ sym opened ∙ so_far
 
 -- ---- an operand, and all warnings
 

@@ -3,3 +3,4 @@ pub mod Placed
 pub mod Views
 pub mod Uses
 pub mod Reaches
+pub mod Flow

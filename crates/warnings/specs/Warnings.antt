@@ -1,7 +1,7 @@
 -- Warnings of a source that has no fault: what may be meant otherwise. Source: mos65.
-use Rattle.std.specs.Prelude.{ℕ, ℤ, pos, ◌+◌, ◌-◌, ◌==◌, nat_lt, Bool, true, false, not, ◌&&◌, if◌then◌else◌, List, [], ◌∷◌, ◌++◌, length, drop, codes, Option, Some, None, is_some, Result, Ok, Err}
+use Rattle.std.specs.Prelude.{ℕ, ℤ, pos, ◌+◌, ◌-◌, ◌==◌, nat_lt, Bool, true, false, not, ◌&&◌, ◌||◌, if◌then◌else◌, List, [], ◌∷◌, ◌++◌, length, drop, codes, Option, Some, None, is_some, Result, Ok, Err}
 use Rattle.std.specs.List.{list_any}
-use Rattle.std.specs.Str.{bytes_eq, str_to_ascii_uppercase}
+use Rattle.std.specs.Str.{bytes_eq, str_eq_ignore_ascii_case, str_to_ascii_uppercase}
 use Rattle.model.specs.AllFaults as all
 use Rattle.model.specs.AllFaults.{fixed_by, found_lines, smallest, with_word}
 use Rattle.model.specs.Expression.{Term}
@@ -17,13 +17,14 @@ use Rattle.model.specs.declared.expression.ExprFault.{ExprFault}
 use Rattle.model.specs.declared.instruction.Mnemonic.{Mnemonic}
 use Rattle.model.specs.declared.instruction.Profile.{Profile}
 use Rattle.model.specs.declared.line.Index.{Index}
+use Rattle.warnings.specs.Flow.{falls_off, is_vectorless, wraps}
 use Rattle.warnings.specs.Uses.{used_by}
 use Rattle.warnings.specs.Reaches.{is_plain, reaches}
 use Rattle.warnings.specs.declared.written_numbers.Reach.{Reach}
 use Rattle.warnings.specs.Placed.{Placed, meaning_of, placed_lines}
 use Rattle.warnings.specs.declared.kinds.Warning.{Warning}
 use Rattle.warnings.specs.declared.kinds.WarningKind.{WarningKind}
-use Rattle.warnings.specs.declared.kinds.WarningKind.TheVariants.{PlainNumber, UnusedName, LongForm, LetterCase, NoBytes, AfterEnd}
+use Rattle.warnings.specs.declared.kinds.WarningKind.TheVariants.{PlainNumber, UnusedName, LongForm, LetterCase, NoBytes, AfterEnd, NoVector, FallsOff, PointerWrap, RegisterName}
 
 -- ---- one line
 
@@ -48,6 +49,12 @@ is_alike capitals (Some name) = is_defined capitals (Some (str_to_ascii_uppercas
 abbrev pub with_capitals : Option (List ℕ) → Definitions → Definitions
 with_capitals None capitals = capitals
 with_capitals (Some name) capitals = with_word true (str_to_ascii_uppercase name) capitals
+
+-- A name that stands for a register in a line of `mon`. A, X and Y are reserved words.
+abbrev pub names_register : Option (List ℕ) → Bool
+names_register None = false
+names_register (Some name) = str_eq_ignore_ascii_case name (codes "S")
+    || str_eq_ignore_ascii_case name (codes "P") || str_eq_ignore_ascii_case name (codes "PC")
 
 abbrev pub is_byte_value : Result ℤ ExprFault → Bool
 is_byte_value (Ok v) = is_byte v
@@ -117,18 +124,29 @@ warned number kind = record { line = number; kind = kind }
 abbrev pub one_if : Bool → ℕ → WarningKind → List Warning
 one_if told number kind = if told then warned number kind ∷ [] else []
 
--- The warnings of a line, whose name has the letters of an earlier one or not.
-abbrev pub warnings_with : Known → ℕ → Bool → Placed → List Warning
-warnings_with k number alike p = if is_silenced p.text then []
-    else one_if (is_plain k.profile p k.reaches) number PlainNumber
+-- The warnings of what a line says alone.
+abbrev pub warnings_alone : Known → ℕ → Placed → List Warning
+warnings_alone k number p = one_if (is_plain k.profile p k.reaches) number PlainNumber
     ++ (one_if (is_unused k.used (name_in p.line)) number UnusedName
-    ++ (one_if (is_long k.profile k.numbers p) number LongForm ++ one_if alike number LetterCase))
+    ++ one_if (is_long k.profile k.numbers p) number LongForm)
+
+-- The warnings of a line's name, and of where control goes from it.
+abbrev pub warnings_more : Profile → Numbers → ℕ → Bool → Placed → List Warning
+warnings_more profile numbers number falls p
+    = one_if (names_register (name_in p.line)) number RegisterName
+    ++ (one_if (wraps profile numbers p) number PointerWrap ++ one_if falls number FallsOff)
+
+-- The warnings of a line whose name has the letters of an earlier one or not, before these lines.
+abbrev pub warnings_with : Known → ℕ → Bool → Placed → List Placed → List Warning
+warnings_with k number alike p ps = if is_silenced p.text then []
+    else warnings_alone k number p ++ (one_if alike number LetterCase
+    ++ warnings_more k.profile k.numbers number (falls_off p ps) p)
 
 -- The warnings of lines, counted from a number on, after lines with these names.
 abbrev pub lines_warnings : Known → ℕ → Definitions → List Placed → List Warning
 lines_warnings k number capitals [] = []
 lines_warnings k number capitals (p ∷ ps)
-    = warnings_with k number (is_alike capitals (name_in p.line)) p
+    = warnings_with k number (is_alike capitals (name_in p.line)) p ps
     ++ lines_warnings k (number + 1) (with_capitals (name_in p.line) capitals) ps
 
 -- ---- the source
@@ -144,6 +162,10 @@ begins_silenced (p ∷ ps) = is_silenced p.text
 -- Names, and neither an instruction nor a byte.
 abbrev pub is_empty : Definitions → List Placed → Bool
 is_empty names lines = nat_lt 0 (length names) && not (begins_silenced lines) && not (has_bytes lines)
+
+-- An instruction, and no byte of the reset vector.
+abbrev pub has_no_vector : List Placed → Bool
+has_no_vector lines = not (begins_silenced lines) && is_vectorless lines
 
 abbrev pub denotes_bytes : Statement → Bool
 denotes_bytes nothing = false
@@ -170,9 +192,10 @@ cut_off profile number (text ∷ texts) = if says_bytes (meaning_of profile text
 -- The warnings of lines that define these names, and of the lines after `.END`.
 abbrev pub warnings_in : Profile → Definitions → List Placed → List (List ℕ) → List Warning
 warnings_in profile names lines behind = one_if (is_empty names lines) 1 NoBytes
+    ++ (one_if (has_no_vector lines) 1 NoVector
     ++ (lines_warnings (known profile names (used_by lines []) (reaches (number_in names) lines)) 1
     [] lines
-    ++ cut_off profile (length lines + 1) behind)
+    ++ cut_off profile (length lines + 1) behind))
 
 abbrev pub warnings_found : Profile → List (List ℕ) → List all.Found → Definitions → List Warning
 warnings_found profile texts found names

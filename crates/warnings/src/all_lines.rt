@@ -3,14 +3,16 @@
 ghost use Rattle.std.specs.Prelude.{◌≡◌, ◌+◌, ◌++◌, ◌≤◌, OnOk, [], length};
 ghost use Rattle.line_parts.specs.Contents.{map_option};
 ghost use Rattle.line_parts.specs.LineViews.{line_view, statement_view};
+ghost use Rattle.model.specs.Names.{number_in};
 ghost use Rattle.model.specs.TextLines.{lines_of};
 ghost use Rattle.warnings.specs.Views.{placed_view, placed_views};
 ghost use Rattle.warnings.specs.Warnings.{begins_silenced, cut_off, denotes_bytes, has_bytes};
 ghost use Rattle.warnings.specs.Warnings.{known, lines_warnings, one_if, says_bytes};
-ghost use Rattle.warnings.specs.Warnings.{warnings_with};
+ghost use Rattle.warnings.specs.Warnings.{warnings_alone, warnings_more, warnings_with};
 
+use crate::flow::{falls_off, wraps};
 use crate::kinds::{Warning, WarningKind};
-use crate::one_line::{is_long, is_silenced, is_unused, name_in, note_capitals};
+use crate::one_line::{is_long, is_silenced, is_unused, name_in, names_register, note_capitals};
 use crate::placed_line::PlacedLine;
 use crate::placement::meaning_of;
 use crate::written_numbers::Reach;
@@ -35,7 +37,49 @@ pub fn push_if(
     Ok(())
 }
 
-/// Appends the warnings of a line, whose name has the letters of an earlier one or not.
+/// Appends the warnings of what a line says alone.
+fn push_alone(
+    warnings: &mut Vec<Warning>,
+    profile: Profile,
+    names: &Symbols,
+    used: &Symbols,
+    reaches: &[Reach],
+    number: u32,
+    line: &PlacedLine<'_>,
+) -> Result<(), AllocError>
+    ensures { OnOk result (warnings.new.items ≡ warnings.old.items
+        ++ warnings_alone (known profile names.now used.now reaches.now) number
+        (placed_view line.now)) }
+{
+    let plain = is_plain(profile, line, reaches);
+    let unused = is_unused(used, name_in(&line.line));
+    let long = is_long(profile, names, line);
+    push_if(warnings, plain, number, WarningKind::PlainNumber)?;
+    push_if(warnings, unused, number, WarningKind::UnusedName)?;
+    push_if(warnings, long, number, WarningKind::LongForm)
+}
+
+/// Appends the warnings of a line's name and of where control goes from it.
+fn push_more(
+    warnings: &mut Vec<Warning>,
+    profile: Profile,
+    names: &Symbols,
+    number: u32,
+    falls: bool,
+    line: &PlacedLine<'_>,
+) -> Result<(), AllocError>
+    ensures { OnOk result (warnings.new.items ≡ warnings.old.items
+        ++ warnings_more profile (number_in names.now) number falls (placed_view line.now)) }
+{
+    let register = names_register(name_in(&line.line));
+    let wrap = wraps(profile, names, line);
+    push_if(warnings, register, number, WarningKind::RegisterName)?;
+    push_if(warnings, wrap, number, WarningKind::PointerWrap)?;
+    push_if(warnings, falls, number, WarningKind::FallsOff)
+}
+
+/// Appends the warnings of a line whose name has the letters of an earlier one or not, before these
+/// lines.
 fn push_line(
     warnings: &mut Vec<Warning>,
     profile: Profile,
@@ -45,21 +89,25 @@ fn push_line(
     number: u32,
     alike: bool,
     line: &PlacedLine<'_>,
+    behind: &[PlacedLine<'_>],
 ) -> Result<(), AllocError>
     ensures { OnOk result (warnings.new.items ≡ warnings.old.items
         ++ warnings_with (known profile names.now used.now reaches.now) number alike
-        (placed_view line.now)) }
+        (placed_view line.now) (placed_views behind.now)) }
 {
     if is_silenced(line.text) {
         return Ok(());
     }
-    let plain = is_plain(profile, line, reaches);
-    let unused = is_unused(used, name_in(&line.line));
-    let long = is_long(profile, names, line);
-    push_if(warnings, plain, number, WarningKind::PlainNumber)?;
-    push_if(warnings, unused, number, WarningKind::UnusedName)?;
-    push_if(warnings, long, number, WarningKind::LongForm)?;
-    push_if(warnings, alike, number, WarningKind::LetterCase)
+    push_alone(warnings, profile, names, used, reaches, number, line)?;
+    push_if(warnings, alike, number, WarningKind::LetterCase)?;
+    push_more(
+        warnings,
+        profile,
+        names,
+        number,
+        falls_off(line, behind),
+        line,
+    )
 }
 
 /// Appends the warnings of lines, under all names with their numbers, the names that expressions
@@ -84,7 +132,10 @@ pub fn push_lines(
     for one in lines {
         number += 1;
         let alike = note_capitals(alloc, &mut capitals, name_in(&one.line))?;
-        push_line(warnings, profile, names, used, reaches, number, alike, one)?;
+        let behind = &lines[number as usize..];
+        push_line(
+            warnings, profile, names, used, reaches, number, alike, one, behind,
+        )?;
     }
     Ok(())
 }

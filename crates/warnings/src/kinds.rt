@@ -15,6 +15,14 @@ pub enum WarningKind {
     NoBytes,
     /// `.END` cuts off an instruction or bytes.
     AfterEnd,
+    /// A source has an instruction, and no byte of the reset vector.
+    NoVector,
+    /// Control comes from an instruction to a place where none begins.
+    FallsOff,
+    /// A jump goes through a pointer at the end of a page, in profile N.
+    PointerWrap,
+    /// A name is that of a register in `mon`.
+    RegisterName,
 }
 
 /// A warning, with the number of its line, counted from 1.

@@ -11,7 +11,7 @@ ghost use Rattle.model.specs.Value.{eval_of};
 ghost use Rattle.warnings.specs.Views.{placed_view};
 ghost use Rattle.warnings.specs.Warnings.{has_short_mode, is_alike, is_byte_value, is_long, is_short_direct};
 ghost use Rattle.warnings.specs.Warnings.{is_short_line, is_short_operand, is_short_statement, is_silenced};
-ghost use Rattle.warnings.specs.Warnings.{is_unused, name_in, with_capitals};
+ghost use Rattle.warnings.specs.Warnings.{is_unused, name_in, names_register, with_capitals};
 
 use crate::placed_line::PlacedLine;
 use crate::used_names::note_word;
@@ -47,6 +47,20 @@ pub fn is_unused(used: &Symbols, name: Option<&[u8]>) -> bool
 {
     match name {
         Some(name) => used.value_of(name).is_none(),
+        None => false,
+    }
+}
+
+/// Returns whether a name is that of a register in `mon`.
+pub fn names_register(name: Option<&[u8]>) -> bool
+    ensures { result ≡ names_register (name_view name.entry) }
+{
+    match name {
+        Some(name) => {
+            name.eq_ignore_ascii_case(b"S")
+                || name.eq_ignore_ascii_case(b"P")
+                || name.eq_ignore_ascii_case(b"PC")
+        }
         None => false,
     }
 }

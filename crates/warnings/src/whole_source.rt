@@ -4,10 +4,11 @@ ghost use Rattle.std.specs.Prelude.{◌≡◌, ◌≤◌, IfOk, length};
 ghost use Rattle.model.specs.TextLines.{lines_of};
 ghost use Rattle.source_faults.specs.Views.{found_all};
 ghost use Rattle.warnings.specs.Views.{placed_views};
-ghost use Rattle.warnings.specs.Warnings.{is_empty, warnings_found, warnings_in};
-ghost use Rattle.warnings.specs.Warnings.{warnings_of};
+ghost use Rattle.warnings.specs.Warnings.{has_no_vector, is_empty, warnings_found};
+ghost use Rattle.warnings.specs.Warnings.{warnings_in, warnings_of};
 
 use crate::all_lines::{begins_silenced, has_bytes, push_cut_off, push_if, push_lines};
+use crate::flow::is_vectorless;
 use crate::kinds::{Warning, WarningKind};
 use crate::placed_line::PlacedLine;
 use crate::placement::{PlacedLines, placed_lines};
@@ -29,6 +30,13 @@ fn is_empty(names: &Symbols, lines: &[PlacedLine<'_>]) -> bool
     names.count() > 0 && !begins_silenced(lines) && !has_bytes(lines)
 }
 
+/// Whether there is an instruction, and no byte of the reset vector.
+fn has_no_vector(lines: &[PlacedLine<'_>]) -> bool
+    ensures { result ≡ has_no_vector (placed_views lines.now) }
+{
+    !begins_silenced(lines) && is_vectorless(lines)
+}
+
 /// The warnings of lines that define these names, and of the text after `.END`.
 fn warnings_in(
     alloc: Global,
@@ -44,9 +52,11 @@ fn warnings_in(
     let used = used_by(alloc, &placed.lines)?;
     let reached = reaches(alloc, names, &placed.lines)?;
     let empty = is_empty(names, &placed.lines);
+    let vectorless = has_no_vector(&placed.lines);
     let next = placed.lines.len() as u32 + 1;
     let mut warnings = Vec::new(alloc);
     push_if(&mut warnings, empty, 1, WarningKind::NoBytes)?;
+    push_if(&mut warnings, vectorless, 1, WarningKind::NoVector)?;
     push_lines(
         alloc,
         &mut warnings,
