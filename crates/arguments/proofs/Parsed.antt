@@ -1,7 +1,11 @@
--- Why words are refused, once it is known that they do not fit, or that a value is wrong.
-use Rattle.std.proofs.Common.{◌≡◌, ◌⊎◌, ℕ, arith, inl, inr, List}
+-- What a parse of words says, once it is known which command line it is of: what they ask for, and
+-- why they are refused, where they do not fit or a value is wrong.
+use Rattle.std.proofs.Common.{◌≡◌, ◌∙◌, ◌⊎◌, ℕ, arith, inl, inr, List, Option, Some, None, Result, Ok, Err, IfErr, ap, sym, subst}
+use Rattle.std.specs.Prelude.{IsOkUnless}
+use Rattle.std.specs.Result.{IsErrAnd}
 use Rattle.clap.specs.Words.{App, Text, kind_of}
-use Rattle.arguments.specs.Words.{IsMisfit, IsRefusalOf, IsStatusOf, SaysOfWords}
+use Rattle.arguments.specs.Words.{Fits, IsMisfit, IsRefusalOf, IsStatusOf, SaysOfWords, value_in}
+use Rattle.arguments.specs.WrongValues.{IsOfValue}
 use Rattle.arguments.specs.declared.fault.WordsFault.{WordsFault}
 use Rattle.arguments.specs.declared.fault.WordsFault.TheVariants.{Help, OutOfMemory, Usage, Value, Wrong}
 
@@ -29,3 +33,44 @@ says_of_words app words W (Usage text) status is two = record { help = λ h. abs
 says_of_words app words W Value status is two = record { help = λ h. absurd (neither status two h); never = λ h. omega (arith, two, h); wrong = λ h. inr (is.0, is.1) }
 says_of_words app words W (Wrong which) status is two = record { help = λ h. absurd (neither status two h); never = λ h. omega (arith, two, h); wrong = λ h. inr (is.0, is.1) }
 says_of_words app words W OutOfMemory status is three = record { help = λ h. absurd (nor status three h); never = λ h. omega (arith, three, h); wrong = λ h. absurd (omega (arith, three, h)) }
+
+-- ---- a command line that is known
+
+pub fits_by : (app is : App) (words : List Text) → app ≡ is → Fits app words → Fits is words
+fits_by app is words same fits = subst (λ (a : App). Fits a words) same fits
+
+-- What is asked for by the values that were found.
+pub asked_by : {A : Type 0} (of : (Text → Option Text) → Option A) (app is : App) (words : List Text) (found : Text → Option Text)
+    → app ≡ is → found ≡ value_in app words → of found ≡ of (value_in is words)
+asked_by of app is words found same values = ap of (values ∙ ap (λ (a : App). value_in a words) same)
+
+pub not_both : {A : Type 0} (o : Option A) (a : A) → o ≡ Some a → o ≡ None → ⊥
+not_both o a some none = absurd cc
+
+pub one_asked : {A : Type 0} (o : Option A) (a b : A) → o ≡ Some a → o ≡ Some b → a ≡ b
+one_asked o a b x y = cc
+
+-- A wrong value is refused with a sentence on it, or with none.
+pub value_refused : (app : App) (words : List Text) (W : Type 0) (said : Option (List ℕ)) (fault : WordsFault) → IsOfValue said fault → Fits app words → W → IsRefusalOf app words W fault
+value_refused app words W (Some text) (Wrong which) is fits wrong = (fits, wrong)
+value_refused app words W None Value is fits wrong = (fits, wrong)
+value_refused app words W (Some text) Value is fits wrong = absurd is
+value_refused app words W None (Wrong which) is fits wrong = absurd is
+value_refused app words W (Some text) (Help help) is fits wrong = absurd is
+value_refused app words W None (Help help) is fits wrong = absurd is
+value_refused app words W (Some text) (Usage usage) is fits wrong = absurd is
+value_refused app words W None (Usage usage) is fits wrong = absurd is
+value_refused app words W said OutOfMemory is fits wrong = tt
+
+-- ---- words that do not fit, where their fault is passed on
+
+pub served_by : {X : Type 0} (app is : App) (words : List Text) (fault : WordsFault) (result : Result X WordsFault) → app ≡ is
+    → (Fits app words → fault ≡ OutOfMemory) → IsErrAnd result (λ f. f ≡ fault) → Fits is words → IsOkUnless result OutOfMemory
+served_by app is words fault (Ok x) same served passed fits = absurd passed
+served_by app is words fault (Err f) same served passed fits = passed ∙ served (subst (λ (a : App). Fits a words) (sym same) fits)
+
+pub refused_by : {X : Type 0} (app is : App) (words : List Text) (W : Type 0) (fault : WordsFault) (result : Result X WordsFault) → app ≡ is
+    → IsMisfit app words fault → IsErrAnd result (λ f. f ≡ fault) → IfErr result (IsRefusalOf is words W)
+refused_by app is words W fault (Ok x) same misfit passed = absurd passed
+refused_by app is words W fault (Err f) same misfit passed =
+    misfit_refused is words W f (subst (IsMisfit is words) (sym passed) (subst (λ (a : App). IsMisfit a words fault) same misfit))

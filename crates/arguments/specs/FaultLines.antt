@@ -6,10 +6,18 @@ use Rattle.arguments.specs.declared.fault.WordsFault.TheVariants.{Help, Usage, V
 use Rattle.arguments.specs.declared.fault.WordsFault.TheVariants as words_fault
 use Rattle.arguments.specs.declared.load_fault.LoadFault.{LoadFault}
 use Rattle.arguments.specs.declared.load_fault.LoadFault.TheVariants.{LooksLikeTape, Refused}
+use Rattle.arguments.specs.declared.refusal.ReadFault.TheVariants.{NoSuchFile, PermissionDenied as permission_denied}
 use Rattle.arguments.specs.declared.refusal.Refusal.{Refusal}
 use Rattle.arguments.specs.declared.refusal.Refusal.TheVariants.{Words, Map, Source, Tape, Session, OutOfMemory, Read, Write}
+use Rattle.arguments.specs.declared.wording.TheConstants.{NO_SUCH_FILE, PERMISSION_DENIED}
 use Rattle.model.specs.FaultTexts.{bus_fault_text, session_fault_text, source_fault_text, tape_fault_text}
 use Rattle.model.specs.Writers.{AppendsFront}
+
+-- The parts of a line, one after another.
+abbrev pub joined : List (List ℕ) → List ℕ
+joined [] = []
+joined (part ∷ []) = part
+joined (part ∷ next ∷ parts) = part ++ joined (next ∷ parts)
 
 -- What is rejected, and where the fault is in it.
 unfoldable pub place_part : Refusal → List ℕ
@@ -19,7 +27,7 @@ place_part (Source fault) = codes "SOURCE line " ++ decimal fault.line ++ 32 ∷
 place_part (Tape fault) = codes "TAPE byte " ++ decimal fault.offset ++ 32 ∷ []
 place_part (Session fault) = codes "TAPE "
 place_part OutOfMemory = codes "OutOfMemory"
-place_part Read = codes "READ"
+place_part (Read fault) = codes "READ"
 place_part Write = codes "WRITE"
 
 -- The fault's name and number, if it has them.
@@ -34,10 +42,17 @@ name_part refusal = []
 abbrev pub fault_line : Refusal → List ℕ
 fault_line refusal = codes "mos65: " ++ place_part refusal ++ name_part refusal ++ 10 ∷ []
 
--- The same with the file's name, for example `mos65: first.a65: SOURCE line 2 Syntax 4`.
+-- Why a file cannot be read, where that is known.
+unfoldable pub reason_part : Refusal → List ℕ
+reason_part (Read NoSuchFile) = NO_SUCH_FILE.now
+reason_part (Read permission_denied) = PERMISSION_DENIED.now
+reason_part refusal = []
+
+-- The same with the file's name, for example `mos65: first.a65: SOURCE line 2 Syntax 4`, and with the
+-- reason, as `mos65: first.a65: READ no such file`.
 abbrev pub named_line : List ℕ → Refusal → List ℕ
-named_line file refusal = codes "mos65: " ++ (file ++ (codes ": " ++ (place_part refusal
-    ++ (name_part refusal ++ 10 ∷ []))))
+named_line file refusal = codes "mos65: " ++ (file ++ (codes ": "
+    ++ ((place_part refusal ++ reason_part refusal) ++ (name_part refusal ++ 10 ∷ []))))
 
 -- Words, a map and memory are of no file.
 unfoldable pub file_line : List ℕ → Refusal → List ℕ

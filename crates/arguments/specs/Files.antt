@@ -8,7 +8,7 @@ use Rattle.model.specs.TapePieces.{IsRefusedInPieces}
 -- Why a file is not read.
 abbrev pub EndsReading : Refusal → Type 0
 EndsReading OutOfMemory = ⊤
-EndsReading Read = ⊤
+EndsReading (Read fault) = ⊤
 EndsReading fault = ⊥
 
 -- Why a file is not written.
@@ -21,5 +21,5 @@ EndsWriting fault = ⊥
 abbrev pub IsUnread : Refusal → Type 0
 IsUnread (Tape fault) = (text : List ℕ) × IsRefusedInPieces text fault
 IsUnread OutOfMemory = ⊤
-IsUnread Read = ⊤
+IsUnread (Read fault) = ⊤
 IsUnread fault = ⊥

@@ -7,3 +7,4 @@ pub mod Statuses
 pub mod Streams
 pub mod Values
 pub mod Words
+pub mod WrongValues

@@ -1,5 +1,9 @@
 -- Which refusal the fault of a part becomes. Running out of memory in any part is one refusal.
 -- Source: mos65.
+use Rattle.std.specs.declared.io.ErrorKind.{ErrorKind}
+use Rattle.std.specs.declared.io.ErrorKind.TheVariants as error_kind
+use Rattle.arguments.specs.declared.refusal.ReadFault.{ReadFault}
+use Rattle.arguments.specs.declared.refusal.ReadFault.TheVariants.{NoSuchFile, PermissionDenied, Other}
 use Rattle.arguments.specs.declared.refusal.Refusal.{Refusal}
 use Rattle.arguments.specs.declared.refusal.Refusal.TheVariants.{Source, Tape, Session, OutOfMemory, Read}
 use Rattle.model.specs.declared.session_fault.SessionFault.{SessionFault}
@@ -12,6 +16,12 @@ use Rattle.model.specs.declared.tape.TapeFaultKind.{TapeFaultKind}
 use Rattle.model.specs.declared.tape.TapeFaultKind.TheVariants as tape_fault
 use Rattle.papertape.specs.declared.stream.TapeReadFault.{TapeReadFault}
 use Rattle.papertape.specs.declared.stream.TapeReadFault.TheVariants as tape_read_fault
+
+-- Why a file cannot be read, by the kind of error that the system tells.
+abbrev pub read_fault_of : ErrorKind → ReadFault
+read_fault_of error_kind.NotFound = NoSuchFile
+read_fault_of error_kind.PermissionDenied = PermissionDenied
+read_fault_of _ = Other
 
 abbrev pub of_source_kind : AsmFaultKind → AsmFault → Refusal
 of_source_kind source_fault.OutOfMemory fault = OutOfMemory
@@ -27,7 +37,7 @@ of_tape_kind _ fault = Tape fault
 -- A tape read from a reader: its fault, or a read of it failed.
 abbrev pub of_tape_read : TapeReadFault → Refusal
 of_tape_read (tape_read_fault.Tape fault) = of_tape_kind fault.kind fault
-of_tape_read tape_read_fault.Read = Read
+of_tape_read tape_read_fault.Read = Read Other
 
 abbrev pub of_session : SessionFault → Refusal
 of_session session_fault.OutOfMemory = OutOfMemory

@@ -13,7 +13,7 @@ status_of (Source fault) = 1
 status_of (Tape fault) = 1
 status_of (Session fault) = 1
 status_of OutOfMemory = 3
-status_of Read = 4
+status_of (Read fault) = 4
 status_of Write = 4
 
 -- 2 for a tape that is given as a source; otherwise that of the refusal

@@ -1,10 +1,13 @@
 //! Fault lines: why the program ends, put together without allocating.
 ghost use Rattle.std.specs.Prelude.{◌≡◌, ◌+◌, ◌≤◌, ◌++◌, ◌∷◌, [], codes, decimal, length};
 ghost use Rattle.model.specs.Writers.{AppendsFront};
-ghost use Rattle.arguments.specs.FaultLines.{fault_line, file_line, name_part, named_line, place_part};
+ghost use Rattle.arguments.specs.FaultLines.{fault_line, file_line, name_part, named_line};
+ghost use Rattle.arguments.specs.FaultLines.{joined, place_part, reason_part};
+ghost use Rattle.arguments.specs.Words.{texts};
 
 use crate::output::put;
-use crate::refusal::Refusal;
+use crate::refusal::{ReadFault, Refusal};
+use crate::wording::{NO_SUCH_FILE, PERMISSION_DENIED};
 use formatting::{Text, push_bytes, push_decimal};
 use std::io::Write;
 
@@ -29,7 +32,7 @@ fn place_text(refusal: Refusal) -> Text
         }
         Refusal::Session(_) => push_bytes(&mut text, b"TAPE "),
         Refusal::OutOfMemory => push_bytes(&mut text, b"OutOfMemory"),
-        Refusal::Read => push_bytes(&mut text, b"READ"),
+        Refusal::Read(_) => push_bytes(&mut text, b"READ"),
         Refusal::Write => push_bytes(&mut text, b"WRITE"),
     }
     text
@@ -58,10 +61,23 @@ fn name_text(refusal: Refusal) -> Text
         Refusal::Source(fault) => push_name(&mut text, fault.kind.name(), fault.kind.number()),
         Refusal::Tape(fault) => push_name(&mut text, fault.kind.name(), fault.kind.number()),
         Refusal::Session(fault) => push_name(&mut text, fault.name(), fault.number()),
-        Refusal::Words | Refusal::OutOfMemory | Refusal::Read | Refusal::Write => {}
+        Refusal::Words | Refusal::OutOfMemory | Refusal::Read(_) | Refusal::Write => {}
     }
     push_bytes(&mut text, b"\n");
     text
+}
+
+/// Writes the parts of a line one after another, or a beginning of the line if a write fails.
+pub fn put_all<E: Write>(parts: &[&[u8]], errors: &mut E)
+    ensures { AppendsFront (E.contents errors.old) (E.contents errors.new)
+        (joined (texts parts.entry.now)) }
+{
+    for part in parts {
+        match put(errors, part) {
+            Ok(()) => {}
+            Err(_) => return,
+        }
+    }
 }
 
 /// Writes a line of two parts, or a beginning of it if a write fails.
@@ -69,12 +85,7 @@ pub fn put_two<E: Write>(first: &[u8], second: &[u8], errors: &mut E)
     ensures { AppendsFront (E.contents errors.old) (E.contents errors.new)
         (first.now ++ second.now) }
 {
-    match put(errors, first) {
-        Ok(()) => {
-            let _ = put(errors, second);
-        }
-        Err(_) => {}
-    }
+    put_all(&[first, second], errors);
 }
 
 /// Writes a line of three parts, or a beginning of it if a write fails.
@@ -82,39 +93,7 @@ pub fn put_three<E: Write>(first: &[u8], second: &[u8], third: &[u8], errors: &m
     ensures { AppendsFront (E.contents errors.old) (E.contents errors.new)
         (first.now ++ (second.now ++ third.now)) }
 {
-    match put(errors, first) {
-        Ok(()) => put_two(second, third, errors),
-        Err(_) => {}
-    }
-}
-
-/// Writes a line of four parts, or a beginning of it if a write fails.
-pub fn put_four<E: Write>(first: &[u8], second: &[u8], third: &[u8], fourth: &[u8], errors: &mut E)
-    ensures { AppendsFront (E.contents errors.old) (E.contents errors.new)
-        (first.now ++ (second.now ++ (third.now ++ fourth.now))) }
-{
-    match put(errors, first) {
-        Ok(()) => put_three(second, third, fourth, errors),
-        Err(_) => {}
-    }
-}
-
-/// Writes a line of five parts, or a beginning of it if a write fails.
-fn put_five<E: Write>(
-    first: &[u8],
-    second: &[u8],
-    third: &[u8],
-    fourth: &[u8],
-    fifth: &[u8],
-    errors: &mut E,
-)
-    ensures { AppendsFront (E.contents errors.old) (E.contents errors.new)
-        (first.now ++ (second.now ++ (third.now ++ (fourth.now ++ fifth.now)))) }
-{
-    match put(errors, first) {
-        Ok(()) => put_four(second, third, fourth, fifth, errors),
-        Err(_) => {}
-    }
+    put_all(&[first, second, third], errors);
 }
 
 /// Writes the fault line of a refusal, or a beginning of it if a write fails.
@@ -129,18 +108,36 @@ pub fn put_fault_line<E: Write>(refusal: Refusal, errors: &mut E)
     );
 }
 
+/// Returns what is rejected of a file, where the fault is in it, and why it cannot be read.
+#[tactic(auto, unfolding(crate::specs::FaultLines::place_part, crate::specs::FaultLines::reason_part))]
+fn file_place_text(refusal: Refusal) -> Text
+    ensures { result.items ≡ place_part refusal ++ reason_part refusal }
+{
+    let mut text = place_text(refusal);
+    match refusal {
+        Refusal::Read(ReadFault::NoSuchFile) => push_bytes(&mut text, NO_SUCH_FILE.as_bytes()),
+        Refusal::Read(ReadFault::PermissionDenied) => {
+            push_bytes(&mut text, PERMISSION_DENIED.as_bytes());
+        }
+        _ => {}
+    }
+    text
+}
+
 /// Writes the fault line of a refusal with the name of a file, or a beginning of it if a write
 /// fails.
 fn put_named_line<E: Write>(refusal: Refusal, file: &str, errors: &mut E)
     ensures { AppendsFront (E.contents errors.old) (E.contents errors.new)
         (named_line file.now refusal) }
 {
-    put_five(
-        b"mos65: ",
-        file.as_bytes(),
-        b": ",
-        place_text(refusal).as_slice(),
-        name_text(refusal).as_slice(),
+    put_all(
+        &[
+            b"mos65: ",
+            file.as_bytes(),
+            b": ",
+            file_place_text(refusal).as_slice(),
+            name_text(refusal).as_slice(),
+        ],
         errors,
     );
 }
@@ -158,7 +155,7 @@ pub fn put_file_line<E: Write>(refusal: Refusal, file: &str, errors: &mut E)
         Refusal::Source(_)
         | Refusal::Tape(_)
         | Refusal::Session(_)
-        | Refusal::Read
+        | Refusal::Read(_)
         | Refusal::Write => put_named_line(refusal, file, errors),
     }
 }

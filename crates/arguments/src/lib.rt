@@ -21,9 +21,10 @@ mod refusal;
 mod refused;
 mod same_file;
 mod value;
+mod wording;
 
 pub use fault::WordsFault;
-pub use fault_line::{put_fault_line, put_three, put_two};
+pub use fault_line::{put_all, put_fault_line, put_three, put_two};
 pub use file_options::{FileWords, file_words, with_file_options};
 pub use file_refusal::FileRefusal;
 pub use files::{image_of_tape, read_most, read_source, write_file};
@@ -32,10 +33,10 @@ pub use map::map_of;
 pub use matching::{is_given, matched};
 pub use options::{begin, file, flag, option, port, profile, rom, tape};
 pub use output::{NotWritten, put, write_text};
-pub use refusal::Refusal;
+pub use refusal::{ReadFault, Refusal};
 pub use refused::{finish, refuse, refuse_file, refused_words};
 pub use same_file::is_one_file;
 pub use value::{
     address_asked, debug_history_asked, history_asked, port_asked, profile_asked, rom_asked,
-    steps_asked, wrong_value,
+    steps_asked, value_fault, wrong_value,
 };

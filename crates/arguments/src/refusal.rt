@@ -1,13 +1,35 @@
 //! Refusals, and how each part's fault becomes one.
 ghost use Rattle.std.specs.Prelude.{◌≡◌};
 ghost use Rattle.std.specs.IoError.{error_kind};
-ghost use Rattle.arguments.specs.Refusals.{of_session, of_source, of_tape_read};
+ghost use Rattle.arguments.specs.Refusals.{of_session, of_source, of_tape_read, read_fault_of};
 ghost use Rattle.arguments.specs.declared.refusal.Refusal.TheVariants.{Map};
 
 use model::{AsmFault, AsmFaultKind, BusFault, SessionFault, TapeFault, TapeFaultKind};
 use papertape::TapeReadFault;
 use std::io;
 use std::io::ErrorKind;
+
+/// Why a file or the standard input cannot be read.
+#[derive(Clone, Copy, Debug, PartialEq, Eq)]
+pub enum ReadFault {
+    /// There is no file of that name.
+    NoSuchFile,
+    /// The user may not read the file.
+    PermissionDenied,
+    /// Another reason, or none that is known.
+    Other,
+}
+
+/// Returns why a file cannot be read, by the kind of error that the system tells.
+fn read_fault(kind: ErrorKind) -> ReadFault
+    ensures { result ≡ read_fault_of kind }
+{
+    match kind {
+        ErrorKind::NotFound => ReadFault::NoSuchFile,
+        ErrorKind::PermissionDenied => ReadFault::PermissionDenied,
+        _ => ReadFault::Other,
+    }
+}
 
 /// Why a word ends without having done what it was asked for.
 ///
@@ -27,7 +49,7 @@ pub enum Refusal {
     /// Memory ran out.
     OutOfMemory,
     /// A file or the standard input cannot be read.
-    Read,
+    Read(ReadFault),
     /// A file or the standard output cannot be written.
     Write,
 }
@@ -46,7 +68,7 @@ impl Refusal {
             Refusal::Source(_) | Refusal::Tape(_) | Refusal::Session(_) => 1,
             Refusal::Words | Refusal::Map(_) => 2,
             Refusal::OutOfMemory => 3,
-            Refusal::Read | Refusal::Write => 4,
+            Refusal::Read(_) | Refusal::Write => 4,
         }
     }
 
@@ -54,11 +76,12 @@ impl Refusal {
     pub fn unreadable(error: &io::Error) -> Refusal
         ensures memory { error_kind error.now ≡ ErrorKind.OutOfMemory
             → result ≡ Refusal.OutOfMemory }
-        ensures other { ¬ (error_kind error.now ≡ ErrorKind.OutOfMemory) → result ≡ Refusal.Read }
+        ensures other { ¬ (error_kind error.now ≡ ErrorKind.OutOfMemory)
+            → result ≡ Refusal.Read (read_fault_of (error_kind error.now)) }
     {
         match error.kind() {
             ErrorKind::OutOfMemory => Refusal::OutOfMemory,
-            _ => Refusal::Read,
+            kind => Refusal::Read(read_fault(kind)),
         }
     }
 
@@ -99,7 +122,7 @@ impl From<TapeReadFault> for Refusal {
 
     fn from(fault: TapeReadFault) -> Refusal {
         match fault {
-            TapeReadFault::Read => Refusal::Read,
+            TapeReadFault::Read => Refusal::Read(ReadFault::Other),
             TapeReadFault::Tape(fault) => match fault.kind {
                 TapeFaultKind::OutOfMemory => Refusal::OutOfMemory,
                 _ => Refusal::Tape(fault),

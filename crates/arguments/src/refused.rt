@@ -7,7 +7,7 @@ ghost use Rattle.arguments.specs.Words.{IsStatusOf};
 ghost use Rattle.model.specs.Writers.{AppendsFront};
 
 use crate::fault::WordsFault;
-use crate::fault_line::{put_fault_line, put_file_line, put_four};
+use crate::fault_line::{put_all, put_fault_line, put_file_line};
 use crate::refusal::Refusal;
 use std::io::Write;
 
@@ -66,7 +66,7 @@ pub fn refused_words<O: Write, E: Write>(fault: WordsFault, output: &mut O, erro
         }
         WordsFault::Value => refuse(Refusal::Words, errors),
         WordsFault::Wrong(which) => {
-            put_four(b"mos65: ", b"WORDS: ", which.as_bytes(), b"\n", errors);
+            put_all(&[b"mos65: ", b"WORDS: ", which.as_bytes(), b"\n"], errors);
             2
         }
         WordsFault::OutOfMemory => refuse(Refusal::OutOfMemory, errors),

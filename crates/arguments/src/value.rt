@@ -4,9 +4,13 @@ ghost use Rattle.std.specs.Prelude.{◌≡◌, ◌≤◌, IfSome, length, option
 ghost use Rattle.arguments.specs.Values.{debug_history_asked, history_asked, history_of, number_of};
 ghost use Rattle.arguments.specs.Values.{port_asked, profile_asked, profile_of, range_of};
 ghost use Rattle.arguments.specs.Values.{rom_asked, steps_asked};
+ghost use Rattle.arguments.specs.WrongValues.{IsOfValue, wrong_value};
+ghost use Rattle.clap.specs.Words.{first_value, found_of};
 ghost use Rattle.model.specs.Commands.{address_of};
 ghost use Rattle.model.specs.Digits.{decimal_number};
 
+use crate::fault::WordsFault;
+use crate::wording::{HISTORY_TAKES, PORT_TAKES, PROFILE_TAKES, ROM_TAKES, STEPS_TAKES};
 use clap::ArgMatches;
 use commands::{address_of, digits};
 use formatting::decimal_value;
@@ -162,20 +166,33 @@ pub fn history_asked(word: Option<&str>) -> Option<u32>
     }
 }
 
-/// Returns a sentence that says which of the values that were found is wrong, or `otherwise` where
-/// it is none of an option that several words have.
-pub fn wrong_value(matches: &ArgMatches<'_>, otherwise: &'static str) -> &'static str {
+/// Returns a sentence that says which of the values that were found is wrong, or `None` where it is
+/// none of an option that several words have.
+pub fn wrong_value(matches: &ArgMatches<'_>) -> Option<&'static str>
+    ensures { option_map (λ s. s.now) result ≡ wrong_value (first_value (found_of matches.now)) }
+{
     if port_asked(matches.get_str("port")).is_none() {
-        "--port takes four hex digits"
+        Some(PORT_TAKES)
     } else if rom_asked(matches.get_str("rom")).is_none() {
-        "--rom takes two addresses of four hex digits, as 8000-8FFF"
+        Some(ROM_TAKES)
     } else if profile_asked(matches.get_str("profile")).is_none() {
-        "--profile takes N or C"
+        Some(PROFILE_TAKES)
     } else if history_asked(matches.get_str("history")).is_none() {
-        "--history takes a number up to 65536"
+        Some(HISTORY_TAKES)
     } else if steps_asked(matches.get_str("steps")).is_none() {
-        "--steps takes a number of at most eighteen digits"
+        Some(STEPS_TAKES)
     } else {
-        otherwise
+        None
+    }
+}
+
+/// Returns the fault of words one of whose values is wrong: with the sentence of `wrong_value`, if
+/// there is one.
+pub fn value_fault(matches: &ArgMatches<'_>) -> WordsFault
+    ensures { IsOfValue (wrong_value (first_value (found_of matches.now))) result }
+{
+    match wrong_value(matches) {
+        Some(which) => WordsFault::Wrong(which),
+        None => WordsFault::Value,
     }
 }

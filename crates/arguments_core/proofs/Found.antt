@@ -41,11 +41,6 @@ right words OutOfMemory is = tt
 abbrev Answer : Type 0
 Answer = Result Words WordsFault
 
--- words that clap takes are refused only if memory runs out
-pub memory_unless : (r : Answer) (fault : WordsFault) → IsErrAnd r (λ e. e ≡ fault) → fault ≡ OutOfMemory → IsOkUnless r OutOfMemory
-memory_unless (Ok x) fault is memory = absurd is
-memory_unless (Err e) fault is memory = is ∙ memory
-
 pub memory_or : (r : Answer) (fault : WordsFault) → IsErrAnd r (λ e. e ≡ fault) → fault ≡ OutOfMemory → (r ≡ Err Value) ⊎ (r ≡ Err OutOfMemory)
 memory_or (Ok x) fault is memory = absurd is
 memory_or (Err e) fault is memory = inr (ap Err (is ∙ memory))
@@ -59,9 +54,6 @@ refused (Err e) words fault is misfit = subst (IsRightRefusal words) (sym is) (r
 -- what was found of the subcommand
 pub found_asked : (app : App) (words : List Text) (found : Option (Text × List Row)) → app ≡ mos65 → found ≡ subcommand_of app words → asked_of found ≡ asked words
 found_asked app words found is parse = ap asked_of (parse ∙ ap (λ (a : App). subcommand_of a words) is)
-
-pub not_both : (o : Option Asked) (a : Asked) → o ≡ Some a → o ≡ None → ⊥
-not_both o a some none = absurd cc
 
 firsts : {A : Type 0} (f : A → Text) (g : A → List Row) (o : Option A) → option_map f o ≡ option_map (λ (p : Text × List Row). p.0) (option_map (λ b. (f b, g b)) o)
 firsts f g None = refl

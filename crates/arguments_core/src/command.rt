@@ -9,6 +9,14 @@ use clap::error::ErrorKind;
 use clap::{Command, Error};
 use std::alloc::Global;
 
+/// What the help of `asm` shows below its options.
+const ASM_OPTIONS: &str = "Further options, if the whole program is built:
+  --symbols FILE [--symbols-format plain|vice]   writes names and their numbers
+  --map FILE                                     writes where each line stands
+
+Example:
+  mos65 asm hello.a65 hello.tape --listing hello.lst";
+
 /// Returns the command line of `asm`. The only error is that an allocation failed.
 pub fn asm_command<'a>(alloc: Global) -> Result<Command<'a>, Error>
     ensures shape { IfOk result (λ c. app_of c ≡ asm) }
@@ -18,7 +26,7 @@ pub fn asm_command<'a>(alloc: Global) -> Result<Command<'a>, Error>
     let listing = "The file to write lines, addresses, bytes and names to [default: none]";
     let command = Command::new(alloc, "asm")
         .about("Assembles a source, and writes its tape")
-        .after_help("Example:\n  mos65 asm hello.a65 hello.tape --listing hello.lst")
+        .after_help(ASM_OPTIONS)
         .arg(file(alloc, "SOURCE", "The source to assemble"))?
         .arg(file(alloc, "TAPE", "The file to write the tape to"))?
         .arg(option(alloc, "listing", "FILE", listing))?
@@ -26,6 +34,13 @@ pub fn asm_command<'a>(alloc: Global) -> Result<Command<'a>, Error>
         .arg(profile(alloc))?;
     Ok(command)
 }
+
+/// What the help of `dis` shows below its options.
+const DIS_OPTIONS: &str = "Further options, if the whole program is built:
+  --source    writes a source that asm takes; mos65 dis --source --help shows its options
+
+Example:
+  mos65 dis hello.tape 0200 020F";
 
 /// Returns the command line of `dis`. The only error is that an allocation failed.
 pub fn dis_command<'a>(alloc: Global) -> Result<Command<'a>, Error>
@@ -35,7 +50,7 @@ pub fn dis_command<'a>(alloc: Global) -> Result<Command<'a>, Error>
 {
     let command = Command::new(alloc, "dis")
         .about("Lists what a tape has between two addresses as instructions")
-        .after_help("Example:\n  mos65 dis hello.tape 0200 020F")
+        .after_help(DIS_OPTIONS)
         .arg(file(alloc, "TAPE", "The tape to read"))?
         .arg(file(alloc, "LO", "The first address, four hex digits"))?
         .arg(file(alloc, "HI", "The last address, four hex digits"))?

@@ -11,4 +11,4 @@ mod read;
 
 pub use asked::{AsmWords, DebugWords, DisWords, Words};
 pub use command::{asm_command, debug_command, dis_command};
-pub use read::read_words;
+pub use read::{asm_words, read_words};

@@ -30,7 +30,7 @@ fn overwrites(source: &str, tape: &str, listing: Option<&str>) -> bool
 }
 
 /// Returns what the values that were found ask for, or `None` if an option cannot have its value.
-fn asm_words<'a>(matches: &ArgMatches<'a>) -> Option<AsmWords<'a>>
+pub fn asm_words<'a>(matches: &ArgMatches<'a>) -> Option<AsmWords<'a>>
     ensures { option_map asm_view result ≡ asm_asked (first_value (found_of matches.now)) }
 {
     let source = matches.get_str("SOURCE")?;

@@ -8,8 +8,8 @@ ghost use Rattle.clap.specs.declared.builder.command.Command.TheViews.{out-Comma
 
 use crate::mon_words::MonWords;
 use arguments::{
-    WordsFault, begin, file_words, flag, history_asked, is_given, matched, option,
-    with_file_options, wrong_value,
+    WordsFault, begin, file_words, flag, history_asked, is_given, matched, option, value_fault,
+    with_file_options,
 };
 use clap::error::ErrorKind;
 use clap::{ArgMatches, Command, Error};
@@ -75,6 +75,6 @@ pub fn read_mon_words<'a>(alloc: Global, words: &'a [&'a str]) -> Result<MonWord
     let matches = matched(mon_command(alloc)?, words)?;
     match asked(&matches) {
         Some(words) => Ok(words),
-        None => Err(WordsFault::Wrong(wrong_value(&matches, "a value is wrong"))),
+        None => Err(value_fault(&matches)),
     }
 }

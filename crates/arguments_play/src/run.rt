@@ -101,6 +101,6 @@ pub fn read_run_words<'a>(alloc: Global, words: &'a [&'a str]) -> Result<RunWord
     let matches = matched(run_command(alloc)?, words)?;
     match asked(&matches) {
         Some(words) => Ok(words),
-        None => Err(WordsFault::Wrong(wrong_value(&matches, "--status takes A"))),
+        None => Err(WordsFault::Wrong(wrong_value(&matches).unwrap_or("--status takes A"))),
     }
 }

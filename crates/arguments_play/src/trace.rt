@@ -8,7 +8,7 @@ ghost use Rattle.clap.specs.declared.builder.command.Command.TheViews.{out-Comma
 
 use arguments::{
     FileWords, WordsFault, begin, file_words, flag, is_given, matched, option, steps_asked,
-    with_file_options, wrong_value,
+    value_fault, with_file_options,
 };
 use clap::error::ErrorKind;
 use clap::{ArgMatches, Command, Error};
@@ -106,6 +106,6 @@ pub fn read_trace_words<'a>(
     let matches = matched(trace_command(alloc)?, words)?;
     match asked(&matches) {
         Some(words) => Ok(words),
-        None => Err(WordsFault::Wrong(wrong_value(&matches, "a value is wrong"))),
+        None => Err(value_fault(&matches)),
     }
 }

@@ -1,4 +1,3 @@
 pub mod Ends
 pub mod Laid
-pub mod Read
 pub mod Rows

@@ -2,7 +2,7 @@
 
 ghost use Rattle.std.specs.Prelude.{◌≡◌, IfErr, IfOk, None, Some, option_map};
 ghost use Rattle.arguments.specs.Words.{Fits, IsRefusalOf, texts};
-ghost use Rattle.arguments_core.specs.Asked.{asm_asked, is_named, overwrites};
+ghost use Rattle.arguments_core.specs.Asked.{is_named};
 ghost use Rattle.arguments_core.specs.Views.{asm_view};
 ghost use Rattle.asm_files.specs.Asked.{files_asked, format_asked, is_used, is_wrong};
 ghost use Rattle.asm_files.specs.CommandLine.{asm, words_asked};
@@ -11,8 +11,8 @@ ghost use Rattle.clap.specs.Words.{first_value, found_of};
 
 use crate::command::asm_files_command;
 use crate::format::SymbolsFormat;
-use arguments::{WordsFault, matched, port_asked, profile_asked, wrong_value};
-use arguments_core::AsmWords;
+use arguments::{WordsFault, matched, wrong_value};
+use arguments_core::{AsmWords, asm_words};
 use clap::ArgMatches;
 use std::alloc::Global;
 
@@ -57,34 +57,6 @@ fn is_named(file: Option<&str>, name: &str) -> bool
         None => false,
         Some(file) => file == name,
     }
-}
-
-/// Returns whether a file to write has the name of the source, or of the other file to write.
-fn overwrites(source: &str, tape: &str, listing: Option<&str>) -> bool
-    ensures { result ≡ overwrites source.now tape.now (option_map (λ s. s.now) listing.entry) }
-{
-    tape == source || is_named(listing, source) || is_named(listing, tape)
-}
-
-/// Returns what the values that were found ask `asm` for, or `None` if one is wrong.
-fn asm_words<'a>(matches: &ArgMatches<'a>) -> Option<AsmWords<'a>>
-    ensures { option_map asm_view result ≡ asm_asked (first_value (found_of matches.now)) }
-{
-    let source = matches.get_str("SOURCE")?;
-    let tape = matches.get_str("TAPE")?;
-    let listing = matches.get_str("listing");
-    let port = port_asked(matches.get_str("port"))?;
-    let profile = profile_asked(matches.get_str("profile"))?;
-    if overwrites(source, tape, listing) {
-        return None;
-    }
-    Some(AsmWords {
-        source,
-        tape,
-        listing,
-        port,
-        profile,
-    })
 }
 
 /// Returns whether a file to write has the name of another file of `asm`.
@@ -145,7 +117,7 @@ fn wrong_word(matches: &ArgMatches<'_>) -> &'static str {
     } else if format.is_some() && matches.get_str("symbols").is_none() {
         "--symbols-format needs --symbols"
     } else {
-        wrong_value(matches, "two of the files have one name")
+        wrong_value(matches).unwrap_or("two of the files have one name")
     }
 }
 

@@ -1,10 +1,7 @@
 -- What is asked for by what was found among the words.
-use Rattle.std.proofs.Common.{◌≡◌, ◌∙◌, List, Result, Ok, Err, IfErr, ap, ap₂, subst, sym}
+use Rattle.std.proofs.Common.{◌≡◌, ◌∙◌, List, ap, ap₂}
 use Rattle.std.proofs.Math.Path.{fun_ext}
-use Rattle.std.specs.Result.{IsErrAnd}
-use Rattle.arguments.proofs.Parsed.{misfit_refused}
-use Rattle.arguments.specs.Words.{IsMisfit, IsRefusalOf, value_in}
-use Rattle.arguments.specs.declared.fault.WordsFault.{WordsFault}
+use Rattle.arguments.specs.Words.{value_in}
 use Rattle.clap.proofs.WalkLemmas.{raw_values-rows}
 use Rattle.clap.specs.Words.{App, Text, all_of, first_value, found_of, matches_of, rows_of}
 use Rattle.clap.specs.declared.parser.matches.ArgMatches.{ArgMatches}
@@ -19,9 +16,3 @@ pub asked_found : (app : App) (words : List Text) (m : ArgMatches) → app ≡ d
     → source_asked (first_value (found_of m)) (all_values (found_of m)) ≡ words_asked words
 asked_found app words m is values rows =
     ap₂ source_asked values (all_found app words m rows) ∙ ap (λ (a : App). source_asked (value_in a words) (values_in a words)) is
-
--- Words that do not fit are refused for that where their fault is passed on.
-pub still_refused : {X : Type 0} (app : App) (words : List Text) (W : Type 0) (fault : WordsFault) (result : Result X WordsFault) → IsMisfit app words fault → IsErrAnd result (λ f. f ≡ fault)
-    → IfErr result (IsRefusalOf app words W)
-still_refused app words W fault (Ok x) misfit passed = absurd passed
-still_refused app words W fault (Err f) misfit passed = subst (IsRefusalOf app words W) (sym passed) (misfit_refused app words W fault misfit)

@@ -64,7 +64,7 @@ HasNamesFault profile = (fault : AsmFault) × IsNamesFault profile fault
 abbrev pub EndsDefined : Profile → Refusal → Type 0
 EndsDefined profile (Source fault) = IsNamesFault profile fault
 EndsDefined profile OutOfMemory = ⊤
-EndsDefined profile Read = ⊤
+EndsDefined profile (Read why) = ⊤
 EndsDefined profile refusal = ⊥
 
 -- Why there is no source, by the file that this is of: some tape has this fault, or some source of
@@ -74,7 +74,7 @@ EndsAt asked file (Tape fault) = (file ≡ asked.tape)
     × ((text : List ℕ) × IsRefusedInPieces text fault)
 EndsAt asked file (Source fault) = (asked.symbols ≡ Some file) × IsNamesFault asked.profile fault
 EndsAt asked file OutOfMemory = ⊤
-EndsAt asked file Read = (file ≡ asked.tape) ⊎ (asked.symbols ≡ Some file)
+EndsAt asked file (Read why) = (file ≡ asked.tape) ⊎ (asked.symbols ≡ Some file)
 EndsAt asked file refusal = ⊥
 
 abbrev pub EndsSource : SourceAsked → FileRefusal → Type 0

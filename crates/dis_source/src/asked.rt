@@ -189,7 +189,7 @@ fn wrong_word(matches: &ArgMatches<'_>) -> &'static str {
         "LO and HI take four hex digits each, the lower first"
     } else {
         let lists = "--data and --text take ranges as 0200-02FF, --follow takes four hex digits";
-        wrong_value(matches, lists)
+        wrong_value(matches).unwrap_or(lists)
     }
 }
 

@@ -23,7 +23,7 @@ IsBadMap bus_map fault = (is_map bus_map.rom bus_map.port ≡ false) × (fault �
 abbrev pub EndsSource : Map → Refusal → Type 0
 EndsSource bus_map (refusal.Source fault) = (source : List ℕ) × HasFault bus_map source fault
 EndsSource bus_map refusal.OutOfMemory = ⊤
-EndsSource bus_map refusal.Read = ⊤
+EndsSource bus_map (refusal.Read why) = ⊤
 EndsSource bus_map fault = ⊥
 
 -- Why a tape is not loaded: it is not read, or it has a byte at the port.

@@ -5,6 +5,7 @@ use Rattle.assembler.specs.Assembly.{AssemblyView, IsAssembled}
 use Rattle.arguments.specs.Asked.{FileAsked, map_of}
 use Rattle.arguments.specs.FaultLines.{file_line}
 use Rattle.arguments.specs.Statuses.{status_of}
+use Rattle.arguments.specs.declared.refusal.ReadFault.TheVariants.{Other}
 use Rattle.arguments.specs.declared.refusal.Refusal.{Refusal}
 use Rattle.arguments.specs.declared.refusal.Refusal.TheVariants.{OutOfMemory, Read, Write}
 use Rattle.arguments_play.specs.Mon.{MonAsked}
@@ -35,7 +36,7 @@ IsUnnamed (Some path) file heard status Alone = (fault : Refusal) × EndsNames f
 -- Why a session ends before its input does.
 abbrev pub EndsSession : Refusal → Type 0
 EndsSession OutOfMemory = ⊤
-EndsSession Read = ⊤
+EndsSession (Read Other) = ⊤
 EndsSession Write = ⊤
 EndsSession fault = ⊥
 

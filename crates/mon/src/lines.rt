@@ -12,7 +12,7 @@ ghost use Rattle.mon_session.specs.Course.{ShowsOnly};
 ghost use Rattle.mon_session.specs.declared.desk.Desk.{Desk};
 
 use crate::wording::PROMPT;
-use arguments::Refusal;
+use arguments::{ReadFault, Refusal};
 use arrayvec::ArrayVec;
 use mon_dispatch::serve;
 use mon_session::Desk;
@@ -227,7 +227,7 @@ pub fn attend<R: Read, W: Write>(
         written
         × Appends (W.contents writer.old) (W.contents writer.new)
         (desk.old.text.items ++ written)) }
-    ensures unread { result ≡ Err (Refusal.Read) → (written : List ℕ)
+    ensures unread { result ≡ Err (Refusal.Read ReadFault.Other) → (written : List ℕ)
         × IsAttendedSoFar prompts (R.remaining reader.old) (R.remaining reader.new) desk.old
         desk.new written
         × Appends (W.contents writer.old) (W.contents writer.new)
@@ -247,8 +247,8 @@ pub fn attend<R: Read, W: Write>(
                     return Ok(());
                 }
             }
-            Err(_) => return Err(Refusal::Read),
+            Err(_) => return Err(Refusal::Read(ReadFault::Other)),
         }
     }
-    Err(Refusal::Read)
+    Err(Refusal::Read(ReadFault::Other))
 }

@@ -5,6 +5,7 @@ ghost use Rattle.std.specs.Prelude.{IfOk, OnOk, false, true};
 ghost use Rattle.std.specs.Io.KnownBytes.{Appends};
 ghost use Rattle.arguments.specs.Asked.{file_view, map_of};
 ghost use Rattle.arguments.specs.Words.{Fits, Refuses, texts};
+ghost use Rattle.arguments.specs.declared.refusal.ReadFault.TheVariants.{Other};
 ghost use Rattle.arguments_play.specs.Mon.{MonAsked, asked, mon, mon_view};
 ghost use Rattle.assembler.specs.Assembly.{AssemblyView};
 ghost use Rattle.loading.specs.Loads.{IsLoaded};
@@ -91,7 +92,7 @@ fn serve<R: Read, O: Write>(
         × Appends (O.contents output.old) (O.contents output.new)
         (desk.old.text.items ++ (greeting_of prompts ++ (shown_text desk.old.session.current
         desk.old.places.names None ++ written)))) }
-    ensures unread { result ≡ Err (Refusal.Read) → (written : List ℕ)
+    ensures unread { result ≡ Err (Refusal.Read Other) → (written : List ℕ)
         × IsAttendedSoFar prompts (R.remaining input.old) (R.remaining input.new) desk.old
         desk.new written
         × Appends (O.contents output.old) (O.contents output.new)

@@ -72,6 +72,10 @@ fn serve_promised(rt: &HostRuntime, words: &[&str]) -> u8 {
 }
 
 /// Does what words ask for, and returns the exit status.
+///
+/// Proved: which route words have (`route_of`), and what each call does, by the contract of the
+/// call. Tested: that a route leads to the call of its name. The process's streams are made here,
+/// and no clause can name what they hold.
 fn serve(rt: &HostRuntime, words: &[&str]) -> u8 {
     let rest = if words.is_empty() { words } else { &words[1..] };
     match route_of(words) {

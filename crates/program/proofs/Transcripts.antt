@@ -26,7 +26,7 @@ not_zero (Source fault) e = omega arith
 not_zero (Tape fault) e = omega arith
 not_zero (Session fault) e = omega arith
 not_zero OutOfMemory e = omega arith
-not_zero Read e = omega arith
+not_zero (Read why) e = omega arith
 not_zero Write e = omega arith
 
 -- The transcript of the input was written, from some image on the map.
@@ -51,7 +51,7 @@ not_two is_tape map (Source fault) status ends is makes two = omega (arith, is, 
 not_two is_tape map (Tape fault) status ends is makes two = omega (arith, is, two)
 not_two is_tape map (Session fault) status ends is makes two = omega (arith, is, two)
 not_two is_tape map OutOfMemory status ends is makes two = omega (arith, is, two)
-not_two is_tape map Read status ends is makes two = omega (arith, is, two)
+not_two is_tape map (Read why) status ends is makes two = omega (arith, is, two)
 not_two is_tape map Write status ends is makes two = omega (arith, is, two)
 
 right_status : (is_tape : Bool) (map : MapView) (outcome : Result ⊤ Refusal) (status : ℕ) → IfErr outcome (EndsDebug is_tape map) → IsStatus outcome status → is_map map.rom map.port ≡ true → status ≡ 2 → ⊥

@@ -8,6 +8,7 @@ use Rattle.model.specs.declared.bus_fault.BusFault.TheVariants.{BadMap}
 use Rattle.model.specs.declared.session_fault.SessionFault.TheVariants.{PortAddress}
 use Rattle.engine.specs.declared.fault.EngineFault.{EngineFault}
 use Rattle.engine.specs.declared.fault.EngineFault.TheVariants as engine_fault
+use Rattle.arguments.specs.declared.refusal.ReadFault.TheVariants.{Other}
 use Rattle.arguments.specs.declared.refusal.Refusal.{Refusal}
 use Rattle.arguments.specs.declared.refusal.Refusal.TheVariants.{Words, Map, Source, Tape, Session, OutOfMemory, Read, Write}
 
@@ -16,7 +17,7 @@ abbrev pub of_engine : EngineFault → Refusal
 of_engine (engine_fault.Source fault) = Source fault
 of_engine (engine_fault.Tape fault) = Tape fault
 of_engine (engine_fault.Session fault) = Session fault
-of_engine engine_fault.Read = Read
+of_engine engine_fault.Read = Read Other
 of_engine engine_fault.Write = Write
 of_engine engine_fault.OutOfMemory = OutOfMemory
 
@@ -29,7 +30,7 @@ EndsAsm map (Source fault) = (source : List ℕ) × HasFault map source fault
 EndsAsm map (Tape fault) = ⊥
 EndsAsm map (Session fault) = ⊥
 EndsAsm map OutOfMemory = ⊤
-EndsAsm map Read = ⊤
+EndsAsm map (Read why) = ⊤
 EndsAsm map Write = ⊤
 
 -- Why `debug` may end early: the ROM and the port do not make a map; a source has this fault on it;
@@ -45,7 +46,7 @@ EndsDebug is_tape map (Session fault) = (is_tape ≡ true) × (fault ≡ PortAdd
     × ((text : List ℕ) × (image : List (Option ℕ)) × IsReadInPieces text image
     × (has_port_byte map image ≡ true))
 EndsDebug is_tape map OutOfMemory = ⊤
-EndsDebug is_tape map Read = ⊤
+EndsDebug is_tape map (Read why) = ⊤
 EndsDebug is_tape map Write = ⊤
 
 -- Why `dis` may end early: a tape has this fault.
@@ -56,5 +57,5 @@ EndsDis (Source fault) = ⊥
 EndsDis (Tape fault) = (text : List ℕ) × IsRefusedInPieces text fault
 EndsDis (Session fault) = ⊥
 EndsDis OutOfMemory = ⊤
-EndsDis Read = ⊤
+EndsDis (Read why) = ⊤
 EndsDis Write = ⊤

@@ -29,7 +29,7 @@ abbrev pub IsServed : MapSpec → ℕ → Option (List ℕ) → Option (List ℕ
     → Option (List ℕ) → Result ⊤ Refusal → Type 0 → Type 0
 IsServed map history input left held now (Ok done) Alone
     = FromImage map history input left held now (Ok done)
-IsServed map history input left held now (Err Read) Alone = Alone
+IsServed map history input left held now (Err (Read why)) Alone = Alone
     ⊎ FromImage map history input left held now (Err engine_fault.Read)
 IsServed map history input left held now (Err Write) Alone
     = FromImage map history input left held now (Err engine_fault.Write)

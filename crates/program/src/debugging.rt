@@ -5,7 +5,7 @@ ghost use Rattle.model.specs.declared.bus_fault.BusFault.TheVariants.{BadMap};
 ghost use Rattle.program.specs.Refusals.{EndsDebug, of_engine};
 ghost use Rattle.program.specs.Streams.{IsServed};
 
-use arguments::{Refusal, map_of, read_source};
+use arguments::{ReadFault, Refusal, map_of, read_source};
 use arguments_core::DebugWords;
 use engine::{EngineFault, debug_source, debug_tape_from};
 use std::fs::File;
@@ -63,7 +63,7 @@ fn of_engine(fault: EngineFault) -> Refusal
         EngineFault::Source(fault) => Refusal::Source(fault),
         EngineFault::Tape(fault) => Refusal::Tape(fault),
         EngineFault::Session(fault) => Refusal::Session(fault),
-        EngineFault::Read => Refusal::Read,
+        EngineFault::Read => Refusal::Read(ReadFault::Other),
         EngineFault::Write => Refusal::Write,
         EngineFault::OutOfMemory => Refusal::OutOfMemory,
     }

@@ -9,6 +9,8 @@ use std::{env, io};
 
 /// Returns the words of the process, its own name left out.
 ///
+/// No clause can say what the system hands over, so tests show it.
+///
 /// # Errors
 ///
 /// `OutOfMemory` if an allocation fails, `InvalidData` if a word is no UTF-8.

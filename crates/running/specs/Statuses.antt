@@ -4,6 +4,7 @@ use Rattle.model.specs.declared.event.EventFault.TheVariants.{ConsoleFull}
 use Rattle.console.specs.declared.ending.Ending.{Ending}
 use Rattle.console.specs.declared.ending.PlayFault.{PlayFault}
 use Rattle.console.specs.declared.ending.PlayFault.TheVariants as play_fault
+use Rattle.arguments.specs.declared.refusal.ReadFault.TheVariants.{Other}
 use Rattle.arguments.specs.declared.refusal.Refusal.{Refusal}
 use Rattle.arguments.specs.declared.refusal.Refusal.TheVariants as refusal
 use Rattle.console.specs.declared.ending.Ending.TheVariants.{Until, Rest, InputOver, Limit, Refused}
@@ -20,5 +21,5 @@ status_of_ending (Refused fault) ended = 11
 
 -- A stream that failed, as the program's refusal.
 abbrev pub refusal_of : PlayFault → Refusal
-refusal_of play_fault.Read = refusal.Read
+refusal_of play_fault.Read = refusal.Read Other
 refusal_of play_fault.Write = refusal.Write

@@ -9,7 +9,7 @@ ghost use Rattle.running.specs.Statuses.{refusal_of};
 ghost use Rattle.running.specs.Told.{no_place_line, unplaced_line};
 
 use crate::wording::{NO_PLACE, PROGRAM};
-use arguments::{Refusal, put_three};
+use arguments::{ReadFault, Refusal, put_three};
 use console::PlayFault;
 use loading::{Loaded, place_of};
 use std::io::Write;
@@ -61,7 +61,7 @@ pub fn refusal_of(fault: PlayFault) -> Refusal
     ensures { result ≡ refusal_of fault }
 {
     match fault {
-        PlayFault::Read => Refusal::Read,
+        PlayFault::Read => Refusal::Read(ReadFault::Other),
         PlayFault::Write => Refusal::Write,
     }
 }

@@ -15,7 +15,7 @@ at_least_one (Source fault) = omega arith
 at_least_one (Tape fault) = omega arith
 at_least_one (Session fault) = omega arith
 at_least_one OutOfMemory = omega arith
-at_least_one Read = omega arith
+at_least_one (Read why) = omega arith
 at_least_one Write = omega arith
 
 is_done : (fault : Bool) (result : ℕ) → result ≡ (if fault then 5 else 0) → IsDone result

@@ -5,3 +5,4 @@ pub mod Ends
 pub mod Made
 pub mod Seeing
 pub mod Telling
+pub mod Naming

@@ -62,8 +62,8 @@ module _ (watched seen held now : Option (List ℕ)) (fault : Bool) (passes : Pa
   module _ (map : MapSpec) (history : ℕ) (input left : Option (List ℕ)) (Alone Left : Type 0) (alone : Alone → Left) where
     pub served_passes : (outcome : Result ⊤ Refusal) → IsServed map history input left watched seen outcome Alone → IsServed map history input left held now outcome Left
     served_passes (Ok done) h = (h.0, serves_pass _ input left (Ok done) h.1)
-    served_passes (Err Read) (inl a) = inl (alone a)
-    served_passes (Err Read) (inr h) = inr (h.0, serves_pass _ input left (Err engine_fault.Read) h.1)
+    served_passes (Err (Read why)) (inl a) = inl (alone a)
+    served_passes (Err (Read why)) (inr h) = inr (h.0, serves_pass _ input left (Err engine_fault.Read) h.1)
     served_passes (Err Write) h = (h.0, serves_pass _ input left (Err engine_fault.Write) h.1)
     served_passes (Err OutOfMemory) (inl a) = inl (alone a)
     served_passes (Err OutOfMemory) (inr h) = inr (h.0, serves_pass _ input left (Err engine_fault.OutOfMemory) h.1)

@@ -1,6 +1,7 @@
 -- What `debug` with `--strict` does beside a plain `debug`. Source: mos65.
 use Rattle.std.specs.Prelude.{◌≡◌, ◌≤◌, ◌⊎◌, ⊤, ℕ, Bool, true, false, List, [], ◌∷◌, Option, Some, None, IfSome, bytes_eq, codes, if◌then◌else◌, Result, MatchResult}
 use Rattle.std.specs.Io.KnownBytes.{Appends}
+use Rattle.arguments.specs.FaultLines.{IsTold}
 use Rattle.arguments.specs.Statuses.{status_of}
 use Rattle.arguments.specs.Words.{Refuses}
 use Rattle.arguments.specs.declared.refusal.Refusal.{Refusal}
@@ -11,6 +12,7 @@ use Rattle.clap.specs.Words.{Text}
 use Rattle.model.specs.Event.{start}
 use Rattle.model.specs.Session.{Session, new_session}
 use Rattle.model.specs.Transcript.{transcript}
+use Rattle.program.specs.Named.{IsToldOfSession}
 use Rattle.program.specs.Runs.{Streams, TellsMap, map_asked}
 use Rattle.program.specs.Streams.{IsServed}
 use Rattle.strict_debug.specs.Seen.{seen_in}
@@ -74,3 +76,14 @@ pub record ServesStrict (plain : List Text) (streams : Streams) (status : ℕ)
   -- Words that are right do what they ask for.
   pub serves : (d : DebugAsked) → asked plain ≡ Some (debug d) → IsTaken plain
       → RunsStrict d streams status (Unread × Unwritten)
+
+-- The error stream got the fault line of words that are refused, or that of the session that they ask
+-- for.
+abbrev pub IsToldStrict : List Text → ℕ → Option (List ℕ) → Option (List ℕ) → Type 0
+IsToldStrict plain status held now = IsTold status held now
+    ⊎ ((d : DebugAsked) × (asked plain ≡ Some (debug d)) × IsToldOfSession d.file status held now)
+
+-- The fault line of the session that right words ask for.
+abbrev pub NamesFile : List Text → ℕ → Option (List ℕ) → Option (List ℕ) → Type 0
+NamesFile plain status held now = (d : DebugAsked) → asked plain ≡ Some (debug d) → IsTaken plain
+    → 1 ≤ status → status ≤ 4 → IsToldOfSession d.file status held now

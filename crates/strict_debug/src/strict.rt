@@ -1,16 +1,20 @@
 //! `debug` with `--strict`.
 
-ghost use Rattle.std.specs.Prelude.{◌≡◌, ◌≤◌, ◌⊎◌, if◌then◌else◌};
-ghost use Rattle.arguments.specs.FaultLines.{IsTold, IsToldOfWords};
+ghost use Rattle.std.specs.Prelude.{◌≡◌, ◌≤◌, ◌⊎◌, IfNone, IfSome, if◌then◌else◌};
+ghost use Rattle.arguments.specs.FaultLines.{IsToldOfWords};
 ghost use Rattle.arguments.specs.Words.{IsStatusOf, texts};
+ghost use Rattle.arguments_core.specs.Asked.{DebugAsked, debug};
 ghost use Rattle.arguments_core.specs.Refused.{IsTaken};
-ghost use Rattle.strict_debug.specs.Strict.{IsDone, ServesStrict, plain_words};
+ghost use Rattle.arguments_core.specs.Views.{debug_view, view};
+ghost use Rattle.program.specs.Named.{IsToldOfSession};
+ghost use Rattle.strict_debug.specs.Strict.{IsDone, IsToldStrict, NamesFile, RunsStrict};
+ghost use Rattle.strict_debug.specs.Strict.{ServesStrict, plain_words};
 
 use crate::Watch;
 use crate::asked::plain_words;
 use arguments::{Refusal, WordsFault, refuse, refused_words};
-use arguments_core::read_words;
-use program::program;
+use arguments_core::{DebugWords, Words, read_words};
+use program::debug_named;
 use std::io::{Read, Write};
 use std::rt::Files;
 
@@ -36,6 +40,46 @@ fn refused<O: Write, E: Write>(fault: WordsFault, output: O, errors: &mut E) -> 
     (status, output)
 }
 
+/// Returns what words ask `debug` for, or `None` if they are of another word.
+fn as_debug<'a>(words: Words<'a>) -> Option<DebugWords<'a>>
+    ensures some { IfSome result (λ w. view words.entry ≡ debug (debug_view w)) }
+    ensures none { IfNone result ((d : DebugAsked) → ¬ (view words.entry ≡ debug d)) }
+{
+    match words {
+        Words::Debug(words) => Some(words),
+        Words::Asm(_) => None,
+        Words::Dis(_) => None,
+    }
+}
+
+/// Debugs the file of the words, and returns the exit status with `--strict` and the writer of the
+/// replies.
+fn serve_session<H: Files + AllocGlobal, R: Read, O: Write, E: Write>(
+    rt: &H,
+    words: &DebugWords<'_>,
+    input: &mut R,
+    output: O,
+    errors: &mut E,
+) -> (u8, O)
+    ensures status { result.0 ≤ 5 }
+    ensures quiet { IsDone result.0 → errors.new ≡ errors.old }
+    ensures told { 1 ≤ result.0 → result.0 ≤ 4 → IsToldOfSession words.now.file.now result.0
+        (E.contents errors.old) (E.contents errors.new) }
+    ensures untouched { 1 ≤ result.0 → result.0 ≤ 2
+        → (input.new ≡ input.old) × (result.1 ≡ output) }
+    ensures runs { RunsStrict (debug_view words.now) (record {
+      given = R.remaining input.old;
+      left = R.remaining input.new;
+      held = O.contents output;
+      now = O.contents result.1;
+    }) result.0 ((input.new ≡ input.old) × (result.1 ≡ output)) }
+{
+    let mut watch = Watch::over(output);
+    let status = debug_named(rt, words, input, &mut watch, errors);
+    let (has_fault, output) = watch.finish();
+    (status_of_replies(status, has_fault), output)
+}
+
 /// Does what the words of a plain `debug` ask for, and returns the exit status with `--strict` and
 /// the writer of the replies.
 fn serve<H: Files + AllocGlobal, R: Read, O: Write, E: Write>(
@@ -49,7 +93,10 @@ fn serve<H: Files + AllocGlobal, R: Read, O: Write, E: Write>(
     ensures quiet { IsDone result.0 → errors.new ≡ errors.old }
     ensures told { 1 ≤ result.0 → result.0 ≤ 4
         → IsTaken (texts plain.entry.now) ⊎ (3 ≤ result.0)
-        → IsTold result.0 (E.contents errors.old) (E.contents errors.new) }
+        → IsToldStrict (texts plain.entry.now) result.0
+        (E.contents errors.old) (E.contents errors.new) }
+    ensures named { NamesFile (texts plain.entry.now) result.0
+        (E.contents errors.old) (E.contents errors.new) }
     ensures serves { ServesStrict (texts plain.entry.now) (record {
       given = R.remaining input.old;
       left = R.remaining input.new;
@@ -58,12 +105,10 @@ fn serve<H: Files + AllocGlobal, R: Read, O: Write, E: Write>(
     }) result.0 (input.new ≡ input.old) (result.1 ≡ output) }
 {
     match read_words(rt.alloc(), plain) {
-        Ok(_) => {
-            let mut watch = Watch::over(output);
-            let status = program(rt, plain, input, &mut watch, errors);
-            let (has_fault, output) = watch.finish();
-            (status_of_replies(status, has_fault), output)
-        }
+        Ok(words) => match as_debug(words) {
+            Some(words) => serve_session(rt, &words, input, output, errors),
+            None => (refuse(Refusal::Words, errors), output),
+        },
         Err(fault) => refused(fault, output, errors),
     }
 }
@@ -72,8 +117,9 @@ fn serve<H: Files + AllocGlobal, R: Read, O: Write, E: Write>(
 /// status and the writer of the replies.
 ///
 /// The replies are those of a plain `debug`, byte for byte, and so are the statuses 1 to 4. The
-/// status of a session that has come to its end is 5 if a line of the replies begins with `?` or
-/// `!`, or tells that a run ended in a fault, and otherwise 0. Source: mos65.
+/// fault line of a session names its file. The status of a session that has come to its end is 5
+/// if a line of the replies begins with `?` or `!`, or tells that a run ended in a fault, and
+/// otherwise 0. Source: mos65.
 pub fn strict_debug<H: Files + AllocGlobal, R: Read, O: Write, E: Write>(
     rt: &H,
     words: &[&str],
@@ -86,7 +132,12 @@ pub fn strict_debug<H: Files + AllocGlobal, R: Read, O: Write, E: Write>(
     ensures quiet { IsDone result.0 → errors.new ≡ errors.old }
     ensures told { 1 ≤ result.0 → result.0 ≤ 4
         → IsTaken (plain_words (texts words.entry.now)) ⊎ (3 ≤ result.0)
-        → IsTold result.0 (E.contents errors.old) (E.contents errors.new) }
+        → IsToldStrict (plain_words (texts words.entry.now)) result.0
+        (E.contents errors.old) (E.contents errors.new) }
+    // The line of a session that words ask for names its file, unless a standard stream may have
+    // failed.
+    ensures named { NamesFile (plain_words (texts words.entry.now)) result.0
+        (E.contents errors.old) (E.contents errors.new) }
     // Words that are wrong are refused as those of a plain `debug`, and words that are right serve
     // its session, whose replies the status counts.
     ensures serves { ServesStrict (plain_words (texts words.entry.now)) (record {

@@ -44,7 +44,7 @@ refused_ends text head next lines bus_map (Source fault) headed is ends =
 refused_ends text head next lines bus_map (Tape fault) headed is ends = absurd ends
 refused_ends text head next lines bus_map (NoSession fault) headed is ends = absurd ends
 refused_ends text head next lines bus_map OutOfMemory headed is ends = tt
-refused_ends text head next lines bus_map Read headed is ends = tt
+refused_ends text head next lines bus_map (Read why) headed is ends = tt
 refused_ends text head next lines bus_map Write headed is ends = absurd ends
 
 pub source_ends : (text : List ℕ) (head : SeenHead) (next : ℕ) (lines : List (List ℕ)) (bus_map : Map) (fault : TestFault)

@@ -1,6 +1,6 @@
 -- What clap's definition of a parse finds among the words of `test`.
-use Rattle.std.proofs.Common.{◌≡◌, ◌∙◌, List, Option, true, refl, codes, ap, subst}
-use Rattle.arguments.specs.Words.{Fits, value_in}
+use Rattle.std.proofs.Common.{◌≡◌, ◌∙◌, List, Option, true, refl, codes, ap}
+use Rattle.arguments.specs.Words.{value_in}
 use Rattle.clap.proofs.OnLiterals.{clap_on_literals}
 use Rattle.clap.proofs.WalkLemmas.{raw_values-rows}
 use Rattle.clap.specs.Words.{App, Text, all_of, first_value, found_of, is_simple, is_simple_and_free, matches_of, rows_of}
@@ -15,9 +15,6 @@ test_free = refl
 pub test_simple : is_simple test ≡ true
 unfolding clap_on_literals
 test_simple = refl
-
-pub test_fits : (app : App) (words : List Text) → app ≡ test → Fits app words → Fits test words
-test_fits app words is fits = subst (λ (a : App). Fits a words) is fits
 
 -- All values that are found of a name are those of the definition.
 all_found : (app : App) (words : List Text) (m : ArgMatches) (name : Text) → app ≡ test → rows_of (found_of m) ≡ matches_of app words → all_values (found_of m) name ≡ values_in words name

@@ -42,7 +42,7 @@ EndsRefused (Source fault) = (file : HeadedFile) × (source : List ℕ)
 EndsRefused (NoMap fault) = (file : HeadedFile) × (fault ≡ BadMap)
     × (is_map file.head.rom file.head.port ≡ false)
 EndsRefused OutOfMemory = ⊤
-EndsRefused Read = ⊤
+EndsRefused (Read why) = ⊤
 EndsRefused refusal = ⊥
 
 -- Why a file cannot be tested: its head or a row has this fault, or it is refused.
@@ -67,7 +67,7 @@ pub record IsUntested (status : ℕ) : Type 0 where
 abbrev pub EndsAssembling : Map → Refusal → Type 0
 EndsAssembling bus_map (Source fault) = (source : List ℕ) × HasFault bus_map source fault
 EndsAssembling bus_map OutOfMemory = ⊤
-EndsAssembling bus_map Read = ⊤
+EndsAssembling bus_map (Read why) = ⊤
 EndsAssembling bus_map refusal = ⊥
 
 -- The same of a source that the report is not to replace.

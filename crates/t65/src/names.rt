@@ -6,7 +6,7 @@ ghost use Rattle.t65.specs.Ends.{EndsTest};
 ghost use Rattle.t65.specs.Paths.{begins_at_root, folder_for, name_start, source_path};
 
 use crate::fault::TestFault;
-use arguments::{Refusal, read_most};
+use arguments::{ReadFault, Refusal, read_most};
 use std::alloc::{AllocError, Global};
 use std::rt::Files;
 
@@ -80,12 +80,15 @@ fn joined(alloc: Global, front: &[u8], back: &[u8]) -> Result<Vec<u8>, AllocErro
 pub fn source_path(alloc: Global, file: &str, name: &[u8]) -> Result<String, TestFault>
     ensures path { IfOk result (λ path. string_bytes path ≡ source_path file.now name.now) }
     ensures fault { IfErr result (λ fault. (fault ≡ TestFault.Refused Refusal.OutOfMemory)
-        ⊎ ((fault ≡ TestFault.Refused Refusal.Read) × ¬ IsUtf8 (source_path file.now name.now))) }
+        ⊎ ((fault ≡ TestFault.Refused (Refusal.Read ReadFault.Other))
+        × ¬ IsUtf8 (source_path file.now name.now))) }
     ensures refused { IfErr result EndsTest }
 {
     let folder = folder_for(file.as_bytes(), name);
     match joined(alloc, folder, name) {
-        Ok(path) => String::from_utf8(path).map_err(|_| TestFault::Refused(Refusal::Read)),
+        Ok(path) => String::from_utf8(path).map_err(|_| TestFault::Refused(Refusal::Read(
+            ReadFault::Other,
+        ))),
         Err(_) => Err(TestFault::Refused(Refusal::OutOfMemory)),
     }
 }

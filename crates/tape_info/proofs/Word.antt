@@ -14,7 +14,7 @@ map_of asked (Source fault) ends two = absurd ends
 map_of asked (Tape fault) ends two = absurd (omega (arith, two))
 map_of asked (Session fault) ends two = absurd ends
 map_of asked OutOfMemory ends two = absurd (omega (arith, two))
-map_of asked Read ends two = absurd (omega (arith, two))
+map_of asked (Read why) ends two = absurd (omega (arith, two))
 map_of asked Write ends two = absurd ends
 
 pub no_map : (asked : InfoAsked) → (f : Refusal) × EndsInfo asked f × (status_of f ≡ 2) → is_map None asked.port ≡ false

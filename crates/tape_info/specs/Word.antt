@@ -26,7 +26,7 @@ abbrev pub EndsInfo : InfoAsked → Refusal → Type 0
 EndsInfo asked (Map fault) = (fault ≡ BadMap) × (is_map None asked.port ≡ false)
 EndsInfo asked (Tape fault) = fault ≡ too_long_file
 EndsInfo asked OutOfMemory = ⊤
-EndsInfo asked Read = ⊤
+EndsInfo asked (Read why) = ⊤
 EndsInfo asked refusal = ⊥
 
 -- The words fit, each value is one that its name can have, and a fact holds of what they ask for.

@@ -12,7 +12,7 @@ neither (Source fault) ends two = ends
 neither (Tape fault) ends two = omega (arith, two)
 neither (Session fault) ends two = ends
 neither OutOfMemory ends two = omega (arith, two)
-neither Read ends two = omega (arith, two)
+neither (Read why) ends two = omega (arith, two)
 neither Write ends two = omega (arith, two)
 
 pub no_two : (f : Refusal) × EndsMend f × (status_of f ≡ 2) → ⊥

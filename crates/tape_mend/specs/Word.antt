@@ -53,7 +53,7 @@ IsAbout asked answer = IsSaid asked answer.is_right (string_bytes answer.text)
 abbrev pub EndsMend : Refusal → Type 0
 EndsMend (Tape fault) = fault ≡ too_long_file
 EndsMend OutOfMemory = ⊤
-EndsMend Read = ⊤
+EndsMend (Read why) = ⊤
 EndsMend Write = ⊤
 EndsMend refusal = ⊥
 

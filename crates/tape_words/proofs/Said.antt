@@ -37,7 +37,7 @@ some_status (Source fault) status is zero = omega (arith, is, zero)
 some_status (Tape fault) status is zero = omega (arith, is, zero)
 some_status (Session fault) status is zero = omega (arith, is, zero)
 some_status OutOfMemory status is zero = omega (arith, is, zero)
-some_status Read status is zero = omega (arith, is, zero)
+some_status (Read why) status is zero = omega (arith, is, zero)
 some_status Write status is zero = omega (arith, is, zero)
 
 -- 0: the text of a right answer was written

@@ -13,5 +13,5 @@ too_long_file = record { offset = 16777216; kind = kind.TooLong }
 abbrev pub EndsReadingText : Refusal → Type 0
 EndsReadingText (Tape fault) = fault ≡ too_long_file
 EndsReadingText OutOfMemory = ⊤
-EndsReadingText Read = ⊤
+EndsReadingText (Read why) = ⊤
 EndsReadingText fault = ⊥

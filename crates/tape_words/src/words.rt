@@ -8,16 +8,10 @@ ghost use Rattle.tape_words.specs.Asked.{info_view, mend_asked, mend_by, mend_vi
 ghost use Rattle.tape_words.specs.CommandLines.{cmp, info, mend};
 
 use crate::command::{cmp_command, info_command, mend_command};
-use arguments::{WordsFault, matched, port_asked, profile_asked, wrong_value};
+use arguments::{WordsFault, matched, port_asked, profile_asked, value_fault};
 use clap::ArgMatches;
 use model::Profile;
 use std::alloc::Global;
-
-/// What is said of a wrong value that is none of an option that several words have.
-const OTHERWISE: &str = "a value is wrong";
-
-/// What is said where the tape and the file to write have one name.
-const ONE_NAME: &str = "TAPE and OUT have one name";
 
 /// What the words of `info TAPE [--port HHHH] [--profile N|C]` ask for.
 #[derive(Clone, Copy)]
@@ -98,7 +92,7 @@ pub fn read_info_words<'a>(alloc: Global, words: &'a [&'a str]) -> Result<InfoWo
     let matches = matched(info_command(alloc)?, words)?;
     match info_words(&matches) {
         Some(words) => Ok(words),
-        None => Err(WordsFault::Wrong(wrong_value(&matches, OTHERWISE))),
+        None => Err(value_fault(&matches)),
     }
 }
 
@@ -115,7 +109,7 @@ pub fn read_cmp_words<'a>(alloc: Global, words: &'a [&'a str]) -> Result<CmpWord
     let matches = matched(cmp_command(alloc)?, words)?;
     match cmp_words(&matches) {
         Some(words) => Ok(words),
-        None => Err(WordsFault::Wrong(wrong_value(&matches, OTHERWISE))),
+        None => Err(value_fault(&matches)),
     }
 }
 
@@ -132,6 +126,6 @@ pub fn read_mend_words<'a>(alloc: Global, words: &'a [&'a str]) -> Result<MendWo
     let matches = matched(mend_command(alloc)?, words)?;
     match mend_words(&matches) {
         Some(words) => Ok(words),
-        None => Err(WordsFault::Wrong(wrong_value(&matches, ONE_NAME))),
+        None => Err(WordsFault::Wrong("TAPE and OUT have one name")),
     }
 }

@@ -18,6 +18,7 @@ use Rattle.model.specs.Event.{start}
 use Rattle.model.specs.Session.{Session, new_session}
 use Rattle.model.specs.State.{State}
 use Rattle.arguments.specs.Statuses.{status_of}
+use Rattle.arguments.specs.declared.refusal.ReadFault.TheVariants.{Other}
 use Rattle.arguments.specs.declared.refusal.Refusal.{Refusal}
 use Rattle.arguments.specs.declared.refusal.Refusal.TheVariants.{OutOfMemory, Read, Write}
 use Rattle.running.specs.Places.{place_asked}
@@ -109,7 +110,7 @@ WroteNotes a assembly notes held now = (sites : Sites) × AreSites assembly site
 -- Memory ran out, or a stream failed.
 abbrev pub IsOfStreams : Refusal → Type 0
 IsOfStreams OutOfMemory = ⊤
-IsOfStreams Read = ⊤
+IsOfStreams (Read Other) = ⊤
 IsOfStreams Write = ⊤
 IsOfStreams refusal = ⊥
 

@@ -1,14 +1,16 @@
 use Rattle.std.proofs.Common.{◌∙◌, sym, subst}
 use Rattle.arguments.specs.Words.{Fits, IsMisfit, texts}
 use Rattle.clap.specs.Words.{App, app_of, subcommand_rows_of}
-use Rattle.arguments_core.proofs.Found.{found_asked, memory_or, memory_unless, not_both, refused}
+use Rattle.arguments.proofs.Parsed.{not_both, served_by}
+use Rattle.arguments_core.proofs.Found.{found_asked, memory_or, refused}
+use Rattle.arguments_core.specs.CommandLine.{mos65}
 use Rattle.arguments_core.specs.Views.{view}
 use Rattle.arguments_core.proofs.read.read_words.Goals as goal
 
 pub returns-in_err-matches-clause-served : goal.returns-in_err-matches-clause-served
 returns-in_err-matches-clause-served c a fits h =
-    memory_unless c.from_residual-in_err-matches.result c.in_err-matches.field-0.0 c.from_residual-in_err-matches.ensures.1
-    (c.in_err-matches.ensures.served (subst (λ (a : App). Fits a (texts c.args.words.now)) (sym c.in_ok-command.ensures.shape) fits))
+    served_by (app_of c.in_ok-command.field-0) mos65 (texts c.args.words.now) c.in_err-matches.field-0.0 c.from_residual-in_err-matches.result
+    c.in_ok-command.ensures.shape c.in_err-matches.ensures.served c.from_residual-in_err-matches.ensures.1 fits
 
 pub returns-in_err-matches-clause-wrong : goal.returns-in_err-matches-clause-wrong
 returns-in_err-matches-clause-wrong c fits h =

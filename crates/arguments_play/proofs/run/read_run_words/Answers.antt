@@ -1,6 +1,6 @@
 use Rattle.std.proofs.Common.{sym, ◌∙◌, ◌≡◌, None}
+use Rattle.arguments.proofs.Parsed.{asked_by, fits_by, not_both, refused_by, served_by}
 use Rattle.arguments.specs.Words.{texts}
-use Rattle.arguments_play.proofs.Found.{asked_by, fits_by, not_both, refused_by, served_by}
 use Rattle.arguments_play.specs.Run.{asked, run, run_asked}
 use Rattle.clap.specs.Words.{app_of, first_value, found_of}
 use Rattle.arguments_play.proofs.run.read_run_words.Goals as goal

@@ -1,7 +1,7 @@
 use Rattle.std.proofs.Common.{◌≡◌, None, inl, inr, refl, subst}
 use Rattle.arguments.proofs.Refusing.{not_refused, refuses}
 use Rattle.arguments.specs.Words.{IsStatusOf, texts}
-use Rattle.arguments_play.proofs.Found.{not_both, one_asked}
+use Rattle.arguments.proofs.Parsed.{not_both, one_asked}
 use Rattle.arguments_play.specs.Mon.{MonAsked, asked, mon, mon_view}
 use Rattle.loading.proofs.Unloaded.{unloaded_by_memory}
 use Rattle.mon.specs.Done.{IsDone}

@@ -1,7 +1,9 @@
 use Rattle.std.proofs.Common.{sym, ◌∙◌}
+use Rattle.arguments.proofs.Parsed.{fits_by}
 use Rattle.arguments.specs.Words.{texts}
 use Rattle.clap.specs.Words.{app_of}
-use Rattle.t65.proofs.Read.{asked_found, test_fits}
+use Rattle.t65.proofs.Read.{asked_found}
+use Rattle.t65.specs.CommandLine.{test}
 use Rattle.t65.proofs.words.read_words.Goals as goal
 
 pub returns-in-Ok-Some-clause-asked : goal.returns-in-Ok-Some-clause-asked
@@ -12,6 +14,6 @@ returns-in-Ok-Some-clause-asked c =
 pub returns-in-Ok-None-clause-refused : goal.returns-in-Ok-None-clause-refused
 returns-in-Ok-None-clause-refused c =
     let told = rw c.in-Ok-None.field-0-is at c.in-Ok-None.ensures in (
-      test_fits (app_of c.in_ok-test_command.field-0) (texts c.args.words.now) c.in_ok-test_command.ensures.shape c.in_ok-matches.ensures.fits,
+      fits_by (app_of c.in_ok-test_command.field-0) test (texts c.args.words.now) c.in_ok-test_command.ensures.shape c.in_ok-matches.ensures.fits,
       sym (told ∙ asked_found (app_of c.in_ok-test_command.field-0) (texts c.args.words.now) c.in_ok-matches.matches c.in_ok-test_command.ensures.shape c.in_ok-matches.ensures.values c.in_ok-matches.ensures.rows),
     )

@@ -1,17 +1,17 @@
-use Rattle.std.proofs.Common.{sym, ◌∙◌}
+use Rattle.std.proofs.Common.{None, sym, ◌≡◌, ◌∙◌}
+use Rattle.arguments.proofs.Parsed.{asked_by, fits_by, value_refused}
 use Rattle.arguments.specs.Words.{texts}
 use Rattle.clap.specs.Words.{app_of, first_value, found_of}
-use Rattle.tape_words.specs.Asked.{cmp_by}
+use Rattle.tape_words.specs.Asked.{cmp_asked, cmp_by}
 use Rattle.tape_words.specs.CommandLines.{cmp}
-use Rattle.tape_words.proofs.Read.{asked_of, fits_of}
 use Rattle.tape_words.proofs.words.read_cmp_words.Goals as goal
 
 pub returns-in-Some-clause-asked : goal.returns-in-Some-clause-asked
 returns-in-Some-clause-asked c =
-    sym (c.in-Some.ensures ∙ asked_of cmp_by (app_of c.in_ok-cmp_command.field-0) cmp (texts c.args.words.now) (first_value (found_of c.in_ok-matches.matches)) c.in_ok-cmp_command.ensures.shape c.in_ok-matches.ensures.values)
+    sym (c.in-Some.ensures ∙ asked_by cmp_by (app_of c.in_ok-cmp_command.field-0) cmp (texts c.args.words.now) (first_value (found_of c.in_ok-matches.matches)) c.in_ok-cmp_command.ensures.shape c.in_ok-matches.ensures.values)
 
 pub returns-clause-refused : goal.returns-clause-refused
-returns-clause-refused c = (
-  fits_of (app_of c.in_ok-cmp_command.field-0) cmp (texts c.args.words.now) c.in_ok-cmp_command.ensures.shape c.in_ok-matches.ensures.fits,
-  sym (c.in-None.ensures ∙ asked_of cmp_by (app_of c.in_ok-cmp_command.field-0) cmp (texts c.args.words.now) (first_value (found_of c.in_ok-matches.matches)) c.in_ok-cmp_command.ensures.shape c.in_ok-matches.ensures.values),
-)
+returns-clause-refused c =
+    value_refused cmp (texts c.args.words.now) (cmp_asked (texts c.args.words.now) ≡ None) _ _ c.value_fault.ensures
+    (fits_by (app_of c.in_ok-cmp_command.field-0) cmp (texts c.args.words.now) c.in_ok-cmp_command.ensures.shape c.in_ok-matches.ensures.fits)
+    (sym (c.in-None.ensures ∙ asked_by cmp_by (app_of c.in_ok-cmp_command.field-0) cmp (texts c.args.words.now) (first_value (found_of c.in_ok-matches.matches)) c.in_ok-cmp_command.ensures.shape c.in_ok-matches.ensures.values))
