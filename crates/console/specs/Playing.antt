@@ -8,6 +8,7 @@ use Rattle.model.specs.Transcript.{after_input}
 use Rattle.model.specs.declared.event.EventFault.{EventFault}
 use Rattle.model.specs.declared.registers.Regs.{Regs}
 use Rattle.model.specs.declared.registers.Flags.{Flags}
+use Rattle.cpu_step.specs.PlainSteps.{stays}
 use Rattle.accesses.specs.Access.{access_here, puts_byte}
 use Rattle.console.specs.Line.{line_at, room_of}
 use Rattle.console.specs.declared.memo.Memo.{Memo}
@@ -64,11 +65,6 @@ ending_before memo asked came regs =
     else None
 
 -- ---- a step
-
--- A step is a jump or a branch to itself if PC and S are what they were. A return, a call and an
--- interrupt change S.
-abbrev pub stays : Regs → Regs → Bool
-stays before after = (before.pc == after.pc) && (before.s == after.s)
 
 -- What is remembered after a step: whether it was a jump to itself; and the registers at the last
 -- look for which no line came, if no byte was stored since.
