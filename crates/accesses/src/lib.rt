@@ -15,7 +15,7 @@ mod written;
 
 pub use cpu_step::Access;
 pub use instruction::{access_here, row_here};
-pub use moment::{Moment, moment_of};
+pub use moment::{Moment, entry_stores, is_break, moment_of};
 pub use tally::{Count, Tally};
 pub use touches::{Addresses, reads_here, stores_here};
 pub use written::Written;

@@ -1,9 +1,11 @@
 //! What is about to happen, and what has come of it.
 
 ghost use Rattle.std.specs.Prelude.{◌≡◌, ◌==◌, ◌+◌, ◌%◌, ◌^◌};
-ghost use Rattle.accesses.specs.Moments.{entered, is_break, moment_of, pushed_break};
+ghost use Rattle.accesses.specs.Moments.{entered, entry_stores, is_break, moment_of, pushed_break};
+ghost use Rattle.accesses.specs.Moments.{stored_by};
 
 use crate::row_here;
+use crate::touches::{Addresses, addresses, below};
 use debugger::Session;
 use model::{Mnemonic, Regs, Row};
 
@@ -35,7 +37,7 @@ pub fn moment_of(session: &Session) -> Moment
 }
 
 /// Returns whether a row is that of BRK.
-fn is_break(row: Option<Row>) -> bool
+pub fn is_break(row: Option<Row>) -> bool
     ensures { result ≡ is_break row }
 {
     match row {
@@ -51,6 +53,14 @@ fn pushed_break(session: &Session) -> bool
     let s = session.regs().s;
     let status = session.peek(0x0100 + s.wrapping_add(1) as u16);
     (status / 16) % 2 == 1
+}
+
+/// Returns the addresses where an interrupt entry pushes, by the stack pointer before it. Source:
+/// MCS6500 manual, chapter 9.
+pub fn entry_stores(s: u8) -> Addresses
+    ensures { result.items ≡ entry_stores s }
+{
+    addresses(&[below(s, 0), below(s, 1), below(s, 2)])
 }
 
 impl Moment {
@@ -80,5 +90,18 @@ impl Moment {
         self.has_pushed(session.regs().s)
             && self.has_taken(session.cycles())
             && !(is_break(self.row) && pushed_break(session))
+    }
+
+    /// Returns where the step that was made from here has stored: `stores`, which are those of its
+    /// instruction, or what an interrupt entry pushes. The session is in the state after it.
+    pub fn stored(&self, session: &Session, stores: Addresses) -> Addresses
+        ensures { result.items ≡ stored_by (entered self.now session.now.current) self.now.regs.s
+            stores.items }
+    {
+        if self.was_entered(session) {
+            entry_stores(self.regs.s)
+        } else {
+            stores
+        }
     }
 }

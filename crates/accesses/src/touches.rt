@@ -16,7 +16,7 @@ use optable::operation;
 pub type Addresses = ArrayVec<u16, 3>;
 
 /// Returns these addresses.
-fn addresses(listed: &[u16]) -> Addresses
+pub fn addresses(listed: &[u16]) -> Addresses
     requires { length listed.now ≤ 3 }
     ensures { result.items ≡ listed.now }
 {
@@ -33,7 +33,7 @@ fn above(s: u8, count: u8) -> u16
 }
 
 /// Returns an address of the stack page, so many bytes below the stack pointer.
-fn below(s: u8, count: u8) -> u16
+pub fn below(s: u8, count: u8) -> u16
     requires { count ≤ 2 }
     ensures { result ≡ below s count }
 {

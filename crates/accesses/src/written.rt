@@ -1,8 +1,10 @@
 //! Which addresses were ever written.
 
-ghost use Rattle.std.specs.Prelude.{◌≡◌, IfOk, map, is_some, slice_set, true};
-ghost use Rattle.accesses.specs.Writing.{is_written};
+ghost use Rattle.std.specs.Prelude.{◌≡◌, IfOk, slice_set, true};
+ghost use Rattle.accesses.specs.Writing.{bytes_in, everywhere, is_written, or_everywhere};
+ghost use Rattle.accesses.specs.Writing.{with_bytes};
 
+use crate::Addresses;
 use memory_map::Image;
 use std::alloc::{AllocError, Global};
 use std::marker::Model;
@@ -29,7 +31,7 @@ impl Written {
     ///
     /// Errors: `AllocError` if an allocation fails.
     pub fn of_image(alloc: Global, image: &Image) -> Result<Written, AllocError>
-        ensures { IfOk result (λ w. w ≡ map is_some image.now) }
+        ensures { IfOk result (λ w. w ≡ bytes_in image.now) }
     {
         let cells = image
             .cells()
@@ -51,5 +53,42 @@ impl Written {
         ensures { result ≡ is_written self.now address }
     {
         self.cells[address as usize]
+    }
+
+    /// Notes that a byte was put at each of these addresses.
+    pub fn note_all(&mut self, addresses: &Addresses)
+        ensures { self.new ≡ with_bytes self.old addresses.now.items }
+    {
+        for address in addresses.as_slice() {
+            self.note(*address);
+        }
+    }
+
+    /// Returns the same addresses once more.
+    ///
+    /// Errors: `AllocError` if an allocation fails.
+    pub fn copied(&self, alloc: Global) -> Result<Written, AllocError>
+        ensures { IfOk result (λ w. w ≡ self.now) }
+    {
+        let cells = Vec::from_slice(alloc, self.cells.as_slice())?;
+        Ok(Written { cells })
+    }
+
+    /// Makes each address count as written.
+    fn fill(&mut self)
+        ensures { self.new ≡ everywhere }
+    {
+        self.cells.fill(true);
+    }
+
+    /// Returns these addresses, or all where each is to count as written.
+    pub fn or_everywhere(self, is_everywhere: bool) -> Written
+        ensures { result ≡ or_everywhere is_everywhere self }
+    {
+        let mut written = self;
+        if is_everywhere {
+            written.fill();
+        }
+        written
     }
 }

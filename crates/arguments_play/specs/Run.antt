@@ -9,11 +9,11 @@ use Rattle.arguments.specs.Words.{value_in}
 use Rattle.arguments_play.specs.declared.run.RunWords.{RunWords}
 use Rattle.clap.specs.Words.{App, Text, with_rule}
 
--- `FILE` with its map, `[--until WHERE] [--steps N] [--status A] [--cycles]`.
+-- `FILE` with its map, `[--until WHERE] [--steps N] [--status A] [--cycles] [--free]`.
 abbrev pub run : App
-run = with_rule (with_rule (with_rule (with_rule (with_file (unnamed (codes "run")))
+run = with_rule (with_rule (with_rule (with_rule (with_rule (with_file (unnamed (codes "run")))
     (option_rule (codes "until"))) (option_rule (codes "steps"))) (option_rule (codes "status")))
-    (flag_rule (codes "cycles"))
+    (flag_rule (codes "cycles"))) (flag_rule (codes "free"))
 
 pub record RunAsked : Type 0 where
   pub file : FileAsked
@@ -21,28 +21,30 @@ pub record RunAsked : Type 0 where
   pub steps : ℕ
   pub is_status_of_a : Bool
   pub tells_cycles : Bool
+  pub is_free : Bool
 
 -- The word after `--status` is `A`, if there is one.
 abbrev pub status_asked : Option Text → Option Bool
 status_asked None = Some false
 status_asked (Some word) = if bytes_eq word (codes "A") then Some true else None
 
-abbrev pub run_of : Option FileAsked → Option Text → Option ℕ → Option Bool → Bool
+abbrev pub run_of : Option FileAsked → Option Text → Option ℕ → Option Bool → Bool → Bool
     → Option RunAsked
-run_of (Some file) until (Some steps) (Some is_status_of_a) tells_cycles = Some (record {
+run_of (Some file) until (Some steps) (Some is_status_of_a) tells_cycles is_free = Some (record {
   file = file;
   until = until;
   steps = steps;
   is_status_of_a = is_status_of_a;
   tells_cycles = tells_cycles;
+  is_free = is_free;
 })
-run_of file until steps is_status_of_a tells_cycles = None
+run_of file until steps is_status_of_a tells_cycles is_free = None
 
 -- What the values of the names ask for, where each is one that its name can have.
 abbrev pub run_asked : (Text → Option Text) → Option RunAsked
 run_asked value = run_of (file_asked value) (value (codes "until"))
     (steps_asked (value (codes "steps"))) (status_asked (value (codes "status")))
-    (is_flag (value (codes "cycles")))
+    (is_flag (value (codes "cycles"))) (is_flag (value (codes "free")))
 
 -- What the words ask for, where the values that clap finds are right.
 abbrev pub asked : List Text → Option RunAsked
@@ -56,4 +58,5 @@ run_view w = record {
   steps = w.steps;
   is_status_of_a = w.is_status_of_a;
   tells_cycles = w.tells_cycles;
+  is_free = w.is_free;
 }

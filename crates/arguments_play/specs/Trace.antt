@@ -9,12 +9,12 @@ use Rattle.arguments_play.specs.declared.trace.TraceWords.{TraceWords}
 use Rattle.clap.specs.Words.{App, Text, with_rule}
 
 -- `FILE` with its map, `[--from WHERE] [--to WHERE] [--steps N] [--stores] [--count]
--- [--unwritten]`.
+-- [--unwritten] [--free]`.
 abbrev pub trace : App
-trace = with_rule (with_rule (with_rule (with_rule (with_rule (with_rule
+trace = with_rule (with_rule (with_rule (with_rule (with_rule (with_rule (with_rule
     (with_file (unnamed (codes "trace"))) (option_rule (codes "from")))
     (option_rule (codes "to"))) (option_rule (codes "steps"))) (flag_rule (codes "stores")))
-    (flag_rule (codes "count"))) (flag_rule (codes "unwritten"))
+    (flag_rule (codes "count"))) (flag_rule (codes "unwritten"))) (flag_rule (codes "free"))
 
 pub record TraceAsked : Type 0 where
   pub file : FileAsked
@@ -24,25 +24,29 @@ pub record TraceAsked : Type 0 where
   pub shows_stores : Bool
   pub counts : Bool
   pub finds_unwritten : Bool
+  pub is_free : Bool
 
 abbrev pub trace_of : Option FileAsked → Option Text → Option Text → Option ℕ → Bool → Bool → Bool
-    → Option TraceAsked
-trace_of (Some file) from to (Some steps) shows_stores counts finds_unwritten = Some (record {
-  file = file;
-  from = from;
-  to = to;
-  steps = steps;
-  shows_stores = shows_stores;
-  counts = counts;
-  finds_unwritten = finds_unwritten;
-})
-trace_of file from to steps shows_stores counts finds_unwritten = None
+    → Bool → Option TraceAsked
+trace_of (Some file) from to (Some steps) shows_stores counts finds_unwritten is_free
+    = Some (record {
+      file = file;
+      from = from;
+      to = to;
+      steps = steps;
+      shows_stores = shows_stores;
+      counts = counts;
+      finds_unwritten = finds_unwritten;
+      is_free = is_free;
+    })
+trace_of file from to steps shows_stores counts finds_unwritten is_free = None
 
 -- What the values of the names ask for, where each is one that its name can have.
 abbrev pub trace_asked : (Text → Option Text) → Option TraceAsked
 trace_asked value = trace_of (file_asked value) (value (codes "from")) (value (codes "to"))
     (steps_asked (value (codes "steps"))) (is_flag (value (codes "stores")))
     (is_flag (value (codes "count"))) (is_flag (value (codes "unwritten")))
+    (is_flag (value (codes "free")))
 
 -- What the words ask for, where the values that clap finds are right.
 abbrev pub asked : List Text → Option TraceAsked
@@ -58,4 +62,5 @@ trace_view w = record {
   shows_stores = w.shows_stores;
   counts = w.counts;
   finds_unwritten = w.finds_unwritten;
+  is_free = w.is_free;
 }

@@ -27,11 +27,14 @@ pub struct RunWords<'a> {
     pub is_status_of_a: bool,
     /// Whether cycles and steps are told at the end.
     pub tells_cycles: bool,
+    /// Whether a run goes on where nothing stands that could be run.
+    pub is_free: bool,
 }
 
 /// What the help of `run` shows below its options.
 const STATUSES: &str = "Exit status: 0 the run came to its end (with --status A the value of A),
 10 the limit of steps, 11 a fault of the program, 12 the console is full,
+13 nothing stands where the program runs,
 1 bad source or tape, 2 bad words or map, 3 out of memory, 4 I/O failed
 
 Example:
@@ -50,12 +53,14 @@ pub fn run_command<'a>(alloc: Global) -> Result<Command<'a>, Error>
     let steps = "The most steps to make [default: no limit]";
     let status = "A: the exit status is the value of A [default: 0]";
     let cycles = "Prints cycles and steps at the end, on the error stream";
+    let free = "Runs on where nothing was written, and at a BRK without a vector";
     let command = begin(alloc, "run", "mos65 run", about, STATUSES)?;
     let command = with_file_options(alloc, command)?
         .arg(option(alloc, "until", "WHERE", until))?
         .arg(option(alloc, "steps", "N", steps))?
         .arg(option(alloc, "status", "A", status))?
-        .arg(flag(alloc, "cycles", cycles))?;
+        .arg(flag(alloc, "cycles", cycles))?
+        .arg(flag(alloc, "free", free))?;
     Ok(command)
 }
 
@@ -79,6 +84,7 @@ fn asked<'a>(matches: &ArgMatches<'a>) -> Option<RunWords<'a>>
         steps: steps_asked(matches.get_str("steps"))?,
         is_status_of_a: status_asked(matches.get_str("status"))?,
         tells_cycles: is_given(matches, "cycles"),
+        is_free: is_given(matches, "free"),
     })
 }
 

@@ -31,12 +31,15 @@ pub struct TraceWords<'a> {
     pub counts: bool,
     /// Whether reads of memory that was never written are shown in place of rows.
     pub finds_unwritten: bool,
+    /// Whether a run goes on where nothing stands that could be run.
+    pub is_free: bool,
 }
 
 /// What the help of `trace` shows below its options.
 const STATUSES: &str = "The program's own output goes to the error stream.
 Exit status: 0 the program came to its end, 10 the limit of steps,
 11 a fault of the program, 12 the console is full,
+13 nothing stands where the program runs,
 1 bad source or tape, 2 bad words or map, 3 out of memory, 4 I/O failed
 
 Examples:
@@ -58,6 +61,7 @@ pub fn trace_command<'a>(alloc: Global) -> Result<Command<'a>, Error>
     let stores = "Shows what each step stored, and where";
     let count = "Shows no rows, but the visits and cycles of labels and lines";
     let unwritten = "Shows no rows, but reads of memory that nobody ever wrote";
+    let free = "Runs on where nothing was written, and at a BRK without a vector";
     let command = begin(alloc, "trace", "mos65 trace", about, STATUSES)?;
     let command = with_file_options(alloc, command)?
         .arg(option(alloc, "from", "WHERE", from))?
@@ -65,7 +69,8 @@ pub fn trace_command<'a>(alloc: Global) -> Result<Command<'a>, Error>
         .arg(option(alloc, "steps", "N", steps))?
         .arg(flag(alloc, "stores", stores))?
         .arg(flag(alloc, "count", count))?
-        .arg(flag(alloc, "unwritten", unwritten))?;
+        .arg(flag(alloc, "unwritten", unwritten))?
+        .arg(flag(alloc, "free", free))?;
     Ok(command)
 }
 
@@ -81,6 +86,7 @@ fn asked<'a>(matches: &ArgMatches<'a>) -> Option<TraceWords<'a>>
         shows_stores: is_given(matches, "stores"),
         counts: is_given(matches, "count"),
         finds_unwritten: is_given(matches, "unwritten"),
+        is_free: is_given(matches, "free"),
     })
 }
 

@@ -12,13 +12,17 @@ use Rattle.model.specs.Transcript.{after_input}
 use Rattle.model.specs.declared.event.Event.TheVariants as event
 use Rattle.model.specs.declared.event.EventFault.{EventFault}
 use Rattle.console.specs.Line.{line_at, room_of}
-use Rattle.console.specs.Playing.{Play, Turn, asks, ending_before, memo_after, line_for, with_line, came, turn_with, unless_ended, stepped, turn_of, Outcome, is_at, later, after_turn, played}
+use Rattle.accesses.specs.Footprint.{stores_here}
+use Rattle.accesses.specs.Moments.{entered, moment_of, step_stores, stored_by}
+use Rattle.accesses.specs.Writing.{with_bytes}
+use Rattle.accesses.specs.declared.moment.Moment.{Moment}
+use Rattle.console.specs.Playing.{Play, Turn, asks, ending_after, ending_here, memo_after, line_for, with_line, came, turn_with, unless_ended, stepped, turn_of, Outcome, is_at, later, after_turn, played}
 use Rattle.console.specs.Taking.{Waits}
-use Rattle.console.specs.Turns.{CutTurn, EndsOnce, EndsWith, IsLine, MayCome, TurnsTo, play_at, turn_to}
+use Rattle.console.specs.Turns.{CutTurn, EndsOnce, EndsWith, IsLine, Known, MayCome, TurnsTo, play_at, turn_to}
 use Rattle.console.specs.Written.{AreBytesOf, CutRun, RanAs}
 use Rattle.console.specs.declared.memo.Memo.{Memo}
 use Rattle.console.specs.declared.ending.Ending.{Ending}
-use Rattle.console.specs.declared.ending.Ending.TheVariants.{Limit, Refused, Until}
+use Rattle.console.specs.declared.ending.Ending.TheVariants.{Refused, Until}
 use Rattle.console.proofs.Lines.{line-none}
 use Rattle.console.proofs.Steps.{Leads}
 
@@ -31,34 +35,46 @@ line_told : (memo : Memo) (state : State) (told rest : List ℕ) (asked over : B
     → line_for memo state (told ++ rest) ≡ told
 line_told memo state told rest asked over e line may = ap (λ b. cond b (line_at (room_of state) (told ++ rest)) []) (sym e) ∙ line rest may
 
-with_told : (s t : Session) (memo : Memo) (told rest : List ℕ) → t ≡ after_input s told → with_line told (play_at s memo (told ++ rest)) ≡ play_at t memo rest
-with_told s t memo told rest e = ap (λ u. play_at u memo (drop (length told) (told ++ rest))) (sym e) ∙ ap (play_at t memo) (drop_told told rest)
+with_told : (s t : Session) (k : Known) (told rest : List ℕ) → t ≡ after_input s told → with_line told (play_at s k (told ++ rest)) ≡ play_at t k rest
+with_told s t k told rest e = ap (λ u. play_at u k (drop (length told) (told ++ rest))) (sym e) ∙ ap (play_at t k) (drop_told told rest)
 
-pub turned : (s t : Session) (memo : Memo) (told rest : List ℕ) (asked over some : Bool) → asked ≡ asks memo s.current → IsLine asked over (room_of s.current) told → MayCome over rest
+pub turned : (s t : Session) (k : Known) (told rest : List ℕ) (asked over some : Bool) → asked ≡ asks k.memo s.current → IsLine asked over (room_of s.current) told → MayCome over rest
     → t ≡ after_input s told → some ≡ came told
-    → turn_of (play_at s memo (told ++ rest)) ≡ unless_ended (ending_before memo asked some t.current.regs) (play_at t memo rest) (stepped (play_at t memo rest) asked some (step t.current))
+    → turn_of (play_at s k (told ++ rest)) ≡ unless_ended (ending_here k.memo k.written asked some t.current) (play_at t k rest) (stepped (play_at t k rest) asked some (step t.current))
 unfolding turn_of
-turned s t memo told rest asked over some e line may f h =
-    ap (λ b. turn_with b (line_for memo s.current (told ++ rest)) (play_at s memo (told ++ rest))) (sym e)
-    ∙ ap (λ l. turn_with asked l (play_at s memo (told ++ rest))) (line_told memo s.current told rest asked over e line may)
-    ∙ ap (λ q. unless_ended (ending_before memo asked (came told) q.session.current.regs) q (stepped q asked (came told) (step q.session.current))) (with_told s t memo told rest f)
-    ∙ ap (λ b. unless_ended (ending_before memo asked b t.current.regs) (play_at t memo rest) (stepped (play_at t memo rest) asked b (step t.current))) (sym h)
+turned s t k told rest asked over some e line may f h =
+    ap (λ b. turn_with b (line_for k.memo s.current (told ++ rest)) (play_at s k (told ++ rest))) (sym e)
+    ∙ ap (λ l. turn_with asked l (play_at s k (told ++ rest))) (line_told k.memo s.current told rest asked over e line may)
+    ∙ ap (λ q. unless_ended (ending_here k.memo k.written asked (came told) q.session.current) q (stepped q asked (came told) (step q.session.current))) (with_told s t k told rest f)
+    ∙ ap (λ b. unless_ended (ending_here k.memo k.written asked b t.current) (play_at t k rest) (stepped (play_at t k rest) asked b (step t.current))) (sym h)
 
 -- ---- the step of a turn
 
-pub refused : (s t : Session) (memo : Memo) (input : List ℕ) (asked some : Bool) (fault : EventFault) → event_of s.current event.Step ≡ Err fault → t ≡ s
-    → stepped (play_at s memo input) asked some (step s.current) ≡ turn_to (Some (Refused fault)) t memo input
+pub refused : (s t : Session) (k : Known) (input : List ℕ) (asked some : Bool) (fault : EventFault) → event_of s.current event.Step ≡ Err fault → t ≡ s
+    → stepped (play_at s k input) asked some (step s.current) ≡ turn_to (Some (Refused fault)) t k input
 unfolding event_of
-refused s t memo input asked some fault e f =
-    ap (λ r. stepped (play_at s memo input) asked some r) e ∙ ap (λ u. turn_to (Some (Refused fault)) u memo input) (sym f)
+refused s t k input asked some fault e f =
+    ap (λ r. stepped (play_at s k input) asked some r) e ∙ ap (λ u. turn_to (Some (Refused fault)) u k input) (sym f)
 
-pub made : (s t : Session) (state : State) (memo after : Memo) (input : List ℕ) (asked some : Bool) → event_of s.current event.Step ≡ Ok state → t ≡ with_state s state
-    → after ≡ memo_after memo asked some s.current state.regs
-    → stepped (play_at s memo input) asked some (step s.current) ≡ turn_to None t after input
+pub made : (s t : Session) (state : State) (k after : Known) (input : List ℕ) (asked some : Bool) → event_of s.current event.Step ≡ Ok state → t ≡ with_state s state
+    → after.memo ≡ memo_after k.memo asked some s.current state.regs → after.written ≡ with_bytes k.written (step_stores s.current state)
+    → stepped (play_at s k input) asked some (step s.current) ≡ turn_to None t after input
 unfolding event_of
-made s t state memo after input asked some e f h =
-    ap (λ r. stepped (play_at s memo input) asked some r) e ∙ ap (λ u. turn_to None u (memo_after memo asked some s.current state.regs) input) (sym f)
-    ∙ ap (λ m. turn_to None t m input) (sym h)
+made s t state k after input asked some e f h w =
+    let memo : Memo = memo_after k.memo asked some s.current state.regs in
+    let written : List Bool = with_bytes k.written (step_stores s.current state) in
+    ap (λ r. stepped (play_at s k input) asked some r) e
+    ∙ ap (λ u. turn_to None u (record { memo = memo; written = written }) input) (sym f)
+    ∙ ap (λ (m : Memo). turn_to None t (record { memo = m; written = written }) input) (sym h)
+    ∙ ap (λ (w : List Bool). turn_to None t (record { memo = after.memo; written = w }) input) (sym w)
+
+-- the bytes that a step has put somewhere
+pub bytes_made : (w v : List Bool) (s t : Session) (state : State) (m : Moment) (stores stored : List ℕ) → v ≡ with_bytes w stored → stored ≡ stored_by (entered m t.current) m.regs.s stores
+    → m ≡ moment_of s.current → stores ≡ stores_here s.current → t ≡ with_state s state → v ≡ with_bytes w (step_stores s.current state)
+bytes_made w v s t state m stores stored e f at here after =
+    e ∙ ap (with_bytes w) (f ∙ ap (λ (u : Session). stored_by (entered m u.current) m.regs.s stores) after
+    ∙ ap (λ (x : Moment). stored_by (entered x state) x.regs.s stores) at
+    ∙ ap (stored_by (entered (moment_of s.current) state) s.current.regs.s) here)
 
 pub step_made : (s after : State) → event_of s event.Step ≡ Ok after → step s ≡ Ok after
 unfolding event_of
@@ -79,10 +95,10 @@ line_over false room rest e = refl
 -- ---- one turn after another
 
 -- the run so far: whatever comes after what was told, it is so many steps and then the rest
-pub record RunsOn (until : Option ℕ) (limit : ℕ) (s : Session) (first : Memo) (told : List ℕ) (over : Bool) (steps : ℕ) (t : Session) (memo : Memo) : Type 0 where
+pub record RunsOn (until : Option ℕ) (limit : ℕ) (s : Session) (first : Known) (told : List ℕ) (over : Bool) (steps : ℕ) (t : Session) (memo : Known) : Type 0 where
   pub runs : (rest : List ℕ) → MayCome over rest → played until limit (play_at s first (told ++ rest)) ≡ later steps (played until (limit - steps) (play_at t memo rest))
 
-pub runs_none : (until : Option ℕ) (limit : ℕ) (s : Session) (first : Memo) (over : Bool) → RunsOn until limit s first [] over 0 s first
+pub runs_none : (until : Option ℕ) (limit : ℕ) (s : Session) (first : Known) (over : Bool) → RunsOn until limit s first [] over 0 s first
 runs_none until limit s first over = record {
   runs = λ rest may.
       ap (λ n. played until n (play_at s first rest)) (sym (sub-zero limit)) ∙ sym (later_none (played until (limit - 0) (play_at s first rest)));
@@ -98,7 +114,7 @@ played_turn : (until : Option ℕ) (n m : ℕ) (p : Play) → n ≡ suc m → pl
 unfolding played
 played_turn until n m p e = ap (λ k. played until k p) e
 
-played_none : (until : Option ℕ) (n : ℕ) (p : Play) → n ≡ 0 → played until n p ≡ record { steps = 0; ending = Limit; play = p }
+played_none : (until : Option ℕ) (n : ℕ) (p : Play) → n ≡ 0 → played until n p ≡ record { steps = 0; ending = ending_after p.memo p.session.current; play = p }
 unfolding played
 played_none until n p e = ap (λ k. played until k p) e
 
@@ -110,8 +126,8 @@ abbrev next : Option ℕ → ℕ → Turn → Outcome
 next until m turn = after_turn until turn (λ q. played until m q)
 
 -- a run with one turn more
-module _ (until : Option ℕ) (limit : ℕ) (s : Session) (first : Memo) (told : List ℕ) (over : Bool) (steps : ℕ) (t : Session) (memo : Memo) (h : RunsOn until limit s first told over steps t memo) (room : steps < limit)
-    (told2 : List ℕ) (over2 : Bool) (ending : Option Ending) (u : Session) (memo2 : Memo) (once : EndsOnce over over2 told2) (turn : TurnsTo t memo told2 over2 ending u memo2) where
+module _ (until : Option ℕ) (limit : ℕ) (s : Session) (first : Known) (told : List ℕ) (over : Bool) (steps : ℕ) (t : Session) (memo : Known) (h : RunsOn until limit s first told over steps t memo) (room : steps < limit)
+    (told2 : List ℕ) (over2 : Bool) (ending : Option Ending) (u : Session) (memo2 : Known) (once : EndsOnce over over2 told2) (turn : TurnsTo t memo told2 over2 ending u memo2) where
   one_turn : (rest : List ℕ) → MayCome over2 rest
       → played until limit (play_at s first ((told ++ told2) ++ rest)) ≡ later steps (next until (limit - (steps + 1)) (turn_to ending u memo2 rest))
   one_turn rest may =
@@ -140,16 +156,16 @@ module _ (until : Option ℕ) (limit : ℕ) (s : Session) (first : Memo) (told :
       one_turn rest may ∙ ap (λ e. later steps (next until (limit - (steps + 1)) (turn_to e u memo2 rest))) some
       ∙ ap (λ n. record { steps = n; ending = why; play = play_at u memo2 rest }) (add-zero steps)
 
-pub ends_full : (until : Option ℕ) (limit : ℕ) (s : Session) (first : Memo) (told : List ℕ) (over : Bool) (steps : ℕ) (t : Session) (memo : Memo) → RunsOn until limit s first told over steps t memo → limit ≤ steps → steps ≤ limit
-    → (rest : List ℕ) → MayCome over rest → played until limit (play_at s first (told ++ rest)) ≡ record { steps = limit; ending = Limit; play = play_at t memo rest }
+pub ends_full : (until : Option ℕ) (limit : ℕ) (s : Session) (first : Known) (told : List ℕ) (over : Bool) (steps : ℕ) (t : Session) (memo : Known) → RunsOn until limit s first told over steps t memo → limit ≤ steps → steps ≤ limit
+    → (rest : List ℕ) → MayCome over rest → played until limit (play_at s first (told ++ rest)) ≡ record { steps = limit; ending = ending_after memo.memo t.current; play = play_at t memo rest }
 ends_full until limit s first told over steps t memo h full within rest may =
     let none : limit - steps ≡ 0 = omega arith in
     let all : steps + 0 ≡ limit = omega arith in
     h.runs rest may ∙ ap (later steps) (played_none until (limit - steps) (play_at t memo rest) none)
-    ∙ ap (λ n. record { steps = n; ending = Limit; play = play_at t memo rest }) all
+    ∙ ap (λ n. record { steps = n; ending = ending_after memo.memo t.current; play = play_at t memo rest }) all
 
 -- a run that was cut short in its next turn
-pub cut_run : (until : Option ℕ) (limit : ℕ) (s : Session) (first : Memo) (told : List ℕ) (over : Bool) (steps : ℕ) (t : Session) (memo : Memo) → RunsOn until limit s first told over steps t memo → steps < limit
+pub cut_run : (until : Option ℕ) (limit : ℕ) (s : Session) (first : Known) (told : List ℕ) (over : Bool) (steps : ℕ) (t : Session) (memo : Known) → RunsOn until limit s first told over steps t memo → steps < limit
     → (told2 : List ℕ) (over2 : Bool) (u : Session) → EndsOnce over over2 told2 → CutTurn t told2 u
     → (rest : List ℕ) → MayCome over2 rest → CutRun until limit (play_at s first ((told ++ told2) ++ rest)) u rest
 cut_run until limit s first told over steps t memo h room told2 over2 u once cut rest may = record {
@@ -179,7 +195,7 @@ whole_input None (Some y) told over P c ends f = (told ++ y, y, tt, refl, f y en
 whole_input (Some x) None told over P c ends f = absurd c
 whole_input (Some x) (Some y) told over P c ends f = (told ++ y, y, c, refl, f y ends)
 
-pub ran_as : (o : Outcome) (steps : ℕ) (why : Ending) (t : Session) (memo : Memo) (rest : List ℕ) → o ≡ record { steps = steps; ending = why; play = play_at t memo rest }
+pub ran_as : (o : Outcome) (steps : ℕ) (why : Ending) (t : Session) (memo : Known) (rest : List ℕ) → o ≡ record { steps = steps; ending = why; play = play_at t memo rest }
     → RanAs o (record { steps = steps; ending = why }) t rest
 ran_as o steps why t memo rest e = record {
   steps = sym (ap (λ (x : Outcome). x.steps) e);

@@ -1,6 +1,7 @@
 -- A program that runs with a reader for its console: it is given a line of input where it looks for
--- input and none waits. Source: mos65.
+-- input and none waits. It ends where nothing stands that could be run. Source: mos65.
 use Rattle.std.specs.Prelude.{ℕ, zero, suc, ◌+◌, Bool, false, not, ◌&&◌, ◌||◌, ◌==◌, nat_lt, if◌then◌else◌, List, [], length, drop, Option, Some, None, Result, Ok, Err}
+use Rattle.std.specs.Option.{option_or}
 use Rattle.model.specs.State.{Map, State, input_waits}
 use Rattle.model.specs.Step.{step}
 use Rattle.model.specs.Session.{Session, with_state}
@@ -8,19 +9,22 @@ use Rattle.model.specs.Transcript.{after_input}
 use Rattle.model.specs.declared.event.EventFault.{EventFault}
 use Rattle.model.specs.declared.registers.Regs.{Regs}
 use Rattle.model.specs.declared.registers.Flags.{Flags}
-use Rattle.cpu_step.specs.PlainSteps.{stays}
-use Rattle.accesses.specs.Access.{access_here, puts_byte}
+use Rattle.cpu_step.specs.PlainSteps.{is_break, stays}
+use Rattle.accesses.specs.Access.{access_here, puts_byte, row_here}
+use Rattle.accesses.specs.Moments.{step_stores}
+use Rattle.accesses.specs.Writing.{is_written, with_bytes}
 use Rattle.console.specs.Line.{line_at, room_of}
 use Rattle.console.specs.declared.memo.Memo.{Memo}
 use Rattle.console.specs.declared.ending.Ending.{Ending}
-use Rattle.console.specs.declared.ending.Ending.TheVariants.{Until, Rest, InputOver, Limit, Refused}
+use Rattle.console.specs.declared.ending.Ending.TheVariants.{Until, Rest, InputOver, Limit, Unwritten, NoReset, NoVector, Refused}
 
--- Where a run stands: the session, what is left of the input, and what is remembered of the steps
--- before.
+-- Where a run stands: the session, what is left of the input, what is remembered of the steps
+-- before, and where a byte was ever written.
 pub record Play : Type 0 where
   pub session : Session
   pub input : List ℕ
   pub memo : Memo
+  pub written : List Bool
 
 -- ---- when a line is asked for
 
@@ -64,16 +68,39 @@ ending_before memo asked came regs =
     else if asked && not came && is_idle memo.idle regs then Some InputOver
     else None
 
+-- A vector stands in memory if one of its bytes was ever written.
+abbrev pub stands : List Bool → ℕ → Bool
+stands written vector = is_written written vector || is_written written (vector + 1)
+
+-- Nothing was ever written at PC: a step led there, or the reset.
+abbrev pub stray_of : List Bool → Option ℕ → Ending
+stray_of written (Some from) = Unwritten (Some from)
+stray_of written None = if stands written 0xFFFC then Unwritten None else NoReset
+
+-- A run ends where nothing was ever written at PC, and at a BRK whose vector does not stand in
+-- memory: neither the file nor the program has put something there to be run.
+unfoldable pub fall_of : List Bool → Option ℕ → State → Option Ending
+fall_of written from state =
+    if not (is_written written state.regs.pc) then Some (stray_of written from)
+    else if is_break (row_here state) && not (stands written 0xFFFE) then Some NoVector
+    else None
+
+-- What ends a run before a step, if something does.
+abbrev pub ending_here : Memo → List Bool → Bool → Bool → State → Option Ending
+ending_here memo written asked came state
+    = option_or (ending_before memo asked came state.regs) (fall_of written memo.from state)
+
 -- ---- a step
 
--- What is remembered after a step: whether it was a jump to itself; and the registers at the last
--- look for which no line came, if no byte was stored since.
+-- What is remembered after a step: whether it was a jump to itself; the registers at the last look
+-- for which no line came, if no byte was stored since; and where the step was made.
 unfoldable pub memo_after : Memo → Bool → Bool → State → Regs → Memo
 memo_after memo asked came before after = record {
   rests = stays before.regs after;
   idle = if puts_byte (access_here before) then None
       else if asked && not came then Some before.regs
       else memo.idle;
+  from = Some before.regs.pc;
 }
 
 -- ---- a turn: a line if one is asked for, and a step
@@ -89,6 +116,7 @@ stepped p asked came (Ok after) = record {
   play = record p {
     session = with_state p.session after;
     memo = memo_after p.memo asked came p.session.current after.regs;
+    written = with_bytes p.written (step_stores p.session.current after);
   };
 }
 
@@ -112,7 +140,7 @@ came line = nat_lt 0 (length line)
 abbrev pub turn_with : Bool → List ℕ → Play → Turn
 turn_with asked line p =
     let q = with_line line p in
-    unless_ended (ending_before p.memo asked (came line) q.session.current.regs) q
+    unless_ended (ending_here p.memo p.written asked (came line) q.session.current) q
     (stepped q asked (came line) (step q.session.current))
 
 unfoldable pub turn_of : Play → Turn
@@ -143,14 +171,25 @@ after_turn until turn rest = by turn.ending
         then record { steps = 1; ending = Until; play = turn.play }
         else later 1 (rest turn.play)
 
+-- After the last step that was asked for: a jump to itself is an end of its own, unless a line is
+-- asked for.
+abbrev pub ending_after : Memo → State → Ending
+ending_after memo state = if memo.rests && not (asks memo state) then Rest else Limit
+
 -- At most so many steps, up to one that leads to an address, if one is given.
 unfoldable pub played : Option ℕ → ℕ → Play → Outcome
-played until zero p = record { steps = 0; ending = Limit; play = p }
+played until zero p = record {
+  steps = 0;
+  ending = ending_after p.memo p.session.current;
+  play = p;
+}
 played until (suc n) p = after_turn until (turn_of p) (λ q. played until n q)
 
 -- At first no step was made.
 abbrev pub no_memo : Memo
-no_memo = record { rests = false; idle = None }
+no_memo = record { rests = false; idle = None; from = None }
 
-abbrev pub begun : Session → List ℕ → Play
-begun s input = record { session = s; input = input; memo = no_memo }
+-- With these addresses written.
+abbrev pub begun : Session → List Bool → List ℕ → Play
+begun s written input
+    = record { session = s; input = input; memo = no_memo; written = written }

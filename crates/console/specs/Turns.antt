@@ -6,8 +6,9 @@ use Rattle.model.specs.Step.{step}
 use Rattle.model.specs.Session.{Session, with_state}
 use Rattle.model.specs.Transcript.{after_input}
 use Rattle.console.specs.Line.{line_at}
-use Rattle.console.specs.Playing.{Play, Turn, turn_of}
+use Rattle.console.specs.Playing.{Play, Turn, no_memo, turn_of}
 use Rattle.console.specs.declared.memo.Memo.{Memo}
+use Rattle.console.specs.declared.turn.Player.{Player}
 use Rattle.console.specs.declared.ending.Ending.{Ending}
 
 -- A reader that has ended gives nothing more.
@@ -27,16 +28,28 @@ abbrev pub IsLine : Bool → Bool → ℕ → List ℕ → Type 0
 IsLine is_asked is_over room told = (rest : List ℕ) → MayCome is_over rest
     → (if is_asked then line_at room (told ++ rest) else []) ≡ told
 
-abbrev pub play_at : Session → Memo → List ℕ → Play
-play_at s memo input = record { session = s; input = input; memo = memo }
+-- What a run knows besides its session and its input.
+pub record Known : Type 0 where
+  pub memo : Memo
+  pub written : List Bool
 
-abbrev pub turn_to : Option Ending → Session → Memo → List ℕ → Turn
-turn_to ending s memo input = record { ending = ending; play = play_at s memo input }
+-- At first no step was made.
+abbrev pub first_known : List Bool → Known
+first_known written = record { memo = no_memo; written = written }
+
+abbrev pub known : Player → Known
+known player = record { memo = player.memo; written = player.written }
+
+abbrev pub play_at : Session → Known → List ℕ → Play
+play_at s k input = record { session = s; input = input; memo = k.memo; written = k.written }
+
+abbrev pub turn_to : Option Ending → Session → Known → List ℕ → Turn
+turn_to ending s k input = record { ending = ending; play = play_at s k input }
 
 -- A turn leads from one place to another, whatever comes after what was read.
-abbrev pub TurnsTo : Session → Memo → List ℕ → Bool → Option Ending → Session → Memo → Type 0
-TurnsTo s memo told is_over ending t after = (rest : List ℕ) → MayCome is_over rest
-    → turn_of (play_at s memo (told ++ rest)) ≡ turn_to ending t after rest
+abbrev pub TurnsTo : Session → Known → List ℕ → Bool → Option Ending → Session → Known → Type 0
+TurnsTo s k told is_over ending t after = (rest : List ℕ) → MayCome is_over rest
+    → turn_of (play_at s k (told ++ rest)) ≡ turn_to ending t after rest
 
 -- A turn that was cut short: bytes of a line were handed in, and then the step was made or not.
 abbrev pub CutTurn : Session → List ℕ → Session → Type 0

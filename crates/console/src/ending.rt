@@ -14,6 +14,14 @@ pub enum Ending {
     InputOver,
     /// As many steps were made as were asked for.
     Limit,
+    /// Nothing stands at the program counter: neither the file nor the program ever wrote there.
+    /// The last step was made at this address, if one was made.
+    Unwritten { from: Option<u16> },
+    /// Nothing stands at the program counter, no step was made, and nothing stands at the reset
+    /// vector.
+    NoReset,
+    /// The next instruction is BRK, and nothing stands at its vector.
+    NoVector,
     /// The next step is rejected.
     Refused(EventFault),
 }

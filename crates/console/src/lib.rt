@@ -10,7 +10,7 @@
 pub use ending::{Ending, PlayFault, Played};
 pub use memo::Memo;
 pub use running::play;
-pub use turn::{Player, begin, take_turn};
+pub use turn::{Player, begin, ending_after, take_turn};
 
 mod ending;
 mod input;

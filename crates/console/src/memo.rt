@@ -10,4 +10,6 @@ pub struct Memo {
     /// The registers when the program last looked for input and none came, if no byte was stored
     /// since.
     pub idle: Option<Regs>,
+    /// The program counter before the last step, if one was made.
+    pub from: Option<u16>,
 }

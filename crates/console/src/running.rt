@@ -8,7 +8,8 @@ ghost use Rattle.console.specs.Written.{AreBytesOf, BrokeOff, CutRun, RanAs};
 
 use crate::ending::{Ending, PlayFault, Played};
 use crate::output::flush;
-use crate::turn::{begin, take_turn};
+use crate::turn::{begin, ending_after, take_turn};
+use accesses::Written;
 use debugger::Session;
 use std::io::{Read, Write};
 
@@ -26,8 +27,12 @@ fn is_at(until: Option<u16>, session: &Session) -> bool
 ///
 /// At most `limit` steps are made. The run ends at the first of these: a step that leads to
 /// `until`, if it is given; a jump or a branch to itself, unless input is read that may interrupt
-/// it; a look for input that has ended, where the program would look again for ever; a rejected
+/// it; a look for input that has ended, where the program would look again for ever; a program
+/// counter at an address that was never written; a BRK whose vector was never written; a rejected
 /// step; the limit. Breakpoints and watches do not end it.
+///
+/// An address is written if it is one of `written`, and once the program has stored or pushed a
+/// byte there.
 ///
 /// A line is read, and handed in, where the program looks for input and none waits: at an
 /// instruction that reads base+1 or base+2, or at a jump to itself with I clear. No byte is read
@@ -44,6 +49,7 @@ fn is_at(until: Option<u16>, session: &Session) -> bool
 /// Source: mos65.
 pub fn play<R: Read, W: Write>(
     session: &mut Session,
+    written: Written,
     until: Option<u16>,
     limit: u64,
     reader: &mut R,
@@ -54,17 +60,17 @@ pub fn play<R: Read, W: Write>(
     // what the run did not ask for is left.
     ensures ok { IfOk result (λ end. (input : List ℕ) × (left : List ℕ)
         × AreBytesOf (R.remaining reader.old) input × AreBytesOf (R.remaining reader.new) left
-        × RanAs (played until limit (begun session.old input)) end session.new left) }
+        × RanAs (played until limit (begun session.old written input)) end session.new left) }
     // At an error no more than a beginning of that run was made.
     ensures err { OnErr result ((input : List ℕ) × (left : List ℕ)
         × AreBytesOf (R.remaining reader.old) input × AreBytesOf (R.remaining reader.new) left
-        × BrokeOff until limit (begun session.old input) session.new left) }
+        × BrokeOff until limit (begun session.old written input) session.new left) }
     // What was written is the console's output since: all of it, or at an error a beginning.
     ensures output { (text : List ℕ)
         × (session.new.current.bus.out ≡ session.old.current.bus.out ++ text)
         × Writes (W.contents writer.old) (W.contents writer.new) text result }
 {
-    match make_turns(session, until, limit, reader, writer) {
+    match make_turns(session, written, until, limit, reader, writer) {
         Ok(end) => match flush(writer) {
             Ok(()) => Ok(end),
             Err(fault) => Err(fault),
@@ -76,6 +82,7 @@ pub fn play<R: Read, W: Write>(
 /// Makes the turns of a run. What was written is not flushed at the end.
 fn make_turns<R: Read, W: Write>(
     session: &mut Session,
+    written: Written,
     until: Option<u16>,
     limit: u64,
     reader: &mut R,
@@ -84,15 +91,15 @@ fn make_turns<R: Read, W: Write>(
     requires { input_waits session.old.current.bus ≡ false }
     ensures ok { IfOk result (λ end. (input : List ℕ) × (left : List ℕ)
         × AreBytesOf (R.remaining reader.old) input × AreBytesOf (R.remaining reader.new) left
-        × RanAs (played until limit (begun session.old input)) end session.new left) }
+        × RanAs (played until limit (begun session.old written input)) end session.new left) }
     ensures err { OnErr result ((input : List ℕ) × (left : List ℕ)
         × AreBytesOf (R.remaining reader.old) input × AreBytesOf (R.remaining reader.new) left
-        × CutRun until limit (begun session.old input) session.new left) }
+        × CutRun until limit (begun session.old written input) session.new left) }
     ensures output { (text : List ℕ)
         × (session.new.current.bus.out ≡ session.old.current.bus.out ++ text)
         × Writes (W.contents writer.old) (W.contents writer.new) text result }
 {
-    let mut player = begin(session);
+    let mut player = begin(session, written);
     for steps in 0..limit {
         match take_turn(session, &mut player, reader, writer) {
             Ok(None) => {}
@@ -108,6 +115,6 @@ fn make_turns<R: Read, W: Write>(
     }
     Ok(Played {
         steps: limit,
-        ending: Ending::Limit,
+        ending: ending_after(session, &player),
     })
 }

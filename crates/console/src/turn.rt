@@ -1,6 +1,6 @@
 //! A turn: a line of input if one is asked for, and a step.
 
-ghost use Rattle.std.specs.Prelude.{◌≡◌, ◌==◌, ◌+◌, ◌≤◌, ◌++◌, ℕ, List, IfOk, OnOk};
+ghost use Rattle.std.specs.Prelude.{◌≡◌, ◌==◌, ◌+◌, ◌≤◌, ◌<◌, ◌++◌, ℕ, List, IfOk, OnOk};
 ghost use Rattle.std.specs.Prelude.{OnErr, Ok, false};
 ghost use Rattle.std.specs.Io.KnownBytes.{Consumes, Keeps};
 ghost use Rattle.model.specs.Session.{with_state};
@@ -11,19 +11,19 @@ ghost use Rattle.model.specs.Writers.{Writes};
 ghost use Rattle.accesses.specs.Access.{access_here};
 ghost use Rattle.console.specs.Given.{given_to};
 ghost use Rattle.console.specs.Line.{room_of};
-ghost use Rattle.console.specs.Playing.{asks, came as is_some_line, ending_before, is_idle, looks};
-ghost use Rattle.console.specs.Playing.{memo_after, no_memo, same_flags, same_regs};
+ghost use Rattle.console.specs.Playing.{asks, came as is_some_line, ending_after, ending_before};
+ghost use Rattle.console.specs.Playing.{ending_here, fall_of, is_idle, looks, memo_after};
+ghost use Rattle.console.specs.Playing.{same_flags, same_regs, stands, stepped, stray_of};
 ghost use Rattle.cpu_step.specs.PlainSteps.{stays};
-ghost use Rattle.console.specs.Playing.{stepped};
 ghost use Rattle.console.specs.Taking.{counted, take_count, Waits};
-ghost use Rattle.console.specs.Turns.{CutTurn, EndsOnce, EndsWith, IsLine, TurnsTo, play_at};
-ghost use Rattle.console.specs.Turns.{turn_to};
+ghost use Rattle.console.specs.Turns.{CutTurn, EndsOnce, EndsWith, IsLine, TurnsTo, first_known};
+ghost use Rattle.console.specs.Turns.{known, play_at, turn_to};
 
 use crate::ending::{Ending, PlayFault};
 use crate::input::hand_in_line;
 use crate::memo::Memo;
 use crate::output::{flush, put_output};
-use accesses::{Access, access_here};
+use accesses::{Access, Written, access_here, is_break, moment_of, row_here, stores_here};
 use debugger::Session;
 use model::{Event, Flags, Regs};
 use std::io::{Read, Write};
@@ -33,6 +33,8 @@ use std::io::{Read, Write};
 pub struct Player {
     /// What it remembers.
     pub memo: Memo,
+    /// Where a byte was ever written, by the file or by the program.
+    pub written: Written,
     /// How many bytes of input wait.
     pub waiting: u32,
     /// Whether the reader has ended.
@@ -119,7 +121,7 @@ fn is_idle(last: Option<Regs>, regs: Regs) -> bool
     }
 }
 
-/// Returns why the run ends before its next step, if it does.
+/// Returns why the run ends before its next step by what was remembered, if it does.
 #[tactic(auto, unfolding(crate::specs::Playing::ending_before))]
 fn ending_before(memo: Memo, is_asked: bool, came: bool, regs: Regs) -> Option<Ending>
     ensures { result ≡ ending_before memo is_asked came regs }
@@ -130,6 +132,62 @@ fn ending_before(memo: Memo, is_asked: bool, came: bool, regs: Regs) -> Option<E
         Some(Ending::InputOver)
     } else {
         None
+    }
+}
+
+/// Returns whether one of a vector's bytes was ever written.
+fn stands(written: &Written, vector: u16) -> bool
+    requires { vector < 65535 }
+    ensures { result ≡ stands written.now vector }
+{
+    written.contains(vector) || written.contains(vector + 1)
+}
+
+/// Returns why a run ends where nothing was ever written at PC.
+fn stray_of(written: &Written, from: Option<u16>) -> Ending
+    ensures { result ≡ stray_of written.now from }
+{
+    if from.is_some() || stands(written, 0xfffc) {
+        Ending::Unwritten { from }
+    } else {
+        Ending::NoReset
+    }
+}
+
+/// Returns why a run ends where nothing stands that could be run, if it does.
+#[tactic(auto, unfolding(crate::specs::Playing::fall_of))]
+fn fall_of(session: &Session, written: &Written, from: Option<u16>) -> Option<Ending>
+    ensures { result ≡ fall_of written.now from session.now.current }
+{
+    if !written.contains(session.regs().pc) {
+        Some(stray_of(written, from))
+    } else if is_break(row_here(session)) && !stands(written, 0xfffe) {
+        Some(Ending::NoVector)
+    } else {
+        None
+    }
+}
+
+/// Returns why the run ends before its next step, if it does.
+fn ending_here(session: &Session, player: &Player, is_asked: bool, came: bool) -> Option<Ending>
+    ensures { result ≡ ending_here player.now.memo player.now.written is_asked came
+        session.now.current }
+{
+    match ending_before(player.memo, is_asked, came, session.regs()) {
+        Some(ending) => Some(ending),
+        None => fall_of(session, &player.written, player.memo.from),
+    }
+}
+
+/// Returns why a run ends after the last step that was asked for.
+pub fn ending_after(session: &Session, player: &Player) -> Ending
+    requires { Waits session.now.current player.now.waiting }
+    ensures { result ≡ ending_after player.now.memo session.now.current }
+{
+    if player.memo.rests && !asks(session, player) {
+        Ending::Rest
+    } else {
+        Ending::Limit
     }
 }
 
@@ -162,6 +220,7 @@ fn memo_after(
     Memo {
         rests: stays(before, after),
         idle,
+        from: Some(before.pc),
     }
 }
 
@@ -201,8 +260,8 @@ fn make_step<W: Write>(
 ) -> Result<Option<Ending>, PlayFault>
     requires { Waits session.old.current player.old.waiting }
     ensures ok { IfOk result (λ ending. (input : List ℕ)
-        → stepped (play_at session.old player.old.memo input) is_asked came
-        (step session.old.current) ≡ turn_to ending session.new player.new.memo input) }
+        → stepped (play_at session.old (known player.old) input) is_asked came
+        (step session.old.current) ≡ turn_to ending session.new (known player.new) input) }
     ensures waits { OnOk result (Waits session.new.current player.new.waiting) }
     // The step was made, and its output not written to its end.
     ensures err { OnErr result ((state : State) × (step session.old.current ≡ Ok state)
@@ -215,6 +274,8 @@ fn make_step<W: Write>(
     // For the proof: that the stack pointer has eight bits.
     session.is_state();
     let access = access_here(session);
+    let moment = moment_of(session);
+    let stores = stores_here(session);
     let count = take_count(session, access.read, player.waiting);
     let before = session.regs();
     let shown = session.output_len();
@@ -224,6 +285,7 @@ fn make_step<W: Write>(
             let after = session.regs();
             player.waiting -= counted(before.s, after.s, count);
             player.memo = memo_after(player.memo, is_asked, came, access, before, after);
+            player.written.note_all(&moment.stored(session, stores));
             match put_output(session, shown, writer) {
                 Ok(()) => Ok(None),
                 Err(fault) => Err(fault),
@@ -258,7 +320,7 @@ fn supply<R: Read, W: Write>(
         × EndsOnce player.old.is_over player.new.is_over told
         × (session.new ≡ after_input session.old told)) }
     ensures waits { OnOk result (Waits session.new.current player.new.waiting) }
-    ensures memo { player.new.memo ≡ player.old.memo }
+    ensures known { known player.new ≡ known player.old }
     ensures kept { Keeps (W.contents writer.old) (W.contents writer.new) }
     ensures output { session.new.current.bus.out ≡ session.old.current.bus.out }
 {
@@ -284,11 +346,12 @@ fn supply<R: Read, W: Write>(
     }
 }
 
-/// Returns what a run knows before its first turn, in a session where no input waits.
-pub fn begin(session: &Session) -> Player
+/// Returns what a run knows before its first turn, in a session where no input waits and bytes
+/// stand at the addresses of `written` alone.
+pub fn begin(session: &Session, written: Written) -> Player
     requires { input_waits session.now.current.bus ≡ false }
     ensures waits { Waits session.now.current result.waiting }
-    ensures memo { result.memo ≡ no_memo }
+    ensures known { known result ≡ first_known written }
     ensures over { result.is_over ≡ false }
 {
     // For the proof: that no more input was taken than handed in.
@@ -297,7 +360,9 @@ pub fn begin(session: &Session) -> Player
         memo: Memo {
             rests: false,
             idle: None,
+            from: None,
         },
+        written,
         waiting: 0,
         is_over: false,
     }
@@ -328,8 +393,8 @@ pub fn take_turn<R: Read, W: Write>(
         × EndsWith player.old.is_over player.new.is_over (R.remaining reader.old)
         (R.remaining reader.new)
         × EndsOnce player.old.is_over player.new.is_over told
-        × TurnsTo session.old player.old.memo told player.new.is_over ending
-        session.new player.new.memo) }
+        × TurnsTo session.old (known player.old) told player.new.is_over ending
+        session.new (known player.new)) }
     // At an error nothing but a beginning of the turn was done.
     ensures err { OnErr result ((told : List ℕ)
         × Consumes (R.remaining reader.old) (R.remaining reader.new) told
@@ -347,7 +412,7 @@ pub fn take_turn<R: Read, W: Write>(
         Ok(came) => came,
         Err(fault) => return Err(fault),
     };
-    match ending_before(player.memo, is_asked, came, session.regs()) {
+    match ending_here(session, player, is_asked, came) {
         Some(ending) => Ok(Some(ending)),
         None => match make_step(session, player, is_asked, came, writer) {
             Ok(ending) => Ok(ending),

@@ -1,5 +1,6 @@
 -- At a start no input waits, and nothing was put out.
 use Rattle.std.proofs.Common.{◌≡◌, ◌∙◌, ℕ, false, List, [], Option, Result, Ok, Err, IfOk, refl, ap}
+use Rattle.accesses.specs.Writing.{bytes_in}
 use Rattle.arguments.specs.Asked.{FileAsked, map_of}
 use Rattle.loading.specs.Loads.{IsLoaded}
 use Rattle.loading.specs.declared.loaded.Loaded.{Loaded}
@@ -16,7 +17,7 @@ unfolding start reset_state loaded_bus
 starts_silent map image = refl
 
 abbrev IsStarted : FileAsked → Loaded → Type 0
-IsStarted asked loaded = (image : List (Option ℕ)) × IsLoaded asked image loaded.assembly × (loaded.session ≡ new_session 0 (start (map_of asked) image))
+IsStarted asked loaded = (image : List (Option ℕ)) × IsLoaded asked image loaded.assembly × (loaded.session ≡ new_session 0 (start (map_of asked) image)) × (loaded.written ≡ bytes_in image)
 
 pub started_idle : {E : Type 0} (asked : FileAsked) (result : Result Loaded E) → IfOk result (IsStarted asked) → IfOk result (λ loaded. input_waits loaded.session.current.bus ≡ false)
 started_idle asked (Ok loaded) started = ap (λ (s : Session). input_waits s.current.bus) started.2 ∙ starts_idle _ started.0

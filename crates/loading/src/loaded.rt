@@ -2,6 +2,7 @@
 
 ghost use Rattle.std.specs.Prelude.{◌≡◌, ◌≤◌, ℕ, List, [], Option, Err, IfErr, IfOk, Some, false};
 ghost use Rattle.std.specs.Prelude.{true};
+ghost use Rattle.accesses.specs.Writing.{bytes_in};
 ghost use Rattle.arguments.specs.Asked.{file_view, map_of};
 ghost use Rattle.arguments.specs.declared.load_fault.LoadFault.TheVariants.{Refused};
 ghost use Rattle.assembler.specs.Assembly.{IsAssembled};
@@ -12,19 +13,22 @@ ghost use Rattle.model.specs.Session.{new_session};
 ghost use Rattle.model.specs.State.{has_port_byte, input_waits, is_map};
 ghost use Rattle.model.specs.declared.bus_fault.BusFault.TheVariants.{BadMap};
 
+use accesses::Written;
 use arguments::{FileWords, LoadFault, Refusal, image_of_tape, map_of, read_source};
 use assembler::{Assembly, assemble};
 use debugger::Session;
-use memory_map::MapSpec;
+use memory_map::{Image, MapSpec};
 use papertape::looks_like_tape;
 use std::alloc::Global;
 use std::rt::Files;
 
-/// A session on the image of a file, and what the file says of names if it is a source.
+/// A session on the image of a file, what the file says of names if it is a source, and the
+/// addresses at which it has a byte.
 #[derive(Drop)]
 pub struct Loaded {
     pub session: Session,
     pub assembly: Option<Assembly>,
+    pub written: Written,
 }
 
 /// Returns the map of the words.
@@ -64,6 +68,16 @@ fn assembled_source(alloc: Global, source: &[u8], map: &MapSpec) -> Result<Assem
     }
 }
 
+/// Returns the addresses at which an image has a byte.
+///
+/// Errors: `OutOfMemory` if an allocation fails.
+fn bytes_of(alloc: Global, image: &Image) -> Result<Written, Refusal>
+    ensures bytes { IfOk result (λ written. written ≡ bytes_in image.now) }
+    ensures refused { IfErr result (λ fault. fault ≡ Refusal.OutOfMemory) }
+{
+    Written::of_image(alloc, image).map_err(|_| Refusal::OutOfMemory)
+}
+
 /// Returns a session that holds at most `history` earlier states, on the image of a source.
 fn start_source(
     alloc: Global,
@@ -76,12 +90,15 @@ fn start_source(
     ensures started { IfOk result
         (λ loaded. loaded.session ≡ new_session history (start map assembly.image)) }
     ensures assembly { IfOk result (λ loaded. loaded.assembly ≡ Some assembly) }
+    ensures bytes { IfOk result (λ loaded. loaded.written ≡ bytes_in assembly.image) }
     ensures refused { IfErr result (λ fault. fault ≡ Refusal.OutOfMemory) }
 {
     let session = Session::new(alloc, map, assembly.image(), history)?;
+    let written = bytes_of(alloc, assembly.image())?;
     Ok(Loaded {
         session,
         assembly: Some(assembly),
+        written,
     })
 }
 
@@ -95,7 +112,8 @@ fn load_source<H: Files + AllocGlobal>(
     requires { history ≤ 65536 }
     ensures started { IfOk result (λ loaded. (image : List (Option ℕ))
         × IsImageOf false map image loaded.assembly
-        × (loaded.session ≡ new_session history (start map image))) }
+        × (loaded.session ≡ new_session history (start map image))
+        × (loaded.written ≡ bytes_in image)) }
     ensures refused { IfErr result (EndsFile false map) }
 {
     let source = read_source(rt, words.file)?;
@@ -113,14 +131,17 @@ fn load_tape<H: Files + AllocGlobal>(
     requires { history ≤ 65536 }
     ensures started { IfOk result (λ loaded. (image : List (Option ℕ))
         × IsImageOf true map image loaded.assembly
-        × (loaded.session ≡ new_session history (start map image))) }
+        × (loaded.session ≡ new_session history (start map image))
+        × (loaded.written ≡ bytes_in image)) }
     ensures refused { IfErr result (EndsTape map) }
 {
     let image = image_of_tape(rt, words.file)?;
     let session = Session::new(rt.alloc(), map, &image, history)?;
+    let written = bytes_of(rt.alloc(), &image)?;
     Ok(Loaded {
         session,
         assembly: None,
+        written,
     })
 }
 
@@ -136,7 +157,8 @@ fn load_tape<H: Files + AllocGlobal>(
 pub fn load<H: Files + AllocGlobal>(rt: &H, words: &FileWords<'_>) -> Result<Loaded, LoadFault>
     ensures started { IfOk result (λ loaded. (image : List (Option ℕ))
         × IsLoaded (file_view words.now) image loaded.assembly
-        × (loaded.session ≡ new_session 0 (start (map_of (file_view words.now)) image))) }
+        × (loaded.session ≡ new_session 0 (start (map_of (file_view words.now)) image))
+        × (loaded.written ≡ bytes_in image)) }
     ensures idle { IfOk result (λ loaded. input_waits loaded.session.current.bus ≡ false) }
     ensures silent { IfOk result (λ loaded. loaded.session.current.bus.out ≡ []) }
     ensures bad_map { is_map words.now.rom words.now.port ≡ false
@@ -160,7 +182,8 @@ pub fn load_with_history<H: Files + AllocGlobal>(
     requires { history ≤ 65536 }
     ensures started { IfOk result (λ loaded. (image : List (Option ℕ))
         × IsLoaded (file_view words.now) image loaded.assembly
-        × (loaded.session ≡ new_session history (start (map_of (file_view words.now)) image))) }
+        × (loaded.session ≡ new_session history (start (map_of (file_view words.now)) image))
+        × (loaded.written ≡ bytes_in image)) }
     ensures bad_map { is_map words.now.rom words.now.port ≡ false
         → result ≡ Err (Refused (Refusal.Map BadMap)) }
     ensures refused { IfErr result (EndsLoad (file_view words.now)) }

@@ -1,6 +1,7 @@
 -- How a run ended, from what `play` says of it.
 use Rattle.std.proofs.Common.{◌≡◌, ◌∙◌, ◌++◌, ℕ, Bool, List, [], Option, Ok, Err, refl, sym, ap, subst, if◌then◌else◌, inr}
 use Rattle.std.specs.Io.KnownBytes.{Appends}
+use Rattle.accesses.specs.Writing.{bytes_in, or_everywhere}
 use Rattle.assembler.specs.Assembly.{AssemblyView}
 use Rattle.console.specs.Playing.{Outcome, begun, played}
 use Rattle.console.specs.Written.{AreBytesOf, RanAs}
@@ -18,13 +19,13 @@ use Rattle.arguments.specs.FaultLines.{fault_line}
 use Rattle.arguments.specs.Statuses.{status_of}
 use Rattle.arguments_play.specs.Run.{RunAsked}
 use Rattle.loading.specs.Told.{Heard, Tells}
-use Rattle.running.specs.Runs.{IsDone, RanIfFound, RanTo, Streams, TellsEnd}
+use Rattle.running.specs.Runs.{IsDone, RanIfFound, RanTo, Start, Streams, TellsEnd, start_of}
 use Rattle.running.specs.Places.{place_asked}
 use Rattle.running.specs.Statuses.{refusal_of, status_of_ending}
 
-abbrev PlayedOf : Option ℕ → ℕ → Session → Option (List ℕ) → Option (List ℕ) → Session → Played → Type 0
+abbrev PlayedOf : Option ℕ → ℕ → Start → Option (List ℕ) → Option (List ℕ) → Session → Played → Type 0
 PlayedOf until limit s given left now end = (input : List ℕ) × (rest : List ℕ) × AreBytesOf given input × AreBytesOf left rest
-    × RanAs (played until limit (begun s input)) end now rest
+    × RanAs (played until limit (begun s.session s.written input)) end now rest
 
 -- What was written is what the session put out since.
 abbrev AllWritten : Session → Session → Option (List ℕ) → Option (List ℕ) → Type 0
@@ -34,23 +35,23 @@ abbrev FrontWritten : Session → Session → Option (List ℕ) → Option (List
 FrontWritten s t held now = (text : List ℕ) × (t.current.bus.out ≡ s.current.bus.out ++ text) × AppendsFront held now text
 
 -- What was told of a run is told of its outcome.
-told_of : (is_told : Bool) (heard : Heard) (ending why : Ending) (steps count : ℕ) (state now : State) → ending ≡ why → steps ≡ count → state ≡ now
-    → TellsEnd is_told heard ending steps state → TellsEnd is_told heard why count now
-told_of is_told heard ending why steps count state now e n s told =
-    let E : Ending → Type 0 = λ x. TellsEnd is_told heard x count now in
-    let N : ℕ → Type 0 = λ x. TellsEnd is_told heard ending x now in
-    let S : State → Type 0 = λ x. TellsEnd is_told heard ending steps x in
+told_of : (is_told : Bool) (file : List ℕ) (assembly : Option AssemblyView) (heard : Heard) (ending why : Ending) (steps count : ℕ) (state now : State) → ending ≡ why → steps ≡ count → state ≡ now
+    → TellsEnd is_told file assembly heard ending steps state → TellsEnd is_told file assembly heard why count now
+told_of is_told file assembly heard ending why steps count state now e n s told =
+    let E : Ending → Type 0 = λ x. TellsEnd is_told file assembly heard x count now in
+    let N : ℕ → Type 0 = λ x. TellsEnd is_told file assembly heard ending x now in
+    let S : State → Type 0 = λ x. TellsEnd is_told file assembly heard ending steps x in
     subst E e (subst N n (subst S s told))
 
-pub ran_to : (a : RunAsked) (until : Option ℕ) (s t : Session) (streams : Streams) (heard : Heard) (end : Played) (status : ℕ)
-    → s.current.bus.out ≡ []
+pub ran_to : (a : RunAsked) (assembly : Option AssemblyView) (until : Option ℕ) (s : Start) (t : Session) (streams : Streams) (heard : Heard) (end : Played) (status : ℕ)
+    → s.session.current.bus.out ≡ []
     → PlayedOf until a.steps s streams.given streams.left t end
-    → AllWritten s t streams.held streams.now
+    → AllWritten s.session t streams.held streams.now
     → status ≡ status_of_ending end.ending (if a.is_status_of_a then t.current.regs.a else 0)
-    → TellsEnd a.tells_cycles heard end.ending end.steps t.current
-    → RanTo a until s streams heard status
-ran_to a until s t streams heard end status silent run written is told =
-    let outcome : Outcome = played until a.steps (begun s run.0) in
+    → TellsEnd a.tells_cycles a.file.file assembly heard end.ending end.steps t.current
+    → RanTo a assembly until s streams heard status
+ran_to a assembly until s t streams heard end status silent run written is told =
+    let outcome : Outcome = played until a.steps (begun s.session s.written run.0) in
     let same : RanAs outcome end t run.1 = run.4 in
     let B : List ℕ → Type 0 = λ bytes. AreBytesOf streams.left bytes in
     let W : List ℕ → Type 0 = λ text. Appends streams.held streams.now text in
@@ -60,18 +61,23 @@ ran_to a until s t streams heard end status silent run written is told =
       Ok outcome,
       (run.0, refl, run.2, subst B same.left run.3, subst W text_is written.2),
       is ∙ ap (λ (why : Ending). ended why t) same.ending ∙ ap (λ (now : Session). ended outcome.ending now) same.session,
-      told_of a.tells_cycles heard end.ending outcome.ending end.steps outcome.steps t.current outcome.play.session.current same.ending same.steps (ap (λ (now : Session). now.current) same.session) told,
+      told_of a.tells_cycles a.file.file assembly heard end.ending outcome.ending end.steps outcome.steps t.current outcome.play.session.current same.ending same.steps (ap (λ (now : Session). now.current) same.session) told,
     )
 
-pub failed_to : (a : RunAsked) (until : Option ℕ) (s t : Session) (streams : Streams) (heard : Heard) (fault : PlayFault) (status : ℕ)
-    → FrontWritten s t streams.held streams.now
+pub failed_to : (a : RunAsked) (assembly : Option AssemblyView) (until : Option ℕ) (s : Start) (t : Session) (streams : Streams) (heard : Heard) (fault : PlayFault) (status : ℕ)
+    → FrontWritten s.session t streams.held streams.now
     → status ≡ status_of (refusal_of fault)
     → Tells heard (fault_line (refusal_of fault))
-    → RanTo a until s streams heard status
-failed_to a until s t streams heard fault status written is told = (Err fault, (written.2.0, written.2.3), is, told)
+    → RanTo a assembly until s streams heard status
+failed_to a assembly until s t streams heard fault status written is told = (Err fault, (written.2.0, written.2.3), is, told)
 
 -- A file that was loaded.
-pub ran_file : (a : RunAsked) (s : Session) (assembly : Option AssemblyView) (image : List (Option ℕ)) (streams : Streams) (heard : Heard) (status : ℕ) (Alone : Type 0) → IsLoaded a.file image assembly
-    → s ≡ new_session 0 (start (map_of a.file) image) → RanIfFound a (place_asked (names_of assembly) a.until) s streams heard status Alone → IsDone a streams heard status Alone
-ran_file a s assembly image streams heard status A loaded begins ran =
-    inr (image, assembly, loaded, subst (λ (t : Session). RanIfFound a (place_asked (names_of assembly) a.until) t streams heard status A) begins ran)
+pub ran_file : (a : RunAsked) (s : Session) (w : List Bool) (assembly : Option AssemblyView) (image : List (Option ℕ)) (streams : Streams) (heard : Heard) (status : ℕ) (Alone : Type 0) → IsLoaded a.file image assembly
+    → s ≡ new_session 0 (start (map_of a.file) image) → w ≡ bytes_in image
+    → RanIfFound a assembly (place_asked (names_of assembly) a.until) (record { session = s; written = or_everywhere a.is_free w }) streams heard status Alone → IsDone a streams heard status Alone
+ran_file a s w assembly image streams heard status A loaded begins bytes ran =
+    let T : Start → Type 0 = λ x. RanIfFound a assembly (place_asked (names_of assembly) a.until) x streams heard status A in
+    let at : record { session = s; written = or_everywhere a.is_free w } ≡ start_of a image =
+    ap (λ (t : Session). record { session = t; written = or_everywhere a.is_free w }) begins
+    ∙ ap (λ (v : List Bool). record { session = new_session 0 (start (map_of a.file) image); written = or_everywhere a.is_free v }) bytes in
+    inr (image, assembly, loaded, subst T at ran)

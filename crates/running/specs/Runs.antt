@@ -2,18 +2,18 @@
 -- file stands for. Source: mos65.
 use Rattle.std.specs.Prelude.{◌≡◌, ◌⊎◌, ℕ, Bool, true, false, if◌then◌else◌, List, Option, Result, Ok, Err}
 use Rattle.std.specs.Io.KnownBytes.{Appends}
+use Rattle.accesses.specs.Writing.{bytes_in, or_everywhere}
 use Rattle.console.specs.Playing.{Outcome, begun, played}
 use Rattle.console.specs.Written.{AreBytesOf}
 use Rattle.console.specs.declared.ending.Ending.{Ending}
 use Rattle.console.specs.declared.ending.PlayFault.{PlayFault}
 use Rattle.assembler.specs.Assembly.{AssemblyView}
-use Rattle.arguments.specs.Asked.{FileAsked, map_of}
-use Rattle.loading.specs.Loads.{EndsLoad, IsLoaded}
+use Rattle.arguments.specs.Asked.{map_of}
+use Rattle.loading.specs.Loads.{IsLoaded}
 use Rattle.loading.specs.Place.{names_of}
 use Rattle.loading.specs.Told.{Heard, IsUnloaded, Tells}
-use Rattle.arguments.specs.FaultLines.{fault_line, load_line}
-use Rattle.arguments.specs.Statuses.{status_of, status_of_load}
-use Rattle.arguments.specs.declared.load_fault.LoadFault.{LoadFault}
+use Rattle.arguments.specs.FaultLines.{fault_line}
+use Rattle.arguments.specs.Statuses.{status_of}
 use Rattle.model.specs.Event.{start}
 use Rattle.model.specs.Session.{Session, new_session}
 use Rattle.model.specs.State.{State}
@@ -21,7 +21,7 @@ use Rattle.model.specs.Writers.{AppendsFront}
 use Rattle.arguments_play.specs.Run.{RunAsked}
 use Rattle.running.specs.Places.{place_asked}
 use Rattle.running.specs.Statuses.{refusal_of, status_of_ending}
-use Rattle.running.specs.Told.{cycles_line, ending_line, unplaced_line}
+use Rattle.running.specs.Told.{IsSite, cycles_line, ending_line, place_of_ending, unplaced_line}
 
 -- What is known of the input and of the output, before and after.
 pub record Streams : Type 0 where
@@ -30,29 +30,43 @@ pub record Streams : Type 0 where
   pub held : Option (List ℕ)
   pub now : Option (List ℕ)
 
+-- Where a run begins: a session, with these addresses written.
+pub record Start : Type 0 where
+  pub session : Session
+  pub written : List Bool
+
 -- A session ran to its end by the definition of a run, over some input, which is the reader's if
 -- its bytes are known: what the run did not ask for is left, and its output was written. If a
 -- stream failed, something was written.
-abbrev pub Ran : Session → Option ℕ → ℕ → Streams → Result Outcome PlayFault → Type 0
+abbrev pub Ran : Start → Option ℕ → ℕ → Streams → Result Outcome PlayFault → Type 0
 Ran s until limit streams (Ok end) = (input : List ℕ)
-    × (end ≡ played until limit (begun s input))
+    × (end ≡ played until limit (begun s.session s.written input))
     × AreBytesOf streams.given input × AreBytesOf streams.left end.play.input
     × Appends streams.held streams.now end.play.session.current.bus.out
 Ran s until limit streams (Err fault) = (text : List ℕ) × Appends streams.held streams.now text
 
+-- A writer got why a run did not come to its end, with what the source says of the address.
+abbrev pub TellsEnding : List ℕ → Option AssemblyView → Heard → Ending → ℕ → ℕ → Type 0
+TellsEnding file assembly heard ending steps pc = (site : List ℕ)
+    × IsSite file assembly (place_of_ending ending pc) site
+    × Tells heard (ending_line site ending steps pc)
+
 -- The error stream got why a run did not come to its end, and then its cycles if they are asked
 -- for.
-abbrev pub TellsEnd : Bool → Heard → Ending → ℕ → State → Type 0
-TellsEnd false heard ending steps state = Tells heard (ending_line ending steps state.regs.pc)
-TellsEnd true heard ending steps state = (between : Option (List ℕ))
-    × AppendsFront heard.held between (ending_line ending steps state.regs.pc)
+abbrev pub TellsEnd : Bool → List ℕ → Option AssemblyView → Heard → Ending → ℕ → State → Type 0
+TellsEnd false file assembly heard ending steps state
+    = TellsEnding file assembly heard ending steps state.regs.pc
+TellsEnd true file assembly heard ending steps state = (between : Option (List ℕ))
+    × TellsEnding file assembly (record { held = heard.held; now = between })
+    ending steps state.regs.pc
     × AppendsFront between heard.now (cycles_line state.cycles steps)
 
 -- The error stream got how a run ended, or that a stream failed.
-abbrev pub TellsRun : RunAsked → Heard → Result Outcome PlayFault → Type 0
-TellsRun a heard (Ok end)
-    = TellsEnd a.tells_cycles heard end.ending end.steps end.play.session.current
-TellsRun a heard (Err fault) = Tells heard (fault_line (refusal_of fault))
+abbrev pub TellsRun : RunAsked → Option AssemblyView → Heard → Result Outcome PlayFault → Type 0
+TellsRun a assembly heard (Ok end)
+    = TellsEnd a.tells_cycles a.file.file assembly heard end.ending end.steps
+    end.play.session.current
+TellsRun a assembly heard (Err fault) = Tells heard (fault_line (refusal_of fault))
 
 -- The exit status of a run: 0 at its end, or the value of A there if that is asked for.
 abbrev pub status_of_run : Bool → Result Outcome PlayFault → ℕ
@@ -61,26 +75,35 @@ status_of_run is_of_a (Ok end) = status_of_ending end.ending
 status_of_run is_of_a (Err fault) = status_of (refusal_of fault)
 
 -- A session ran up to a place.
-abbrev pub RanTo : RunAsked → Option ℕ → Session → Streams → Heard → ℕ → Type 0
-RanTo a until s streams heard status = (outcome : Result Outcome PlayFault)
+abbrev pub RanTo : RunAsked → Option AssemblyView → Option ℕ → Start → Streams → Heard → ℕ → Type 0
+RanTo a assembly until s streams heard status = (outcome : Result Outcome PlayFault)
     × Ran s until a.steps streams outcome × (status ≡ status_of_run a.is_status_of_a outcome)
-    × TellsRun a heard outcome
+    × TellsRun a assembly heard outcome
 
 -- A session ran up to the place of the words, if it is found; otherwise the streams were left
 -- alone, `Alone`, and the error stream got that it is no place.
-abbrev pub RanIfFound : RunAsked → Result (Option ℕ) ℕ → Session → Streams → Heard → ℕ → Type 0
-    → Type 0
-RanIfFound a (Ok until) s streams heard status Alone = RanTo a until s streams heard status
-RanIfFound a (Err refused) s streams heard status Alone = (status ≡ refused)
+abbrev pub RanIfFound : RunAsked → Option AssemblyView → Result (Option ℕ) ℕ → Start → Streams
+    → Heard → ℕ → Type 0 → Type 0
+RanIfFound a assembly (Ok until) s streams heard status Alone
+    = RanTo a assembly until s streams heard status
+RanIfFound a assembly (Err refused) s streams heard status Alone = (status ≡ refused)
     × Tells heard (unplaced_line a.until) × Alone
+
+-- A session at the start of an image, with the image's bytes written, or all if a run goes on where
+-- nothing was.
+abbrev pub start_of : RunAsked → List (Option ℕ) → Start
+start_of a image = record {
+  session = new_session 0 (start (map_of a.file) image);
+  written = or_everywhere a.is_free (bytes_in image);
+}
 
 -- A file was loaded: from the start of an image that it can have, on the map of the words and with
 -- the names of the image's source, a session ran.
 abbrev pub RanFile : RunAsked → Streams → Heard → ℕ → Type 0 → Type 0
 RanFile a streams heard status Alone = (image : List (Option ℕ))
     × (assembly : Option AssemblyView) × IsLoaded a.file image assembly
-    × RanIfFound a (place_asked (names_of assembly) a.until)
-    (new_session 0 (start (map_of a.file) image)) streams heard status Alone
+    × RanIfFound a assembly (place_asked (names_of assembly) a.until) (start_of a image)
+    streams heard status Alone
 
 -- What was done for words.
 abbrev pub IsDone : RunAsked → Streams → Heard → ℕ → Type 0 → Type 0

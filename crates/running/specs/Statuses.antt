@@ -7,15 +7,18 @@ use Rattle.console.specs.declared.ending.PlayFault.TheVariants as play_fault
 use Rattle.arguments.specs.declared.refusal.ReadFault.TheVariants.{Other}
 use Rattle.arguments.specs.declared.refusal.Refusal.{Refusal}
 use Rattle.arguments.specs.declared.refusal.Refusal.TheVariants as refusal
-use Rattle.console.specs.declared.ending.Ending.TheVariants.{Until, Rest, InputOver, Limit, Refused}
+use Rattle.console.specs.declared.ending.Ending.TheVariants.{Until, Rest, InputOver, Limit, Unwritten, NoReset, NoVector, Refused}
 
--- 10 for the limit, 12 for a full console, 11 for any other fault; otherwise that of a run that
--- came to its end.
+-- 10 for the limit, 12 for a full console, 11 for any other fault, 13 where nothing stands that
+-- could be run; otherwise that of a run that came to its end.
 abbrev pub status_of_ending : Ending → ℕ → ℕ
 status_of_ending Until ended = ended
 status_of_ending Rest ended = ended
 status_of_ending InputOver ended = ended
 status_of_ending Limit ended = 10
+status_of_ending (Unwritten from) ended = 13
+status_of_ending NoReset ended = 13
+status_of_ending NoVector ended = 13
 status_of_ending (Refused ConsoleFull) ended = 12
 status_of_ending (Refused fault) ended = 11
 

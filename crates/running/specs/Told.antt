@@ -1,13 +1,16 @@
 -- What the error stream gets of a run: why it did not come to its end, and its cycles and steps.
 -- Source: mos65.
-use Rattle.std.specs.Prelude.{ℕ, ◌==◌, List, [], ◌++◌, codes, decimal, if◌then◌else◌, Option, Some, None}
+use Rattle.std.specs.Prelude.{◌≡◌, ◌⊎◌, ℕ, ◌==◌, List, [], ◌++◌, codes, decimal, if◌then◌else◌, Option, Some, None}
+use Rattle.assembler.specs.Assembly.{AssemblyView}
 use Rattle.console.specs.declared.ending.Ending.{Ending}
-use Rattle.console.specs.declared.ending.Ending.TheVariants.{Limit, Refused}
+use Rattle.console.specs.declared.ending.Ending.TheVariants.{Limit, Unwritten, NoReset, NoVector, Refused}
 use Rattle.model.specs.FaultTexts.{event_fault_text}
 use Rattle.model.specs.Text.{hex_address, hex_byte}
 use Rattle.model.specs.declared.event.EventFault.{EventFault}
 use Rattle.model.specs.declared.event.EventFault.TheVariants.{ConsoleFull, Undocumented}
-use Rattle.running.specs.declared.wording.TheConstants.{AFTER, CONSOLE_FULL, CYCLES, NO_INSTRUCTION, NO_PLACE, PROGRAM, STEP, STEPS, STOPPED}
+use Rattle.running.specs.declared.wording.TheConstants.{AFTER, BREAK_AT, CONSOLE_FULL, CYCLES, FROM, NO_INSTRUCTION, NO_PLACE, NO_RESET, NO_VECTOR, PROGRAM, RAN_INTO, STEP, STEPS, STOPPED, UNWRITTEN}
+use Rattle.source_map.specs.Lines.{PlacesView, line_at, places_of}
+use Rattle.source_map.specs.Names.{Near, name_near}
 
 abbrev pub step_word : ℕ → List ℕ
 step_word steps = if steps == 1 then STEP.now else STEPS.now
@@ -24,11 +27,66 @@ refused_line (Undocumented opcode at) pc = stop_text at
     ++ (codes ": " ++ hex_byte opcode ++ NO_INSTRUCTION.now)
 refused_line fault pc = stop_text pc ++ (codes ": " ++ event_fault_text fault ++ codes "\n")
 
--- Why a run did not come to its end.
-unfoldable pub ending_line : Ending → ℕ → ℕ → List ℕ
-ending_line Limit steps pc = stop_text pc ++ (AFTER.now ++ decimal steps ++ step_word steps)
-ending_line (Refused fault) steps pc = refused_line fault pc
-ending_line ending steps pc = []
+-- ---- an address in its source
+
+-- How far behind a name an address is.
+abbrev pub distance_text : ℕ → List ℕ
+distance_text distance = if distance == 0 then [] else codes "+" ++ decimal distance
+
+-- A name and how far behind it an address is, and a line of a file.
+abbrev pub name_words : Near → List ℕ
+name_words None = []
+name_words (Some (name, distance)) = codes " " ++ (name ++ distance_text distance)
+
+abbrev pub line_words : List ℕ → Option ℕ → List ℕ
+line_words file None = []
+line_words file (Some line) = codes ", " ++ (file ++ (codes ":" ++ decimal line))
+
+-- What the source says of an address, as ` next+4, first.a65:6`.
+abbrev pub site_text : PlacesView → ℕ → List ℕ
+site_text places address = name_words (name_near places.names address)
+    ++ line_words places.file (line_at places.lines address)
+
+-- What is said of an address: nothing without a source, nor where memory runs out.
+abbrev pub IsSite : List ℕ → Option AssemblyView → ℕ → List ℕ → Type 0
+IsSite file None address site = site ≡ []
+IsSite file (Some assembly) address site
+    = (site ≡ site_text (places_of file assembly) address) ⊎ (site ≡ [])
+
+-- ---- the end
+
+-- The address of which an ending says where it is in the source: that of the last instruction, or
+-- of the next one.
+abbrev pub place_of_ending : Ending → ℕ → ℕ
+place_of_ending (Unwritten (Some from)) pc = from
+place_of_ending ending pc = pc
+
+-- Where nothing was ever written.
+abbrev pub stray_text : ℕ → List ℕ
+stray_text pc = RAN_INTO.now ++ hex_address pc ++ UNWRITTEN.now
+
+-- And the address of the last instruction.
+abbrev pub came_text : ℕ → ℕ → List ℕ
+came_text pc from = RAN_INTO.now ++ hex_address pc ++ UNWRITTEN.now ++ FROM.now ++ hex_address from
+
+-- Where nothing was ever written, and from where the program came there. `site` is what is said of
+-- that address.
+unfoldable pub stray_line : Option ℕ → ℕ → List ℕ → List ℕ
+stray_line None pc site = stray_text pc ++ codes "\n"
+stray_line (Some from) pc site = came_text pc from ++ (site ++ codes "\n")
+
+-- Where a BRK stands.
+abbrev pub break_text : ℕ → List ℕ
+break_text pc = BREAK_AT.now ++ hex_address pc
+
+-- Why a run did not come to its end. `site` is what is said of the address of the ending.
+unfoldable pub ending_line : List ℕ → Ending → ℕ → ℕ → List ℕ
+ending_line site Limit steps pc = stop_text pc ++ (AFTER.now ++ decimal steps ++ step_word steps)
+ending_line site (Unwritten from) steps pc = stray_line from pc site
+ending_line site NoReset steps pc = stray_text pc ++ NO_RESET.now
+ending_line site NoVector steps pc = break_text pc ++ (site ++ NO_VECTOR.now)
+ending_line site (Refused fault) steps pc = refused_line fault pc
+ending_line site ending steps pc = []
 
 -- How many cycles and steps a run took.
 abbrev pub cycles_line : ℕ → ℕ → List ℕ

@@ -1,29 +1,40 @@
 //! What is told of a run's end, and its exit status.
 
 ghost use Rattle.std.specs.Prelude.{◌≡◌, ◌+◌, ◌≤◌, ◌++◌, codes, decimal, if◌then◌else◌, length};
+ghost use Rattle.std.specs.Prelude.{option_map};
 ghost use Rattle.model.specs.FaultTexts.{event_fault_text};
 ghost use Rattle.model.specs.Text.{hex_byte};
 ghost use Rattle.model.specs.Writers.{AppendsFront};
+ghost use Rattle.running.specs.Runs.{TellsEnding};
 ghost use Rattle.running.specs.Statuses.{status_of_ending};
-ghost use Rattle.running.specs.Told.{cycles_line, ending_line, refused_line, step_word, stop_text};
+ghost use Rattle.running.specs.Told.{IsSite, break_text, came_text, cycles_line, ending_line};
+ghost use Rattle.running.specs.Told.{place_of_ending, refused_line, step_word, stop_text};
+ghost use Rattle.running.specs.Told.{stray_line, stray_text};
 ghost use Rattle.running.specs.declared.wording.TheConstants as the_text;
 
-use crate::wording::{AFTER, CONSOLE_FULL, CYCLES, NO_INSTRUCTION, PROGRAM, STEP, STEPS, STOPPED};
-use arguments::put_two;
+use crate::site::site_of;
+use crate::wording::{
+    AFTER, BREAK_AT, CONSOLE_FULL, CYCLES, FROM, NO_INSTRUCTION, NO_RESET, NO_VECTOR, PROGRAM,
+    RAN_INTO, STEP, STEPS, STOPPED, UNWRITTEN,
+};
+use arguments::{put_three, put_two};
+use assembler::Assembly;
 use console::{Ending, Played};
 use debugger::Session;
 use formatting::{Text, push_bytes, push_decimal, push_hex_address, push_hex_byte};
 use model::EventFault;
+use std::alloc::Global;
 use std::io::Write;
 
-/// Returns the exit status of a run: the given one if the run came to its end, and otherwise 10, 11
-/// or 12.
+/// Returns the exit status of a run: the given one if the run came to its end, and otherwise 10 to
+/// 13.
 pub fn status_of_ending(ending: Ending, ended: u8) -> u8
     ensures { result ≡ status_of_ending ending ended }
 {
     match ending {
         Ending::Until | Ending::Rest | Ending::InputOver => ended,
         Ending::Limit => 10,
+        Ending::Unwritten { .. } | Ending::NoReset | Ending::NoVector => 13,
         Ending::Refused(EventFault::ConsoleFull) => 12,
         Ending::Refused(_) => 11,
     }
@@ -112,13 +123,79 @@ fn tell_refusal<E: Write>(fault: EventFault, pc: u16, errors: &mut E)
     }
 }
 
-/// Writes a line that says why a run did not come to its end, or a beginning of it if a write
-/// fails.
+/// Returns that nothing was ever written at an address, as a line begins.
+fn stray_text(pc: u16) -> Text
+    ensures { result.items ≡ stray_text pc }
+{
+    let mut text = Text::new();
+    push_bytes(&mut text, RAN_INTO.as_bytes());
+    push_hex_address(&mut text, pc);
+    push_bytes(&mut text, UNWRITTEN.as_bytes());
+    text
+}
+
+/// Returns that nothing was ever written at an address, and from where the program came there, as a
+/// line begins.
+fn came_text(pc: u16, from: u16) -> Text
+    ensures { result.items ≡ came_text pc from }
+{
+    let mut text = Text::new();
+    push_bytes(&mut text, RAN_INTO.as_bytes());
+    push_hex_address(&mut text, pc);
+    push_bytes(&mut text, UNWRITTEN.as_bytes());
+    push_bytes(&mut text, FROM.as_bytes());
+    push_hex_address(&mut text, from);
+    text
+}
+
+/// Returns where a BRK stands, as a line begins.
+fn break_text(pc: u16) -> Text
+    ensures { result.items ≡ break_text pc }
+{
+    let mut text = Text::new();
+    push_bytes(&mut text, BREAK_AT.as_bytes());
+    push_hex_address(&mut text, pc);
+    text
+}
+
+/// Returns what the source says of the address of an ending, if the ending has a line for it.
+#[tactic(auto, using(crate::proofs::Sites::no_site))]
+fn site_of_ending(
+    alloc: Global,
+    file: &str,
+    assembly: Option<&Assembly>,
+    ending: Ending,
+    pc: u16,
+) -> Vec<u8>
+    ensures { IsSite file.now (option_map (λ a. a.now) assembly.entry)
+        (place_of_ending ending pc) result.items }
+{
+    match ending {
+        Ending::Unwritten { from: Some(from) } => site_of(alloc, file, assembly, from),
+        Ending::NoVector => site_of(alloc, file, assembly, pc),
+        _ => Vec::new(alloc),
+    }
+}
+
+/// Writes where nothing was ever written, and from where the program came there.
+#[tactic(auto, unfolding(crate::specs::Told::stray_line))]
+fn put_stray<E: Write>(pc: u16, from: Option<u16>, site: &[u8], errors: &mut E)
+    ensures { AppendsFront (E.contents errors.old) (E.contents errors.new)
+        (stray_line from pc site.now) }
+{
+    match from {
+        None => put_two(stray_text(pc).as_slice(), b"\n", errors),
+        Some(from) => put_three(came_text(pc, from).as_slice(), site, b"\n", errors),
+    }
+}
+
+/// Writes a line that says why a run did not come to its end, with what the source says of the
+/// address.
 #[tactic(auto, unfolding(crate::specs::Told::ending_line))]
-pub fn tell_ending<E: Write>(played: Played, pc: u16, errors: &mut E)
+fn put_ending<E: Write>(played: Played, pc: u16, site: &[u8], errors: &mut E)
     ensures quiet { status_of_ending played.ending 0 ≡ 0 → errors.new ≡ errors.old }
     ensures told { AppendsFront (E.contents errors.old) (E.contents errors.new)
-        (ending_line played.ending played.steps pc) }
+        (ending_line site.now played.ending played.steps pc) }
 {
     match played.ending {
         Ending::Until | Ending::Rest | Ending::InputOver => {}
@@ -129,8 +206,41 @@ pub fn tell_ending<E: Write>(played: Played, pc: u16, errors: &mut E)
                 errors,
             );
         }
+        Ending::Unwritten { from } => put_stray(pc, from, site, errors),
+        Ending::NoReset => put_two(stray_text(pc).as_slice(), NO_RESET.as_bytes(), errors),
+        Ending::NoVector => {
+            put_three(
+                break_text(pc).as_slice(),
+                site,
+                NO_VECTOR.as_bytes(),
+                errors,
+            );
+        }
         Ending::Refused(fault) => tell_refusal(fault, pc, errors),
     }
+}
+
+/// Writes a line that says why a run did not come to its end, or a beginning of it if a write
+/// fails.
+///
+/// The line has the name and the line of the source where the ending has a place in it: `assembly`
+/// is that of the source in `file`, if the file is one. Where memory runs out they are left out.
+pub fn tell_ending<E: Write>(
+    alloc: Global,
+    file: &str,
+    assembly: Option<&Assembly>,
+    played: Played,
+    pc: u16,
+    errors: &mut E,
+)
+    ensures quiet { status_of_ending played.ending 0 ≡ 0 → errors.new ≡ errors.old }
+    ensures told { TellsEnding file.now (option_map (λ a. a.now) assembly.entry) (record {
+      held = E.contents errors.old;
+      now = E.contents errors.new;
+    }) played.ending played.steps pc }
+{
+    let site = site_of_ending(alloc, file, assembly, played.ending, pc);
+    put_ending(played, pc, site.as_slice(), errors);
 }
 
 /// Returns the cycles of a run, as a line begins.

@@ -7,6 +7,7 @@
 
 mod ended;
 mod run;
+mod site;
 mod started;
 mod wording;
 

@@ -1,50 +1,71 @@
 //! What the word `run` does.
 
-ghost use Rattle.std.specs.Prelude.{◌≡◌, ◌⊎◌, [], None, Some, false, if◌then◌else◌};
+ghost use Rattle.std.specs.Prelude.{◌≡◌, ◌⊎◌, [], None, Some, false, if◌then◌else◌, option_map};
+ghost use Rattle.accesses.specs.Writing.{or_everywhere};
 ghost use Rattle.arguments.specs.Words.{Fits, Refuses, texts};
 ghost use Rattle.arguments_play.specs.Run.{RunAsked, asked, run, run_view};
 ghost use Rattle.loading.specs.Place.{names_of};
 ghost use Rattle.model.specs.State.{input_waits, is_map};
 ghost use Rattle.running.specs.Places.{place_asked};
-ghost use Rattle.running.specs.Runs.{IsDone, RanIfFound, RanTo, TellsEnd};
+ghost use Rattle.running.specs.Runs.{IsDone, RanIfFound, RanTo, Start, TellsEnd};
 ghost use Rattle.running.specs.Statuses.{status_of_ending};
 
 use crate::ended::{status_of_ending, tell_cycles, tell_ending};
 use crate::started::{place_named, refusal_of};
+use accesses::Written;
 use arguments::{refuse, refused_words};
 use arguments_play::{RunWords, read_run_words};
+use assembler::Assembly;
 use console::{Played, play};
 use debugger::Session;
 use loading::{Loaded, load};
+use std::alloc::Global;
 use std::io::{Read, Write};
 use std::rt::Files;
 
 /// Writes how a run ended, and then its cycles and steps if they are asked for.
-fn tell_end<E: Write>(tells_cycles: bool, played: Played, session: &Session, errors: &mut E)
-    ensures told { TellsEnd tells_cycles (record {
-      held = E.contents errors.old;
-      now = E.contents errors.new;
-    }) played.ending played.steps session.now.current }
-    ensures quiet { tells_cycles ≡ false → status_of_ending played.ending 0 ≡ 0
+fn tell_end<E: Write>(
+    alloc: Global,
+    words: &RunWords<'_>,
+    assembly: Option<&Assembly>,
+    played: Played,
+    session: &Session,
+    errors: &mut E,
+)
+    ensures told { TellsEnd words.now.tells_cycles words.now.file.file.now
+        (option_map (λ a. a.now) assembly.entry) (record {
+          held = E.contents errors.old;
+          now = E.contents errors.new;
+        }) played.ending played.steps session.now.current }
+    ensures quiet { words.now.tells_cycles ≡ false → status_of_ending played.ending 0 ≡ 0
         → errors.new ≡ errors.old }
 {
-    tell_ending(played, session.regs().pc, errors);
-    if tells_cycles {
+    let pc = session.regs().pc;
+    tell_ending(alloc, words.file.file, assembly, played, pc, errors);
+    if words.tells_cycles {
         tell_cycles(played, session, errors);
     }
 }
 
 /// Tells how a run ended, and returns the exit status.
-fn ended<E: Write>(words: &RunWords<'_>, played: Played, session: &Session, errors: &mut E) -> u8
+fn ended<E: Write>(
+    alloc: Global,
+    words: &RunWords<'_>,
+    assembly: Option<&Assembly>,
+    played: Played,
+    session: &Session,
+    errors: &mut E,
+) -> u8
     ensures status { result ≡ status_of_ending played.ending
         (if words.now.is_status_of_a then session.now.current.regs.a else 0) }
-    ensures told { TellsEnd words.now.tells_cycles (record {
-      held = E.contents errors.old;
-      now = E.contents errors.new;
-    }) played.ending played.steps session.now.current }
+    ensures told { TellsEnd words.now.tells_cycles words.now.file.file.now
+        (option_map (λ a. a.now) assembly.entry) (record {
+          held = E.contents errors.old;
+          now = E.contents errors.new;
+        }) played.ending played.steps session.now.current }
     ensures quiet { words.now.tells_cycles ≡ false → result ≡ 0 → errors.new ≡ errors.old }
 {
-    tell_end(words.tells_cycles, played, session, errors);
+    tell_end(alloc, words, assembly, played, session, errors);
     let status = if words.is_status_of_a {
         session.regs().a
     } else {
@@ -55,8 +76,11 @@ fn ended<E: Write>(words: &RunWords<'_>, played: Played, session: &Session, erro
 
 /// Runs a session up to a place, if there is one, and returns the exit status.
 fn run_to<R: Read, O: Write, E: Write>(
+    alloc: Global,
     words: &RunWords<'_>,
+    assembly: Option<&Assembly>,
     session: &mut Session,
+    written: Written,
     until: Option<u16>,
     input: &mut R,
     output: &mut O,
@@ -64,36 +88,41 @@ fn run_to<R: Read, O: Write, E: Write>(
 ) -> u8
     requires idle { input_waits session.old.current.bus ≡ false }
     requires silent { session.old.current.bus.out ≡ [] }
-    ensures ran { RanTo (run_view words.now) until session.old (record {
-      given = R.remaining input.old;
-      left = R.remaining input.new;
-      held = O.contents output.old;
-      now = O.contents output.new;
-    }) (record {
-      held = E.contents errors.old;
-      now = E.contents errors.new;
-    }) result }
+    ensures ran { RanTo (run_view words.now) (option_map (λ a. a.now) assembly.entry) until
+        (record { session = session.old; written = written }) (record {
+          given = R.remaining input.old;
+          left = R.remaining input.new;
+          held = O.contents output.old;
+          now = O.contents output.new;
+        }) (record {
+          held = E.contents errors.old;
+          now = E.contents errors.new;
+        }) result }
     ensures quiet { words.now.tells_cycles ≡ false → result ≡ 0 → errors.new ≡ errors.old }
 {
-    match play(session, until, words.steps, input, output) {
-        Ok(played) => ended(words, played, session, errors),
+    match play(session, written, until, words.steps, input, output) {
+        Ok(played) => ended(alloc, words, assembly, played, session, errors),
         Err(fault) => refuse(refusal_of(fault), errors),
     }
 }
 
 /// Runs what was loaded up to the place of the words, and returns the exit status.
 fn run_loaded<R: Read, O: Write, E: Write>(
+    alloc: Global,
     words: &RunWords<'_>,
-    loaded: &mut Loaded,
+    loaded: Loaded,
     input: &mut R,
     output: &mut O,
     errors: &mut E,
 ) -> u8
-    requires idle { input_waits loaded.old.session.current.bus ≡ false }
-    requires silent { loaded.old.session.current.bus.out ≡ [] }
-    ensures ran { RanIfFound (run_view words.now)
-        (place_asked (names_of loaded.old.assembly) (run_view words.now).until)
-        loaded.old.session (record {
+    requires idle { input_waits loaded.session.current.bus ≡ false }
+    requires silent { loaded.session.current.bus.out ≡ [] }
+    ensures ran { RanIfFound (run_view words.now) loaded.assembly
+        (place_asked (names_of loaded.assembly) (run_view words.now).until)
+        (record {
+          session = loaded.session;
+          written = or_everywhere words.now.is_free loaded.written;
+        }) (record {
           given = R.remaining input.old;
           left = R.remaining input.new;
           held = O.contents output.old;
@@ -104,10 +133,27 @@ fn run_loaded<R: Read, O: Write, E: Write>(
         }) result ((input.new ≡ input.old) × (output.new ≡ output.old)) }
     ensures quiet { words.now.tells_cycles ≡ false → result ≡ 0 → errors.new ≡ errors.old }
 {
-    match place_named(loaded, words.until, errors) {
-        Ok(until) => run_to(words, &mut loaded.session, until, input, output, errors),
-        Err(status) => status,
-    }
+    let until = match place_named(&loaded, words.until, errors) {
+        Ok(until) => until,
+        Err(status) => return status,
+    };
+    let Loaded {
+        mut session,
+        assembly,
+        written,
+    } = loaded;
+    let written = written.or_everywhere(words.is_free);
+    run_to(
+        alloc,
+        words,
+        assembly.as_ref(),
+        &mut session,
+        written,
+        until,
+        input,
+        output,
+        errors,
+    )
 }
 
 /// Loads the file of the words and runs it, and returns the exit status.
@@ -131,7 +177,7 @@ fn run_words<H: Files + AllocGlobal, R: Read, O: Write, E: Write>(
     ensures quiet { words.now.tells_cycles ≡ false → result ≡ 0 → errors.new ≡ errors.old }
 {
     match load(rt, &words.file) {
-        Ok(mut loaded) => run_loaded(words, &mut loaded, input, output, errors),
+        Ok(loaded) => run_loaded(rt.alloc(), words, loaded, input, output, errors),
         Err(fault) => fault.tell(words.file.file, errors),
     }
 }
@@ -141,6 +187,8 @@ fn run_words<H: Files + AllocGlobal, R: Read, O: Write, E: Write>(
 /// - 0, or with `--status A` the value of A: the run came to its end, at `--until`, at a jump to
 ///   itself, or waiting for input that has ended.
 /// - 10: the limit of steps. 11: a fault of the program. 12: the console is full.
+/// - 13: nothing stands where the program runs, or at the vector of its BRK. With `--free` a run
+///   does not end there.
 /// - 1: the source or the tape is rejected. 2: the words, the place or the map are wrong. 3: memory
 ///   ran out. 4: reading or writing failed.
 ///

@@ -19,4 +19,19 @@ pub const CONSOLE_FULL: &str = ": the console is full, with 65536 bytes of outpu
 
 pub const NO_INSTRUCTION: &str = " is no instruction of this processor\n";
 
+/// How the line begins that says where a run came to a BRK without a vector.
+pub const BREAK_AT: &str = "mos65: BRK at ";
+
+pub const NO_VECTOR: &str = "; nothing stands at FFFE\n";
+
+/// How the line begins that says where a run came where nothing was written.
+pub const RAN_INTO: &str = "mos65: ran into ";
+
+pub const UNWRITTEN: &str = ", which nothing wrote";
+
+/// What stands before the address of the last instruction.
+pub const FROM: &str = ", from ";
+
+pub const NO_RESET: &str = "; nothing stands at FFFC\n";
+
 pub const NO_PLACE: &str = " is no name of the source and no address\n";

@@ -1,25 +1,24 @@
 -- Parts of a run, one after another.
 use Rattle.std.proofs.Common.{◌≡◌, ◌∙◌, ◌++◌, ℕ, Bool, false, true, List, [], Option, None, Some, Result, Ok, Err, IfOk, OnOk, refl, sym, ap, ap₂, append_assoc, subst}
 use Rattle.std.proofs.KnownBytes.{Appends-trans, Consumes-nil, Consumes-trans}
-use Rattle.assembler.specs.Assembly.{AssemblyView}
 use Rattle.console.proofs.Turning.{ran_as, whole_input}
-use Rattle.console.specs.Playing.{Outcome, Play, begun, no_memo, played}
-use Rattle.console.specs.Turns.{EndsOnce, MayCome, play_at}
+use Rattle.console.specs.Playing.{Outcome, Play, begun, played}
+use Rattle.console.specs.Turns.{EndsOnce, Known, MayCome, first_known, known, play_at}
 use Rattle.console.specs.Written.{AreBytesOf, RanAs}
 use Rattle.console.specs.declared.ending.Ending.{Ending}
-use Rattle.console.specs.declared.ending.Ending.TheVariants.{Until, Rest, InputOver, Limit, Refused}
+use Rattle.console.specs.declared.ending.Ending.TheVariants.{Until, Rest, InputOver, Limit, Unwritten, NoReset, NoVector, Refused}
 use Rattle.console.specs.declared.ending.Played.{Played}
 use Rattle.console.specs.declared.turn.Player.{Player}
-use Rattle.console.specs.declared.memo.Memo.{Memo}
 use Rattle.model.specs.Session.{Session}
+use Rattle.accesses.specs.Writing.{or_everywhere}
 use Rattle.arguments.specs.declared.refusal.Refusal.{Refusal}
 use Rattle.std.specs.Io.KnownBytes.{Appends}
 use Rattle.trace_rows.specs.declared.sites.Sites.{Sites}
 use Rattle.arguments_play.specs.Trace.{TraceAsked}
-use Rattle.tracing.specs.Beginnings.{AreSites, AreWritten}
+use Rattle.tracing.specs.Beginnings.{AreSites, first_written}
 use Rattle.tracing.specs.Gathered.{Gathered, Gathers, none_gathered, text_at_end}
 use Rattle.tracing.specs.Texts.{GotText, Noted, by_steps, no_text, note_step, pass_step}
-use Rattle.tracing.specs.Traces.{EndsAt, WentOn, WroteNotes, gathered_at, is_begun, noted_after, reached, trace_noted, traced, traced_after}
+use Rattle.tracing.specs.Traces.{Begin, EndsAt, WentOn, WroteNotes, gathered_at, is_begun, noted_after, play_of, reached, trace_noted, traced, traced_after}
 
 pub once_none : (b : Bool) → EndsOnce b b []
 once_none b is = (refl, is)
@@ -32,8 +31,8 @@ pub may_all : (b c : Bool) (more rest : List ℕ) → EndsOnce b c more → MayC
 may_all b c more rest once may is =
     let ends = once is in ap (λ (xs : List ℕ). xs ++ rest) ends.0 ∙ may ends.1
 
-abbrev outcome_of : Played → Session → Memo → List ℕ → Outcome
-outcome_of end t memo rest = record { steps = end.steps; ending = end.ending; play = play_at t memo rest }
+abbrev outcome_of : Played → Session → Known → List ℕ → Outcome
+outcome_of end t k rest = record { steps = end.steps; ending = end.ending; play = play_at t k rest }
 
 abbrev none_made : Played
 none_made = record { steps = 0; ending = Until }
@@ -72,14 +71,14 @@ traced_on from to limit s t u a b c given mid left g h n first end until went on
   leads = λ rest may.
       let all : List ℕ = on.told ++ rest in
       let there = went.leads all (may_all b.is_over c.is_over on.told rest on.once may) in (
-        ap (λ (input : List ℕ). traced from to limit (play_at s a.memo input)) (append_assoc went.told on.told rest)
+        ap (λ (input : List ℕ). traced from to limit (play_at s (known a) input)) (append_assoc went.told on.told rest)
             ∙ ap (traced_after to limit) there.0
-            ∙ ap (λ (why : Ending). traced_after to limit (record { steps = first.steps; ending = why; play = play_at t b.memo all })) until
+            ∙ ap (λ (why : Ending). traced_after to limit (record { steps = first.steps; ending = why; play = play_at t (known b) all })) until
             ∙ (on.leads rest may).0,
-        ap (λ (input : List ℕ). trace_noted from to limit g (play_at s a.memo input)) (append_assoc went.told on.told rest)
-            ∙ ap (λ (x : Gathered). noted_after to limit x (reached from (play_at s a.memo (went.told ++ all)))) there.1
+        ap (λ (input : List ℕ). trace_noted from to limit g (play_at s (known a) input)) (append_assoc went.told on.told rest)
+            ∙ ap (λ (x : Gathered). noted_after to limit x (reached from (play_at s (known a) (went.told ++ all)))) there.1
             ∙ ap (noted_after to limit h) there.0
-            ∙ ap (λ (why : Ending). noted_after to limit h (record { steps = first.steps; ending = why; play = play_at t b.memo all })) until
+            ∙ ap (λ (why : Ending). noted_after to limit h (record { steps = first.steps; ending = why; play = play_at t (known b) all })) until
             ∙ ap (λ (m : Noted). Some m) (on.leads rest may).1,
       );
 }
@@ -91,6 +90,9 @@ ended_before to limit steps Until p other = absurd (other refl)
 ended_before to limit steps Rest p other = refl
 ended_before to limit steps InputOver p other = refl
 ended_before to limit steps Limit p other = refl
+ended_before to limit steps (Unwritten from) p other = refl
+ended_before to limit steps NoReset p other = refl
+ended_before to limit steps NoVector p other = refl
 ended_before to limit steps (Refused fault) p other = refl
 
 none_noted : (to : Option ℕ) (limit steps : ℕ) (g : Gathered) (why : Ending) (p : Play) → (why ≡ Until → ⊥)
@@ -99,6 +101,9 @@ none_noted to limit steps g Until p other = absurd (other refl)
 none_noted to limit steps g Rest p other = refl
 none_noted to limit steps g InputOver p other = refl
 none_noted to limit steps g Limit p other = refl
+none_noted to limit steps g (Unwritten from) p other = refl
+none_noted to limit steps g NoReset p other = refl
+none_noted to limit steps g NoVector p other = refl
 none_noted to limit steps g (Refused fault) p other = refl
 
 pub traced_none : (from to : Option ℕ) (limit : ℕ) (s t : Session) (a b : Player) (given left : Option (List ℕ)) (g h : Gathered) (first end : Played) → (first.ending ≡ Until → ⊥)
@@ -110,37 +115,37 @@ traced_none from to limit s t a b given left g h first end other is went = recor
   once = went.once;
   leads = λ rest may.
       let there = went.leads rest may in (
-        ap (traced_after to limit) there.0 ∙ ended_before to limit first.steps first.ending (play_at t b.memo rest) other
-            ∙ ap (λ (e : Played). outcome_of e t b.memo rest) (sym is),
-        ap (noted_after to limit (gathered_at from g (play_at s a.memo (went.told ++ rest)))) there.0
-            ∙ none_noted to limit first.steps (gathered_at from g (play_at s a.memo (went.told ++ rest))) first.ending (play_at t b.memo rest) other,
+        ap (traced_after to limit) there.0 ∙ ended_before to limit first.steps first.ending (play_at t (known b) rest) other
+            ∙ ap (λ (e : Played). outcome_of e t (known b) rest) (sym is),
+        ap (noted_after to limit (gathered_at from g (play_at s (known a) (went.told ++ rest)))) there.0
+            ∙ none_noted to limit first.steps (gathered_at from g (play_at s (known a) (went.told ++ rest))) first.ending (play_at t (known b) rest) other,
       );
 }
 
 -- A whole trace, from a session where nothing is remembered.
-pub whole_trace : (part : Play → Outcome) (makes : Play → Option Noted) (s t : Session) (a b : Player) (given left held now : Option (List ℕ)) (end : Played) (n : Option Noted) → a.memo ≡ no_memo → EndsAt b.is_over left
+pub whole_trace : (part : Play → Outcome) (makes : Play → Option Noted) (s t : Session) (a b : Player) (given left held now : Option (List ℕ)) (written : List Bool) (end : Played) (n : Option Noted) → known a ≡ first_known written → EndsAt b.is_over left
     → WentOn part makes s a given left end t b n → GotText n held now
-    → (input : List ℕ) × (rest : List ℕ) × AreBytesOf given input × AreBytesOf left rest × RanAs (part (begun s input)) end t rest × GotText (makes (begun s input)) held now
-whole_trace part makes s t a b given left held now end n none over went got =
-    let whole = whole_input given left went.told b.is_over (λ input rest. RanAs (part (begun s input)) end t rest × GotText (makes (begun s input)) held now) went.consumes over
+    → (input : List ℕ) × (rest : List ℕ) × AreBytesOf given input × AreBytesOf left rest × RanAs (part (begun s written input)) end t rest × GotText (makes (begun s written input)) held now
+whole_trace part makes s t a b given left held now written end n none over went got =
+    let whole = whole_input given left went.told b.is_over (λ input rest. RanAs (part (begun s written input)) end t rest × GotText (makes (begun s written input)) held now) went.consumes over
     (λ rest may.
     let there = went.leads rest may in (
-      ran_as (part (begun s (went.told ++ rest))) end.steps end.ending t b.memo rest
-          (ap (λ (m : Memo). part (play_at s m (went.told ++ rest))) (sym none) ∙ there.0),
-      subst (λ (m : Option Noted). GotText m held now) (sym (ap (λ (m : Memo). makes (play_at s m (went.told ++ rest))) (sym none) ∙ there.1)) got,
+      ran_as (part (begun s written (went.told ++ rest))) end.steps end.ending t (known b) rest
+          (ap (λ (k : Known). part (play_at s k (went.told ++ rest))) (sym none) ∙ there.0),
+      subst (λ (m : Option Noted). GotText m held now) (sym (ap (λ (k : Known). makes (play_at s k (went.told ++ rest))) (sym none) ∙ there.1)) got,
     )) in
     (whole.0, whole.1, whole.2, whole.3, whole.4.0, whole.4.1)
 
 -- A trace whose steps were made, if they were.
-pub whole_on : (from to : Option ℕ) (limit : ℕ) (s t u : Session) (a b c : Player) (given mid left held now : Option (List ℕ)) (g h : Gathered) (first : Played) (r : Result Played Refusal)
-    → a.memo ≡ no_memo → first.ending ≡ Until → WentOn (reached from) (gathered_at from g) s a given mid first t b h
+pub whole_on : (from to : Option ℕ) (limit : ℕ) (s t u : Session) (a b c : Player) (given mid left held now : Option (List ℕ)) (written : List Bool) (g h : Gathered) (first : Played) (r : Result Played Refusal)
+    → known a ≡ first_known written → first.ending ≡ Until → WentOn (reached from) (gathered_at from g) s a given mid first t b h
     → IfOk r (λ end. (n : Noted) × WentOn (played to limit) (noting to limit h) t b mid left end u c n × GotText (Some n) held now) → OnOk r (EndsAt c.is_over left)
-    → IfOk r (λ end. (input : List ℕ) × (rest : List ℕ) × AreBytesOf given input × AreBytesOf left rest × RanAs (traced from to limit (begun s input)) end u rest
-    × GotText (trace_noted from to limit g (begun s input)) held now)
-whole_on from to limit s t u a b c given mid left held now g h first (Ok end) none until went on over =
-    whole_trace (traced from to limit) (trace_noted from to limit g) s u a c given left held now end (Some on.0) none over
+    → IfOk r (λ end. (input : List ℕ) × (rest : List ℕ) × AreBytesOf given input × AreBytesOf left rest × RanAs (traced from to limit (begun s written input)) end u rest
+    × GotText (trace_noted from to limit g (begun s written input)) held now)
+whole_on from to limit s t u a b c given mid left held now written g h first (Ok end) none until went on over =
+    whole_trace (traced from to limit) (trace_noted from to limit g) s u a c given left held now written end (Some on.0) none over
     (traced_on from to limit s t u a b c given mid left g h on.0 first end until went on.1) on.2
-whole_on from to limit s t u a b c given mid left held now g h first (Err refusal) none until went on over = tt
+whole_on from to limit s t u a b c given mid left held now written g h first (Err refusal) none until went on over = tt
 
 -- The text at the end: what went to the writer before, and then the rest.
 pub got_text : (held mid now : Option (List ℕ)) (before sheet text : List ℕ) (g : Gathered) → before ≡ [] → Gathers held mid before sheet text → Appends mid now (text_at_end g sheet)
@@ -152,17 +157,20 @@ got_text held mid now before sheet text g none gathers ended = (
 )
 
 -- A trace that is as long as was asked for.
-pub as_long : (a : TraceAsked) (assembly : Option AssemblyView) (from to : Option ℕ) (limit steps : ℕ) (s t : Session) (given left held now : Option (List ℕ)) (end : Played) → limit ≡ steps
-    → ((input : List ℕ) × (rest : List ℕ) × AreBytesOf given input × AreBytesOf left rest × RanAs (traced from to limit (begun s input)) end t rest × WroteNotes a assembly (λ g. trace_noted from to limit g (begun s input)) held now)
-    → (input : List ℕ) × (rest : List ℕ) × AreBytesOf given input × AreBytesOf left rest × RanAs (traced from to steps (begun s input)) end t rest × WroteNotes a assembly (λ g. trace_noted from to steps g (begun s input)) held now
-as_long a assembly from to limit steps s t given left held now end same run =
-    subst (λ n. (input : List ℕ) × (rest : List ℕ) × AreBytesOf given input × AreBytesOf left rest × RanAs (traced from to n (begun s input)) end t rest × WroteNotes a assembly (λ g. trace_noted from to n g (begun s input)) held now) same run
+pub as_long : (a : TraceAsked) (b : Begin) (from to : Option ℕ) (limit steps : ℕ) (t : Session) (given left held now : Option (List ℕ)) (end : Played) → limit ≡ steps
+    → ((input : List ℕ) × (rest : List ℕ) × AreBytesOf given input × AreBytesOf left rest × RanAs (traced from to limit (play_of a b input)) end t rest × WroteNotes a b (λ g. trace_noted from to limit g (play_of a b input)) held now)
+    → (input : List ℕ) × (rest : List ℕ) × AreBytesOf given input × AreBytesOf left rest × RanAs (traced from to steps (play_of a b input)) end t rest × WroteNotes a b (λ g. trace_noted from to steps g (play_of a b input)) held now
+as_long a b from to limit steps t given left held now end same run =
+    subst (λ n. (input : List ℕ) × (rest : List ℕ) × AreBytesOf given input × AreBytesOf left rest × RanAs (traced from to n (play_of a b input)) end t rest × WroteNotes a b (λ g. trace_noted from to n g (play_of a b input)) held now) same run
 
 -- Nothing was gathered before the trace of a file.
-pub wrote_notes : (a : TraceAsked) (assembly : Option AssemblyView) (from to : Option ℕ) (limit : ℕ) (s t : Session) (given left held now : Option (List ℕ)) (g : Gathered) (r : Result Played Refusal)
-    → ((sites : Sites) × AreSites assembly sites × (written : Option (List Bool)) × AreWritten a.finds_unwritten assembly written × (g ≡ none_gathered a sites written))
-    → IfOk r (λ end. (input : List ℕ) × (rest : List ℕ) × AreBytesOf given input × AreBytesOf left rest × RanAs (traced from to limit (begun s input)) end t rest × GotText (trace_noted from to limit g (begun s input)) held now)
-    → IfOk r (λ end. (input : List ℕ) × (rest : List ℕ) × AreBytesOf given input × AreBytesOf left rest × RanAs (traced from to limit (begun s input)) end t rest × WroteNotes a assembly (λ h. trace_noted from to limit h (begun s input)) held now)
-wrote_notes a assembly from to limit s t given left held now g (Err refusal) new run = tt
-wrote_notes a assembly from to limit s t given left held now g (Ok end) new run =
-    (run.0, run.1, run.2, run.3, run.4, (new.0, new.1, new.2, new.3, subst (λ h. GotText (trace_noted from to limit h (begun s run.0)) held now) new.4 run.5))
+pub wrote_notes : (a : TraceAsked) (b : Begin) (from to : Option ℕ) (limit : ℕ) (t : Session) (written : List Bool) (given left held now : Option (List ℕ)) (g : Gathered) (r : Result Played Refusal)
+    → ((sites : Sites) × AreSites b.assembly sites × (g ≡ none_gathered a sites (first_written a.finds_unwritten b.written)))
+    → written ≡ or_everywhere a.is_free b.written
+    → IfOk r (λ end. (input : List ℕ) × (rest : List ℕ) × AreBytesOf given input × AreBytesOf left rest × RanAs (traced from to limit (begun b.session written input)) end t rest × GotText (trace_noted from to limit g (begun b.session written input)) held now)
+    → IfOk r (λ end. (input : List ℕ) × (rest : List ℕ) × AreBytesOf given input × AreBytesOf left rest × RanAs (traced from to limit (play_of a b input)) end t rest × WroteNotes a b (λ h. trace_noted from to limit h (play_of a b input)) held now)
+wrote_notes a b from to limit t written given left held now g (Err refusal) new is run = tt
+wrote_notes a b from to limit t written given left held now g (Ok end) new is run =
+    let made = subst (λ w. RanAs (traced from to limit (begun b.session w run.0)) end t run.1) is run.4 in
+    let got = subst (λ w. GotText (trace_noted from to limit g (begun b.session w run.0)) held now) is run.5 in
+    (run.0, run.1, run.2, run.3, made, (new.0, new.1, subst (λ h. GotText (trace_noted from to limit h (play_of a b run.0)) held now) new.2 got))

@@ -2,9 +2,8 @@
 use Rattle.std.proofs.Common.{◌≡◌, ◌∙◌, ℕ, suc, ◌+◌, ◌-◌, ◌<◌, ◌≤◌, Bool, true, false, cond, List, [], ◌++◌, Option, Some, None, sym, ap, arith, append_assoc}
 use Rattle.std.proofs.Math.Nat.{sub-zero}
 use Rattle.console.specs.Playing.{Play, Turn, is_at, turn_of}
-use Rattle.console.specs.Turns.{EndsOnce, MayCome, TurnsTo, play_at, turn_to}
+use Rattle.console.specs.Turns.{EndsOnce, Known, MayCome, TurnsTo, play_at, turn_to}
 use Rattle.console.specs.declared.ending.Ending.{Ending}
-use Rattle.console.specs.declared.memo.Memo.{Memo}
 use Rattle.model.specs.Session.{Session}
 use Rattle.model.specs.State.{State}
 use Rattle.tracing.specs.Gathered.{ahead_of, gathered, noted_here, text_of_step}
@@ -15,10 +14,10 @@ use Rattle.tracing.proofs.Going.{may_all}
 
 -- So far: whatever comes after what was told, so many steps make one thing of another, and the rest
 -- goes on with it.
-pub record MakesOn {A : Type 0} (each : State → State → A → A) (until : Option ℕ) (limit : ℕ) (s : Session) (first : Memo) (told : List ℕ) (over : Bool) (steps : ℕ) (t : Session) (memo : Memo) (a b : A) : Type 0 where
+pub record MakesOn {A : Type 0} (each : State → State → A → A) (until : Option ℕ) (limit : ℕ) (s : Session) (first : Known) (told : List ℕ) (over : Bool) (steps : ℕ) (t : Session) (memo : Known) (a b : A) : Type 0 where
   pub makes : (rest : List ℕ) → MayCome over rest → by_steps each until limit (play_at s first (told ++ rest)) a ≡ by_steps each until (limit - steps) (play_at t memo rest) b
 
-pub makes_none : {A : Type 0} (each : State → State → A → A) (until : Option ℕ) (limit : ℕ) (s : Session) (first : Memo) (over : Bool) (a : A) → MakesOn each until limit s first [] over 0 s first a a
+pub makes_none : {A : Type 0} (each : State → State → A → A) (until : Option ℕ) (limit : ℕ) (s : Session) (first : Known) (over : Bool) (a : A) → MakesOn each until limit s first [] over 0 s first a a
 makes_none each until limit s first over a = record {
   makes = λ rest may. ap (λ n. by_steps each until n (play_at s first rest) a) (sym (sub-zero limit));
 }
@@ -32,15 +31,15 @@ made_none : {A : Type 0} (each : State → State → A → A) (until : Option �
 unfolding by_steps
 made_none each until n p a e = ap (λ k. by_steps each until k p a) e
 
-pub makes_full : {A : Type 0} (each : State → State → A → A) (until : Option ℕ) (limit : ℕ) (s : Session) (first : Memo) (told : List ℕ) (over : Bool) (steps : ℕ) (t : Session) (memo : Memo) (a b : A)
+pub makes_full : {A : Type 0} (each : State → State → A → A) (until : Option ℕ) (limit : ℕ) (s : Session) (first : Known) (told : List ℕ) (over : Bool) (steps : ℕ) (t : Session) (memo : Known) (a b : A)
     → MakesOn each until limit s first told over steps t memo a b → limit ≤ steps → (rest : List ℕ) → MayCome over rest → by_steps each until limit (play_at s first (told ++ rest)) a ≡ b
 makes_full each until limit s first told over steps t memo a b h full rest may =
     h.makes rest may ∙ made_none each until (limit - steps) (play_at t memo rest) b (omega arith)
 
 -- With one turn more.
-module _ {A : Type 0} (each : State → State → A → A) (until : Option ℕ) (limit : ℕ) (s : Session) (first : Memo) (told : List ℕ) (over : Bool) (steps : ℕ) (t : Session) (memo : Memo) (a b : A)
+module _ {A : Type 0} (each : State → State → A → A) (until : Option ℕ) (limit : ℕ) (s : Session) (first : Known) (told : List ℕ) (over : Bool) (steps : ℕ) (t : Session) (memo : Known) (a b : A)
     (h : MakesOn each until limit s first told over steps t memo a b) (room : steps < limit)
-    (told2 : List ℕ) (over2 : Bool) (ending : Option Ending) (u : Session) (memo2 : Memo) (once : EndsOnce over over2 told2) (turn : TurnsTo t memo told2 over2 ending u memo2) where
+    (told2 : List ℕ) (over2 : Bool) (ending : Option Ending) (u : Session) (memo2 : Known) (once : EndsOnce over over2 told2) (turn : TurnsTo t memo told2 over2 ending u memo2) where
   abbrev next : Turn → A
   next x = by_turn each until t.current x b (λ q c. by_steps each until (limit - (steps + 1)) q c)
 

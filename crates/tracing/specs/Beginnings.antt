@@ -1,8 +1,7 @@
 -- What a trace begins with: the labels and the lines of the source, and the addresses that count as
 -- written. Source: mos65.
-use Rattle.std.specs.Prelude.{◌≡◌, ℕ, Bool, true, false, is_some, List, [], map, Option, None, Some}
+use Rattle.std.specs.Prelude.{◌≡◌, Bool, true, false, List, [], map, Option, None, Some}
 use Rattle.assembler.specs.Assembly.{AssemblyView}
-use Rattle.model.specs.TapePieces.{IsReadInPieces}
 use Rattle.trace_rows.specs.Sites.{IsTable, label_for, labelled, line_for, names_in}
 use Rattle.trace_rows.specs.SourceLines.{lines_in, listed}
 use Rattle.trace_rows.specs.declared.sites.Sites.{Sites}
@@ -25,15 +24,7 @@ abbrev pub AreSites : Option AssemblyView → Sites → Type 0
 AreSites None sites = HasNone sites
 AreSites (Some assembly) sites = HasThose assembly sites
 
--- The addresses at which a file has a byte: those of a source's image, or of some tape's, which is
--- read once more.
-abbrev pub HasBytesAt : Option AssemblyView → List Bool → Type 0
-HasBytesAt None written = (text : List ℕ) × (image : List (Option ℕ))
-    × IsReadInPieces text image × (written ≡ map is_some image)
-HasBytesAt (Some assembly) written = written ≡ map is_some assembly.image
-
--- They are there where reads of other addresses are asked for.
-abbrev pub AreWritten : Bool → Option AssemblyView → Option (List Bool) → Type 0
-AreWritten false assembly written = written ≡ None
-AreWritten true assembly None = ⊥
-AreWritten true assembly (Some written) = HasBytesAt assembly written
+-- The addresses at which a file has a byte, where reads of others are asked for.
+abbrev pub first_written : Bool → List Bool → Option (List Bool)
+first_written false written = None
+first_written true written = Some written

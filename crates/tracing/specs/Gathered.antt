@@ -6,7 +6,7 @@ use Rattle.std.specs.List.{flat_map}
 use Rattle.accesses.specs.Footprint.{reads_here, stores_here}
 use Rattle.accesses.specs.Moments.{entered, moment_of}
 use Rattle.accesses.specs.Tallies.{Counts, no_counts, noted, saturated}
-use Rattle.accesses.specs.Writing.{is_written}
+use Rattle.accesses.specs.Writing.{is_written, with_bytes}
 use Rattle.accesses.specs.declared.moment.Moment.{Moment}
 use Rattle.accesses.specs.declared.tally.Count.{Count}
 use Rattle.arguments.specs.Asked.{FileAsked}
@@ -70,14 +70,12 @@ abbrev pub is_told : Map → Option (List Bool) → ℕ → Bool
 is_told map None address = false
 is_told map (Some cells) address = not (is_port map address) && not (is_written cells address)
 
--- An address more that counts as written.
+-- Addresses more that count as written.
 abbrev pub with_written : Option (List Bool) → ℕ → Option (List Bool)
 with_written written address = option_map (λ cells. slice_set cells address true) written
 
-unfoldable pub with_all_written : Option (List Bool) → List ℕ → Option (List Bool)
-with_all_written written [] = written
-with_all_written written (address ∷ addresses)
-    = with_all_written (with_written written address) addresses
+abbrev pub with_all_written : Option (List Bool) → List ℕ → Option (List Bool)
+with_all_written written addresses = option_map (λ cells. with_bytes cells addresses) written
 
 -- Of the addresses that are read, those that are told. Each is told once: it counts as written from
 -- then on.

@@ -3,7 +3,7 @@ use Rattle.std.specs.Prelude.{ℕ, ◌+◌, ◌%◌, ◌==◌, Bool, true, false
 use Rattle.arguments.specs.Asked.{FileAsked}
 use Rattle.model.specs.State.{Map, State, is_port, lies_in}
 use Rattle.model.specs.declared.instruction.Row.{Row}
-use Rattle.accesses.specs.Footprint.{below}
+use Rattle.accesses.specs.Moments.{stored_by}
 use Rattle.accesses.specs.declared.moment.Moment.{Moment}
 use Rattle.tracing.specs.declared.notes.Ahead.{Ahead}
 
@@ -26,10 +26,6 @@ code_of moment = take (len_of moment.row) (moment.regs.pc ∷ (moment.regs.pc + 
 abbrev pub entry_reads : List ℕ
 entry_reads = 0xFFFE ∷ 0xFFFF ∷ []
 
--- Where an entry pushes the return address and the status, by the stack pointer before it.
-abbrev pub entry_stores : ℕ → List ℕ
-entry_stores s = below s 0 ∷ below s 1 ∷ below s 2 ∷ []
-
 -- A store leaves a byte outside the ROM, and of the port's addresses at the first alone.
 abbrev pub is_kept : Map → Option (ℕ × ℕ) → ℕ → ℕ → Bool
 is_kept map rom port address
@@ -40,12 +36,7 @@ kept map rom port [] = []
 kept map rom port (address ∷ addresses) = if is_kept map rom port address
     then address ∷ kept map rom port addresses else kept map rom port addresses
 
--- Where a step has stored.
-abbrev pub stores_of : Bool → Ahead → List ℕ
-stores_of true ahead = entry_stores ahead.moment.regs.s
-stores_of false ahead = ahead.stores.items
-
 -- Where a step has left a byte.
 abbrev pub left_at : State → FileAsked → Bool → Ahead → List ℕ
-left_at state file is_entry ahead
-    = kept state.bus.map file.rom file.port (stores_of is_entry ahead)
+left_at state file is_entry ahead = kept state.bus.map file.rom file.port
+    (stored_by is_entry ahead.moment.regs.s ahead.stores.items)

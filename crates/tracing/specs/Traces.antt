@@ -2,18 +2,19 @@
 -- image and names a file stands for. Source: mos65.
 use Rattle.std.specs.Prelude.{◌≡◌, ◌⊎◌, ⊤, ℕ, true, Bool, if◌then◌else◌, List, ◌++◌, Option, Some, None, Result, Ok, Err}
 use Rattle.std.specs.Io.KnownBytes.{Consumes, IsAtEnd}
+use Rattle.accesses.specs.Writing.{bytes_in, or_everywhere}
 use Rattle.assembler.specs.Assembly.{AssemblyView}
 use Rattle.console.specs.Playing.{Outcome, Play, begun, is_at, played}
-use Rattle.console.specs.Turns.{EndsOnce, MayCome, play_at}
+use Rattle.console.specs.Turns.{EndsOnce, MayCome, known, play_at}
 use Rattle.console.specs.Written.{AreBytesOf}
 use Rattle.console.specs.declared.ending.Ending.{Ending}
 use Rattle.console.specs.declared.ending.Ending.TheVariants.{Until}
 use Rattle.console.specs.declared.ending.Played.{Played}
 use Rattle.console.specs.declared.turn.Player.{Player}
 use Rattle.arguments.specs.Asked.{map_of}
-use Rattle.arguments.specs.Files.{IsUnread}
 use Rattle.loading.specs.Loads.{IsLoaded}
 use Rattle.loading.specs.Place.{names_of}
+use Rattle.loading.specs.declared.loaded.Loaded.{Loaded}
 use Rattle.model.specs.Event.{start}
 use Rattle.model.specs.Session.{Session, new_session}
 use Rattle.model.specs.State.{State}
@@ -28,7 +29,7 @@ use Rattle.running.specs.Statuses.{status_of_ending}
 use Rattle.running.specs.Told.{unplaced_line}
 use Rattle.trace_rows.specs.declared.sites.Sites.{Sites}
 use Rattle.arguments_play.specs.Trace.{TraceAsked}
-use Rattle.tracing.specs.Beginnings.{AreSites, AreWritten}
+use Rattle.tracing.specs.Beginnings.{AreSites, first_written}
 use Rattle.tracing.specs.Gathered.{Gathered, none_gathered}
 use Rattle.tracing.specs.Texts.{GotText, Noted, by_steps, no_text, note_step, pass_step}
 
@@ -93,19 +94,37 @@ pub record WentOn {A : Type 0} (part : Play → Outcome) (makes : Play → A) (s
   pub consumes : Consumes given left told
   pub once : EndsOnce before.is_over after.is_over told
   pub leads : (rest : List ℕ) → MayCome after.is_over rest
-      → (part (play_at s before.memo (told ++ rest))
-      ≡ record { steps = end.steps; ending = end.ending; play = play_at t after.memo rest })
-      × (makes (play_at s before.memo (told ++ rest)) ≡ made)
+      → (part (play_at s (known before) (told ++ rest))
+      ≡ record { steps = end.steps; ending = end.ending; play = play_at t (known after) rest })
+      × (makes (play_at s (known before) (told ++ rest)) ≡ made)
 
 -- ---- what the word does
 
+-- What is traced: a session, with the assembly of its source, and the addresses at which its file
+-- has a byte.
+pub record Begin : Type 0 where
+  pub assembly : Option AssemblyView
+  pub session : Session
+  pub written : List Bool
+
+abbrev pub begin_view : Loaded → Begin
+begin_view loaded = record {
+  assembly = loaded.assembly;
+  session = loaded.session;
+  written = loaded.written;
+}
+
+-- The run that is traced, over some input. Each address counts as written where a run goes on where
+-- nothing was.
+abbrev pub play_of : TraceAsked → Begin → List ℕ → Play
+play_of a b input = begun b.session (or_everywhere a.is_free b.written) input
+
 -- A writer got the text that a trace notes, by the sites of the source and by the addresses that
 -- count as written.
-abbrev pub WroteNotes : TraceAsked → Option AssemblyView → (Gathered → Option Noted)
+abbrev pub WroteNotes : TraceAsked → Begin → (Gathered → Option Noted)
     → Option (List ℕ) → Option (List ℕ) → Type 0
-WroteNotes a assembly notes held now = (sites : Sites) × AreSites assembly sites
-    × (written : Option (List Bool)) × AreWritten a.finds_unwritten assembly written
-    × GotText (notes (none_gathered a sites written)) held now
+WroteNotes a b notes held now = (sites : Sites) × AreSites b.assembly sites
+    × GotText (notes (none_gathered a sites (first_written a.finds_unwritten b.written))) held now
 
 -- Memory ran out, or a stream failed.
 abbrev pub IsOfStreams : Refusal → Type 0
@@ -114,28 +133,16 @@ IsOfStreams (Read Other) = ⊤
 IsOfStreams Write = ⊤
 IsOfStreams refusal = ⊥
 
--- Why the addresses at which a file has a byte are not known: memory runs out, or a tape is not
--- read once more.
-abbrev pub IsNotRead : Option AssemblyView → Refusal → Type 0
-IsNotRead None refusal = IsUnread refusal
-IsNotRead (Some assembly) refusal = refusal ≡ OutOfMemory
-
--- Why a trace does not come to its end: memory runs out or a stream fails; or these addresses are
--- not known, where reads of others are asked for.
-abbrev pub BreaksOff : TraceAsked → Option AssemblyView → Refusal → Type 0
-BreaksOff a assembly refusal = IsOfStreams refusal
-    ⊎ ((a.finds_unwritten ≡ true) × IsNotRead assembly refusal)
-
 -- A session was traced by the definition of a trace over some input, which is the reader's if its
 -- bytes are known: what was not asked for is left, and what was noted was written.
-abbrev pub IsTraced : TraceAsked → Option AssemblyView → Session → Option ℕ → Option ℕ
-    → Streams → Result Outcome Refusal → Type 0
-IsTraced a assembly s from to streams (Ok end) = (input : List ℕ)
-    × (end ≡ traced from to a.steps (begun s input))
+abbrev pub IsTraced : TraceAsked → Begin → Option ℕ → Option ℕ → Streams → Result Outcome Refusal
+    → Type 0
+IsTraced a b from to streams (Ok end) = (input : List ℕ)
+    × (end ≡ traced from to a.steps (play_of a b input))
     × AreBytesOf streams.given input × AreBytesOf streams.left end.play.input
-    × WroteNotes a assembly (λ g. trace_noted from to a.steps g (begun s input))
+    × WroteNotes a b (λ g. trace_noted from to a.steps g (play_of a b input))
     streams.held streams.now
-IsTraced a assembly s from to streams (Err refusal) = BreaksOff a assembly refusal
+IsTraced a b from to streams (Err refusal) = IsOfStreams refusal
 
 -- The exit status of a trace: 0 where the program came to its end, or to the end of the trace.
 abbrev pub status_of_trace : Result Outcome Refusal → ℕ
@@ -143,28 +150,34 @@ status_of_trace (Ok end) = status_of_ending end.ending 0
 status_of_trace (Err refusal) = status_of refusal
 
 -- A session was traced from one place to another.
-abbrev pub TracedTo : TraceAsked → Option AssemblyView → Option ℕ → Option ℕ → Session
-    → Streams → ℕ → Type 0
-TracedTo a assembly from to s streams status = (outcome : Result Outcome Refusal)
-    × IsTraced a assembly s from to streams outcome × (status ≡ status_of_trace outcome)
+abbrev pub TracedTo : TraceAsked → Begin → Option ℕ → Option ℕ → Streams → ℕ → Type 0
+TracedTo a b from to streams status = (outcome : Result Outcome Refusal)
+    × IsTraced a b from to streams outcome × (status ≡ status_of_trace outcome)
 
 -- A session was traced between the places of the words, if they are found; otherwise the streams
 -- were left alone, `Alone`, and the error stream got which word is no place.
-abbrev pub TracedIfFound : TraceAsked → Option AssemblyView → Result (Option ℕ) ℕ
-    → Result (Option ℕ) ℕ → Session → Streams → Heard → ℕ → Type 0 → Type 0
-TracedIfFound a assembly (Ok from) (Ok to) s streams heard status Alone
-    = TracedTo a assembly from to s streams status
-TracedIfFound a assembly (Ok from) (Err refused) s streams heard status Alone
+abbrev pub TracedIfFound : TraceAsked → Begin → Result (Option ℕ) ℕ → Result (Option ℕ) ℕ
+    → Streams → Heard → ℕ → Type 0 → Type 0
+TracedIfFound a b (Ok from) (Ok to) streams heard status Alone = TracedTo a b from to streams status
+TracedIfFound a b (Ok from) (Err refused) streams heard status Alone
     = (status ≡ refused) × Tells heard (unplaced_line a.to) × Alone
-TracedIfFound a assembly (Err refused) to s streams heard status Alone
+TracedIfFound a b (Err refused) to streams heard status Alone
     = (status ≡ refused) × Tells heard (unplaced_line a.from) × Alone
 
+-- The session at the start of an image, with the names of the image's source.
+abbrev pub begin_of : TraceAsked → List (Option ℕ) → Option AssemblyView → Begin
+begin_of a image assembly = record {
+  assembly = assembly;
+  session = new_session 0 (start (map_of a.file) image);
+  written = bytes_in image;
+}
+
 -- What was done for words: a file was not loaded, the error stream got why, and the others were
--- left alone; or from the start of an image that it can have, on the map of the words and with the names
--- of the image's source, a session was traced.
+-- left alone; or from the start of an image that it can have, on the map of the words and with the
+-- names of the image's source, a session was traced.
 abbrev pub IsDone : TraceAsked → Streams → Heard → ℕ → Type 0 → Type 0
 IsDone a streams heard status Alone = IsUnloaded a.file heard status Alone
     ⊎ ((image : List (Option ℕ)) × (assembly : Option AssemblyView)
-    × IsLoaded a.file image assembly × TracedIfFound a assembly
+    × IsLoaded a.file image assembly × TracedIfFound a (begin_of a image assembly)
     (place_asked (names_of assembly) a.from) (place_asked (names_of assembly) a.to)
-    (new_session 0 (start (map_of a.file) image)) streams heard status Alone)
+    streams heard status Alone)

@@ -1,14 +1,14 @@
 //! What a step is about to touch, and what it has touched.
 
 ghost use Rattle.std.specs.Prelude.{◌≡◌, ◌≤◌, length};
-ghost use Rattle.accesses.specs.Footprint.{below, reads_here, stores_here};
+ghost use Rattle.accesses.specs.Footprint.{reads_here, stores_here};
 ghost use Rattle.accesses.specs.Moments.{moment_of};
 ghost use Rattle.arguments.specs.Asked.{file_view};
 ghost use Rattle.model.specs.State.{lies_in};
-ghost use Rattle.tracing.specs.Notes.{code_of, entry_reads, entry_stores, if_asked, is_kept, kept};
-ghost use Rattle.tracing.specs.Notes.{left_at, len_of};
+ghost use Rattle.tracing.specs.Notes.{code_of, entry_reads, if_asked, is_kept, kept, left_at};
+ghost use Rattle.tracing.specs.Notes.{len_of};
 
-use accesses::{Addresses, Moment, moment_of, reads_here, stores_here};
+use accesses::{Addresses, Moment, entry_stores, moment_of, reads_here, stores_here};
 use arguments::FileWords;
 use debugger::Session;
 use model::Row;
@@ -78,21 +78,6 @@ pub fn entry_reads() -> Addresses
     ensures { result.items ≡ entry_reads }
 {
     addresses(&[0xfffe, 0xffff])
-}
-
-/// Returns an address of the stack page, so many bytes below the stack pointer.
-fn below(s: u8, count: u8) -> u16
-    requires { count ≤ 2 }
-    ensures { result ≡ below s count }
-{
-    0x0100 + s.wrapping_sub(count) as u16
-}
-
-/// Returns the addresses where an interrupt entry pushes, by the stack pointer before it.
-pub fn entry_stores(s: u8) -> Addresses
-    ensures { result.items ≡ entry_stores s }
-{
-    addresses(&[below(s, 0), below(s, 1), below(s, 2)])
 }
 
 /// Returns whether an address lies in the ROM of the words.

@@ -1,7 +1,8 @@
 //! What the word `trace` does.
 
 ghost use Rattle.std.specs.Prelude.{◌≡◌, ◌≤◌, ◌⊎◌, [], ◌∷◌, ℕ, List, None, IfErr, IfOk, OnOk};
-ghost use Rattle.std.specs.Prelude.{Bool, Option, Some, false, is_some, map};
+ghost use Rattle.std.specs.Prelude.{Some, false, option_map};
+ghost use Rattle.accesses.specs.Writing.{or_everywhere};
 ghost use Rattle.arguments.specs.Words.{Fits, Refuses, texts};
 ghost use Rattle.console.specs.Playing.{begun, is_at, played};
 ghost use Rattle.console.specs.Taking.{Waits};
@@ -11,21 +12,19 @@ ghost use Rattle.model.specs.State.{input_waits, is_map};
 ghost use Rattle.running.specs.Places.{place_asked};
 ghost use Rattle.trace_rows.specs.declared.sites.Sites.{Sites};
 ghost use Rattle.arguments_play.specs.Trace.{TraceAsked, asked, trace, trace_view};
-ghost use Rattle.tracing.specs.Beginnings.{AreSites, AreWritten, HasBytesAt};
+ghost use Rattle.tracing.specs.Beginnings.{AreSites, first_written};
 ghost use Rattle.tracing.specs.Gathered.{Gathers, gathered, none_gathered};
 ghost use Rattle.tracing.specs.Texts.{GotText, Noted, by_steps, no_text, note_step, noted_in};
 ghost use Rattle.tracing.specs.Texts.{pass_step};
-ghost use Rattle.tracing.specs.Traces.{BreaksOff, EndsAt, IsDone, IsNotRead, IsOfStreams};
-ghost use Rattle.tracing.specs.Traces.{TracedIfFound, TracedTo, WentOn};
-ghost use Rattle.tracing.specs.Traces.{WroteNotes, gathered_at, is_begun, reached};
-ghost use Rattle.tracing.specs.Traces.{trace_noted, traced};
+ghost use Rattle.tracing.specs.Traces.{EndsAt, IsDone, IsOfStreams, TracedIfFound, TracedTo};
+ghost use Rattle.tracing.specs.Traces.{WentOn, WroteNotes, begin_view, gathered_at, is_begun};
+ghost use Rattle.tracing.specs.Traces.{play_of, reached, trace_noted, traced};
 
 use crate::tracer::Tracer;
 use accesses::Written;
-use arguments::{Refusal, image_of_tape, refuse, refused_words};
+use arguments::{Refusal, refuse, refused_words};
 use arguments_play::{TraceWords, read_trace_words};
-use bus::Image;
-use console::{Ending, Played, Player, begin, take_turn};
+use console::{Ending, Played, Player, begin, ending_after, take_turn};
 use debugger::Session;
 use loading::{Loaded, load};
 use running::{place_named, refusal_of, status_of_ending, tell_ending};
@@ -98,7 +97,7 @@ fn run_to_place<R: Read, E: Write>(
     }
     Ok(Played {
         steps: u64::MAX,
-        ending: Ending::Limit,
+        ending: ending_after(session, player),
     })
 }
 
@@ -171,52 +170,36 @@ fn run_noting<R: Read, O: Write, E: Write>(
     }
     Ok(Played {
         steps: limit,
-        ending: Ending::Limit,
+        ending: ending_after(session, player),
     })
 }
 
-/// Returns the addresses where an image has a byte.
+/// Returns some addresses once more.
 ///
 /// Errors: `OutOfMemory` if an allocation fails.
-fn bytes_of(alloc: Global, image: &Image) -> Result<Written, Refusal>
-    ensures written { IfOk result (λ written. written ≡ map is_some image.now) }
+fn copied(alloc: Global, written: &Written) -> Result<Written, Refusal>
+    ensures copied { IfOk result (λ copy. copy ≡ written.now) }
     ensures fault { IfErr result (λ refusal. refusal ≡ Refusal.OutOfMemory) }
 {
-    Written::of_image(alloc, image).map_err(|_| Refusal::OutOfMemory)
+    written.copied(alloc).map_err(|_| Refusal::OutOfMemory)
 }
 
-/// Returns the addresses where the file of the words has a byte. A tape is read once more.
+/// Returns the addresses at which the file has a byte, if reads of others are asked for.
 ///
-/// Errors: those of `image_of_tape`.
-fn bytes_of_file<H: Files + AllocGlobal>(
-    rt: &H,
+/// Errors: `OutOfMemory` if an allocation fails.
+fn first_written(
+    alloc: Global,
     words: &TraceWords<'_>,
-    loaded: &Loaded,
-) -> Result<Written, Refusal>
-    ensures written { IfOk result (HasBytesAt loaded.now.assembly) }
-    ensures fault { IfErr result (IsNotRead loaded.now.assembly) }
-{
-    match &loaded.assembly {
-        Some(assembly) => bytes_of(rt.alloc(), assembly.image()),
-        None => bytes_of(rt.alloc(), &image_of_tape(rt, words.file.file)?),
-    }
-}
-
-/// Returns the addresses where the file of the words has a byte, if they are asked for.
-///
-/// Errors: those of `image_of_tape`.
-fn written_of<H: Files + AllocGlobal>(
-    rt: &H,
-    words: &TraceWords<'_>,
-    loaded: &Loaded,
+    written: &Written,
 ) -> Result<Option<Written>, Refusal>
-    ensures written { IfOk result (AreWritten words.now.finds_unwritten loaded.now.assembly) }
-    ensures fault { IfErr result (BreaksOff (trace_view words.now) loaded.now.assembly) }
+    ensures first { IfOk result
+        (λ first. first ≡ first_written words.now.finds_unwritten written.now) }
+    ensures fault { IfErr result (λ refusal. refusal ≡ Refusal.OutOfMemory) }
 {
     if !words.finds_unwritten {
         return Ok(None);
     }
-    Ok(Some(bytes_of_file(rt, words, loaded)?))
+    Ok(Some(copied(alloc, written)?))
 }
 
 /// Returns the labels and the lines of what was loaded.
@@ -234,22 +217,21 @@ fn sites_of(alloc: Global, loaded: &Loaded) -> Result<Sites, Refusal>
 
 /// Makes the tracer of the words.
 ///
-/// Errors: those of `image_of_tape`.
-fn make_tracer<'a, H: Files + AllocGlobal>(
-    rt: &H,
+/// Errors: `OutOfMemory` if an allocation fails.
+fn make_tracer<'a>(
+    alloc: Global,
     words: &TraceWords<'a>,
     loaded: &Loaded,
 ) -> Result<Tracer<'a>, Refusal>
     ensures nothing { IfOk result (λ t. (sites : Sites) × AreSites loaded.now.assembly sites
-        × (written : Option (List Bool))
-        × AreWritten words.now.finds_unwritten loaded.now.assembly written
-        × (gathered t ≡ none_gathered (trace_view words.now) sites written)) }
+        × (gathered t ≡ none_gathered (trace_view words.now) sites
+        (first_written words.now.finds_unwritten loaded.now.written))) }
     ensures sheet { IfOk result (λ t. t.sheet.text.items ≡ []) }
-    ensures fault { IfErr result (BreaksOff (trace_view words.now) loaded.now.assembly) }
+    ensures fault { IfErr result (λ refusal. refusal ≡ Refusal.OutOfMemory) }
 {
-    let sites = sites_of(rt.alloc(), loaded)?;
-    let written = written_of(rt, words, loaded)?;
-    Ok(Tracer::new(rt.alloc(), words, sites, written)?)
+    let sites = sites_of(alloc, loaded)?;
+    let written = first_written(alloc, words, &loaded.written)?;
+    Ok(Tracer::new(alloc, words, sites, written)?)
 }
 
 /// Makes the steps of the trace from where it begins, and writes what was gathered.
@@ -288,6 +270,7 @@ fn trace_between<R: Read, O: Write, E: Write>(
     alloc: Global,
     tracer: &mut Tracer<'_>,
     session: &mut Session,
+    written: Written,
     span: Span,
     input: &mut R,
     output: &mut O,
@@ -299,12 +282,12 @@ fn trace_between<R: Read, O: Write, E: Write>(
     // what it did not ask for is left. The writer got what the definition notes.
     ensures ok { IfOk result (λ end. (told : List ℕ) × (left : List ℕ)
         × AreBytesOf (R.remaining input.old) told × AreBytesOf (R.remaining input.new) left
-        × RanAs (traced span.from span.to span.limit (begun session.old told)) end session.new
-        left × GotText (trace_noted span.from span.to span.limit (gathered tracer.old)
-        (begun session.old told)) (O.contents output.old) (O.contents output.new)) }
+        × RanAs (traced span.from span.to span.limit (begun session.old written told)) end
+        session.new left × GotText (trace_noted span.from span.to span.limit (gathered tracer.old)
+        (begun session.old written told)) (O.contents output.old) (O.contents output.new)) }
     ensures fault { IfErr result IsOfStreams }
 {
-    let mut player = begin(session);
+    let mut player = begin(session, written);
     let reached = run_to_start(tracer, session, &mut player, span.from, input, errors)?;
     match reached.ending {
         Ending::Until => trace_on(
@@ -325,8 +308,8 @@ fn trace_between<R: Read, O: Write, E: Write>(
 }
 
 /// Traces what was loaded.
-fn trace_span<H: Files + AllocGlobal, R: Read, O: Write, E: Write>(
-    rt: &H,
+fn trace_span<R: Read, O: Write, E: Write>(
+    alloc: Global,
     words: &TraceWords<'_>,
     loaded: &mut Loaded,
     span: Span,
@@ -337,18 +320,22 @@ fn trace_span<H: Files + AllocGlobal, R: Read, O: Write, E: Write>(
     requires { input_waits loaded.old.session.current.bus ≡ false }
     ensures ok { IfOk result (λ end. (told : List ℕ) × (left : List ℕ)
         × AreBytesOf (R.remaining input.old) told × AreBytesOf (R.remaining input.new) left
-        × RanAs (traced span.from span.to span.limit (begun loaded.old.session told)) end
-        loaded.new.session left × WroteNotes (trace_view words.now) loaded.old.assembly
-        (λ g. trace_noted span.from span.to span.limit g (begun loaded.old.session told))
+        × RanAs (traced span.from span.to span.limit
+        (play_of (trace_view words.now) (begin_view loaded.old) told)) end loaded.new.session left
+        × WroteNotes (trace_view words.now) (begin_view loaded.old)
+        (λ g. trace_noted span.from span.to span.limit g
+        (play_of (trace_view words.now) (begin_view loaded.old) told))
         (O.contents output.old) (O.contents output.new)) }
-    ensures fault { IfErr result (BreaksOff (trace_view words.now) loaded.old.assembly) }
+    ensures fault { IfErr result IsOfStreams }
 {
-    let mut tracer = make_tracer(rt, words, loaded)?;
+    let mut tracer = make_tracer(alloc, words, loaded)?;
+    let written = copied(alloc, &loaded.written)?.or_everywhere(words.is_free);
     let session = &mut loaded.session;
     trace_between(
-        rt.alloc(),
+        alloc,
         &mut tracer,
         session,
+        written,
         span,
         input,
         output,
@@ -357,8 +344,8 @@ fn trace_span<H: Files + AllocGlobal, R: Read, O: Write, E: Write>(
 }
 
 /// Traces what was loaded, tells how that ended, and returns the exit status.
-fn trace_told<H: Files + AllocGlobal, R: Read, O: Write, E: Write>(
-    rt: &H,
+fn trace_told<R: Read, O: Write, E: Write>(
+    alloc: Global,
     words: &TraceWords<'_>,
     loaded: &mut Loaded,
     span: Span,
@@ -368,17 +355,18 @@ fn trace_told<H: Files + AllocGlobal, R: Read, O: Write, E: Write>(
 ) -> u8
     requires idle { input_waits loaded.old.session.current.bus ≡ false }
     requires limit { span.limit ≡ words.now.steps }
-    ensures { TracedTo (trace_view words.now) loaded.old.assembly span.from span.to
-        loaded.old.session (record {
-          given = R.remaining input.old;
-          left = R.remaining input.new;
-          held = O.contents output.old;
-          now = O.contents output.new;
-        }) result }
+    ensures { TracedTo (trace_view words.now) (begin_view loaded.old) span.from span.to (record {
+      given = R.remaining input.old;
+      left = R.remaining input.new;
+      held = O.contents output.old;
+      now = O.contents output.new;
+    }) result }
 {
-    match trace_span(rt, words, loaded, span, input, output, errors) {
+    match trace_span(alloc, words, loaded, span, input, output, errors) {
         Ok(played) => {
-            tell_ending(played, loaded.session.regs().pc, errors);
+            let pc = loaded.session.regs().pc;
+            let assembly = loaded.assembly.as_ref();
+            tell_ending(alloc, words.file.file, assembly, played, pc, errors);
             status_of_ending(played.ending, 0)
         }
         Err(refusal) => refuse(refusal, errors),
@@ -386,8 +374,8 @@ fn trace_told<H: Files + AllocGlobal, R: Read, O: Write, E: Write>(
 }
 
 /// Traces what was loaded between the places of the words, and returns the exit status.
-fn trace_loaded<H: Files + AllocGlobal, R: Read, O: Write, E: Write>(
-    rt: &H,
+fn trace_loaded<R: Read, O: Write, E: Write>(
+    alloc: Global,
     words: &TraceWords<'_>,
     loaded: &mut Loaded,
     input: &mut R,
@@ -395,10 +383,10 @@ fn trace_loaded<H: Files + AllocGlobal, R: Read, O: Write, E: Write>(
     errors: &mut E,
 ) -> u8
     requires { input_waits loaded.old.session.current.bus ≡ false }
-    ensures { TracedIfFound (trace_view words.now) loaded.old.assembly
+    ensures { TracedIfFound (trace_view words.now) (begin_view loaded.old)
         (place_asked (names_of loaded.old.assembly) (trace_view words.now).from)
         (place_asked (names_of loaded.old.assembly) (trace_view words.now).to)
-        loaded.old.session (record {
+        (record {
           given = R.remaining input.old;
           left = R.remaining input.new;
           held = O.contents output.old;
@@ -421,7 +409,7 @@ fn trace_loaded<H: Files + AllocGlobal, R: Read, O: Write, E: Write>(
         to,
         limit: words.steps,
     };
-    trace_told(rt, words, loaded, span, input, output, errors)
+    trace_told(alloc, words, loaded, span, input, output, errors)
 }
 
 /// Loads the file of the words and traces it, and returns the exit status.
@@ -444,7 +432,7 @@ fn trace_words<H: Files + AllocGlobal, R: Read, O: Write, E: Write>(
     ensures bad_map { is_map words.now.file.rom words.now.file.port ≡ false → result ≡ 2 }
 {
     match load(rt, &words.file) {
-        Ok(mut loaded) => trace_loaded(rt, words, &mut loaded, input, output, errors),
+        Ok(mut loaded) => { trace_loaded(rt.alloc(), words, &mut loaded, input, output, errors) }
         Err(fault) => fault.tell(words.file.file, errors),
     }
 }

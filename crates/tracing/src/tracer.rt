@@ -218,8 +218,8 @@ impl<'a> Tracer<'a> {
             ≡ marked (with_all_written self.old.written stores.now.items) (gathered self.old) }
         ensures sheet { self.new.sheet ≡ self.old.sheet }
     {
-        for address in stores.as_slice() {
-            self.note_written(*address);
+        if let Some(written) = &mut self.written {
+            written.note_all(stores);
         }
     }
 

@@ -1,4 +1,4 @@
-use Rattle.std.proofs.Common.{◌≡◌, ℕ, replicate}
+use Rattle.std.proofs.Common.{◌≡◌, replicate}
 use Rattle.accesses.proofs.tally.zeros.Given as goal
 
 abbrev pub invariant-loop : goal.invariant-loop

@@ -1,10 +1,12 @@
-use Rattle.std.proofs.Common.{◌≡◌, ◌+◌, ◌++◌, [], true, false, Some, None, arith, refl, sym, ap, ◌∙◌, append-nil, append_assoc}
+use Rattle.std.proofs.Common.{◌≡◌, ◌+◌, ◌++◌, [], true, false, Some, None, arith, refl, sym, ap, ◌∙◌, append-nil, append_assoc, subst}
 use Rattle.std.proofs.KnownBytes.{Appends-nil, Appends-trans, Consumes-nil, Consumes-trans}
 use Rattle.model.proofs.Written.{front_after}
-use Rattle.console.specs.Playing.{begun, is_at, no_memo, played}
+use Rattle.console.specs.Playing.{begun, is_at, played}
+use Rattle.console.specs.Turns.{first_known, known, play_at}
 use Rattle.console.specs.Written.{CutRun, RanAs}
-use Rattle.console.specs.declared.ending.Ending.TheVariants.{Limit, Until}
-use Rattle.console.proofs.Turning.{cut_run, runs_none, runs_on, ends_at, ends_with, ends_full, still_over, whole_input, ran_as}
+use Rattle.console.specs.declared.ending.Ending.{Ending}
+use Rattle.console.specs.declared.ending.Ending.TheVariants.{Until}
+use Rattle.console.proofs.Turning.{RunsOn, cut_run, runs_none, runs_on, ends_at, ends_with, ends_full, still_over, whole_input, ran_as}
 use Rattle.console.proofs.running.make_turns.Goals as goal
 
 pub loop-steps-init : goal.loop-steps-init
@@ -17,7 +19,8 @@ loop-steps-init g c = (
     out = sym (append-nil _);
     waits = c.begin-player.ensures.waits;
     over = λ is. cc;
-    runs = rw (c.begin-player.ensures.over, c.begin-player.ensures.memo) (runs_none c.args.until c.args.limit c.args.session.now no_memo false);
+    runs = subst (λ k. RunsOn c.args.until c.args.limit c.args.session.now (first_known c.args.written) [] c.begin-player.result.is_over 0 c.args.session.now k) (sym c.begin-player.ensures.known)
+        (runs_none c.args.until c.args.limit c.args.session.now (first_known c.args.written) c.begin-player.result.is_over);
   },
 )
 
@@ -28,10 +31,10 @@ returns-in-Ok-Some-clause-ok g c =
     let s = c.args.session.now in
     let turn = rw c.in-Ok-Some.field-0-is at c.in-Ok-Some.ensures.ok in
     let u = c.take_turn.new.session in let p = c.take_turn.new.player in
-    whole_input _ _ (inv.0 ++ turn.0) p.is_over (λ input left. RanAs (played c.args.until c.args.limit (begun s input)) (record { steps = l.steps; ending = c.in-Ok-Some.ending }) u left)
+    whole_input _ _ (inv.0 ++ turn.0) p.is_over (λ input left. RanAs (played c.args.until c.args.limit (begun s c.args.written input)) (record { steps = l.steps; ending = c.in-Ok-Some.ending }) u left)
     (Consumes-trans _ _ _ inv.0 turn.0 inv.2.consumes turn.1) (still_over l.player.is_over p.is_over _ _ turn.2 inv.2.over)
-    (λ rest may. ran_as _ l.steps c.in-Ok-Some.ending u p.memo rest
-    (ends_with c.args.until c.args.limit s no_memo inv.0 l.player.is_over l.steps l.session l.player.memo inv.2.runs c.loop-steps-test.true turn.0 p.is_over (Some c.in-Ok-Some.ending) u p.memo turn.3 turn.4 c.in-Ok-Some.ending refl rest may))
+    (λ rest may. ran_as _ l.steps c.in-Ok-Some.ending u (known p) rest
+    (ends_with c.args.until c.args.limit s (first_known c.args.written) inv.0 l.player.is_over l.steps l.session (known l.player) inv.2.runs c.loop-steps-test.true turn.0 p.is_over (Some c.in-Ok-Some.ending) u (known p) turn.3 turn.4 c.in-Ok-Some.ending refl rest may))
 
 pub returns-in-Ok-Some-clause-output : goal.returns-in-Ok-Some-clause-output
 returns-in-Ok-Some-clause-output g c =
@@ -45,9 +48,9 @@ returns-in-Err-clause-err g c =
     let s = c.args.session.now in
     let turn = c.in-Err.ensures.err in
     let u = c.take_turn.new.session in let p = c.take_turn.new.player in
-    whole_input _ _ (inv.0 ++ turn.0) p.is_over (λ input left. CutRun c.args.until c.args.limit (begun s input) u left)
+    whole_input _ _ (inv.0 ++ turn.0) p.is_over (λ input left. CutRun c.args.until c.args.limit (begun s c.args.written input) u left)
     (Consumes-trans _ _ _ inv.0 turn.0 inv.2.consumes turn.1) (still_over l.player.is_over p.is_over _ _ turn.2 inv.2.over)
-    (λ rest may. cut_run c.args.until c.args.limit s no_memo inv.0 l.player.is_over l.steps l.session l.player.memo inv.2.runs c.loop-steps-test.true turn.0 p.is_over u turn.3 turn.4 rest may)
+    (λ rest may. cut_run c.args.until c.args.limit s (first_known c.args.written) inv.0 l.player.is_over l.steps l.session (known l.player) inv.2.runs c.loop-steps-test.true turn.0 p.is_over u turn.3 turn.4 rest may)
 
 pub returns-in-Err-clause-output : goal.returns-in-Err-clause-output
 returns-in-Err-clause-output g c =
@@ -62,10 +65,10 @@ returns-then-is_at-clause-ok g c =
     let turn = rw c.in-Ok-None.field-0-is at c.in-Ok-None.ensures.ok in
     let u = c.take_turn.new.session in let p = c.take_turn.new.player in
     let at' : is_at c.args.until u.current ≡ true = sym c.is_at.ensures ∙ c.if-is_at.true in
-    whole_input _ _ (inv.0 ++ turn.0) p.is_over (λ input left. RanAs (played c.args.until c.args.limit (begun s input)) (record { steps = l.steps + 1; ending = Until }) u left)
+    whole_input _ _ (inv.0 ++ turn.0) p.is_over (λ input left. RanAs (played c.args.until c.args.limit (begun s c.args.written input)) (record { steps = l.steps + 1; ending = Until }) u left)
     (Consumes-trans _ _ _ inv.0 turn.0 inv.2.consumes turn.1) (still_over l.player.is_over p.is_over _ _ turn.2 inv.2.over)
-    (λ rest may. ran_as _ (l.steps + 1) Until u p.memo rest
-    (ends_at c.args.until c.args.limit s no_memo inv.0 l.player.is_over l.steps l.session l.player.memo inv.2.runs c.loop-steps-test.true turn.0 p.is_over None u p.memo turn.3 turn.4 refl at' rest may))
+    (λ rest may. ran_as _ (l.steps + 1) Until u (known p) rest
+    (ends_at c.args.until c.args.limit s (first_known c.args.written) inv.0 l.player.is_over l.steps l.session (known l.player) inv.2.runs c.loop-steps-test.true turn.0 p.is_over None u (known p) turn.3 turn.4 refl at' rest may))
 
 pub returns-then-is_at-clause-output : goal.returns-then-is_at-clause-output
 returns-then-is_at-clause-output g c =
@@ -89,7 +92,7 @@ loop-steps-preserved g c =
         out = more.1 ∙ ap (λ out. out ++ more.0) inv.2.out ∙ append_assoc _ inv.1 more.0;
         waits = c.in-Ok-None.ensures.waits;
         over = still_over l.player.is_over p.is_over _ _ turn.2 inv.2.over;
-        runs = runs_on c.args.until c.args.limit s no_memo inv.0 l.player.is_over l.steps l.session l.player.memo inv.2.runs c.loop-steps-test.true turn.0 p.is_over None u p.memo turn.3 turn.4 refl off;
+        runs = runs_on c.args.until c.args.limit s (first_known c.args.written) inv.0 l.player.is_over l.steps l.session (known l.player) inv.2.runs c.loop-steps-test.true turn.0 p.is_over None u (known p) turn.3 turn.4 refl off;
       },
     )
 
@@ -98,7 +101,9 @@ returns-clause-ok g c =
     let inv = c.loop-steps.invariant in
     let l = c.loop-steps in
     let s = c.args.session.now in
-    whole_input _ _ inv.0 l.player.is_over (λ input left. RanAs (played c.args.until c.args.limit (begun s input)) (record { steps = c.args.limit; ending = Limit }) l.session left)
+    let why = c.ending_after.result in
+    whole_input _ _ inv.0 l.player.is_over (λ input left. RanAs (played c.args.until c.args.limit (begun s c.args.written input)) (record { steps = c.args.limit; ending = why }) l.session left)
     inv.2.consumes inv.2.over
-    (λ rest may. ran_as _ c.args.limit Limit l.session l.player.memo rest
-    (ends_full c.args.until c.args.limit s no_memo inv.0 l.player.is_over l.steps l.session l.player.memo inv.2.runs (omega (arith, c.loop-steps-test.false)) (omega (arith, c.loop-steps.auto.steps-end)) rest may))
+    (λ rest may. ran_as _ c.args.limit why l.session (known l.player) rest
+    (ends_full c.args.until c.args.limit s (first_known c.args.written) inv.0 l.player.is_over l.steps l.session (known l.player) inv.2.runs (omega (arith, c.loop-steps-test.false)) (omega (arith, c.loop-steps.auto.steps-end)) rest may
+    ∙ ap (λ (e : Ending). record { steps = c.args.limit; ending = e; play = play_at l.session (known l.player) rest }) (sym c.ending_after.ensures)))

@@ -1,7 +1,7 @@
 use Rattle.std.proofs.Common.{◌≡◌, ◌++◌, true, List, ℕ}
 use Rattle.std.specs.Io.KnownBytes.{Appends, Consumes, IsAtEnd}
-use Rattle.console.specs.Playing.{no_memo}
 use Rattle.console.specs.Taking.{Waits}
+use Rattle.console.specs.Turns.{first_known, known}
 use Rattle.console.proofs.Turning.{RunsOn}
 use Rattle.console.proofs.running.make_turns.Given as goal
 
@@ -12,5 +12,5 @@ invariant-loop-steps g l = (told : List ℕ) × (text : List ℕ) × record {
   out : l.session.current.bus.out ≡ l.fn.session.current.bus.out ++ text;
   waits : Waits l.session.current l.player.waiting;
   over : l.player.is_over ≡ true → IsAtEnd (g.R.Read.remaining l.reader);
-  runs : RunsOn l.fn.until l.fn.limit l.fn.session no_memo told l.player.is_over l.steps l.session l.player.memo;
+  runs : RunsOn l.fn.until l.fn.limit l.fn.session (first_known l.fn.written) told l.player.is_over l.steps l.session (known l.player);
 }

@@ -1,6 +1,6 @@
 use Rattle.std.proofs.Common.{◌≡◌, Some, None, Ok, ap, sym, ◌∙◌, subst, inl, inr}
-use Rattle.console.specs.Playing.{ending_before, unless_ended, stepped}
-use Rattle.console.specs.Turns.{play_at, turn_to}
+use Rattle.console.specs.Playing.{ending_here, unless_ended, stepped}
+use Rattle.console.specs.Turns.{Known, known, play_at, turn_to}
 use Rattle.model.specs.Step.{step}
 use Rattle.model.specs.State.{State}
 use Rattle.model.specs.Session.{with_state}
@@ -10,38 +10,36 @@ use Rattle.console.proofs.turn.take_turn.Goals as goal
 pub returns-in-Some-clause-ok : goal.returns-in-Some-clause-ok
 returns-in-Some-clause-ok g c =
     let line = c.in-Ok.ensures.ok in
-    let s = c.args.session.now in let t = c.supply.new.session in let memo = c.args.player.now.memo in
+    let s = c.args.session.now in let t = c.supply.new.session in let k = known c.args.player.now in
     let asked = c.asks-is_asked.result in
-    let ending : ending_before memo asked c.in-Ok.came t.current.regs ≡ Some c.in-Some.ending
-    = sym (ap (λ m. ending_before m asked c.in-Ok.came t.current.regs) c.in-Ok.ensures.memo) ∙ sym (ap (λ r. ending_before c.supply.new.player.memo asked c.in-Ok.came r) c.regs.ensures)
-    ∙ sym c.ending_before.ensures ∙ c.in-Some.is in (
+    let ending : ending_here k.memo k.written asked c.in-Ok.came t.current ≡ Some c.in-Some.ending
+    = sym (ap (λ (x : Known). ending_here x.memo x.written asked c.in-Ok.came t.current) c.in-Ok.ensures.known) ∙ sym c.ending_here.ensures ∙ c.in-Some.is in (
       line.0,
       line.1,
       line.2,
       line.3,
       λ rest may.
-          turned s t memo line.0 rest asked c.supply.new.player.is_over c.in-Ok.came c.asks-is_asked.ensures line.7 may line.5 line.4
-          ∙ ap (λ e. unless_ended e (play_at t memo rest) (stepped (play_at t memo rest) asked c.in-Ok.came (step t.current))) ending
-          ∙ ap (λ m. turn_to (Some c.in-Some.ending) t m rest) (sym c.in-Ok.ensures.memo),
+          turned s t k line.0 rest asked c.supply.new.player.is_over c.in-Ok.came c.asks-is_asked.ensures line.7 may line.5 line.4
+          ∙ ap (λ e. unless_ended e (play_at t k rest) (stepped (play_at t k rest) asked c.in-Ok.came (step t.current))) ending
+          ∙ ap (λ m. turn_to (Some c.in-Some.ending) t m rest) (sym c.in-Ok.ensures.known),
     )
 
 pub returns-in-Ok-make_step-clause-ok : goal.returns-in-Ok-make_step-clause-ok
 returns-in-Ok-make_step-clause-ok g c =
     let line = c.in-Ok.ensures.ok in
-    let s = c.args.session.now in let t = c.supply.new.session in let memo = c.args.player.now.memo in
+    let s = c.args.session.now in let t = c.supply.new.session in let k = known c.args.player.now in
     let asked = c.asks-is_asked.result in
     let over = c.in-Ok-make_step.ensures.over in
-    let ending : ending_before memo asked c.in-Ok.came t.current.regs ≡ None
-    = sym (ap (λ m. ending_before m asked c.in-Ok.came t.current.regs) c.in-Ok.ensures.memo) ∙ sym (ap (λ r. ending_before c.supply.new.player.memo asked c.in-Ok.came r) c.regs.ensures)
-    ∙ sym c.ending_before.ensures ∙ c.in-None.is in (
+    let ending : ending_here k.memo k.written asked c.in-Ok.came t.current ≡ None
+    = sym (ap (λ (x : Known). ending_here x.memo x.written asked c.in-Ok.came t.current) c.in-Ok.ensures.known) ∙ sym c.ending_here.ensures ∙ c.in-None.is in (
       line.0,
       line.1,
       (λ is. line.2 (sym over ∙ is)),
       (λ is. let ends = line.3 is in (ends.0, over ∙ ends.1)),
       λ rest may.
-          turned s t memo line.0 rest asked c.supply.new.player.is_over c.in-Ok.came c.asks-is_asked.ensures line.7 (λ is. may (over ∙ is)) line.5 line.4
-          ∙ ap (λ e. unless_ended e (play_at t memo rest) (stepped (play_at t memo rest) asked c.in-Ok.came (step t.current))) ending
-          ∙ ap (λ m. stepped (play_at t m rest) asked c.in-Ok.came (step t.current)) (sym c.in-Ok.ensures.memo)
+          turned s t k line.0 rest asked c.supply.new.player.is_over c.in-Ok.came c.asks-is_asked.ensures line.7 (λ is. may (over ∙ is)) line.5 line.4
+          ∙ ap (λ e. unless_ended e (play_at t k rest) (stepped (play_at t k rest) asked c.in-Ok.came (step t.current))) ending
+          ∙ ap (λ m. stepped (play_at t m rest) asked c.in-Ok.came (step t.current)) (sym c.in-Ok.ensures.known)
           ∙ c.in-Ok-make_step.ensures.ok rest,
     )
 

@@ -1,4 +1,5 @@
 use Rattle.std.proofs.Common.{◌∙◌, ap}
+use Rattle.std.specs.Prelude.{option_map}
 use Rattle.arguments.specs.Statuses.{status_of}
 use Rattle.running.proofs.Ran.{failed_to, ran_to}
 use Rattle.arguments_play.specs.Run.{run_view}
@@ -6,7 +7,7 @@ use Rattle.running.proofs.run.run_to.Goals as goal
 
 pub returns-in-Ok-clause-ran : goal.returns-in-Ok-clause-ran
 returns-in-Ok-clause-ran g c =
-    ran_to (run_view c.args.words.now) c.args.until c.args.session.now c.play.new.session (record {
+    ran_to (run_view c.args.words.now) (option_map (λ a. a.now) c.args.assembly) c.args.until (record { session = c.args.session.now; written = c.args.written }) c.play.new.session (record {
       given = g.R.Read.remaining c.args.input.now;
       left = g.R.Read.remaining c.play.new.reader;
       held = g.O.Write.contents c.args.output.now;
@@ -18,7 +19,7 @@ returns-in-Ok-clause-ran g c =
 
 pub returns-in-Err-clause-ran : goal.returns-in-Err-clause-ran
 returns-in-Err-clause-ran g c =
-    failed_to (run_view c.args.words.now) c.args.until c.args.session.now c.play.new.session (record {
+    failed_to (run_view c.args.words.now) (option_map (λ a. a.now) c.args.assembly) c.args.until (record { session = c.args.session.now; written = c.args.written }) c.play.new.session (record {
       given = g.R.Read.remaining c.args.input.now;
       left = g.R.Read.remaining c.play.new.reader;
       held = g.O.Write.contents c.args.output.now;

@@ -1,6 +1,8 @@
-use Rattle.std.proofs.Common.{◌≡◌, ◌++◌, [], true, false, Some, None, arith, refl, sym, ◌∙◌}
+use Rattle.std.proofs.Common.{◌≡◌, ◌++◌, [], true, false, Some, None, arith, refl, sym, ap, ◌∙◌}
 use Rattle.std.proofs.KnownBytes.{Consumes-nil, Consumes-trans}
 use Rattle.console.specs.Playing.{is_at}
+use Rattle.console.specs.Turns.{known, play_at}
+use Rattle.console.specs.declared.ending.Ending.{Ending}
 use Rattle.console.proofs.Turning.{ends_at, ends_full, ends_with, runs_none, runs_on, still_over}
 use Rattle.tracing.specs.Gathered.{gathered, text_of_step}
 use Rattle.tracing.specs.Texts.{no_text, note_step, noted_in}
@@ -18,8 +20,8 @@ loop-steps-init g c = (
     once = once_none c.args.player.now.is_over;
     waits = c.requires.waits;
     over = c.requires.over;
-    runs = runs_none c.args.to c.args.limit c.args.session.now c.args.player.now.memo c.args.player.now.is_over;
-    makes = makes_none note_step c.args.to c.args.limit c.args.session.now c.args.player.now.memo c.args.player.now.is_over (no_text (gathered c.args.tracer.now));
+    runs = runs_none c.args.to c.args.limit c.args.session.now (known c.args.player.now) c.args.player.now.is_over;
+    makes = makes_none note_step c.args.to c.args.limit c.args.session.now (known c.args.player.now) c.args.player.now.is_over (no_text (gathered c.args.tracer.now));
     text = gathers_none _ _ _ _ refl refl;
   },
 )
@@ -37,10 +39,10 @@ returns-in-Ok-Some-clause-ok g c =
         consumes = Consumes-trans _ _ _ inv.0 turn.0 inv.2.consumes turn.1;
         once = once_both c.args.player.now.is_over l.player.is_over p.is_over inv.0 turn.0 inv.2.once turn.3;
         leads = λ rest may. (
-          ends_with c.args.to c.args.limit c.args.session.now c.args.player.now.memo inv.0 l.player.is_over l.steps l.session l.player.memo inv.2.runs c.loop-steps-test.true
-              turn.0 p.is_over (Some c.in-Ok-Some.ending) u p.memo turn.3 turn.4 c.in-Ok-Some.ending refl rest may,
-          makes_with note_step c.args.to c.args.limit c.args.session.now c.args.player.now.memo inv.0 l.player.is_over l.steps l.session l.player.memo (no_text (gathered c.args.tracer.now)) (noted_in l.tracer inv.1) inv.2.makes c.loop-steps-test.true
-              turn.0 p.is_over (Some c.in-Ok-Some.ending) u p.memo turn.3 turn.4 c.in-Ok-Some.ending refl rest may,
+          ends_with c.args.to c.args.limit c.args.session.now (known c.args.player.now) inv.0 l.player.is_over l.steps l.session (known l.player) inv.2.runs c.loop-steps-test.true
+              turn.0 p.is_over (Some c.in-Ok-Some.ending) u (known p) turn.3 turn.4 c.in-Ok-Some.ending refl rest may,
+          makes_with note_step c.args.to c.args.limit c.args.session.now (known c.args.player.now) inv.0 l.player.is_over l.steps l.session (known l.player) (no_text (gathered c.args.tracer.now)) (noted_in l.tracer inv.1) inv.2.makes c.loop-steps-test.true
+              turn.0 p.is_over (Some c.in-Ok-Some.ending) u (known p) turn.3 turn.4 c.in-Ok-Some.ending refl rest may,
         );
       },
       inv.2.text,
@@ -68,10 +70,10 @@ returns-then-is_at-clause-ok g c =
         consumes = Consumes-trans _ _ _ inv.0 turn.0 inv.2.consumes turn.1;
         once = once_both c.args.player.now.is_over l.player.is_over p.is_over inv.0 turn.0 inv.2.once turn.3;
         leads = λ rest may. (
-          ends_at c.args.to c.args.limit c.args.session.now c.args.player.now.memo inv.0 l.player.is_over l.steps l.session l.player.memo inv.2.runs c.loop-steps-test.true
-              turn.0 p.is_over None u p.memo turn.3 turn.4 refl at' rest may,
-          makes_at note_step c.args.to c.args.limit c.args.session.now c.args.player.now.memo inv.0 l.player.is_over l.steps l.session l.player.memo (no_text (gathered c.args.tracer.now)) (noted_in l.tracer inv.1) inv.2.makes c.loop-steps-test.true
-              turn.0 p.is_over None u p.memo turn.3 turn.4 (noted_in c.note.new.self (inv.1 ++ step)) (noted_on l.session.current u.current l.tracer c.note.new.self ahead inv.1 c.look_ahead-ahead.ensures c.in_ok-note.ensures.noted) refl at' rest may,
+          ends_at c.args.to c.args.limit c.args.session.now (known c.args.player.now) inv.0 l.player.is_over l.steps l.session (known l.player) inv.2.runs c.loop-steps-test.true
+              turn.0 p.is_over None u (known p) turn.3 turn.4 refl at' rest may,
+          makes_at note_step c.args.to c.args.limit c.args.session.now (known c.args.player.now) inv.0 l.player.is_over l.steps l.session (known l.player) (no_text (gathered c.args.tracer.now)) (noted_in l.tracer inv.1) inv.2.makes c.loop-steps-test.true
+              turn.0 p.is_over None u (known p) turn.3 turn.4 (noted_in c.note.new.self (inv.1 ++ step)) (noted_on l.session.current u.current l.tracer c.note.new.self ahead inv.1 c.look_ahead-ahead.ensures c.in_ok-note.ensures.noted) refl at' rest may,
         );
       },
       gathers_both _ (g.O.Write.contents l.output) _ _ l.tracer.sheet.text.items _ inv.1 step inv.2.text c.in_ok-note.ensures.gathered,
@@ -100,10 +102,10 @@ loop-steps-preserved g c =
         once = once_both c.args.player.now.is_over l.player.is_over p.is_over inv.0 turn.0 inv.2.once turn.3;
         waits = c.in-Ok-None.ensures.waits;
         over = still_over l.player.is_over p.is_over _ _ turn.2 inv.2.over;
-        runs = runs_on c.args.to c.args.limit c.args.session.now c.args.player.now.memo inv.0 l.player.is_over l.steps l.session l.player.memo inv.2.runs c.loop-steps-test.true
-            turn.0 p.is_over None u p.memo turn.3 turn.4 refl off;
-        makes = makes_on note_step c.args.to c.args.limit c.args.session.now c.args.player.now.memo inv.0 l.player.is_over l.steps l.session l.player.memo (no_text (gathered c.args.tracer.now)) (noted_in l.tracer inv.1) inv.2.makes c.loop-steps-test.true
-            turn.0 p.is_over None u p.memo turn.3 turn.4 (noted_in c.note.new.self (inv.1 ++ step)) (noted_on l.session.current u.current l.tracer c.note.new.self ahead inv.1 c.look_ahead-ahead.ensures c.in_ok-note.ensures.noted) refl off;
+        runs = runs_on c.args.to c.args.limit c.args.session.now (known c.args.player.now) inv.0 l.player.is_over l.steps l.session (known l.player) inv.2.runs c.loop-steps-test.true
+            turn.0 p.is_over None u (known p) turn.3 turn.4 refl off;
+        makes = makes_on note_step c.args.to c.args.limit c.args.session.now (known c.args.player.now) inv.0 l.player.is_over l.steps l.session (known l.player) (no_text (gathered c.args.tracer.now)) (noted_in l.tracer inv.1) inv.2.makes c.loop-steps-test.true
+            turn.0 p.is_over None u (known p) turn.3 turn.4 (noted_in c.note.new.self (inv.1 ++ step)) (noted_on l.session.current u.current l.tracer c.note.new.self ahead inv.1 c.look_ahead-ahead.ensures c.in_ok-note.ensures.noted) refl off;
         text = gathers_both _ (g.O.Write.contents l.output) _ _ l.tracer.sheet.text.items _ inv.1 step inv.2.text c.in_ok-note.ensures.gathered;
       },
     )
@@ -118,8 +120,9 @@ returns-clause-ok g c =
         consumes = inv.2.consumes;
         once = inv.2.once;
         leads = λ rest may. (
-          ends_full c.args.to c.args.limit c.args.session.now c.args.player.now.memo inv.0 l.player.is_over l.steps l.session l.player.memo inv.2.runs (omega (arith, c.loop-steps-test.false)) (omega (arith, c.loop-steps.auto.steps-end)) rest may,
-          makes_full note_step c.args.to c.args.limit c.args.session.now c.args.player.now.memo inv.0 l.player.is_over l.steps l.session l.player.memo (no_text (gathered c.args.tracer.now)) (noted_in l.tracer inv.1) inv.2.makes (omega (arith, c.loop-steps-test.false)) rest may,
+          ends_full c.args.to c.args.limit c.args.session.now (known c.args.player.now) inv.0 l.player.is_over l.steps l.session (known l.player) inv.2.runs (omega (arith, c.loop-steps-test.false)) (omega (arith, c.loop-steps.auto.steps-end)) rest may
+              ∙ ap (λ (e : Ending). record { steps = c.args.limit; ending = e; play = play_at l.session (known l.player) rest }) (sym c.ending_after.ensures),
+          makes_full note_step c.args.to c.args.limit c.args.session.now (known c.args.player.now) inv.0 l.player.is_over l.steps l.session (known l.player) (no_text (gathered c.args.tracer.now)) (noted_in l.tracer inv.1) inv.2.makes (omega (arith, c.loop-steps-test.false)) rest may,
         );
       },
       inv.2.text,

@@ -2,7 +2,7 @@ use Rattle.std.proofs.Common.{List, ℕ}
 use Rattle.std.specs.Io.KnownBytes.{Consumes}
 use Rattle.console.proofs.Turning.{RunsOn}
 use Rattle.console.specs.Taking.{Waits}
-use Rattle.console.specs.Turns.{EndsOnce}
+use Rattle.console.specs.Turns.{EndsOnce, known}
 use Rattle.tracing.specs.Traces.{EndsAt}
 use Rattle.tracing.specs.Gathered.{Gathers, gathered}
 use Rattle.tracing.specs.Texts.{no_text, note_step, noted_in}
@@ -15,7 +15,7 @@ invariant-loop-steps g l = (told : List ℕ) × (noted : List ℕ) × record {
   once : EndsOnce l.fn.player.is_over l.player.is_over told;
   waits : Waits l.session.current l.player.waiting;
   over : EndsAt l.player.is_over (g.R.Read.remaining l.input);
-  runs : RunsOn l.fn.to l.fn.limit l.fn.session l.fn.player.memo told l.player.is_over l.steps l.session l.player.memo;
-  makes : MakesOn note_step l.fn.to l.fn.limit l.fn.session l.fn.player.memo told l.player.is_over l.steps l.session l.player.memo (no_text (gathered l.fn.tracer)) (noted_in l.tracer noted);
+  runs : RunsOn l.fn.to l.fn.limit l.fn.session (known l.fn.player) told l.player.is_over l.steps l.session (known l.player);
+  makes : MakesOn note_step l.fn.to l.fn.limit l.fn.session (known l.fn.player) told l.player.is_over l.steps l.session (known l.player) (no_text (gathered l.fn.tracer)) (noted_in l.tracer noted);
   text : Gathers (g.O.Write.contents l.fn.output) (g.O.Write.contents l.output) l.fn.tracer.sheet.text.items l.tracer.sheet.text.items noted;
 }

@@ -1,6 +1,8 @@
 use Rattle.std.proofs.Common.{◌≡◌, ◌++◌, [], true, false, Some, None, arith, refl, sym, ap, ◌∙◌}
 use Rattle.std.proofs.KnownBytes.{Consumes-nil, Consumes-trans}
 use Rattle.console.specs.Playing.{is_at}
+use Rattle.console.specs.Turns.{known, play_at}
+use Rattle.console.specs.declared.ending.Ending.{Ending}
 use Rattle.console.proofs.Turning.{ends_at, ends_full, ends_with, runs_none, runs_on, still_over}
 use Rattle.tracing.specs.Gathered.{gathered, passed}
 use Rattle.tracing.specs.Texts.{pass_step}
@@ -16,8 +18,8 @@ loop-steps-init g c = (
     once = once_none c.args.player.now.is_over;
     waits = c.requires.waits;
     over = c.requires.over;
-    runs = runs_none c.args.place 18446744073709551615 c.args.session.now c.args.player.now.memo c.args.player.now.is_over;
-    makes = makes_none pass_step c.args.place 18446744073709551615 c.args.session.now c.args.player.now.memo c.args.player.now.is_over (gathered c.args.tracer.now);
+    runs = runs_none c.args.place 18446744073709551615 c.args.session.now (known c.args.player.now) c.args.player.now.is_over;
+    makes = makes_none pass_step c.args.place 18446744073709551615 c.args.session.now (known c.args.player.now) c.args.player.now.is_over (gathered c.args.tracer.now);
     sheet = refl;
   },
 )
@@ -33,10 +35,10 @@ returns-in-Ok-Some-clause-ok g c =
       consumes = Consumes-trans _ _ _ inv.0 turn.0 inv.1.consumes turn.1;
       once = once_both c.args.player.now.is_over l.player.is_over p.is_over inv.0 turn.0 inv.1.once turn.3;
       leads = λ rest may. (
-        ends_with c.args.place 18446744073709551615 c.args.session.now c.args.player.now.memo inv.0 l.player.is_over l.steps l.session l.player.memo inv.1.runs c.loop-steps-test.true
-            turn.0 p.is_over (Some c.in-Ok-Some.ending) u p.memo turn.3 turn.4 c.in-Ok-Some.ending refl rest may,
-        makes_with pass_step c.args.place 18446744073709551615 c.args.session.now c.args.player.now.memo inv.0 l.player.is_over l.steps l.session l.player.memo (gathered c.args.tracer.now) (gathered l.tracer) inv.1.makes c.loop-steps-test.true
-            turn.0 p.is_over (Some c.in-Ok-Some.ending) u p.memo turn.3 turn.4 c.in-Ok-Some.ending refl rest may,
+        ends_with c.args.place 18446744073709551615 c.args.session.now (known c.args.player.now) inv.0 l.player.is_over l.steps l.session (known l.player) inv.1.runs c.loop-steps-test.true
+            turn.0 p.is_over (Some c.in-Ok-Some.ending) u (known p) turn.3 turn.4 c.in-Ok-Some.ending refl rest may,
+        makes_with pass_step c.args.place 18446744073709551615 c.args.session.now (known c.args.player.now) inv.0 l.player.is_over l.steps l.session (known l.player) (gathered c.args.tracer.now) (gathered l.tracer) inv.1.makes c.loop-steps-test.true
+            turn.0 p.is_over (Some c.in-Ok-Some.ending) u (known p) turn.3 turn.4 c.in-Ok-Some.ending refl rest may,
       );
     }
 
@@ -58,10 +60,10 @@ returns-then-is_at-clause-ok g c =
       consumes = Consumes-trans _ _ _ inv.0 turn.0 inv.1.consumes turn.1;
       once = once_both c.args.player.now.is_over l.player.is_over p.is_over inv.0 turn.0 inv.1.once turn.3;
       leads = λ rest may. (
-        ends_at c.args.place 18446744073709551615 c.args.session.now c.args.player.now.memo inv.0 l.player.is_over l.steps l.session l.player.memo inv.1.runs c.loop-steps-test.true
-            turn.0 p.is_over None u p.memo turn.3 turn.4 refl at' rest may,
-        makes_at pass_step c.args.place 18446744073709551615 c.args.session.now c.args.player.now.memo inv.0 l.player.is_over l.steps l.session l.player.memo (gathered c.args.tracer.now) (gathered l.tracer) inv.1.makes c.loop-steps-test.true
-            turn.0 p.is_over None u p.memo turn.3 turn.4 (gathered c.pass.new.self) (c.pass.ensures.passed ∙ ap (λ x. passed u.current x (gathered l.tracer)) c.look_ahead-ahead.ensures) refl at' rest may,
+        ends_at c.args.place 18446744073709551615 c.args.session.now (known c.args.player.now) inv.0 l.player.is_over l.steps l.session (known l.player) inv.1.runs c.loop-steps-test.true
+            turn.0 p.is_over None u (known p) turn.3 turn.4 refl at' rest may,
+        makes_at pass_step c.args.place 18446744073709551615 c.args.session.now (known c.args.player.now) inv.0 l.player.is_over l.steps l.session (known l.player) (gathered c.args.tracer.now) (gathered l.tracer) inv.1.makes c.loop-steps-test.true
+            turn.0 p.is_over None u (known p) turn.3 turn.4 (gathered c.pass.new.self) (c.pass.ensures.passed ∙ ap (λ x. passed u.current x (gathered l.tracer)) c.look_ahead-ahead.ensures) refl at' rest may,
       );
     }
 
@@ -85,10 +87,10 @@ loop-steps-preserved g c =
         once = once_both c.args.player.now.is_over l.player.is_over p.is_over inv.0 turn.0 inv.1.once turn.3;
         waits = c.in-Ok-None.ensures.waits;
         over = still_over l.player.is_over p.is_over _ _ turn.2 inv.1.over;
-        runs = runs_on c.args.place 18446744073709551615 c.args.session.now c.args.player.now.memo inv.0 l.player.is_over l.steps l.session l.player.memo inv.1.runs c.loop-steps-test.true
-            turn.0 p.is_over None u p.memo turn.3 turn.4 refl off;
-        makes = makes_on pass_step c.args.place 18446744073709551615 c.args.session.now c.args.player.now.memo inv.0 l.player.is_over l.steps l.session l.player.memo (gathered c.args.tracer.now) (gathered l.tracer) inv.1.makes c.loop-steps-test.true
-            turn.0 p.is_over None u p.memo turn.3 turn.4 (gathered c.pass.new.self) (c.pass.ensures.passed ∙ ap (λ x. passed u.current x (gathered l.tracer)) c.look_ahead-ahead.ensures) refl off;
+        runs = runs_on c.args.place 18446744073709551615 c.args.session.now (known c.args.player.now) inv.0 l.player.is_over l.steps l.session (known l.player) inv.1.runs c.loop-steps-test.true
+            turn.0 p.is_over None u (known p) turn.3 turn.4 refl off;
+        makes = makes_on pass_step c.args.place 18446744073709551615 c.args.session.now (known c.args.player.now) inv.0 l.player.is_over l.steps l.session (known l.player) (gathered c.args.tracer.now) (gathered l.tracer) inv.1.makes c.loop-steps-test.true
+            turn.0 p.is_over None u (known p) turn.3 turn.4 (gathered c.pass.new.self) (c.pass.ensures.passed ∙ ap (λ x. passed u.current x (gathered l.tracer)) c.look_ahead-ahead.ensures) refl off;
         sheet = c.pass.ensures.sheet ∙ inv.1.sheet;
       },
     )
@@ -101,8 +103,9 @@ returns-clause-ok g c =
       consumes = inv.1.consumes;
       once = inv.1.once;
       leads = λ rest may. (
-        ends_full c.args.place 18446744073709551615 c.args.session.now c.args.player.now.memo inv.0 l.player.is_over l.steps l.session l.player.memo inv.1.runs (omega (arith, c.loop-steps-test.false)) (omega (arith, c.loop-steps.auto.steps-end)) rest may,
-        makes_full pass_step c.args.place 18446744073709551615 c.args.session.now c.args.player.now.memo inv.0 l.player.is_over l.steps l.session l.player.memo (gathered c.args.tracer.now) (gathered l.tracer) inv.1.makes (omega (arith, c.loop-steps-test.false)) rest may,
+        ends_full c.args.place 18446744073709551615 c.args.session.now (known c.args.player.now) inv.0 l.player.is_over l.steps l.session (known l.player) inv.1.runs (omega (arith, c.loop-steps-test.false)) (omega (arith, c.loop-steps.auto.steps-end)) rest may
+            ∙ ap (λ (e : Ending). record { steps = 18446744073709551615; ending = e; play = play_at l.session (known l.player) rest }) (sym c.ending_after.ensures),
+        makes_full pass_step c.args.place 18446744073709551615 c.args.session.now (known c.args.player.now) inv.0 l.player.is_over l.steps l.session (known l.player) (gathered c.args.tracer.now) (gathered l.tracer) inv.1.makes (omega (arith, c.loop-steps-test.false)) rest may,
       );
     }
 

@@ -2,7 +2,7 @@ use Rattle.std.proofs.Common.{◌≡◌, List, ℕ}
 use Rattle.std.specs.Io.KnownBytes.{Consumes}
 use Rattle.console.proofs.Turning.{RunsOn}
 use Rattle.console.specs.Taking.{Waits}
-use Rattle.console.specs.Turns.{EndsOnce}
+use Rattle.console.specs.Turns.{EndsOnce, known}
 use Rattle.tracing.specs.Traces.{EndsAt}
 use Rattle.tracing.specs.Gathered.{gathered}
 use Rattle.tracing.specs.Texts.{pass_step}
@@ -15,7 +15,7 @@ invariant-loop-steps g l = (told : List ℕ) × record {
   once : EndsOnce l.fn.player.is_over l.player.is_over told;
   waits : Waits l.session.current l.player.waiting;
   over : EndsAt l.player.is_over (g.R.Read.remaining l.input);
-  runs : RunsOn l.fn.place 18446744073709551615 l.fn.session l.fn.player.memo told l.player.is_over l.steps l.session l.player.memo;
-  makes : MakesOn pass_step l.fn.place 18446744073709551615 l.fn.session l.fn.player.memo told l.player.is_over l.steps l.session l.player.memo (gathered l.fn.tracer) (gathered l.tracer);
+  runs : RunsOn l.fn.place 18446744073709551615 l.fn.session (known l.fn.player) told l.player.is_over l.steps l.session (known l.player);
+  makes : MakesOn pass_step l.fn.place 18446744073709551615 l.fn.session (known l.fn.player) told l.player.is_over l.steps l.session (known l.player) (gathered l.fn.tracer) (gathered l.tracer);
   sheet : l.tracer.sheet ≡ l.fn.tracer.sheet;
 }

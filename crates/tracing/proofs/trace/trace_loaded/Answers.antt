@@ -2,13 +2,14 @@ use Rattle.std.proofs.Common.{◌≡◌, refl}
 use Rattle.loading.specs.Place.{names_of}
 use Rattle.running.specs.Places.{place_asked}
 use Rattle.arguments_play.specs.Trace.{trace_view}
+use Rattle.tracing.specs.Traces.{begin_view}
 use Rattle.tracing.proofs.Done.{told_second, traced_between, unfound_from, unfound_to}
 use Rattle.tracing.proofs.trace.trace_loaded.Goals as goal
 
 pub returns-in-Err : goal.returns-in-Err
 returns-in-Err g c =
     let names = names_of c.args.loaded.now.assembly in let a = trace_view c.args.words.now in
-    unfound_from a c.args.loaded.now.assembly (place_asked names a.from) (place_asked names a.to) c.args.loaded.now.session (record {
+    unfound_from a (begin_view c.args.loaded.now) (place_asked names a.from) (place_asked names a.to) (record {
       given = g.R.Read.remaining c.args.input.now;
       left = g.R.Read.remaining c.args.input.now;
       held = g.O.Write.contents c.args.output.now;
@@ -22,7 +23,7 @@ returns-in-Err g c =
 pub returns-in-Err-place_named : goal.returns-in-Err-place_named
 returns-in-Err-place_named g c =
     let names = names_of c.args.loaded.now.assembly in let a = trace_view c.args.words.now in
-    unfound_to a c.args.loaded.now.assembly c.in-Ok.from (place_asked names a.from) (place_asked names a.to) c.args.loaded.now.session (record {
+    unfound_to a (begin_view c.args.loaded.now) c.in-Ok.from (place_asked names a.from) (place_asked names a.to) (record {
       given = g.R.Read.remaining c.args.input.now;
       left = g.R.Read.remaining c.args.input.now;
       held = g.O.Write.contents c.args.output.now;
@@ -36,7 +37,7 @@ returns-in-Err-place_named g c =
 pub returns : goal.returns
 returns g c =
     let names = names_of c.args.loaded.now.assembly in let a = trace_view c.args.words.now in
-    traced_between a c.args.loaded.now.assembly c.in-Ok.from c.in-Ok-place_named.to (place_asked names a.from) (place_asked names a.to) c.args.loaded.now.session (record {
+    traced_between a (begin_view c.args.loaded.now) c.in-Ok.from c.in-Ok-place_named.to (place_asked names a.from) (place_asked names a.to) (record {
       given = g.R.Read.remaining c.args.input.now;
       left = g.R.Read.remaining c.trace_told.new.input;
       held = g.O.Write.contents c.args.output.now;

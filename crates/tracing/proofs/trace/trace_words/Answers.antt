@@ -1,11 +1,12 @@
 use Rattle.std.proofs.Common.{◌≡◌}
 use Rattle.arguments_play.specs.Trace.{trace_view}
+use Rattle.tracing.specs.Traces.{begin_view}
 use Rattle.tracing.proofs.Done.{traced_file}
 use Rattle.tracing.proofs.trace.trace_words.Goals as goal
 
 pub returns-in-Ok-clause-done : goal.returns-in-Ok-clause-done
 returns-in-Ok-clause-done g c =
-    traced_file (trace_view c.args.words.now) c.in-Ok.loaded.session c.in-Ok.loaded.assembly c.in-Ok.ensures.started.0 (record {
+    traced_file (trace_view c.args.words.now) (begin_view c.in-Ok.loaded) c.in-Ok.ensures.started.0 (record {
       given = g.R.Read.remaining c.args.input.now;
       left = g.R.Read.remaining c.trace_loaded.new.input;
       held = g.O.Write.contents c.args.output.now;
@@ -14,4 +15,4 @@ returns-in-Ok-clause-done g c =
       held = g.E.Write.contents c.args.errors.now;
       now = g.E.Write.contents c.trace_loaded.new.errors;
     }) c.trace_loaded.result
-    ((c.trace_loaded.new.input ≡ c.args.input.now) × (c.trace_loaded.new.output ≡ c.args.output.now)) c.in-Ok.ensures.started.1 c.in-Ok.ensures.started.2 c.trace_loaded.ensures
+    ((c.trace_loaded.new.input ≡ c.args.input.now) × (c.trace_loaded.new.output ≡ c.args.output.now)) c.in-Ok.ensures.started.1 c.in-Ok.ensures.started.2 c.in-Ok.ensures.started.3 c.trace_loaded.ensures

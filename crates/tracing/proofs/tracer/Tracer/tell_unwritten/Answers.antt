@@ -10,7 +10,7 @@ pub loop-address-init : goal.loop-address-init
 loop-address-init g c = (
   [],
   record {
-    written = sym (written_none c.args.self.now.written [] refl);
+    written = sym (written_none c.args.self.now.written);
     rest = refl;
     text = gathers_none _ _ _ _ refl refl;
     same = refl;
