@@ -7,7 +7,8 @@ use Rattle.mon_lines.specs.declared.command.Command.TheVariants as line
 use Rattle.mon_texts.specs.Calls.{calls_text}
 use Rattle.mon_texts.specs.Help.{help_text}
 use Rattle.mon_texts.specs.Instructions.{instruction_at, instruction_line}
-use Rattle.mon_texts.specs.Memory.{memory_text, stack_line}
+use Rattle.mon_texts.specs.Memory.{memory_text}
+use Rattle.mon_texts.specs.Stack.{stack_text}
 use Rattle.mon_texts.specs.Places.{place_text}
 use Rattle.mon_texts.specs.Registers.{flags_text, state_line}
 use Rattle.mon_texts.specs.Screen.{screen_text}
@@ -68,7 +69,7 @@ look_text (line.Dis address count) state places
     = instructions_text count state places address
 look_text (line.Find bytes) state places
     = find_text state.bus.memory bytes.items places.names
-look_text line.Stack state places = stack_line state.bus.memory state.regs.s
+look_text line.Stack state places = stack_text state places.names
 look_text line.Screen state places = screen_text state.bus.out
 look_text (line.Help topic) state places = help_text topic
 look_text command state places = []

@@ -56,7 +56,7 @@ pub fn look(desk: &mut Desk, command: Command<'_>) -> Result<(), AllocError>
         Command::Mem(stretch) => push_memory(&mut desk.text, &desk.session, stretch),
         Command::Dis { address, count } => show_instructions(desk, address, count),
         Command::Find(bytes) => find(desk, bytes.as_slice()),
-        Command::Stack => push_stack(&mut desk.text, &desk.session),
+        Command::Stack => push_stack(&mut desk.text, &desk.session, &desk.places),
         Command::Screen => push_screen(&mut desk.text, &desk.session),
         Command::Help(topic) => push_help(&mut desk.text, topic),
         _ => Ok(()),

@@ -1,9 +1,9 @@
 -- The way over the terms of a sum, and over the pieces of a line.
-use Rattle.std.proofs.Common.{◌≡◌, ℕ, zero, suc, ◌+◌, ℤ, Bool, true, false, List, cond, refl, ap, ◌∙◌, arith, Ok, Err}
+use Rattle.std.proofs.Common.{◌≡◌, ℕ, zero, suc, ◌+◌, ℤ, Bool, true, false, List, [], ◌∷◌, Option, Some, None, cond, refl, ap, ◌∙◌, arith, Ok, Err}
 use Rattle.std.specs.Str.{byte}
 use Rattle.source_map.specs.Names.{Named}
-use Rattle.mon_line_parts.specs.Reading.{Reads, SeenWhy, and_then, is_empty, past}
-use Rattle.mon_line_parts.specs.Values.{is_sign, piece_of, pieces_of, term_of, terms_of}
+use Rattle.mon_line_parts.specs.Reading.{Reads, SeenWhy, after, and_then, is_empty, past, quoted_next}
+use Rattle.mon_line_parts.specs.Values.{is_sign, piece_of, pieces_of, quoted_by, quoted_of, term_of, terms_of, with_piece}
 use Rattle.mon_line_parts.specs.declared.values.Kind.{Kind}
 
 pub no_sign : (n : ℕ) (names : List Named) (kind : Kind) (total : ℤ) (text : List ℕ) → is_sign text ≡ false → terms_of n names kind total text ≡ Ok (total, text)
@@ -60,3 +60,34 @@ pub piece_refused : (n m : ℕ) (names : List Named) (found text : List ℕ) (wh
 unfolding pieces_of
 piece_refused zero m names found text why e k = absurd (omega (arith, e))
 piece_refused (suc n) m names found text why e k = rw k refl
+
+-- ---- the bytes between quotes
+
+pub no_quoted_left : (n : ℕ) (found text : List ℕ) → n ≡ 0 → quoted_of n found text ≡ Ok (found, after 1 text)
+unfolding quoted_of
+no_quoted_left zero found text h = refl
+no_quoted_left (suc n) found text h = absurd (omega (arith, h))
+
+pub quoted_end : (n : ℕ) (found text : List ℕ) → quoted_next text ≡ None → quoted_of n found text ≡ Ok (found, after 1 text)
+unfolding quoted_of
+quoted_end zero found text h = refl
+quoted_end (suc n) found text h = ap (λ (o : Option (ℕ × List ℕ)). quoted_by o found text (λ more behind. quoted_of n more behind)) h
+
+quoted_suc : (n m b : ℕ) (found text rest : List ℕ) → n ≡ m + 1 → quoted_next text ≡ Some (b, rest)
+    → quoted_of n found text ≡ and_then (with_piece found (b ∷ []) rest) (λ more behind. quoted_of m more behind)
+unfolding quoted_of
+quoted_suc zero m b found text rest e h = absurd (omega (arith, e))
+quoted_suc (suc n) m b found text rest e h =
+    let same : n ≡ m = omega (arith, e) in
+    ap (λ (o : Option (ℕ × List ℕ)). quoted_by o found text (λ more behind. quoted_of n more behind)) h
+    ∙ ap (λ (i : ℕ). and_then (with_piece found (b ∷ []) rest) (λ more behind. quoted_of i more behind)) same
+
+pub quoted_more : (n m b : ℕ) (found text rest more behind : List ℕ) → n ≡ m + 1 → quoted_next text ≡ Some (b, rest)
+    → with_piece found (b ∷ []) rest ≡ Ok (more, behind) → quoted_of n found text ≡ quoted_of m more behind
+quoted_more n m b found text rest more behind e h k = quoted_suc n m b found text rest e h
+    ∙ ap (λ (r : Reads (List ℕ)). and_then r (λ more behind. quoted_of m more behind)) k
+
+pub quoted_refused : (n m b : ℕ) (found text rest : List ℕ) (why : SeenWhy) → n ≡ m + 1 → quoted_next text ≡ Some (b, rest)
+    → with_piece found (b ∷ []) rest ≡ Err why → quoted_of n found text ≡ Err why
+quoted_refused n m b found text rest why e h k = quoted_suc n m b found text rest e h
+    ∙ ap (λ (r : Reads (List ℕ)). and_then r (λ more behind. quoted_of m more behind)) k

@@ -88,15 +88,30 @@ character_of [] = None
 character_of (quote ∷ []) = None
 character_of (quote ∷ b ∷ text) = if quote == 39 then Some (b, skip (without_quote text)) else None
 
-abbrev pub is_no_quote : ℕ → Bool
-is_no_quote b = not (b == 34)
+-- What a byte behind a backslash stands for: `\n` is LF, `\t` is a tab, `\\` and `\"` are the second
+-- byte.
+abbrev pub escaped : ℕ → Option ℕ
+escaped b =
+    if b == byte "n" then Some 10
+    else if b == byte "t" then Some 9
+    else if b == 92 then Some 92
+    else if b == 34 then Some 34
+    else None
 
--- The bytes behind a `"` and before the next one, which may be missing, and the text after it.
-abbrev pub string_of : List ℕ → List ℕ
-string_of text = take (prefix_len is_no_quote (drop 1 text)) (drop 1 text)
+-- What a backslash and the byte behind it are: one byte, or the backslash alone if they stand for
+-- nothing.
+abbrev pub with_escape : Option ℕ → List ℕ → ℕ × List ℕ
+with_escape (Some b) text = (b, drop 1 text)
+with_escape None text = (92, text)
 
-abbrev pub after_string : List ℕ → List ℕ
-after_string text = after (prefix_len is_no_quote (drop 1 text) + 1) (drop 1 text)
+-- The next byte between quotes, and the text after it. There is none at a `"`, or where the line ends.
+abbrev pub quoted_next : List ℕ → Option (ℕ × List ℕ)
+quoted_next [] = None
+quoted_next (b ∷ []) = if b == 34 then None else Some (b, [])
+quoted_next (b ∷ c ∷ text) =
+    if b == 34 then None
+    else if b == 92 then Some (with_escape (escaped c) (c ∷ text))
+    else Some (b, c ∷ text)
 
 -- ---- numbers
 

@@ -1,10 +1,10 @@
 -- Values: numbers, names, and sums of them. Source: mos65.
-use Rattle.std.specs.Prelude.{ℕ, zero, suc, ◌+◌, ℤ, pos, negsuc, ◌+ℤ◌, ◌-ℤ◌, ◌==◌, ◌&&◌, ◌||◌, nat_le, Bool, codes, if◌then◌else◌, List, [], ◌∷◌, ◌++◌, length, Option, Some, None, Ok, Err}
+use Rattle.std.specs.Prelude.{ℕ, zero, suc, ◌+◌, ℤ, pos, negsuc, ◌+ℤ◌, ◌-ℤ◌, ◌==◌, ◌&&◌, ◌||◌, nat_le, Bool, codes, if◌then◌else◌, List, [], ◌∷◌, ◌++◌, drop, length, Option, Some, None, Ok, Err}
 use Rattle.std.specs.Int.{saturate_signed, w64}
 use Rattle.std.specs.Option.{option_or}
 use Rattle.std.specs.Str.{byte, str_eq_ignore_ascii_case}
 use Rattle.source_map.specs.Names.{Named, address_of}
-use Rattle.mon_line_parts.specs.Reading.{Reads, SeenWhy, missing, unreadable, no_name, range, many, after, after_string, after_word, and_then, character_of, is_empty, is_next, number_in, past, string_of, word_of}
+use Rattle.mon_line_parts.specs.Reading.{Reads, SeenWhy, missing, unreadable, no_name, range, many, after, after_word, and_then, character_of, is_empty, is_next, number_in, past, quoted_next, word_of}
 use Rattle.mon_line_parts.specs.declared.slip.Lack.{Lack}
 use Rattle.mon_line_parts.specs.declared.slip.Lack.TheVariants as lacking
 use Rattle.mon_line_parts.specs.declared.values.Kind.{Kind}
@@ -32,20 +32,27 @@ most_of Count = 1000000000
 
 -- ---- one number or name
 
--- Where an address is meant, `PC` is the program counter, and four hex digits are an address.
+-- Where an address is meant, `PC` is the program counter, also if the program has a name that is
+-- written so.
+abbrev pub counter_word : Kind → List ℕ → Option ℕ
+counter_word (Address pc) word
+    = if str_eq_ignore_ascii_case word (codes "PC") then Some pc else None
+counter_word Byte word = None
+counter_word Word word = None
+counter_word Count word = None
+
+-- Where an address is meant, four hex digits are one.
 abbrev pub address_word : Kind → List ℕ → Option ℕ
-address_word (Address pc) word =
-    if str_eq_ignore_ascii_case word (codes "PC") then Some pc
-    else if length word == 4 then number_in 16 word
-    else None
+address_word (Address pc) word = if length word == 4 then number_in 16 word else None
 address_word Byte word = None
 address_word Word word = None
 address_word Count word = None
 
--- The number of a word: of a name, of what is an address alone, of decimal digits.
+-- The number of a word: of the program counter, of a name, of what is an address alone, of decimal
+-- digits.
 abbrev pub number_of : List Named → Kind → List ℕ → Option ℕ
-number_of names kind word
-    = option_or (address_of names word) (option_or (address_word kind word) (number_in 10 word))
+number_of names kind word = option_or (counter_word kind word)
+    (option_or (address_of names word) (option_or (address_word kind word) (number_in 10 word)))
 
 -- A number that was read, or what is missing.
 abbrev pub number_or : SeenWhy → Option ℕ → List ℕ → Reads ℤ
@@ -124,9 +131,22 @@ abbrev pub with_piece : List ℕ → List ℕ → List ℕ → Reads (List ℕ)
 with_piece found piece rest = if nat_le (length found + length piece) 256
     then Ok (found ++ piece, rest) else Err many
 
+-- The next byte between quotes, if there is one, joins those that were found; and what comes then.
+abbrev pub quoted_by : Option (ℕ × List ℕ) → List ℕ → List ℕ → (List ℕ → List ℕ → Reads (List ℕ))
+    → Reads (List ℕ)
+quoted_by None found text rest = Ok (found, after 1 text)
+quoted_by (Some next) found text rest = and_then (with_piece found (next.0 ∷ []) next.1) rest
+
+-- The bytes of a text behind its first quote, to the next one or to the end of the line; so many at
+-- most. As many as there are bytes are enough.
+unfoldable pub quoted_of : ℕ → List ℕ → List ℕ → Reads (List ℕ)
+quoted_of zero found text = Ok (found, after 1 text)
+quoted_of (suc n) found text
+    = quoted_by (quoted_next text) found text (λ more behind. quoted_of n more behind)
+
 unfoldable pub piece_of : List Named → List ℕ → List ℕ → Reads (List ℕ)
 piece_of names found text =
-    if is_next 34 text then with_piece found (string_of text) (after_string text)
+    if is_next 34 text then quoted_of (length (drop 1 text)) found (drop 1 text)
     else and_then (sum_of names Byte text) (λ b rest. with_piece found (b ∷ []) rest)
 
 -- Pieces to the end of a line, which a comma may separate; so many at most. Each has a byte at

@@ -4,9 +4,9 @@ ghost use Rattle.std.specs.Prelude.{◌≡◌, ◌≤◌, ◌==◌, drop, length
 ghost use Rattle.std.specs.List.{prefix_len};
 ghost use Rattle.std.specs.Option.{option_map};
 ghost use Rattle.model.specs.Token.{is_blank, is_word_byte};
-ghost use Rattle.mon_line_parts.specs.Reading.{after, after_string, after_word, character_of, is_empty};
-ghost use Rattle.mon_line_parts.specs.Reading.{is_next, is_no_quote, is_word, past, skip, string_of};
-ghost use Rattle.mon_line_parts.specs.Reading.{without_comment, without_quote, word_of};
+ghost use Rattle.mon_line_parts.specs.Reading.{after, after_word, character_of, escaped, is_empty};
+ghost use Rattle.mon_line_parts.specs.Reading.{is_next, is_word, past, quoted_next, skip};
+ghost use Rattle.mon_line_parts.specs.Reading.{with_escape, without_comment, without_quote, word_of};
 
 use source_map::is_same_word;
 
@@ -28,14 +28,6 @@ fn word_bytes(text: &[u8]) -> usize
     text.iter()
         .take_while(|byte| matches!(**byte, b'A'..=b'Z' | b'a'..=b'z' | b'0'..=b'9' | b'_'))
         .count()
-}
-
-/// Counts the bytes at the front that are not a quote.
-fn quoted_bytes(text: &[u8]) -> usize
-    ensures counted { result ≡ prefix_len is_no_quote text.now }
-    ensures inside { result ≤ length text.now }
-{
-    text.iter().take_while(|byte| **byte != b'"').count()
 }
 
 /// Returns whether nothing is left.
@@ -140,8 +132,8 @@ pub fn character_of(text: &[u8]) -> Option<(u8, &[u8])>
     }
 }
 
-/// A text without its first byte.
-fn without_first(text: &[u8]) -> &[u8]
+/// Returns a text without its first byte.
+pub fn without_first(text: &[u8]) -> &[u8]
     ensures { result.now ≡ drop 1 text.now }
 {
     match text {
@@ -150,18 +142,39 @@ fn without_first(text: &[u8]) -> &[u8]
     }
 }
 
-/// Returns the bytes after a `"` and before the next one, which may be missing.
-pub fn string_of(text: &[u8]) -> &[u8]
-    ensures { result.now ≡ string_of text.now }
+/// Returns what a byte behind a backslash stands for, if it stands for something.
+fn escaped(byte: u8) -> Option<u8>
+    ensures { result ≡ escaped byte }
 {
-    let inside = without_first(text);
-    &inside[..quoted_bytes(inside)]
+    match byte {
+        b'n' => Some(b'\n'),
+        b't' => Some(b'\t'),
+        b'\\' => Some(b'\\'),
+        b'"' => Some(b'"'),
+        _ => None,
+    }
 }
 
-/// Returns the text after such bytes.
-pub fn after_string(text: &[u8]) -> &[u8]
-    ensures { result.now ≡ after_string text.now }
+/// Returns what a backslash and the text behind it begin with: one byte if the first two stand for
+/// one, otherwise the backslash. The text after it comes with it.
+fn with_escape(escaped: Option<u8>, text: &[u8]) -> (u8, &[u8])
+    ensures { (result.0, result.1.now) ≡ with_escape escaped text.now }
 {
-    let inside = without_first(text);
-    after(quoted_bytes(inside) + 1, inside)
+    match escaped {
+        Some(byte) => (byte, without_first(text)),
+        None => (b'\\', text),
+    }
+}
+
+/// Returns the next byte between quotes and the text after it, or `None` at a `"` and at the end.
+/// `\n`, `\t`, `\\` and `\"` are one byte each.
+pub fn quoted_next(text: &[u8]) -> Option<(u8, &[u8])>
+    ensures { option_map (λ p. (p.0, p.1.now)) result ≡ quoted_next text.now }
+{
+    match text {
+        [] => None,
+        [b'"', ..] => None,
+        [b'\\', second, ..] => Some(with_escape(escaped(*second), &text[1..])),
+        [first, rest @ ..] => Some((*first, rest)),
+    }
 }

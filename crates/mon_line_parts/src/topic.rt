@@ -46,15 +46,17 @@ pub enum Topic {
 
 /// The first words, each with its topic, but for `exit`, which is not to be shortened. A word of
 /// one letter is an abbreviation that two words would have in common.
-pub const WORDS: [(&[u8], Topic); 45] = [
+pub const WORDS: [(&[u8], Topic); 49] = [
     (b"step", Topic::Step),
     (b"s", Topic::Step),
     (b"over", Topic::Over),
     (b"next", Topic::Over),
+    (b"n", Topic::Over),
     (b"out", Topic::Out),
     (b"until", Topic::Until),
     (b"go", Topic::Go),
     (b"continue", Topic::Go),
+    (b"c", Topic::Go),
     (b"run", Topic::Go),
     (b"back", Topic::Back),
     (b"rback", Topic::Rback),
@@ -73,6 +75,8 @@ pub const WORDS: [(&[u8], Topic); 45] = [
     (b"r", Topic::Regs),
     (b"flags", Topic::Flags),
     (b"mem", Topic::Mem),
+    (b"print", Topic::Mem),
+    (b"p", Topic::Mem),
     (b"dis", Topic::Dis),
     (b"d", Topic::Dis),
     (b"find", Topic::Find),
@@ -145,8 +149,8 @@ impl Topic {
     }
 }
 
-/// Whether a word begins with some text, capitals or not.
-fn begins_with(word: &[u8], text: &[u8]) -> bool
+/// Returns whether a word begins with some text, capitals or not.
+pub fn begins_with(word: &[u8], text: &[u8]) -> bool
     ensures { result ≡ begins_with word.now text.now }
 {
     text.len() <= word.len() && word[..text.len()].eq_ignore_ascii_case(text)
@@ -193,9 +197,9 @@ fn begun(text: &[u8], words: &[(&[u8], Topic)]) -> (Option<Topic>, bool)
     (found, false)
 }
 
-/// The words of the table.
+/// Returns the words that begin a line, each with its topic.
 #[tactic(auto, unfolding(crate::specs::Topics::words))]
-fn all_words() -> &'static [(&'static [u8], Topic)]
+pub fn all_words() -> &'static [(&'static [u8], Topic)]
     ensures { map row_view result.now ≡ words }
 {
     &WORDS

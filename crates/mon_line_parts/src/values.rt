@@ -5,13 +5,14 @@ ghost use Rattle.source_map.specs.Names.{Named, address_of};
 ghost use Rattle.mon_line_parts.specs.Reading.{Reads, after_word, and_then, why_view, word_of};
 ghost use Rattle.mon_line_parts.specs.Reading.{missing, no_name, number_in};
 ghost use Rattle.mon_line_parts.specs.Values.{address_word, atom_of, bytes_of, character_or, count_of};
+ghost use Rattle.mon_line_parts.specs.Values.{counter_word, quoted_of};
 ghost use Rattle.mon_line_parts.specs.Values.{is_sign, lack_of, least_of, minus, most_of, named_number};
 ghost use Rattle.mon_line_parts.specs.Values.{number_of, number_or, piece_of, pieces_of, plus};
 ghost use Rattle.mon_line_parts.specs.Values.{some_bytes, some_count, sum_of, term_of, terms_of, with_piece, within};
 
 use crate::numbers::number_in;
 use crate::scan::{
-    after, after_string, after_word, character_of, is_empty, is_next, past, string_of, word_of,
+    after, after_word, character_of, is_empty, is_next, past, quoted_next, without_first, word_of,
 };
 use crate::slip::{Lack, Why};
 use arrayvec::ArrayVec;
@@ -67,15 +68,31 @@ fn most_of(kind: Kind) -> u32
     }
 }
 
-/// The number of a word where an address is meant: of the program counter, of four hex digits.
-fn address_word(kind: Kind, word: &[u8]) -> Option<u32>
-    ensures { result ≡ address_word kind word.now }
+/// The program counter, where an address is meant and a word is `PC`.
+fn counter_word(kind: Kind, word: &[u8]) -> Option<u32>
+    ensures { result ≡ counter_word kind word.now }
 {
     match kind {
         Kind::Address(pc) => {
             if is_same_word(word, b"PC") {
                 Some(pc as u32)
-            } else if word.len() == 4 {
+            } else {
+                None
+            }
+        }
+        Kind::Byte => None,
+        Kind::Word => None,
+        Kind::Count => None,
+    }
+}
+
+/// The number of four hex digits, where an address is meant.
+fn address_word(kind: Kind, word: &[u8]) -> Option<u32>
+    ensures { result ≡ address_word kind word.now }
+{
+    match kind {
+        Kind::Address(_) => {
+            if word.len() == 4 {
                 number_in(16, word)
             } else {
                 None
@@ -87,10 +104,14 @@ fn address_word(kind: Kind, word: &[u8]) -> Option<u32>
     }
 }
 
-/// The number of a word: of a name, of what is an address alone, of decimal digits.
+/// The number of a word: of the program counter, of a name, of what is an address alone, of decimal
+/// digits.
 fn number_of(names: &Names, kind: Kind, word: &[u8]) -> Option<u32>
     ensures { result ≡ number_of names.now kind word.now }
 {
+    if let Some(address) = counter_word(kind, word) {
+        return Some(address);
+    }
     if let Some(address) = names.address_of(word) {
         return Some(address as u32);
     }
@@ -311,6 +332,26 @@ fn push_piece<'a>(
     }
 }
 
+/// Reads the text behind a `"`, to the next one or to the end of the line, and appends it.
+fn quoted_of<'a>(found: &mut ArrayVec<u8, 256>, text: &'a [u8]) -> Result<&'a [u8], Why<'a>>
+    ensures ok { IfOk result (λ rest. quoted_of (length text.now) found.old.items text.now
+        ≡ Ok (found.new.items, rest.now)) }
+    ensures err { IfErr result (λ why. quoted_of (length text.now) found.old.items text.now
+        ≡ Err (why_view why)) }
+{
+    let mut rest = text;
+    for _ in 0..text.len() {
+        match quoted_next(rest) {
+            None => return Ok(after(1, rest)),
+            Some((byte, behind)) => match push_piece(found, &[byte], behind) {
+                Ok(next) => rest = next,
+                Err(why) => return Err(why),
+            },
+        }
+    }
+    Ok(after(1, rest))
+}
+
 /// Reads a text between quotes or one byte, and appends it.
 #[tactic(auto, unfolding(crate::specs::Values::piece_of))]
 fn piece_of<'a>(
@@ -324,7 +365,7 @@ fn piece_of<'a>(
         ≡ Err (why_view why)) }
 {
     if is_next(b'"', text) {
-        return push_piece(found, string_of(text), after_string(text));
+        return quoted_of(found, without_first(text));
     }
     let (byte, rest) = byte_of(names, text)?;
     push_piece(found, &[byte], rest)

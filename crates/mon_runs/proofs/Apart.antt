@@ -9,7 +9,7 @@ use Rattle.model.specs.Run.{after_steps}
 use Rattle.model.specs.declared.event.EventFault.{EventFault}
 use Rattle.model.specs.declared.session_fault.SessionFault.{SessionFault}
 use Rattle.law_sessions.proofs.Runs.{after_steps-zero, after_steps-made, after_steps-refused}
-use Rattle.mon_runs.specs.Runs.{HasMade, HasMadeStates}
+use Rattle.mon_runs.specs.Runs.{HasMadeStates}
 
 -- The session with other breakpoints.
 abbrev pub other : List ℕ → Session → Session
@@ -38,7 +38,7 @@ unfolding break_cleared
 cleared-other address s t h = by_table s t (table_without s.breaks address) h
 
 -- a run with another breakpoint
-pub made-apart : (did : ℕ) (s t u v : Session) (b : List ℕ) → t ≡ other b s → HasMade did t u
-    → states v ≡ states u → HasMadeStates did s v
-made-apart did s t u v b set made cleared less =
-    cleared ∙ ap states (made less ∙ ap (after_steps did) set ∙ apart did b s (step s.current) refl)
+pub made-apart : (did : ℕ) (s t u v : Session) (b : List ℕ) → t ≡ other b s
+    → u ≡ after_steps did t → states v ≡ states u → HasMadeStates did s v
+made-apart did s t u v b set made cleared =
+    cleared ∙ ap states (made ∙ ap (after_steps did) set ∙ apart did b s (step s.current) refl)

@@ -2,8 +2,7 @@ pub mod Counts
 pub mod Apart
 pub mod LookedRuns
 pub mod Past
+pub mod Port
 pub mod Way
-pub mod Steps
 pub mod Again
-pub mod Rounds
 pub mod Found

@@ -1,14 +1,17 @@
 -- Runs of single steps, step by step.
-use Rattle.std.proofs.Common.{◌≡◌, ℕ, ◌+◌, ◌-◌, suc, Bool, true, false, cond, List, Option, Some, None, sym, ap, ◌∙◌, arith}
-use Rattle.model.specs.Run.{run_end}
-use Rattle.mon_runs.specs.Looked.{Arrival, Place, after_stretch, ended_or, later, looked_run, pushed_at, pushed_to, why_of_step}
+use Rattle.std.proofs.Common.{◌≡◌, ℕ, ◌+◌, ◌-◌, zero, suc, refl, Bool, true, false, cond, List, Option, Some, None, sym, ap, ◌∙◌, arith}
+use Rattle.model.specs.Step.{step}
+use Rattle.model.specs.Session.{Session}
+use Rattle.model.specs.Run.{run_end, after_steps}
+use Rattle.law_sessions.proofs.Runs.{after_steps-add, after_steps-zero}
+use Rattle.mon_runs.specs.Looked.{Arrival, LookedRunsAreSteps, Place, after_stretch, ended_or, later, looked_run, pushed_at, pushed_to, why_of_step}
 use Rattle.mon_runs.specs.declared.ended.EndWhy.{EndWhy}
 use Rattle.mon_runs.specs.declared.ended.EndWhy.TheVariants as end_why
 use Rattle.mon_runs.specs.declared.looked.Goal.{Goal}
 use Rattle.mon_lines.specs.declared.command.WatchKind.TheVariants as kind
 use Rattle.mon_stops.specs.Stops.{has_access}
+use Rattle.mon_stops.specs.declared.breaks.Break.{Break}
 use Rattle.mon_stops.specs.declared.watches.Watch.{Watch}
-use Rattle.mon_runs.specs.declared.led.LedWhy.TheVariants as led_why
 
 -- An arrival so many steps later.
 pub later-none : (a : Arrival) → a ≡ later 0 a
@@ -57,12 +60,12 @@ looked-goes w g u left n did d p q y whole h more made reason after none =
 
 pub looked-over : (w : List Watch) (g : Goal) (u : Option ℕ) (left did : ℕ) (p : Place)
     (whole : Arrival) → whole ≡ later did (looked_run w g u left p) → left ≡ 0
-    → whole ≡ (record { did = did; why = end_why.Led led_why.Many }, p)
+    → whole ≡ (record { did = did; why = end_why.Many }, p)
 unfolding looked_run
 looked-over w g u left did p whole h none =
     let sum : did + 0 ≡ did = omega arith in
     h ∙ ap (λ j. later did (looked_run w g u j p)) none
-    ∙ (λ i. (record { did = sum i; why = end_why.Led led_why.Many }, p))
+    ∙ (λ i. (record { did = sum i; why = end_why.Many }, p))
 
 -- ---- what is pushed
 
@@ -97,3 +100,22 @@ pub pushed-begin : (w : List Watch) (stack pushes : ℕ)
     → pushed_at w stack 0 pushes ≡ pushed_at w stack 0 (pushes - 0)
 pushed-begin w stack pushes =
     let all : pushes - 0 ≡ pushes = omega arith in ap (pushed_at w stack 0) (sym all)
+
+-- ---- as many steps lead there
+
+abbrev LeadsFrom : Session → Arrival → Type 0
+LeadsFrom s arrival = arrival.1.0 ≡ after_steps arrival.0.did s
+
+ended-leads : (why : Option EndWhy) (k : ℕ) (s : Session) (breaks : List Break) (rest : Arrival)
+    → LeadsFrom (after_steps k s) rest
+    → LeadsFrom s (ended_or why k (after_steps k s, breaks) rest)
+ended-leads (Some why) k s breaks rest h = refl
+ended-leads None k s breaks rest h = h ∙ sym (after_steps-add k rest.0.did s (step s.current) refl)
+
+pub looked_runs_are_steps : LookedRunsAreSteps
+unfolding looked_run
+looked_runs_are_steps watches goal until zero place = sym (after_steps-zero step place.0)
+looked_runs_are_steps watches goal until (suc n) place =
+    let next = after_stretch until 1 place in
+    let rest : LeadsFrom next.0 (looked_run watches goal until n next) = looked_runs_are_steps watches goal until n next in
+    ended-leads (why_of_step watches goal until place) (run_end 1 place.0).did place.0 next.1 (looked_run watches goal until n next) rest

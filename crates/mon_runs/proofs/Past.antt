@@ -1,49 +1,12 @@
--- Runs that go on past breaks, piece by piece.
+-- Runs that go on past breaks, stretch by stretch.
 use Rattle.std.proofs.Common.{◌≡◌, ℕ, ◌+◌, ◌-◌, suc, Option, Some, None, sym, ap, ◌∙◌, arith}
 use Rattle.std.specs.Option.{option_map}
 use Rattle.model.specs.Run.{run_end}
 use Rattle.model.specs.declared.run_end.Why.{Why}
 use Rattle.mon_runs.specs.Looked.{Arrival, Place, after_stretch, ended_or, later}
-use Rattle.mon_runs.specs.PastBreaks.{after_piece, as_stopped, ended_at, gone_on, run_past, sum_of, why_of_go, why_of_stretch}
+use Rattle.mon_runs.specs.PastBreaks.{as_stopped, run_past, why_of_stretch}
 use Rattle.mon_runs.specs.declared.ended.EndWhy.TheVariants as end_why
 use Rattle.mon_runs.proofs.LookedRuns.{later-more, later-none}
-use Rattle.mon_runs.specs.Goals.{go_of}
-use Rattle.mon_runs.specs.declared.led.LedWhy.{LedWhy}
-use Rattle.mon_runs.specs.declared.led.LedWhy.TheVariants as led_why
-
--- ---- pieces
-
-first : (u : Option ℕ) (did n sum : ℕ) (p q : Place) (y : Option LedWhy)
-    → sum ≡ sum_of did (go_of 262144 p.0).0.did → y ≡ why_of_go u sum p → q ≡ after_piece u p
-    → gone_on u did (suc n) p ≡ ended_at y sum q (gone_on u sum n q)
-unfolding gone_on
-first u did n sum p q y made why after =
-    (λ i. ended_at (why_of_go u (sym made i) p) (sym made i) (after_piece u p) (gone_on u (sym made i) n (after_piece u p)))
-    ∙ (λ i. ended_at (sym why i) sum (sym after i) (gone_on u sum n (sym after i)))
-
-pub piece-ends : (u : Option ℕ) (left did n sum : ℕ) (p q : Place) (why : LedWhy)
-    (y : Option LedWhy) (whole : Arrival) → whole ≡ gone_on u did left p → left ≡ suc n
-    → sum ≡ sum_of did (go_of 262144 p.0).0.did → y ≡ why_of_go u sum p → q ≡ after_piece u p
-    → y ≡ Some why → whole ≡ (record { did = sum; why = end_why.Led why }, q)
-piece-ends u left did n sum p q why y whole h more made reason after some =
-    h ∙ ap (λ j. gone_on u did j p) more ∙ first u did n sum p q y made reason after
-    ∙ ap (λ o. ended_at o sum q (gone_on u sum n q)) some
-
-pub piece-goes : (u : Option ℕ) (left did n sum : ℕ) (p q : Place) (y : Option LedWhy)
-    (whole : Arrival) → whole ≡ gone_on u did left p → left ≡ suc n
-    → sum ≡ sum_of did (go_of 262144 p.0).0.did → y ≡ why_of_go u sum p → q ≡ after_piece u p
-    → y ≡ None → whole ≡ gone_on u sum n q
-piece-goes u left did n sum p q y whole h more made reason after none =
-    h ∙ ap (λ j. gone_on u did j p) more ∙ first u did n sum p q y made reason after
-    ∙ ap (λ o. ended_at o sum q (gone_on u sum n q)) none
-
-pub piece-over : (u : Option ℕ) (left did : ℕ) (p : Place) (whole : Arrival)
-    → whole ≡ gone_on u did left p → left ≡ 0
-    → whole ≡ (record { did = did; why = end_why.Led led_why.Many }, p)
-unfolding gone_on
-piece-over u left did p whole h none = h ∙ ap (λ j. gone_on u did j p) none
-
--- ---- stretches
 
 pub stretch-begin : (count left : ℕ) (p : Place)
     → run_past count left p ≡ later 0 (run_past (count - 0) left p)
@@ -61,7 +24,7 @@ stretch-first n left d p q y made why after = λ i.
 pub stretch-ends : (rest n left did d : ℕ) (p q : Place) (why : Why) (y : Option Why)
     (whole : Arrival) → whole ≡ later did (run_past rest left p) → rest ≡ suc n
     → d ≡ (run_end left p.0).did → y ≡ why_of_stretch left p → q ≡ after_stretch None left p
-    → y ≡ Some why → whole ≡ (record { did = did + d; why = end_why.Led (led_why.Stopped why) }, q)
+    → y ≡ Some why → whole ≡ (record { did = did + d; why = end_why.Stopped why }, q)
 stretch-ends rest n left did d p q why y whole h more made reason after some =
     h ∙ ap (λ j. later did (run_past j left p)) more
     ∙ ap (later did) (stretch-first n left d p q y made reason after
@@ -79,9 +42,9 @@ stretch-goes rest n left did d p q y whole h more made reason after none =
 
 pub stretch-over : (rest left did : ℕ) (p : Place) (whole : Arrival)
     → whole ≡ later did (run_past rest left p) → rest ≡ 0
-    → whole ≡ (record { did = did; why = end_why.Led led_why.Many }, p)
+    → whole ≡ (record { did = did; why = end_why.Many }, p)
 unfolding run_past
 stretch-over rest left did p whole h none =
     let sum : did + 0 ≡ did = omega arith in
     h ∙ ap (λ j. later did (run_past j left p)) none
-    ∙ (λ i. (record { did = sum i; why = end_why.Led led_why.Many }, p))
+    ∙ (λ i. (record { did = sum i; why = end_why.Many }, p))

@@ -1,23 +1,23 @@
 -- Runs of single steps, each of which is looked at. Source: mos65; the stack page and the order of
 -- what is pushed, MCS6500 manual, chapter 8.
-use Rattle.std.specs.Prelude.{ℕ, ◌+◌, ◌-◌, ◌%◌, zero, suc, Bool, true, false, if◌then◌else◌, List, Option, Some, None}
+use Rattle.std.specs.Prelude.{◌≡◌, ℕ, ◌+◌, ◌-◌, ◌%◌, zero, suc, Bool, true, false, if◌then◌else◌, List, Option, Some, None}
 use Rattle.std.specs.Option.{option_map, option_or}
 use Rattle.model.specs.State.{State}
 use Rattle.model.specs.Session.{Session}
-use Rattle.model.specs.Run.{run_end, after_run}
+use Rattle.model.specs.Run.{run_end, after_run, after_steps}
 use Rattle.mon_lines.specs.declared.command.WatchKind.TheVariants as kind
 use Rattle.mon_runs.specs.Ends.{is_entry, is_end, breaks_after}
+use Rattle.mon_runs.specs.Rests.{rest_between}
 use Rattle.mon_runs.specs.declared.ended.EndWhy.{EndWhy}
 use Rattle.mon_runs.specs.declared.ended.EndWhy.TheVariants as end_why
 use Rattle.mon_runs.specs.declared.ended.Ended.{Ended}
 use Rattle.mon_runs.specs.declared.looked.Goal.{Goal}
-use Rattle.mon_runs.specs.declared.looked.Goal.TheVariants.{Behind, Left, Stuck, Never}
+use Rattle.mon_runs.specs.declared.looked.Goal.TheVariants.{Behind, Left, Rest, Never}
 use Rattle.mon_runs.specs.declared.looked.Sight.{Sight}
 use Rattle.mon_stops.specs.Stops.{has_access}
 use Rattle.mon_stops.specs.declared.breaks.Break.{Break}
 use Rattle.mon_stops.specs.declared.watches.Watch.{Watch}
-use Rattle.mon_runs.specs.Goals.{is_behind, has_left, is_jump_to_itself, opcode_at_pc}
-use Rattle.mon_runs.specs.declared.led.LedWhy.TheVariants as led_why
+use Rattle.mon_runs.specs.Goals.{is_behind, has_left, opcode_at_pc}
 use Rattle.accesses.specs.Access.{access_here}
 use Rattle.cpu_step.specs.declared.access.Access.{Access}
 
@@ -27,7 +27,7 @@ use Rattle.cpu_step.specs.declared.access.Access.{Access}
 abbrev pub goal_met : Goal → State → State → Bool
 goal_met (Behind pc stack) before after = is_behind pc stack before after
 goal_met (Left stack) before after = has_left stack before after
-goal_met Stuck before after = is_jump_to_itself before after
+goal_met Rest before after = false
 goal_met Never before after = false
 
 -- An address whose access of a kind is watched.
@@ -63,13 +63,21 @@ watched_between watches before after = if is_entry before.regs.s before.cycles a
     else watched watches (access_here before) before.regs.s
 
 abbrev pub if_met : Bool → Option EndWhy
-if_met true = Some (end_why.Led led_why.Met)
+if_met true = Some end_why.Met
 if_met false = None
+
+-- Why a run ends where the program rests. A run that has no goal ends there too, but one of so many
+-- steps does not.
+abbrev pub rest_of : Goal → State → State → Option EndWhy
+rest_of (Behind pc stack) before after = rest_between before after
+rest_of (Left stack) before after = rest_between before after
+rest_of Rest before after = rest_between before after
+rest_of Never before after = None
 
 -- Why a run ends after a step that did not end it by itself.
 abbrev pub end_between : List Watch → Goal → State → State → Option EndWhy
-end_between watches goal before after
-    = option_or (watched_between watches before after) (if_met (goal_met goal before after))
+end_between watches goal before after = option_or (watched_between watches before after)
+    (option_or (if_met (goal_met goal before after)) (rest_of goal before after))
 
 -- What a run sees of the state before a step.
 abbrev pub sight_of : State → Sight
@@ -95,7 +103,7 @@ abbrev pub why_of_step : List Watch → Goal → Option ℕ → Place → Option
 why_of_step watches goal until place =
     let end = run_end 1 place.0 in
     let state = (after_run 1 place.0).current in
-    if is_end until end.why state place.1 then Some (end_why.Led (led_why.Stopped end.why))
+    if is_end until end.why state place.1 then Some (end_why.Stopped end.why)
     else end_between watches goal place.0.current state
 
 -- What is there after a run of k steps of the session.
@@ -117,7 +125,14 @@ ended_or None k place rest = later k rest
 -- Up to n steps, until one ends the run.
 unfoldable pub looked_run : List Watch → Goal → Option ℕ → ℕ → Place → Arrival
 looked_run watches goal until zero place
-    = (record { did = 0; why = end_why.Led led_why.Many }, place)
+    = (record { did = 0; why = end_why.Many }, place)
 looked_run watches goal until (suc n) place = ended_or (why_of_step watches goal until place)
     (run_end 1 place.0).did (after_stretch until 1 place)
     (looked_run watches goal until n (after_stretch until 1 place))
+
+-- A run leads where as many steps of the session lead: whatever its goal and its stops are, they
+-- change no state.
+abbrev pub LookedRunsAreSteps : Type 0
+LookedRunsAreSteps = (watches : List Watch) (goal : Goal) (until : Option ℕ) (n : ℕ)
+    (place : Place) → (looked_run watches goal until n place).1.0
+    ≡ after_steps (looked_run watches goal until n place).0.did place.0

@@ -1,19 +1,27 @@
 //! How a run ends.
 
-ghost use Rattle.std.specs.Prelude.{◌≡◌};
-ghost use Rattle.mon_runs.specs.Runs.{ended_of};
+use debugger::Why;
 
-use crate::{LedEnd, LedWhy};
-
-/// Why a run ends.
+/// Why a run ends. Source: mos65.
 #[derive(Clone, Copy)]
 pub enum EndWhy {
-    /// As a led run does.
-    Led(LedWhy),
+    /// The last step met the goal.
+    Met,
+    /// The session's run ended: a watch, a breakpoint, a step that is rejected, or as many steps as
+    /// were asked for.
+    Stopped(Why),
+    /// As many steps were made as a run makes at most.
+    Many,
     /// The last step's instruction read a byte at an address that is watched for reads.
     Read(u16),
     /// The last step's instruction stored a byte at an address that is watched for writes.
     Written(u16),
+    /// The last step was a jump or a branch to itself.
+    Stuck,
+    /// A BRK comes next, and nothing stands at FFFE.
+    NoHandler,
+    /// The program looks for input next, and none waits.
+    Waits,
 }
 
 /// How many steps a run made, and why it ended.
@@ -21,16 +29,4 @@ pub enum EndWhy {
 pub struct Ended {
     pub did: u64,
     pub why: EndWhy,
-}
-
-impl Ended {
-    /// Returns how a led run ended.
-    pub fn of(end: LedEnd) -> Ended
-        ensures { result ≡ ended_of end }
-    {
-        Ended {
-            did: end.did,
-            why: EndWhy::Led(end.why),
-        }
-    }
 }

@@ -5,11 +5,12 @@ ghost use Rattle.model.specs.Run.{after_run, after_steps, run_end};
 ghost use Rattle.model.specs.State.{State};
 ghost use Rattle.mon_runs.specs.Ends.{breaks_after, is_end, is_entry, is_to};
 ghost use Rattle.mon_runs.specs.Looked.{after_stretch, end_between, goal_met, if_met, if_read};
-ghost use Rattle.mon_runs.specs.Looked.{if_stored, looked_run, pushed_at, pushed_to, sight_of};
+ghost use Rattle.mon_runs.specs.Looked.{if_stored, looked_run, pushed_at, pushed_to, rest_of};
+ghost use Rattle.mon_runs.specs.Looked.{sight_of};
 ghost use Rattle.mon_runs.specs.Looked.{watched, watched_between, why_of_step};
 
-use crate::LedWhy;
 use crate::ended::{EndWhy, Ended};
+use crate::rests::rest_since;
 use accesses::{Access, access_here};
 use debugger::{Regs, Session, Why};
 use mon_lines::WatchKind;
@@ -22,9 +23,9 @@ pub enum Goal {
     Behind { pc: u16, stack: u8 },
     /// The step was an RTS or an RTI, and the stack pointer is above this one.
     Left { stack: u8 },
-    /// The step was a jump to itself.
-    Stuck,
-    /// No step meets it.
+    /// No step meets it: the run ends where the program rests.
+    Rest,
+    /// No step meets it, and the run does not end where the program rests.
     Never,
 }
 
@@ -140,8 +141,7 @@ fn is_met(goal: Goal, before: Sight, after: Regs, cycles: u64) -> bool
                 && cycles - before.cycles == 6
                 && stack < after.s
         }
-        Goal::Stuck => after.pc == before.regs.pc && after.s == before.regs.s,
-        Goal::Never => false,
+        Goal::Rest | Goal::Never => false,
     }
 }
 
@@ -187,10 +187,17 @@ fn watched_since(session: &Session, stops: &Stops, before: Sight) -> Option<EndW
 fn if_met(is_met: bool) -> Option<EndWhy>
     ensures { result ≡ if_met is_met }
 {
-    if is_met {
-        Some(EndWhy::Led(LedWhy::Met))
-    } else {
-        None
+    if is_met { Some(EndWhy::Met) } else { None }
+}
+
+/// Returns why a run ends where the program rests, if it does.
+fn rest_of(session: &Session, goal: Goal, before: Sight) -> Option<EndWhy>
+    ensures { (s : State) → before ≡ sight_of s → result
+        ≡ rest_of goal s session.now.current }
+{
+    match goal {
+        Goal::Never => None,
+        Goal::Behind { .. } | Goal::Left { .. } | Goal::Rest => rest_since(session, before.regs),
     }
 }
 
@@ -199,9 +206,12 @@ fn end_of(session: &Session, stops: &Stops, goal: Goal, before: Sight) -> Option
     ensures { (s : State) → before ≡ sight_of s → result
         ≡ end_between stops.now.watches.items goal s session.now.current }
 {
-    match watched_since(session, stops, before) {
+    if let Some(why) = watched_since(session, stops, before) {
+        return Some(why);
+    }
+    match if_met(is_met(goal, before, session.regs(), session.cycles())) {
         Some(why) => Some(why),
-        None => if_met(is_met(goal, before, session.regs(), session.cycles())),
+        None => rest_of(session, goal, before),
     }
 }
 
@@ -219,7 +229,7 @@ fn make_step(session: &mut Session, stops: &mut Stops, goal: Goal, until: Option
     let before = look(session);
     let end = session.run(1);
     let why = if is_end(session, stops, until, end.why) {
-        Some(EndWhy::Led(LedWhy::Stopped(end.why)))
+        Some(EndWhy::Stopped(end.why))
     } else {
         end_of(session, stops, goal, before)
     };
@@ -252,6 +262,6 @@ pub fn lead(
     }
     Ended {
         did,
-        why: EndWhy::Led(LedWhy::Many),
+        why: EndWhy::Many,
     }
 }

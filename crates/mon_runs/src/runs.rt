@@ -1,31 +1,52 @@
 //! The runs.
 
-ghost use Rattle.std.specs.Prelude.{◌≡◌, ◌≢◌, ◌==◌, false, true, Err, IfErr, IfOk, IsErrOf};
-ghost use Rattle.std.specs.Prelude.{IsOk, Ok};
+ghost use Rattle.std.specs.Prelude.{◌≡◌, ◌≢◌, ◌==◌, Err, IfErr, IfOk, IsErrOf, IsOk, None, Ok};
+ghost use Rattle.std.specs.Prelude.{Some};
+ghost use Rattle.model.specs.Back.{states};
 ghost use Rattle.model.specs.Breakpoints.{break_set};
 ghost use Rattle.model.specs.Run.{after_steps};
-ghost use Rattle.model.specs.Back.{states};
-ghost use Rattle.mon_runs.specs.Goals.{go_of, out_of, over_of, until_of, without_break};
-ghost use Rattle.mon_stops.specs.Stops.{is_plain};
-ghost use Rattle.mon_runs.specs.PastBreaks.{count_run, go_run, if_all, out_run, over_looked};
-ghost use Rattle.mon_runs.specs.PastBreaks.{over_run, run_to, until_run};
-ghost use Rattle.mon_runs.specs.Runs.{HasMade, HasMadeStates, IsLed, IsLedTo};
+ghost use Rattle.mon_runs.specs.Goals.{without_break};
+ghost use Rattle.mon_runs.specs.PastBreaks.{count_run, go_run, if_all, most_steps, out_run, over_run};
+ghost use Rattle.mon_runs.specs.PastBreaks.{until_run};
+ghost use Rattle.mon_runs.specs.Looked.{looked_run};
+ghost use Rattle.mon_runs.specs.Runs.{HasMadeStates};
 
-use crate::LedWhy;
 use crate::ended::{EndWhy, Ended};
 use crate::looked::{Goal, lead};
-use crate::pieces::{MOST_LED, go_on, go_once, out_once, over_once, run_on, until_once};
+use crate::stretches::run_on;
 use debugger::{Session, SessionFault, Why};
 use mon_stops::Stops;
 
 /// The opcode of JSR.
 const JSR: u8 = 0x20;
 
-/// Makes a JSR as one, or one step, each step looked at.
-#[tactic(auto, unfolding(crate::specs::PastBreaks::over_looked))]
-fn over_looked(session: &mut Session, stops: &mut Stops) -> Ended
+/// The most steps of a run that nobody gave a number of steps.
+const MOST_STEPS: u32 = 5_000_000;
+
+/// The most steps of a run of so many where reads or writes are watched.
+const MOST_LOOKED: u32 = 10_000_000;
+
+/// Runs to a goal, for at most 5,000,000 steps.
+fn lead_on(session: &mut Session, stops: &mut Stops, goal: Goal, until: Option<u16>) -> Ended
     ensures steps { session.new ≡ after_steps result.did session.old }
-    ensures run { over_looked stops.old.watches.items (session.old, stops.old.breaks.items)
+    ensures run { looked_run stops.old.watches.items goal until most_steps
+        (session.old, stops.old.breaks.items)
+        ≡ (result, (session.new, stops.new.breaks.items)) }
+    ensures watches { stops.new.watches ≡ stops.old.watches }
+    ensures changes { stops.new.changes ≡ stops.old.changes }
+{
+    lead(session, stops, goal, until, MOST_STEPS)
+}
+
+/// Makes a JSR as one: steps until its subroutine has returned, so that the program counter is
+/// behind the JSR and the stack pointer is what it was. Any other instruction is one step.
+///
+/// A JSR ends early at a watch, a breakpoint, a step that is rejected, where the program rests as
+/// `go` says, and after 5,000,000 steps. Source: MCS6500 manual, chapter 8; mos65.
+#[tactic(auto, unfolding(crate::specs::PastBreaks::over_run))]
+pub fn over(session: &mut Session, stops: &mut Stops) -> Ended
+    ensures steps { session.new ≡ after_steps result.did session.old }
+    ensures run { over_run stops.old.watches.items (session.old, stops.old.breaks.items)
         ≡ (result, (session.new, stops.new.breaks.items)) }
     ensures watches { stops.new.watches ≡ stops.old.watches }
     ensures changes { stops.new.changes ≡ stops.old.changes }
@@ -34,80 +55,41 @@ fn over_looked(session: &mut Session, stops: &mut Stops) -> Ended
     if session.peek(regs.pc) == JSR {
         let pc = regs.pc.wrapping_add(3);
         let stack = regs.s;
-        lead(session, stops, Goal::Behind { pc, stack }, None, MOST_LED)
+        lead_on(session, stops, Goal::Behind { pc, stack }, None)
     } else {
         lead(session, stops, Goal::Never, None, 1)
     }
 }
 
-/// Makes a JSR as one, or one step: as `crate::over` does, for up to 10,000,000 steps.
-#[tactic(auto, unfolding(crate::specs::PastBreaks::over_run))]
-pub fn over(session: &mut Session, stops: &mut Stops) -> Ended
-    ensures steps { session.new ≡ after_steps result.did session.old }
-    ensures plain { is_plain stops.old ≡ true
-        → IsLed (over_of 10000000 session.old) result session.new }
-    ensures run { over_run stops.old.watches.items (session.old, stops.old.breaks.items)
-        ≡ (result, (session.new, stops.new.breaks.items)) }
-    ensures watches { stops.new.watches ≡ stops.old.watches }
-    ensures changes { stops.new.changes ≡ stops.old.changes }
-{
-    if stops.is_plain() {
-        return Ended::of(over_once(session));
-    }
-    over_looked(session, stops)
-}
-
-/// Steps until the subroutine that is running has returned: as `crate::out` does, for up to
-/// 10,000,000 steps.
+/// Steps until the subroutine that is running has returned: until an RTS or an RTI leaves the stack
+/// pointer above where it is now. Ends early as `over` does.
 #[tactic(auto, unfolding(crate::specs::PastBreaks::out_run))]
 pub fn out(session: &mut Session, stops: &mut Stops) -> Ended
     ensures steps { session.new ≡ after_steps result.did session.old }
-    ensures plain { is_plain stops.old ≡ true
-        → IsLed (out_of 10000000 session.old) result session.new }
     ensures run { out_run stops.old.watches.items (session.old, stops.old.breaks.items)
         ≡ (result, (session.new, stops.new.breaks.items)) }
     ensures watches { stops.new.watches ≡ stops.old.watches }
     ensures changes { stops.new.changes ≡ stops.old.changes }
 {
-    if stops.is_plain() {
-        return Ended::of(out_once(session));
-    }
     let stack = session.regs().s;
-    lead(session, stops, Goal::Left { stack }, None, MOST_LED)
+    lead_on(session, stops, Goal::Left { stack }, None)
 }
 
-/// Runs to a stop or until nothing is left to do: as `crate::go` does, for up to 4,096 and then
-/// 262,144 times 4,096 steps. Where reads or writes are watched it makes at most 10,000,000.
+/// Runs to a watch, a breakpoint, a step that is rejected, or to where the program rests, for at
+/// most 5,000,000 steps.
+///
+/// The program rests after a jump or a branch to itself, before a BRK where both bytes at FFFE are
+/// 0, and before an instruction that reads base+1 or base+2 while no input waits. At least one step
+/// is made, so the run goes on from where it ended. Source: mos65.
 #[tactic(auto, unfolding(crate::specs::PastBreaks::go_run))]
 pub fn go(session: &mut Session, stops: &mut Stops) -> Ended
-    ensures steps { HasMade result.did session.old session.new }
-    ensures plain { is_plain stops.old ≡ true
-        → IsLed (go_of 262144 session.old) result session.new }
+    ensures steps { session.new ≡ after_steps result.did session.old }
     ensures run { go_run stops.old.watches.items (session.old, stops.old.breaks.items)
         ≡ (result, (session.new, stops.new.breaks.items)) }
     ensures watches { stops.new.watches ≡ stops.old.watches }
     ensures changes { stops.new.changes ≡ stops.old.changes }
 {
-    if stops.is_plain() {
-        return Ended::of(go_once(session));
-    }
-    go_to(session, stops, None)
-}
-
-/// Runs on past breaks whose tests do not hold, to an address too if there is one.
-#[tactic(auto, unfolding(crate::specs::PastBreaks::run_to))]
-fn go_to(session: &mut Session, stops: &mut Stops, until: Option<u16>) -> Ended
-    ensures steps { HasMade result.did session.old session.new }
-    ensures run { run_to until stops.old.watches.items (session.old, stops.old.breaks.items)
-        ≡ (result, (session.new, stops.new.breaks.items)) }
-    ensures watches { stops.new.watches ≡ stops.old.watches }
-    ensures changes { stops.new.changes ≡ stops.old.changes }
-{
-    if stops.has_changes_only() {
-        go_on(session, stops, until)
-    } else {
-        lead(session, stops, Goal::Stuck, until, MOST_LED)
-    }
+    lead_on(session, stops, Goal::Rest, None)
 }
 
 /// Returns why a run ends that made so many steps of those asked for.
@@ -115,9 +97,7 @@ fn why_of_all(end: Ended, count: u32) -> EndWhy
     ensures { result ≡ if_all (end.did == count) end.why }
 {
     match end.why {
-        EndWhy::Led(LedWhy::Many) if end.did == count as u64 => {
-            EndWhy::Led(LedWhy::Stopped(Why::Limit))
-        }
+        EndWhy::Many if end.did == count as u64 => EndWhy::Stopped(Why::Limit),
         why => why,
     }
 }
@@ -135,7 +115,7 @@ pub fn run(session: &mut Session, stops: &mut Stops, count: u32) -> Ended
     if stops.has_changes_only() {
         run_on(session, stops, count)
     } else {
-        let end = lead(session, stops, Goal::Never, None, count.min(MOST_LED));
+        let end = lead(session, stops, Goal::Never, None, count.min(MOST_LOOKED));
         Ended {
             did: end.did,
             why: why_of_all(end, count),
@@ -143,7 +123,8 @@ pub fn run(session: &mut Session, stops: &mut Stops, count: u32) -> Ended
     }
 }
 
-/// Runs as `go` does, and stops at an address too.
+/// Runs as `go` does, and stops at an address too: a breakpoint stands there while it runs, and
+/// stays only where it was set before.
 ///
 /// # Errors
 ///
@@ -153,10 +134,7 @@ pub fn run(session: &mut Session, stops: &mut Stops, count: u32) -> Ended
 /// Nothing is changed then.
 #[tactic(auto, unfolding(crate::specs::PastBreaks::until_run))]
 pub fn until(session: &mut Session, stops: &mut Stops, address: u16) -> Result<Ended, SessionFault>
-    ensures plain { is_plain stops.old ≡ true → IfOk result
-        (λ end. IsLedTo (until_of address 262144 session.old) end session.new) }
-    ensures steps { IfOk result (λ end. is_plain stops.old ≡ false
-        → HasMadeStates end.did session.old session.new) }
+    ensures steps { IfOk result (λ end. HasMadeStates end.did session.old session.new) }
     ensures ok { IfOk result (λ end. until_run address stops.old.watches.items
         (session.old, stops.old.breaks.items)
         ≡ Ok (end, (session.new, stops.new.breaks.items))) }
@@ -170,19 +148,13 @@ pub fn until(session: &mut Session, stops: &mut Stops, address: u16) -> Result<E
     ensures watches { stops.new.watches ≡ stops.old.watches }
     ensures changes { stops.new.changes ≡ stops.old.changes }
 {
-    if stops.is_plain() {
-        return match until_once(session, address) {
-            Ok(end) => Ok(Ended::of(end)),
-            Err(fault) => Err(fault),
-        };
-    }
     match session.set_break(address) {
         Ok(()) => {
-            let end = go_to(session, stops, Some(address));
+            let end = lead_on(session, stops, Goal::Rest, Some(address));
             clear_break(session, address);
             Ok(end)
         }
-        Err(SessionFault::AlreadySet) => Ok(go_to(session, stops, Some(address))),
+        Err(SessionFault::AlreadySet) => Ok(lead_on(session, stops, Goal::Rest, Some(address))),
         Err(fault) => Err(fault),
     }
 }

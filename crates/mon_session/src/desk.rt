@@ -1,7 +1,7 @@
 //! What a session of `mon` has: the machine, its events, its stops, its places, and the text that
 //! is to be written.
 
-ghost use Rattle.std.specs.Prelude.{◌≡◌, ◌++◌, [], Err, IfErr, IfOk, Ok, OnErr, OnOk, drop, false, is_ok};
+ghost use Rattle.std.specs.Prelude.{◌≡◌, ◌++◌, [], Err, IfErr, IfOk, Ok, OnErr, OnOk, codes, drop, false, is_ok};
 ghost use Rattle.std.specs.Prelude.{take};
 ghost use Rattle.model.specs.Event.{event_of};
 ghost use Rattle.model.specs.State.{State};
@@ -9,6 +9,9 @@ ghost use Rattle.mon_session.specs.Course.{KeepsStops, ShowsOnly, course_of, hap
 ghost use Rattle.mon_session.specs.EventTexts.{count_text, entry_text, event_text, rejected_text};
 ghost use Rattle.mon_session.specs.EventTexts.{row_or_entry, shown_text};
 ghost use Rattle.mon_texts.specs.Instructions.{instruction_at, instruction_line};
+ghost use Rattle.mon_texts.specs.Instructions.{instruction_row};
+ghost use Rattle.mon_texts.specs.Stores.{stores_text};
+ghost use Rattle.mon_texts.specs.Screen.{output_since};
 
 use crate::Events;
 use crate::wording::INTERRUPT;
@@ -16,7 +19,10 @@ use formatting::{push_count, push_text};
 use model::EventFault;
 use mon_runs::{Event, Session, is_entry};
 use mon_stops::Stops;
-use mon_texts::{push_fault, push_next, push_place, push_row, push_state};
+use mon_texts::{
+    push_fault, push_next, push_open_row, push_output_since, push_place, push_row, push_state,
+    push_stores,
+};
 use source_map::Places;
 use std::alloc::{AllocError, Global};
 
@@ -103,6 +109,17 @@ impl Desk {
         push_next(&mut self.text, &self.session, &self.places)
     }
 
+    /// Appends what the program put out since the output had so many bytes.
+    ///
+    /// Errors: `AllocError` if an allocation fails.
+    pub fn show_output(&mut self, from: u32) -> Result<(), AllocError>
+        ensures shows { ShowsOnly self.old self.new }
+        ensures text { OnOk result (self.new.text.items ≡ self.old.text.items
+            ++ output_since from self.old.session.current.bus.out) }
+    {
+        push_output_since(&mut self.text, &self.session, from)
+    }
+
     /// Appends the instruction at an address, and returns how many bytes it has, 1 to 3.
     ///
     /// Errors: `AllocError` if an allocation fails.
@@ -128,6 +145,32 @@ impl Desk {
         let pc = self.session.regs().pc;
         let _ = self.show_row(pc)?;
         Ok(())
+    }
+
+    /// Appends the row of the instruction that comes next, and leaves it open.
+    ///
+    /// Errors: `AllocError` if an allocation fails.
+    pub fn begin_row(&mut self) -> Result<(), AllocError>
+        ensures shows { ShowsOnly self.old self.new }
+        ensures text { OnOk result (self.new.text.items ≡ self.old.text.items
+            ++ instruction_row self.old.session.current self.old.places
+            self.old.session.current.regs.pc) }
+    {
+        let pc = self.session.regs().pc;
+        let _ = push_open_row(&mut self.text, &self.session, &self.places, pc)?;
+        Ok(())
+    }
+
+    /// Ends a row by addresses, each with what a store has left there.
+    ///
+    /// Errors: `AllocError` if an allocation fails.
+    pub fn end_row(&mut self, stores: &[u16]) -> Result<(), AllocError>
+        ensures shows { ShowsOnly self.old self.new }
+        ensures text { OnOk result (self.new.text.items ≡ self.old.text.items
+            ++ (stores_text self.old.session.current.bus stores.now ++ codes "\n")) }
+    {
+        push_stores(&mut self.text, &self.session, stores)?;
+        self.say("\n")
     }
 
     /// Appends why an event was rejected.

@@ -1,10 +1,10 @@
 -- What lines that run do to a session of `mon`. Source: mos65.
 use Rattle.std.specs.Prelude.{ℕ, ◌≡◌, ◌==◌, zero, suc, nat_lt, Bool, true, false, if◌then◌else◌, List, [], ◌∷◌, Option, Some, None, Result, Ok, Err}
+use Rattle.model.specs.Run.{after_steps}
 use Rattle.model.specs.declared.run_end.Why.TheVariants as why
 use Rattle.model.specs.declared.session_fault.SessionFault.{SessionFault}
 use Rattle.mon_session.specs.Course.{Course, course_of}
 use Rattle.mon_session.specs.declared.desk.Desk.{Desk}
-use Rattle.mon_runs.specs.Runs.{HasMade}
 use Rattle.mon_runs.specs.Looked.{Arrival, Place}
 use Rattle.mon_runs.specs.PastBreaks.{count_run, go_run, out_run, over_run, until_run}
 use Rattle.mon_runs.specs.declared.ended.EndWhy.{EndWhy}
@@ -12,14 +12,13 @@ use Rattle.mon_runs.specs.declared.ended.EndWhy.TheVariants as end_why
 use Rattle.mon_stops.specs.declared.breaks.Break.{Break}
 use Rattle.mon_stops.specs.declared.watches.Watch.{Watch}
 use Rattle.mon_runs.specs.Goals.{opcode_at_pc}
-use Rattle.mon_runs.specs.declared.led.LedWhy.TheVariants as led_why
 use Rattle.mon_session.specs.Events.{with_steps}
 
 -- ---- runs
 
 -- A run was made, and its steps were noted.
 abbrev pub IsRun : ℕ → Course → Course → Type 0
-IsRun did before after = HasMade did before.0 after.0 × (after.1 ≡ with_steps did before.1)
+IsRun did before after = (after.0 ≡ after_steps did before.0) × (after.1 ≡ with_steps did before.1)
 
 -- Runs were made one after another.
 abbrev pub AreRuns : List ℕ → Course → Course → Type 0
@@ -78,14 +77,17 @@ returned watches stand = arrived (out_run watches (start_of stand)) stand
 
 -- Whether a run of one step made it and met nothing.
 abbrev pub is_limit : EndWhy → Bool
-is_limit (end_why.Led (led_why.Stopped why.Limit)) = true
-is_limit (end_why.Led (led_why.Stopped (why.Break address))) = false
-is_limit (end_why.Led (led_why.Stopped (why.Watch address))) = false
-is_limit (end_why.Led (led_why.Stopped (why.Refused fault))) = false
-is_limit (end_why.Led led_why.Met) = false
-is_limit (end_why.Led led_why.Many) = false
+is_limit end_why.Met = false
+is_limit (end_why.Stopped why.Limit) = true
+is_limit (end_why.Stopped (why.Break address)) = false
+is_limit (end_why.Stopped (why.Watch address)) = false
+is_limit (end_why.Stopped (why.Refused fault)) = false
+is_limit end_why.Many = false
 is_limit (end_why.Read address) = false
 is_limit (end_why.Written address) = false
+is_limit end_why.Stuck = false
+is_limit end_why.NoHandler = false
+is_limit end_why.Waits = false
 
 abbrev pub goes_on : List Watch → Stand → Bool
 goes_on watches stand = is_limit (count_run 1 watches (start_of stand)).0.why

@@ -1,13 +1,17 @@
-//! Why a led run has ended, and after how many steps.
+//! Why a run has ended, and after how many steps.
 
 ghost use Rattle.std.specs.Prelude.{◌≡◌, ◌++◌, OnOk};
 ghost use Rattle.model.specs.declared.run_end.Why.TheVariants.{Watch};
 ghost use Rattle.mon_steps.specs.Reasons.{after_text, break_text, end_line, steps_text, stop_text};
 ghost use Rattle.mon_steps.specs.Reasons.{why_text};
+ghost use Rattle.mon_texts.specs.Places.{place_text};
 
-use crate::wording::{AFTER, DONE, IS_NOW, NO_STOP, STEP, STEPS, WATCH};
+use crate::wording::{
+    AFTER, DONE, IS_NOW, NO_HANDLER, NO_STOP, RETURNED, STEP, STEPS, STUCK, WAITS, WATCH,
+    WATCHED_READ, WATCHED_WRITE,
+};
 use formatting::{push_byte, push_count, push_text};
-use mon_runs::{LedEnd, LedWhy, Session, Why};
+use mon_runs::{EndWhy, Ended, Session, Why};
 use mon_texts::wording::BREAK_AT;
 use mon_texts::{push_fault, push_place};
 use source_map::Places;
@@ -73,36 +77,52 @@ fn push_stop(
     }
 }
 
-/// Appends why a led run has ended.
+/// Appends words, and a place behind them.
+fn push_words_at(
+    text: &mut Vec<u8>,
+    places: &Places,
+    words: &str,
+    address: u16,
+) -> Result<(), AllocError>
+    ensures { OnOk result (text.new.items ≡ text.old.items
+        ++ (words.now ++ place_text places.now.names address)) }
+{
+    push_text(text, words)?;
+    push_place(text, places, address)
+}
+
+/// Appends why a run has ended.
 fn push_why(
     text: &mut Vec<u8>,
     session: &Session,
     places: &Places,
-    why: LedWhy,
-    met: &str,
+    why: EndWhy,
 ) -> Result<(), AllocError>
     ensures { OnOk result (text.new.items ≡ text.old.items
-        ++ why_text session.now.current.bus.memory places.now.names met.now why) }
+        ++ why_text session.now.current.bus.memory places.now.names why) }
 {
     match why {
-        LedWhy::Met => push_text(text, met),
-        LedWhy::Many => push_text(text, NO_STOP),
-        LedWhy::Stopped(why) => push_stop(text, session, places, why),
+        EndWhy::Met => push_text(text, RETURNED),
+        EndWhy::Stopped(why) => push_stop(text, session, places, why),
+        EndWhy::Many => push_text(text, NO_STOP),
+        EndWhy::Read(at) => push_words_at(text, places, WATCHED_READ, at),
+        EndWhy::Written(at) => push_words_at(text, places, WATCHED_WRITE, at),
+        EndWhy::Stuck => push_text(text, STUCK),
+        EndWhy::NoHandler => push_text(text, NO_HANDLER),
+        EndWhy::Waits => push_text(text, WAITS),
     }
 }
 
-/// Appends the line that says how a led run has ended. Where it met its goal, `met` says what that
-/// means.
+/// Appends the line that says how a run has ended.
 pub fn push_end(
     text: &mut Vec<u8>,
     session: &Session,
     places: &Places,
-    end: LedEnd,
-    met: &str,
+    end: Ended,
 ) -> Result<(), AllocError>
     ensures ok { OnOk result (text.new.items ≡ text.old.items
-        ++ end_line session.now.current places.now.names met.now end) }
+        ++ end_line session.now.current places.now.names end) }
 {
-    push_why(text, session, places, end.why, met)?;
+    push_why(text, session, places, end.why)?;
     push_after(text, end.did)
 }

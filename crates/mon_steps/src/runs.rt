@@ -7,8 +7,7 @@ ghost use Rattle.mon_steps.specs.RunTexts.{out_text, run_text, until_text};
 ghost use Rattle.mon_session.specs.Course.{course_of};
 ghost use Rattle.mon_runs.specs.PastBreaks.{count_run, go_run, out_run, over_run, until_run};
 
-use crate::endings::{show_end, show_end_at};
-use crate::wording::{RETURNED, STUCK};
+use crate::endings::{Begun, show_end, show_end_at};
 use mon_runs::{Ended, SessionFault, go, out, over, until};
 use mon_session::Desk;
 use mon_session::wording::BREAKS_FULL;
@@ -85,9 +84,9 @@ pub fn step_out(desk: &mut Desk) -> Result<(), AllocError>
     ensures text { OnOk result (desk.new.text.items ≡ desk.old.text.items
         ++ out_text (watches_of desk.old) desk.old.places.names (stand_of desk.old)) }
 {
-    let cycles = desk.session.cycles();
+    let begun = Begun::at(desk);
     let end = make_return(desk);
-    show_end(desk, end, RETURNED, cycles)
+    show_end(desk, end, begun)
 }
 
 /// Runs to a stop, or makes `count` steps, and says how that ended.
@@ -100,15 +99,15 @@ pub fn run(desk: &mut Desk, count: Option<u32>) -> Result<(), AllocError>
     ensures text { OnOk result (desk.new.text.items ≡ desk.old.text.items
         ++ run_text count (watches_of desk.old) desk.old.places.names (stand_of desk.old)) }
 {
-    let cycles = desk.session.cycles();
+    let begun = Begun::at(desk);
     match count {
         Some(count) => {
             let end = make_steps(desk, count);
-            show_end(desk, end, STUCK, cycles)
+            show_end(desk, end, begun)
         }
         None => {
             let end = make_run(desk);
-            show_end(desk, end, STUCK, cycles)
+            show_end(desk, end, begun)
         }
     }
 }
@@ -145,9 +144,9 @@ pub fn run_until(desk: &mut Desk, address: u16) -> Result<(), AllocError>
     ensures text { OnOk result (desk.new.text.items ≡ desk.old.text.items
         ++ until_text address (watches_of desk.old) desk.old.places.names (stand_of desk.old)) }
 {
-    let cycles = desk.session.cycles();
+    let begun = Begun::at(desk);
     match make_until(desk, address) {
-        Ok(end) => show_end_at(desk, end, address, cycles),
+        Ok(end) => show_end_at(desk, end, address, begun),
         Err(SessionFault::OutOfMemory) => Err(AllocError),
         Err(_) => desk.say(BREAKS_FULL),
     }

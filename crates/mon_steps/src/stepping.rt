@@ -6,15 +6,15 @@ ghost use Rattle.mon_steps.specs.RunLines.{HasRun, KeepsWatches, called, goes_on
 ghost use Rattle.mon_steps.specs.RunLines.{some_steps, stand_of, stepped, stepped_over, watches_of};
 ghost use Rattle.mon_steps.specs.RunTexts.{behind_row, call_row, call_text, called_row, few_steps_text, made_text};
 ghost use Rattle.mon_steps.specs.RunTexts.{one_step_text, over_text, some_steps_text, step_text};
-ghost use Rattle.mon_steps.specs.RunTexts.{fault_in, stepped_text};
+ghost use Rattle.mon_steps.specs.RunTexts.{fault_in, step_row, stepped_text};
 ghost use Rattle.mon_steps.specs.RunLines.{start_of};
-ghost use Rattle.mon_runs.specs.PastBreaks.{over_run};
+ghost use Rattle.mon_runs.specs.PastBreaks.{count_run, over_run};
 
-use crate::endings::{show_end, tell_end};
+use crate::endings::{Begun, show_end, show_since, tell_end};
 use crate::runs::{make_call, make_steps, run};
-use crate::wording::RETURNED;
+use accesses::stores_here;
 use model::EventFault;
-use mon_runs::{EndWhy, Ended, LedWhy, Why};
+use mon_runs::{EndWhy, Ended, Why};
 use mon_session::Desk;
 use std::alloc::AllocError;
 
@@ -24,20 +24,25 @@ const MOST_SHOWN: u32 = 20;
 /// The opcode of JSR.
 const JSR: u8 = 0x20;
 
+/// Returns whether a run of one step made it and met nothing.
+fn is_limit(why: EndWhy) -> bool
+    ensures { result ≡ is_limit why }
+{
+    matches!(why, EndWhy::Stopped(Why::Limit))
+}
+
 /// Says what a step met behind its row, if it met something. Returns whether the steps go on.
 fn tell_met(desk: &mut Desk, end: Ended) -> Result<bool, AllocError>
     ensures shows { ShowsOnly desk.old desk.new }
     ensures on { IfOk result (λ is_on. is_on ≡ is_limit end.why) }
     ensures text { OnOk result (desk.new.text.items ≡ desk.old.text.items
-        ++ behind_row desk.old.session.current desk.old.places.names end end.why) }
+        ++ behind_row desk.old.session.current desk.old.places.names end) }
 {
-    match end.why {
-        EndWhy::Led(LedWhy::Stopped(Why::Limit)) => Ok(true),
-        _ => {
-            tell_end(desk, end, "")?;
-            Ok(false)
-        }
+    if is_limit(end.why) {
+        return Ok(true);
     }
+    tell_end(desk, end)?;
+    Ok(false)
 }
 
 /// Says what a step did and met. Its row stands in the text from the byte `length` on. `stack` and
@@ -64,7 +69,7 @@ fn fault_in(why: EndWhy) -> Option<EventFault>
     ensures { result ≡ fault_in why }
 {
     match why {
-        EndWhy::Led(LedWhy::Stopped(Why::Refused(fault))) => Some(fault),
+        EndWhy::Stopped(Why::Refused(fault)) => Some(fault),
         _ => None,
     }
 }
@@ -95,6 +100,26 @@ fn tell_step(
     }
 }
 
+/// Makes one step, and shows its row.
+fn step_with_row(desk: &mut Desk) -> Result<Ended, AllocError>
+    ensures course { HasRun (course_of desk.old) (course_of desk.new) }
+    ensures stand { OnOk result
+        (stand_of desk.new ≡ ran 1 (watches_of desk.old) (stand_of desk.old)) }
+    ensures end { IfOk result (λ end. end
+        ≡ (count_run 1 (watches_of desk.old) (start_of (stand_of desk.old))).0) }
+    ensures session { OnOk result (desk.new.session
+        ≡ (count_run 1 (watches_of desk.old) (start_of (stand_of desk.old))).1.0) }
+    ensures watches { KeepsWatches desk.old desk.new }
+    ensures text { OnOk result (desk.new.text.items ≡ desk.old.text.items
+        ++ step_row desk.old.session.current desk.new.session.current desk.old.places) }
+{
+    let stores = stores_here(&desk.session);
+    desk.begin_row()?;
+    let end = make_steps(desk, 1);
+    desk.end_row(stores.as_slice())?;
+    Ok(end)
+}
+
 /// Makes one step and shows it. Returns whether the steps go on.
 fn show_step(desk: &mut Desk) -> Result<bool, AllocError>
     ensures course { HasRun (course_of desk.old) (course_of desk.new) }
@@ -109,8 +134,7 @@ fn show_step(desk: &mut Desk) -> Result<bool, AllocError>
     let before = desk.session.regs();
     let cycles = desk.session.cycles();
     let length = desk.text.len();
-    desk.show_next()?;
-    let end = make_steps(desk, 1);
+    let end = step_with_row(desk)?;
     tell_step(desk, end, length, before.s, cycles)
 }
 
@@ -140,9 +164,9 @@ fn few_steps(desk: &mut Desk, count: u32) -> Result<(), AllocError>
     ensures text { OnOk result (desk.new.text.items ≡ desk.old.text.items
         ++ few_steps_text count (watches_of desk.old) desk.old.places (stand_of desk.old)) }
 {
-    let cycles = desk.session.cycles();
+    let begun = Begun::at(desk);
     show_steps(desk, count)?;
-    desk.show(Some(cycles))
+    show_since(desk, begun)
 }
 
 /// Makes steps, and shows each if they are few. Says how they ended.
@@ -214,9 +238,9 @@ fn show_call(desk: &mut Desk) -> Result<(), AllocError>
     ensures text { OnOk result (desk.new.text.items ≡ desk.old.text.items
         ++ call_text (watches_of desk.old) desk.old.places (stand_of desk.old)) }
 {
-    let cycles = desk.session.cycles();
+    let begun = Begun::at(desk);
     let end = call_with_row(desk)?;
-    show_end(desk, end, RETURNED, cycles)
+    show_end(desk, end, begun)
 }
 
 /// Makes one step, or a JSR as one step, shows it, and says how it ended.

@@ -3,6 +3,10 @@
 // How a run has ended.
 pub const STUCK: &str = "nothing is left to do: the instruction jumps to itself";
 
+pub const NO_HANDLER: &str = "BRK comes next, and nothing stands at FFFE";
+
+pub const WAITS: &str = "the program waits for input: type \"TEXT\"";
+
 pub const RETURNED: &str = "the subroutine has returned";
 
 pub const WATCHED_READ: &str = "watch: a read of ";

@@ -104,7 +104,10 @@ with_line file None row = row
 with_line file (Some line) row
     = padded 34 row ++ codes "; " ++ file ++ codes ":" ++ decimal line
 
--- The line of the instruction at an address: address, bytes, text, and the line of the source.
+-- The row of the instruction at an address: address, bytes, text, and the line of the source.
+abbrev pub instruction_row : State → PlacesView → ℕ → List ℕ
+instruction_row state places address = with_line places.file (line_at places.lines address)
+    (instruction_columns state places.names address)
+
 abbrev pub instruction_line : State → PlacesView → ℕ → List ℕ
-instruction_line state places address = with_line places.file (line_at places.lines address)
-    (instruction_columns state places.names address) ++ codes "\n"
+instruction_line state places address = instruction_row state places address ++ codes "\n"

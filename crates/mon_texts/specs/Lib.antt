@@ -3,7 +3,9 @@ pub mod Places
 pub mod Registers
 pub mod Faults
 pub mod Instructions
+pub mod Stack
 pub mod Stops
+pub mod Stores
 pub mod Memory
 pub mod Slips
 pub mod Help

@@ -1,8 +1,8 @@
 -- The console's output as text. Source: mos65.
-use Rattle.std.specs.Prelude.{ℕ, ◌-◌, ◌==◌, not, false, if◌then◌else◌, Bool, List, [], ◌∷◌, ◌++◌, Option, None, Some, codes, length, slice_get}
+use Rattle.std.specs.Prelude.{ℕ, ◌-◌, ◌==◌, not, false, if◌then◌else◌, nat_lt, Bool, List, [], ◌∷◌, ◌++◌, Option, None, Some, codes, drop, length, slice_get}
 use Rattle.std.specs.List.{flat_map}
 use Rattle.mon_texts.specs.Memory.{character_text}
-use Rattle.mon_texts.specs.declared.wording.TheConstants.{NOTHING_WRITTEN}
+use Rattle.mon_texts.specs.declared.wording.TheConstants.{NOTHING_WRITTEN, OUTPUT}
 
 -- What a byte of the output shows: LF ends the line, CR is left out, and any other byte is a
 -- character.
@@ -29,3 +29,8 @@ with_line_end text = text ++ line_end text
 unfoldable pub screen_text : List ℕ → List ℕ
 screen_text [] = NOTHING_WRITTEN.now
 screen_text (byte ∷ output) = with_line_end (flat_map output_text (byte ∷ output))
+
+-- The console's output from a byte on, with its last line ended. Nothing is said where none is.
+abbrev pub output_since : ℕ → List ℕ → List ℕ
+output_since from output = if nat_lt from (length output)
+    then OUTPUT.now ++ with_line_end (flat_map output_text (drop from output)) else []

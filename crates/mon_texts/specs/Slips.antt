@@ -4,6 +4,7 @@ use Rattle.std.specs.List.{flat_map}
 use Rattle.std.specs.Str.{byte}
 use Rattle.model.specs.Token.{is_printable}
 use Rattle.mon_line_parts.specs.Reading.{SeenWhy, unknown, several, missing, unreadable, behind, no_name, range, many}
+use Rattle.mon_line_parts.specs.Topics.{TopicWord, begins_with, words}
 use Rattle.mon_line_parts.specs.declared.slip.Lack.{Lack}
 use Rattle.mon_line_parts.specs.declared.slip.Lack.TheVariants as lacking
 use Rattle.mon_texts.specs.declared.wording.TheConstants.{ADDEND, AND, AN_ADDRESS, AN_INSTRUCTION, A_NUMBER, A_REGISTER, A_VALUE, BINARY_DIGITS, COMPARISON, HEX_DIGITS, LAST_ADDRESS, LEFT_OVER, LEVEL, MISSING, NOT_BETWEEN, NO_NAME, NO_WORD, POINTS, QUOTED_TEXT, SEVERAL_WORDS, SUBTRAHEND, TIMES_NUMBER, TOO_MANY, UNREADABLE}
@@ -41,11 +42,18 @@ abbrev pub range_text : ℕ → ℕ → List ℕ
 range_text least most
     = NOT_BETWEEN.now ++ decimal least ++ AND.now ++ decimal most
 
+-- The words of some that begin with a piece, each behind a blank.
+abbrev pub candidate : List ℕ → List ℕ → List ℕ
+candidate piece word = if begins_with word piece then 32 ∷ word else []
+
+abbrev pub candidates : List ℕ → List TopicWord → List ℕ
+candidates piece rows = flat_map (λ row. candidate piece row.0) rows
+
 -- Why a line cannot be read.
 unfoldable pub slip_text : SeenWhy → List ℕ
 slip_text (unknown word) = quoted_and word NO_WORD.now
 slip_text (several word)
-    = quoted_and word SEVERAL_WORDS.now
+    = quoted_and word SEVERAL_WORDS.now ++ candidates word words
 slip_text (missing lack) = MISSING.now ++ lack_text lack
 slip_text (unreadable piece) = quoted_and piece UNREADABLE.now
 slip_text (behind piece) = quoted_and piece LEFT_OVER.now

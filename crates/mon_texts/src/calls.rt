@@ -12,7 +12,7 @@ use source_map::Places;
 use std::alloc::AllocError;
 
 /// Returns the address of the JSR that pushes the byte at an address and the one behind it.
-fn jsr_at(session: &Session, address: u16) -> u16
+pub fn jsr_at(session: &Session, address: u16) -> u16
     requires { address < 65535 }
     ensures { result ≡ jsr_of (slice_index session.now.current.bus.memory address)
         (slice_index session.now.current.bus.memory (address + 1)) }

@@ -8,6 +8,7 @@ ghost use Rattle.source_map.specs.Lines.{line_at};
 ghost use Rattle.mon_texts.specs.Instructions.{behind_dollar, byte_column, bytes_at, digits_of};
 ghost use Rattle.mon_texts.specs.Instructions.{ends_in_hash, front_of, instruction_at};
 ghost use Rattle.mon_texts.specs.Instructions.{instruction_columns, instruction_line};
+ghost use Rattle.mon_texts.specs.Instructions.{instruction_row};
 ghost use Rattle.mon_texts.specs.Instructions.{instruction_text, is_before_address};
 ghost use Rattle.mon_texts.specs.Instructions.{is_hex_digit, is_no_dollar, name_in};
 ghost use Rattle.mon_texts.specs.Instructions.{name_of_number, named_text, next_line, rest_of};
@@ -239,11 +240,30 @@ fn push_line(
     Ok(())
 }
 
-/// Appends the line of an instruction: address, bytes, text, and the line of the source if there is
-/// one. Returns how many bytes it has.
+/// Appends the row of an instruction: address, bytes, text, and the line of the source if there is
+/// one. The row is not ended. Returns how many bytes the instruction has.
 ///
 /// Errors: `AllocError` if an allocation fails.
 #[tactic(auto, using(formatting::proofs::Padding::grown))]
+pub fn push_open_row(
+    text: &mut Vec<u8>,
+    session: &Session,
+    places: &Places,
+    address: u16,
+) -> Result<u8, AllocError>
+    ensures ok { OnOk result (text.new.items ≡ text.old.items
+        ++ instruction_row session.now.current places.now address) }
+    ensures len { IfOk result (λ len. len ≡ (instruction_at session.now.current address).len) }
+{
+    let from = text.len();
+    let len = push_columns(text, session, places, address)?;
+    push_line(text, from, places, address)?;
+    Ok(len)
+}
+
+/// Appends the line of an instruction: its row, ended. Returns how many bytes it has.
+///
+/// Errors: `AllocError` if an allocation fails.
 pub fn push_row(
     text: &mut Vec<u8>,
     session: &Session,
@@ -254,9 +274,7 @@ pub fn push_row(
         ++ instruction_line session.now.current places.now address) }
     ensures len { IfOk result (λ len. len ≡ (instruction_at session.now.current address).len) }
 {
-    let from = text.len();
-    let len = push_columns(text, session, places, address)?;
-    push_line(text, from, places, address)?;
+    let len = push_open_row(text, session, places, address)?;
     push_text(text, "\n")?;
     Ok(len)
 }

@@ -204,7 +204,7 @@ fn push_stack_at(text: &mut Vec<u8>, session: &Session, stack: u8) -> Result<(),
 /// Appends the bytes on the stack, the top one first.
 ///
 /// Errors: `AllocError` if an allocation fails.
-pub fn push_stack(text: &mut Vec<u8>, session: &Session) -> Result<(), AllocError>
+pub fn push_stack_line(text: &mut Vec<u8>, session: &Session) -> Result<(), AllocError>
     ensures ok { OnOk result (text.new.items ≡ text.old.items
         ++ stack_line session.now.current.bus.memory session.now.current.regs.s) }
 {

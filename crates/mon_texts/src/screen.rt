@@ -2,10 +2,11 @@
 
 ghost use Rattle.std.specs.Prelude.{◌≡◌, ◌≤◌, ◌++◌, OnOk, drop, length};
 ghost use Rattle.std.specs.List.{flat_map};
-ghost use Rattle.mon_texts.specs.Screen.{is_open, line_end, output_text, screen_text};
+ghost use Rattle.mon_texts.specs.Screen.{is_open, line_end, output_since, output_text};
+ghost use Rattle.mon_texts.specs.Screen.{screen_text, with_line_end};
 
 use crate::places::push_character;
-use crate::wording::NOTHING_WRITTEN;
+use crate::wording::{NOTHING_WRITTEN, OUTPUT};
 use debugger::Session;
 use formatting::push_text;
 use std::alloc::AllocError;
@@ -21,12 +22,13 @@ fn push_shown(text: &mut Vec<u8>, byte: u8) -> Result<(), AllocError>
     }
 }
 
-/// Appends what the bytes of the output show.
-fn push_output(text: &mut Vec<u8>, session: &Session) -> Result<(), AllocError>
+/// Appends what the bytes of the output from an index on show.
+fn push_output(text: &mut Vec<u8>, session: &Session, from: u32) -> Result<(), AllocError>
+    requires { from ≤ length session.now.current.bus.out }
     ensures { OnOk result (text.new.items ≡ text.old.items
-        ++ flat_map output_text session.now.current.bus.out) }
+        ++ flat_map output_text (drop from session.now.current.bus.out)) }
 {
-    for index in 0..session.output_len() {
+    for index in from..session.output_len() {
         push_shown(text, session.output_at(index).unwrap_or(0))?;
     }
     Ok(())
@@ -54,6 +56,17 @@ fn push_line_end(text: &mut Vec<u8>, from: usize) -> Result<(), AllocError>
     Ok(())
 }
 
+/// Appends what the bytes of the output from an index on show, the last line ended.
+fn push_lines(text: &mut Vec<u8>, session: &Session, from: u32) -> Result<(), AllocError>
+    requires { from ≤ length session.now.current.bus.out }
+    ensures { OnOk result (text.new.items ≡ text.old.items
+        ++ with_line_end (flat_map output_text (drop from session.now.current.bus.out))) }
+{
+    let start = text.len();
+    push_output(text, session, from)?;
+    push_line_end(text, start)
+}
+
 /// Appends the console's output as text, its last line ended, or that there is none yet.
 ///
 /// Errors: `AllocError` if an allocation fails.
@@ -65,7 +78,21 @@ pub fn push_screen(text: &mut Vec<u8>, session: &Session) -> Result<(), AllocErr
     if session.output_len() == 0 {
         return push_text(text, NOTHING_WRITTEN);
     }
-    let from = text.len();
-    push_output(text, session)?;
-    push_line_end(text, from)
+    push_lines(text, session, 0)
+}
+
+/// Appends the console's output from an index on as text, its last line ended, behind a word that
+/// says so. Appends nothing if there is no more output.
+///
+/// Errors: `AllocError` if an allocation fails.
+pub fn push_output_since(text: &mut Vec<u8>, session: &Session, from: u32) -> Result<(), AllocError>
+    ensures ok { OnOk result (text.new.items ≡ text.old.items
+        ++ output_since from session.now.current.bus.out) }
+{
+    if from < session.output_len() {
+        push_text(text, OUTPUT)?;
+        push_lines(text, session, from)
+    } else {
+        Ok(())
+    }
 }

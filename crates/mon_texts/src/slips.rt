@@ -1,9 +1,11 @@
 //! What is missing or wrong in a line.
 
-ghost use Rattle.std.specs.Prelude.{◌≡◌, ◌++◌, OnOk, codes};
+ghost use Rattle.std.specs.Prelude.{◌≡◌, ◌++◌, OnOk, codes, map};
 ghost use Rattle.std.specs.List.{flat_map};
 ghost use Rattle.mon_line_parts.specs.Reading.{why_view};
 ghost use Rattle.mon_texts.specs.Help.{example_text};
+ghost use Rattle.mon_line_parts.specs.Topics.{row_view, words};
+ghost use Rattle.mon_texts.specs.Slips.{candidate, candidates};
 ghost use Rattle.mon_texts.specs.Slips.{lack_text, quoted, quoted_and, quoted_byte, range_text};
 ghost use Rattle.mon_texts.specs.Slips.{slip_text};
 
@@ -14,7 +16,7 @@ use crate::wording::{
     POINTS, QUOTED_TEXT, SEVERAL_WORDS, SUBTRAHEND, TIMES_NUMBER, TOO_MANY, UNREADABLE,
 };
 use formatting::{push_count, push_text};
-use mon_line_parts::{Lack, Why};
+use mon_line_parts::{Lack, Topic, Why, all_words, begins_with};
 use mon_lines::Slip;
 use std::alloc::AllocError;
 
@@ -56,6 +58,41 @@ fn push_quoted_and(text: &mut Vec<u8>, piece: &[u8], words: &str) -> Result<(), 
 {
     push_quoted(text, piece)?;
     push_text(text, words)
+}
+
+/// Appends a word behind a blank, if it begins with a piece.
+fn push_candidate(text: &mut Vec<u8>, piece: &[u8], word: &[u8]) -> Result<(), AllocError>
+    ensures { OnOk result (text.new.items ≡ text.old.items ++ candidate piece.now word.now) }
+{
+    if begins_with(word, piece) {
+        text.push(b' ')?;
+        text.extend_from_slice(word)?;
+    }
+    Ok(())
+}
+
+/// Appends those of some words that begin with a piece.
+fn push_candidates(
+    text: &mut Vec<u8>,
+    piece: &[u8],
+    rows: &[(&[u8], Topic)],
+) -> Result<(), AllocError>
+    ensures { OnOk result (text.new.items ≡ text.old.items
+        ++ candidates piece.now (map row_view rows.now)) }
+{
+    for (word, _) in rows {
+        push_candidate(text, piece, word)?;
+    }
+    Ok(())
+}
+
+/// Appends that a piece begins several words, and which.
+fn push_several(text: &mut Vec<u8>, piece: &[u8]) -> Result<(), AllocError>
+    ensures { OnOk result (text.new.items ≡ text.old.items
+        ++ (quoted_and piece.now SEVERAL_WORDS.now ++ candidates piece.now words)) }
+{
+    push_quoted_and(text, piece, SEVERAL_WORDS)?;
+    push_candidates(text, piece, all_words())
 }
 
 /// The words for what is missing in a line.
@@ -106,7 +143,7 @@ fn push_why(text: &mut Vec<u8>, why: Why<'_>) -> Result<(), AllocError>
 {
     match why {
         Why::Unknown(word) => push_quoted_and(text, word, NO_WORD),
-        Why::Several(word) => push_quoted_and(text, word, SEVERAL_WORDS),
+        Why::Several(word) => push_several(text, word),
         Why::Missing(what) => push_missing(text, what),
         Why::Unreadable(piece) => push_quoted_and(text, piece, UNREADABLE),
         Why::Behind(piece) => push_quoted_and(text, piece, LEFT_OVER),

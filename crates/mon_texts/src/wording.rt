@@ -45,7 +45,7 @@ pub const AN_INSTRUCTION: &str = "an instruction";
 // What is wrong in a line.
 pub const NO_WORD: &str = " is no word of mon; help lists them";
 
-pub const SEVERAL_WORDS: &str = " begins more than one word; help lists them";
+pub const SEVERAL_WORDS: &str = " begins more than one word:";
 
 pub const UNREADABLE: &str = " cannot be read here";
 
@@ -86,6 +86,12 @@ pub const MEMORY_PART: &str = "256 bytes at a time; mem ";
 pub const GOES_ON: &str = " goes on\n";
 
 pub const STACK_EMPTY: &str = "the stack is empty: S is FF\n";
+
+pub const RETURN_TO: &str = "return to ";
+
+pub const OF: &str = " of ";
+
+pub const OUTPUT: &str = "output: ";
 
 pub const NOTHING_WRITTEN: &str = "nothing was written to the console yet\n";
 

@@ -5,7 +5,6 @@ use Rattle.mon_runs.proofs.Found.{recalled-none, recalled-stop, recalled-on, len
 use Rattle.mon_runs.proofs.recall.back_to_stop.Goals as goal
 
 pub returns-then-is_stopped : goal.returns-then-is_stopped
-unfolding last_stop
 returns-then-is_stopped c =
     let watched = c.args.watched.now in
     let undone = c.loop-undone.undone in

@@ -2,4 +2,4 @@ use Rattle.mon_steps.proofs.Chains.{run_one}
 use Rattle.mon_steps.proofs.runs.make_call.Goals as goal
 
 pub returns-clause-course : goal.returns-clause-course
-returns-clause-course c = run_one c.over-end.result.did _ _ ((λ _. c.over-end.ensures.steps), c.note_steps.ensures)
+returns-clause-course c = run_one c.over-end.result.did _ _ (c.over-end.ensures.steps, c.note_steps.ensures)

@@ -2,7 +2,7 @@ use Rattle.std.proofs.Common.{◌≡◌, ◌+◌, ◌-◌}
 use Rattle.model.specs.Run.{after_steps}
 use Rattle.mon_runs.specs.Looked.{later}
 use Rattle.mon_runs.specs.PastBreaks.{run_past}
-use Rattle.mon_runs.proofs.pieces.run_on.Given as goal
+use Rattle.mon_runs.proofs.stretches.run_on.Given as goal
 
 abbrev pub invariant-loop : goal.invariant-loop
 invariant-loop l = record {

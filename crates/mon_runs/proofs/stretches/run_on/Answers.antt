@@ -4,7 +4,7 @@ use Rattle.model.specs.Step.{step}
 use Rattle.law_sessions.proofs.Runs.{after_steps-zero}
 use Rattle.mon_runs.proofs.Counts.{steps_more}
 use Rattle.mon_runs.proofs.Past.{stretch-begin, stretch-ends, stretch-goes, stretch-over}
-use Rattle.mon_runs.proofs.pieces.run_on.Goals as goal
+use Rattle.mon_runs.proofs.stretches.run_on.Goals as goal
 
 pub loop-init : goal.loop-init
 loop-init c = record {
