@@ -1,16 +1,12 @@
 -- What is asked for by what was found among the words.
 use Rattle.std.proofs.Common.{◌≡◌, ◌∙◌, List, ap, ap₂}
-use Rattle.std.proofs.Math.Path.{fun_ext}
 use Rattle.arguments.specs.Words.{value_in}
-use Rattle.clap.proofs.WalkLemmas.{raw_values-rows}
-use Rattle.clap.specs.Words.{App, Text, all_of, first_value, found_of, matches_of, rows_of}
+use Rattle.clap.specs.Words.{App, Text, first_value, found_of, matches_of, rows_of}
 use Rattle.clap.specs.declared.parser.matches.ArgMatches.{ArgMatches}
-use Rattle.dis_source.specs.Asked.{all_values, source_asked}
-use Rattle.dis_source.specs.CommandLine.{dis, values_in, words_asked}
-
--- All values that are found of a name are those of the definition.
-all_found : (app : App) (words : List Text) (m : ArgMatches) → rows_of (found_of m) ≡ matches_of app words → all_values (found_of m) ≡ values_in app words
-all_found app words m rows = fun_ext (λ name. raw_values-rows (found_of m) name ∙ ap (all_of name) rows)
+use Rattle.arguments_lists.specs.Lists.{all_values, values_in}
+use Rattle.arguments_lists.proofs.AllFound.{all_found}
+use Rattle.dis_source.specs.Asked.{source_asked}
+use Rattle.dis_source.specs.CommandLine.{dis, words_asked}
 
 pub asked_found : (app : App) (words : List Text) (m : ArgMatches) → app ≡ dis → first_value (found_of m) ≡ value_in app words → rows_of (found_of m) ≡ matches_of app words
     → source_asked (first_value (found_of m)) (all_values (found_of m)) ≡ words_asked words

@@ -4,8 +4,6 @@ use Rattle.std.specs.Prelude.{ℕ, Bool, List, [], ◌∷◌, Option, Some, None
 use Rattle.arguments.specs.Asked.{is_flag}
 use Rattle.arguments.specs.Values.{profile_asked}
 use Rattle.clap.specs.Words.{Text}
-use Rattle.clap.specs.declared.parser.matches.Found.{Found}
-use Rattle.clap.specs.Matches.{matched_of, raw_values}
 use Rattle.model.specs.Commands.{address_of}
 use Rattle.model.specs.declared.instruction.Profile.{Profile}
 
@@ -85,7 +83,3 @@ source_asked value values = source_of_values (value (codes "TAPE"))
     (follow_asked (values (codes "follow")))
     (is_flag (value (codes "labels"))) (value (codes "symbols"))
     (profile_asked (value (codes "profile")))
-
--- All values of a name, where clap finds the name.
-abbrev pub all_values : Found → Text → Option (List Text)
-all_values found name = option_map raw_values (matched_of found name)

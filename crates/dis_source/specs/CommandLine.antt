@@ -1,30 +1,17 @@
 -- The command line of `dis TAPE [LO HI] --source [--labels] [--data LO-HI ..] [--text LO-HI ..]
 -- [--follow ADDRESS ..] [--symbols FILE] [--profile N|C]`, as clap's definitions describe one. How
 -- words are matched with it is clap's to say. Source: mos65.
-use Rattle.std.specs.Prelude.{◌≡◌, ℕ, List, Option, Some, codes}
+use Rattle.std.specs.Prelude.{◌≡◌, List, Option, Some, codes}
 use Rattle.arguments.specs.CommandLine.{file_rule, flag_rule, option_rule, unnamed}
 use Rattle.arguments.specs.Words.{Fits, value_in}
-use Rattle.clap.specs.Lexer.{usize_max}
-use Rattle.clap.specs.Words.{App, Rule, Text, all_of, matches_of, new_rule, with_rule}
-use Rattle.clap.specs.declared.builder.action.ArgAction.TheVariants.{Append, Set}
-use Rattle.clap.specs.declared.builder.range.ValueRange.{ValueRange}
+use Rattle.arguments_lists.specs.Lists.{list_rule, values_in}
+use Rattle.clap.specs.Words.{App, Rule, Text, new_rule, with_rule}
+use Rattle.clap.specs.declared.builder.action.ArgAction.TheVariants.{Set}
 use Rattle.dis_source.specs.Asked.{SourceAsked, source_asked}
 
 -- a word that may be left out
 abbrev pub bound_rule : Text → Rule
 bound_rule name = record (new_rule name) { action = Some Set }
-
-abbrev pub at_least : ℕ → ValueRange
-at_least least = record { start_inclusive = least; end_inclusive = usize_max }
-
--- an option with several values, which can be said more than once
-abbrev pub list_rule : ℕ → Text → Rule
-list_rule least name = record (new_rule name) {
-  long = Some name;
-  action = Some Append;
-  range = Some (at_least least);
-  value_names = 1;
-}
 
 abbrev pub dis : App
 dis = with_rule (with_rule (with_rule (with_rule (with_rule (with_rule (with_rule (with_rule
@@ -32,10 +19,6 @@ dis = with_rule (with_rule (with_rule (with_rule (with_rule (with_rule (with_rul
     (bound_rule (codes "LO"))) (bound_rule (codes "HI"))) (flag_rule (codes "source")))
     (flag_rule (codes "labels"))) (list_rule 1 (codes "data"))) (list_rule 1 (codes "text")))
     (list_rule 0 (codes "follow"))) (option_rule (codes "symbols"))) (option_rule (codes "profile"))
-
--- All values of a name among the words.
-abbrev pub values_in : App → List Text → Text → Option (List Text)
-values_in app words name = all_of name (matches_of app words)
 
 -- What words ask for, where the values that clap finds are right.
 abbrev pub words_asked : List Text → Option SourceAsked

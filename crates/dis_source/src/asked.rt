@@ -2,7 +2,8 @@
 ghost use Rattle.std.specs.Prelude.{◌≡◌, IfErr, IfOk, None, Some, map, option_map};
 ghost use Rattle.arguments.specs.Words.{Fits, IsRefusalOf, texts};
 ghost use Rattle.clap.specs.Words.{first_value, found_of};
-ghost use Rattle.dis_source.specs.Asked.{addresses_of, all_of, all_values, bounds_asked};
+ghost use Rattle.arguments_lists.specs.Lists.{all_values};
+ghost use Rattle.dis_source.specs.Asked.{addresses_of, all_of, bounds_asked};
 ghost use Rattle.dis_source.specs.Asked.{follow_asked, range_of, ranges_asked};
 ghost use Rattle.dis_source.specs.Asked.{source_asked};
 ghost use Rattle.dis_source.specs.CommandLine.{dis, words_asked};

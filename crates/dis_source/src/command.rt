@@ -3,9 +3,10 @@
 ghost use Rattle.std.specs.Prelude.{◌≡◌, IfErr, IfOk, false};
 ghost use Rattle.clap.specs.Words.{app_of, kind_of, rule_of};
 ghost use Rattle.clap.specs.declared.builder.command.Command.TheViews.{out-Command};
-ghost use Rattle.dis_source.specs.CommandLine.{bound_rule, dis, list_rule};
+ghost use Rattle.dis_source.specs.CommandLine.{bound_rule, dis};
 
 use arguments::{begin, file, flag, option, profile};
+use arguments_lists::list;
 use clap::error::ErrorKind;
 use clap::{Arg, ArgAction, Command, Error};
 use std::alloc::Global;
@@ -18,19 +19,6 @@ fn bound<'a>(alloc: Global, name: &'a str, help: &'a str) -> Arg<'a>
     Arg::new(alloc, name)
         .required(false)
         .action(ArgAction::Set)
-        .help(help)
-}
-
-/// Returns an option with several values, which can be said more than once.
-fn list<'a>(alloc: Global, name: &'a str, value: &'a str, least: usize, help: &'a str) -> Arg<'a>
-    ensures rule { rule_of result ≡ list_rule least name.entry.now }
-    ensures local { result.global ≡ false }
-{
-    Arg::new(alloc, name)
-        .long(name)
-        .value_name(value)
-        .action(ArgAction::Append)
-        .num_args(least..)
         .help(help)
 }
 

@@ -1,11 +1,9 @@
 -- What the words of `test` ask for, by the values that clap's definition of a parse finds among
 -- them. Source: mos65.
-use Rattle.std.specs.Prelude.{Bool, false, if◌then◌else◌, List, [], ◌∷◌, Option, Some, None, codes, option_map}
+use Rattle.std.specs.Prelude.{Bool, false, if◌then◌else◌, List, [], ◌∷◌, Option, Some, None, codes}
 use Rattle.std.specs.List.{list_any}
 use Rattle.std.specs.Str.{bytes_eq}
-use Rattle.clap.specs.Matches.{matched_of, raw_values}
 use Rattle.clap.specs.Words.{Text}
-use Rattle.clap.specs.declared.parser.matches.Found.{Found}
 
 -- The files of rows, one at least, and the file that a report goes to, which has another name.
 pub record TestAsked : Type 0 where
@@ -32,7 +30,3 @@ test_by junit (Some files) = test_of junit files
 -- What the first values and all values of the names ask for.
 abbrev pub test_asked : (Text → Option Text) → (Text → Option (List Text)) → Option TestAsked
 test_asked value values = test_by (value (codes "junit")) (values (codes "FILE"))
-
--- All values of a name, where clap finds the name.
-abbrev pub all_values : Found → Text → Option (List Text)
-all_values found name = option_map raw_values (matched_of found name)

@@ -1,17 +1,19 @@
 //! The words of `test`.
 
-ghost use Rattle.std.specs.Prelude.{◌≡◌, IfErr, IfOk, None, Some, codes, false, map, option_map};
+ghost use Rattle.std.specs.Prelude.{◌≡◌, IfErr, IfOk, None, Some, false, map, option_map};
 ghost use Rattle.std.specs.List.{list_any};
 ghost use Rattle.arguments.specs.Words.{Fits, IsRefusalOf, texts};
-ghost use Rattle.clap.specs.Words.{app_of, first_value, found_of, kind_of, rule_of};
+ghost use Rattle.arguments_lists.specs.Lists.{all_values};
+ghost use Rattle.clap.specs.Words.{app_of, first_value, found_of, kind_of};
 ghost use Rattle.clap.specs.declared.builder.command.Command.TheViews.{out-Command};
-ghost use Rattle.t65.specs.Asked.{all_values, has_name, replaces, test_asked, test_of};
-ghost use Rattle.t65.specs.CommandLine.{files_rule, test, words_asked};
+ghost use Rattle.t65.specs.Asked.{has_name, replaces, test_asked, test_of};
+ghost use Rattle.t65.specs.CommandLine.{test, words_asked};
 ghost use Rattle.t65.specs.Views.{test_view};
 
 use arguments::{WordsFault, begin, matched, option};
+use arguments_lists::files;
 use clap::error::ErrorKind;
-use clap::{Arg, ArgAction, ArgMatches, Command, Error};
+use clap::{ArgMatches, Command, Error};
 use std::alloc::{AllocError, Global};
 
 /// What the words of `test` ask for.
@@ -31,18 +33,6 @@ const STATUSES: &str = "Exit status: 0 all rows pass, 1 a row fails, or rows or 
 Example:
   mos65 test crc8.t65";
 
-/// Returns the words that name files of rows, one at least.
-fn files<'a>(alloc: Global) -> Arg<'a>
-    ensures rule { rule_of result ≡ files_rule (codes "FILE") }
-    ensures local { result.global ≡ false }
-{
-    Arg::new(alloc, "FILE")
-        .required(true)
-        .action(ArgAction::Append)
-        .num_args(1..)
-        .help("Files of rows, each of which names its source")
-}
-
 /// Returns the command line of `test`. The only error is that an allocation failed.
 pub fn test_command<'a>(alloc: Global) -> Result<Command<'a>, Error>
     ensures shape { IfOk result (λ c. app_of c ≡ test) }
@@ -52,7 +42,11 @@ pub fn test_command<'a>(alloc: Global) -> Result<Command<'a>, Error>
     let about = "Tests routines by rows: what is given to a call, and what it has to leave";
     let junit = "The file to write a report for JUnit to [default: none]";
     let command = begin(alloc, "test", "mos65 test", about, STATUSES)?
-        .arg(files(alloc))?
+        .arg(files(
+            alloc,
+            "FILE",
+            "Files of rows, each of which names its source",
+        ))?
         .arg(option(alloc, "junit", "FILE", junit))?;
     Ok(command)
 }
