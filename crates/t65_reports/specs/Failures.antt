@@ -19,6 +19,7 @@ use Rattle.t65_reader.specs.declared.row.Range.{Range}
 use Rattle.t65_runner.specs.Passes.{Pair, came, given_one, if_came, is_return, most_steps, number_of}
 use Rattle.t65_runner.specs.Start.{fresh}
 use Rattle.t65_reports.specs.Steps.{last_steps_text}
+use Rattle.t65_reports.specs.declared.wording.TheConstants.{CALLED_WITH, CAME, CANNOT_BE_GIVEN, EXPECTED, FOR, NOTHING_CAME, NO_RETURN, RETURNED_WITH, STOPPED, THEN_AT}
 use Rattle.t65_reports.specs.Texts.{named_address, named_byte, named_count, number_text, place_text, relation_sign, value_text}
 
 -- ---- the ranges
@@ -30,13 +31,13 @@ second_value_text (Some range) value = codes " " ++ value_text range value
 -- The values of a row's ranges, if it has any.
 abbrev pub values_text : Option Range → Option Range → Pair → List ℕ
 values_text None second pair = []
-values_text (Some first) second pair = codes "for " ++ value_text first pair.0
+values_text (Some first) second pair = FOR.now ++ value_text first pair.0
     ++ second_value_text second pair.1 ++ codes "\n"
 
 -- ---- what cannot be given
 
 abbrev pub untaken_text : Pair → Item → List ℕ
-untaken_text pair item = place_text item.place ++ codes " cannot be given "
+untaken_text pair item = place_text item.place ++ CANNOT_BE_GIVEN.now
     ++ number_text item.place (number_of pair item.value) ++ codes "\n"
 
 -- ---- how the call has ended
@@ -46,12 +47,12 @@ abbrev pub is_back : ℕ → Why → Regs → Bool
 is_back stack why regs = is_return why && (regs.s == stack)
 
 abbrev pub other_stack_text : ℕ → Regs → List ℕ
-other_stack_text stack regs = named_byte (codes "returned with S=") regs.s
-    ++ named_byte (codes ", called with S=") stack ++ codes "\n"
+other_stack_text stack regs = named_byte RETURNED_WITH.now regs.s
+    ++ named_byte CALLED_WITH.now stack ++ codes "\n"
 
 abbrev pub no_return_text : ℕ → Regs → List ℕ
-no_return_text did regs = named_count (codes "no return in ") did
-    ++ named_address (codes " steps; then at ") regs.pc ++ codes "\n"
+no_return_text did regs = named_count NO_RETURN.now did
+    ++ named_address THEN_AT.now regs.pc ++ codes "\n"
 
 abbrev pub fault_text : EventFault → List ℕ
 fault_text fault = codes ": " ++ event_fault_name fault ++ codes " "
@@ -59,7 +60,7 @@ fault_text fault = codes ": " ++ event_fault_name fault ++ codes " "
 
 -- Where a step was rejected, and why.
 abbrev pub refused_text : EventFault → Regs → List ℕ
-refused_text fault regs = named_address (codes "stopped at ") regs.pc ++ fault_text fault
+refused_text fault regs = named_address STOPPED.now regs.pc ++ fault_text fault
 
 -- How a call has ended, if it is not back: that it has returned with another stack pointer, that a
 -- step was rejected, or that it has not returned.
@@ -73,12 +74,12 @@ ending_by stack did regs why = no_return_text did regs
 -- ---- what was expected, and what came
 
 abbrev pub came_text : Place → Option ℕ → List ℕ
-came_text place None = codes ", nothing came"
-came_text place (Some number) = codes ", came " ++ number_text place number
+came_text place None = NOTHING_CAME.now
+came_text place (Some number) = CAME.now ++ number_text place number
 
 -- What was expected of an item, and what came.
 abbrev pub expected_text : Item → ℕ → Option ℕ → List ℕ
-expected_text item wanted found = codes "expected " ++ place_text item.place
+expected_text item wanted found = EXPECTED.now ++ place_text item.place
     ++ relation_sign item.relation ∷ number_text item.place wanted
     ++ came_text item.place found ++ codes "\n"
 

@@ -4,6 +4,7 @@ use Rattle.std.specs.Char.{is_ascii_whitespace}
 use Rattle.std.specs.Option.{is_some}
 use Rattle.std.specs.Str.Lines.{lines}
 use Rattle.std.specs.List.{flat_map, prefix_len, suffix_len}
+use Rattle.t65_reports.specs.declared.wording.TheConstants.{CASE, CASE_END, CASE_FAILS, CASE_PASSES, FAILS, FAILURES, LINE, PASSES, SUITE, TAG_END, TESTS}
 use Rattle.t65_reports.specs.Texts.{visible}
 
 -- ---- the text of a row
@@ -34,8 +35,8 @@ abbrev pub tap_text : List ℕ → List ℕ
 tap_text text = flat_map tap_byte (row_of text)
 
 abbrev pub verdict : Bool → List ℕ
-verdict true = codes "not ok "
-verdict false = codes "ok "
+verdict true = FAILS.now
+verdict false = PASSES.now
 
 -- The row of TAP for a row of a file, by its number among all rows: whether it fails, the file, the
 -- line, and its text.
@@ -72,23 +73,23 @@ abbrev pub first_line : List ℕ → List ℕ
 first_line text = take (prefix_len (λ b. not (b == 10)) text) text
 
 abbrev pub counts_text : ℕ → ℕ → List ℕ
-counts_text rows failed = codes "\" tests=\"" ++ decimal rows ++ codes "\" failures=\""
-    ++ decimal failed ++ codes "\">\n"
+counts_text rows failed = TESTS.now ++ decimal rows ++ FAILURES.now ++ decimal failed
+    ++ TAG_END.now ++ codes "\n"
 
 -- The head of a file of so many rows, of which so many fail.
 unfoldable pub suite_head : List ℕ → ℕ → ℕ → List ℕ
-suite_head file rows failed = codes "  <testsuite name=\"" ++ xml file ++ counts_text rows failed
+suite_head file rows failed = SUITE.now ++ xml file ++ counts_text rows failed
 
 abbrev pub case_end : Option (List ℕ) → List ℕ
-case_end None = codes "\"/>\n"
-case_end (Some why) = codes "\">\n      <failure message=\"" ++ xml (first_line why) ++ codes "\">"
-    ++ xml why ++ codes "</failure>\n    </testcase>\n"
+case_end None = CASE_PASSES.now
+case_end (Some why) = CASE_FAILS.now ++ xml (first_line why) ++ TAG_END.now ++ xml why
+    ++ CASE_END.now
 
 abbrev pub line_text : ℕ → List ℕ
-line_text line = codes "\" name=\"line " ++ decimal line ++ codes ": "
+line_text line = LINE.now ++ decimal line ++ codes ": "
 
 unfoldable pub case_front : List ℕ → ℕ → List ℕ → List ℕ
-case_front file line text = codes "    <testcase classname=\"" ++ xml file
+case_front file line text = CASE.now ++ xml file
     ++ line_text line ++ xml (row_of text)
 
 -- What is told of a row: the file, the line, its text, and why it fails, if it does.

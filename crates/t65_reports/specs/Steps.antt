@@ -11,6 +11,7 @@ use Rattle.model.specs.State.{State}
 use Rattle.model.specs.declared.registers.Regs.{Regs}
 use Rattle.model.specs.declared.session_fault.SessionFault.{SessionFault}
 use Rattle.source_map.specs.Lines.{PlacesView, line_at}
+use Rattle.t65_reports.specs.declared.wording.TheConstants.{A_IS, LAST_STEPS, P_IS, S_IS, X_IS, Y_IS}
 use Rattle.t65_reports.specs.Texts.{named_byte, visible}
 
 -- ---- a step
@@ -42,9 +43,9 @@ padded width text = text ++ blanks (width - length text)
 
 -- The registers. The status register is told with B clear.
 unfoldable pub regs_text : Regs → List ℕ
-regs_text regs = named_byte (codes "A=") regs.a ++ named_byte (codes " X=") regs.x
-    ++ named_byte (codes " Y=") regs.y ++ named_byte (codes " S=") regs.s
-    ++ named_byte (codes " P=") (status false regs.flags)
+regs_text regs = named_byte A_IS.now regs.a ++ named_byte X_IS.now regs.x
+    ++ named_byte Y_IS.now regs.y ++ named_byte S_IS.now regs.s
+    ++ named_byte P_IS.now (status false regs.flags)
 
 -- A line of the source's file, if there is one.
 abbrev pub source_by : List ℕ → Option ℕ → List ℕ
@@ -75,7 +76,7 @@ told_count did = min did 20
 
 -- The steps that were undone, from the session before them on; nothing if they cannot be undone.
 abbrev pub undone_text : PlacesView → ℕ → Result Session SessionFault → List ℕ
-undone_text places count (Ok s) = codes "the last steps, and the registers after each:\n"
+undone_text places count (Ok s) = LAST_STEPS.now
     ++ steps_text places count s
 undone_text places count (Err fault) = []
 

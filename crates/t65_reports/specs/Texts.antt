@@ -11,6 +11,7 @@ use Rattle.t65_reader.specs.declared.row.Register.{Register}
 use Rattle.t65_reader.specs.declared.row.Register.TheVariants as register
 use Rattle.t65_reader.specs.declared.row.Relation.{Relation}
 use Rattle.t65_reader.specs.declared.row.Relation.TheVariants.{Equal, Below, Above}
+use Rattle.t65_reports.specs.declared.wording.TheConstants.{CYCLES, INPUT, OUTPUT_BYTE, OUTPUT_COUNT}
 
 -- A tab is told as a space, and what is no visible character of ASCII as `?`.
 abbrev pub visible : ℕ → ℕ
@@ -51,10 +52,10 @@ abbrev pub place_text : Place → List ℕ
 place_text (place.Register register) = register_name register
 place_text (place.Flag flag) = flag_name flag
 place_text (place.Byte address) = codes "[" ++ hex_of 4 address ++ codes "]"
-place_text place.Input = codes "in"
-place_text (place.Output index) = codes "out byte " ++ decimal index
-place_text place.OutputCount = codes "bytes of out"
-place_text place.Cycles = codes "cycles"
+place_text place.Input = INPUT.now
+place_text (place.Output index) = OUTPUT_BYTE.now ++ decimal index
+place_text place.OutputCount = OUTPUT_COUNT.now
+place_text place.Cycles = CYCLES.now
 
 -- A relation as a row writes it.
 abbrev pub relation_sign : Relation → ℕ

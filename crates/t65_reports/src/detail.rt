@@ -17,6 +17,10 @@ use crate::texts::{
     push_named_address, push_named_byte, push_named_count, push_number, push_place, push_relation,
     push_value,
 };
+use crate::wording::{
+    CALLED_WITH, CAME, CANNOT_BE_GIVEN, EXPECTED, FOR, NO_RETURN, NOTHING_CAME, RETURNED_WITH,
+    STOPPED, THEN_AT,
+};
 use bus::{Image, MapSpec};
 use debugger::{EventFault, Regs, RunEnd, Session, Why};
 use rig::call;
@@ -60,7 +64,7 @@ fn push_values(text: &mut String, row: &Row, pair: Pair) -> Result<(), AllocErro
     let Some(first) = row.first else {
         return Ok(());
     };
-    text.push_str("for ")?;
+    text.push_str(FOR)?;
     push_value(text, first, pair.first)?;
     push_second_value(text, row.second, pair.second)?;
     text.push('\n')
@@ -72,7 +76,7 @@ fn push_untaken(text: &mut String, pair: Pair, item: Item) -> Result<(), AllocEr
         ≡ string_bytes text.old ++ untaken_text (pair_of pair) item) }
 {
     push_place(text, item.place)?;
-    text.push_str(" cannot be given ")?;
+    text.push_str(CANNOT_BE_GIVEN)?;
     push_number(text, item.place, number_of(pair, item.value) as u64)?;
     text.push('\n')
 }
@@ -104,8 +108,8 @@ fn push_other_stack(text: &mut String, stack: u8, regs: Regs) -> Result<(), Allo
     ensures { OnOk result (string_bytes text.new
         ≡ string_bytes text.old ++ other_stack_text stack regs) }
 {
-    push_named_byte(text, "returned with S=", regs.s)?;
-    push_named_byte(text, ", called with S=", stack)?;
+    push_named_byte(text, RETURNED_WITH, regs.s)?;
+    push_named_byte(text, CALLED_WITH, stack)?;
     text.push_str("\n")?;
     Ok(())
 }
@@ -115,8 +119,8 @@ fn push_no_return(text: &mut String, did: u32, regs: Regs) -> Result<(), AllocEr
     ensures { OnOk result (string_bytes text.new
         ≡ string_bytes text.old ++ no_return_text did regs) }
 {
-    push_named_count(text, "no return in ", did)?;
-    push_named_address(text, " steps; then at ", regs.pc)?;
+    push_named_count(text, NO_RETURN, did)?;
+    push_named_address(text, THEN_AT, regs.pc)?;
     text.push_str("\n")?;
     Ok(())
 }
@@ -134,7 +138,7 @@ fn push_refused(text: &mut String, fault: EventFault, regs: Regs) -> Result<(), 
     ensures { OnOk result (string_bytes text.new
         ≡ string_bytes text.old ++ refused_text fault regs) }
 {
-    push_named_address(text, "stopped at ", regs.pc)?;
+    push_named_address(text, STOPPED, regs.pc)?;
     push_fault(text, fault)
 }
 
@@ -166,10 +170,10 @@ fn push_came(text: &mut String, place: Place, found: Option<u64>) -> Result<(), 
 {
     match found {
         Some(number) => {
-            text.push_str(", came ")?;
+            text.push_str(CAME)?;
             push_number(text, place, number)
         }
-        None => text.push_str(", nothing came"),
+        None => text.push_str(NOTHING_CAME),
     }
 }
 
@@ -183,7 +187,7 @@ fn push_expected(
     ensures { OnOk result (string_bytes text.new
         ≡ string_bytes text.old ++ expected_text item wanted found) }
 {
-    text.push_str("expected ")?;
+    text.push_str(EXPECTED)?;
     push_place(text, item.place)?;
     push_relation(text, item.relation)?;
     push_number(text, item.place, wanted as u64)?;

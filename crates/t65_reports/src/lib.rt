@@ -2,7 +2,8 @@
 //!
 //! The texts are proved: places, values, the rows of TAP and of the report, lines by their numbers,
 //! and why a row fails. `Bench` is the machine that the rows ran on; for a row that has failed it
-//! is made again, so that what was expected, what came and the last steps can be told.
+//! is made again, so that what was expected, what came and the last steps can be told. Their words
+//! stand in `wording`.
 #![tactic(auto)]
 
 mod detail;
@@ -10,6 +11,7 @@ mod reports;
 mod row_lines;
 mod steps;
 mod texts;
+mod wording;
 
 pub use detail::{Bench, detail_of};
 pub use reports::{Case, Reports};

@@ -7,9 +7,14 @@ ghost use Rattle.std.specs.Option.{option_map};
 ghost use Rattle.t65_reports.specs.Reports.{before_comment, case_end, case_front, counts_text};
 ghost use Rattle.t65_reports.specs.Reports.{first_line, line_text};
 ghost use Rattle.t65_reports.specs.Reports.{junit_case, row_of, suite_head, tap_byte, tap_case, tap_comment};
+ghost use Rattle.t65_reports.specs.declared.wording.TheConstants as the_text;
 ghost use Rattle.t65_reports.specs.Reports.{tap_detail, tap_row, tap_text, xml, xml_byte};
 
 use crate::texts::push_bytes;
+use crate::wording::{
+    CASE, CASE_END, CASE_FAILS, CASE_PASSES, FAILS, FAILURES, JUNIT_BEGIN, JUNIT_END, LINE, PASSES,
+    SUITE, SUITE_END, TAG_END, TAP_BEGIN, TESTS,
+};
 use std::alloc::{AllocError, Global};
 
 /// A row that was run, as it is told of.
@@ -149,14 +154,14 @@ fn push_counts(text: &mut String, rows: usize, failed: usize) -> Result<(), Allo
     ensures { OnOk result (string_bytes text.new
         ≡ string_bytes text.old ++ counts_text rows failed) }
 {
-    writeln!(text, "\" tests=\"{rows}\" failures=\"{failed}\">")
+    writeln!(text, "{}{rows}{}{failed}{}", TESTS, FAILURES, TAG_END)
 }
 
 /// Appends the number of a row's line.
 fn push_line(text: &mut String, line: u32) -> Result<(), AllocError>
     ensures { OnOk result (string_bytes text.new ≡ string_bytes text.old ++ line_text line) }
 {
-    write!(text, "\" name=\"line {line}: ")
+    write!(text, "{}{line}: ", LINE)
 }
 
 /// Appends the head of a file of so many rows, of which so many fail.
@@ -169,7 +174,7 @@ fn push_suite_head(
     ensures { OnOk result (string_bytes junit.new
         ≡ string_bytes junit.old ++ suite_head file.now rows failed) }
 {
-    junit.push_str("  <testsuite name=\"")?;
+    junit.push_str(SUITE)?;
     push_xml_text(junit, file)?;
     push_counts(junit, rows, failed)?;
     Ok(())
@@ -193,7 +198,7 @@ fn push_tap_row(
     ensures { OnOk result (string_bytes tap.new ≡ string_bytes tap.old
         ++ tap_row failed count case.entry.file.now case.entry.line case.entry.text.now) }
 {
-    tap.push_str(if failed { "not ok " } else { "ok " })?;
+    tap.push_str(if failed { FAILS } else { PASSES })?;
     write!(tap, "{count} - ")?;
     push_description(tap, case.file.as_bytes())?;
     write!(tap, ":{} ", case.line)?;
@@ -243,7 +248,7 @@ fn push_case_front(junit: &mut String, case: Case<'_>) -> Result<(), AllocError>
     ensures { OnOk result (string_bytes junit.new ≡ string_bytes junit.old
         ++ case_front case.entry.file.now case.entry.line case.entry.text.now) }
 {
-    junit.push_str("    <testcase classname=\"")?;
+    junit.push_str(CASE)?;
     push_xml_text(junit, case.file)?;
     push_line(junit, case.line)?;
     push_xml_row(junit, case.text)?;
@@ -255,11 +260,11 @@ fn push_case_failure(junit: &mut String, detail: &str) -> Result<(), AllocError>
     ensures { OnOk result (string_bytes junit.new ≡ string_bytes junit.old
         ++ case_end (Some detail.now)) }
 {
-    junit.push_str("\">\n      <failure message=\"")?;
+    junit.push_str(CASE_FAILS)?;
     push_first_line(junit, detail)?;
-    junit.push_str("\">")?;
+    junit.push_str(TAG_END)?;
     push_xml_text(junit, detail)?;
-    junit.push_str("</failure>\n    </testcase>\n")?;
+    junit.push_str(CASE_END)?;
     Ok(())
 }
 
@@ -271,7 +276,7 @@ fn push_junit(junit: &mut String, case: Case<'_>, detail: Option<&str>) -> Resul
 {
     push_case_front(junit, case)?;
     match detail {
-        None => junit.push_str("\"/>\n"),
+        None => junit.push_str(CASE_PASSES),
         Some(detail) => push_case_failure(junit, detail),
     }
 }
@@ -280,15 +285,15 @@ impl Reports {
     /// Begins both texts.
     pub fn new(alloc: Global) -> Result<Reports, AllocError>
         ensures tap { IfOk result (λ reports. string_bytes reports.tap
-            ≡ codes "TAP version 13\n") }
+            ≡ the_text.TAP_BEGIN.now) }
         ensures junit { IfOk result (λ reports. string_bytes reports.junit
-            ≡ codes "<?xml version=\"1.0\" encoding=\"UTF-8\"?>\n<testsuites>\n") }
+            ≡ the_text.JUNIT_BEGIN.now) }
         ensures count { IfOk result (λ reports. reports.count ≡ 0) }
     {
         let mut tap = String::new(alloc);
-        tap.push_str("TAP version 13\n")?;
+        tap.push_str(TAP_BEGIN)?;
         let mut junit = String::new(alloc);
-        junit.push_str("<?xml version=\"1.0\" encoding=\"UTF-8\"?>\n<testsuites>\n")?;
+        junit.push_str(JUNIT_BEGIN)?;
         Ok(Reports {
             tap,
             junit,
@@ -324,11 +329,11 @@ impl Reports {
     /// Ends a file.
     pub fn end_file(&mut self) -> Result<(), AllocError>
         ensures junit { OnOk result (string_bytes self.new.junit
-            ≡ string_bytes self.old.junit ++ codes "  </testsuite>\n") }
+            ≡ string_bytes self.old.junit ++ the_text.SUITE_END.now) }
         ensures tap { self.new.tap ≡ self.old.tap }
         ensures count { self.new.count ≡ self.old.count }
     {
-        self.junit.push_str("  </testsuite>\n")
+        self.junit.push_str(SUITE_END)
     }
 
     /// Ends both texts.
@@ -336,10 +341,10 @@ impl Reports {
         ensures tap { OnOk result (string_bytes self.new.tap ≡ string_bytes self.old.tap
             ++ codes "1.." ++ decimal self.old.count ++ codes "\n") }
         ensures junit { OnOk result (string_bytes self.new.junit
-            ≡ string_bytes self.old.junit ++ codes "</testsuites>\n") }
+            ≡ string_bytes self.old.junit ++ the_text.JUNIT_END.now) }
         ensures count { self.new.count ≡ self.old.count }
     {
         writeln!(self.tap, "1..{}", self.count)?;
-        self.junit.push_str("</testsuites>\n")
+        self.junit.push_str(JUNIT_END)
     }
 }

@@ -1,6 +1,6 @@
 //! The last steps of a call.
 
-ghost use Rattle.std.specs.Prelude.{◌≡◌, ◌-◌, ◌≤◌, ◌++◌, Ok, OnOk, codes, false, string_bytes, string_len};
+ghost use Rattle.std.specs.Prelude.{◌≡◌, ◌-◌, ◌≤◌, ◌++◌, Ok, OnOk, false, string_bytes, string_len};
 ghost use Rattle.std.specs.List.{flat_map};
 ghost use Rattle.model.specs.Effect.{status};
 ghost use Rattle.model.specs.Run.{after_steps};
@@ -8,8 +8,10 @@ ghost use Rattle.t65_reports.specs.Steps.{after_last_steps, blanks, instruction_
 ghost use Rattle.t65_reports.specs.Steps.{last_steps_text, padded, regs_text};
 ghost use Rattle.t65_reports.specs.Steps.{row_character, source_text, step_text, steps_text, undone_text};
 ghost use Rattle.t65_reports.specs.Texts.{named_byte};
+ghost use Rattle.t65_reports.specs.declared.wording.TheConstants as the_text;
 
 use crate::texts::{push_bytes, push_named_byte};
+use crate::wording::{A_IS, LAST_STEPS, P_IS, S_IS, X_IS, Y_IS};
 use debugger::Session;
 use disasm::row_text_in;
 use model::{Flags, Regs};
@@ -86,19 +88,19 @@ fn push_padded_row(
 /// Appends the status register, which is told with B clear.
 fn push_status(text: &mut String, flags: Flags) -> Result<(), AllocError>
     ensures { OnOk result (string_bytes text.new
-        ≡ string_bytes text.old ++ named_byte (codes " P=") (status false flags)) }
+        ≡ string_bytes text.old ++ named_byte the_text.P_IS.now (status false flags)) }
 {
-    push_named_byte(text, " P=", flags.to_byte(false))
+    push_named_byte(text, P_IS, flags.to_byte(false))
 }
 
 /// Appends the registers.
 fn push_regs(text: &mut String, regs: Regs) -> Result<(), AllocError>
     ensures { OnOk result (string_bytes text.new ≡ string_bytes text.old ++ regs_text regs) }
 {
-    push_named_byte(text, "A=", regs.a)?;
-    push_named_byte(text, " X=", regs.x)?;
-    push_named_byte(text, " Y=", regs.y)?;
-    push_named_byte(text, " S=", regs.s)?;
+    push_named_byte(text, A_IS, regs.a)?;
+    push_named_byte(text, X_IS, regs.x)?;
+    push_named_byte(text, Y_IS, regs.y)?;
+    push_named_byte(text, S_IS, regs.s)?;
     push_status(text, regs.flags)?;
     Ok(())
 }
@@ -170,7 +172,7 @@ fn push_undone(
         ≡ string_bytes text.old ++ undone_text places.now count (Ok session.old)) }
     ensures session { OnOk result (session.new ≡ after_steps count session.old) }
 {
-    text.push_str("the last steps, and the registers after each:\n")?;
+    text.push_str(LAST_STEPS)?;
     push_each_step(text, session, places, count)?;
     Ok(())
 }

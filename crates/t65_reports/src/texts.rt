@@ -4,6 +4,7 @@ ghost use Rattle.std.specs.Prelude.{◌≡◌, ◌++◌, ◌∷◌, [], OnOk, ma
 ghost use Rattle.t65_reports.specs.Texts.{flag_name, named_address, named_byte, named_count};
 ghost use Rattle.t65_reports.specs.Texts.{number_text, place_text, register_name, relation_sign, value_text, visible};
 
+use crate::wording::{CYCLES, INPUT, OUTPUT_BYTE, OUTPUT_COUNT};
 use std::alloc::AllocError;
 use t65_reader::{Flag, Place, Range, Register, Relation};
 
@@ -62,10 +63,10 @@ pub fn push_place(text: &mut String, place: Place) -> Result<(), AllocError>
         Place::Register(register) => text.push_str(register_name(register)),
         Place::Flag(flag) => text.push_str(flag_name(flag)),
         Place::Byte(address) => write!(text, "[{address:04X}]"),
-        Place::Input => text.push_str("in"),
-        Place::Output(index) => write!(text, "out byte {index}"),
-        Place::OutputCount => text.push_str("bytes of out"),
-        Place::Cycles => text.push_str("cycles"),
+        Place::Input => text.push_str(INPUT),
+        Place::Output(index) => write!(text, "{}{index}", OUTPUT_BYTE),
+        Place::OutputCount => text.push_str(OUTPUT_COUNT),
+        Place::Cycles => text.push_str(CYCLES),
     }
 }
 
