@@ -1,3 +1,5 @@
+pub mod Ends
 pub mod KindWords
-pub mod Said
+pub mod OneMore
+pub mod Read
 pub mod Told

@@ -4,10 +4,10 @@ use Rattle.model.specs.TextLines.{lines_of}
 use Rattle.source_notes.specs.Blocks.{AreBlocks, BlockKind, total_of}
 use Rattle.source_notes.specs.Lines.{names_of}
 use Rattle.checking.specs.Notes.{IsNote}
-use Rattle.checking.specs.declared.wording.TheConstants.{AFTER_END, FALLS_OFF, LETTER_CASE, LONG_FORM, NO_BYTES, NO_VECTOR, ONE_WARNING, PLAIN_NUMBER, POINTER_WRAP, REGISTER_NAME, UNUSED_NAME, WARNING, WARNINGS}
+use Rattle.checking.specs.declared.wording.TheConstants.{AFTER_END, FALLS_OFF, LETTER_CASE, LONG_FORM, NO_BYTES, NO_VECTOR, ONE_WARNING, PLAIN_NUMBER, POINTER_WRAP, REGISTER_NAME, SQUARE_BRACKETS, UNUSED_NAME, WARNING, WARNINGS}
 use Rattle.warnings.specs.declared.kinds.Warning.{Warning}
 use Rattle.warnings.specs.declared.kinds.WarningKind.{WarningKind}
-use Rattle.warnings.specs.declared.kinds.WarningKind.TheVariants.{PlainNumber, UnusedName, LongForm, LetterCase, NoBytes, AfterEnd, NoVector, FallsOff, PointerWrap, RegisterName}
+use Rattle.warnings.specs.declared.kinds.WarningKind.TheVariants.{PlainNumber, UnusedName, LongForm, LetterCase, NoBytes, AfterEnd, NoVector, FallsOff, PointerWrap, RegisterName, SquareBrackets}
 
 abbrev pub kind_name : WarningKind → List ℕ
 kind_name PlainNumber = PLAIN_NUMBER.now
@@ -20,6 +20,7 @@ kind_name NoVector = NO_VECTOR.now
 kind_name FallsOff = FALLS_OFF.now
 kind_name PointerWrap = POINTER_WRAP.now
 kind_name RegisterName = REGISTER_NAME.now
+kind_name SquareBrackets = SQUARE_BRACKETS.now
 
 -- The title of a block, `warning: KIND: `.
 abbrev pub title_of : WarningKind → List ℕ

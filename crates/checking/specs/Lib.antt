@@ -3,3 +3,4 @@ pub mod CommandLine
 pub mod Found
 pub mod Blocks
 pub mod Notes
+pub mod Files

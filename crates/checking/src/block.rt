@@ -9,7 +9,7 @@ ghost use Rattle.source_notes.specs.Lines.{name_view, names_of, texts_of};
 use crate::note::note_of;
 use crate::wording::{
     AFTER_END, FALLS_OFF, LETTER_CASE, LONG_FORM, NO_BYTES, NO_VECTOR, ONE_WARNING, PLAIN_NUMBER,
-    POINTER_WRAP, REGISTER_NAME, UNUSED_NAME, WARNING, WARNINGS,
+    POINTER_WRAP, REGISTER_NAME, SQUARE_BRACKETS, UNUSED_NAME, WARNING, WARNINGS,
 };
 use formatting::push_text;
 use source_notes::{
@@ -34,6 +34,7 @@ fn kind_name(kind: WarningKind) -> &'static str
         WarningKind::FallsOff => FALLS_OFF,
         WarningKind::PointerWrap => POINTER_WRAP,
         WarningKind::RegisterName => REGISTER_NAME,
+        WarningKind::SquareBrackets => SQUARE_BRACKETS,
     }
 }
 

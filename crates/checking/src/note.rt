@@ -6,18 +6,22 @@ ghost use Rattle.std.specs.Option.{option_map};
 ghost use Rattle.std.specs.Str.{str_eq_ignore_ascii_case};
 ghost use Rattle.source_notes.specs.Lines.{name_view};
 ghost use Rattle.checking.specs.Notes.{AreTokens, IsNote, case_words, first_word, is_like};
-ghost use Rattle.checking.specs.Notes.{last_text, like_words, plain_words, word_place};
+ghost use Rattle.checking.specs.Notes.{address_in, bracket_words, closing_of, first_text, inner_text};
+ghost use Rattle.checking.specs.Notes.{is_closing, joined, last_of, last_text, like_words};
+ghost use Rattle.checking.specs.Notes.{plain_words, pointer_text, word_place};
 
 use crate::wording::{
-    ANOTHER_NAME, DIFFERS_IN_CASE, HAS_NO_BYTES, HAS_NO_VECTOR, IS_A_REGISTER, IS_AN_ADDRESS,
-    IS_NEVER_USED, IS_NOT_READ, ON_LINE, RUNS_ON, TAKES_THE_PAGE, TAKES_TWO_BYTES,
+    ANOTHER_NAME, CLOSED, CLOSED_WITH_X, CLOSED_WITH_Y, DIFFERS_IN_CASE, HAS_NO_BYTES,
+    HAS_NO_VECTOR, IS_A_REGISTER, IS_AN_ADDRESS, IS_NEVER_USED, IS_NOT_READ, ON_LINE, ONLY_GROUPS,
+    OPENED, RUNS_ON, TAKES_THE_PAGE, TAKES_TWO_BYTES,
 };
 use formatting::{push_count, push_text};
 use lexer::tokens;
 use line_parts::Token;
 use model::LineFault;
 use source_notes::{
-    Name, Note, about_operand, after, blank_run, describe, operand_of, phrase, word_run,
+    Name, Note, about_operand, after, after_label, blank_run, describe, is_symbol, operand_of,
+    phrase, word_run,
 };
 use std::alloc::{AllocError, Global};
 use warnings::WarningKind;
@@ -61,6 +65,18 @@ fn last_text<'a>(tokens: &[Token<'a>]) -> &'a [u8]
     }
 }
 
+/// Returns the text of the first of some tokens that opens no bracket.
+fn inner_text<'a>(tokens: &[Token<'a>]) -> &'a [u8]
+    ensures { result.now ≡ inner_text tokens.now }
+{
+    for token in tokens {
+        if !is_symbol(token, b'[') {
+            return token.text;
+        }
+    }
+    &[]
+}
+
 /// Returns words about a number that is an address.
 fn plain_words(alloc: Global, number: &[u8]) -> Result<Vec<u8>, AllocError>
     ensures { IfOk result (λ words. words.items ≡ plain_words number.now) }
@@ -81,7 +97,7 @@ fn plain_note(
         (IsNote (map name_view names.now) WarningKind.PlainNumber number line.now) }
 {
     let found = tokens_or_none(alloc, line)?;
-    let words = plain_words(alloc, last_text(operand_of(&found)))?;
+    let words = plain_words(alloc, inner_text(operand_of(&found)))?;
     Ok(about_operand(line, &found, words))
 }
 
@@ -112,6 +128,107 @@ fn wrap_note(
 {
     let found = tokens_or_none(alloc, line)?;
     let words = phrase(alloc, TAKES_THE_PAGE)?;
+    Ok(about_operand(line, &found, words))
+}
+
+/// Returns the text of the first of some tokens.
+fn first_text<'a>(tokens: &[Token<'a>]) -> &'a [u8]
+    ensures { result.now ≡ first_text tokens.now }
+{
+    match tokens.first() {
+        Some(token) => token.text,
+        None => &[],
+    }
+}
+
+/// Appends the texts of tokens, one after another.
+fn push_texts(words: &mut Vec<u8>, tokens: &[Token<'_>]) -> Result<(), AllocError>
+    ensures { OnOk result (words.new.items ≡ words.old.items ++ joined tokens.now) }
+{
+    for token in tokens {
+        words.extend_from_slice(token.text)?;
+    }
+    Ok(())
+}
+
+/// Returns whether the last of some tokens closes a bracket.
+fn is_closed(tokens: &[Token<'_>]) -> bool
+    ensures { result ≡ is_closing (last_of tokens.now) }
+{
+    match tokens.last() {
+        Some(token) => is_symbol(token, b']'),
+        None => false,
+    }
+}
+
+/// Returns the address in the brackets of an operand.
+fn address_in<'t, 'a>(operand: &'t [Token<'a>]) -> &'t [Token<'a>]
+    ensures { result.now ≡ address_in operand.now }
+{
+    let around = if is_closed(operand) { 2 } else { 4 };
+    if operand.len() <= around {
+        return &[];
+    }
+    &operand[1..operand.len() - around + 1]
+}
+
+/// Returns what closes the pointer that may be meant.
+fn closing_of(mnemonic: &[u8], closed: bool, last: &[u8]) -> &'static str
+    ensures { result.now ≡ closing_of mnemonic.now closed last.now }
+{
+    if closed {
+        if mnemonic.eq_ignore_ascii_case(b"JMP") {
+            CLOSED
+        } else {
+            CLOSED_WITH_Y
+        }
+    } else if last.eq_ignore_ascii_case(b"X") {
+        CLOSED_WITH_X
+    } else {
+        CLOSED_WITH_Y
+    }
+}
+
+/// Appends the pointer that may be meant by an operand in brackets.
+fn push_pointer(
+    words: &mut Vec<u8>,
+    mnemonic: &[u8],
+    operand: &[Token<'_>],
+) -> Result<(), AllocError>
+    ensures { OnOk result (words.new.items
+        ≡ words.old.items ++ pointer_text mnemonic.now operand.now) }
+{
+    push_text(words, OPENED)?;
+    push_texts(words, address_in(operand))?;
+    push_text(
+        words,
+        closing_of(mnemonic, is_closed(operand), last_text(operand)),
+    )
+}
+
+/// Returns words about an operand in brackets.
+fn bracket_words(alloc: Global, tokens: &[Token<'_>]) -> Result<Vec<u8>, AllocError>
+    ensures { IfOk result (λ words. words.items ≡ bracket_words tokens.now) }
+{
+    let mnemonic = first_text(after_label(tokens));
+    let mut words = phrase(alloc, ONLY_GROUPS)?;
+    words.extend_from_slice(mnemonic)?;
+    push_pointer(&mut words, mnemonic, operand_of(tokens))?;
+    Ok(words)
+}
+
+/// Returns a note about an operand in brackets.
+fn bracket_note(
+    alloc: Global,
+    names: &[Name<'_>],
+    number: u32,
+    line: &[u8],
+) -> Result<Note, AllocError>
+    ensures { IfOk result
+        (IsNote (map name_view names.now) WarningKind.SquareBrackets number line.now) }
+{
+    let found = tokens_or_none(alloc, line)?;
+    let words = bracket_words(alloc, &found)?;
     Ok(about_operand(line, &found, words))
 }
 
@@ -204,6 +321,7 @@ pub fn note_of(
             Ok(about_word(line, words))
         }
         WarningKind::PointerWrap => wrap_note(alloc, names, number, line),
+        WarningKind::SquareBrackets => bracket_note(alloc, names, number, line),
         WarningKind::RegisterName => {
             let words = describe(alloc, first_word(line), IS_A_REGISTER)?;
             Ok(about_word(line, words))

@@ -33,6 +33,9 @@ pub const POINTER_WRAP: &str = "PointerWrap";
 /// The name of the kind `RegisterName`.
 pub const REGISTER_NAME: &str = "RegisterName";
 
+/// The name of the kind `SquareBrackets`.
+pub const SQUARE_BRACKETS: &str = "SquareBrackets";
+
 /// Stands between a number that is an address and the same number.
 pub const IS_AN_ADDRESS: &str = " is an address, and nothing writes there; the number is #";
 
@@ -69,6 +72,21 @@ pub const TAKES_THE_PAGE: &str =
 
 /// Follows a name that is a register's.
 pub const IS_A_REGISTER: &str = " is a register in mon: give the name one letter more";
+
+/// Stands before an instruction with a pointer in place of its brackets.
+pub const ONLY_GROUPS: &str = "[ ] only groups here; for a pointer write ";
+
+/// Stands between a mnemonic and its pointer.
+pub const OPENED: &str = " (";
+
+/// Closes a pointer without an index.
+pub const CLOSED: &str = ")";
+
+/// Closes a pointer with the index X.
+pub const CLOSED_WITH_X: &str = ",X)";
+
+/// Closes a pointer with the index Y.
+pub const CLOSED_WITH_Y: &str = "),Y";
 
 /// What follows the count of one warning.
 pub const ONE_WARNING: &str = " warning\n";

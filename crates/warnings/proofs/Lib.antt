@@ -2,3 +2,4 @@ pub mod Looking
 pub mod Placing
 pub mod Using
 pub mod Reaching
+pub mod Bracketing

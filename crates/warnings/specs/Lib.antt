@@ -4,3 +4,4 @@ pub mod Views
 pub mod Uses
 pub mod Reaches
 pub mod Flow
+pub mod Brackets

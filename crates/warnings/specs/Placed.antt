@@ -1,18 +1,21 @@
 -- The lines of a source, each with its text, what it says, and where its bytes stand. Source: mos65.
-use Rattle.std.specs.Prelude.{ℕ, ◌==◌, if◌then◌else◌, List, [], ◌∷◌, Option, Some, None, Result, Ok, Err}
+use Rattle.std.specs.Prelude.{ℕ, ◌==◌, Bool, if◌then◌else◌, List, [], ◌∷◌, Option, Some, None, Result, Ok, Err}
 use Rattle.model.specs.AllFaults as all
 use Rattle.model.specs.Layout.{size_of}
 use Rattle.model.specs.SourceLine.{Line, read_line}
 use Rattle.model.specs.declared.instruction.Profile.{Profile}
 use Rattle.model.specs.declared.source_fault.AsmFaultKind.{AsmFaultKind}
+use Rattle.warnings.specs.Brackets.{is_bracketed}
 
--- A line: its text; what it says, if it can be read; the address and the number of its bytes. A
--- line without bytes has the address 0 here.
+-- A line: its text; what it says, if it can be read; the address and the number of its bytes;
+-- whether its operand stands in brackets where a pointer could. A line without bytes has the address
+-- 0 here.
 pub record Placed : Type 0 where
   pub text : List ℕ
   pub line : Option Line
   pub address : ℕ
   pub size : ℕ
+  pub bracketed : Bool
 
 abbrev pub readable_line : Result Line AsmFaultKind → Option Line
 readable_line (Ok l) = Some l
@@ -32,6 +35,7 @@ placed_line profile text f = record {
   line = meaning_of profile text;
   address = if_bytes (size_of f.place.content) f.place.address;
   size = size_of f.place.content;
+  bracketed = is_bracketed profile text (meaning_of profile text);
 }
 
 -- The lines of which the layout found something, which are those up to `.END`.

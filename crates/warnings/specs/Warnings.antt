@@ -24,7 +24,7 @@ use Rattle.warnings.specs.declared.written_numbers.Reach.{Reach}
 use Rattle.warnings.specs.Placed.{Placed, meaning_of, placed_lines}
 use Rattle.warnings.specs.declared.kinds.Warning.{Warning}
 use Rattle.warnings.specs.declared.kinds.WarningKind.{WarningKind}
-use Rattle.warnings.specs.declared.kinds.WarningKind.TheVariants.{PlainNumber, UnusedName, LongForm, LetterCase, NoBytes, AfterEnd, NoVector, FallsOff, PointerWrap, RegisterName}
+use Rattle.warnings.specs.declared.kinds.WarningKind.TheVariants.{PlainNumber, UnusedName, LongForm, LetterCase, NoBytes, AfterEnd, NoVector, FallsOff, PointerWrap, RegisterName, SquareBrackets}
 
 -- ---- one line
 
@@ -126,15 +126,17 @@ one_if told number kind = if told then warned number kind ∷ [] else []
 
 -- The warnings of what a line says alone.
 abbrev pub warnings_alone : Known → ℕ → Placed → List Warning
-warnings_alone k number p = one_if (is_plain k.profile p k.reaches) number PlainNumber
+warnings_alone k number p
+    = one_if (is_plain k.profile p k.reaches && not p.bracketed) number PlainNumber
     ++ (one_if (is_unused k.used (name_in p.line)) number UnusedName
     ++ one_if (is_long k.profile k.numbers p) number LongForm)
 
--- The warnings of a line's name, and of where control goes from it.
+-- The warnings of a line's name, of its pointer, and of where control goes from it.
 abbrev pub warnings_more : Profile → Numbers → ℕ → Bool → Placed → List Warning
 warnings_more profile numbers number falls p
     = one_if (names_register (name_in p.line)) number RegisterName
-    ++ (one_if (wraps profile numbers p) number PointerWrap ++ one_if falls number FallsOff)
+    ++ (one_if (wraps profile numbers p) number PointerWrap
+    ++ (one_if p.bracketed number SquareBrackets ++ one_if falls number FallsOff))
 
 -- The warnings of a line whose name has the letters of an earlier one or not, before these lines.
 abbrev pub warnings_with : Known → ℕ → Bool → Placed → List Placed → List Warning

@@ -51,7 +51,7 @@ fn push_alone(
         ++ warnings_alone (known profile names.now used.now reaches.now) number
         (placed_view line.now)) }
 {
-    let plain = is_plain(profile, line, reaches);
+    let plain = is_plain(profile, line, reaches) && !line.bracketed;
     let unused = is_unused(used, name_in(&line.line));
     let long = is_long(profile, names, line);
     push_if(warnings, plain, number, WarningKind::PlainNumber)?;
@@ -59,7 +59,7 @@ fn push_alone(
     push_if(warnings, long, number, WarningKind::LongForm)
 }
 
-/// Appends the warnings of a line's name and of where control goes from it.
+/// Appends the warnings of a line's name, of its pointer, and of where control goes from it.
 fn push_more(
     warnings: &mut Vec<Warning>,
     profile: Profile,
@@ -75,6 +75,12 @@ fn push_more(
     let wrap = wraps(profile, names, line);
     push_if(warnings, register, number, WarningKind::RegisterName)?;
     push_if(warnings, wrap, number, WarningKind::PointerWrap)?;
+    push_if(
+        warnings,
+        line.bracketed,
+        number,
+        WarningKind::SquareBrackets,
+    )?;
     push_if(warnings, falls, number, WarningKind::FallsOff)
 }
 

@@ -23,6 +23,8 @@ pub enum WarningKind {
     PointerWrap,
     /// A name is that of a register in `mon`.
     RegisterName,
+    /// The whole address of an operand stands in square brackets, where a pointer could.
+    SquareBrackets,
 }
 
 /// A warning, with the number of its line, counted from 1.

@@ -5,10 +5,12 @@
 //! `all_lines` every line and the text after `.END`, `whole_source` a source. `used_names` finds
 //! the names that expressions use, `written_numbers` what a source writes of the zero page, and
 //! `zero_page_writes` the operands that are a plain number which nothing writes. `flow` finds where
-//! control falls off instructions, pointers at the end of a page, and the reset vector.
+//! control falls off instructions, pointers at the end of a page, and the reset vector; `brackets`
+//! operands in square brackets.
 #![tactic(auto)]
 
 mod all_lines;
+mod brackets;
 mod flow;
 mod kinds;
 mod one_line;

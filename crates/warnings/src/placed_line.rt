@@ -14,6 +14,8 @@ pub struct PlacedLine<'a> {
     pub address: u32,
     /// How many bytes it has.
     pub count: u32,
+    /// Whether its whole address stands in square brackets, where a pointer could.
+    pub bracketed: bool,
     ghost near: { address < 2 ^ 31 },
     ghost small: { count ≤ 510 },
 }

@@ -9,6 +9,7 @@ ghost use Rattle.source_faults.specs.Views.{found_all, found_view};
 ghost use Rattle.warnings.specs.Placed.{if_bytes, meaning_of, placed_line, placed_lines};
 ghost use Rattle.warnings.specs.Views.{placed_view, placed_views};
 
+use crate::brackets::is_bracketed;
 use crate::placed_line::{Extent, PlacedLine};
 use asm_line::read_line_with;
 use line_parts::{Line, LineError, Token, next_line};
@@ -83,12 +84,14 @@ fn place_line<'a>(
         (λ line. placed_view line ≡ placed_line profile text.now (found_view found.now)) }
 {
     let line = meaning_of(alloc, profile, room, text)?;
+    let bracketed = is_bracketed(profile, room, text, &line)?;
     let extent = extent_of(found);
     Ok(PlacedLine {
         text,
         line,
         address: extent.address,
         count: extent.count,
+        bracketed,
     })
 }
 
