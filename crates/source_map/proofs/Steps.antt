@@ -1,5 +1,5 @@
 -- Names and lines of an assembly, taken one after another.
-use Rattle.std.proofs.Common.{◌≡◌, ℕ, zero, suc, ◌+◌, List, [], ◌∷◌, ◌++◌, Option, Some, None, take, refl, ap, sym, ◌∙◌, add-one, append_assoc, append-nil}
+use Rattle.std.proofs.Common.{◌≡◌, ℕ, zero, suc, ◌+◌, List, [], ◌∷◌, ◌++◌, map, Option, Some, None, take, refl, ap, sym, ◌∙◌, add-one, append_assoc, append-nil}
 use Rattle.std.specs.Prelude.{slice_get}
 use Rattle.std.specs.List.{flat_map, zip}
 use Rattle.std.specs.Option.{option_to_list}
@@ -40,3 +40,13 @@ one_taken {X} f o x e = sym (ap (λ (p : Option X). flat_map f (option_to_list p
 
 pub none_taken : {X Y : Type 0} (f : X → List Y) (o : Option X) (before : List Y) → o ≡ None → before ≡ before ++ flat_map f (option_to_list o)
 none_taken {X} f o before e = sym (ap (λ (p : Option X). before ++ flat_map f (option_to_list p)) e ∙ append-nil before)
+
+mapped_suc : {X Y : Type 0} (f : X → Y) (xs : List X) (i : ℕ) → map f (take i xs) ++ map f (option_to_list (slice_get xs i)) ≡ map f (take (suc i) xs)
+mapped_suc f [] zero = refl
+mapped_suc f [] (suc i) = refl
+mapped_suc f (x ∷ xs) zero = refl
+mapped_suc f (x ∷ xs) (suc i) = ap (λ ys. f x ∷ ys) (mapped_suc f xs i)
+
+-- what one more element gives, one for one
+pub one_more_mapped : {X Y : Type 0} (f : X → Y) (xs : List X) (i : ℕ) → map f (take i xs) ++ map f (option_to_list (slice_get xs i)) ≡ map f (take (i + 1) xs)
+one_more_mapped f xs i = rw add-one (mapped_suc f xs i)

@@ -1,37 +1,71 @@
--- The lines of a source that have bytes. Source: mos65.
-use Rattle.std.specs.Prelude.{ℕ, ◌==◌, nat_lt, if◌then◌else◌, List, [], ◌∷◌, find, Option}
+-- The lines of a source, and those that have bytes. Source: mos65.
+use Rattle.std.specs.Prelude.{ℕ, zero, suc, ◌+◌, ◌%◌, ◌==◌, ◌&&◌, nat_le, nat_lt, if◌then◌else◌, List, [], ◌∷◌, find, map, Option, None, slice_get, unwrap_or}
 use Rattle.std.specs.List.{flat_map}
 use Rattle.std.specs.Option.{option_map}
+use Rattle.std.specs.declared.vec.Vec.{Vec}
+use Rattle.model.specs.Image.{cell_at}
 use Rattle.assembler.specs.Assembly.{AssemblyView, source_lines}
 use Rattle.assembler.specs.Lines.{LineView}
 use Rattle.source_map.specs.Names.{Named, names_in}
 use Rattle.source_map.specs.declared.rows.Row.{Row}
 
+-- The byte of a source at an address and the two behind it, 0 where it has none. $0000 comes after
+-- $FFFF.
+abbrev pub bytes_in : List (Option ℕ) → ℕ → List ℕ
+bytes_in image address = unwrap_or (cell_at image address) 0
+    ∷ unwrap_or (cell_at image ((address + 1) % 65536)) 0
+    ∷ unwrap_or (cell_at image ((address + 2) % 65536)) 0 ∷ []
+
 -- The row of a line, if the line has bytes.
-abbrev pub row_of : LineView → List Row
-row_of line = if nat_lt 0 line.count
-    then record { address = line.address; line = line.number } ∷ [] else []
+abbrev pub row_of : List (Option ℕ) → LineView → List Row
+row_of image line = if nat_lt 0 line.count && nat_le line.address 65535 then record {
+  address = line.address;
+  line = line.number;
+  count = line.count;
+  bytes = bytes_in image line.address;
+  is_instruction = line.is_instruction;
+} ∷ [] else []
 
 -- The rows of the lines that have bytes, in their order.
-abbrev pub rows_of : List LineView → List Row
-rows_of lines = flat_map row_of lines
+abbrev pub rows_of : List (Option ℕ) → List LineView → List Row
+rows_of image lines = flat_map (row_of image) lines
+
+-- The texts of lines, each without its end.
+abbrev pub texts_of : List LineView → List (List ℕ)
+texts_of lines = map (λ line. line.text) lines
+
+-- What texts hold.
+abbrev pub items_of : List (Vec ℕ) → List (List ℕ)
+items_of texts = map (λ text. text.items) texts
 
 -- ---- names and lines
 
--- Names, the lines of a source, and the name of its file.
+-- Names, the lines of a source that have bytes, the texts of all its lines, and the name of its
+-- file.
 pub record PlacesView : Type 0 where
   pub names : List Named
   pub lines : List Row
+  pub texts : List (List ℕ)
   pub file : List ℕ
 
 -- What stands where in a source.
 abbrev pub places_of : List ℕ → AssemblyView → PlacesView
 places_of file assembly = record {
   names = names_in assembly;
-  lines = rows_of (source_lines assembly);
+  lines = rows_of assembly.image (source_lines assembly);
+  texts = texts_of (source_lines assembly);
   file = file;
 }
 
+-- The row of the first line whose first byte stands at an address.
+abbrev pub row_at : List Row → ℕ → Option Row
+row_at lines address = find (λ row. row.address == address) lines
+
 -- The first line whose first byte stands at an address.
 abbrev pub line_at : List Row → ℕ → Option ℕ
-line_at lines address = option_map (λ row. row.line) (find (λ row. row.address == address) lines)
+line_at lines address = option_map (λ row. row.line) (row_at lines address)
+
+-- The text of a line, counted from 1.
+abbrev pub text_of : List (List ℕ) → ℕ → Option (List ℕ)
+text_of texts zero = None
+text_of texts (suc index) = slice_get texts index

@@ -6,6 +6,7 @@
 mod names;
 mod places;
 mod rows;
+mod texts;
 
 pub use names::{Names, is_same_word};
 pub use places::Places;

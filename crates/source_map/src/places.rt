@@ -1,11 +1,13 @@
 //! The names and the lines of a program.
 
-ghost use Rattle.std.specs.Prelude.{◌≡◌, ◌++◌, [], ℕ, IfOk, OnErr, OnOk, length, nat_lt, take};
-ghost use Rattle.source_map.specs.Lines.{line_at, places_of};
+ghost use Rattle.std.specs.Prelude.{◌≡◌, ◌++◌, [], ℕ, IfOk, OnErr, OnOk, length, nat_lt, slice_get, take};
+ghost use Rattle.std.specs.Option.{option_copied};
+ghost use Rattle.source_map.specs.Lines.{items_of, line_at, places_of, row_at, text_of};
 ghost use Rattle.source_map.specs.Names.{named_numbers, names_in, names_of};
 
 use crate::names::Names;
 use crate::rows::{Row, rows_of};
+use crate::texts::texts_of;
 use assembler::Assembly;
 use std::alloc::{AllocError, Global};
 use std::marker::Model;
@@ -15,37 +17,54 @@ use std::marker::Model;
 pub struct Places {
     names: Names,
     rows: Vec<Row>,
+    texts: Vec<Vec<u8>>,
     file: Vec<u8>,
 }
 
 impl Model for Places {
-    ghost use Rattle.source_map.specs.Lines.{PlacesView};
+    ghost use Rattle.source_map.specs.Lines.{PlacesView, items_of};
 
     ghost Value = { PlacesView };
 
-    ghost view = { λ p. record { names = p.names; lines = p.rows.items; file = p.file.items } };
+    ghost view = { λ p. record {
+      names = p.names;
+      lines = p.rows.items;
+      texts = items_of p.texts.items;
+      file = p.file.items;
+    } };
 }
 
-/// Returns the first of some lines whose first byte stands at an address.
-fn first_line_at(rows: &[Row], address: u16) -> Option<u32>
-    ensures { result ≡ line_at rows.now address }
+/// Returns the row of the first of some lines whose first byte stands at an address.
+fn first_row_at(rows: &[Row], address: u16) -> Option<Row>
+    ensures { result ≡ row_at rows.now address }
 {
     for row in rows {
-        if row.address == address as u32 {
-            return Some(row.line);
+        if row.address == address {
+            return Some(*row);
         }
     }
     None
 }
 
+/// Returns the text of an index.
+fn text_at(texts: &[Vec<u8>], index: usize) -> Option<&[u8]>
+    ensures { option_copied result ≡ slice_get (items_of texts.now) index }
+{
+    match texts.get(index) {
+        Some(text) => Some(text.as_slice()),
+        None => None,
+    }
+}
+
 impl Places {
     /// Makes the places of a program without names and without lines.
     pub fn new(alloc: Global) -> Places
-        ensures { result ≡ record { names = []; lines = []; file = [] } }
+        ensures { result ≡ record { names = []; lines = []; texts = []; file = [] } }
     {
         Places {
             names: Names::new(alloc),
             rows: Vec::new(alloc),
+            texts: Vec::new(alloc),
             file: Vec::new(alloc),
         }
     }
@@ -59,6 +78,7 @@ impl Places {
         Ok(Places {
             names,
             rows: rows_of(alloc, assembly)?,
+            texts: texts_of(alloc, assembly)?,
             file: Vec::from_slice(alloc, file)?,
         })
     }
@@ -97,10 +117,27 @@ impl Places {
         !self.rows.is_empty()
     }
 
+    /// Returns the row of the first line of the source whose first byte stands at an address.
+    pub fn row_at(&self, address: u16) -> Option<Row>
+        ensures { result ≡ row_at self.now.lines address }
+    {
+        first_row_at(self.rows.as_slice(), address)
+    }
+
     /// Returns the first line of the source whose first byte stands at an address.
     pub fn line_at(&self, address: u16) -> Option<u32>
         ensures { result ≡ line_at self.now.lines address }
     {
-        first_line_at(self.rows.as_slice(), address)
+        Some(self.row_at(address)?.line)
+    }
+
+    /// Returns the text of a line of the source, counted from 1, without its end.
+    pub fn text_of(&self, line: u32) -> Option<&[u8]>
+        ensures { option_copied result ≡ text_of self.now.texts line }
+    {
+        if line == 0 {
+            return None;
+        }
+        text_at(self.texts.as_slice(), line as usize - 1)
     }
 }

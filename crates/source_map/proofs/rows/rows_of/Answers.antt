@@ -11,7 +11,8 @@ pub loop-index-preserved : goal.loop-index-preserved
 loop-index-preserved c =
     let lines = source_lines c.args.assembly.now in
     let i = c.loop-index.index in
+    let image = c.args.assembly.now.image in
     record {
       rows = c.in_ok-push_row_at.ensures
-          ∙ (ap (λ (rows : List Row). rows ++ rows_of (option_to_list (slice_get lines i))) c.loop-index.invariant.rows ∙ one_more row_of lines i []);
+          ∙ (ap (λ (rows : List Row). rows ++ rows_of image (option_to_list (slice_get lines i))) c.loop-index.invariant.rows ∙ one_more (row_of image) lines i []);
     }
