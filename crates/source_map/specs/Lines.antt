@@ -1,8 +1,8 @@
 -- The lines of a source, and those that have bytes. Source: mos65.
-use Rattle.std.specs.Prelude.{ℕ, zero, suc, ◌+◌, ◌%◌, ◌==◌, ◌&&◌, nat_le, nat_lt, if◌then◌else◌, List, [], ◌∷◌, find, map, Option, None, slice_get, unwrap_or}
+use Rattle.std.specs.Prelude.{ℕ, zero, suc, ◌+◌, ◌-◌, ◌%◌, ◌==◌, ◌&&◌, Bool, not, nat_le, nat_lt, if◌then◌else◌, List, [], ◌∷◌, find, map, Option, None, slice_get, unwrap_or}
 use Rattle.std.specs.List.{flat_map}
 use Rattle.std.specs.Option.{option_map}
-use Rattle.std.specs.declared.vec.Vec.{Vec}
+use Rattle.std.specs.Global.{Vec}
 use Rattle.model.specs.Image.{cell_at}
 use Rattle.assembler.specs.Assembly.{AssemblyView, source_lines}
 use Rattle.assembler.specs.Lines.{LineView}
@@ -69,3 +69,20 @@ line_at lines address = option_map (λ row. row.line) (row_at lines address)
 abbrev pub text_of : List (List ℕ) → ℕ → Option (List ℕ)
 text_of texts zero = None
 text_of texts (suc index) = slice_get texts index
+
+-- ---- data
+
+-- How many bytes of a line are left from an address on: none if it does not stand there.
+abbrev pub left_in : ℕ → Row → ℕ
+left_in address row = if nat_le row.address address then row.count - (address - row.address) else 0
+
+-- Whether a line is no instruction and has a byte at an address.
+abbrev pub is_data_at : ℕ → Row → Bool
+is_data_at address row = not row.is_instruction && nat_lt 0 (left_in address row)
+
+-- How many bytes the first line of data that stands at an address has from there on: none if no
+-- such line does.
+abbrev pub data_left : List Row → ℕ → ℕ
+data_left [] address = 0
+data_left (row ∷ rows) address
+    = if is_data_at address row then left_in address row else data_left rows address

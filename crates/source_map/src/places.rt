@@ -2,7 +2,8 @@
 
 ghost use Rattle.std.specs.Prelude.{◌≡◌, ◌++◌, [], ℕ, IfOk, OnErr, OnOk, length, nat_lt, slice_get, take};
 ghost use Rattle.std.specs.Option.{option_copied};
-ghost use Rattle.source_map.specs.Lines.{items_of, line_at, places_of, row_at, text_of};
+ghost use Rattle.source_map.specs.Lines.{data_left, is_data_at, items_of, left_in, line_at};
+ghost use Rattle.source_map.specs.Lines.{places_of, row_at, text_of};
 ghost use Rattle.source_map.specs.Names.{named_numbers, names_in, names_of};
 
 use crate::names::Names;
@@ -44,6 +45,36 @@ fn first_row_at(rows: &[Row], address: u16) -> Option<Row>
         }
     }
     None
+}
+
+/// Returns how many bytes of a line are left from an address on: 0 if it does not stand there.
+fn left_in(row: Row, address: u16) -> u32
+    ensures { result ≡ left_in address row }
+{
+    if row.address <= address {
+        row.count.saturating_sub((address - row.address) as u32)
+    } else {
+        0
+    }
+}
+
+/// Returns whether a line is no instruction and has a byte at an address.
+fn is_data_at(row: Row, address: u16) -> bool
+    ensures { result ≡ is_data_at address row }
+{
+    !row.is_instruction && left_in(row, address) > 0
+}
+
+/// Returns how many bytes the first line of data that stands at an address has from there on.
+fn data_left(rows: &[Row], address: u16) -> u32
+    ensures { result ≡ data_left rows.now address }
+{
+    for row in rows {
+        if is_data_at(*row, address) {
+            return left_in(*row, address);
+        }
+    }
+    0
 }
 
 /// Returns the text of an index.
@@ -129,6 +160,14 @@ impl Places {
         ensures { result ≡ line_at self.now.lines address }
     {
         Some(self.row_at(address)?.line)
+    }
+
+    /// Returns how many bytes the first line of data that stands at an address has from there on: 0
+    /// if no such line does. Data is what is no instruction.
+    pub fn data_left(&self, address: u16) -> u32
+        ensures { result ≡ data_left self.now.lines address }
+    {
+        data_left(self.rows.as_slice(), address)
     }
 
     /// Returns the text of a line of the source, counted from 1, without its end.

@@ -14,7 +14,8 @@ fn push_text(alloc: Global, texts: &mut Vec<Vec<u8>>, text: &[u8]) -> Result<(),
         (items_of texts.new.items ≡ items_of texts.old.items ++ text.now ∷ []) }
 {
     let text = Vec::from_slice(alloc, text)?;
-    texts.push(text)
+    texts.push(text)?;
+    Ok(())
 }
 
 /// Appends the text of the line of an index, if there is such a line.
