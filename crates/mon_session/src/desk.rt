@@ -8,8 +8,9 @@ ghost use Rattle.model.specs.State.{State};
 ghost use Rattle.mon_session.specs.Course.{KeepsStops, ShowsOnly, course_of, happened};
 ghost use Rattle.mon_session.specs.EventTexts.{count_text, entry_text, event_text, rejected_text};
 ghost use Rattle.mon_session.specs.EventTexts.{row_or_entry, shown_text};
-ghost use Rattle.mon_texts.specs.Instructions.{instruction_at, instruction_line};
-ghost use Rattle.mon_texts.specs.Instructions.{instruction_row};
+ghost use Rattle.mon_texts.specs.Instructions.{instruction_line};
+ghost use Rattle.mon_texts.specs.Listed.{listed_len, listed_line};
+ghost use Rattle.mon_texts.specs.Made.{made_line, made_row};
 ghost use Rattle.mon_texts.specs.Stores.{stores_text};
 ghost use Rattle.mon_texts.specs.Screen.{output_since};
 
@@ -20,8 +21,8 @@ use model::EventFault;
 use mon_runs::{Event, Session, is_entry};
 use mon_stops::Stops;
 use mon_texts::{
-    push_fault, push_next, push_open_row, push_output_since, push_place, push_row, push_state,
-    push_stores,
+    push_fault, push_listed, push_made_row, push_next, push_output_since, push_place, push_row,
+    push_state, push_stores,
 };
 use source_map::Places;
 use std::alloc::{AllocError, Global};
@@ -120,31 +121,29 @@ impl Desk {
         push_output_since(&mut self.text, &self.session, from)
     }
 
-    /// Appends the instruction at an address, and returns how many bytes it has, 1 to 3.
+    /// Appends the instruction at an address.
     ///
     /// Errors: `AllocError` if an allocation fails.
-    pub fn show_row(&mut self, address: u16) -> Result<u8, AllocError>
+    pub fn show_row(&mut self, address: u16) -> Result<(), AllocError>
         ensures shows { ShowsOnly self.old self.new }
         ensures text { OnOk result (self.new.text.items ≡ self.old.text.items
             ++ instruction_line self.old.session.current self.old.places address) }
-        ensures len { IfOk result
-            (λ len. len ≡ (instruction_at self.old.session.current address).len) }
     {
         push_row(&mut self.text, &self.session, &self.places, address)
     }
 
-    /// Appends the instruction that comes next.
+    /// Appends the instruction or the data at an address, and returns how many bytes that has, 1 to
+    /// 3.
     ///
     /// Errors: `AllocError` if an allocation fails.
-    pub fn show_next(&mut self) -> Result<(), AllocError>
+    pub fn show_listed(&mut self, address: u16) -> Result<u8, AllocError>
         ensures shows { ShowsOnly self.old self.new }
         ensures text { OnOk result (self.new.text.items ≡ self.old.text.items
-            ++ instruction_line self.old.session.current self.old.places
-            self.old.session.current.regs.pc) }
+            ++ listed_line self.old.session.current self.old.places address) }
+        ensures len { IfOk result
+            (λ len. len ≡ listed_len self.old.session.current self.old.places.lines address) }
     {
-        let pc = self.session.regs().pc;
-        let _ = self.show_row(pc)?;
-        Ok(())
+        push_listed(&mut self.text, &self.session, &self.places, address)
     }
 
     /// Appends the row of the instruction that comes next, and leaves it open.
@@ -153,12 +152,24 @@ impl Desk {
     pub fn begin_row(&mut self) -> Result<(), AllocError>
         ensures shows { ShowsOnly self.old self.new }
         ensures text { OnOk result (self.new.text.items ≡ self.old.text.items
-            ++ instruction_row self.old.session.current self.old.places
+            ++ made_row self.old.session.current self.old.places
             self.old.session.current.regs.pc) }
     {
         let pc = self.session.regs().pc;
-        let _ = push_open_row(&mut self.text, &self.session, &self.places, pc)?;
-        Ok(())
+        push_made_row(&mut self.text, &self.session, &self.places, pc)
+    }
+
+    /// Appends the row of the instruction that comes next.
+    ///
+    /// Errors: `AllocError` if an allocation fails.
+    pub fn show_next(&mut self) -> Result<(), AllocError>
+        ensures shows { ShowsOnly self.old self.new }
+        ensures text { OnOk result (self.new.text.items ≡ self.old.text.items
+            ++ made_line self.old.session.current self.old.places
+            self.old.session.current.regs.pc) }
+    {
+        self.begin_row()?;
+        self.say("\n")
     }
 
     /// Ends a row by addresses, each with what a store has left there.

@@ -38,7 +38,7 @@ fn put_line(desk: &mut Desk, address: u16, line: Line) -> Result<(), AllocError>
         count,
     };
     if desk.happen(patch)? {
-        let _ = desk.show_row(address)?;
+        desk.show_row(address)?;
     }
     Ok(())
 }

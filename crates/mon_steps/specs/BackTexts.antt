@@ -12,7 +12,7 @@ use Rattle.mon_session.specs.EventTexts.{count_text, row_or_entry, shown_text}
 use Rattle.mon_lines.specs.declared.command.Undoing.{Undoing}
 use Rattle.mon_lines.specs.declared.command.Undoing.TheVariants.{Events, Over}
 use Rattle.mon_runs.specs.Back.{back_over}
-use Rattle.mon_texts.specs.Instructions.{instruction_line}
+use Rattle.mon_texts.specs.Made.{made_line}
 use Rattle.mon_texts.specs.Places.{place_text}
 use Rattle.mon_runs.specs.Recall.{last_stop}
 use Rattle.source_map.specs.Lines.{PlacesView}
@@ -133,7 +133,7 @@ one_remade_text places course =
     let before = course.0.current in
     remade_row (slice_get course.1.undone 0) (row_or_entry before.regs.s before.cycles
     (remade_one course).0.current places.names
-    (instruction_line before places before.regs.pc))
+    (made_line before places before.regs.pc))
 
 -- So many of them.
 abbrev pub remade_text : ℕ → PlacesView → Course → List ℕ

@@ -1,5 +1,6 @@
 -- What is said of lines that run. Source: mos65.
-use Rattle.std.specs.Prelude.{ℕ, ◌==◌, zero, suc, nat_lt, Bool, false, if◌then◌else◌, List, [], ◌++◌, length, Option, Some, None, Result, Ok, Err, codes}
+use Rattle.std.specs.Prelude.{ℕ, ◌==◌, ◌&&◌, zero, suc, nat_le, nat_lt, Bool, false, if◌then◌else◌, List, [], ◌++◌, length, Option, Some, None, Result, Ok, Err, codes, decimal}
+use Rattle.model.specs.Session.{Session}
 use Rattle.model.specs.State.{State}
 use Rattle.model.specs.declared.event.EventFault.{EventFault}
 use Rattle.model.specs.declared.run_end.Why.TheVariants as why
@@ -12,7 +13,7 @@ use Rattle.mon_runs.specs.declared.ended.EndWhy.TheVariants as end_why
 use Rattle.mon_runs.specs.declared.ended.Ended.{Ended}
 use Rattle.mon_stops.specs.declared.watches.Watch.{Watch}
 use Rattle.accesses.specs.Footprint.{stores_here}
-use Rattle.mon_texts.specs.Instructions.{instruction_line, instruction_row}
+use Rattle.mon_texts.specs.Made.{made_line, made_row}
 use Rattle.mon_texts.specs.Places.{place_text}
 use Rattle.mon_texts.specs.Screen.{output_since}
 use Rattle.mon_texts.specs.Stores.{stores_text}
@@ -23,7 +24,7 @@ use Rattle.source_map.specs.Names.{Named}
 use Rattle.mon_steps.specs.declared.endings.Begun.{Begun}
 use Rattle.mon_steps.specs.RunLines.{Stand, goes_on, is_limit, ran, start_of, stepped}
 use Rattle.mon_session.specs.declared.wording.TheConstants.{BREAKS_FULL}
-use Rattle.mon_steps.specs.declared.wording.TheConstants.{HERE}
+use Rattle.mon_steps.specs.declared.wording.TheConstants.{HERE, HISTORY, SHOWS_THEM}
 
 -- ---- how a run has ended
 
@@ -137,7 +138,7 @@ step_text stack cycles after names end row
 
 -- The row of an instruction that was made, with what it has stored.
 abbrev pub step_row : State → State → PlacesView → List ℕ
-step_row before after places = instruction_row before places before.regs.pc
+step_row before after places = made_row before places before.regs.pc
     ++ (stores_text after.bus (stores_here before) ++ codes "\n")
 
 abbrev pub one_step_text : List Watch → PlacesView → Stand → List ℕ
@@ -158,9 +159,28 @@ abbrev pub few_steps_text : ℕ → List Watch → PlacesView → Stand → List
 few_steps_text count watches places stand = stepped_text count watches places stand
     ++ since_text (stepped count watches stand).0.0.current places.names (begun_at stand)
 
+-- Which line shows so many steps that were made, if as many events are held.
+abbrev pub shows_them_text : ℕ → ℕ → List ℕ
+shows_them_text did held = if nat_lt 0 did && nat_le did held
+    then HISTORY.now ++ decimal did ++ SHOWS_THEM.now else []
+
+abbrev pub many_end_text : Session → List Named → Ended → List ℕ
+many_end_text session names end = end_line session.current names end
+    ++ shows_them_text end.did (length session.earlier)
+
+abbrev pub many_shown_text : Session → List Named → Ended → Begun → List ℕ
+many_shown_text session names end begun
+    = many_end_text session names end ++ since_text session.current names begun
+
+-- More steps, which are not shown.
+abbrev pub many_steps_text : ℕ → List Watch → List Named → Stand → List ℕ
+many_steps_text count watches names stand =
+    let arrival = count_run count watches (start_of stand) in
+    many_shown_text arrival.1.0 names arrival.0 (begun_at stand)
+
 abbrev pub some_steps_text : ℕ → List Watch → PlacesView → Stand → List ℕ
 some_steps_text count watches places stand = if nat_lt 20 count
-    then run_text (Some count) watches places.names stand
+    then many_steps_text count watches places.names stand
     else few_steps_text count watches places stand
 
 -- ---- a JSR as one step
@@ -175,7 +195,7 @@ called_row watches places stand =
     let before = stand.0.0.current in
     let arrival = over_run watches (start_of stand) in
     call_row arrival.0.did before.regs.s before.cycles arrival.1.0.current places.names
-    (instruction_line before places before.regs.pc)
+    (made_line before places before.regs.pc)
 
 abbrev pub call_text : List Watch → PlacesView → Stand → List ℕ
 call_text watches places stand = called_row watches places stand

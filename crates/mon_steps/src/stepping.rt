@@ -6,13 +6,16 @@ ghost use Rattle.mon_steps.specs.RunLines.{HasRun, KeepsWatches, called, goes_on
 ghost use Rattle.mon_steps.specs.RunLines.{some_steps, stand_of, stepped, stepped_over, watches_of};
 ghost use Rattle.mon_steps.specs.RunTexts.{behind_row, call_row, call_text, called_row, few_steps_text, made_text};
 ghost use Rattle.mon_steps.specs.RunTexts.{one_step_text, over_text, some_steps_text, step_text};
-ghost use Rattle.mon_steps.specs.RunTexts.{fault_in, step_row, stepped_text};
+ghost use Rattle.mon_steps.specs.RunTexts.{fault_in, many_end_text, many_shown_text};
+ghost use Rattle.mon_steps.specs.RunTexts.{many_steps_text, shows_them_text, step_row, stepped_text};
 ghost use Rattle.mon_steps.specs.RunLines.{start_of};
 ghost use Rattle.mon_runs.specs.PastBreaks.{count_run, over_run};
 
 use crate::endings::{Begun, show_end, show_since, tell_end};
-use crate::runs::{make_call, make_steps, run};
+use crate::runs::{make_call, make_steps};
+use crate::wording::{HISTORY, SHOWS_THEM};
 use accesses::stores_here;
+use formatting::push_count;
 use model::EventFault;
 use mon_runs::{EndWhy, Ended, Why};
 use mon_session::Desk;
@@ -169,6 +172,54 @@ fn few_steps(desk: &mut Desk, count: u32) -> Result<(), AllocError>
     show_since(desk, begun)
 }
 
+/// Says which line shows steps that were made, if they are still held.
+fn tell_history(desk: &mut Desk, did: u64) -> Result<(), AllocError>
+    ensures shows { ShowsOnly desk.old desk.new }
+    ensures text { OnOk result (desk.new.text.items ≡ desk.old.text.items
+        ++ shows_them_text did (length desk.old.session.earlier)) }
+{
+    if did > 0 && did <= desk.session.held() as u64 {
+        desk.say(HISTORY)?;
+        push_count(&mut desk.text, did)?;
+        desk.say(SHOWS_THEM)?;
+    }
+    Ok(())
+}
+
+/// Says how steps ended, and which line shows them.
+fn tell_many(desk: &mut Desk, end: Ended) -> Result<(), AllocError>
+    ensures shows { ShowsOnly desk.old desk.new }
+    ensures text { OnOk result (desk.new.text.items ≡ desk.old.text.items
+        ++ many_end_text desk.old.session desk.old.places.names end) }
+{
+    tell_end(desk, end)?;
+    tell_history(desk, end.did)
+}
+
+/// Says how steps ended, which line shows them, and shows the state.
+fn show_many(desk: &mut Desk, end: Ended, begun: Begun) -> Result<(), AllocError>
+    ensures shows { ShowsOnly desk.old desk.new }
+    ensures text { OnOk result (desk.new.text.items ≡ desk.old.text.items
+        ++ many_shown_text desk.old.session desk.old.places.names end begun) }
+{
+    tell_many(desk, end)?;
+    show_since(desk, begun)
+}
+
+/// Makes `count` steps, or those up to a stop, and says how they ended.
+fn many_steps(desk: &mut Desk, count: u32) -> Result<(), AllocError>
+    ensures course { HasRun (course_of desk.old) (course_of desk.new) }
+    ensures stand { stand_of desk.new ≡ ran count (watches_of desk.old) (stand_of desk.old) }
+    ensures watches { KeepsWatches desk.old desk.new }
+    ensures text { OnOk result (desk.new.text.items ≡ desk.old.text.items
+        ++ many_steps_text count (watches_of desk.old) desk.old.places.names
+        (stand_of desk.old)) }
+{
+    let begun = Begun::at(desk);
+    let end = make_steps(desk, count);
+    show_many(desk, end, begun)
+}
+
 /// Makes steps, and shows each if they are few. Says how they ended.
 ///
 /// Errors: `AllocError` if an allocation fails; some of the steps may be made then.
@@ -181,7 +232,7 @@ pub fn steps(desk: &mut Desk, count: u32) -> Result<(), AllocError>
         ++ some_steps_text count (watches_of desk.old) desk.old.places (stand_of desk.old)) }
 {
     if count > MOST_SHOWN {
-        return run(desk, Some(count));
+        return many_steps(desk, count);
     }
     few_steps(desk, count)
 }

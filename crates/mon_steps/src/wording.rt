@@ -29,6 +29,10 @@ pub const STEPS: &str = " steps";
 
 pub const HERE: &str = "here: ";
 
+pub const HISTORY: &str = "history ";
+
+pub const SHOWS_THEM: &str = " shows them\n";
+
 // Back.
 pub const NONE_HELD: &str = "nothing can be undone: no step was made yet, or its history is gone\n";
 

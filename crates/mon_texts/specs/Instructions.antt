@@ -88,15 +88,19 @@ next_line state names
 abbrev pub byte_column : ℕ → List ℕ
 byte_column byte = hex_byte byte ++ 32 ∷ []
 
-abbrev pub instruction_bytes : State → ℕ → List ℕ
-instruction_bytes state address
-    = flat_map byte_column (take (instruction_at state address).len (bytes_at state address))
+-- An address, and so many bytes from there on, at most three.
+unfoldable pub front_columns : ℕ → State → ℕ → List ℕ
+front_columns len state address = padded 16 (hex_address address ++ codes "  "
+    ++ flat_map byte_column (take len (bytes_at state address)))
+
+-- The address and the bytes of the instruction at an address.
+abbrev pub instruction_front : State → ℕ → List ℕ
+instruction_front state address = front_columns (instruction_at state address).len state address
 
 -- The address, the bytes and the text of the instruction at an address.
-unfoldable pub instruction_columns : State → List Named → ℕ → List ℕ
+abbrev pub instruction_columns : State → List Named → ℕ → List ℕ
 instruction_columns state names address
-    = padded 16 (hex_address address ++ codes "  " ++ instruction_bytes state address)
-    ++ instruction_text state names address
+    = instruction_front state address ++ instruction_text state names address
 
 -- A row with the file and the number of a line of the source, if there is one.
 unfoldable pub with_line : List ℕ → Option ℕ → List ℕ → List ℕ

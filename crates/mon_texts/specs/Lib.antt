@@ -3,6 +3,9 @@ pub mod Places
 pub mod Registers
 pub mod Faults
 pub mod Instructions
+pub mod Made
+pub mod Listed
+pub mod Pushed
 pub mod Stack
 pub mod Stops
 pub mod Stores

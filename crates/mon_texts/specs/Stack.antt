@@ -1,26 +1,18 @@
--- The stack, entry by entry. Source: mos65; what JSR pushes, MCS6500 manual, chapter 8.
-use Rattle.std.specs.Prelude.{ℕ, zero, suc, ◌+◌, ◌%◌, ◌&&◌, nat_le, nat_lt, Bool, if◌then◌else◌, List, [], ◌++◌, codes, slice_index}
+-- The stack, entry by entry. Source: mos65.
+use Rattle.std.specs.Prelude.{ℕ, ◌+◌, ◌%◌, List, ◌++◌, codes, slice_index}
+use Rattle.model.specs.Effect.{flags_of_byte}
 use Rattle.model.specs.State.{State}
 use Rattle.model.specs.Text.{hex_address, hex_byte}
+use Rattle.source_map.specs.Lines.{PlacesView}
 use Rattle.source_map.specs.Names.{Named}
-use Rattle.mon_texts.specs.Calls.{is_jsr, jsr_of}
-use Rattle.mon_texts.specs.Instructions.{byte_column, instruction_text}
+use Rattle.mon_texts.specs.Instructions.{byte_column, front_columns, instruction_text}
 use Rattle.mon_texts.specs.Memory.{stack_line}
 use Rattle.mon_texts.specs.Places.{place_text}
-use Rattle.mon_texts.specs.declared.wording.TheConstants.{OF, RETURN_TO}
-
--- The address of the JSR that pushed the byte at an address and the one behind it.
-abbrev pub jsr_at : List ℕ → ℕ → ℕ
-jsr_at memory address
-    = jsr_of (slice_index memory address) (slice_index memory (address + 1))
-
--- Whether these two are a return address: a JSR is where they say, and both are on the stack.
-abbrev pub is_return : List ℕ → ℕ → Bool
-is_return memory address = nat_lt address 511 && is_jsr memory (jsr_at memory address)
-
--- How many bytes an entry has.
-abbrev pub entry_len : List ℕ → ℕ → ℕ
-entry_len memory address = if is_return memory address then 2 else 1
+use Rattle.mon_texts.specs.Pushed.{entries, entry_len, pushed_at}
+use Rattle.mon_texts.specs.Registers.{flag_letters}
+use Rattle.mon_texts.specs.declared.pushed.Pushed.{Pushed}
+use Rattle.mon_texts.specs.declared.pushed.Pushed.TheVariants.{Call, Break, Interrupt, Byte}
+use Rattle.mon_texts.specs.declared.wording.TheConstants.{BREAK_FROM, INTERRUPTED_AT, OF, RETURN_TO, STATUS}
 
 -- Where a JSR returns to, and what it is: `return to 0209 main+9 of JSR clear`.
 unfoldable pub return_text : State → List Named → ℕ → List ℕ
@@ -32,28 +24,37 @@ unfoldable pub pair_columns : ℕ → ℕ → ℕ → List ℕ
 pair_columns address low high = hex_address address ++ codes "  " ++ byte_column low
     ++ byte_column high ++ codes " "
 
-abbrev pub return_row : State → List Named → ℕ → List ℕ
-return_row state names address = pair_columns address
+abbrev pub return_row : State → List Named → ℕ → ℕ → List ℕ
+return_row state names address jsr = pair_columns address
     (slice_index state.bus.memory address) (slice_index state.bus.memory (address + 1))
-    ++ return_text state names (jsr_at state.bus.memory address)
+    ++ return_text state names jsr
+
+-- Words, a place, and the flags in a byte: `interrupted at 0302 loop, P nv-bdIzc`.
+unfoldable pub status_text : List ℕ → List Named → ℕ → ℕ → List ℕ
+status_text words names at status = words ++ place_text names at ++ STATUS.now
+    ++ flag_letters (flags_of_byte status) ++ codes "\n"
+
+-- The row of P and an address.
+abbrev pub status_row : List ℕ → State → List Named → ℕ → ℕ → List ℕ
+status_row words state names address at = front_columns 3 state address
+    ++ status_text words names at (slice_index state.bus.memory address)
 
 -- The row of any other byte: `01FC  41`.
 unfoldable pub byte_row : ℕ → ℕ → List ℕ
 byte_row address byte = hex_address address ++ codes "  " ++ hex_byte byte ++ codes "\n"
 
-abbrev pub entry_row : State → List Named → ℕ → List ℕ
-entry_row state names address = if is_return state.bus.memory address
-    then return_row state names address
-    else byte_row address (slice_index state.bus.memory address)
+abbrev pub entry_of : State → List Named → ℕ → Pushed → List ℕ
+entry_of state names address (Call jsr) = return_row state names address jsr
+entry_of state names address (Break at) = status_row BREAK_FROM.now state names address at
+entry_of state names address (Interrupt at) = status_row INTERRUPTED_AT.now state names address at
+entry_of state names address Byte = byte_row address (slice_index state.bus.memory address)
 
--- Up to n entries from an address on; the stack ends at $01FF.
-unfoldable pub entries : ℕ → State → List Named → ℕ → List ℕ
-entries zero state names address = []
-entries (suc n) state names address = if nat_le 512 address then []
-    else entry_row state names address
-    ++ entries n state names (address + entry_len state.bus.memory address)
+abbrev pub entry_row : State → PlacesView → ℕ → List ℕ
+entry_row state places address
+    = entry_of state places.names address (pushed_at state.bus.memory places.lines address)
 
 -- The bytes on the stack, and a row for each entry, the top one first.
-abbrev pub stack_text : State → List Named → List ℕ
-stack_text state names = stack_line state.bus.memory state.regs.s
-    ++ entries 256 state names (257 + state.regs.s)
+abbrev pub stack_text : State → PlacesView → List ℕ
+stack_text state places = stack_line state.bus.memory state.regs.s
+    ++ entries 256 (entry_row state places) (entry_len state.bus.memory places.lines)
+    (257 + state.regs.s)

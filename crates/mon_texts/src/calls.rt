@@ -1,62 +1,90 @@
-//! The calls on the stack.
+//! The calls and the interrupts on the stack.
 
-ghost use Rattle.std.specs.Prelude.{◌≡◌, ◌+◌, ◌<◌, ◌++◌, OnOk, slice_index};
-ghost use Rattle.mon_texts.specs.Calls.{at_line, call_line, call_lines, calls_text, jsr_of};
+ghost use Rattle.std.specs.Prelude.{◌≡◌, ◌<◌, ◌≤◌, ◌++◌, OnOk};
+ghost use Rattle.mon_texts.specs.Calls.{at_line, calls_text, frame_line, frame_of, from_line};
+ghost use Rattle.mon_texts.specs.Pushed.{entries, entry_len};
 
 use crate::instructions::push_instruction;
 use crate::places::push_place;
-use crate::wording::{CALLED_FROM, PROGRAM_AT};
+use crate::pushed::{Pushed, pushed_at, pushed_len};
+use crate::wording::{CALLED_FROM, INTERRUPTED_AT, PROGRAM_AT};
 use debugger::Session;
 use formatting::push_text;
 use source_map::Places;
 use std::alloc::AllocError;
 
-/// Returns the address of the JSR that pushes the byte at an address and the one behind it.
-pub fn jsr_at(session: &Session, address: u16) -> u16
-    requires { address < 65535 }
-    ensures { result ≡ jsr_of (slice_index session.now.current.bus.memory address)
-        (slice_index session.now.current.bus.memory (address + 1)) }
-{
-    u16::from_le_bytes([session.peek(address), session.peek(address + 1)]).wrapping_sub(2)
-}
-
-/// Appends the line of a call: the place of its JSR, and the instruction there.
-fn push_call(
+/// Appends words, a place, and the instruction there.
+fn push_from(
     text: &mut Vec<u8>,
     session: &Session,
     places: &Places,
-    jsr: u16,
+    words: &str,
+    address: u16,
 ) -> Result<(), AllocError>
     ensures { OnOk result (text.new.items ≡ text.old.items
-        ++ call_line session.now.current places.now.names jsr) }
+        ++ from_line words.now session.now.current places.now.names address) }
 {
-    push_text(text, CALLED_FROM)?;
-    push_place(text, places, jsr)?;
+    push_text(text, words)?;
+    push_place(text, places, address)?;
     push_text(text, ": ")?;
-    push_instruction(text, session, places, jsr)?;
+    push_instruction(text, session, places, address)?;
     push_text(text, "\n")?;
     Ok(())
 }
 
-/// Appends the lines of the calls whose return addresses are above a stack pointer.
-fn push_call_lines(
+/// Appends the line of a call, of a BRK or of an interrupt: the place of the instruction, and the
+/// instruction.
+fn push_frame(
     text: &mut Vec<u8>,
     session: &Session,
     places: &Places,
-    stack: u8,
+    pushed: Pushed,
 ) -> Result<(), AllocError>
     ensures { OnOk result (text.new.items ≡ text.old.items
-        ++ call_lines session.now.current places.now.names stack) }
+        ++ frame_of session.now.current places.now.names pushed) }
 {
-    let mut address = 257 + stack as u16;
-    while address < 511 {
-        let jsr = jsr_at(session, address);
-        if session.peek(jsr) == 0x20 {
-            push_call(text, session, places, jsr)?;
-            address += 2;
-        } else {
-            address += 1;
+    match pushed {
+        Pushed::Call(address) | Pushed::Break(address) => {
+            push_from(text, session, places, CALLED_FROM, address)
         }
+        Pushed::Interrupt(address) => push_from(text, session, places, INTERRUPTED_AT, address),
+        Pushed::Byte => Ok(()),
+    }
+}
+
+/// Appends the line of what has pushed the bytes from an address of the stack on.
+fn push_frame_at(
+    text: &mut Vec<u8>,
+    session: &Session,
+    places: &Places,
+    address: u16,
+) -> Result<(), AllocError>
+    requires { address < 512 }
+    ensures { OnOk result (text.new.items ≡ text.old.items
+        ++ frame_line session.now.current places.now address) }
+{
+    push_frame(text, session, places, pushed_at(session, places, address))
+}
+
+/// Appends the lines of calls and interrupts from an address of the stack on.
+fn push_frames(
+    text: &mut Vec<u8>,
+    session: &Session,
+    places: &Places,
+    first: u16,
+) -> Result<(), AllocError>
+    requires { first ≤ 512 }
+    ensures { OnOk result (text.new.items ≡ text.old.items
+        ++ entries 256 (frame_line session.now.current places.now)
+        (entry_len session.now.current.bus.memory places.now.lines) first) }
+{
+    let mut address = first;
+    for _ in 0..256u16 {
+        if address >= 512 {
+            return Ok(());
+        }
+        push_frame_at(text, session, places, address)?;
+        address += pushed_len(pushed_at(session, places, address));
     }
     Ok(())
 }
@@ -71,14 +99,13 @@ fn push_at(text: &mut Vec<u8>, places: &Places, pc: u16) -> Result<(), AllocErro
     Ok(())
 }
 
-/// Appends where the program is, and the calls whose return addresses are on the stack, the last
-/// one first.
+/// Appends where the program is, and the calls and the interrupts on the stack, the last one first.
 ///
 /// Errors: `AllocError` if an allocation fails.
 pub fn push_calls(text: &mut Vec<u8>, session: &Session, places: &Places) -> Result<(), AllocError>
     ensures ok { OnOk result (text.new.items ≡ text.old.items
-        ++ calls_text session.now.current places.now.names) }
+        ++ calls_text session.now.current places.now) }
 {
     push_at(text, places, session.regs().pc)?;
-    push_call_lines(text, session, places, session.regs().s)
+    push_frames(text, session, places, 257 + session.regs().s as u16)
 }

@@ -1,13 +1,13 @@
 //! Instructions with names.
 
-ghost use Rattle.std.specs.Prelude.{◌≡◌, ◌≤◌, ◌++◌, IfOk, OnOk, drop, length, take};
+ghost use Rattle.std.specs.Prelude.{◌≡◌, ◌≤◌, ◌++◌, OnOk, drop, length, take};
 ghost use Rattle.std.specs.List.{flat_map, prefix_len};
 ghost use Rattle.std.specs.Option.{option_copied};
 ghost use Rattle.disasm.specs.Rows.{row_view};
 ghost use Rattle.source_map.specs.Lines.{line_at};
 ghost use Rattle.mon_texts.specs.Instructions.{behind_dollar, byte_column, bytes_at, digits_of};
-ghost use Rattle.mon_texts.specs.Instructions.{ends_in_hash, front_of, instruction_at};
-ghost use Rattle.mon_texts.specs.Instructions.{instruction_columns, instruction_line};
+ghost use Rattle.mon_texts.specs.Instructions.{ends_in_hash, front_columns, front_of, instruction_at};
+ghost use Rattle.mon_texts.specs.Instructions.{instruction_columns, instruction_front, instruction_line};
 ghost use Rattle.mon_texts.specs.Instructions.{instruction_row};
 ghost use Rattle.mon_texts.specs.Instructions.{instruction_text, is_before_address};
 ghost use Rattle.mon_texts.specs.Instructions.{is_hex_digit, is_no_dollar, name_in};
@@ -140,7 +140,7 @@ fn push_named(text: &mut Vec<u8>, places: &Places, row: &[u8]) -> Result<(), All
 }
 
 /// Returns the byte at an address and the two behind it.
-fn bytes_at(session: &Session, address: u16) -> [u8; 3]
+pub fn bytes_at(session: &Session, address: u16) -> [u8; 3]
     ensures { result ≡ bytes_at session.now.current address }
 {
     [
@@ -150,8 +150,8 @@ fn bytes_at(session: &Session, address: u16) -> [u8; 3]
     ]
 }
 
-/// The row of the instruction at an address.
-fn row_at(session: &Session, address: u16) -> TextLine
+/// Returns the row of the instruction at an address.
+pub fn row_at(session: &Session, address: u16) -> TextLine
     ensures row { row_view result ≡ instruction_at session.now.current address }
     ensures short { result.text_len ≤ 12 }
     ensures within { result.len ≤ 3 }
@@ -159,7 +159,7 @@ fn row_at(session: &Session, address: u16) -> TextLine
     line_in(session.profile(), &bytes_at(session, address), address)
 }
 
-/// Appends the text of the instruction at an address, and returns how many bytes it has.
+/// Appends the text of the instruction at an address.
 ///
 /// Errors: `AllocError` if an allocation fails.
 pub fn push_instruction(
@@ -167,14 +167,12 @@ pub fn push_instruction(
     session: &Session,
     places: &Places,
     address: u16,
-) -> Result<u8, AllocError>
+) -> Result<(), AllocError>
     ensures ok { OnOk result (text.new.items ≡ text.old.items
         ++ instruction_text session.now.current places.now.names address) }
-    ensures len { IfOk result (λ len. len ≡ (instruction_at session.now.current address).len) }
 {
     let row = row_at(session, address);
-    push_named(text, places, &row.text[..row.text_len as usize])?;
-    Ok(row.len)
+    push_named(text, places, &row.text[..row.text_len as usize])
 }
 
 /// Appends a byte as two hex digits, and a blank.
@@ -195,31 +193,54 @@ fn push_bytes(text: &mut Vec<u8>, bytes: &[u8]) -> Result<(), AllocError>
     Ok(())
 }
 
-/// Appends the address, the bytes and the text of the instruction at an address, and returns how
-/// many bytes it has.
-#[tactic(auto, using(formatting::proofs::Padding::grown), unfolding(crate::specs::Instructions::instruction_columns))]
-fn push_columns(
+/// Appends an address and `len` bytes from there on, at most three.
+#[tactic(auto, using(formatting::proofs::Padding::grown), unfolding(crate::specs::Instructions::front_columns))]
+pub fn push_front(
+    text: &mut Vec<u8>,
+    session: &Session,
+    address: u16,
+    len: u8,
+) -> Result<(), AllocError>
+    requires { len ≤ 3 }
+    ensures { OnOk result (text.new.items ≡ text.old.items
+        ++ front_columns len session.now.current address) }
+{
+    let from = text.len();
+    push_address(text, address)?;
+    push_text(text, "  ")?;
+    push_bytes(text, &bytes_at(session, address)[..len as usize])?;
+    push_blanks(text, from, 16)
+}
+
+/// Appends the address and the bytes of the instruction at an address.
+pub fn push_instruction_front(
+    text: &mut Vec<u8>,
+    session: &Session,
+    address: u16,
+) -> Result<(), AllocError>
+    ensures { OnOk result (text.new.items ≡ text.old.items
+        ++ instruction_front session.now.current address) }
+{
+    push_front(text, session, address, row_at(session, address).len)
+}
+
+/// Appends the address, the bytes and the text of the instruction at an address.
+pub fn push_columns(
     text: &mut Vec<u8>,
     session: &Session,
     places: &Places,
     address: u16,
-) -> Result<u8, AllocError>
+) -> Result<(), AllocError>
     ensures ok { OnOk result (text.new.items ≡ text.old.items
         ++ instruction_columns session.now.current places.now.names address) }
-    ensures len { IfOk result (λ len. len ≡ (instruction_at session.now.current address).len) }
 {
-    let from = text.len();
-    let len = row_at(session, address).len;
-    push_address(text, address)?;
-    push_text(text, "  ")?;
-    push_bytes(text, &bytes_at(session, address)[..len as usize])?;
-    push_blanks(text, from, 16)?;
+    push_instruction_front(text, session, address)?;
     push_instruction(text, session, places, address)
 }
 
 /// Appends the file and the number of a line to the row that begins at `from`.
 #[tactic(auto, using(formatting::proofs::Padding::grown), unfolding(crate::specs::Instructions::with_line))]
-fn push_line(
+pub fn push_line(
     text: &mut Vec<u8>,
     from: usize,
     places: &Places,
@@ -241,7 +262,7 @@ fn push_line(
 }
 
 /// Appends the row of an instruction: address, bytes, text, and the line of the source if there is
-/// one. The row is not ended. Returns how many bytes the instruction has.
+/// one. The row is not ended.
 ///
 /// Errors: `AllocError` if an allocation fails.
 #[tactic(auto, using(formatting::proofs::Padding::grown))]
@@ -250,18 +271,16 @@ pub fn push_open_row(
     session: &Session,
     places: &Places,
     address: u16,
-) -> Result<u8, AllocError>
+) -> Result<(), AllocError>
     ensures ok { OnOk result (text.new.items ≡ text.old.items
         ++ instruction_row session.now.current places.now address) }
-    ensures len { IfOk result (λ len. len ≡ (instruction_at session.now.current address).len) }
 {
     let from = text.len();
-    let len = push_columns(text, session, places, address)?;
-    push_line(text, from, places, address)?;
-    Ok(len)
+    push_columns(text, session, places, address)?;
+    push_line(text, from, places, address)
 }
 
-/// Appends the line of an instruction: its row, ended. Returns how many bytes it has.
+/// Appends the line of an instruction: its row, ended.
 ///
 /// Errors: `AllocError` if an allocation fails.
 pub fn push_row(
@@ -269,14 +288,12 @@ pub fn push_row(
     session: &Session,
     places: &Places,
     address: u16,
-) -> Result<u8, AllocError>
+) -> Result<(), AllocError>
     ensures ok { OnOk result (text.new.items ≡ text.old.items
         ++ instruction_line session.now.current places.now address) }
-    ensures len { IfOk result (λ len. len ≡ (instruction_at session.now.current address).len) }
 {
-    let len = push_open_row(text, session, places, address)?;
-    push_text(text, "\n")?;
-    Ok(len)
+    push_open_row(text, session, places, address)?;
+    push_text(text, "\n")
 }
 
 /// Appends the line that says which instruction comes next.

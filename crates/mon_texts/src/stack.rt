@@ -1,38 +1,21 @@
 //! The stack, entry by entry.
 
-ghost use Rattle.std.specs.Prelude.{◌≡◌, ◌+◌, ◌<◌, ◌≤◌, ◌++◌, OnOk, slice_index};
-ghost use Rattle.mon_texts.specs.Stack.{byte_row, entries, entry_len, entry_row, is_return, jsr_at};
-ghost use Rattle.mon_texts.specs.Stack.{pair_columns, return_row, return_text, stack_text};
+ghost use Rattle.std.specs.Prelude.{◌≡◌, ◌<◌, ◌≤◌, ◌++◌, OnOk};
+ghost use Rattle.mon_texts.specs.Pushed.{entries, entry_len};
+ghost use Rattle.mon_texts.specs.Stack.{byte_row, entry_of, entry_row, pair_columns, return_row};
+ghost use Rattle.mon_texts.specs.Stack.{return_text, stack_text, status_row, status_text};
 
-use crate::calls::jsr_at;
-use crate::instructions::{push_byte_column, push_instruction};
+use crate::instructions::{push_byte_column, push_front, push_instruction};
 use crate::memory::push_stack_line;
 use crate::places::push_place;
-use crate::wording::{OF, RETURN_TO};
+use crate::pushed::{Pushed, pushed_at, pushed_len};
+use crate::state::letters;
+use crate::wording::{BREAK_FROM, INTERRUPTED_AT, OF, RETURN_TO, STATUS};
 use debugger::Session;
 use formatting::{push_address, push_byte, push_text};
+use model::Flags;
 use source_map::Places;
 use std::alloc::AllocError;
-
-/// The opcode of JSR.
-const JSR: u8 = 0x20;
-
-/// Returns whether the byte at an address of the stack and the one behind it are a return address.
-fn is_return(session: &Session, address: u16) -> bool
-    requires { address < 512 }
-    ensures { result ≡ is_return session.now.current.bus.memory address }
-{
-    address < 511 && session.peek(jsr_at(session, address)) == JSR
-}
-
-/// Returns how many bytes an entry of the stack has.
-fn entry_len(session: &Session, address: u16) -> u16
-    requires { address < 512 }
-    ensures len { result ≡ entry_len session.now.current.bus.memory address }
-    ensures few { result ≤ 2 }
-{
-    if is_return(session, address) { 2 } else { 1 }
-}
 
 /// Appends where a JSR returns to, and the JSR.
 #[tactic(auto, unfolding(crate::specs::Stack::return_text))]
@@ -64,21 +47,60 @@ fn push_pair(text: &mut Vec<u8>, address: u16, low: u8, high: u8) -> Result<(), 
     push_text(text, " ")
 }
 
-/// Appends the row of a return address.
+/// Appends the row of the return address that a JSR has pushed.
 fn push_return_row(
     text: &mut Vec<u8>,
     session: &Session,
     places: &Places,
     address: u16,
+    jsr: u16,
 ) -> Result<(), AllocError>
     requires { address < 512 }
     ensures { OnOk result (text.new.items ≡ text.old.items
-        ++ return_row session.now.current places.now.names address) }
+        ++ return_row session.now.current places.now.names address jsr) }
 {
-    let low = session.peek(address);
-    let high = session.peek(address + 1);
-    push_pair(text, address, low, high)?;
-    push_return(text, session, places, jsr_at(session, address))
+    push_pair(
+        text,
+        address,
+        session.peek(address),
+        session.peek(address + 1),
+    )?;
+    push_return(text, session, places, jsr)
+}
+
+/// Appends words, a place, and the flags in a byte.
+#[tactic(auto, unfolding(crate::specs::Stack::status_text))]
+fn push_status(
+    text: &mut Vec<u8>,
+    places: &Places,
+    words: &str,
+    at: u16,
+    status: u8,
+) -> Result<(), AllocError>
+    ensures { OnOk result (text.new.items ≡ text.old.items
+        ++ status_text words.now places.now.names at status) }
+{
+    push_text(text, words)?;
+    push_place(text, places, at)?;
+    push_text(text, STATUS)?;
+    text.extend_from_slice(&letters(Flags::from_byte(status)))?;
+    push_text(text, "\n")
+}
+
+/// Appends the row of P and the address that a BRK or an interrupt has pushed.
+fn push_status_row(
+    text: &mut Vec<u8>,
+    session: &Session,
+    places: &Places,
+    words: &str,
+    address: u16,
+    at: u16,
+) -> Result<(), AllocError>
+    ensures { OnOk result (text.new.items ≡ text.old.items
+        ++ status_row words.now session.now.current places.now.names address at) }
+{
+    push_front(text, session, address, 3)?;
+    push_status(text, places, words, at, session.peek(address))
 }
 
 /// Appends the row of a byte.
@@ -92,6 +114,28 @@ fn push_byte_row(text: &mut Vec<u8>, address: u16, byte: u8) -> Result<(), Alloc
     push_text(text, "\n")
 }
 
+/// Appends the row of what was pushed.
+fn push_entry_of(
+    text: &mut Vec<u8>,
+    session: &Session,
+    places: &Places,
+    address: u16,
+    pushed: Pushed,
+) -> Result<(), AllocError>
+    requires { address < 512 }
+    ensures { OnOk result (text.new.items ≡ text.old.items
+        ++ entry_of session.now.current places.now.names address pushed) }
+{
+    match pushed {
+        Pushed::Call(jsr) => push_return_row(text, session, places, address, jsr),
+        Pushed::Break(at) => push_status_row(text, session, places, BREAK_FROM, address, at),
+        Pushed::Interrupt(at) => {
+            push_status_row(text, session, places, INTERRUPTED_AT, address, at)
+        }
+        Pushed::Byte => push_byte_row(text, address, session.peek(address)),
+    }
+}
+
 /// Appends the row of an entry of the stack.
 fn push_entry(
     text: &mut Vec<u8>,
@@ -101,13 +145,15 @@ fn push_entry(
 ) -> Result<(), AllocError>
     requires { address < 512 }
     ensures { OnOk result (text.new.items ≡ text.old.items
-        ++ entry_row session.now.current places.now.names address) }
+        ++ entry_row session.now.current places.now address) }
 {
-    if is_return(session, address) {
-        push_return_row(text, session, places, address)
-    } else {
-        push_byte_row(text, address, session.peek(address))
-    }
+    push_entry_of(
+        text,
+        session,
+        places,
+        address,
+        pushed_at(session, places, address),
+    )
 }
 
 /// Appends the rows of the entries from an address of the stack on.
@@ -119,7 +165,8 @@ fn push_entries(
 ) -> Result<(), AllocError>
     requires { first ≤ 512 }
     ensures { OnOk result (text.new.items ≡ text.old.items
-        ++ entries 256 session.now.current places.now.names first) }
+        ++ entries 256 (entry_row session.now.current places.now)
+        (entry_len session.now.current.bus.memory places.now.lines) first) }
 {
     let mut address = first;
     for _ in 0..256u16 {
@@ -127,19 +174,19 @@ fn push_entries(
             return Ok(());
         }
         push_entry(text, session, places, address)?;
-        address += entry_len(session, address);
+        address += pushed_len(pushed_at(session, places, address));
     }
     Ok(())
 }
 
 /// Appends the bytes on the stack, and a row for each entry, the top one first: where a return
-/// address leads and which JSR has pushed it, or the byte. Bytes that look like a return address
-/// are taken for one.
+/// address leads and which JSR has pushed it, P and what an interrupt or a BRK came before, or the
+/// byte. `pushed_at` says what is taken for what.
 ///
 /// Errors: `AllocError` if an allocation fails.
 pub fn push_stack(text: &mut Vec<u8>, session: &Session, places: &Places) -> Result<(), AllocError>
     ensures ok { OnOk result (text.new.items ≡ text.old.items
-        ++ stack_text session.now.current places.now.names) }
+        ++ stack_text session.now.current places.now) }
 {
     push_stack_line(text, session)?;
     push_entries(text, session, places, 257 + session.regs().s as u16)

@@ -22,7 +22,7 @@ fn letter(is_set: bool, letter: u8) -> u8
 }
 
 /// Returns the flags as letters: capitals are 1. The bits that are no flags are `-` and `b`.
-fn letters(flags: Flags) -> [u8; 8]
+pub fn letters(flags: Flags) -> [u8; 8]
     ensures { result ≡ flag_letters flags }
 {
     [

@@ -74,8 +74,19 @@ pub const TOO_MANY_BYTES: &str = "there are too many bytes";
 
 pub const INPUT_FULL: &str = "65536 bytes of input were handed in already";
 
+// Data among instructions.
+pub const DATA: &str = ".BYTE $";
+
+pub const FURTHER_DATA: &str = ",$";
+
 // Calls, memory, the stack and the screen.
 pub const CALLED_FROM: &str = "called from ";
+
+pub const INTERRUPTED_AT: &str = "interrupted at ";
+
+pub const BREAK_FROM: &str = "BRK at ";
+
+pub const STATUS: &str = ", P ";
 
 pub const PROGRAM_AT: &str = "at ";
 

@@ -11,7 +11,7 @@ loop-preserved c =
     let n = c.args.count - (c.loop.counter + 1) in
     let some : c.args.count - c.loop.counter ≡ suc n = omega (arith, c.loop-test.true) in
     let shows = c.loop.invariant.shows in
-    let shown = c.show_row.ensures.shows in
+    let shown = c.show_listed.ensures.shows in
     record {
       shows = (shown.0 ∙ shows.0, shown.1 ∙ shows.1, shown.2 ∙ shows.2, shown.3 ∙ shows.3);
       text = row_more c.args.desk.now.session.current c.loop.desk.session.current c.args.desk.now.places c.loop.desk.places

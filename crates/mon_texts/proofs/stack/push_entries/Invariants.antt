@@ -1,9 +1,13 @@
 use Rattle.std.proofs.Common.{◌≡◌, ◌≤◌, ◌++◌, ◌-◌}
-use Rattle.mon_texts.specs.Stack.{entries}
+use Rattle.mon_texts.specs.Stack.{entry_row}
+use Rattle.mon_texts.specs.Pushed.{entries, entry_len}
 use Rattle.mon_texts.proofs.stack.push_entries.Given as goal
 
 abbrev pub invariant-loop : goal.invariant-loop
 invariant-loop l = record {
-  within : l.address ≤ 513;
-  rest : l.text.items ++ entries (256 - l.counter) l.session.current l.places.names l.address ≡ l.initial.text.items ++ entries 256 l.session.current l.places.names l.first;
+  within : l.address ≤ 514;
+  rest : l.text.items
+      ++ entries (256 - l.counter) (entry_row l.session.current l.places) (entry_len l.session.current.bus.memory l.places.lines) l.address
+      ≡ l.initial.text.items
+      ++ entries 256 (entry_row l.session.current l.places) (entry_len l.session.current.bus.memory l.places.lines) l.first;
 }

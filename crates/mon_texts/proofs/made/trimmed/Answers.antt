@@ -1,0 +1,8 @@
+use Rattle.std.proofs.Common.{refl}
+use Rattle.std.proofs.lemmas.Str.Ascii.{trim_ascii_is}
+use Rattle.mon_texts.specs.Made.{trimmed}
+use Rattle.mon_texts.proofs.made.trimmed.Goals as goal
+
+pub returns : goal.returns
+unfolding trimmed
+returns c = trim_ascii_is c.args.text.now c.trim_ascii.result.now _ refl c.trim_ascii.ensures.value
