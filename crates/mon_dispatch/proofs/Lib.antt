@@ -1,2 +1,3 @@
 mod Found
 mod Rows
+pub mod Others

@@ -1,3 +1,5 @@
 pub mod Lines
 pub mod LineTexts
 pub mod LookTexts
+pub mod Changed
+pub mod Forms

@@ -6,27 +6,28 @@ use Rattle.mon_lines.specs.declared.command.Command.{Command}
 use Rattle.mon_lines.specs.declared.command.Command.TheVariants as line
 use Rattle.mon_texts.specs.Calls.{calls_text}
 use Rattle.mon_texts.specs.Help.{help_text}
-use Rattle.mon_texts.specs.Instructions.{instruction_at, instruction_line}
+use Rattle.mon_texts.specs.Listed.{listed_len, listed_line}
 use Rattle.mon_texts.specs.Memory.{memory_text}
 use Rattle.mon_texts.specs.Stack.{stack_text}
 use Rattle.mon_texts.specs.Places.{place_text}
 use Rattle.mon_texts.specs.Registers.{flags_text, state_line}
 use Rattle.mon_texts.specs.Screen.{screen_text}
+use Rattle.mon_dispatch.specs.Forms.{forms_text}
 use Rattle.source_map.specs.Lines.{PlacesView}
 use Rattle.source_map.specs.Names.{Named}
 use Rattle.mon_dispatch.specs.declared.wording.TheConstants.{AND_MORE, NOWHERE}
 
--- ---- instructions
+-- ---- instructions and data
 
--- Up to n instructions from an address on, up to the one that ends at FFFF or goes past it.
+-- Up to n rows from an address on, up to the one that ends at FFFF or goes past it.
 unfoldable pub rows_text : ℕ → State → PlacesView → ℕ → List ℕ
 rows_text zero state places address = []
 rows_text (suc n) state places address =
-    let next = address + (instruction_at state address).len in
-    instruction_line state places address
+    let next = address + listed_len state places.lines address in
+    listed_line state places address
     ++ (if nat_le next 65535 then rows_text n state places next else [])
 
--- At most 256 instructions are shown at once.
+-- At most 256 of them are shown at once.
 abbrev pub instructions_text : ℕ → State → PlacesView → ℕ → List ℕ
 instructions_text count state places address = rows_text (min count 256) state places address
 
@@ -61,7 +62,7 @@ find_text memory bytes names
 
 -- What a line shows that only looks. Other lines show nothing here.
 abbrev pub look_text : Command → State → PlacesView → List ℕ
-look_text line.Where state places = calls_text state places.names
+look_text line.Where state places = calls_text state places
 look_text line.Regs state places = state_line state places.names None
 look_text line.Flags state places = flags_text state.regs.flags
 look_text (line.Mem stretch) state places = memory_text state.bus.memory stretch
@@ -69,7 +70,8 @@ look_text (line.Dis address count) state places
     = instructions_text count state places address
 look_text (line.Find bytes) state places
     = find_text state.bus.memory bytes.items places.names
-look_text line.Stack state places = stack_text state places.names
+look_text line.Stack state places = stack_text state places
 look_text line.Screen state places = screen_text state.bus.out
 look_text (line.Help topic) state places = help_text topic
+look_text (line.Forms mnemonic) state places = forms_text state.bus.map.profile mnemonic
 look_text command state places = []

@@ -5,6 +5,7 @@ ghost use Rattle.mon_session.specs.Course.{ShowsOnly};
 ghost use Rattle.mon_dispatch.specs.LookTexts.{instructions_text, look_text, rows_text};
 
 use crate::finding::find;
+use crate::forms::push_forms;
 use mon_lines::Command;
 use mon_session::Desk;
 use mon_texts::{
@@ -12,10 +13,11 @@ use mon_texts::{
 };
 use std::alloc::AllocError;
 
-/// The most instructions that are shown at once.
+/// The most rows that are shown at once.
 const MOST_ROWS: u32 = 256;
 
-/// Shows `count` instructions from an address on, up to the one that ends at FFFF or goes past it.
+/// Shows `count` rows of instructions or data from an address on, up to the one that ends at FFFF
+/// or goes past it.
 fn show_rows(desk: &mut Desk, address: u16, count: u32) -> Result<(), AllocError>
     ensures shows { ShowsOnly desk.old desk.new }
     ensures text { OnOk result (desk.new.text.items ≡ desk.old.text.items
@@ -23,7 +25,7 @@ fn show_rows(desk: &mut Desk, address: u16, count: u32) -> Result<(), AllocError
 {
     let mut at = address;
     for _ in 0..count {
-        let length = desk.show_row(at)?;
+        let length = desk.show_listed(at)?;
         match at.checked_add(length as u16) {
             Some(next) => at = next,
             None => return Ok(()),
@@ -59,6 +61,7 @@ pub fn look(desk: &mut Desk, command: Command<'_>) -> Result<(), AllocError>
         Command::Stack => push_stack(&mut desk.text, &desk.session, &desk.places),
         Command::Screen => push_screen(&mut desk.text, &desk.session),
         Command::Help(topic) => push_help(&mut desk.text, topic),
+        Command::Forms(mnemonic) => { push_forms(&mut desk.text, desk.session.profile(), mnemonic) }
         _ => Ok(()),
     }
 }

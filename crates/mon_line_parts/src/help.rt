@@ -95,7 +95,7 @@ pub const HELP: [(&str, &str, &str); 31] = [
     ("reset", "resets the processor", "reset"),
     (
         "help [WORD]",
-        "shows the words, or one of them",
+        "shows the words, one of them or a mnemonic",
         "help break",
     ),
     ("quit", "ends", "quit"),

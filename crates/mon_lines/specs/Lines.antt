@@ -1,7 +1,10 @@
 -- What a line asks for. Source: mos65.
 use Rattle.std.specs.Prelude.{ℕ, ◌==◌, ◌&&◌, ◌||◌, is_some, Bool, true, false, codes, if◌then◌else◌, List, [], length, Option, Some, None, unwrap_or, Result, Ok, Err}
 use Rattle.std.specs.Str.{byte}
+use Rattle.model.specs.Mnemonics.{mnemonic_named}
 use Rattle.model.specs.declared.event.Setting.{Setting}
+use Rattle.model.specs.declared.instruction.Mnemonic.{Mnemonic}
+use Rattle.model.specs.declared.instruction.Profile.TheVariants.{C}
 use Rattle.source_map.specs.Names.{Named}
 use Rattle.mon_line_parts.specs.Reading.{Reads, SeenWhy, unknown, several, missing, behind, after, after_word, and_then, is_empty, is_next, is_word, number_in, skip, word_of}
 use Rattle.mon_line_parts.specs.Values.{bytes_of, count_of}
@@ -49,6 +52,7 @@ pub data SeenCommand : Type 0 where
   nmi : SeenCommand
   reset : SeenCommand
   help : Option Topic → SeenCommand
+  forms : Mnemonic → SeenCommand
   quit : SeenCommand
 
 -- The same without where its parts lie in memory.
@@ -83,6 +87,7 @@ command_view (command.Irq level) = irq level
 command_view command.Nmi = nmi
 command_view command.Reset = reset
 command_view (command.Help about) = help about
+command_view (command.Forms mnemonic) = forms mnemonic
 command_view command.Quit = quit
 
 -- ---- what follows a first word
@@ -141,9 +146,14 @@ helped_by word (Some about, many) = Ok (help (Some about), [])
 helped_by word (None, true) = Err (several word)
 helped_by word (None, false) = Err (unknown word)
 
+-- A mnemonic is no shortened word.
+abbrev pub helped_on : List ℕ → Option Mnemonic → Reads SeenCommand
+helped_on word None = helped_by word (topic_of word)
+helped_on word (Some mnemonic) = Ok (forms mnemonic, [])
+
 abbrev pub helped_from : List ℕ → Reads SeenCommand
 helped_from text = if is_empty text then Ok (help None, text)
-    else helped_by (word_of text) (topic_of (word_of text))
+    else helped_on (word_of text) (mnemonic_named C (word_of text))
 
 -- What follows a word that puts something.
 abbrev pub putting : List Named → ℕ → List ℕ → Topic → Reads SeenCommand

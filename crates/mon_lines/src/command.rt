@@ -2,6 +2,7 @@
 
 use arrayvec::ArrayVec;
 use debugger::Setting;
+use model::Mnemonic;
 use mon_line_parts::Topic;
 
 /// A register whose value a test may look at.
@@ -130,5 +131,7 @@ pub enum Command<'a> {
     Nmi,
     Reset,
     Help(Option<Topic>),
+    /// The forms of an instruction.
+    Forms(Mnemonic),
     Quit,
 }

@@ -1,11 +1,12 @@
 //! From a line to what it asks for.
 
-ghost use Rattle.std.specs.Prelude.{◌≡◌, IfErr, IfOk};
+ghost use Rattle.std.specs.Prelude.{◌≡◌, [], IfErr, IfOk};
 ghost use Rattle.std.specs.Option.{option_copied};
 ghost use Rattle.mon_line_parts.specs.Reading.{why_view};
 ghost use Rattle.mon_lines.specs.Parts.{level_of, setting_by, setting_of, undoing_of, value_of};
 ghost use Rattle.mon_lines.specs.Lines.{assembled_from, break_from, command_view, decimal_address};
-ghost use Rattle.mon_lines.specs.Lines.{going_from, helped_from, instructions_from, line_of};
+ghost use Rattle.mon_lines.specs.Lines.{going_from, helped_from, helped_on, instructions_from};
+ghost use Rattle.mon_lines.specs.Lines.{line_of};
 ghost use Rattle.mon_lines.specs.Lines.{has_address, is_short_decimal, line_by, put_from, putting};
 ghost use Rattle.mon_lines.specs.Lines.{moving, seeing, until_from, watched_from, whole_line};
 ghost use Rattle.mon_line_parts.specs.Topics.{topic_of};
@@ -19,6 +20,7 @@ use mon_line_parts::{
     Lack, Topic, Why, address_of, after, after_word, byte_of, bytes_of, count_of, is_empty,
     is_next, is_word, number_in, past, skip, topic_of, word_of,
 };
+use optable::{Mnemonic, Profile, mnemonic_in};
 use source_map::{Names, Places};
 
 /// Reads `WHERE [if TESTS] [times N]`.
@@ -185,6 +187,26 @@ fn put<'a>(names: &Names, pc: u16, text: &'a [u8]) -> Result<(Command<'a>, &'a [
     Ok((Command::Put { address, bytes }, rest))
 }
 
+/// Reads the word behind `help`: a mnemonic if it is one. `rest` is what is left, which is nothing.
+fn helped_on<'a>(
+    word: &'a [u8],
+    rest: &'a [u8],
+    mnemonic: Option<Mnemonic>,
+) -> Result<(Command<'a>, &'a [u8]), Why<'a>>
+    requires { rest.now ≡ [] }
+    ensures ok { IfOk result (λ p. helped_on word.now mnemonic ≡ Ok (command_view p.0, p.1.now)) }
+    ensures err { IfErr result (λ why. helped_on word.now mnemonic ≡ Err (why_view why)) }
+{
+    if let Some(mnemonic) = mnemonic {
+        return Ok((Command::Forms(mnemonic), rest));
+    }
+    match topic_of(word) {
+        (Some(topic), _) => Ok((Command::Help(Some(topic)), rest)),
+        (None, true) => Err(Why::Several(word)),
+        (None, false) => Err(Why::Unknown(word)),
+    }
+}
+
 /// Reads what follows `help`.
 fn helped<'a>(text: &'a [u8]) -> Result<(Command<'a>, &'a [u8]), Why<'a>>
     ensures ok { IfOk result (λ p. helped_from text.now ≡ Ok (command_view p.0, p.1.now)) }
@@ -195,11 +217,7 @@ fn helped<'a>(text: &'a [u8]) -> Result<(Command<'a>, &'a [u8]), Why<'a>>
     }
     let word = word_of(text);
     let (_, rest) = text.split_at(text.len());
-    match topic_of(word) {
-        (Some(topic), _) => Ok((Command::Help(Some(topic)), rest)),
-        (None, true) => Err(Why::Several(word)),
-        (None, false) => Err(Why::Unknown(word)),
-    }
+    helped_on(word, rest, mnemonic_in(Profile::C, word))
 }
 
 /// Reads what follows a word that moves the session.

@@ -1,0 +1,107 @@
+-- Help on an instruction. Source: mos65.
+use Rattle.std.specs.Prelude.{ℕ, ◌==◌, ◌||◌, if◌then◌else◌, Bool, List, [], ◌∷◌, ◌++◌, Option, None, Some, codes, decimal}
+use Rattle.std.specs.List.{flat_map}
+use Rattle.formatting.specs.Padding.{padded}
+use Rattle.model.specs.Effect.{operation_of}
+use Rattle.model.specs.Mnemonics.{mnemonic_named, mnemonic_text}
+use Rattle.model.specs.OpcodeTable.{opcode_of, row_at}
+use Rattle.model.specs.Text.{hex_byte}
+use Rattle.model.specs.declared.instruction.Mnemonic.{Mnemonic}
+use Rattle.model.specs.declared.instruction.Mode.{Mode}
+use Rattle.model.specs.declared.instruction.Mode.TheVariants.{Imp, Acc, Imm, Zp, ZpX, ZpY, Abs, AbsX, AbsY, IndX, IndY, Ind, Rel, IndZ}
+use Rattle.model.specs.declared.instruction.Profile.{Profile}
+use Rattle.model.specs.declared.instruction.Row.{Row}
+use Rattle.model.specs.declared.registers.Flags.{Flags}
+use Rattle.mon_dispatch.specs.Changed.{changed_by}
+use Rattle.mon_texts.specs.declared.wording.TheConstants.{NO_INSTRUCTION}
+use Rattle.mon_dispatch.specs.declared.forms.TheConstants.{MODES}
+use Rattle.mon_dispatch.specs.declared.wording.TheConstants.{BRANCH_CYCLES, BYTE, BYTES, CHANGES, CHANGES_NO_FLAG, CYCLES, FORM_ABS, FORM_ABSX, FORM_ABSY, FORM_ACC, FORM_IMM, FORM_IND, FORM_INDX, FORM_INDY, FORM_INDZ, FORM_REL, FORM_ZP, FORM_ZPX, FORM_ZPY, PAGE_CYCLE}
+
+-- ---- the row of a form
+
+-- How an operand is written.
+abbrev pub operand_form : Mode → List ℕ
+operand_form Imp = []
+operand_form Acc = FORM_ACC.now
+operand_form Imm = FORM_IMM.now
+operand_form Zp = FORM_ZP.now
+operand_form ZpX = FORM_ZPX.now
+operand_form ZpY = FORM_ZPY.now
+operand_form Abs = FORM_ABS.now
+operand_form AbsX = FORM_ABSX.now
+operand_form AbsY = FORM_ABSY.now
+operand_form IndX = FORM_INDX.now
+operand_form IndY = FORM_INDY.now
+operand_form Ind = FORM_IND.now
+operand_form Rel = FORM_REL.now
+operand_form IndZ = FORM_INDZ.now
+
+abbrev pub len_text : ℕ → List ℕ
+len_text len = decimal len ++ (if len == 1 then BYTE.now else BYTES.now)
+
+-- Which cycles come on top: those of a branch that is taken, or that of a page that is crossed.
+abbrev pub extra_by : Mode → Bool → List ℕ
+extra_by Rel penalty = BRANCH_CYCLES.now
+extra_by mode penalty = if penalty then PAGE_CYCLE.now else []
+
+abbrev pub extra_text : Row → List ℕ
+extra_text row = extra_by row.mode row.penalty
+
+-- The opcode, how the form is written, its bytes and its cycles.
+unfoldable pub form_row : ℕ → Row → List ℕ
+form_row opcode row
+    = padded 18 (hex_byte opcode ++ codes "  " ++ mnemonic_text row.mnemonic ++ operand_form row.mode)
+    ++ len_text row.len ++ decimal row.cycles ++ CYCLES.now ++ extra_text row ++ codes "\n"
+
+-- ---- the forms of a mnemonic
+
+abbrev pub row_form : ℕ → Option Row → List ℕ
+row_form opcode None = []
+row_form opcode (Some row) = form_row opcode row
+
+abbrev pub opcode_form : Profile → Option ℕ → List ℕ
+opcode_form profile None = []
+opcode_form profile (Some opcode) = row_form opcode (row_at profile opcode)
+
+-- The form in a mode, if there is one.
+abbrev pub form_by : Profile → Mnemonic → Mode → List ℕ
+form_by profile mnemonic mode = opcode_form profile (opcode_of profile mnemonic mode)
+
+-- The modes, in the order in which forms are listed.
+unfoldable pub all_modes : List Mode
+all_modes = MODES
+
+-- ---- the flags that it changes
+
+abbrev pub flag_text : Bool → ℕ → List ℕ
+flag_text is_changed letter = if is_changed then 32 ∷ letter ∷ [] else []
+
+-- The letters of the flags that are changed.
+abbrev pub flags_text : Flags → List ℕ
+flags_text changed = flag_text changed.n 78 ++ flag_text changed.v 86 ++ flag_text changed.d 68
+    ++ flag_text changed.i 73 ++ flag_text changed.z 90 ++ flag_text changed.c 67
+
+abbrev pub is_any : Flags → Bool
+is_any changed
+    = changed.n || changed.v || changed.d || changed.i || changed.z || changed.c
+
+abbrev pub changes_text : Flags → List ℕ
+changes_text changed = if is_any changed then CHANGES.now ++ flags_text changed
+    else CHANGES_NO_FLAG.now
+
+-- What an instruction changes, and a row for each of its forms in a profile.
+unfoldable pub all_forms : Profile → Mnemonic → List ℕ
+all_forms profile mnemonic = changes_text (changed_by profile (operation_of mnemonic)) ++ codes "\n"
+    ++ flat_map (form_by profile mnemonic) all_modes
+
+abbrev pub no_forms : List ℕ
+no_forms = NO_INSTRUCTION.now ++ codes "\n"
+
+abbrev pub known_forms : Profile → Option Mnemonic → List ℕ
+known_forms profile None = no_forms
+known_forms profile (Some mnemonic) = all_forms profile mnemonic
+
+-- The name of an instruction and its forms, if a profile has it.
+unfoldable pub forms_text : Profile → Mnemonic → List ℕ
+forms_text profile mnemonic = mnemonic_text mnemonic
+    ++ known_forms profile (mnemonic_named profile (mnemonic_text mnemonic))

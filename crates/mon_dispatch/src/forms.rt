@@ -1,0 +1,251 @@
+//! Help on an instruction: its forms, and the flags that it changes.
+
+ghost use Rattle.std.specs.Prelude.{◌≡◌, ◌++◌, OnOk};
+ghost use Rattle.std.specs.List.{flat_map};
+ghost use Rattle.mon_dispatch.specs.Forms.{all_forms, all_modes, changes_text, extra_text, flag_text, flags_text};
+ghost use Rattle.mon_dispatch.specs.Forms.{form_by, form_row, forms_text, is_any, len_text};
+ghost use Rattle.mon_dispatch.specs.Forms.{known_forms, no_forms, opcode_form, operand_form, row_form};
+
+use crate::changed::changed_by;
+use crate::wording::{
+    BRANCH_CYCLES, BYTE, BYTES, CHANGES, CHANGES_NO_FLAG, CYCLES, FORM_ABS, FORM_ABSX, FORM_ABSY,
+    FORM_ACC, FORM_IMM, FORM_IND, FORM_INDX, FORM_INDY, FORM_INDZ, FORM_REL, FORM_ZP, FORM_ZPX,
+    FORM_ZPY, PAGE_CYCLE,
+};
+use formatting::{push_blanks, push_byte, push_count, push_text};
+use model::Flags;
+use mon_texts::wording::NO_INSTRUCTION;
+use optable::{
+    Mnemonic, Mode, Profile, Row, decode_in, encode_in, letters_of, mnemonic_in, operation,
+};
+use std::alloc::AllocError;
+
+/// The modes, in the order in which forms are listed.
+pub const MODES: [Mode; 14] = [
+    Mode::Imp,
+    Mode::Acc,
+    Mode::Imm,
+    Mode::Zp,
+    Mode::ZpX,
+    Mode::ZpY,
+    Mode::Abs,
+    Mode::AbsX,
+    Mode::AbsY,
+    Mode::Ind,
+    Mode::IndX,
+    Mode::IndY,
+    Mode::IndZ,
+    Mode::Rel,
+];
+
+/// Returns the modes, in the order in which forms are listed.
+#[tactic(auto, unfolding(crate::specs::Forms::all_modes))]
+fn all_modes() -> &'static [Mode]
+    ensures { result.now ≡ all_modes }
+{
+    &MODES
+}
+
+/// How an operand is written.
+fn operand_form(mode: Mode) -> &'static str
+    ensures { result.now ≡ operand_form mode }
+{
+    match mode {
+        Mode::Imp => "",
+        Mode::Acc => FORM_ACC,
+        Mode::Imm => FORM_IMM,
+        Mode::Zp => FORM_ZP,
+        Mode::ZpX => FORM_ZPX,
+        Mode::ZpY => FORM_ZPY,
+        Mode::Abs => FORM_ABS,
+        Mode::AbsX => FORM_ABSX,
+        Mode::AbsY => FORM_ABSY,
+        Mode::IndX => FORM_INDX,
+        Mode::IndY => FORM_INDY,
+        Mode::Ind => FORM_IND,
+        Mode::Rel => FORM_REL,
+        Mode::IndZ => FORM_INDZ,
+    }
+}
+
+/// Appends how many bytes an instruction has.
+fn push_len(text: &mut Vec<u8>, len: u8) -> Result<(), AllocError>
+    ensures { OnOk result (text.new.items ≡ text.old.items ++ len_text len) }
+{
+    push_count(text, len as u64)?;
+    push_text(text, if len == 1 { BYTE } else { BYTES })
+}
+
+/// Returns which cycles come on top.
+fn extra(row: Row) -> &'static str
+    ensures { result.now ≡ extra_text row }
+{
+    if row.mode == Mode::Rel {
+        BRANCH_CYCLES
+    } else if row.penalty {
+        PAGE_CYCLE
+    } else {
+        ""
+    }
+}
+
+/// Appends the row of a form: its opcode, how it is written, its bytes and its cycles.
+#[tactic(auto, using(formatting::proofs::Padding::grown), unfolding(crate::specs::Forms::form_row))]
+fn push_form(text: &mut Vec<u8>, opcode: u8, row: Row) -> Result<(), AllocError>
+    ensures { OnOk result (text.new.items ≡ text.old.items ++ form_row opcode row) }
+{
+    let from = text.len();
+    push_byte(text, opcode)?;
+    push_text(text, "  ")?;
+    text.extend_from_slice(&letters_of(row.mnemonic))?;
+    push_text(text, operand_form(row.mode))?;
+    push_blanks(text, from, 18)?;
+    push_len(text, row.len)?;
+    push_count(text, row.cycles as u64)?;
+    push_text(text, CYCLES)?;
+    push_text(text, extra(row))?;
+    push_text(text, "\n")
+}
+
+/// Appends the row of an opcode, if it has one.
+fn push_row(text: &mut Vec<u8>, opcode: u8, row: Option<Row>) -> Result<(), AllocError>
+    ensures { OnOk result (text.new.items ≡ text.old.items ++ row_form opcode row) }
+{
+    match row {
+        Some(row) => push_form(text, opcode, row),
+        None => Ok(()),
+    }
+}
+
+/// Appends the row of an opcode, if there is one.
+fn push_opcode(text: &mut Vec<u8>, profile: Profile, opcode: Option<u8>) -> Result<(), AllocError>
+    ensures { OnOk result (text.new.items ≡ text.old.items ++ opcode_form profile opcode) }
+{
+    match opcode {
+        Some(opcode) => push_row(text, opcode, decode_in(profile, opcode)),
+        None => Ok(()),
+    }
+}
+
+/// Appends the form of a mnemonic in a mode, if there is one.
+fn push_form_in(
+    text: &mut Vec<u8>,
+    profile: Profile,
+    mnemonic: Mnemonic,
+    mode: Mode,
+) -> Result<(), AllocError>
+    ensures { OnOk result (text.new.items ≡ text.old.items ++ form_by profile mnemonic mode) }
+{
+    push_opcode(text, profile, encode_in(profile, mnemonic, mode))
+}
+
+/// Appends the forms of a mnemonic in some modes.
+fn push_forms_in(
+    text: &mut Vec<u8>,
+    profile: Profile,
+    mnemonic: Mnemonic,
+    modes: &[Mode],
+) -> Result<(), AllocError>
+    ensures { OnOk result (text.new.items ≡ text.old.items
+        ++ flat_map (form_by profile mnemonic) modes.now) }
+{
+    for mode in modes {
+        push_form_in(text, profile, mnemonic, *mode)?;
+    }
+    Ok(())
+}
+
+/// Appends the letter of a flag behind a blank, if it is changed.
+fn push_flag(text: &mut Vec<u8>, is_changed: bool, letter: u8) -> Result<(), AllocError>
+    ensures { OnOk result (text.new.items ≡ text.old.items ++ flag_text is_changed letter) }
+{
+    if is_changed {
+        text.push(b' ')?;
+        text.push(letter)?;
+    }
+    Ok(())
+}
+
+/// Appends the letters of the flags that are changed.
+fn push_flags(text: &mut Vec<u8>, changed: Flags) -> Result<(), AllocError>
+    ensures { OnOk result (text.new.items ≡ text.old.items ++ flags_text changed) }
+{
+    push_flag(text, changed.n, b'N')?;
+    push_flag(text, changed.v, b'V')?;
+    push_flag(text, changed.d, b'D')?;
+    push_flag(text, changed.i, b'I')?;
+    push_flag(text, changed.z, b'Z')?;
+    push_flag(text, changed.c, b'C')
+}
+
+/// Returns whether a flag is changed.
+fn is_any(changed: Flags) -> bool
+    ensures { result ≡ is_any changed }
+{
+    changed.n || changed.v || changed.d || changed.i || changed.z || changed.c
+}
+
+/// Appends which flags are changed.
+fn push_changes(text: &mut Vec<u8>, changed: Flags) -> Result<(), AllocError>
+    ensures { OnOk result (text.new.items ≡ text.old.items ++ changes_text changed) }
+{
+    if is_any(changed) {
+        push_text(text, CHANGES)?;
+        push_flags(text, changed)
+    } else {
+        push_text(text, CHANGES_NO_FLAG)
+    }
+}
+
+/// Appends what an instruction changes, and a row for each of its forms in a profile.
+#[tactic(auto, unfolding(crate::specs::Forms::all_forms))]
+fn push_all_forms(
+    text: &mut Vec<u8>,
+    profile: Profile,
+    mnemonic: Mnemonic,
+) -> Result<(), AllocError>
+    ensures { OnOk result (text.new.items ≡ text.old.items ++ all_forms profile mnemonic) }
+{
+    push_changes(text, changed_by(profile, operation(mnemonic)))?;
+    push_text(text, "\n")?;
+    push_forms_in(text, profile, mnemonic, all_modes())
+}
+
+/// Appends that a processor has no such instruction.
+fn push_no_forms(text: &mut Vec<u8>) -> Result<(), AllocError>
+    ensures { OnOk result (text.new.items ≡ text.old.items ++ no_forms) }
+{
+    push_text(text, NO_INSTRUCTION)?;
+    push_text(text, "\n")
+}
+
+/// Appends the forms of an instruction, if there is one of the name.
+fn push_known_forms(
+    text: &mut Vec<u8>,
+    profile: Profile,
+    mnemonic: Option<Mnemonic>,
+) -> Result<(), AllocError>
+    ensures { OnOk result (text.new.items ≡ text.old.items ++ known_forms profile mnemonic) }
+{
+    match mnemonic {
+        Some(mnemonic) => push_all_forms(text, profile, mnemonic),
+        None => push_no_forms(text),
+    }
+}
+
+/// Appends the name of an instruction, which flags it changes, and a row for each of its forms; or
+/// that the profile has no such instruction.
+///
+/// Errors: `AllocError` if an allocation fails.
+#[tactic(auto, unfolding(crate::specs::Forms::forms_text))]
+pub fn push_forms(
+    text: &mut Vec<u8>,
+    profile: Profile,
+    mnemonic: Mnemonic,
+) -> Result<(), AllocError>
+    ensures { OnOk result (text.new.items ≡ text.old.items ++ forms_text profile mnemonic) }
+{
+    let letters = letters_of(mnemonic);
+    text.extend_from_slice(&letters)?;
+    push_known_forms(text, profile, mnemonic_in(profile, &letters))
+}
