@@ -15,11 +15,11 @@ use Rattle.loading.specs.Told.{Heard, IsUnloaded, Tells}
 use Rattle.model.specs.Event.{start}
 use Rattle.model.specs.Session.{Session, new_session}
 use Rattle.mon.specs.Attended.{IsAttended}
+use Rattle.mon.specs.Greeting.{greeting_of}
 use Rattle.mon_session.specs.EventTexts.{shown_text}
 use Rattle.mon_session.specs.declared.desk.Desk.{Desk}
 use Rattle.source_map.specs.Lines.{PlacesView, places_of}
 use Rattle.source_map.specs.Names.{names_in}
-use Rattle.mon.specs.declared.wording.TheConstants.{GREETING}
 
 -- Why a file of names is not assembled, if one is named.
 abbrev pub EndsNamed : Option Text → FileAsked → Refusal → Type 0
@@ -53,7 +53,7 @@ IsEnded status = (status ≡ 0) ⊎ ((status ≡ 3) ⊎ (status ≡ 4))
 
 -- The names and the lines of a file: of a source those of its assembly, of a tape none.
 abbrev pub places_in : Text → Option AssemblyView → PlacesView
-places_in file None = record { names = []; lines = []; file = [] }
+places_in file None = record { names = []; lines = []; texts = []; file = [] }
 places_in file (Some assembly) = places_of file assembly
 
 -- With the names of a file of names, if there is one.
@@ -88,11 +88,6 @@ StartsMon asked desk = (image : List (Option ℕ)) × (assembly : Option Assembl
     × IsNewDesk (new_session asked.history (start (map_of asked.file) image)) asked.history
     (with_names names (places_in asked.file.file assembly)) desk
 
--- What is written first, if prompts are.
-abbrev pub greeting_of : Bool → List ℕ
-greeting_of prompts = if prompts
-    then GREETING.now else []
-
 -- A session ended at a desk. With the status 0 the lines of the input were served at it, and the
 -- output, whose bytes were `old`, got what is said of them: first the greeting and the state.
 abbrev pub EndsAt : Bool → Desk → Option (List ℕ) → Option (List ℕ) → Option (List ℕ)
@@ -100,7 +95,8 @@ abbrev pub EndsAt : Bool → Desk → Option (List ℕ) → Option (List ℕ) �
 EndsAt prompts first given left old new status = IsEnded status
     × (status ≡ 0 → (last : Desk) × (written : List ℕ)
     × IsAttended prompts given left first last written
-    × Appends old new (first.text.items ++ (greeting_of prompts
+    × Appends old new (first.text.items
+    ++ (greeting_of prompts first.session.current first.places.names
     ++ (shown_text first.session.current first.places.names None ++ written))))
 
 -- What was done for words: no session began, and the streams were left alone, `Alone`; or one began

@@ -1,3 +1,4 @@
 pub mod Attended
 pub mod Done
 pub mod Pieces
+pub mod Greeting

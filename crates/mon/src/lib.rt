@@ -5,6 +5,7 @@
 //! `specs/Done.antt`, which lines are served and what is written in `specs/Attended.antt`.
 #![tactic(auto)]
 
+mod greeting;
 mod lines;
 mod serving;
 pub mod wording;

@@ -48,7 +48,7 @@ pub fn of_memory<T>(made: Result<T, AllocError>) -> Result<T, Refusal>
 }
 
 /// Says something if it is asked for.
-pub fn say_if(desk: &mut Desk, is_asked: bool, words: &str) -> Result<(), Refusal>
+fn say_if(desk: &mut Desk, is_asked: bool, words: &str) -> Result<(), Refusal>
     ensures shows { ShowsOnly desk.old desk.new }
     ensures said { OnOk result
         (desk.new.text.items ≡ desk.old.text.items ++ (if is_asked then words.now else [])) }

@@ -14,11 +14,12 @@ ghost use Rattle.model.specs.Session.{new_session};
 ghost use Rattle.model.specs.State.{is_map};
 ghost use Rattle.mon.specs.Attended.{IsAttended, IsAttendedSoFar};
 ghost use Rattle.mon.specs.Done.{AreNamed, EndsAt, EndsNamed, EndsSession, IsDone, IsNewDesk};
-ghost use Rattle.mon.specs.Done.{greeting_of, places_in, with_names};
+ghost use Rattle.mon.specs.Done.{places_in, with_names};
+ghost use Rattle.mon.specs.Greeting.{greeting_of};
 ghost use Rattle.mon_session.specs.EventTexts.{shown_text};
 
-use crate::lines::{attend, of_memory, say_if};
-use crate::wording::GREETING;
+use crate::greeting::greet;
+use crate::lines::{attend, of_memory};
 use arguments::{Refusal, refuse, refuse_file, refused_words};
 use arguments_play::{MonWords, read_mon_words};
 use loading::{Loaded, load_names, load_with_history};
@@ -90,8 +91,9 @@ fn serve<R: Read, O: Write>(
         × IsAttended prompts (R.remaining input.old) (R.remaining input.new) desk.old desk.new
         written
         × Appends (O.contents output.old) (O.contents output.new)
-        (desk.old.text.items ++ (greeting_of prompts ++ (shown_text desk.old.session.current
-        desk.old.places.names None ++ written)))) }
+        (desk.old.text.items
+        ++ (greeting_of prompts desk.old.session.current desk.old.places.names
+        ++ (shown_text desk.old.session.current desk.old.places.names None ++ written)))) }
     ensures unread { result ≡ Err (Refusal.Read Other) → (written : List ℕ)
         × IsAttendedSoFar prompts (R.remaining input.old) (R.remaining input.new) desk.old
         desk.new written
@@ -101,7 +103,7 @@ fn serve<R: Read, O: Write>(
     ensures written { IfOk result (λ _. desk.new.text.items ≡ []) }
     ensures refused { IfErr result EndsSession }
 {
-    say_if(desk, prompts, GREETING)?;
+    greet(desk, prompts)?;
     of_memory(desk.show(None))?;
     attend(alloc, desk, prompts, input, output)
 }

@@ -3,5 +3,12 @@
 /// What is written first, if a prompt is asked for.
 pub const GREETING: &str = "mos65 mon: help lists the words, an empty line steps, quit ends\n";
 
+/// Before the registers whose names the program has too.
+pub const HIDDEN: &str = "names of the program that mean registers here:";
+
+/// What is said where there is no reset vector.
+pub const NO_VECTOR: &str =
+    "FFFC holds 0000, as without a reset vector: set PC WHERE begins elsewhere\n";
+
 /// What is written before a line is read, if a prompt is asked for.
 pub const PROMPT: &str = "mon> ";
