@@ -137,7 +137,7 @@ step_text stack cycles after names end row
     = if_made (fault_in end.why) names (made_text stack cycles after names end row)
 
 -- The row of an instruction that was made, with what it has stored.
-abbrev pub step_row : State → State → PlacesView → List ℕ
+unfoldable pub step_row : State → State → PlacesView → List ℕ
 step_row before after places = made_row before places before.regs.pc
     ++ (stores_text after.bus (stores_here before) ++ codes "\n")
 

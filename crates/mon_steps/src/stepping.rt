@@ -104,6 +104,7 @@ fn tell_step(
 }
 
 /// Makes one step, and shows its row.
+#[tactic(auto, unfolding(crate::specs::RunTexts::step_row))]
 fn step_with_row(desk: &mut Desk) -> Result<Ended, AllocError>
     ensures course { HasRun (course_of desk.old) (course_of desk.new) }
     ensures stand { OnOk result
