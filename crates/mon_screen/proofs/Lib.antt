@@ -1,0 +1,4 @@
+mod Lines
+mod Listings
+mod Sizes
+mod Texts

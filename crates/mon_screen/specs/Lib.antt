@@ -1,0 +1,5 @@
+pub mod Around
+pub mod Cells
+pub mod Limits
+pub mod Marks
+pub mod View
