@@ -1,3 +1,4 @@
 pub mod Mon
 pub mod Run
+pub mod Size
 pub mod Trace

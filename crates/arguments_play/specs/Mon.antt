@@ -5,33 +5,42 @@ use Rattle.arguments.specs.Asked.{FileAsked, file_asked, file_view, is_flag}
 use Rattle.arguments.specs.CommandLine.{flag_rule, option_rule, unnamed, with_file}
 use Rattle.arguments.specs.Values.{history_asked}
 use Rattle.arguments.specs.Words.{value_in}
+use Rattle.arguments_play.specs.Size.{size_asked}
 use Rattle.arguments_play.specs.declared.mon_words.MonWords.{MonWords}
 use Rattle.clap.specs.Words.{App, Text, with_rule}
 
--- `FILE` with its map, `[--history N] [--symbols FILE] [--prompt]`.
+-- `FILE` with its map, `[--history N] [--symbols FILE] [--prompt] [--screen]
+-- [--size COLUMNSxROWS]`.
 abbrev pub mon : App
-mon = with_rule (with_rule (with_rule (with_file (unnamed (codes "mon")))
-    (option_rule (codes "history"))) (option_rule (codes "symbols"))) (flag_rule (codes "prompt"))
+mon = with_rule (with_rule (with_rule (with_rule (with_rule (with_file (unnamed (codes "mon")))
+    (option_rule (codes "history"))) (option_rule (codes "symbols"))) (flag_rule (codes "prompt")))
+    (flag_rule (codes "screen"))) (option_rule (codes "size"))
 
 pub record MonAsked : Type 0 where
   pub file : FileAsked
   pub history : ℕ
   pub symbols : Option Text
   pub prompts : Bool
+  pub has_screen : Bool
+  pub size : Option (ℕ × ℕ)
 
-abbrev pub mon_of : Option FileAsked → Option ℕ → Option Text → Bool → Option MonAsked
-mon_of (Some file) (Some history) symbols prompts = Some (record {
+abbrev pub mon_of : Option FileAsked → Option ℕ → Option Text → Bool → Bool
+    → Option (Option (ℕ × ℕ)) → Option MonAsked
+mon_of (Some file) (Some history) symbols prompts has_screen (Some size) = Some (record {
   file = file;
   history = history;
   symbols = symbols;
   prompts = prompts;
+  has_screen = has_screen;
+  size = size;
 })
-mon_of file history symbols prompts = None
+mon_of file history symbols prompts has_screen size = None
 
 -- What the values of the names ask for, where each is one that its name can have.
 abbrev pub mon_asked : (Text → Option Text) → Option MonAsked
 mon_asked value = mon_of (file_asked value) (history_asked (value (codes "history")))
     (value (codes "symbols")) (is_flag (value (codes "prompt")))
+    (is_flag (value (codes "screen"))) (size_asked (value (codes "size")))
 
 -- What the words ask for, where the values that clap finds are right.
 abbrev pub asked : List Text → Option MonAsked
@@ -44,4 +53,6 @@ mon_view w = record {
   history = w.history;
   symbols = option_map (λ s. s.now) w.symbols;
   prompts = w.prompts;
+  has_screen = w.has_screen;
+  size = w.size;
 }

@@ -8,6 +8,7 @@
 mod mon;
 mod mon_words;
 mod run;
+mod size;
 mod trace;
 
 pub use mon::{mon_command, read_mon_words};

@@ -7,9 +7,10 @@ ghost use Rattle.clap.specs.Words.{app_of, first_value, found_of, kind_of};
 ghost use Rattle.clap.specs.declared.builder.command.Command.TheViews.{out-Command};
 
 use crate::mon_words::MonWords;
+use crate::size::{SIZE_TAKES, size_asked};
 use arguments::{
-    WordsFault, begin, file_words, flag, history_asked, is_given, matched, option, value_fault,
-    with_file_options,
+    WordsFault, begin, file_words, flag, history_asked, is_given, matched, option,
+    with_file_options, wrong_value,
 };
 use clap::error::ErrorKind;
 use clap::{ArgMatches, Command, Error};
@@ -36,11 +37,15 @@ pub fn mon_command<'a>(alloc: Global) -> Result<Command<'a>, Error>
     let history = "How many events can be undone, at most 65536 [default: 65536]";
     let symbols = "A file of names, as asm --symbols writes it [default: none]";
     let prompt = "Writes a prompt where standard input is no terminal, too";
+    let screen = "Draws a screen after each line, if standard input is a terminal";
+    let size = "The size of the screen [default: COLUMNS and LINES, or 80x24]";
     let command = begin(alloc, "mon", "mos65 mon", about, STATUSES)?;
     let command = with_file_options(alloc, command)?
         .arg(option(alloc, "history", "N", history))?
         .arg(option(alloc, "symbols", "FILE", symbols))?
-        .arg(flag(alloc, "prompt", prompt))?;
+        .arg(flag(alloc, "prompt", prompt))?
+        .arg(flag(alloc, "screen", screen))?
+        .arg(option(alloc, "size", "COLUMNSxROWS", size))?;
     Ok(command)
 }
 
@@ -53,6 +58,8 @@ fn asked<'a>(matches: &ArgMatches<'a>) -> Option<MonWords<'a>>
         history: history_asked(matches.get_str("history"))?,
         symbols: matches.get_str("symbols"),
         prompts: is_given(matches, "prompt"),
+        has_screen: is_given(matches, "screen"),
+        size: size_asked(matches.get_str("size"))?,
     })
 }
 
@@ -75,6 +82,6 @@ pub fn read_mon_words<'a>(alloc: Global, words: &'a [&'a str]) -> Result<MonWord
     let matches = matched(mon_command(alloc)?, words)?;
     match asked(&matches) {
         Some(words) => Ok(words),
-        None => Err(value_fault(&matches)),
+        None => Err(WordsFault::Wrong(wrong_value(&matches).unwrap_or(SIZE_TAKES))),
     }
 }

@@ -15,6 +15,10 @@ pub struct MonWords<'a> {
     pub symbols: Option<&'a str>,
     /// Whether a prompt is asked for.
     pub prompts: bool,
+    /// Whether a screen is asked for.
+    pub has_screen: bool,
+    /// The columns and rows of the screen, if they are given.
+    pub size: Option<(u8, u8)>,
 
     ghost history_held: { history ≤ 65536 },
 }
