@@ -15,6 +15,7 @@ use Rattle.mon_lines.specs.declared.command.Command.TheVariants as command
 use Rattle.mon_lines.specs.declared.command.Stretch.{Stretch}
 use Rattle.mon_lines.specs.declared.command.Test.{Test}
 use Rattle.mon_lines.specs.declared.command.Undoing.{Undoing}
+use Rattle.mon_lines.specs.declared.command.Undoing.TheVariants.{Events}
 use Rattle.mon_lines.specs.declared.command.WatchKind.{WatchKind}
 use Rattle.mon_line_parts.specs.declared.slip.Lack.TheVariants as lacking
 use Rattle.mon_line_parts.specs.declared.topic.Topic.{Topic}
@@ -224,10 +225,15 @@ line_by names pc line word rest (None, true) = Err (None, several word)
 line_by names pc line word rest (None, false) =
     Err (None, unknown (if is_empty word then line else word))
 
+-- `b` alone undoes an event. With a place behind it, it is `break`.
+abbrev pub is_back : List ℕ → Bool
+is_back text = is_word (codes "b") text && is_empty (after_word text)
+
 -- A line: nothing, or a first word or `?` and what follows it.
 abbrev pub line_from : List Named → ℕ → List ℕ → List ℕ → Result SeenCommand SeenSlip
 line_from names pc line text =
     if is_empty text then Ok nothing
+    else if is_back text then Ok (back (Events 1))
     else if is_next (byte "?") text
     then line_by names pc line (codes "?") (after 1 text) (topic_of (codes "?"))
     else line_by names pc line (word_of text) (after_word text) (topic_of (word_of text))

@@ -6,7 +6,7 @@ ghost use Rattle.mon_line_parts.specs.Reading.{why_view};
 ghost use Rattle.mon_lines.specs.Parts.{level_of, setting_by, setting_of, undoing_of, value_of};
 ghost use Rattle.mon_lines.specs.Lines.{assembled_from, break_from, command_view, decimal_address};
 ghost use Rattle.mon_lines.specs.Lines.{going_from, helped_from, helped_on, instructions_from};
-ghost use Rattle.mon_lines.specs.Lines.{line_of};
+ghost use Rattle.mon_lines.specs.Lines.{is_back, line_of};
 ghost use Rattle.mon_lines.specs.Lines.{has_address, is_short_decimal, line_by, put_from, putting};
 ghost use Rattle.mon_lines.specs.Lines.{moving, seeing, until_from, watched_from, whole_line};
 ghost use Rattle.mon_line_parts.specs.Topics.{topic_of};
@@ -418,6 +418,13 @@ fn line_by<'a>(
     }
 }
 
+/// Returns whether a text is `b` alone.
+fn is_back(text: &[u8]) -> bool
+    ensures { result ≡ is_back text.now }
+{
+    is_word(b"b", text) && is_empty(after_word(text))
+}
+
 /// Returns what a line asks for, or what is missing in it. Names are those of the places, `PC` is
 /// the program counter.
 #[tactic(auto, unfolding(crate::specs::Lines::line_of))]
@@ -431,6 +438,9 @@ pub fn read_line<'a>(line: &'a [u8], places: &Places, pc: u16) -> Result<Command
     let names = places.names();
     if is_empty(text) {
         return Ok(Command::Nothing);
+    }
+    if is_back(text) {
+        return Ok(Command::Back(Undoing::Events(1)));
     }
     if is_next(b'?', text) {
         line_by(names, pc, line, b"?", after(1, text))
