@@ -1,10 +1,15 @@
 -- Lines that are served one after another.
-use Rattle.std.proofs.Common.{◌≡◌, ◌≤◌, ◌<◌, ◌∙◌, ℕ, ◌-◌, ◌+◌, Bool, true, false, cond, List, [], ◌∷◌, ◌++◌, append_assoc, append-nil, Option, Result, Ok, Err, inl, inr, refl, sym, ap, subst, length, take, arith, length-take, true≢false}
-use Rattle.std.proofs.lemmas.Bool.{cases_lt}
+use Rattle.std.proofs.Common.{◌≡◌, ◌≤◌, ◌<◌, ◌∙◌, ℕ, ◌-◌, ◌+◌, Bool, true, false, cond, List, [], ◌∷◌, ◌++◌, append_assoc, append-nil, Option, None, Some, Result, Ok, Err, inl, inr, refl, sym, ap, subst, length, take, arith, length-take, true≢false}
+use Rattle.std.proofs.lemmas.Bool.{cases_lt, lt-ltb}
 use Rattle.std.proofs.lemmas.List.{take_all}
 use Rattle.std.specs.Io.BufRead.{ends_with_byte, strip_last}
 use Rattle.model.specs.TextLines.{ended_lines_of}
 use Rattle.mon.specs.Attended.{AnswersLine, IsAttended, prompt_of, IsAttendedSoFar, ServesLine, ServesLines}
+use Rattle.mon.specs.Seats.{Rests, answer_text, drawn, stretch_after, stretch_by, view_after, without_screen}
+use Rattle.mon.specs.declared.seat.Seat.{Seat}
+use Rattle.mon_lines.specs.declared.command.Stretch.{Stretch}
+use Rattle.mon_screen.specs.View.{view_text}
+use Rattle.mon_screen.specs.declared.view.View.{View}
 use Rattle.mon_dispatch.specs.Lines.{Follows, Says, read_at}
 use Rattle.mon_dispatch.specs.LineTexts.{decimal_text, line_text, slip_line, too_long}
 use Rattle.mon_lines.specs.Lines.{SeenCommand}
@@ -18,6 +23,40 @@ shows_then a b c p q = (q.0 ∙ p.0, q.1 ∙ p.1, q.2 ∙ p.2, q.3 ∙ p.3)
 
 pub shows_same : (a : Desk) → ShowsOnly a a
 shows_same a = (refl, refl, refl, refl)
+
+pub rests_then : (a b c : Seat) → Rests a b → Rests b c → Rests a c
+rests_then a b c p q = (shows_then a.desk b.desk c.desk p.0 q.0, q.1 ∙ p.1)
+
+pub rests_same : (a : Seat) → Rests a a
+rests_same a = (shows_same a.desk, refl)
+
+-- a screen is the same where only the text has changed
+drawn_by : (view : Option View) (a b : Desk) (text : List ℕ) → ShowsOnly a b
+    → drawn view b text ≡ drawn view a text
+drawn_by None a b text p = refl
+drawn_by (Some view) a b text p = λ i. view_text view (p.0 i).current (p.3 i) text
+
+pub drawn_same : (a b : Seat) (text : List ℕ) → Rests a b
+    → drawn b.view b.desk text ≡ drawn a.view a.desk text
+drawn_same a b text p = ap (λ v. drawn v b.desk text) p.1 ∙ drawn_by a.view a.desk b.desk text p.0
+
+pub answer_same : (is_over : Bool) (prompt : List ℕ) (a b : Seat) (said : List ℕ) → Rests a b
+    → answer_text is_over prompt b said ≡ answer_text is_over prompt a said
+answer_same true prompt a b said p = refl
+answer_same false prompt a b said p = ap (λ t. t ++ prompt) (drawn_same a b said p)
+
+-- what is written first
+pub opened : (view : Option View) (a b : Desk) (t0 t1 t2 said state also : List ℕ) → ShowsOnly a b
+    → t1 ≡ t0 ++ said → t2 ≡ t1 ++ also → also ≡ state
+    → drawn view b t2 ≡ drawn view a (t0 ++ (said ++ state))
+opened view a b t0 t1 t2 said state also p first second same = drawn_by view a b t2 p
+    ∙ ap (drawn view a) (second ∙ (λ i. first i ++ same i) ∙ append_assoc t0 said state)
+
+-- where no screen is drawn, what is said is written
+pub plain_answer : (is_over : Bool) (seat : Seat) (said : List ℕ) → seat.view ≡ None
+    → answer_text is_over [] seat said ≡ said
+plain_answer true seat said none = refl
+plain_answer false seat said none = ap (λ v. drawn v seat.desk said ++ []) none ∙ append-nil said
 
 -- something is said of each line
 says_of : (read : Result SeenCommand (Option Topic × SeenWhy)) (is_over : Bool) (a b : Desk)
@@ -37,23 +76,17 @@ answer_says line is_over a b p = elim (cases_lt 255 (length line)) [
       )
 ]
 
--- what is said before something and after it
-pub three_said : (t0 t1 t2 a b also w : List ℕ) → t1 ≡ t0 ++ a → t2 ≡ t1 ++ also → also ≡ b
-    → t2 ++ w ≡ t0 ++ (a ++ (b ++ w))
-three_said t0 t1 t2 a b also w first second same =
-    ap (λ t. t ++ w) (second ∙ (λ i. first i ++ same i)) ∙ append_assoc (t0 ++ a) b w
-    ∙ append_assoc t0 a (b ++ w)
-
 -- only the text changes after a line
-pub line_then : (line : List ℕ) (is_over : Bool) (a b c : Desk) (said : List ℕ)
-    → ServesLine line is_over a b said → ShowsOnly b c → ServesLine line is_over a c said
-line_then line is_over a b c said p q = (p.0, p.1, p.2, shows_then p.0 b c p.3 q)
+pub line_then : (line : List ℕ) (is_over : Bool) (a b c : Seat) (said : List ℕ)
+    → ServesLine line is_over a b said → Rests b c → ServesLine line is_over a c said
+line_then line is_over a b c said p q =
+    (p.0, p.1, p.2, shows_then p.0 b.desk c.desk p.3 q.0, q.1 ∙ p.4)
 
-pub lines_then : (prompt : List ℕ) (lines : List (List ℕ)) (is_over : Bool) (a b c : Desk)
-    (w : List ℕ) → ServesLines prompt lines is_over a b w → ShowsOnly b c
+pub lines_then : (prompt : List ℕ) (lines : List (List ℕ)) (is_over : Bool) (a b c : Seat)
+    (w : List ℕ) → ServesLines prompt lines is_over a b w → Rests b c
     → ServesLines prompt lines is_over a c w
 unfolding ServesLines
-lines_then prompt [] is_over a b c w p q = (p.0, shows_then a b c p.1 q, p.2)
+lines_then prompt [] is_over a b c w p q = (p.0, rests_then a b c p.1 q, p.2)
 lines_then prompt (line ∷ lines) is_over a b c w p q = (
   p.0,
   p.1,
@@ -65,16 +98,16 @@ lines_then prompt (line ∷ lines) is_over a b c w p q = (
 )
 
 -- what is shown before lines
-pub shows_lines : (prompt : List ℕ) (lines : List (List ℕ)) (is_over : Bool) (a b c : Desk)
-    (w : List ℕ) → ShowsOnly a b → ServesLines prompt lines is_over b c w
+pub shows_lines : (prompt : List ℕ) (lines : List (List ℕ)) (is_over : Bool) (a b c : Seat)
+    (w : List ℕ) → Rests a b → ServesLines prompt lines is_over b c w
     → ServesLines prompt lines is_over a c w
 unfolding ServesLines
-shows_lines prompt [] is_over a b c w p q = (q.0, shows_then a b c p q.1, q.2)
+shows_lines prompt [] is_over a b c w p q = (q.0, rests_then a b c p q.1, q.2)
 shows_lines prompt (line ∷ lines) is_over a b c w p q
-    = (q.0, shows_then a b q.0 p q.1, q.2, q.3)
+    = (q.0, rests_then a b q.0 p q.1, q.2, q.3)
 
-pub shows_attended : (prompts : Bool) (given left : Option (List ℕ)) (a b c : Desk) (w : List ℕ)
-    → ShowsOnly a b → IsAttended prompts given left b c w → IsAttended prompts given left a c w
+pub shows_attended : (prompts : Bool) (given left : Option (List ℕ)) (a b c : Seat) (w : List ℕ)
+    → Rests a b → IsAttended prompts given left b c w → IsAttended prompts given left a c w
 shows_attended prompts given left a b c w p q = (
   q.0,
   q.1,
@@ -89,8 +122,8 @@ shows_attended prompts given left a b c w p q = (
   ],
 )
 
-pub shows_so_far : (prompts : Bool) (given left : Option (List ℕ)) (a b c : Desk) (w : List ℕ)
-    → ShowsOnly a b → IsAttendedSoFar prompts given left b c w
+pub shows_so_far : (prompts : Bool) (given left : Option (List ℕ)) (a b c : Seat) (w : List ℕ)
+    → Rests a b → IsAttendedSoFar prompts given left b c w
     → IsAttendedSoFar prompts given left a c w
 shows_so_far prompts given left a b c w p q = (
   q.0,
@@ -101,7 +134,7 @@ shows_so_far prompts given left a b c w p q = (
 )
 
 -- lines of which none ends the session, and then more of them
-pub lines_more : (prompt : List ℕ) (lines more : List (List ℕ)) (is_over : Bool) (a b c : Desk)
+pub lines_more : (prompt : List ℕ) (lines more : List (List ℕ)) (is_over : Bool) (a b c : Seat)
     (w v : List ℕ) → ServesLines prompt lines false a b w → ServesLines prompt more is_over b c v
     → ServesLines prompt (lines ++ more) is_over a c (w ++ v)
 unfolding ServesLines
@@ -119,37 +152,44 @@ lines_more prompt (line ∷ lines) more is_over a b c w v p q = (
       h.1 ++ v,
       h.2,
       lines_more prompt lines more is_over h.0 b c h.1 v h.3 q,
-      ap (λ x. x ++ v) h.4 ∙ append_assoc p.2 (prompt ++ h.1) v
-          ∙ ap (λ x. p.2 ++ x) (append_assoc prompt h.1 v),
+      ap (λ x. x ++ v) h.4 ∙ append_assoc (answer_text false prompt h.0 p.2) h.1 v,
     )
   ],
 )
 
-pub no_lines : (prompt : List ℕ) (a : Desk) → ServesLines prompt [] false a a []
+pub no_lines : (prompt : List ℕ) (a : Seat) → ServesLines prompt [] false a a []
 unfolding ServesLines
-no_lines prompt a = (refl, shows_same a, refl)
+no_lines prompt a = (refl, rests_same a, refl)
+
+-- at the end no line is left
+pub none_served : (a b : Seat) → Rests a b → ServesLines [] [] false a b []
+unfolding ServesLines
+none_served a b p = (refl, p, refl)
 
 -- one line, and any after it if it ends the session
-pub line_on : (prompt line : List ℕ) (a b : Desk) (said : List ℕ)
-    → ServesLine line false a b said → ServesLines prompt (line ∷ []) false a b (said ++ prompt)
+pub line_on : (prompt line : List ℕ) (a b : Seat) (said : List ℕ) → ServesLine line false a b said
+    → ServesLines prompt (line ∷ []) false a b (answer_text false prompt b said)
 unfolding ServesLines
 line_on prompt line a b said p = (
   a,
-  shows_same a,
+  rests_same a,
   said,
-  inr (b, [], p, (refl, shows_same b, refl), ap (λ x. said ++ x) (sym (append-nil prompt))),
+  inr (b, [], p, (refl, rests_same b, refl), sym (append-nil (answer_text false prompt b said))),
 )
 
-pub line_over : (prompt line : List ℕ) (lines : List (List ℕ)) (a b : Desk) (said : List ℕ)
+pub line_over : (prompt line : List ℕ) (lines : List (List ℕ)) (a b : Seat) (said : List ℕ)
     → ServesLine line true a b said → ServesLines prompt (line ∷ lines) true a b said
 unfolding ServesLines
-line_over prompt line lines a b said p = (a, shows_same a, said, inl (refl, p, refl))
+line_over prompt line lines a b said p = (a, rests_same a, said, inl (refl, p, refl))
 
-pub line_alone : (line : List ℕ) (is_over : Bool) (a b : Desk) (said : List ℕ)
-    → ServesLine line is_over a b said → ServesLines [] (line ∷ []) is_over a b said
-line_alone line true a b said p = line_over [] line [] a b said p
+-- one line alone, where no screen is drawn
+pub line_alone : (line : List ℕ) (is_over : Bool) (a b : Seat) (said : List ℕ)
+    → ServesLine line is_over (without_screen a) b said
+    → ServesLines [] (line ∷ []) is_over (without_screen a) b said
+line_alone line true a b said p = line_over [] line [] (without_screen a) b said p
 line_alone line false a b said p =
-    subst (λ x. ServesLines [] (line ∷ []) false a b x) (append-nil said) (line_on [] line a b said p)
+    subst (λ x. ServesLines [] (line ∷ []) false (without_screen a) b x) (plain_answer false b said p.4)
+    (line_on [] line (without_screen a) b said p)
 
 -- ---- the beginning that is kept of a line
 
@@ -164,16 +204,36 @@ both_long : (kept line : List ℕ) (is_over : Bool) (a b : Desk) → 255 < lengt
     → 255 < length line → AnswersLine kept is_over a b → AnswersLine line is_over a b
 both_long kept line is_over a b h i p = (λ short. absurd (omega (arith, short, i)), λ long. p.1 h)
 
--- what is kept is all of the line, or too long as the line is
-answer_kept : (begun : List ℕ) (is_over : Bool) (a b : Desk)
-    → AnswersLine (strip_last 13 (take 257 begun)) is_over a b
-    → AnswersLine (strip_last 13 begun) is_over a b
-answer_kept begun is_over a b p = elim (cases_lt 257 (length begun)) [
-  | inl more ↦ both_long (strip_last 13 (take 257 begun)) (strip_last 13 begun) is_over a b (omega (arith, length-take 257 begun, length-strip 13 (take 257 begun))) (omega (arith, length-strip 13 begun)) p
-  | inr less ↦ subst (λ l. AnswersLine (strip_last 13 l) is_over a b) (take_all 257 begun less) p
-]
+-- a line that is too long asks for no memory
+too_long_asks : (desk : Desk) (line : List ℕ) (shown : Stretch) → 255 < length line
+    → stretch_after desk line shown ≡ shown
+too_long_asks desk line shown h =
+    ap (λ t. cond t shown (stretch_by (read_at desk line) shown)) (lt-ltb 255 (length line) h)
 
-pub line_kept : (begun : List ℕ) (is_over : Bool) (a b : Desk) (said : List ℕ)
+long_view : (desk : Desk) (kept line : List ℕ) (view : Option View) → 255 < length kept
+    → 255 < length line → view_after desk kept view ≡ view_after desk line view
+long_view desk kept line None h i = refl
+long_view desk kept line (Some view) h i = ap (λ (stretch : Stretch). Some (record {
+  size = view.size;
+  stretch = stretch;
+  regs = desk.session.current.regs;
+  cycles = Some desk.session.current.cycles;
+})) (too_long_asks desk kept view.stretch h ∙ sym (too_long_asks desk line view.stretch i))
+
+-- what is kept is all of the line, or too long as the line is
+pub line_kept : (begun : List ℕ) (is_over : Bool) (a b : Seat) (said : List ℕ)
     → ServesLine (strip_last 13 (take 257 begun)) is_over a b said
     → ServesLine (strip_last 13 begun) is_over a b said
-line_kept begun is_over a b said p = (p.0, answer_kept begun is_over a p.0 p.1, p.2, p.3)
+line_kept begun is_over a b said p = elim (cases_lt 257 (length begun)) [
+  | inl more ↦
+      let long : 255 < length (strip_last 13 (take 257 begun))
+      = omega (arith, length-take 257 begun, length-strip 13 (take 257 begun)) in
+      let also : 255 < length (strip_last 13 begun) = omega (arith, length-strip 13 begun) in (
+        p.0,
+        both_long (strip_last 13 (take 257 begun)) (strip_last 13 begun) is_over a.desk p.0 long also p.1,
+        p.2,
+        p.3,
+        p.4 ∙ long_view a.desk (strip_last 13 (take 257 begun)) (strip_last 13 begun) a.view long also,
+      )
+  | inr less ↦ subst (λ l. ServesLine (strip_last 13 l) is_over a b said) (take_all 257 begun less) p
+]

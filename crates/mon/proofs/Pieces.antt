@@ -5,13 +5,13 @@ use Rattle.std.proofs.lemmas.List.{take_all, take-append-le}
 use Rattle.std.specs.Io.BufRead.{strip_last}
 use Rattle.model.specs.TextLines.{ended_lines_of, lines_from, no_line}
 use Rattle.mon.specs.Attended.{EndsLines, ServesLine, ServesLines, input_lines, line_at_end}
-use Rattle.mon.specs.Pieces.{GoesOn, IsOver, Piece, ServesPiece, unless_over}
-use Rattle.mon.proofs.LinesServed.{line_alone, line_kept, line_on, line_over, lines_more, lines_then, no_lines}
-use Rattle.mon_session.specs.Course.{ShowsOnly}
-use Rattle.mon_session.specs.declared.desk.Desk.{Desk}
+use Rattle.mon.specs.Pieces.{GoesOn, IsOver, Piece, ServesPiece}
+use Rattle.mon.specs.Seats.{Rests, answer_text, without_screen}
+use Rattle.mon.specs.declared.seat.Seat.{Seat}
+use Rattle.mon.proofs.LinesServed.{line_alone, line_kept, line_on, line_over, lines_more, lines_then, no_lines, none_served}
 use Rattle.arguments.specs.declared.refusal.Refusal.{Refusal}
 
-pub begins : (prompt : List ℕ) (first : Desk) → GoesOn prompt [] [] first first []
+pub begins : (prompt : List ℕ) (first : Seat) → GoesOn prompt [] [] first first []
 begins prompt first = record {
   lines = [];
   begun = [];
@@ -37,7 +37,7 @@ from_none : (ending : List ℕ → List (List ℕ)) (begun : List ℕ)
 unfolding lines_from
 from_none ending begun = refl
 
-module _ (prompt told kept : List ℕ) (first now : Desk) (before : List ℕ)
+module _ (prompt told kept : List ℕ) (first now : Seat) (before : List ℕ)
     (g : GoesOn prompt told kept first now before) where
   more_cut : (bytes : List ℕ) (ending : List ℕ → List (List ℕ)) (rest : List ℕ)
       → lines_from ending [] ((told ++ bytes) ++ rest)
@@ -46,7 +46,7 @@ module _ (prompt told kept : List ℕ) (first now : Desk) (before : List ℕ)
       ap (lines_from ending []) (append_assoc told bytes rest) ∙ g.cut ending (bytes ++ rest)
 
   -- only the text changes
-  pub shown_on : (new : Desk) → ShowsOnly now new → GoesOn prompt told kept first new before
+  pub shown_on : (new : Seat) → Rests now new → GoesOn prompt told kept first new before
   shown_on new p = record {
     lines = g.lines;
     begun = g.begun;
@@ -68,23 +68,23 @@ module _ (prompt told kept : List ℕ) (first now : Desk) (before : List ℕ)
       }
 
   -- a line that has ended
-  pub line_goes : (new : Desk) (said : List ℕ) → ServesLine (strip_last 13 kept) false now new said
-      → GoesOn prompt (told ++ 10 ∷ []) [] first new (before ++ (said ++ prompt))
+  pub line_goes : (new : Seat) (said : List ℕ) → ServesLine (strip_last 13 kept) false now new said
+      → GoesOn prompt (told ++ 10 ∷ []) [] first new
+      (before ++ answer_text false prompt new said)
   line_goes new said p = record {
     lines = g.lines ++ strip_last 13 g.begun ∷ [];
     begun = [];
     cut = λ ending rest. more_cut (10 ∷ []) ending rest ∙ ap (λ l. g.lines ++ l) (from_line ending g.begun rest) ∙ sym (append_assoc g.lines (strip_last 13 g.begun ∷ []) (lines_from ending [] rest));
     front = refl;
-    served = lines_more prompt g.lines (strip_last 13 g.begun ∷ []) false first now new before (said ++ prompt) g.served
+    served = lines_more prompt g.lines (strip_last 13 g.begun ∷ []) false first now new before (answer_text false prompt new said) g.served
         (line_on prompt (strip_last 13 g.begun) now new said (line_kept g.begun false now new said (subst (λ k. ServesLine (strip_last 13 k) false now new said) g.front p)));
   }
 
-  pub line_ends : (new : Desk) (said : List ℕ) → ServesLine (strip_last 13 kept) true now new said
-      → IsOver prompt (told ++ 10 ∷ []) first new (before ++ (said ++ []))
-  line_ends new said p ending rest = subst (λ l. ServesLines prompt l true first new (before ++ (said ++ []))) (sym (more_cut (10 ∷ []) ending rest ∙ ap (λ l. g.lines ++ l) (from_line ending g.begun rest)))
-      (subst (λ w. ServesLines prompt (g.lines ++ strip_last 13 g.begun ∷ lines_from ending [] rest) true first new (before ++ w)) (sym (append-nil said))
+  pub line_ends : (new : Seat) (said : List ℕ) → ServesLine (strip_last 13 kept) true now new said
+      → IsOver prompt (told ++ 10 ∷ []) first new (before ++ said)
+  line_ends new said p ending rest = subst (λ l. ServesLines prompt l true first new (before ++ said)) (sym (more_cut (10 ∷ []) ending rest ∙ ap (λ l. g.lines ++ l) (from_line ending g.begun rest)))
       (lines_more prompt g.lines (strip_last 13 g.begun ∷ lines_from ending [] rest) true first now new before said g.served
-      (line_over prompt (strip_last 13 g.begun) (lines_from ending [] rest) now new said (line_kept g.begun true now new said (subst (λ k. ServesLine (strip_last 13 k) true now new said) g.front p)))))
+      (line_over prompt (strip_last 13 g.begun) (lines_from ending [] rest) now new said (line_kept g.begun true now new said (subst (λ k. ServesLine (strip_last 13 k) true now new said) g.front p))))
 
   ended : ended_lines_of told ≡ g.lines
   ended = ap ended_lines_of (sym (append-nil told)) ∙ g.cut no_line []
@@ -100,16 +100,16 @@ module _ (prompt told kept : List ℕ) (first now : Desk) (before : List ℕ)
       ∙ ap (λ l. l ++ line_at_end g.begun) (sym ended)
 
   -- at the end no line is begun
-  pub ends_none : (line_end : List ℕ) → kept ≡ []
-      → EndsLines prompt line_end told false first now (before ++ (line_end ++ []))
-  ends_none line_end e = (
+  pub ends_none : (line_end : List ℕ) (last : Seat) → kept ≡ [] → Rests (without_screen now) last
+      → EndsLines prompt line_end told false first last (before ++ (line_end ++ []))
+  ends_none line_end last e rests = (
     [],
     whole ∙ ap (λ b. ended_lines_of told ++ line_at_end b) (none g.begun (sym g.front ∙ e)),
     now,
     before,
     [],
     so_far,
-    no_lines [] now,
+    none_served (without_screen now) last rests,
     refl,
   )
     where
@@ -118,8 +118,8 @@ module _ (prompt told kept : List ℕ) (first now : Desk) (before : List ℕ)
       none (b ∷ bs) h = absurd (omega (arith, ap length h, length-take 257 (b ∷ bs)))
 
   -- or the line begun is the last
-  pub ends_line : (line_end : List ℕ) (is_over : Bool) (new : Desk) (said : List ℕ) → 0 < length kept
-      → ServesLine (strip_last 13 kept) is_over now new said
+  pub ends_line : (line_end : List ℕ) (is_over : Bool) (new : Seat) (said : List ℕ) → 0 < length kept
+      → ServesLine (strip_last 13 kept) is_over (without_screen now) new said
       → EndsLines prompt line_end told is_over first new (before ++ (line_end ++ said))
   ends_line line_end is_over new said h p = (
     strip_last 13 g.begun ∷ [],
@@ -128,7 +128,7 @@ module _ (prompt told kept : List ℕ) (first now : Desk) (before : List ℕ)
     before,
     said,
     so_far,
-    line_alone (strip_last 13 g.begun) is_over now new said (line_kept g.begun is_over now new said (subst (λ k. ServesLine (strip_last 13 k) is_over now new said) g.front p)),
+    line_alone (strip_last 13 g.begun) is_over now new said (line_kept g.begun is_over (without_screen now) new said (subst (λ k. ServesLine (strip_last 13 k) is_over (without_screen now) new said) g.front p)),
     refl,
   )
     where
@@ -139,7 +139,7 @@ module _ (prompt told kept : List ℕ) (first now : Desk) (before : List ℕ)
 -- ---- one more byte, and the beginning that is kept
 
 -- one byte as a piece
-abbrev byte_served : List ℕ → ℕ → List ℕ → List ℕ → Desk → Desk → Bool → List ℕ → Piece
+abbrev byte_served : List ℕ → ℕ → List ℕ → List ℕ → Seat → Seat → Bool → List ℕ → Piece
 byte_served prompt byte kept more old new is_over written = record {
   bytes = byte ∷ [];
   prompt = prompt;
@@ -152,25 +152,26 @@ byte_served prompt byte kept more old new is_over written = record {
 }
 
 -- an LF, by whether the line ends the session
-pub line_fed : (prompt : List ℕ) (is_over : Bool) (byte : ℕ) (kept more : List ℕ) (old new : Desk)
+pub line_fed : (prompt : List ℕ) (is_over : Bool) (byte : ℕ) (kept more : List ℕ) (old new : Seat)
     (said : List ℕ) → byte ≡ 10 → ServesLine (strip_last 13 kept) is_over old new said → more ≡ []
-    → ServesPiece (byte_served prompt byte kept more old new is_over (said ++ unless_over is_over prompt))
+    → ServesPiece (byte_served prompt byte kept more old new is_over (answer_text is_over prompt new said))
 line_fed prompt true byte kept more old new said e p none = λ told first before g.
-    subst (λ b. IsOver prompt (told ++ b ∷ []) first new (before ++ (said ++ []))) (sym e) (line_ends prompt told kept first old before g new said p)
+    subst (λ b. IsOver prompt (told ++ b ∷ []) first new (before ++ said)) (sym e) (line_ends prompt told kept first old before g new said p)
 line_fed prompt false byte kept more old new said e p none = λ told first before g.
-    subst (λ b. GoesOn prompt (told ++ b ∷ []) more first new (before ++ (said ++ prompt))) (sym e) (subst (λ k. GoesOn prompt (told ++ 10 ∷ []) k first new (before ++ (said ++ prompt))) (sym none) (line_goes prompt told kept first old before g new said p))
+    let written = answer_text false prompt new said in
+    subst (λ b. GoesOn prompt (told ++ b ∷ []) more first new (before ++ written)) (sym e) (subst (λ k. GoesOn prompt (told ++ 10 ∷ []) k first new (before ++ written)) (sym none) (line_goes prompt told kept first old before g new said p))
 
 pub fed_of : (prompt : List ℕ) (r : Result Bool Refusal) (byte : ℕ) (kept more : List ℕ)
-    (old new : Desk) (Wrote : List ℕ → Type 0) → byte ≡ 10
+    (old new : Seat) (Wrote : List ℕ → Type 0) → byte ≡ 10
     → IfOk r (λ is_over. (said : List ℕ) × ServesLine (strip_last 13 kept) is_over old new said
-    × Wrote (old.text.items ++ (said ++ unless_over is_over prompt)))
+    × Wrote (answer_text is_over prompt new (old.desk.text.items ++ said)))
     → IfOk r (λ _. more ≡ [])
     → IfOk r (λ is_over. (x : List ℕ) × ServesPiece (byte_served prompt byte kept more old new is_over x)
-    × (old.text.items ≡ [] → Wrote x))
+    × (old.desk.text.items ≡ [] → Wrote x))
 fed_of prompt (Ok is_over) byte kept more old new Wrote e p none = (
-  p.0 ++ unless_over is_over prompt,
+  answer_text is_over prompt new p.0,
   line_fed prompt is_over byte kept more old new p.0 e p.1 none,
-  λ empty. subst (λ t. Wrote (t ++ (p.0 ++ unless_over is_over prompt))) empty p.2,
+  λ empty. subst (λ t. Wrote (answer_text is_over prompt new (t ++ p.0))) empty p.2,
 )
 fed_of prompt (Err fault) byte kept more old new Wrote e p none = tt
 

@@ -8,6 +8,8 @@ use Rattle.mon.specs.declared.wording.TheConstants.{PROMPT}
 use Rattle.mon_dispatch.specs.Lines.{IsTooLong, Says, Serves}
 use Rattle.mon_session.specs.Course.{ShowsOnly}
 use Rattle.mon_session.specs.declared.desk.Desk.{Desk}
+use Rattle.mon.specs.Seats.{Rests, answer_text, view_after, without_screen}
+use Rattle.mon.specs.declared.seat.Seat.{Seat}
 
 -- ---- the lines of an input
 
@@ -28,34 +30,37 @@ abbrev pub AnswersLine : List ℕ → Bool → Desk → Desk → Type 0
 AnswersLine line is_over old new = (length line ≤ 255 → Serves line is_over old new)
     × (255 < length line → IsTooLong is_over old new)
 
--- A line is answered, and so much is said. Then only the text changes, which is written.
-abbrev pub ServesLine : List ℕ → Bool → Desk → Desk → List ℕ → Type 0
-ServesLine line is_over old new said = (answered : Desk) × AnswersLine line is_over old answered
-    × Says said old answered × ShowsOnly answered new
+-- A line is answered, and so much is said. Then only the text changes, which is written. A screen
+-- shows what it shows after the line.
+abbrev pub ServesLine : List ℕ → Bool → Seat → Seat → List ℕ → Type 0
+ServesLine line is_over old new said = (answered : Desk)
+    × AnswersLine line is_over old.desk answered × Says said old.desk answered
+    × ShowsOnly answered new.desk × (new.view ≡ view_after old.desk line old.view)
 
 -- ---- lines one after another
 
 -- Lines are served one after another, up to one that ends the session. `is_over` says whether there
--- is such a line. Between lines only the text changes. What is said of each line is written, and a
--- prompt behind it unless the session is over.
-unfoldable pub ServesLines : List ℕ → List (List ℕ) → Bool → Desk → Desk → List ℕ → Type 0
+-- is such a line. Between lines only the text changes. What is said of each line is written, or a
+-- screen with it, and a prompt behind it unless the session is over.
+unfoldable pub ServesLines : List ℕ → List (List ℕ) → Bool → Seat → Seat → List ℕ → Type 0
 ServesLines prompt [] is_over old new written
-    = (is_over ≡ false) × ShowsOnly old new × (written ≡ [])
-ServesLines prompt (line ∷ lines) is_over old new written = (begun : Desk) × ShowsOnly old begun
+    = (is_over ≡ false) × Rests old new × (written ≡ [])
+ServesLines prompt (line ∷ lines) is_over old new written = (begun : Seat) × Rests old begun
     × (said : List ℕ)
-    × (((is_over ≡ true) × ServesLine line true begun new said × (written ≡ said))
-    ⊎ ((between : Desk) × (rest : List ℕ) × ServesLine line false begun between said
+    × (((is_over ≡ true) × ServesLine line true begun new said
+    × (written ≡ answer_text true prompt new said))
+    ⊎ ((between : Seat) × (rest : List ℕ) × ServesLine line false begun between said
     × ServesLines prompt lines is_over between new rest
-    × (written ≡ said ++ (prompt ++ rest))))
+    × (written ≡ answer_text false prompt between said ++ rest)))
 
 -- At the end of the input a line end is written if prompts are. Then a last line that has no LF is
--- served, behind which no prompt is written.
-abbrev pub EndsLines : List ℕ → List ℕ → List ℕ → Bool → Desk → Desk → List ℕ → Type 0
+-- served, behind which no screen is drawn and no prompt written.
+abbrev pub EndsLines : List ℕ → List ℕ → List ℕ → Bool → Seat → Seat → List ℕ → Type 0
 EndsLines prompt line_end told is_over old new written = (last : List (List ℕ))
     × (input_lines told ≡ ended_lines_of told ++ last)
-    × (between : Desk) × (first : List ℕ) × (rest : List ℕ)
+    × (between : Seat) × (first : List ℕ) × (rest : List ℕ)
     × ServesLines prompt (ended_lines_of told) false old between first
-    × ServesLines [] last is_over between new rest
+    × ServesLines [] last is_over (without_screen between) new rest
     × (written ≡ first ++ (line_end ++ rest))
 
 -- ---- a session
@@ -69,7 +74,7 @@ line_end_of prompts = if prompts then codes "\n" else []
 
 -- Of what a reader gave, the complete lines were served up to one that ended the session; or it
 -- gave its whole input, and the lines of that were served.
-abbrev pub IsAttended : Bool → Option (List ℕ) → Option (List ℕ) → Desk → Desk → List ℕ → Type 0
+abbrev pub IsAttended : Bool → Option (List ℕ) → Option (List ℕ) → Seat → Seat → List ℕ → Type 0
 IsAttended prompts given left old new written = (told : List ℕ) × Consumes given left told
     × (rest : List ℕ) × (written ≡ prompt_of prompts ++ rest)
     × (ServesLines (prompt_of prompts) (ended_lines_of told) true old new rest
@@ -77,7 +82,7 @@ IsAttended prompts given left old new written = (told : List ℕ) × Consumes gi
     × EndsLines (prompt_of prompts) (line_end_of prompts) told is_over old new rest))
 
 -- The complete lines that were read so far were served, and none of them ended the session.
-abbrev pub IsAttendedSoFar : Bool → Option (List ℕ) → Option (List ℕ) → Desk → Desk → List ℕ
+abbrev pub IsAttendedSoFar : Bool → Option (List ℕ) → Option (List ℕ) → Seat → Seat → List ℕ
     → Type 0
 IsAttendedSoFar prompts given left old new written = (told : List ℕ) × Consumes given left told
     × (rest : List ℕ) × (written ≡ prompt_of prompts ++ rest)

@@ -1,5 +1,5 @@
 -- What the word `mon` did, by its exit status. Source: mos65.
-use Rattle.std.specs.Prelude.{◌≡◌, ◌⊎◌, ⊤, ℕ, Bool, true, if◌then◌else◌, List, [], ◌++◌, Option, Some, None}
+use Rattle.std.specs.Prelude.{◌≡◌, ◌⊎◌, ⊤, ℕ, Bool, true, List, [], ◌++◌, Option, Some, None}
 use Rattle.std.specs.Io.KnownBytes.{Appends}
 use Rattle.assembler.specs.Assembly.{AssemblyView, IsAssembled}
 use Rattle.arguments.specs.Asked.{FileAsked, map_of}
@@ -16,6 +16,12 @@ use Rattle.model.specs.Event.{start}
 use Rattle.model.specs.Session.{Session, new_session}
 use Rattle.mon.specs.Attended.{IsAttended}
 use Rattle.mon.specs.Greeting.{greeting_of}
+use Rattle.mon.specs.Seats.{drawn}
+use Rattle.mon.specs.declared.seat.Seat.{Seat}
+use Rattle.mon_lines.specs.declared.command.Stretch.{Stretch}
+use Rattle.mon_screen.specs.Limits.{limited}
+use Rattle.mon_screen.specs.declared.size.Size.{Size}
+use Rattle.mon_screen.specs.declared.view.View.{View}
 use Rattle.mon_session.specs.EventTexts.{shown_text}
 use Rattle.mon_session.specs.declared.desk.Desk.{Desk}
 use Rattle.source_map.specs.Lines.{PlacesView, places_of}
@@ -88,24 +94,45 @@ StartsMon asked desk = (image : List (Option ℕ)) × (assembly : Option Assembl
     × IsNewDesk (new_session asked.history (start (map_of asked.file) image)) asked.history
     (with_names names (places_in asked.file.file assembly)) desk
 
--- A session ended at a desk. With the status 0 the lines of the input were served at it, and the
--- output, whose bytes were `old`, got what is said of them: first the greeting and the state.
-abbrev pub EndsAt : Bool → Desk → Option (List ℕ) → Option (List ℕ) → Option (List ℕ)
+-- The size of a screen: the one that is asked for, otherwise any that a screen can have.
+abbrev pub IsSizeFor : Option (ℕ × ℕ) → Size → Type 0
+IsSizeFor None size = ⊤
+IsSizeFor (Some asked) size
+    = (size.columns ≡ limited 80 250 asked.0) × (size.rows ≡ limited 24 100 asked.1)
+
+-- The memory that a screen shows until a line asks for another: that from $0200 on.
+abbrev pub first_stretch : Stretch
+first_stretch = record { first = 512; last = 767 }
+
+-- A screen is drawn only if the words ask for one, and at first nothing has changed.
+abbrev pub StartsView : MonAsked → Desk → Option View → Type 0
+StartsView asked desk None = ⊤
+StartsView asked desk (Some view) = (asked.has_screen ≡ true) × IsSizeFor asked.size view.size
+    × (view.stretch ≡ first_stretch) × (view.regs ≡ desk.session.current.regs)
+    × (view.cycles ≡ None)
+
+-- What is written first: the greeting and the state, or a screen with both.
+abbrev pub opening : Bool → Seat → List ℕ
+opening prompts seat = drawn seat.view seat.desk (seat.desk.text.items
+    ++ (greeting_of prompts seat.desk.session.current seat.desk.places.names
+    ++ shown_text seat.desk.session.current seat.desk.places.names None))
+
+-- A session ended at a seat. With the status 0 the lines of the input were served at it, and the
+-- output, whose bytes were `old`, got what is said of them.
+abbrev pub EndsAt : Bool → Seat → Option (List ℕ) → Option (List ℕ) → Option (List ℕ)
     → Option (List ℕ) → ℕ → Type 0
 EndsAt prompts first given left old new status = IsEnded status
-    × (status ≡ 0 → (last : Desk) × (written : List ℕ)
+    × (status ≡ 0 → (last : Seat) × (written : List ℕ)
     × IsAttended prompts given left first last written
-    × Appends old new (first.text.items
-    ++ (greeting_of prompts first.session.current first.places.names
-    ++ (shown_text first.session.current first.places.names None ++ written))))
+    × Appends old new (opening prompts first ++ written))
 
 -- What was done for words: no session began, and the streams were left alone, `Alone`; or one began
--- at its desk, with some input given, and ended so, with some input left. Prompts are written if
--- the words ask for them, or if the input is a terminal.
+-- at its seat, with some input given, and ended so, with some input left. Prompts are written if
+-- the words ask for them, or if the input is a terminal; screens only if the words ask for them.
 abbrev pub IsDone : MonAsked → Option (List ℕ) → Option (List ℕ) → Option (List ℕ)
     → Option (List ℕ) → Heard → ℕ → Type 0 → Type 0
 IsDone asked given left old new heard status Alone = IsUnloaded asked.file heard status Alone
     ⊎ (IsUnnamed asked.symbols asked.file heard status Alone
-    ⊎ ((desk : Desk) × StartsMon asked desk × (prompts : Bool)
-    × (asked.prompts ≡ true → prompts ≡ true)
-    × EndsAt prompts desk given left old new status))
+    ⊎ ((seat : Seat) × StartsMon asked seat.desk × StartsView asked seat.desk seat.view
+    × (prompts : Bool) × (asked.prompts ≡ true → prompts ≡ true)
+    × EndsAt prompts seat given left old new status))

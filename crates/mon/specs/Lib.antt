@@ -1,4 +1,5 @@
 pub mod Attended
 pub mod Done
-pub mod Pieces
 pub mod Greeting
+pub mod Pieces
+pub mod Seats

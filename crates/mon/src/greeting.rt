@@ -6,7 +6,7 @@ ghost use Rattle.mon.specs.Greeting.{greeting, greeting_of, has_hidden, hidden_n
 ghost use Rattle.mon.specs.Greeting.{hidden_text, vector_text};
 ghost use Rattle.mon_session.specs.Course.{ShowsOnly};
 
-use crate::lines::of_memory;
+use crate::seat::of_memory;
 use crate::wording::{GREETING, HIDDEN, NO_VECTOR};
 use arguments::Refusal;
 use formatting::push_text;

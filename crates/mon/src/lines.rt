@@ -1,64 +1,26 @@
 //! The lines of the input, and the loop that serves them.
 
 ghost use Rattle.std.specs.Prelude.{◌≡◌, ◌∷◌, ◌++◌, [], ℕ, List, Bool, Ok, Err, IfErr, IfOk, OnOk};
-ghost use Rattle.std.specs.Prelude.{if◌then◌else◌};
 ghost use Rattle.std.specs.Io.BufRead.{strip_last};
 ghost use Rattle.std.specs.Io.KnownBytes.{Appends};
-ghost use Rattle.mon.specs.Attended.{AnswersLine, EndsLines, IsAttended, IsAttendedSoFar};
-ghost use Rattle.mon.specs.Attended.{ServesLine, line_end_of, prompt_of};
+ghost use Rattle.mon.specs.Attended.{EndsLines, IsAttended, IsAttendedSoFar, ServesLine};
+ghost use Rattle.mon.specs.Attended.{line_end_of, prompt_of};
 ghost use Rattle.mon.specs.Done.{EndsAnswer, EndsSession};
-ghost use Rattle.mon.specs.Pieces.{GoesOn, Piece, ServesPiece, unless_over};
-ghost use Rattle.mon_session.specs.Course.{ShowsOnly};
-ghost use Rattle.mon_session.specs.declared.desk.Desk.{Desk};
+ghost use Rattle.mon.specs.Pieces.{GoesOn, Piece, ServesPiece};
+ghost use Rattle.mon.specs.Seats.{answer_text};
+ghost use Rattle.mon.specs.declared.seat.Seat.{Seat};
 
+use crate::seat::{Seat, answer, put_text, say_if, serve_line};
 use crate::wording::PROMPT;
 use arguments::{ReadFault, Refusal};
 use arrayvec::ArrayVec;
-use mon_dispatch::serve;
-use mon_session::Desk;
-use std::alloc::{AllocError, Global};
+use std::alloc::Global;
 use std::io::{Read, Write};
 
 /// The beginning of a line that has not ended yet: no more than its first 257 bytes.
 ///
 /// The longest line has 255, one more may be its CR, and one more makes it too long.
 type Begun = ArrayVec<u8, 257>;
-
-/// Writes and flushes the text of the desk, which has none afterwards.
-fn put_text<W: Write>(desk: &mut Desk, writer: &mut W) -> Result<(), Refusal>
-    ensures shows { ShowsOnly desk.old desk.new }
-    ensures written { IfOk result (λ _. Appends (W.contents writer.old) (W.contents writer.new)
-        desk.old.text.items) }
-    ensures cleared { IfOk result (λ _. desk.new.text.items ≡ []) }
-    ensures refused { IfErr result EndsAnswer }
-{
-    if writer.write_all(desk.text.as_slice()).is_err() || writer.flush().is_err() {
-        return Err(Refusal::Write);
-    }
-    desk.text.clear();
-    Ok(())
-}
-
-/// Returns what was made, or that an allocation failed.
-pub fn of_memory<T>(made: Result<T, AllocError>) -> Result<T, Refusal>
-    ensures made { IfOk result (λ value. made ≡ Ok value) }
-    ensures refused { IfErr result (λ fault. fault ≡ Refusal.OutOfMemory) }
-{
-    made.map_err(|_| Refusal::OutOfMemory)
-}
-
-/// Says something if it is asked for.
-fn say_if(desk: &mut Desk, is_asked: bool, words: &str) -> Result<(), Refusal>
-    ensures shows { ShowsOnly desk.old desk.new }
-    ensures said { OnOk result
-        (desk.new.text.items ≡ desk.old.text.items ++ (if is_asked then words.now else [])) }
-    ensures refused { IfErr result EndsAnswer }
-{
-    if is_asked {
-        return of_memory(desk.say(words));
-    }
-    Ok(())
-}
 
 /// Returns a line that has ended without the CR at its end.
 fn line_of(begun: &Begun) -> &[u8]
@@ -70,54 +32,33 @@ fn line_of(begun: &Begun) -> &[u8]
     }
 }
 
-/// Does what a line asks for, and returns whether the session is to end.
-fn serve_line(alloc: Global, desk: &mut Desk, line: &[u8]) -> Result<bool, Refusal>
-    ensures served { IfOk result (λ is_over. AnswersLine line.now is_over desk.old desk.new) }
-    ensures refused { IfErr result EndsAnswer }
-{
-    of_memory(serve(desk, alloc, line))
-}
-
-/// Says that the next line may come, if prompts are asked for and the session is not over.
-fn say_prompt(desk: &mut Desk, prompts: bool, is_over: bool) -> Result<(), Refusal>
-    ensures shows { ShowsOnly desk.old desk.new }
-    ensures said { OnOk result (desk.new.text.items
-        ≡ desk.old.text.items ++ unless_over is_over (prompt_of prompts)) }
-    ensures refused { IfErr result EndsAnswer }
-{
-    if is_over {
-        return Ok(());
-    }
-    say_if(desk, prompts, PROMPT)
-}
-
 /// Serves a line that has ended, and begins the next one. Returns whether the session is to end.
 fn serve_begun<W: Write>(
     alloc: Global,
-    desk: &mut Desk,
+    seat: &mut Seat,
     prompts: bool,
     begun: &mut Begun,
     writer: &mut W,
 ) -> Result<bool, Refusal>
     ensures served { IfOk result (λ is_over. (said : List ℕ)
-        × ServesLine (strip_last 13 begun.old.items) is_over desk.old desk.new said
-        × Appends (W.contents writer.old) (W.contents writer.new) (desk.old.text.items
-        ++ (said ++ unless_over is_over (prompt_of prompts)))) }
+        × ServesLine (strip_last 13 begun.old.items) is_over seat.old seat.new said
+        × Appends (W.contents writer.old) (W.contents writer.new) (answer_text is_over
+        (prompt_of prompts) seat.new (seat.old.desk.text.items ++ said))) }
     ensures cleared { IfOk result (λ _. begun.new.items ≡ []) }
-    ensures written { IfOk result (λ _. desk.new.text.items ≡ []) }
+    ensures written { IfOk result (λ _. seat.new.desk.text.items ≡ []) }
     ensures refused { IfErr result EndsAnswer }
 {
-    let is_over = serve_line(alloc, desk, line_of(begun))?;
+    let is_over = serve_line(alloc, seat, line_of(begun))?;
     begun.clear();
-    say_prompt(desk, prompts, is_over)?;
-    put_text(desk, writer)?;
+    answer(alloc, seat, prompts, is_over)?;
+    put_text(seat, writer)?;
     Ok(is_over)
 }
 
 /// Serves one byte of the input. Returns whether the session is to end.
 fn serve_byte<W: Write>(
     alloc: Global,
-    desk: &mut Desk,
+    seat: &mut Seat,
     prompts: bool,
     begun: &mut Begun,
     byte: u8,
@@ -126,21 +67,21 @@ fn serve_byte<W: Write>(
     ensures fed { IfOk result (λ is_over. (more : List ℕ) × ServesPiece (record {
       bytes = byte ∷ [];
       prompt = prompt_of prompts;
-      old = desk.old;
+      old = seat.old;
       kept = begun.old.items;
-      new = desk.new;
+      new = seat.new;
       kept_then = begun.new.items;
       is_over = is_over;
       written = more;
     })
-        × (desk.old.text.items ≡ []
+        × (seat.old.desk.text.items ≡ []
         → Appends (W.contents writer.old) (W.contents writer.new) more)) }
     ensures written { IfOk result
-        (λ _. desk.old.text.items ≡ [] → desk.new.text.items ≡ []) }
+        (λ _. seat.old.desk.text.items ≡ [] → seat.new.desk.text.items ≡ []) }
     ensures refused { IfErr result EndsAnswer }
 {
     if byte == b'\n' {
-        return serve_begun(alloc, desk, prompts, begun, writer);
+        return serve_begun(alloc, seat, prompts, begun, writer);
     }
     if begun.len() < 257 {
         begun.push(byte);
@@ -151,7 +92,7 @@ fn serve_byte<W: Write>(
 /// Serves some bytes of the input. Returns whether the session is to end.
 fn serve_bytes<W: Write>(
     alloc: Global,
-    desk: &mut Desk,
+    seat: &mut Seat,
     prompts: bool,
     begun: &mut Begun,
     bytes: &[u8],
@@ -160,50 +101,51 @@ fn serve_bytes<W: Write>(
     ensures fed { IfOk result (λ is_over. (more : List ℕ) × ServesPiece (record {
       bytes = bytes.now;
       prompt = prompt_of prompts;
-      old = desk.old;
+      old = seat.old;
       kept = begun.old.items;
-      new = desk.new;
+      new = seat.new;
       kept_then = begun.new.items;
       is_over = is_over;
       written = more;
     })
-        × (desk.old.text.items ≡ []
+        × (seat.old.desk.text.items ≡ []
         → Appends (W.contents writer.old) (W.contents writer.new) more)) }
     ensures written { IfOk result
-        (λ _. desk.old.text.items ≡ [] → desk.new.text.items ≡ []) }
+        (λ _. seat.old.desk.text.items ≡ [] → seat.new.desk.text.items ≡ []) }
     ensures refused { IfErr result EndsAnswer }
 {
     for byte in bytes {
-        if serve_byte(alloc, desk, prompts, begun, *byte, writer)? {
+        if serve_byte(alloc, seat, prompts, begun, *byte, writer)? {
             return Ok(true);
         }
     }
     Ok(false)
 }
 
-/// Serves what is left at the end of the input.
+/// Serves what is left at the end of the input. No screen is drawn any more.
 fn serve_last<W: Write>(
     alloc: Global,
-    desk: &mut Desk,
+    seat: &mut Seat,
     prompts: bool,
     begun: &mut Begun,
     writer: &mut W,
 ) -> Result<(), Refusal>
     ensures served { IfOk result (λ _. (rest : List ℕ)
         × Appends (W.contents writer.old) (W.contents writer.new)
-        (desk.old.text.items ++ (line_end_of prompts ++ rest))
-        × ((told : List ℕ) (first : Desk) (before : List ℕ)
-        → GoesOn (prompt_of prompts) told begun.old.items first desk.old before
+        (seat.old.desk.text.items ++ (line_end_of prompts ++ rest))
+        × ((told : List ℕ) (first : Seat) (before : List ℕ)
+        → GoesOn (prompt_of prompts) told begun.old.items first seat.old before
         → (is_over : Bool) × EndsLines (prompt_of prompts) (line_end_of prompts) told is_over
-        first desk.new (before ++ (line_end_of prompts ++ rest)))) }
-    ensures written { IfOk result (λ _. desk.new.text.items ≡ []) }
+        first seat.new (before ++ (line_end_of prompts ++ rest)))) }
+    ensures written { IfOk result (λ _. seat.new.desk.text.items ≡ []) }
     ensures refused { IfErr result EndsAnswer }
 {
-    say_if(desk, prompts, "\n")?;
+    say_if(seat, prompts, "\n")?;
+    seat.view = None;
     if begun.is_empty() {
-        return put_text(desk, writer);
+        return put_text(seat, writer);
     }
-    serve_begun(alloc, desk, false, begun, writer)?;
+    serve_begun(alloc, seat, false, begun, writer)?;
     Ok(())
 }
 
@@ -217,33 +159,33 @@ fn serve_last<W: Write>(
 /// - `OutOfMemory`: an allocation failed.
 pub fn attend<R: Read, W: Write>(
     alloc: Global,
-    desk: &mut Desk,
+    seat: &mut Seat,
     prompts: bool,
     reader: &mut R,
     writer: &mut W,
 ) -> Result<(), Refusal>
     ensures attended { IfOk result (λ _. (written : List ℕ)
-        × IsAttended prompts (R.remaining reader.old) (R.remaining reader.new) desk.old desk.new
+        × IsAttended prompts (R.remaining reader.old) (R.remaining reader.new) seat.old seat.new
         written
         × Appends (W.contents writer.old) (W.contents writer.new)
-        (desk.old.text.items ++ written)) }
+        (seat.old.desk.text.items ++ written)) }
     ensures unread { result ≡ Err (Refusal.Read ReadFault.Other) → (written : List ℕ)
-        × IsAttendedSoFar prompts (R.remaining reader.old) (R.remaining reader.new) desk.old
-        desk.new written
+        × IsAttendedSoFar prompts (R.remaining reader.old) (R.remaining reader.new) seat.old
+        seat.new written
         × Appends (W.contents writer.old) (W.contents writer.new)
-        (desk.old.text.items ++ written) }
-    ensures written { IfOk result (λ _. desk.new.text.items ≡ []) }
+        (seat.old.desk.text.items ++ written) }
+    ensures written { IfOk result (λ _. seat.new.desk.text.items ≡ []) }
     ensures refused { IfErr result EndsSession }
 {
-    say_if(desk, prompts, PROMPT)?;
-    put_text(desk, writer)?;
+    say_if(seat, prompts, PROMPT)?;
+    put_text(seat, writer)?;
     let mut begun = Begun::new();
     let mut chunk = [0u8; 512];
     for _ in 0..u64::MAX {
         match reader.read(&mut chunk) {
-            Ok(0) => return serve_last(alloc, desk, prompts, &mut begun, writer),
+            Ok(0) => return serve_last(alloc, seat, prompts, &mut begun, writer),
             Ok(n) => {
-                if serve_bytes(alloc, desk, prompts, &mut begun, &chunk[..n], writer)? {
+                if serve_bytes(alloc, seat, prompts, &mut begun, &chunk[..n], writer)? {
                     return Ok(());
                 }
             }

@@ -13,13 +13,14 @@ ghost use Rattle.model.specs.Event.{start};
 ghost use Rattle.model.specs.Session.{new_session};
 ghost use Rattle.model.specs.State.{is_map};
 ghost use Rattle.mon.specs.Attended.{IsAttended, IsAttendedSoFar};
-ghost use Rattle.mon.specs.Done.{AreNamed, EndsAt, EndsNamed, EndsSession, IsDone, IsNewDesk};
-ghost use Rattle.mon.specs.Done.{places_in, with_names};
-ghost use Rattle.mon.specs.Greeting.{greeting_of};
-ghost use Rattle.mon_session.specs.EventTexts.{shown_text};
+ghost use Rattle.mon.specs.Done.{AreNamed, EndsAnswer, EndsAt, EndsNamed, EndsSession, IsDone};
+ghost use Rattle.mon.specs.Done.{IsNewDesk, opening, places_in, with_names};
+ghost use Rattle.mon.specs.Seats.{Rests};
 
 use crate::greeting::greet;
-use crate::lines::{attend, of_memory};
+use crate::lines::attend;
+use crate::screens::first_view;
+use crate::seat::{Seat, draw, of_memory};
 use arguments::{Refusal, refuse, refuse_file, refused_words};
 use arguments_play::{MonWords, read_mon_words};
 use loading::{Loaded, load_names, load_with_history};
@@ -27,7 +28,7 @@ use mon_session::Desk;
 use source_map::Places;
 use std::alloc::Global;
 use std::io::{IsTerminal, Read, Write};
-use std::rt::Files;
+use std::rt::{Env, Files};
 
 /// Returns the places of what was loaded.
 fn places_of(alloc: Global, file: &str, loaded: &Loaded) -> Result<Places, Refusal>
@@ -79,49 +80,57 @@ fn named_desk<H: Files + AllocGlobal>(
     Ok(desk)
 }
 
+/// Says what a session begins with, or draws a screen with it.
+fn say_opening(alloc: Global, seat: &mut Seat, prompts: bool) -> Result<(), Refusal>
+    ensures rests { OnOk result (Rests seat.old seat.new) }
+    ensures said { OnOk result (seat.new.desk.text.items ≡ opening prompts seat.old) }
+    ensures refused { IfErr result EndsAnswer }
+{
+    greet(&mut seat.desk, prompts)?;
+    of_memory(seat.desk.show(None))?;
+    draw(alloc, seat)?;
+    Ok(())
+}
+
 /// Serves a session.
 fn serve<R: Read, O: Write>(
     alloc: Global,
-    desk: &mut Desk,
+    seat: &mut Seat,
     prompts: bool,
     input: &mut R,
     output: &mut O,
 ) -> Result<(), Refusal>
     ensures attended { IfOk result (λ _. (written : List ℕ)
-        × IsAttended prompts (R.remaining input.old) (R.remaining input.new) desk.old desk.new
+        × IsAttended prompts (R.remaining input.old) (R.remaining input.new) seat.old seat.new
         written
         × Appends (O.contents output.old) (O.contents output.new)
-        (desk.old.text.items
-        ++ (greeting_of prompts desk.old.session.current desk.old.places.names
-        ++ (shown_text desk.old.session.current desk.old.places.names None ++ written)))) }
+        (opening prompts seat.old ++ written)) }
     ensures unread { result ≡ Err (Refusal.Read Other) → (written : List ℕ)
-        × IsAttendedSoFar prompts (R.remaining input.old) (R.remaining input.new) desk.old
-        desk.new written
+        × IsAttendedSoFar prompts (R.remaining input.old) (R.remaining input.new) seat.old
+        seat.new written
         × Appends (O.contents output.old) (O.contents output.new)
-        (desk.old.text.items ++ (greeting_of prompts ++ (shown_text desk.old.session.current
-        desk.old.places.names None ++ written))) }
-    ensures written { IfOk result (λ _. desk.new.text.items ≡ []) }
+        (opening prompts seat.old ++ written) }
+    ensures written { IfOk result (λ _. seat.new.desk.text.items ≡ []) }
     ensures refused { IfErr result EndsSession }
 {
-    greet(desk, prompts)?;
-    of_memory(desk.show(None))?;
-    attend(alloc, desk, prompts, input, output)
+    say_opening(alloc, seat, prompts)?;
+    attend(alloc, seat, prompts, input, output)
 }
 
 /// Serves a session, says why it ended before its input did, and returns the exit status.
 fn served<R: Read, O: Write, E: Write>(
     alloc: Global,
-    desk: &mut Desk,
+    seat: &mut Seat,
     prompts: bool,
     input: &mut R,
     output: &mut O,
     errors: &mut E,
 ) -> u8
-    ensures ended { EndsAt prompts desk.old (R.remaining input.old) (R.remaining input.new)
+    ensures ended { EndsAt prompts seat.old (R.remaining input.old) (R.remaining input.new)
         (O.contents output.old) (O.contents output.new) result }
     ensures quiet { result ≡ 0 → errors.new ≡ errors.old }
 {
-    match serve(alloc, desk, prompts, input, output) {
+    match serve(alloc, seat, prompts, input, output) {
         Ok(()) => 0,
         Err(refusal) => refuse(refusal, errors),
     }
@@ -135,7 +144,7 @@ fn wants_prompts<R: IsTerminal>(is_asked: bool, input: &R) -> bool
 }
 
 /// Serves a session on what was loaded, and returns the exit status.
-fn mon_loaded<H: Files + AllocGlobal, R: Read + IsTerminal, O: Write, E: Write>(
+fn mon_loaded<H: Env + Files + AllocGlobal, R: Read + IsTerminal, O: Write, E: Write>(
     rt: &H,
     words: &MonWords<'_>,
     loaded: Loaded,
@@ -156,7 +165,11 @@ fn mon_loaded<H: Files + AllocGlobal, R: Read + IsTerminal, O: Write, E: Write>(
 {
     let prompts = wants_prompts(words.prompts, input);
     match named_desk(rt, words, loaded) {
-        Ok(mut desk) => served(rt.alloc(), &mut desk, prompts, input, output, errors),
+        Ok(desk) => {
+            let view = first_view(rt, words, input, &desk);
+            let mut seat = Seat { desk, view };
+            served(rt.alloc(), &mut seat, prompts, input, output, errors)
+        }
         Err(refusal) => {
             let file = words.symbols.unwrap_or(words.file.file);
             refuse_file(refusal, file, errors)
@@ -165,7 +178,7 @@ fn mon_loaded<H: Files + AllocGlobal, R: Read + IsTerminal, O: Write, E: Write>(
 }
 
 /// Does what words that fit the command line ask for, and returns the exit status.
-fn mon_words<H: Files + AllocGlobal, R: Read + IsTerminal, O: Write, E: Write>(
+fn mon_words<H: Env + Files + AllocGlobal, R: Read + IsTerminal, O: Write, E: Write>(
     rt: &H,
     words: &MonWords<'_>,
     input: &mut R,
@@ -193,9 +206,10 @@ fn mon_words<H: Files + AllocGlobal, R: Read + IsTerminal, O: Write, E: Write>(
 ///   3: memory ran out. 4: reading or writing failed.
 ///
 /// Each line of the input is answered on `output` before the next is read. A prompt is written if
-/// the input is a terminal, or if the words ask for one. For each status but 0 a line on `errors`
-/// says why; that it cannot be written changes no status.
-pub fn mon<H: Files + AllocGlobal, R: Read + IsTerminal, O: Write, E: Write>(
+/// the input is a terminal, or if the words ask for one. If it is one and the words ask for a
+/// screen, a screen with the answer is drawn in place of the answer. For each status but 0 a line
+/// on `errors` says why; that it cannot be written changes no status.
+pub fn mon<H: Env + Files + AllocGlobal, R: Read + IsTerminal, O: Write, E: Write>(
     rt: &H,
     words: &[&str],
     input: &mut R,

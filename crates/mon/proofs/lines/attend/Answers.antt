@@ -6,20 +6,20 @@ use Rattle.model.specs.TextLines.{ended_lines_of, no_line}
 use Rattle.mon.specs.Attended.{ServesLines, line_end_of, prompt_of}
 use Rattle.mon.specs.Pieces.{GoesOn}
 use Rattle.mon.proofs.Pieces.{begins, shown_on, so_far}
-use Rattle.mon.proofs.LinesServed.{shows_then}
+use Rattle.mon.proofs.LinesServed.{rests_then}
 use Rattle.mon.proofs.lines.attend.Goals as goal
 
 pub loop-init : goal.loop-init
 loop-init g c =
-    let first = c.args.desk.now in
+    let first = c.args.seat.now in
     let prompt = prompt_of c.args.prompts in (
       [],
       Consumes-nil _,
       [],
-      subst (λ k. GoesOn prompt [] k first c.put_text.new.desk []) (sym c.new-begun.ensures)
-          (shown_on prompt [] [] first first [] (begins prompt first) c.put_text.new.desk (shows_then first c.say_if.new.desk c.put_text.new.desk c.say_if.ensures.shows c.put_text.ensures.shows)),
+      subst (λ k. GoesOn prompt [] k first c.put_text.new.seat []) (sym c.new-begun.ensures)
+          (shown_on prompt [] [] first first [] (begins prompt first) c.put_text.new.seat (rests_then first c.say_if.new.seat c.put_text.new.seat c.say_if.ensures.rests c.put_text.ensures.rests)),
       subst (Appends (g.W.Write.contents c.args.writer.now) (g.W.Write.contents c.put_text.new.writer))
-          (c.in_ok-say_if.ensures.said ∙ ap (λ t. first.text.items ++ t) (sym (append-nil prompt))) c.in_ok-put_text.ensures.written,
+          (c.in_ok-say_if.ensures.said ∙ ap (λ t. first.desk.text.items ++ t) (sym (append-nil prompt))) c.in_ok-put_text.ensures.written,
       c.in_ok-put_text.ensures.cleared,
     )
 
@@ -28,23 +28,23 @@ returns-in-Ok-eq0-clause-attended g c =
     let inv = c.loop.invariant in
     let prompt = prompt_of c.args.prompts in
     let line_end = line_end_of c.args.prompts in
-    let old = c.args.desk.now.text.items in
+    let old = c.args.seat.now.desk.text.items in
     let bytes = rw c.in-Ok-eq0.field-0-test at c.in-Ok-eq0.ensures.bytes in
     let told = subst (Consumes (g.R.Read.remaining c.args.reader.now) (g.R.Read.remaining c.read.new.self)) (append-nil inv.0) (Consumes-trans _ _ _ inv.0 [] inv.1 bytes.0) in
     IfOk-weaker c.serve_last.result _ _
-    (λ _ h. let s = h.2 inv.0 c.args.desk.now inv.2 inv.3 in (
+    (λ _ h. let s = h.2 inv.0 c.args.seat.now inv.2 inv.3 in (
       prompt ++ (inv.2 ++ (line_end ++ h.0)),
       (inv.0, told, inv.2 ++ (line_end ++ h.0), refl, inr (s.0, bytes.1 refl (omega arith), s.1)),
       subst (Appends (g.W.Write.contents c.args.writer.now) (g.W.Write.contents c.serve_last.new.writer))
           (ap (λ t. (old ++ (prompt ++ inv.2)) ++ (t ++ (line_end ++ h.0))) inv.5 ∙ append_assoc old (prompt ++ inv.2) (line_end ++ h.0) ∙ ap (λ t. old ++ t) (append_assoc prompt inv.2 (line_end ++ h.0)))
-          (Appends-trans _ _ _ (old ++ (prompt ++ inv.2)) (c.loop.desk.text.items ++ (line_end ++ h.0)) inv.4 h.1),
+          (Appends-trans _ _ _ (old ++ (prompt ++ inv.2)) (c.loop.seat.desk.text.items ++ (line_end ++ h.0)) inv.4 h.1),
     )) c.serve_last.ensures.served
 
 pub returns-then-branch-clause-attended : goal.returns-then-branch-clause-attended
 returns-then-branch-clause-attended g c =
     let inv = c.loop.invariant in
     let prompt = prompt_of c.args.prompts in
-    let old = c.args.desk.now.text.items in
+    let old = c.args.seat.now.desk.text.items in
     let bs = take c.in-Ok.n c.read.new.buf in
     let over = rw c.if-branch.true at c.in_ok-serve_bytes-in-Ok.ensures.fed in
     let written = inv.2 ++ over.0 in (
@@ -54,7 +54,7 @@ returns-then-branch-clause-attended g c =
         Consumes-trans _ _ _ inv.0 bs inv.1 c.in-Ok.ensures.bytes.0,
         written,
         refl,
-        inl (subst (λ l. ServesLines prompt (ended_lines_of l) true c.args.desk.now c.serve_bytes.new.desk written) (append-nil (inv.0 ++ bs)) (over.1 inv.0 c.args.desk.now inv.2 inv.3 no_line [])),
+        inl (subst (λ l. ServesLines prompt (ended_lines_of l) true c.args.seat.now c.serve_bytes.new.seat written) (append-nil (inv.0 ++ bs)) (over.1 inv.0 c.args.seat.now inv.2 inv.3 no_line [])),
       ),
       subst (Appends (g.W.Write.contents c.args.writer.now) (g.W.Write.contents c.serve_bytes.new.writer))
           (append_assoc old (prompt ++ inv.2) over.0 ∙ ap (λ t. old ++ t) (append_assoc prompt inv.2 over.0))
@@ -66,7 +66,7 @@ returns-in-Err-clause-unread g c _ =
     let inv = c.loop.invariant in
     let prompt = prompt_of c.args.prompts in (
       prompt ++ inv.2,
-      (inv.0, Consumes-kept _ _ _ _ inv.1 c.in-Err.ensures.bytes, inv.2, refl, so_far prompt inv.0 c.loop.begun.items c.args.desk.now c.loop.desk inv.2 inv.3),
+      (inv.0, Consumes-kept _ _ _ _ inv.1 c.in-Err.ensures.bytes, inv.2, refl, so_far prompt inv.0 c.loop.begun.items c.args.seat.now c.loop.seat inv.2 inv.3),
       inv.4,
     )
 
@@ -74,13 +74,13 @@ pub loop-preserved : goal.loop-preserved
 loop-preserved g c =
     let inv = c.loop.invariant in
     let prompt = prompt_of c.args.prompts in
-    let old = c.args.desk.now.text.items in
+    let old = c.args.seat.now.desk.text.items in
     let bs = take c.in-Ok.n c.read.new.buf in
     let fed = rw c.if-branch.false at c.in_ok-serve_bytes-in-Ok.ensures.fed in (
       inv.0 ++ bs,
       Consumes-trans _ _ _ inv.0 bs inv.1 c.in-Ok.ensures.bytes.0,
       inv.2 ++ fed.0,
-      fed.1 inv.0 c.args.desk.now inv.2 inv.3,
+      fed.1 inv.0 c.args.seat.now inv.2 inv.3,
       subst (Appends (g.W.Write.contents c.args.writer.now) (g.W.Write.contents c.serve_bytes.new.writer))
           (append_assoc old (prompt ++ inv.2) fed.0 ∙ ap (λ t. old ++ t) (append_assoc prompt inv.2 fed.0))
           (Appends-trans _ _ _ (old ++ (prompt ++ inv.2)) fed.0 inv.4 (fed.2 inv.5)),
@@ -92,6 +92,6 @@ returns-clause-unread g c _ =
     let inv = c.loop.invariant in
     let prompt = prompt_of c.args.prompts in (
       prompt ++ inv.2,
-      (inv.0, inv.1, inv.2, refl, so_far prompt inv.0 c.loop.begun.items c.args.desk.now c.loop.desk inv.2 inv.3),
+      (inv.0, inv.1, inv.2, refl, so_far prompt inv.0 c.loop.begun.items c.args.seat.now c.loop.seat inv.2 inv.3),
       inv.4,
     )

@@ -8,6 +8,6 @@ use Rattle.mon.proofs.lines.attend.Given as goal
 abbrev pub invariant-loop : goal.invariant-loop
 invariant-loop g l =
     (told : List ℕ) × Consumes (g.R.Read.remaining l.fn.reader) (g.R.Read.remaining l.reader) told
-    × (before : List ℕ) × GoesOn (prompt_of l.fn.prompts) told l.begun.items l.fn.desk l.desk before
-    × Appends (g.W.Write.contents l.fn.writer) (g.W.Write.contents l.writer) (l.fn.desk.text.items ++ (prompt_of l.fn.prompts ++ before))
-    × (l.desk.text.items ≡ [])
+    × (before : List ℕ) × GoesOn (prompt_of l.fn.prompts) told l.begun.items l.fn.seat l.seat before
+    × Appends (g.W.Write.contents l.fn.writer) (g.W.Write.contents l.writer) (l.fn.seat.desk.text.items ++ (prompt_of l.fn.prompts ++ before))
+    × (l.seat.desk.text.items ≡ [])

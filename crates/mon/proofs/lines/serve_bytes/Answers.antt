@@ -11,8 +11,8 @@ pub loop-byte-init : goal.loop-byte-init
 loop-byte-init g c = record {
   fed = (
     [],
-    λ told first before s. subst (λ t. GoesOn (prompt_of c.args.prompts) t c.args.begun.now.items first c.args.desk.now (before ++ [])) (sym (append-nil told))
-        (subst (λ w. GoesOn (prompt_of c.args.prompts) told c.args.begun.now.items first c.args.desk.now w) (sym (append-nil before)) s),
+    λ told first before s. subst (λ t. GoesOn (prompt_of c.args.prompts) t c.args.begun.now.items first c.args.seat.now (before ++ [])) (sym (append-nil told))
+        (subst (λ w. GoesOn (prompt_of c.args.prompts) told c.args.begun.now.items first c.args.seat.now w) (sym (append-nil before)) s),
     λ _. Appends-nil _,
   );
   written = λ empty. empty;
@@ -26,7 +26,7 @@ loop-byte-preserved g c =
     let inv = c.loop-byte.invariant.fed in
     let fed = rw c.if-branch.false at c.in_ok-serve_byte.ensures.fed in
     let kept = c.serve_byte.new.begun.items in
-    let last = c.serve_byte.new.desk in
+    let last = c.serve_byte.new.seat in
     record {
       fed = (
         inv.0 ++ fed.0,
@@ -45,7 +45,7 @@ returns-then-branch-clause-fed g c =
     let prompt = prompt_of c.args.prompts in
     let inv = c.loop-byte.invariant.fed in
     let over = rw c.if-branch.true at c.in_ok-serve_byte.ensures.fed in
-    let last = c.serve_byte.new.desk in (
+    let last = c.serve_byte.new.seat in (
       inv.0 ++ over.0,
       λ told first before s ending rest. subst (λ l. ServesLines prompt (lines_from ending [] l) true first last (before ++ (inv.0 ++ over.0))) (around told bytes rest i c.loop-byte-test.true)
           (subst (λ w. ServesLines prompt (lines_from ending [] (((told ++ take i bytes) ++ get_or bytes i 0 ∷ []) ++ (drop (i + 1) bytes ++ rest))) true first last w) (append_assoc before inv.0 over.0)
@@ -59,6 +59,6 @@ returns-clause-fed g c =
     let bytes = c.args.bytes.now in
     let inv = c.loop-byte.invariant.fed in (
       inv.0,
-      λ told first before s. subst (λ l. GoesOn (prompt_of c.args.prompts) (told ++ l) c.loop-byte.begun.items first c.loop-byte.desk (before ++ inv.0)) (take_all i bytes c.loop-byte-test.false) (inv.1 told first before s),
+      λ told first before s. subst (λ l. GoesOn (prompt_of c.args.prompts) (told ++ l) c.loop-byte.begun.items first c.loop-byte.seat (before ++ inv.0)) (take_all i bytes c.loop-byte-test.false) (inv.1 told first before s),
       inv.2,
     )

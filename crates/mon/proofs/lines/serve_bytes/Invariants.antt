@@ -10,13 +10,13 @@ invariant-loop-byte g l = record {
   fed : (more : List ℕ) × ServesPiece (record {
     bytes = take l.byte-index l.bytes;
     prompt = prompt_of l.fn.prompts;
-    old = l.fn.desk;
+    old = l.fn.seat;
     kept = l.fn.begun.items;
-    new = l.desk;
+    new = l.seat;
     kept_then = l.begun.items;
     is_over = false;
     written = more;
   })
-      × (l.fn.desk.text.items ≡ [] → Appends (g.W.Write.contents l.fn.writer) (g.W.Write.contents l.writer) more);
-  written : l.fn.desk.text.items ≡ [] → l.desk.text.items ≡ [];
+      × (l.fn.seat.desk.text.items ≡ [] → Appends (g.W.Write.contents l.fn.writer) (g.W.Write.contents l.writer) more);
+  written : l.fn.seat.desk.text.items ≡ [] → l.seat.desk.text.items ≡ [];
 }

@@ -1,52 +1,48 @@
-use Rattle.std.proofs.Common.{◌≡◌, ◌∙◌, ◌++◌, [], Bool, true, false, ap, append_assoc, append-nil, refl, sym, subst, ◌<◌, length}
+use Rattle.std.proofs.Common.{◌∙◌, ◌++◌, [], ap, append_assoc, append-nil, false, sym, subst, ◌<◌, length}
 use Rattle.std.proofs.lemmas.Bool.{eqb-false, eqb-true}
 use Rattle.std.proofs.lemmas.Result.{IfOk-weaker}
 use Rattle.std.specs.Io.KnownBytes.{Appends}
 use Rattle.mon.specs.Attended.{line_end_of, prompt_of}
-use Rattle.mon.specs.Pieces.{unless_over}
 use Rattle.mon.proofs.Pieces.{ends_line, ends_none, length_some, length_zero, shown_on}
 use Rattle.mon.proofs.lines.serve_last.Goals as goal
-use Rattle.mon.proofs.LinesServed.{shows_then}
+use Rattle.mon.proofs.LinesServed.{plain_answer}
 
 pub returns-then-is_empty-clause-served : goal.returns-then-is_empty-clause-served
 returns-then-is_empty-clause-served g c =
     let kept = c.args.begun.now.items in
-    let first = c.args.desk.now in
+    let first = c.args.seat.now in
     let prompt = prompt_of c.args.prompts in
     let line_end = line_end_of c.args.prompts in
-    let last = c.put_text.new.desk in
+    let between = c.say_if.new.seat in
+    let last = c.put_text.new.seat in
     let none = length_zero kept (eqb-true _ _ (sym c.if-is_empty.ensures)) in
-    let shown = shows_then first c.say_if.new.desk last c.say_if.ensures.shows c.put_text.ensures.shows in
     IfOk-weaker c.put_text.result _ _ (λ _ wrote. (
       [],
       subst (Appends (g.W.Write.contents c.args.writer.now) (g.W.Write.contents c.put_text.new.writer))
-          (c.in_ok-say_if.ensures.said ∙ ap (λ t. first.text.items ++ t) (sym (append-nil line_end))) wrote,
-      λ told begun before s. (false, ends_none prompt told kept begun last before (shown_on prompt told kept begun first before s last shown) line_end none),
+          (c.in_ok-say_if.ensures.said ∙ ap (λ t. first.desk.text.items ++ t) (sym (append-nil line_end))) wrote,
+      λ told begun before s. (false, ends_none prompt told kept begun between before (shown_on prompt told kept begun first before s between c.say_if.ensures.rests) line_end last none c.put_text.ensures.rests),
     )) c.put_text.ensures.written
-
-nothing : (is_over : Bool) → unless_over is_over [] ≡ []
-nothing true = refl
-nothing false = refl
 
 pub returns-clause-served : goal.returns-clause-served
 returns-clause-served g c =
     let kept = c.args.begun.now.items in
-    let first = c.args.desk.now in
+    let first = c.args.seat.now in
     let prompt = prompt_of c.args.prompts in
     let line_end = line_end_of c.args.prompts in
-    let between = c.say_if.new.desk in
-    let last = c.serve_begun.new.desk in
+    let between = c.say_if.new.seat in
+    let last = c.serve_begun.new.seat in
     let is_over = c.in_ok-serve_begun.field-0 in
     let served = c.in_ok-serve_begun.ensures.served in
     let said = served.0 in
     let some : 0 < length kept = length_some kept (eqb-false _ _ (sym c.if-is_empty.ensures)) in (
       said,
       subst (Appends (g.W.Write.contents c.args.writer.now) (g.W.Write.contents c.serve_begun.new.writer))
-          ((λ i. c.in_ok-say_if.ensures.said i ++ (said ++ nothing is_over i)) ∙ ap (λ t. (first.text.items ++ line_end) ++ t) (append-nil said) ∙ append_assoc first.text.items line_end said)
+          (plain_answer is_over last (between.desk.text.items ++ said) served.1.4
+          ∙ ap (λ t. t ++ said) c.in_ok-say_if.ensures.said ∙ append_assoc first.desk.text.items line_end said)
           served.2,
       λ told begun before s. (
         is_over,
-        ends_line prompt told kept begun between before (shown_on prompt told kept begun first before s between c.say_if.ensures.shows) line_end
+        ends_line prompt told kept begun between before (shown_on prompt told kept begun first before s between c.say_if.ensures.rests) line_end
             is_over last said some served.1,
       ),
     )

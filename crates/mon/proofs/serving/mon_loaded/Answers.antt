@@ -7,8 +7,9 @@ use Rattle.mon.proofs.serving.mon_loaded.Goals as goal
 
 pub returns-in-Ok-clause-done : goal.returns-in-Ok-clause-done
 returns-in-Ok-clause-done g c = inr (inr (
-  c.in-Ok.desk,
+  record { desk = c.in-Ok.desk; view = c.first_view-view.result },
   named_starts (mon_view c.args.words.now) c.args.loaded.session c.args.loaded.assembly c.in-Ok.desk c.requires c.in-Ok.ensures.made,
+  c.first_view-view.ensures,
   c.wants_prompts-prompts.result,
   c.wants_prompts-prompts.ensures,
   c.served.ensures.ended,

@@ -1,0 +1,23 @@
+use Rattle.std.proofs.Common.{◌∙◌, None}
+use Rattle.mon.specs.Greeting.{greeting_of}
+use Rattle.mon.proofs.LinesServed.{opened, shows_then}
+use Rattle.mon_session.specs.EventTexts.{shown_text}
+use Rattle.mon.proofs.serving.say_opening.Goals as goal
+
+pub returns-clause-rests : goal.returns-clause-rests
+returns-clause-rests c =
+    let first = c.args.seat.now in
+    let shown = shows_then first.desk c.greet.new.desk c.show.new.self c.greet.ensures.shows c.show.ensures.shows in
+    (shows_then first.desk c.show.new.self c.draw.new.seat.desk shown c.draw.ensures.rests.0, c.draw.ensures.rests.1)
+
+pub returns-clause-said : goal.returns-clause-said
+returns-clause-said c =
+    let first = c.args.seat.now in
+    let prompts = c.args.prompts in
+    let shown = shows_then first.desk c.greet.new.desk c.show.new.self c.greet.ensures.shows c.show.ensures.shows in
+    let state_said = rw c.in_ok-of_memory.ensures.made at c.show.ensures.text in
+    c.in_ok-draw.ensures.drawn
+    ∙ opened first.view first.desk c.show.new.self first.desk.text.items c.greet.new.desk.text.items c.show.new.self.text.items
+    (greeting_of prompts first.desk.session.current first.desk.places.names)
+    (shown_text first.desk.session.current first.desk.places.names None) _ shown c.in_ok-greet.ensures.said state_said
+    (λ i. shown_text (c.greet.ensures.shows.0 i).current (c.greet.ensures.shows.3 i).names None)

@@ -1,0 +1,135 @@
+//! A desk with the screen that is drawn of it.
+
+ghost use Rattle.std.specs.Prelude.{◌≡◌, ◌++◌, [], IfErr, IfOk, Ok, OnOk, if◌then◌else◌};
+ghost use Rattle.std.specs.Io.KnownBytes.{Appends};
+ghost use Rattle.mon.specs.Attended.{AnswersLine, prompt_of};
+ghost use Rattle.mon.specs.Done.{EndsAnswer};
+ghost use Rattle.mon.specs.Seats.{Rests, answer_text, drawn, stretch_after, view_after};
+
+use crate::wording::PROMPT;
+use arguments::Refusal;
+use mon_dispatch::serve;
+use mon_lines::{Command, Stretch, read_line};
+use mon_screen::{View, push_view};
+use mon_session::Desk;
+use std::alloc::{AllocError, Global};
+use std::io::Write;
+
+/// A desk, and what a screen shows of it if one is drawn.
+#[derive(Drop)]
+pub struct Seat {
+    pub desk: Desk,
+    pub view: Option<View>,
+}
+
+/// Returns what was made, or that an allocation failed.
+pub fn of_memory<T>(made: Result<T, AllocError>) -> Result<T, Refusal>
+    ensures made { IfOk result (λ value. made ≡ Ok value) }
+    ensures refused { IfErr result (λ fault. fault ≡ Refusal.OutOfMemory) }
+{
+    made.map_err(|_| Refusal::OutOfMemory)
+}
+
+/// Says something if it is asked for.
+pub fn say_if(seat: &mut Seat, is_asked: bool, words: &str) -> Result<(), Refusal>
+    ensures rests { Rests seat.old seat.new }
+    ensures said { OnOk result (seat.new.desk.text.items
+        ≡ seat.old.desk.text.items ++ (if is_asked then words.now else [])) }
+    ensures refused { IfErr result EndsAnswer }
+{
+    if is_asked {
+        return of_memory(seat.desk.say(words));
+    }
+    Ok(())
+}
+
+/// Writes and flushes the text of the desk, which has none afterwards.
+pub fn put_text<W: Write>(seat: &mut Seat, writer: &mut W) -> Result<(), Refusal>
+    ensures rests { Rests seat.old seat.new }
+    ensures written { IfOk result (λ _. Appends (W.contents writer.old) (W.contents writer.new)
+        seat.old.desk.text.items) }
+    ensures cleared { IfOk result (λ _. seat.new.desk.text.items ≡ []) }
+    ensures refused { IfErr result EndsAnswer }
+{
+    if writer.write_all(seat.desk.text.as_slice()).is_err() || writer.flush().is_err() {
+        return Err(Refusal::Write);
+    }
+    seat.desk.text.clear();
+    Ok(())
+}
+
+/// Puts a screen in place of the text, which it shows, if a screen is drawn.
+pub fn draw(alloc: Global, seat: &mut Seat) -> Result<(), Refusal>
+    ensures rests { Rests seat.old seat.new }
+    ensures drawn { OnOk result (seat.new.desk.text.items
+        ≡ drawn seat.old.view seat.old.desk seat.old.desk.text.items) }
+    ensures refused { IfErr result EndsAnswer }
+{
+    let Some(view) = seat.view else {
+        return Ok(());
+    };
+    let desk = &seat.desk;
+    let mut screen = Vec::new(alloc);
+    of_memory(push_view(
+        &mut screen,
+        alloc,
+        view,
+        &desk.session,
+        &desk.places,
+        desk.text.as_slice(),
+    ))?;
+    seat.desk.text = screen;
+    Ok(())
+}
+
+/// Draws the screen, and says that the next line may come if prompts are asked for. Does neither if
+/// the session is over.
+pub fn answer(alloc: Global, seat: &mut Seat, prompts: bool, is_over: bool) -> Result<(), Refusal>
+    ensures rests { Rests seat.old seat.new }
+    ensures said { OnOk result (seat.new.desk.text.items
+        ≡ answer_text is_over (prompt_of prompts) seat.old seat.old.desk.text.items) }
+    ensures refused { IfErr result EndsAnswer }
+{
+    if is_over {
+        return Ok(());
+    }
+    draw(alloc, seat)?;
+    say_if(seat, prompts, PROMPT)
+}
+
+/// Returns the memory that a line asks for, otherwise what was shown before it.
+fn stretch_after(desk: &Desk, line: &[u8], shown: Stretch) -> Stretch
+    ensures { result ≡ stretch_after desk.now line.now shown }
+{
+    if line.len() > 255 {
+        return shown;
+    }
+    match read_line(line, &desk.places, desk.session.regs().pc) {
+        Ok(Command::Mem(stretch)) => stretch,
+        _ => shown,
+    }
+}
+
+/// Returns what a screen shows after a line that is served at a desk.
+fn view_after(desk: &Desk, line: &[u8], view: Option<View>) -> Option<View>
+    ensures { result ≡ view_after desk.now line.now view }
+{
+    let view = view?;
+    Some(View {
+        size: view.size,
+        stretch: stretch_after(desk, line, view.stretch),
+        regs: desk.session.regs(),
+        cycles: Some(desk.session.cycles()),
+    })
+}
+
+/// Does what a line asks for, and returns whether the session is to end.
+pub fn serve_line(alloc: Global, seat: &mut Seat, line: &[u8]) -> Result<bool, Refusal>
+    ensures served { IfOk result
+        (λ is_over. AnswersLine line.now is_over seat.old.desk seat.new.desk) }
+    ensures view { seat.new.view ≡ view_after seat.old.desk line.now seat.old.view }
+    ensures refused { IfErr result EndsAnswer }
+{
+    seat.view = view_after(&seat.desk, line, seat.view);
+    of_memory(serve(&mut seat.desk, alloc, line))
+}
