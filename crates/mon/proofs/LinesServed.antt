@@ -11,7 +11,8 @@ use Rattle.mon_lines.specs.declared.command.Stretch.{Stretch}
 use Rattle.mon_screen.specs.View.{view_text}
 use Rattle.mon_screen.specs.declared.view.View.{View}
 use Rattle.mon_dispatch.specs.Lines.{Follows, Says, read_at}
-use Rattle.mon_dispatch.specs.LineTexts.{decimal_text, line_text, slip_line, too_long}
+use Rattle.mon_dispatch.specs.LineTexts.{behind_text, line_text, slip_line, too_long}
+use Rattle.mon_dispatch.specs.declared.lines.Outcome.{Outcome}
 use Rattle.mon_lines.specs.Lines.{SeenCommand}
 use Rattle.mon_line_parts.specs.declared.topic.Topic.{Topic}
 use Rattle.mon_line_parts.specs.Reading.{SeenWhy}
@@ -19,10 +20,10 @@ use Rattle.mon_session.specs.Course.{ShowsOnly}
 use Rattle.mon_session.specs.declared.desk.Desk.{Desk}
 
 pub shows_then : (a b c : Desk) → ShowsOnly a b → ShowsOnly b c → ShowsOnly a c
-shows_then a b c p q = (q.0 ∙ p.0, q.1 ∙ p.1, q.2 ∙ p.2, q.3 ∙ p.3)
+shows_then a b c p q = (q.0 ∙ p.0, q.1 ∙ p.1, q.2 ∙ p.2, q.3 ∙ p.3, q.4 ∙ p.4)
 
 pub shows_same : (a : Desk) → ShowsOnly a a
-shows_same a = (refl, refl, refl, refl)
+shows_same a = (refl, refl, refl, refl, refl)
 
 pub rests_then : (a b c : Seat) → Rests a b → Rests b c → Rests a c
 rests_then a b c p q = (shows_then a.desk b.desk c.desk p.0 q.0, q.1 ∙ p.1)
@@ -59,10 +60,10 @@ plain_answer true seat said none = refl
 plain_answer false seat said none = ap (λ v. drawn v seat.desk said ++ []) none ∙ append-nil said
 
 -- something is said of each line
-says_of : (read : Result SeenCommand (Option Topic × SeenWhy)) (is_over : Bool) (a b : Desk)
-    → Follows read is_over a b → (said : List ℕ) × Says said a b
-says_of (Ok seen) is_over a b p = (line_text p.0 a, p.4)
-says_of (Err slip) is_over a b p = (slip_line slip, p.2)
+says_of : (read : Result SeenCommand (Option Topic × SeenWhy)) (outcome : Outcome) (a b : Desk)
+    → Follows read outcome a b → (said : List ℕ) × Says said a b
+says_of (Ok seen) outcome a b p = (line_text p.0 a, p.4)
+says_of (Err slip) outcome a b p = (slip_line slip, p.2)
 
 pub answer_says : (line : List ℕ) (is_over : Bool) (a b : Desk) → AnswersLine line is_over a b
     → (said : List ℕ) × Says said a b
@@ -70,9 +71,10 @@ answer_says line is_over a b p = elim (cases_lt 255 (length line)) [
   | inl long ↦ (too_long, (p.1 long).2)
   | inr short ↦
       let s = p.0 short in
-      let f = says_of (read_at a line) is_over a s.0 s.1 in (
-        f.0 ++ decimal_text line,
-        s.3 ∙ ap (λ t. t ++ decimal_text line) f.1 ∙ append_assoc a.text.items f.0 (decimal_text line),
+      let f = says_of (read_at a line) s.1 a s.0 s.2 in
+      let behind = behind_text s.1 line s.0 in (
+        f.0 ++ behind,
+        s.5 ∙ ap (λ t. t ++ behind) f.1 ∙ append_assoc a.text.items f.0 behind,
       )
 ]
 

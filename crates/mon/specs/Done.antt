@@ -82,6 +82,7 @@ pub record IsNewDesk (begun : Session) (history : ℕ) (known : PlacesView) (des
   pub breaks : desk.stops.breaks.items ≡ []
   pub watches : desk.stops.watches.items ≡ []
   pub changes : desk.stops.changes.items ≡ []
+  pub displays : desk.displays.items ≡ []
   pub places : desk.places ≡ known
   pub text : desk.text.items ≡ []
 

@@ -1,5 +1,5 @@
 -- What each kind of line does. Source: mos65.
-use Rattle.std.specs.Prelude.{ℕ, ◌≡◌, Bool, true, false, if◌then◌else◌, List, [], ◌∷◌, ◌++◌, Option, Result, Ok, Err}
+use Rattle.std.specs.Prelude.{ℕ, ◌≡◌, Bool, true, false, if◌then◌else◌, List, [], ◌∷◌, ◌++◌, Option, Some, Result, Ok, Err}
 use Rattle.model.specs.Breakpoints.{break_set}
 use Rattle.model.specs.declared.event.Event.TheVariants as event
 use Rattle.mon_lines.specs.Lines.{SeenCommand, command_view, line_of}
@@ -7,25 +7,32 @@ use Rattle.mon_line_parts.specs.Reading.{SeenWhy}
 use Rattle.mon_lines.specs.declared.command.Command.{Command}
 use Rattle.mon_lines.specs.declared.command.Command.TheVariants as line
 use Rattle.mon_line_parts.specs.declared.topic.Topic.{Topic}
-use Rattle.mon_stops.specs.Stops.{first_with, new_changes, without, without_first_with}
+use Rattle.mon_stops.specs.Stops.{first_with, new_changes, without, without_first_with, without_register}
 use Rattle.mon_stops.specs.declared.breaks.Break.{Break}
 use Rattle.mon_stops.specs.declared.watches.Watch.{Watch}
+use Rattle.mon_stops.specs.declared.watches.Watch.TheVariants as watching
+use Rattle.mon_lines.specs.declared.command.Register.{Register}
 use Rattle.mon_session.specs.Course.{Course, KeepsStops, ShowsOnly, course_of, happened}
 use Rattle.mon_settings.specs.StopLines.{can_watch, changes_left, is_set, or_same, with_break, with_watch, without_stops}
 use Rattle.mon_settings.specs.ByteLines.{all_happened, assembled, bytes_put, inputs}
+use Rattle.mon_settings.specs.Displays.{with_display, without_display}
+use Rattle.mon_settings.specs.FlagLines.{flag_setting}
 use Rattle.mon_settings.specs.Names.{without_names}
 use Rattle.mon_steps.specs.BackLines.{history_shown, most_remade, remade, undone_by, undone_by_watches}
 use Rattle.mon_steps.specs.RunLines.{KeepsWatches, Stand, ran_by, ran_until, returned, some_steps, stand_of, stepped_over, watches_of}
 use Rattle.mon_session.specs.declared.desk.Desk.{Desk}
-use Rattle.mon_dispatch.specs.LineTexts.{decimal_text, line_text, slip_line, too_long}
+use Rattle.mon_dispatch.specs.LineTexts.{behind_text, line_text, slip_line, too_long}
+use Rattle.mon_dispatch.specs.declared.lines.Outcome.{Outcome}
+use Rattle.mon_dispatch.specs.declared.lines.Outcome.TheVariants as outcome
 
 -- So much was written for a line.
 abbrev pub Says : List ℕ → Desk → Desk → Type 0
 Says text old new = new.text.items ≡ old.text.items ++ text
 
--- The events and the places are what they were.
+-- The events, the places, and what is shown at each stop are what they were.
 abbrev pub KeepsPast : Desk → Desk → Type 0
 KeepsPast old new = (new.events ≡ old.events) × (new.places ≡ old.places)
+    × (new.displays ≡ old.displays)
 
 -- A break is set.
 abbrev pub SetsBreak : Break → Desk → Desk → Type 0
@@ -57,6 +64,18 @@ Deletes address old new = let watches = old.stops.watches.items in
     ≡ changes_left left old.stops.changes.items (first_with address watches))
     × KeepsPast old new
 
+-- The first watch of a register is cleared.
+abbrev pub DeletesRegister : Register → Desk → Desk → Type 0
+DeletesRegister register old new = (new.session ≡ old.session)
+    × (new.stops.watches.items ≡ without_register register old.stops.watches.items)
+    × (new.stops.breaks ≡ old.stops.breaks) × (new.stops.changes ≡ old.stops.changes)
+    × KeepsPast old new
+
+-- Other bytes are shown at each stop.
+abbrev pub SetsDisplays : List ℕ → Desk → Desk → Type 0
+SetsDisplays displays old new = (new.displays.items ≡ displays)
+    × (course_of new ≡ course_of old) × (new.stops ≡ old.stops) × (new.places ≡ old.places)
+
 -- A run leads the session, its events and its breaks there, and all else stays.
 abbrev pub Arrives : Stand → Desk → Desk → Type 0
 Arrives stand old new = (stand_of new ≡ stand) × KeepsWatches old new
@@ -77,16 +96,24 @@ Does (line.Until address) old new
 Does (line.Go count) old new = Arrives (ran_by count (watches_of old) (stand_of old)) old new
 Does (line.Back undoing) old new = Becomes (undone_by undoing (course_of old)) old new
 Does line.Rback old new
-    = Becomes (undone_by_watches old.stops.changes.items (course_of old)) old new
+    = Becomes (undone_by_watches old.stops (course_of old)) old new
 Does (line.Redo count) old new
     = Becomes (remade (most_remade count old.events.undone) (course_of old)) old new
 Does (line.History count) old new = Becomes (history_shown count (course_of old)) old new
 Does (line.Break address tests times) old new = (stop : Break) × (stop.address ≡ address)
     × (stop.tests ≡ tests) × (stop.times ≡ times) × (stop.visits ≡ 0) × SetsBreak stop old new
 Does (line.Watch stretch kind) old new
-    = SetsWatch (record { stretch = stretch; kind = kind }) old new
+    = SetsWatch (watching.Bytes stretch kind) old new
+Does (line.WatchRegister register) old new = SetsWatch (watching.Register register) old new
 Does (line.Delete address) old new = Deletes address old new
+Does (line.DeleteRegister register) old new = DeletesRegister register old new
+Does (line.Display (Some address)) old new
+    = SetsDisplays (with_display address old.displays.items) old new
+Does (line.Undisplay address) old new
+    = SetsDisplays (without_display address old.displays.items) old new
 Does (line.Set setting) old new = Becomes (happened (event.Set setting) (course_of old)) old new
+Does (line.SetFlag flag value) old new = Becomes
+    (happened (event.Set (flag_setting flag value old.session.current)) (course_of old)) old new
 Does (line.Put address bytes) old new
     = Becomes (bytes_put address bytes.items (course_of old)) old new
 Does (line.Asm address text) old new
@@ -98,26 +125,43 @@ Does line.Nmi old new = Becomes (happened event.Nmi (course_of old)) old new
 Does line.Reset old new = Becomes (happened event.Reset (course_of old)) old new
 Does command old new = ShowsOnly old new
 
--- Whether the session ends with a line.
-abbrev pub is_quit : Command → Bool
-is_quit line.Quit = true
-is_quit command = false
+-- Whether the session ends with a line, or has moved, so that it stops anew.
+abbrev pub outcome_of : Command → Outcome
+outcome_of line.Quit = outcome.Over
+outcome_of line.Nothing = outcome.Moved
+outcome_of (line.Step count) = outcome.Moved
+outcome_of line.Over = outcome.Moved
+outcome_of line.Out = outcome.Moved
+outcome_of (line.Until address) = outcome.Moved
+outcome_of (line.Go count) = outcome.Moved
+outcome_of (line.Back undoing) = outcome.Moved
+outcome_of line.Rback = outcome.Moved
+outcome_of (line.Redo count) = outcome.Moved
+outcome_of line.Reset = outcome.Moved
+outcome_of command = outcome.Stays
+
+abbrev pub is_over : Outcome → Bool
+is_over outcome.Over = true
+is_over outcome.Moved = false
+is_over outcome.Stays = false
 
 -- What a line asks for at a desk, or what is missing in it.
 abbrev pub read_at : Desk → List ℕ → Result SeenCommand (Option Topic × SeenWhy)
 read_at desk line = line_of desk.places.names desk.session.current.regs.pc line
 
 -- A line that can be read does what it asks for, and says so. Any other only says what is wrong.
-abbrev pub Follows : Result SeenCommand (Option Topic × SeenWhy) → Bool → Desk → Desk → Type 0
-Follows (Ok seen) is_over old new = (command : Command) × (command_view command ≡ seen)
-    × (is_over ≡ is_quit command) × Does command old new × Says (line_text command old) old new
-Follows (Err slip) is_over old new = (is_over ≡ false) × ShowsOnly old new
+abbrev pub Follows : Result SeenCommand (Option Topic × SeenWhy) → Outcome → Desk → Desk → Type 0
+Follows (Ok seen) result old new = (command : Command) × (command_view command ≡ seen)
+    × (result ≡ outcome_of command) × Does command old new × Says (line_text command old) old new
+Follows (Err slip) result old new = (result ≡ outcome.Stays) × ShowsOnly old new
     × Says (slip_line slip) old new
 
--- A line of at most 255 bytes does what it asks for. A longer one asks for nothing.
+-- A line of at most 255 bytes does what it asks for. If the session has moved, the bytes that are
+-- displayed are shown then. A longer line asks for nothing.
 abbrev pub Serves : List ℕ → Bool → Desk → Desk → Type 0
-Serves line is_over old new = (between : Desk) × Follows (read_at old line) is_over old between
-    × ShowsOnly between new × Says (decimal_text line) between new
+Serves line over old new = (between : Desk) × (result : Outcome)
+    × Follows (read_at old line) result old between × (over ≡ is_over result)
+    × ShowsOnly between new × Says (behind_text result line between) between new
 
 abbrev pub IsTooLong : Bool → Desk → Desk → Type 0
-IsTooLong is_over old new = (is_over ≡ false) × ShowsOnly old new × Says too_long old new
+IsTooLong over old new = (over ≡ false) × ShowsOnly old new × Says too_long old new

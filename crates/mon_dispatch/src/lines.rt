@@ -1,8 +1,10 @@
 //! What a line does.
 
 ghost use Rattle.std.specs.Prelude.{◌≡◌, ◌<◌, ◌≤◌, ◌++◌, IfOk, OnOk, Some, codes, length};
-ghost use Rattle.mon_dispatch.specs.Lines.{Does, Follows, IsTooLong, Says, Serves, is_quit, read_at};
-ghost use Rattle.mon_dispatch.specs.LineTexts.{decimal_text, if_decimal, line_text};
+ghost use Rattle.mon_dispatch.specs.Lines.{Does, Follows, IsTooLong, Says, Serves, is_over};
+ghost use Rattle.mon_dispatch.specs.Lines.{outcome_of, read_at};
+ghost use Rattle.mon_dispatch.specs.LineTexts.{behind_text, decimal_text, if_decimal, line_text};
+ghost use Rattle.mon_dispatch.specs.LineTexts.{moved_text};
 ghost use Rattle.mon_session.specs.Course.{ShowsOnly};
 
 use crate::look;
@@ -11,7 +13,8 @@ use formatting::push_text;
 use mon_lines::{Command, decimal_address, read_line};
 use mon_session::Desk;
 use mon_settings::{
-    ask_nmi, assemble, delete, hand_in, list, put, reset, set, set_break, set_irq, set_watch,
+    ask_nmi, assemble, delete, delete_register, display, hand_in, list, list_displays, put, reset,
+    set, set_break, set_flag, set_irq, set_watch, show_displays, undisplay,
 };
 use mon_steps::{
     redo, run, run_until, show_history, step_out, step_over, steps, undo, undo_to_stop,
@@ -19,6 +22,30 @@ use mon_steps::{
 use mon_stops::{Break, Watch};
 use mon_texts::push_slip;
 use std::alloc::{AllocError, Global};
+
+/// What a line has made of the session.
+#[derive(Clone, Copy)]
+pub enum Outcome {
+    /// It is to end.
+    Over,
+    /// It has moved, so that it stops anew.
+    Moved,
+    /// Neither.
+    Stays,
+}
+
+/// Returns what a line makes of the session.
+fn outcome_of(command: &Command<'_>) -> Outcome
+    ensures { result ≡ outcome_of command.now }
+{
+    match command {
+        Command::Quit => Outcome::Over,
+        Command::Nothing | Command::Step(_) | Command::Over | Command::Out => Outcome::Moved,
+        Command::Until(_) | Command::Go(_) | Command::Back(_) => Outcome::Moved,
+        Command::Rback | Command::Redo(_) | Command::Reset => Outcome::Moved,
+        _ => Outcome::Stays,
+    }
+}
 
 /// Does what a line asks for, and says so.
 fn obey(desk: &mut Desk, alloc: Global, command: Command<'_>) -> Result<(), AllocError>
@@ -41,10 +68,16 @@ fn obey(desk: &mut Desk, alloc: Global, command: Command<'_>) -> Result<(), Allo
             tests,
             times,
         } => set_break(desk, Break::new(address, tests, times)),
-        Command::Watch { stretch, kind } => set_watch(desk, Watch { stretch, kind }),
+        Command::Watch { stretch, kind } => set_watch(desk, Watch::Bytes { stretch, kind }),
+        Command::WatchRegister(register) => set_watch(desk, Watch::Register(register)),
         Command::List => list(desk),
         Command::Delete(address) => delete(desk, address),
+        Command::DeleteRegister(register) => delete_register(desk, register),
+        Command::Display(Some(address)) => display(desk, address),
+        Command::Display(None) => list_displays(desk),
+        Command::Undisplay(address) => undisplay(desk, address),
         Command::Set(setting) => set(desk, setting),
+        Command::SetFlag { flag, value } => set_flag(desk, flag, value),
         Command::Put { address, bytes } => put(desk, address, bytes.as_slice()),
         Command::Asm { address, text } => assemble(desk, alloc, address, text),
         Command::Type(bytes) => hand_in(desk, bytes.as_slice()),
@@ -55,28 +88,28 @@ fn obey(desk: &mut Desk, alloc: Global, command: Command<'_>) -> Result<(), Allo
     }
 }
 
-/// Does what a line asks for, says so, and returns whether the session is to end.
-fn execute(desk: &mut Desk, alloc: Global, command: Command<'_>) -> Result<bool, AllocError>
+/// Does what a line asks for, says so, and returns what it has made of the session.
+fn execute(desk: &mut Desk, alloc: Global, command: Command<'_>) -> Result<Outcome, AllocError>
     ensures does { OnOk result (Does command.entry desk.old desk.new) }
     ensures text { OnOk result (Says (line_text command.entry desk.old) desk.old desk.new) }
-    ensures over { IfOk result (λ is_over. is_over ≡ is_quit command.entry) }
+    ensures outcome { IfOk result (λ outcome. outcome ≡ outcome_of command.entry) }
 {
-    let is_over = matches!(command, Command::Quit);
+    let outcome = outcome_of(&command);
     obey(desk, alloc, command)?;
-    Ok(is_over)
+    Ok(outcome)
 }
 
-/// Does what a line asks for, or says what is wrong in it. Returns whether the session is to end.
-fn follow(desk: &mut Desk, alloc: Global, line: &[u8]) -> Result<bool, AllocError>
+/// Does what a line asks for, or says what is wrong in it. Returns what it has made of the session.
+fn follow(desk: &mut Desk, alloc: Global, line: &[u8]) -> Result<Outcome, AllocError>
     ensures { IfOk result
-        (λ is_over. Follows (read_at desk.old line.now) is_over desk.old desk.new) }
+        (λ outcome. Follows (read_at desk.old line.now) outcome desk.old desk.new) }
 {
     let pc = desk.session.regs().pc;
     match read_line(line, &desk.places, pc) {
         Ok(command) => execute(desk, alloc, command),
         Err(slip) => {
             push_slip(&mut desk.text, slip)?;
-            Ok(false)
+            Ok(Outcome::Stays)
         }
     }
 }
@@ -117,21 +150,50 @@ fn tell_decimal(desk: &mut Desk, line: &[u8]) -> Result<(), AllocError>
     }
 }
 
+/// Shows the bytes that are displayed, if the session has moved.
+fn tell_moved(desk: &mut Desk, outcome: Outcome) -> Result<(), AllocError>
+    ensures shows { ShowsOnly desk.old desk.new }
+    ensures text { OnOk result (Says (moved_text outcome desk.old) desk.old desk.new) }
+{
+    match outcome {
+        Outcome::Moved => show_displays(desk),
+        Outcome::Over | Outcome::Stays => Ok(()),
+    }
+}
+
+/// Shows the bytes that are displayed, if the session has moved, and says so if the line has a
+/// decimal number where an address is wanted.
+fn tell_behind(desk: &mut Desk, outcome: Outcome, line: &[u8]) -> Result<(), AllocError>
+    ensures shows { ShowsOnly desk.old desk.new }
+    ensures text { OnOk result
+        (Says (behind_text outcome line.now desk.old) desk.old desk.new) }
+{
+    tell_moved(desk, outcome)?;
+    tell_decimal(desk, line)
+}
+
+/// Returns whether a session is to end.
+fn is_over(outcome: Outcome) -> bool
+    ensures { result ≡ is_over outcome }
+{
+    matches!(outcome, Outcome::Over)
+}
+
 /// Does what a line asks for, or says what is wrong in it. Returns whether the session is to end. A
 /// line of more than 255 bytes asks for nothing. What is said is appended to the desk's text.
 ///
 /// Errors: `AllocError` if an allocation fails.
 pub fn serve(desk: &mut Desk, alloc: Global, line: &[u8]) -> Result<bool, AllocError>
     ensures served { length line.now ≤ 255 → IfOk result
-        (λ is_over. Serves line.now is_over desk.old desk.new) }
+        (λ over. Serves line.now over desk.old desk.new) }
     ensures long { 255 < length line.now → IfOk result
-        (λ is_over. IsTooLong is_over desk.old desk.new) }
+        (λ over. IsTooLong over desk.old desk.new) }
 {
     if line.len() > 255 {
         desk.say(LINE_TOO_LONG)?;
         return Ok(false);
     }
-    let is_over = follow(desk, alloc, line)?;
-    tell_decimal(desk, line)?;
-    Ok(is_over)
+    let outcome = follow(desk, alloc, line)?;
+    tell_behind(desk, outcome, line)?;
+    Ok(is_over(outcome))
 }

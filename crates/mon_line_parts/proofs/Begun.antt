@@ -38,3 +38,5 @@ place_is topic.Reset = refl
 place_is topic.Help = refl
 place_is topic.Quit = refl
 place_is topic.Trace = refl
+place_is topic.Display = refl
+place_is topic.Undisplay = refl

@@ -72,6 +72,8 @@ place_of topic.Reset = 27
 place_of topic.Help = 28
 place_of topic.Quit = 29
 place_of topic.Trace = 30
+place_of topic.Display = 31
+place_of topic.Undisplay = 32
 
 abbrev pub is_same : Topic → Topic → Bool
 is_same one other = place_of one == place_of other

@@ -8,13 +8,14 @@ use Rattle.mon_line_parts.specs.Reading.{Reads, SeenWhy, missing, unreadable, no
 use Rattle.mon_line_parts.specs.declared.slip.Lack.{Lack}
 use Rattle.mon_line_parts.specs.declared.slip.Lack.TheVariants as lacking
 use Rattle.mon_line_parts.specs.declared.values.Kind.{Kind}
-use Rattle.mon_line_parts.specs.declared.values.Kind.TheVariants.{Address, Byte, Word, Count}
+use Rattle.mon_line_parts.specs.declared.values.Kind.TheVariants.{Address, Byte, Word, Bit, Count}
 
 -- What is missing where no value of a kind stands.
 abbrev pub lack_of : Kind → Lack
 lack_of (Address pc) = lacking.Address
 lack_of Byte = lacking.Value
 lack_of Word = lacking.Value
+lack_of Bit = lacking.Value
 lack_of Count = lacking.Number
 
 -- The lowest and the highest value of a kind.
@@ -22,12 +23,14 @@ abbrev pub least_of : Kind → ℕ
 least_of (Address pc) = 0
 least_of Byte = 0
 least_of Word = 0
+least_of Bit = 0
 least_of Count = 1
 
 abbrev pub most_of : Kind → ℕ
 most_of (Address pc) = 65535
 most_of Byte = 255
 most_of Word = 65535
+most_of Bit = 1
 most_of Count = 1000000000
 
 -- ---- one number or name
@@ -39,6 +42,7 @@ counter_word (Address pc) word
     = if str_eq_ignore_ascii_case word (codes "PC") then Some pc else None
 counter_word Byte word = None
 counter_word Word word = None
+counter_word Bit word = None
 counter_word Count word = None
 
 -- Where an address is meant, four hex digits are one.
@@ -46,6 +50,7 @@ abbrev pub address_word : Kind → List ℕ → Option ℕ
 address_word (Address pc) word = if length word == 4 then number_in 16 word else None
 address_word Byte word = None
 address_word Word word = None
+address_word Bit word = None
 address_word Count word = None
 
 -- The number of a word: of the program counter, of a name, of what is an address alone, of decimal
@@ -116,7 +121,14 @@ unfoldable pub sum_of : List Named → Kind → List ℕ → Reads ℕ
 sum_of names kind text = and_then (atom_of names kind (lack_of kind) text) (λ first rest.
     and_then (terms_of (length rest) names kind first rest) (within (least_of kind) (most_of kind)))
 
--- ---- counts, and bytes
+-- ---- flags, counts, and bytes
+
+-- The value of a flag.
+abbrev pub as_flag : ℕ → List ℕ → Reads Bool
+as_flag value rest = Ok (value == 1, rest)
+
+abbrev pub bit_of : List Named → List ℕ → Reads Bool
+bit_of names text = and_then (sum_of names Bit text) as_flag
 
 abbrev pub some_count : ℕ → List ℕ → Reads (Option ℕ)
 some_count number rest = Ok (Some number, rest)

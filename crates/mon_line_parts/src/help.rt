@@ -12,7 +12,7 @@ pub struct Help {
 }
 
 /// The form, the effect and the example of each topic, in the order of `Topic`.
-pub const HELP: [(&str, &str, &str); 31] = [
+pub const HELP: [(&str, &str, &str); 33] = [
     ("step [N]", "makes N steps, or 1", "step 3"),
     ("over", "makes a JSR as one step", "over"),
     ("out", "steps until this subroutine has returned", "out"),
@@ -38,18 +38,18 @@ pub const HELP: [(&str, &str, &str); 31] = [
     (
         "break WHERE [if TESTS] [times N]",
         "stops a run there",
-        "break main, break $0200, break $0200 if A=$41 and X>3",
+        "break main, break $0200, break $0200 if A=$41 and C=1",
     ),
     (
         "watch WHERE[..WHERE] [read|write]",
-        "stops a run when a byte there changes, is read or written",
-        "watch $0010, watch $0010..$001F write",
+        "stops a run when a byte there changes, is read or written; watch X: when X changes",
+        "watch $0010, watch $0010..$001F write, watch X",
     ),
     ("list", "shows breaks and watches", "list"),
     (
         "delete WHERE",
         "clears the break or the watch there",
-        "delete $0200",
+        "delete $0200, delete X",
     ),
     ("regs", "shows the registers", "regs"),
     ("flags", "shows the flags by name", "flags"),
@@ -71,8 +71,8 @@ pub const HELP: [(&str, &str, &str); 31] = [
     ("stack", "shows the bytes on the stack", "stack"),
     (
         "set REGISTER VALUE",
-        "sets A, X, Y, S, P or PC",
-        "set A $41, set PC $0200",
+        "sets A, X, Y, S, P, PC or a flag",
+        "set A $41, set PC $0200, set C 1",
     ),
     (
         "put WHERE BYTES",
@@ -103,5 +103,15 @@ pub const HELP: [(&str, &str, &str); 31] = [
         "mos65 trace FILE",
         "is a word of mos65, not of mon",
         "history 5",
+    ),
+    (
+        "display [WHERE]",
+        "shows the byte there at each stop",
+        "display $0010, display",
+    ),
+    (
+        "undisplay WHERE",
+        "shows the byte there no more",
+        "undisplay $0010",
     ),
 ];

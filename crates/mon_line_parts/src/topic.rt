@@ -42,11 +42,13 @@ pub enum Topic {
     Help,
     Quit,
     Trace,
+    Display,
+    Undisplay,
 }
 
 /// The first words, each with its topic, but for `exit`, which is not to be shortened. A word of
-/// one letter is an abbreviation that two words would have in common.
-pub const WORDS: [(&[u8], Topic); 49] = [
+/// one letter or two is an abbreviation that two words would have in common.
+pub const WORDS: [(&[u8], Topic); 52] = [
     (b"step", Topic::Step),
     (b"s", Topic::Step),
     (b"over", Topic::Over),
@@ -70,6 +72,8 @@ pub const WORDS: [(&[u8], Topic); 49] = [
     (b"list", Topic::List),
     (b"delete", Topic::Delete),
     (b"unbreak", Topic::Delete),
+    (b"display", Topic::Display),
+    (b"undisplay", Topic::Undisplay),
     (b"regs", Topic::Regs),
     (b"registers", Topic::Regs),
     (b"r", Topic::Regs),
@@ -79,6 +83,7 @@ pub const WORDS: [(&[u8], Topic); 49] = [
     (b"p", Topic::Mem),
     (b"dis", Topic::Dis),
     (b"d", Topic::Dis),
+    (b"di", Topic::Dis),
     (b"find", Topic::Find),
     (b"stack", Topic::Stack),
     (b"set", Topic::Set),
@@ -99,7 +104,7 @@ pub const WORDS: [(&[u8], Topic); 49] = [
 ];
 
 /// The topics, in the order in which help lists them.
-pub const TOPICS: [Topic; 30] = [
+pub const TOPICS: [Topic; 32] = [
     Topic::Step,
     Topic::Over,
     Topic::Out,
@@ -114,6 +119,8 @@ pub const TOPICS: [Topic; 30] = [
     Topic::Watch,
     Topic::List,
     Topic::Delete,
+    Topic::Display,
+    Topic::Undisplay,
     Topic::Regs,
     Topic::Flags,
     Topic::Mem,

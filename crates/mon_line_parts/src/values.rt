@@ -4,7 +4,7 @@ ghost use Rattle.std.specs.Prelude.{◌≡◌, ◌+◌, ◌≤◌, ◌∷◌, []
 ghost use Rattle.source_map.specs.Names.{Named, address_of};
 ghost use Rattle.mon_line_parts.specs.Reading.{Reads, after_word, and_then, why_view, word_of};
 ghost use Rattle.mon_line_parts.specs.Reading.{missing, no_name, number_in};
-ghost use Rattle.mon_line_parts.specs.Values.{address_word, atom_of, bytes_of, character_or, count_of};
+ghost use Rattle.mon_line_parts.specs.Values.{address_word, atom_of, bit_of, bytes_of, character_or, count_of};
 ghost use Rattle.mon_line_parts.specs.Values.{counter_word, quoted_of};
 ghost use Rattle.mon_line_parts.specs.Values.{is_sign, lack_of, least_of, minus, most_of, named_number};
 ghost use Rattle.mon_line_parts.specs.Values.{number_of, number_or, piece_of, pieces_of, plus};
@@ -29,6 +29,8 @@ pub enum Kind {
     Byte,
     /// A value of 16 bits.
     Word,
+    /// 0 or 1.
+    Bit,
     Count,
 }
 
@@ -40,6 +42,7 @@ fn lack_of(kind: Kind) -> Lack
         Kind::Address(_) => Lack::Address,
         Kind::Byte => Lack::Value,
         Kind::Word => Lack::Value,
+        Kind::Bit => Lack::Value,
         Kind::Count => Lack::Number,
     }
 }
@@ -52,6 +55,7 @@ fn least_of(kind: Kind) -> u32
         Kind::Address(_) => 0,
         Kind::Byte => 0,
         Kind::Word => 0,
+        Kind::Bit => 0,
         Kind::Count => 1,
     }
 }
@@ -64,6 +68,7 @@ fn most_of(kind: Kind) -> u32
         Kind::Address(_) => 65535,
         Kind::Byte => 255,
         Kind::Word => 65535,
+        Kind::Bit => 1,
         Kind::Count => MOST_COUNTED,
     }
 }
@@ -82,6 +87,7 @@ fn counter_word(kind: Kind, word: &[u8]) -> Option<u32>
         }
         Kind::Byte => None,
         Kind::Word => None,
+        Kind::Bit => None,
         Kind::Count => None,
     }
 }
@@ -100,6 +106,7 @@ fn address_word(kind: Kind, word: &[u8]) -> Option<u32>
         }
         Kind::Byte => None,
         Kind::Word => None,
+        Kind::Bit => None,
         Kind::Count => None,
     }
 }
@@ -301,6 +308,15 @@ pub fn word_value<'a>(names: &Names, text: &'a [u8]) -> Result<(u16, &'a [u8]), 
 {
     let (value, rest) = sum_of(names, Kind::Word, text)?;
     Ok((value as u16, rest))
+}
+
+/// Reads the value of a flag: 0 or 1.
+pub fn bit_of<'a>(names: &Names, text: &'a [u8]) -> Result<(bool, &'a [u8]), Why<'a>>
+    ensures ok { IfOk result (λ p. bit_of names.now text.now ≡ Ok (p.0, p.1.now)) }
+    ensures err { IfErr result (λ why. bit_of names.now text.now ≡ Err (why_view why)) }
+{
+    let (value, rest) = sum_of(names, Kind::Bit, text)?;
+    Ok((value == 1, rest))
 }
 
 /// Reads a count, if something is left: a number from 1 on.

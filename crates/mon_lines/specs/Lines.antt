@@ -6,12 +6,14 @@ use Rattle.model.specs.declared.event.Setting.{Setting}
 use Rattle.model.specs.declared.instruction.Mnemonic.{Mnemonic}
 use Rattle.model.specs.declared.instruction.Profile.TheVariants.{C}
 use Rattle.source_map.specs.Names.{Named}
-use Rattle.mon_line_parts.specs.Reading.{Reads, SeenWhy, unknown, several, missing, behind, after, after_word, and_then, is_empty, is_next, is_word, number_in, skip, word_of}
-use Rattle.mon_line_parts.specs.Values.{bytes_of, count_of}
-use Rattle.mon_lines.specs.Parts.{address_at, kind_of, level_of, setting_of, shown_of, stretch_of, tests_of, times_of, undoing_of}
+use Rattle.mon_line_parts.specs.Reading.{Reads, SeenWhy, unknown, several, missing, behind, after, after_word, and_then, is_empty, is_next, is_word, number_in, past, skip, word_of}
+use Rattle.mon_line_parts.specs.Values.{bit_of, bytes_of, count_of}
+use Rattle.mon_lines.specs.Parts.{address_at, flag_of, kind_of, level_of, setting_of, shown_of, stretch_of, tests_of, times_of, undoing_of, watched_register}
 use Rattle.mon_line_parts.specs.Topics.{topic_of}
 use Rattle.mon_lines.specs.declared.command.Command.{Command}
 use Rattle.mon_lines.specs.declared.command.Command.TheVariants as command
+use Rattle.mon_lines.specs.declared.command.Flag.{Flag}
+use Rattle.mon_lines.specs.declared.command.Register.{Register}
 use Rattle.mon_lines.specs.declared.command.Stretch.{Stretch}
 use Rattle.mon_lines.specs.declared.command.Test.{Test}
 use Rattle.mon_lines.specs.declared.command.Undoing.{Undoing}
@@ -36,8 +38,12 @@ pub data SeenCommand : Type 0 where
   history : ℕ → SeenCommand
   break_at : ℕ → List Test → ℕ → SeenCommand
   watch : Stretch → WatchKind → SeenCommand
+  watch_register : Register → SeenCommand
   list : SeenCommand
   delete : ℕ → SeenCommand
+  delete_register : Register → SeenCommand
+  display : Option ℕ → SeenCommand
+  undisplay : ℕ → SeenCommand
   regs : SeenCommand
   flags : SeenCommand
   mem : Stretch → SeenCommand
@@ -45,6 +51,7 @@ pub data SeenCommand : Type 0 where
   find : List ℕ → SeenCommand
   stack : SeenCommand
   set : Setting → SeenCommand
+  set_flag : Flag → Bool → SeenCommand
   put : ℕ → List ℕ → SeenCommand
   asm : ℕ → List ℕ → SeenCommand
   type_in : List ℕ → SeenCommand
@@ -71,8 +78,12 @@ command_view command.Where = calls
 command_view (command.History count) = history count
 command_view (command.Break address tests times) = break_at address tests.items times
 command_view (command.Watch stretch kind) = watch stretch kind
+command_view (command.WatchRegister register) = watch_register register
 command_view command.List = list
 command_view (command.Delete address) = delete address
+command_view (command.DeleteRegister register) = delete_register register
+command_view (command.Display address) = display address
+command_view (command.Undisplay address) = undisplay address
 command_view command.Regs = regs
 command_view command.Flags = flags
 command_view (command.Mem stretch) = mem stretch
@@ -80,6 +91,7 @@ command_view (command.Dis address count) = dis address count
 command_view (command.Find bytes) = find bytes.items
 command_view command.Stack = stack
 command_view (command.Set setting) = set setting
+command_view (command.SetFlag flag value) = set_flag flag value
 command_view (command.Put address bytes) = put address bytes.items
 command_view (command.Asm address text) = asm address text.now
 command_view (command.«Type» bytes) = type_in bytes.items
@@ -102,11 +114,48 @@ break_from names pc text =
     Ok (break_at address tests times, rest))))
 
 -- A place or two, and what is watched there.
-abbrev pub watched_from : List Named → ℕ → List ℕ → Reads SeenCommand
-watched_from names pc text =
+abbrev pub bytes_watched_from : List Named → ℕ → List ℕ → Reads SeenCommand
+bytes_watched_from names pc text =
     and_then (stretch_of names pc text) (λ stretch rest.
     and_then (kind_of rest) (λ kind rest.
     Ok (watch stretch kind, rest)))
+
+-- What is watched: a register, also where the program has a name that is written so, or bytes.
+abbrev pub watched_by : List Named → ℕ → List ℕ → Option Register → Reads SeenCommand
+watched_by names pc text (Some register) = Ok (watch_register register, after_word text)
+watched_by names pc text None = bytes_watched_from names pc text
+
+abbrev pub watched_from : List Named → ℕ → List ℕ → Reads SeenCommand
+watched_from names pc text = watched_by names pc text (watched_register (word_of text))
+
+-- What is deleted: the watch of a register, or what stands at a place.
+abbrev pub deleted_by : List Named → ℕ → List ℕ → Option Register → Reads SeenCommand
+deleted_by names pc text (Some register) = Ok (delete_register register, after_word text)
+deleted_by names pc text None =
+    and_then (address_at names pc text) (λ address rest. Ok (delete address, rest))
+
+abbrev pub deleted_from : List Named → ℕ → List ℕ → Reads SeenCommand
+deleted_from names pc text = deleted_by names pc text (watched_register (word_of text))
+
+-- A place whose byte is shown at each stop, if something is left, and one whose byte is not.
+abbrev pub displayed_from : List Named → ℕ → List ℕ → Reads SeenCommand
+displayed_from names pc text = if is_empty text then Ok (display None, text)
+    else and_then (address_at names pc text) (λ address rest. Ok (display (Some address), rest))
+
+abbrev pub undisplayed_from : List Named → ℕ → List ℕ → Reads SeenCommand
+undisplayed_from names pc text =
+    and_then (address_at names pc text) (λ address rest. Ok (undisplay address, rest))
+
+-- What is set: a flag and its value, with `=` between them or without, or a register.
+abbrev pub set_by : List Named → ℕ → List ℕ → Option Flag → Reads SeenCommand
+set_by names pc text (Some flag) =
+    and_then (bit_of names (past (byte "=") (after_word text))) (λ value rest.
+    Ok (set_flag flag value, rest))
+set_by names pc text None =
+    and_then (setting_of names pc text) (λ setting rest. Ok (set setting, rest))
+
+abbrev pub set_from : List Named → ℕ → List ℕ → Reads SeenCommand
+set_from names pc text = set_by names pc text (flag_of (word_of text))
 
 -- A place, the program counter if nothing is left, and a count, 10 if there is none.
 abbrev pub place_or : List Named → ℕ → List ℕ → Reads ℕ
@@ -158,8 +207,7 @@ helped_from text = if is_empty text then Ok (help None, text)
 
 -- What follows a word that puts something.
 abbrev pub putting : List Named → ℕ → List ℕ → Topic → Reads SeenCommand
-putting names pc text topic.Set =
-    and_then (setting_of names pc text) (λ setting rest. Ok (set setting, rest))
+putting names pc text topic.Set = set_from names pc text
 putting names pc text topic.Put = put_from names pc text
 putting names pc text topic.Asm = assembled_from names pc text
 putting names pc text topic.«Type» =
@@ -176,8 +224,9 @@ seeing names pc text topic.History =
 seeing names pc text topic.Break = break_from names pc text
 seeing names pc text topic.Watch = watched_from names pc text
 seeing names pc text topic.List = Ok (list, text)
-seeing names pc text topic.Delete =
-    and_then (address_at names pc text) (λ address rest. Ok (delete address, rest))
+seeing names pc text topic.Delete = deleted_from names pc text
+seeing names pc text topic.Display = displayed_from names pc text
+seeing names pc text topic.Undisplay = undisplayed_from names pc text
 seeing names pc text topic.Regs = Ok (regs, text)
 seeing names pc text topic.Flags = Ok (flags, text)
 seeing names pc text topic.Mem =
@@ -251,6 +300,8 @@ has_address (Some topic.Mem) = true
 has_address (Some topic.Dis) = true
 has_address (Some topic.Until) = true
 has_address (Some topic.Delete) = true
+has_address (Some topic.Display) = true
+has_address (Some topic.Undisplay) = true
 has_address (Some topic.Put) = true
 has_address (Some topic.Asm) = true
 has_address _ = false

@@ -1,6 +1,6 @@
 -- The parts of what a line asks for: tests, stretches of memory, settings. Source: mos65.
 use Rattle.std.specs.Prelude.{ℕ, zero, suc, ◌+◌, ◌-◌, ◌==◌, ◌&&◌, ◌||◌, min, nat_lt, nat_le, Bool, true, false, codes, if◌then◌else◌, List, [], ◌∷◌, ◌++◌, length, Option, Some, None, unwrap_or, Ok, Err}
-use Rattle.std.specs.Str.{byte, bytes_eq}
+use Rattle.std.specs.Str.{byte, bytes_eq, str_eq_ignore_ascii_case}
 use Rattle.model.specs.declared.event.Setting.{Setting}
 use Rattle.model.specs.declared.event.Setting.TheVariants as setting
 use Rattle.source_map.specs.Names.{Named}
@@ -8,6 +8,8 @@ use Rattle.mon_line_parts.specs.Reading.{Reads, missing, unreadable, many, after
 use Rattle.mon_line_parts.specs.Values.{count_of, sum_of}
 use Rattle.mon_lines.specs.declared.command.Compare.{Compare}
 use Rattle.mon_lines.specs.declared.command.Compare.TheVariants.{Equal, Other, Less, LessOrEqual, More, MoreOrEqual}
+use Rattle.mon_lines.specs.declared.command.Flag.{Flag}
+use Rattle.mon_lines.specs.declared.command.Flag.TheVariants as flag
 use Rattle.mon_lines.specs.declared.command.Left.{Left}
 use Rattle.mon_lines.specs.declared.command.Left.TheVariants as left
 use Rattle.mon_lines.specs.declared.command.Register.{Register}
@@ -40,13 +42,29 @@ register_of word =
     else if bytes_eq word (codes "Pc") then Some register.Pc
     else None
 
--- What stands on the left side of a test: a register, or a byte of memory.
+-- A flag's letter, a capital or not. B is no flag of the processor's.
+unfoldable pub flag_of : List ℕ → Option Flag
+flag_of word =
+    if str_eq_ignore_ascii_case word (codes "N") then Some flag.N
+    else if str_eq_ignore_ascii_case word (codes "V") then Some flag.V
+    else if str_eq_ignore_ascii_case word (codes "D") then Some flag.D
+    else if str_eq_ignore_ascii_case word (codes "I") then Some flag.I
+    else if str_eq_ignore_ascii_case word (codes "Z") then Some flag.Z
+    else if str_eq_ignore_ascii_case word (codes "C") then Some flag.C
+    else None
+
+-- What stands on the left side of a test: a register, a flag, or a byte of memory. A register or a
+-- flag counts before a name of the program.
 abbrev pub byte_left : ℕ → List ℕ → Reads Left
 byte_left address rest = Ok (left.Byte address, rest)
 
+abbrev pub flag_or_byte : List Named → ℕ → List ℕ → Option Flag → Reads Left
+flag_or_byte names pc text (Some flag) = Ok (left.Flag flag, after_word text)
+flag_or_byte names pc text None = and_then (address_at names pc text) byte_left
+
 abbrev pub left_by : List Named → ℕ → List ℕ → Option Register → Reads Left
 left_by names pc text (Some register) = Ok (left.Register register, after_word text)
-left_by names pc text None = and_then (address_at names pc text) byte_left
+left_by names pc text None = flag_or_byte names pc text (flag_of (word_of text))
 
 abbrev pub left_of : List Named → ℕ → List ℕ → Reads Left
 left_of names pc text = left_by names pc text (register_of (word_of text))
@@ -120,6 +138,17 @@ stretch_of names pc text = and_then (address_at names pc text) (λ first rest.
     then and_then (address_at names pc (after 1 (after 1 rest))) (last_of first)
     else Err (missing lacking.Points))
     else Ok (from_to first first, rest))
+
+-- The register whose changes are watched where its name, a capital or not, stands in the place of an
+-- address.
+unfoldable pub watched_register : List ℕ → Option Register
+watched_register word =
+    if str_eq_ignore_ascii_case word (codes "A") then Some register.A
+    else if str_eq_ignore_ascii_case word (codes "X") then Some register.X
+    else if str_eq_ignore_ascii_case word (codes "Y") then Some register.Y
+    else if str_eq_ignore_ascii_case word (codes "S") then Some register.S
+    else if str_eq_ignore_ascii_case word (codes "P") then Some register.P
+    else None
 
 -- What is watched: changes if nothing is said.
 abbrev pub kind_of : List ℕ → Reads WatchKind

@@ -16,10 +16,23 @@ pub enum Register {
     Pc,
 }
 
+/// A flag of P.
+#[derive(Clone, Copy)]
+pub enum Flag {
+    N,
+    V,
+    D,
+    I,
+    Z,
+    C,
+}
+
 /// What stands on the left side of a test.
 #[derive(Clone, Copy)]
 pub enum Left {
     Register(Register),
+    /// A flag, which is 0 or 1.
+    Flag(Flag),
     /// The byte of memory at an address.
     Byte(u16),
 }
@@ -105,8 +118,13 @@ pub enum Command<'a> {
         stretch: Stretch,
         kind: WatchKind,
     },
+    WatchRegister(Register),
     List,
     Delete(u16),
+    DeleteRegister(Register),
+    /// An address is shown at each stop; what is shown so, if no address is given.
+    Display(Option<u16>),
+    Undisplay(u16),
     Regs,
     Flags,
     Mem(Stretch),
@@ -117,6 +135,10 @@ pub enum Command<'a> {
     Find(ArrayVec<u8, 256>),
     Stack,
     Set(Setting),
+    SetFlag {
+        flag: Flag,
+        value: bool,
+    },
     Put {
         address: u16,
         bytes: ArrayVec<u8, 256>,

@@ -4,7 +4,7 @@
 //! and PC for its places. `specs/Lines.antt` defines both.
 #![tactic(auto)]
 
-pub use command::{Command, Compare, Left, Register, Stretch, Test, Undoing, WatchKind};
+pub use command::{Command, Compare, Flag, Left, Register, Stretch, Test, Undoing, WatchKind};
 pub use read::{decimal_address, read_line};
 pub use slip::Slip;
 

@@ -4,20 +4,21 @@ ghost use Rattle.std.specs.Prelude.{◌≡◌, [], IfErr, IfOk};
 ghost use Rattle.std.specs.Option.{option_copied};
 ghost use Rattle.mon_line_parts.specs.Reading.{why_view};
 ghost use Rattle.mon_lines.specs.Parts.{level_of, setting_by, setting_of, undoing_of, value_of};
-ghost use Rattle.mon_lines.specs.Lines.{assembled_from, break_from, command_view, decimal_address};
+ghost use Rattle.mon_lines.specs.Lines.{assembled_from, break_from, bytes_watched_from};
+ghost use Rattle.mon_lines.specs.Lines.{command_view, decimal_address, deleted_from, displayed_from};
 ghost use Rattle.mon_lines.specs.Lines.{going_from, helped_from, helped_on, instructions_from};
-ghost use Rattle.mon_lines.specs.Lines.{is_back, line_of};
+ghost use Rattle.mon_lines.specs.Lines.{is_back, line_of, set_from, undisplayed_from};
 ghost use Rattle.mon_lines.specs.Lines.{has_address, is_short_decimal, line_by, put_from, putting};
 ghost use Rattle.mon_lines.specs.Lines.{moving, seeing, until_from, watched_from, whole_line};
 ghost use Rattle.mon_line_parts.specs.Topics.{topic_of};
 
 use crate::command::{Command, Register, Undoing};
 use crate::slip::Slip;
-use crate::stretches::{kind_of, shown_of, stretch_of};
-use crate::tests::{register_of, tests_of, times_of};
+use crate::stretches::{kind_of, shown_of, stretch_of, watched_register};
+use crate::tests::{flag_of, register_of, tests_of, times_of};
 use debugger::Setting;
 use mon_line_parts::{
-    Lack, Topic, Why, address_of, after, after_word, byte_of, bytes_of, count_of, is_empty,
+    Lack, Topic, Why, address_of, after, after_word, bit_of, byte_of, bytes_of, count_of, is_empty,
     is_next, is_word, number_in, past, skip, topic_of, word_of,
 };
 use optable::{Mnemonic, Profile, mnemonic_in};
@@ -41,14 +42,46 @@ fn break_at<'a>(names: &Names, pc: u16, text: &'a [u8]) -> Result<(Command<'a>, 
 }
 
 /// Reads `WHERE` or `WHERE..WHERE`, and `read`, `write` or `change` behind it.
+fn watched_bytes<'a>(
+    names: &Names,
+    pc: u16,
+    text: &'a [u8],
+) -> Result<(Command<'a>, &'a [u8]), Why<'a>>
+    ensures ok { IfOk result (λ p. bytes_watched_from names.now pc text.now
+        ≡ Ok (command_view p.0, p.1.now)) }
+    ensures err { IfErr result
+        (λ why. bytes_watched_from names.now pc text.now ≡ Err (why_view why)) }
+{
+    let (stretch, rest) = stretch_of(names, pc, text)?;
+    let (kind, rest) = kind_of(rest);
+    Ok((Command::Watch { stretch, kind }, rest))
+}
+
+/// Reads what is watched: a register, or bytes.
 fn watched<'a>(names: &Names, pc: u16, text: &'a [u8]) -> Result<(Command<'a>, &'a [u8]), Why<'a>>
     ensures ok { IfOk result (λ p. watched_from names.now pc text.now
         ≡ Ok (command_view p.0, p.1.now)) }
     ensures err { IfErr result (λ why. watched_from names.now pc text.now ≡ Err (why_view why)) }
 {
-    let (stretch, rest) = stretch_of(names, pc, text)?;
-    let (kind, rest) = kind_of(rest);
-    Ok((Command::Watch { stretch, kind }, rest))
+    match watched_register(word_of(text)) {
+        Some(register) => Ok((Command::WatchRegister(register), after_word(text))),
+        None => watched_bytes(names, pc, text),
+    }
+}
+
+/// Reads what is deleted: the watch of a register, or what stands at an address.
+fn deleted<'a>(names: &Names, pc: u16, text: &'a [u8]) -> Result<(Command<'a>, &'a [u8]), Why<'a>>
+    ensures ok { IfOk result (λ p. deleted_from names.now pc text.now
+        ≡ Ok (command_view p.0, p.1.now)) }
+    ensures err { IfErr result (λ why. deleted_from names.now pc text.now ≡ Err (why_view why)) }
+{
+    match watched_register(word_of(text)) {
+        Some(register) => Ok((Command::DeleteRegister(register), after_word(text))),
+        None => {
+            let (address, rest) = address_of(names, pc, text)?;
+            Ok((Command::Delete(address), rest))
+        }
+    }
 }
 
 /// Reads the value of a register.
@@ -89,6 +122,52 @@ fn setting_of<'a>(names: &Names, pc: u16, text: &'a [u8]) -> Result<(Setting, &'
     match register_of(word) {
         Some(register) => value_of(names, pc, register, past(b'=', after_word(text))),
         None => Err(Why::Unreadable(word)),
+    }
+}
+
+/// Reads the address whose byte is shown at each stop, if something is left.
+fn displayed<'a>(names: &Names, pc: u16, text: &'a [u8]) -> Result<(Command<'a>, &'a [u8]), Why<'a>>
+    ensures ok { IfOk result (λ p. displayed_from names.now pc text.now
+        ≡ Ok (command_view p.0, p.1.now)) }
+    ensures err { IfErr result (λ why. displayed_from names.now pc text.now ≡ Err (why_view why)) }
+{
+    if is_empty(text) {
+        return Ok((Command::Display(None), text));
+    }
+    let (address, rest) = address_of(names, pc, text)?;
+    Ok((Command::Display(Some(address)), rest))
+}
+
+/// Reads the address whose byte is not shown any more.
+fn undisplayed<'a>(
+    names: &Names,
+    pc: u16,
+    text: &'a [u8],
+) -> Result<(Command<'a>, &'a [u8]), Why<'a>>
+    ensures ok { IfOk result (λ p. undisplayed_from names.now pc text.now
+        ≡ Ok (command_view p.0, p.1.now)) }
+    ensures err { IfErr result
+        (λ why. undisplayed_from names.now pc text.now ≡ Err (why_view why)) }
+{
+    let (address, rest) = address_of(names, pc, text)?;
+    Ok((Command::Undisplay(address), rest))
+}
+
+/// Reads `FLAG VALUE` or `REGISTER VALUE`.
+fn set<'a>(names: &Names, pc: u16, text: &'a [u8]) -> Result<(Command<'a>, &'a [u8]), Why<'a>>
+    ensures ok { IfOk result (λ p. set_from names.now pc text.now
+        ≡ Ok (command_view p.0, p.1.now)) }
+    ensures err { IfErr result (λ why. set_from names.now pc text.now ≡ Err (why_view why)) }
+{
+    match flag_of(word_of(text)) {
+        Some(flag) => {
+            let (value, rest) = bit_of(names, past(b'=', after_word(text)))?;
+            Ok((Command::SetFlag { flag, value }, rest))
+        }
+        None => {
+            let (setting, rest) = setting_of(names, pc, text)?;
+            Ok((Command::Set(setting), rest))
+        }
     }
 }
 
@@ -279,10 +358,9 @@ fn seeing<'a>(
         Topic::Break => break_at(names, pc, text),
         Topic::Watch => watched(names, pc, text),
         Topic::List => Ok((Command::List, text)),
-        Topic::Delete => {
-            let (address, rest) = address_of(names, pc, text)?;
-            Ok((Command::Delete(address), rest))
-        }
+        Topic::Delete => deleted(names, pc, text),
+        Topic::Display => displayed(names, pc, text),
+        Topic::Undisplay => undisplayed(names, pc, text),
         Topic::Regs => Ok((Command::Regs, text)),
         Topic::Flags => Ok((Command::Flags, text)),
         Topic::Mem => {
@@ -312,10 +390,7 @@ fn putting<'a>(
     ensures err { IfErr result (λ why. putting names.now pc text.now topic ≡ Err (why_view why)) }
 {
     match topic {
-        Topic::Set => {
-            let (setting, rest) = setting_of(names, pc, text)?;
-            Ok((Command::Set(setting), rest))
-        }
+        Topic::Set => set(names, pc, text),
         Topic::Put => put(names, pc, text),
         Topic::Asm => assembled(names, pc, text),
         Topic::Type => {
@@ -335,6 +410,7 @@ fn has_address(topic: Option<Topic>) -> bool
     match topic {
         Some(Topic::Break | Topic::Watch | Topic::Mem | Topic::Dis) => true,
         Some(Topic::Until | Topic::Delete | Topic::Put | Topic::Asm) => true,
+        Some(Topic::Display | Topic::Undisplay) => true,
         _ => false,
     }
 }

@@ -3,13 +3,13 @@
 ghost use Rattle.std.specs.Prelude.{◌≡◌, ◌≤◌, IfErr, IfOk};
 ghost use Rattle.mon_line_parts.specs.Reading.{and_then, why_view};
 ghost use Rattle.mon_lines.specs.Parts.{by_count, counted_from, from_to, kind_of, last_of, second_of};
-ghost use Rattle.mon_lines.specs.Parts.{shown_of, so_many_from, stretch_of};
+ghost use Rattle.mon_lines.specs.Parts.{shown_of, so_many_from, stretch_of, watched_register};
 
-use crate::command::{Stretch, WatchKind};
+use crate::command::{Register, Stretch, WatchKind};
 use mon_line_parts::{
     Lack, Why, address_of, after, after_word, count_of, is_empty, is_next, is_word, word_of,
 };
-use source_map::Names;
+use source_map::{Names, is_same_word};
 
 /// The addresses from the first to so many behind it, none past $FFFF.
 fn so_many_from(first: u16, count: u32) -> Stretch
@@ -52,6 +52,26 @@ pub fn stretch_of<'a>(
     }
     let (last, rest) = address_of(names, pc, after(1, after(1, rest)))?;
     last_of(first, last, rest)
+}
+
+/// Returns the register of a name that a watch is for: A, X, Y, S or P.
+#[tactic(auto, unfolding(crate::specs::Parts::watched_register))]
+pub fn watched_register(word: &[u8]) -> Option<Register>
+    ensures { result ≡ watched_register word.now }
+{
+    if is_same_word(word, b"A") {
+        Some(Register::A)
+    } else if is_same_word(word, b"X") {
+        Some(Register::X)
+    } else if is_same_word(word, b"Y") {
+        Some(Register::Y)
+    } else if is_same_word(word, b"S") {
+        Some(Register::S)
+    } else if is_same_word(word, b"P") {
+        Some(Register::P)
+    } else {
+        None
+    }
 }
 
 /// Reads `read`, `write` or `change`.

@@ -3,15 +3,16 @@
 ghost use Rattle.std.specs.Prelude.{◌≡◌, ◌≤◌, [], IfErr, IfOk};
 ghost use Rattle.std.specs.Str.{bytes_eq};
 ghost use Rattle.mon_line_parts.specs.Reading.{after_word, and_then, why_view, word_of};
-ghost use Rattle.mon_lines.specs.Parts.{byte_left, comparison_of, left_by, left_of, register_of};
+ghost use Rattle.mon_lines.specs.Parts.{byte_left, comparison_of, flag_of, flag_or_byte, left_by};
+ghost use Rattle.mon_lines.specs.Parts.{left_of, register_of};
 ghost use Rattle.mon_lines.specs.Parts.{test_of, tests_of, tests_within, times_of, times_or, with_test};
 
-use crate::command::{Compare, Left, Register, Test};
+use crate::command::{Compare, Flag, Left, Register, Test};
 use arrayvec::ArrayVec;
 use mon_line_parts::{
     Lack, Why, address_of, after, after_word, count_of, is_next, is_word, past, word_of, word_value,
 };
-use source_map::Names;
+use source_map::{Names, is_same_word};
 
 fn is_text(word: &[u8], text: &[u8]) -> bool
     ensures { result ≡ bytes_eq word.now text.now }
@@ -45,17 +46,54 @@ pub fn register_of(word: &[u8]) -> Option<Register>
     }
 }
 
-/// Reads the left side of a test: a register, or the address of a byte of memory.
+/// Returns the flag of a letter, a capital or not.
+#[tactic(auto, unfolding(crate::specs::Parts::flag_of))]
+pub fn flag_of(word: &[u8]) -> Option<Flag>
+    ensures { result ≡ flag_of word.now }
+{
+    if is_same_word(word, b"N") {
+        Some(Flag::N)
+    } else if is_same_word(word, b"V") {
+        Some(Flag::V)
+    } else if is_same_word(word, b"D") {
+        Some(Flag::D)
+    } else if is_same_word(word, b"I") {
+        Some(Flag::I)
+    } else if is_same_word(word, b"Z") {
+        Some(Flag::Z)
+    } else if is_same_word(word, b"C") {
+        Some(Flag::C)
+    } else {
+        None
+    }
+}
+
+/// Reads the left side of a test that begins with no register: a flag, or the address of a byte of
+/// memory.
+fn flag_or_byte<'a>(names: &Names, pc: u16, text: &'a [u8]) -> Result<(Left, &'a [u8]), Why<'a>>
+    ensures ok { IfOk result (λ p. flag_or_byte names.now pc text.now (flag_of (word_of text.now))
+        ≡ Ok (p.0, p.1.now)) }
+    ensures err { IfErr result
+        (λ why. flag_or_byte names.now pc text.now (flag_of (word_of text.now))
+        ≡ Err (why_view why)) }
+{
+    match flag_of(word_of(text)) {
+        Some(flag) => Ok((Left::Flag(flag), after_word(text))),
+        None => {
+            let (address, rest) = address_of(names, pc, text)?;
+            Ok((Left::Byte(address), rest))
+        }
+    }
+}
+
+/// Reads the left side of a test: a register, a flag, or the address of a byte of memory.
 fn left_of<'a>(names: &Names, pc: u16, text: &'a [u8]) -> Result<(Left, &'a [u8]), Why<'a>>
     ensures ok { IfOk result (λ p. left_of names.now pc text.now ≡ Ok (p.0, p.1.now)) }
     ensures err { IfErr result (λ why. left_of names.now pc text.now ≡ Err (why_view why)) }
 {
     match register_of(word_of(text)) {
         Some(register) => Ok((Left::Register(register), after_word(text))),
-        None => {
-            let (address, rest) = address_of(names, pc, text)?;
-            Ok((Left::Byte(address), rest))
-        }
+        None => flag_or_byte(names, pc, text),
     }
 }
 
@@ -89,7 +127,7 @@ fn comparison_of(text: &[u8]) -> Result<(Compare, &[u8]), Why<'_>>
     }
 }
 
-/// Reads a test of a register or of a byte of memory.
+/// Reads a test of a register, a flag or a byte of memory.
 #[tactic(auto, unfolding(crate::specs::Parts::test_of))]
 fn test_of<'a>(names: &Names, pc: u16, text: &'a [u8]) -> Result<(Test, &'a [u8]), Why<'a>>
     ensures ok { IfOk result (λ p. test_of names.now pc text.now ≡ Ok (p.0, p.1.now)) }

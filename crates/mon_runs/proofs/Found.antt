@@ -8,6 +8,7 @@ use Rattle.model.specs.State.{State}
 use Rattle.model.specs.Session.{Session}
 use Rattle.model.specs.Back.{without_last}
 use Rattle.mon_runs.specs.Recall.{is_stop, recalled, one_more}
+use Rattle.mon_stops.specs.declared.stops.Stops.{Stops}
 
 pub none_more : (p : ℕ → Bool) (xs : List ℕ) (i : ℕ) → i < length xs
     → list_any p (take i xs) ≡ false → p (get_or xs i 0) ≡ false
@@ -32,31 +33,31 @@ other_address a b h = grind (arith, nat_tests)
 
 -- ---- back by one event at a time
 
-pub recalled-none : (watched : List ℕ) (s : Session) → recalled watched 0 s ≡ (0, s)
+pub recalled-none : (stops : Stops) (s : Session) → recalled stops 0 s ≡ (0, s)
 unfolding recalled
-recalled-none watched s = refl
+recalled-none stops s = refl
 
-stop-is : (watched : List ℕ) (s t : Session) → t ≡ without_last 1 s
-    → is_stop s.breaks watched (without_last 1 s).current s.current
-    ≡ is_stop t.breaks watched t.current s.current
+stop-is : (stops : Stops) (s t : Session) → t ≡ without_last 1 s
+    → is_stop s.breaks stops (without_last 1 s).current s.current
+    ≡ is_stop t.breaks stops t.current s.current
 unfolding without_last
-stop-is watched s t e = ap (λ x. is_stop x.breaks watched x.current s.current) (sym e)
+stop-is stops s t e = ap (λ x. is_stop x.breaks stops x.current s.current) (sym e)
 
-pub recalled-stop : (watched : List ℕ) (n : ℕ) (s t : Session) → t ≡ without_last 1 s
-    → is_stop t.breaks watched t.current s.current ≡ true
-    → recalled watched (suc n) s ≡ (1, t)
+pub recalled-stop : (stops : Stops) (n : ℕ) (s t : Session) → t ≡ without_last 1 s
+    → is_stop t.breaks stops t.current s.current ≡ true
+    → recalled stops (suc n) s ≡ (1, t)
 unfolding recalled
-recalled-stop watched n s t e h =
-    ap (λ b. cond b (1, without_last 1 s) (one_more (recalled watched n (without_last 1 s)))) (stop-is watched s t e ∙ h)
+recalled-stop stops n s t e h =
+    ap (λ b. cond b (1, without_last 1 s) (one_more (recalled stops n (without_last 1 s)))) (stop-is stops s t e ∙ h)
     ∙ (λ i. (1, sym e i))
 
-pub recalled-on : (watched : List ℕ) (n : ℕ) (s t : Session) → t ≡ without_last 1 s
-    → is_stop t.breaks watched t.current s.current ≡ false
-    → recalled watched (suc n) s ≡ one_more (recalled watched n t)
+pub recalled-on : (stops : Stops) (n : ℕ) (s t : Session) → t ≡ without_last 1 s
+    → is_stop t.breaks stops t.current s.current ≡ false
+    → recalled stops (suc n) s ≡ one_more (recalled stops n t)
 unfolding recalled
-recalled-on watched n s t e h =
-    ap (λ b. cond b (1, without_last 1 s) (one_more (recalled watched n (without_last 1 s)))) (stop-is watched s t e ∙ h)
-    ∙ ap (λ x. one_more (recalled watched n x)) (sym e)
+recalled-on stops n s t e h =
+    ap (λ b. cond b (1, without_last 1 s) (one_more (recalled stops n (without_last 1 s)))) (stop-is stops s t e ∙ h)
+    ∙ ap (λ x. one_more (recalled stops n x)) (sym e)
 
 pub length-back_one : (s t : Session) → t ≡ without_last 1 s
     → length t.earlier ≡ length s.earlier - 1

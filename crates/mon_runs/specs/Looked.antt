@@ -14,7 +14,8 @@ use Rattle.mon_runs.specs.declared.ended.Ended.{Ended}
 use Rattle.mon_runs.specs.declared.looked.Goal.{Goal}
 use Rattle.mon_runs.specs.declared.looked.Goal.TheVariants.{Behind, Left, Rest, Never}
 use Rattle.mon_runs.specs.declared.looked.Sight.{Sight}
-use Rattle.mon_stops.specs.Stops.{has_access}
+use Rattle.mon_stops.specs.Stops.{has_access, register_change}
+use Rattle.mon_stops.specs.declared.changes.RegisterChange.{RegisterChange}
 use Rattle.mon_stops.specs.declared.breaks.Break.{Break}
 use Rattle.mon_stops.specs.declared.watches.Watch.{Watch}
 use Rattle.mon_runs.specs.Goals.{is_behind, has_left, opcode_at_pc}
@@ -62,6 +63,21 @@ abbrev pub watched_between : List Watch → State → State → Option EndWhy
 watched_between watches before after = if is_entry before.regs.s before.cycles after then None
     else watched watches (access_here before) before.regs.s
 
+-- The change of a watched register by a step from one state to another. An interrupt that is entered
+-- in its place changes registers too.
+abbrev pub if_changed : Option RegisterChange → Option EndWhy
+if_changed (Some change) = Some (end_why.Changed change)
+if_changed None = None
+
+abbrev pub changed_between : List Watch → State → State → Option EndWhy
+changed_between watches before after
+    = if_changed (register_change watches before.regs after.regs)
+
+-- What is watched that a step has done: an access, or else a change of a register.
+abbrev pub seen_between : List Watch → State → State → Option EndWhy
+seen_between watches before after = option_or (watched_between watches before after)
+    (changed_between watches before after)
+
 abbrev pub if_met : Bool → Option EndWhy
 if_met true = Some end_why.Met
 if_met false = None
@@ -76,7 +92,7 @@ rest_of Never before after = None
 
 -- Why a run ends after a step that did not end it by itself.
 abbrev pub end_between : List Watch → Goal → State → State → Option EndWhy
-end_between watches goal before after = option_or (watched_between watches before after)
+end_between watches goal before after = option_or (seen_between watches before after)
     (option_or (if_met (goal_met goal before after)) (rest_of goal before after))
 
 -- What a run sees of the state before a step.

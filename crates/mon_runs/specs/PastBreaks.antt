@@ -39,7 +39,7 @@ run_past (suc n) left place = ended_or (option_map as_stopped (why_of_stretch le
 
 -- ---- the runs
 
--- Whether only changes are watched.
+-- Whether only changes of bytes are watched.
 abbrev pub are_changes : List Watch → Bool
 are_changes watches = list_all is_change watches
 
@@ -72,6 +72,7 @@ if_all true end_why.Met = end_why.Met
 if_all true (end_why.Stopped reason) = end_why.Stopped reason
 if_all true (end_why.Read address) = end_why.Read address
 if_all true (end_why.Written address) = end_why.Written address
+if_all true (end_why.Changed change) = end_why.Changed change
 if_all true end_why.Stuck = end_why.Stuck
 if_all true end_why.NoHandler = end_why.NoHandler
 if_all true end_why.Waits = end_why.Waits

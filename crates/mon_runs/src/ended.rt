@@ -1,6 +1,7 @@
 //! How a run ends.
 
 use debugger::Why;
+use mon_stops::RegisterChange;
 
 /// Why a run ends. Source: mos65.
 #[derive(Clone, Copy)]
@@ -16,6 +17,8 @@ pub enum EndWhy {
     Read(u16),
     /// The last step's instruction stored a byte at an address that is watched for writes.
     Written(u16),
+    /// The last step changed a register that is watched.
+    Changed(RegisterChange),
     /// The last step was a jump or a branch to itself.
     Stuck,
     /// A BRK comes next, and nothing stands at FFFE.

@@ -4,7 +4,8 @@ ghost use Rattle.std.specs.Prelude.{◌≡◌, ◌≤◌, ◌^◌};
 ghost use Rattle.model.specs.Run.{after_run, after_steps, run_end};
 ghost use Rattle.model.specs.State.{State};
 ghost use Rattle.mon_runs.specs.Ends.{breaks_after, is_end, is_entry, is_to};
-ghost use Rattle.mon_runs.specs.Looked.{after_stretch, end_between, goal_met, if_met, if_read};
+ghost use Rattle.mon_runs.specs.Looked.{after_stretch, changed_between, end_between, goal_met};
+ghost use Rattle.mon_runs.specs.Looked.{if_changed, if_met, if_read, seen_between};
 ghost use Rattle.mon_runs.specs.Looked.{if_stored, looked_run, pushed_at, pushed_to, rest_of};
 ghost use Rattle.mon_runs.specs.Looked.{sight_of};
 ghost use Rattle.mon_runs.specs.Looked.{watched, watched_between, why_of_step};
@@ -14,7 +15,7 @@ use crate::rests::rest_since;
 use accesses::{Access, access_here};
 use debugger::{Regs, Session, Why};
 use mon_lines::WatchKind;
-use mon_stops::Stops;
+use mon_stops::{RegisterChange, Stops};
 
 /// The goal of a run of single steps.
 #[derive(Clone, Copy)]
@@ -183,6 +184,35 @@ fn watched_since(session: &Session, stops: &Stops, before: Sight) -> Option<EndW
     }
 }
 
+/// Returns the change of a watched register, if there was one.
+fn if_changed(change: Option<RegisterChange>) -> Option<EndWhy>
+    ensures { result ≡ if_changed change }
+{
+    match change {
+        Some(change) => Some(EndWhy::Changed(change)),
+        None => None,
+    }
+}
+
+/// Returns the change of a watched register since a step, if there was one.
+fn changed_since(session: &Session, stops: &Stops, before: Sight) -> Option<EndWhy>
+    ensures { (s : State) → before ≡ sight_of s → result
+        ≡ changed_between stops.now.watches.items s session.now.current }
+{
+    if_changed(stops.register_change(before.regs, session.regs()))
+}
+
+/// Returns what is watched that a step has done, if it has done such.
+fn seen_since(session: &Session, stops: &Stops, before: Sight) -> Option<EndWhy>
+    ensures { (s : State) → before ≡ sight_of s → result
+        ≡ seen_between stops.now.watches.items s session.now.current }
+{
+    match watched_since(session, stops, before) {
+        Some(why) => Some(why),
+        None => changed_since(session, stops, before),
+    }
+}
+
 /// Returns why a run ends with a goal that was met.
 fn if_met(is_met: bool) -> Option<EndWhy>
     ensures { result ≡ if_met is_met }
@@ -206,7 +236,7 @@ fn end_of(session: &Session, stops: &Stops, goal: Goal, before: Sight) -> Option
     ensures { (s : State) → before ≡ sight_of s → result
         ≡ end_between stops.now.watches.items goal s session.now.current }
 {
-    if let Some(why) = watched_since(session, stops, before) {
+    if let Some(why) = seen_since(session, stops, before) {
         return Some(why);
     }
     match if_met(is_met(goal, before, session.regs(), session.cycles())) {

@@ -5,27 +5,29 @@ ghost use Rattle.std.specs.List.{list_any};
 ghost use Rattle.model.specs.Back.{without_last};
 ghost use Rattle.model.specs.State.{State};
 ghost use Rattle.mon_runs.specs.Noted.{AreBytesAt};
-ghost use Rattle.mon_runs.specs.Recall.{differs_at, is_stop, last_stop, made_again};
+ghost use Rattle.mon_runs.specs.Recall.{differs_at, has_other_register, is_stop, last_stop, made_again};
 
-use debugger::{Event, Session};
+use debugger::{Event, Regs, Session};
+use mon_stops::Stops;
 
 /// The most addresses that are watched on the way back.
 const MOST_WATCHED: usize = 256;
 
 /// Undoes events until the current state is at a breakpoint, or until the event that changed a byte
-/// at one of the addresses of `watched` is undone; at most all that are held. Returns how many it
-/// has undone. Does not allocate.
+/// at one of the addresses of `stops.changes` or a watched register is undone; at most all that are
+/// held. Returns how many it has undone. Does not allocate.
 #[tactic(auto, unfolding(crate::specs::Recall::last_stop))]
-pub fn back_to_stop(session: &mut Session, watched: &[u16]) -> u32
-    requires few { length watched.now ≤ 256 }
-    ensures { last_stop watched.now session.old ≡ (result, session.new) }
+pub fn back_to_stop(session: &mut Session, stops: &Stops) -> u32
+    requires few { length stops.now.changes.items ≤ 256 }
+    ensures { last_stop stops.now session.old ≡ (result, session.new) }
 {
     let mut bytes = [0u8; MOST_WATCHED];
     let held = session.held();
     for undone in 0..held {
-        note_bytes(session, watched, &mut bytes);
+        let after = session.regs();
+        note_bytes(session, stops.changes.as_slice(), &mut bytes);
         back_by_one(session);
-        if is_stopped(session, watched, &bytes) {
+        if is_stopped(session, stops, &bytes, after) {
             return undone + 1;
         }
     }
@@ -51,16 +53,25 @@ fn note_bytes(session: &Session, watched: &[u16], bytes: &mut [u8; MOST_WATCHED]
 }
 
 /// Returns whether the current state is a stop on the way back, where the bytes that the state
-/// after it had at the watched addresses are noted.
-fn is_stopped(session: &Session, watched: &[u16], bytes: &[u8; MOST_WATCHED]) -> bool
-    requires { length watched.now ≤ 256 }
-    ensures { (after : State) → AreBytesAt watched.now after bytes.now
-        → result ≡ is_stop session.now.breaks watched.now session.now.current after }
+/// after it had at the watched addresses are noted, and its registers.
+fn is_stopped(session: &Session, stops: &Stops, bytes: &[u8; MOST_WATCHED], regs: Regs) -> bool
+    requires { length stops.now.changes.items ≤ 256 }
+    ensures { (after : State) → AreBytesAt stops.now.changes.items after bytes.now
+        → regs ≡ after.regs
+        → result ≡ is_stop session.now.breaks stops.now session.now.current after }
 {
-    if is_at_break(session) {
+    if is_at_break(session) || is_changed(session, stops.changes.as_slice(), bytes) {
         return true;
     }
-    is_changed(session, watched, bytes)
+    has_other_register(session, stops, regs)
+}
+
+/// Returns whether a watched register has another value than among some registers.
+fn has_other_register(session: &Session, stops: &Stops, regs: Regs) -> bool
+    ensures { (after : State) → regs ≡ after.regs → result
+        ≡ has_other_register stops.now.watches.items session.now.current after }
+{
+    stops.register_change(session.regs(), regs).is_some()
 }
 
 /// Returns the breakpoint at an index.

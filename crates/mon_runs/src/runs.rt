@@ -23,7 +23,7 @@ const JSR: u8 = 0x20;
 /// The most steps of a run that nobody gave a number of steps.
 const MOST_STEPS: u32 = 5_000_000;
 
-/// The most steps of a run of so many where reads or writes are watched.
+/// The most steps of a run of so many where reads, writes or registers are watched.
 const MOST_LOOKED: u32 = 10_000_000;
 
 /// Runs to a goal, for at most 5,000,000 steps.

@@ -18,11 +18,12 @@ course_of desk = (desk.session, desk.events)
 -- Only the text has changed.
 abbrev pub ShowsOnly : Desk → Desk → Type 0
 ShowsOnly old new = (new.session ≡ old.session) × (new.events ≡ old.events)
-    × (new.stops ≡ old.stops) × (new.places ≡ old.places)
+    × (new.stops ≡ old.stops) × (new.places ≡ old.places) × (new.displays ≡ old.displays)
 
--- Breaks, watches, names and lines are what they were.
+-- Breaks, watches, names, lines, and what is shown at each stop are what they were.
 abbrev pub KeepsStops : Desk → Desk → Type 0
 KeepsStops old new = (new.stops ≡ old.stops) × (new.places ≡ old.places)
+    × (new.displays ≡ old.displays)
 
 -- One of two values.
 abbrev pub IsEither : {X : Type 0} → X → X → X → Type 0

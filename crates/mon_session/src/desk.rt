@@ -1,5 +1,5 @@
-//! What a session of `mon` has: the machine, its events, its stops, its places, and the text that
-//! is to be written.
+//! What a session of `mon` has: the machine, its events, its stops, its places, what is shown at
+//! each stop, and the text that is to be written.
 
 ghost use Rattle.std.specs.Prelude.{◌≡◌, ◌++◌, [], Err, IfErr, IfOk, Ok, OnErr, OnOk, codes, drop, false, is_ok};
 ghost use Rattle.std.specs.Prelude.{take};
@@ -34,6 +34,8 @@ pub struct Desk {
     pub events: Events,
     pub stops: Stops,
     pub places: Places,
+    /// The addresses whose bytes are shown at each stop, each once.
+    pub displays: Vec<u16>,
     pub text: Vec<u8>,
 }
 
@@ -64,6 +66,7 @@ impl Desk {
         ensures watches { IfOk result (λ desk. desk.stops.watches.items ≡ []) }
         ensures changes { IfOk result (λ desk. desk.stops.changes.items ≡ []) }
         ensures places { IfOk result (λ desk. desk.places ≡ places) }
+        ensures displays { IfOk result (λ desk. desk.displays.items ≡ []) }
         ensures text { IfOk result (λ desk. desk.text.items ≡ []) }
     {
         Ok(Desk {
@@ -71,6 +74,7 @@ impl Desk {
             events: Events::new(alloc, history)?,
             stops: Stops::new(alloc),
             places,
+            displays: Vec::new(alloc),
             text: Vec::new(alloc),
         })
     }

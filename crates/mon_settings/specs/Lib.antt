@@ -3,3 +3,5 @@ pub mod StopTexts
 pub mod ByteLines
 pub mod Names
 pub mod ChangeTexts
+pub mod FlagLines
+pub mod Displays

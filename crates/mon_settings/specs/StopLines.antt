@@ -8,7 +8,7 @@ use Rattle.model.specs.declared.session_fault.SessionFault.{SessionFault}
 use Rattle.model.specs.declared.session_fault.SessionFault.TheVariants.{AlreadySet, PortAddress}
 use Rattle.mon_lines.specs.declared.command.Stretch.{Stretch}
 use Rattle.mon_lines.specs.declared.command.WatchKind.TheVariants.{Change}
-use Rattle.mon_stops.specs.Stops.{changes_of, first_with, has_access, is_change, without, without_first_with}
+use Rattle.mon_stops.specs.Stops.{changed, changes_of, first_with, has_access, without, without_first_with}
 use Rattle.mon_stops.specs.declared.breaks.Break.{Break}
 use Rattle.mon_stops.specs.declared.watches.Watch.{Watch}
 
@@ -84,23 +84,35 @@ if_whole watches stretch s (Some why) = stretch_unwatched watches stretch s
 abbrev pub whole_or_none : List Watch → Stretch → Session × Option Unwatched → Session
 whole_or_none watches stretch tried = if_whole watches stretch tried.0 tried.1
 
--- Why a watch cannot be set, and the session then. Reads and writes are not the session's.
+-- Why a watch cannot be set, and the session then. Reads, writes and registers are not the session's.
+abbrev pub why_unchanged : Option Stretch → Session → Option Unwatched
+why_unchanged None s = None
+why_unchanged (Some stretch) s = (stretch_watched stretch s).1
+
 abbrev pub why_unwatched : Watch → Session → Option Unwatched
-why_unwatched watch s = if is_change watch then (stretch_watched watch.stretch s).1 else None
+why_unwatched watch s = why_unchanged (changed watch) s
 
 abbrev pub can_watch : Watch → Session → Bool
 can_watch watch s = is_none (why_unwatched watch s)
 
+abbrev pub with_changes : Option Stretch → List Watch → Session → Session
+with_changes None watches s = s
+with_changes (Some stretch) watches s
+    = whole_or_none watches stretch (stretch_watched stretch s)
+
 abbrev pub with_watch : Watch → List Watch → Session → Session
-with_watch watch watches s = if is_change watch
-    then whole_or_none watches watch.stretch (stretch_watched watch.stretch s) else s
+with_watch watch watches s = with_changes (changed watch) watches s
 
 -- ---- what stands at an address is deleted
 
 -- The session without the changes that a deleted watch has watched, if there was one.
+abbrev pub if_unwatched : List Watch → Session → Option Stretch → Session
+if_unwatched left s None = s
+if_unwatched left s (Some stretch) = stretch_unwatched left stretch s
+
 abbrev pub if_deleted : List Watch → Session → Option Watch → Session
 if_deleted left s None = s
-if_deleted left s (Some watch) = stretch_unwatched left watch.stretch s
+if_deleted left s (Some watch) = if_unwatched left s (changed watch)
 
 abbrev pub without_stops : ℕ → List Watch → Session → Session
 without_stops address watches s = if_deleted (without_first_with address watches)

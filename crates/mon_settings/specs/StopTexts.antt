@@ -1,17 +1,20 @@
 -- What is said of breaks and watches. Source: mos65.
-use Rattle.std.specs.Prelude.{ℕ, ◌&&◌, nat_lt, is_none, Bool, if◌then◌else◌, List, [], ◌∷◌, ◌++◌, length, Option, None, Some, codes}
+use Rattle.std.specs.Prelude.{ℕ, ◌&&◌, nat_lt, not, Bool, false, if◌then◌else◌, List, [], ◌∷◌, ◌++◌, length, Option, None, Some, codes}
 use Rattle.std.specs.List.{flat_map}
 use Rattle.mon_settings.specs.declared.watches.Unwatched.{Unwatched}
 use Rattle.mon_settings.specs.declared.watches.Unwatched.TheVariants.{Port, Full, Wide}
+use Rattle.mon_lines.specs.declared.command.Register.{Register}
 use Rattle.mon_lines.specs.declared.command.Test.{Test}
 use Rattle.mon_stops.specs.declared.breaks.Break.{Break}
 use Rattle.mon_stops.specs.declared.watches.Watch.{Watch}
+use Rattle.mon_stops.specs.declared.watches.Watch.TheVariants as watching
 use Rattle.mon_texts.specs.Places.{place_text}
-use Rattle.mon_texts.specs.Stops.{break_line, watch_line}
-use Rattle.source_map.specs.Lines.{PlacesView, line_at}
+use Rattle.mon_texts.specs.Stops.{break_line, register_name, register_watch_line, watch_line}
+use Rattle.source_map.specs.Lines.{PlacesView, row_at}
 use Rattle.source_map.specs.Names.{Named}
+use Rattle.source_map.specs.declared.rows.Row.{Row}
 use Rattle.mon_session.specs.declared.wording.TheConstants.{BREAKS_FULL}
-use Rattle.mon_settings.specs.declared.wording.TheConstants.{DELETED, NOTHING_AT, NOTHING_SET, NO_LINE_BEGINS, PORT_UNWATCHED, WATCHES_FULL, WATCH_TOO_WIDE}
+use Rattle.mon_settings.specs.declared.wording.TheConstants.{DELETED, NOTHING_AT, NOTHING_SET, NOT_WATCHED, NO_INSTRUCTION_BEGINS, PORT_UNWATCHED, WATCHES_FULL, WATCH_TOO_WIDE}
 
 -- ---- a break
 
@@ -19,11 +22,20 @@ use Rattle.mon_settings.specs.declared.wording.TheConstants.{DELETED, NOTHING_AT
 abbrev pub break_text : List Named → Break → List ℕ
 break_text names stop = break_line names stop.address stop.tests.items stop.times
 
--- That no line of the source begins at an address, if the source has lines.
-abbrev pub lines_text : PlacesView → ℕ → List ℕ
+-- Whether the line of a row is an instruction. Where there is no row, it is none.
+abbrev pub is_instruction : Option Row → Bool
+is_instruction None = false
+is_instruction (Some row) = row.is_instruction
+
+-- That no instruction of the source begins at an address, if the source has lines.
+abbrev pub none_begins : List Named → ℕ → List ℕ
+none_begins names address
+    = NO_INSTRUCTION_BEGINS.now ++ place_text names address ++ codes "\n"
+
+unfoldable pub lines_text : PlacesView → ℕ → List ℕ
 lines_text places address
-    = if nat_lt 0 (length places.lines) && is_none (line_at places.lines address)
-    then NO_LINE_BEGINS.now else []
+    = if nat_lt 0 (length places.lines) && not (is_instruction (row_at places.lines address))
+    then none_begins places.names address else []
 
 -- What is said of a break that is set, or that cannot be.
 abbrev pub set_text : PlacesView → ℕ → List Test → ℕ → Bool → List ℕ
@@ -33,9 +45,10 @@ set_text places address tests times is_set = if is_set
 
 -- ---- a watch
 
--- The line of a watch: the first and the last address, and what is watched.
+-- The line of a watch: the first and the last address, and what is watched; or the register.
 abbrev pub watch_text : List Named → Watch → List ℕ
-watch_text names watch = watch_line names watch.stretch watch.kind
+watch_text names (watching.Bytes stretch kind) = watch_line names stretch kind
+watch_text names (watching.Register register) = register_watch_line register
 
 -- Why a watch cannot be set.
 abbrev pub unwatched_text : Unwatched → List ℕ
@@ -55,6 +68,12 @@ watched_text names watch (Some why) = unwatched_text why
 abbrev pub deleted_text : List Named → ℕ → Bool → List ℕ
 deleted_text names address stood = (if stood then DELETED.now
     else NOTHING_AT.now) ++ place_text names address ++ codes "\n"
+
+-- What is said once a register is not watched, or where it was not watched.
+abbrev pub register_deleted_text : Register → Bool → List ℕ
+register_deleted_text register stood = if stood
+    then DELETED.now ++ (register_name register ++ codes "\n")
+    else register_name register ++ NOT_WATCHED.now
 
 -- All breaks and watches.
 abbrev pub stops_text : List Named → List Break → List Watch → List ℕ

@@ -3,15 +3,17 @@
 ghost use Rattle.std.specs.Prelude.{◌≡◌, ◌++◌, IfOk, OnErr, OnOk, if◌then◌else◌};
 ghost use Rattle.model.specs.Breakpoints.{break_set};
 ghost use Rattle.mon_settings.specs.StopLines.{is_set, or_same, with_break};
-ghost use Rattle.mon_settings.specs.StopTexts.{break_text, lines_text, set_text};
+ghost use Rattle.mon_settings.specs.StopTexts.{break_text, is_instruction, lines_text, none_begins};
+ghost use Rattle.mon_settings.specs.StopTexts.{set_text};
+ghost use Rattle.source_map.specs.Lines.{row_at};
 ghost use Rattle.mon_session.specs.Course.{IsEither, KeepsStops, ShowsOnly, course_of};
 
-use crate::wording::NO_LINE_BEGINS;
+use crate::wording::NO_INSTRUCTION_BEGINS;
 use mon_runs::SessionFault;
 use mon_session::Desk;
 use mon_session::wording::BREAKS_FULL;
 use mon_stops::Break;
-use mon_texts::push_break;
+use mon_texts::{push_break, push_place};
 use source_map::Places;
 use std::alloc::AllocError;
 
@@ -34,14 +36,36 @@ fn break_in_session(desk: &mut Desk, address: u16) -> Result<bool, AllocError>
     }
 }
 
-/// Says where no line of the source begins, if the source has lines.
+/// Returns whether an instruction of the source begins at an address.
+fn begins_instruction(places: &Places, address: u16) -> bool
+    ensures { result ≡ is_instruction (row_at places.now.lines address) }
+{
+    match places.row_at(address) {
+        None => false,
+        Some(row) => row.is_instruction,
+    }
+}
+
+/// Says that no instruction of the source begins at an address.
+fn say_none_begins(desk: &mut Desk, address: u16) -> Result<(), AllocError>
+    ensures shows { ShowsOnly desk.old desk.new }
+    ensures text { OnOk result
+        (desk.new.text.items ≡ desk.old.text.items ++ none_begins desk.old.places.names address) }
+{
+    desk.say(NO_INSTRUCTION_BEGINS)?;
+    push_place(&mut desk.text, &desk.places, address)?;
+    desk.say("\n")
+}
+
+/// Says where no instruction of the source begins, if the source has lines.
+#[tactic(auto, unfolding(crate::specs::StopTexts::lines_text))]
 fn say_lines(desk: &mut Desk, address: u16) -> Result<(), AllocError>
     ensures shows { ShowsOnly desk.old desk.new }
     ensures text { OnOk result
         (desk.new.text.items ≡ desk.old.text.items ++ lines_text desk.old.places address) }
 {
-    if desk.places.has_lines() && desk.places.line_at(address).is_none() {
-        return desk.say(NO_LINE_BEGINS);
+    if desk.places.has_lines() && !begins_instruction(&desk.places, address) {
+        return say_none_begins(desk, address);
     }
     Ok(())
 }
@@ -70,6 +94,7 @@ fn note_break(desk: &mut Desk, stop: Break) -> Result<(), AllocError>
     ensures watches { desk.new.stops.watches ≡ desk.old.stops.watches }
     ensures changes { desk.new.stops.changes ≡ desk.old.stops.changes }
     ensures places { desk.new.places ≡ desk.old.places }
+    ensures displays { desk.new.displays ≡ desk.old.displays }
     ensures text { OnOk result (desk.new.text.items ≡ desk.old.text.items
         ++ break_text desk.old.places.names stop ++ lines_text desk.old.places stop.address) }
 {
@@ -99,6 +124,7 @@ pub fn set_break(desk: &mut Desk, stop: Break) -> Result<(), AllocError>
     ensures changes { desk.new.stops.changes ≡ desk.old.stops.changes }
     ensures events { desk.new.events ≡ desk.old.events }
     ensures places { desk.new.places ≡ desk.old.places }
+    ensures displays { desk.new.displays ≡ desk.old.displays }
     ensures text { OnOk result (desk.new.text.items ≡ desk.old.text.items
         ++ set_text desk.old.places stop.address stop.tests.items stop.times
         (is_set (break_set stop.address desk.old.session))) }

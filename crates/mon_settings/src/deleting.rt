@@ -4,16 +4,19 @@ ghost use Rattle.std.specs.Prelude.{◌≡◌, ◌++◌, OnOk};
 ghost use Rattle.std.specs.List.{flat_map};
 ghost use Rattle.mon_settings.specs.StopLines.{changes_left, stands_at, without_stops};
 ghost use Rattle.mon_settings.specs.StopTexts.{break_text, deleted_text, list_text, stops_text};
-ghost use Rattle.mon_settings.specs.StopTexts.{watch_text};
+ghost use Rattle.mon_settings.specs.StopTexts.{register_deleted_text, watch_text};
 ghost use Rattle.mon_session.specs.Course.{ShowsOnly};
-ghost use Rattle.mon_stops.specs.Stops.{first_with, without, without_first_with};
+ghost use Rattle.mon_stops.specs.Stops.{first_with, is_watched, without, without_first_with};
+ghost use Rattle.mon_stops.specs.Stops.{without_register};
 
 use crate::breaks::push_stop;
-use crate::watches::unwatch;
-use crate::wording::{DELETED, NOTHING_AT, NOTHING_SET};
+use crate::watches::{push_watched, unwatch_changes};
+use crate::wording::{DELETED, NOT_WATCHED, NOTHING_AT, NOTHING_SET};
+use formatting::push_text;
+use mon_lines::Register;
 use mon_session::Desk;
 use mon_stops::{Break, Stops, Watch};
-use mon_texts::{push_place, push_watch};
+use mon_texts::{push_place, push_register};
 use source_map::Places;
 use std::alloc::AllocError;
 
@@ -31,6 +34,7 @@ fn forget(desk: &mut Desk, address: u16) -> bool
         (first_with address desk.old.stops.watches.items) }
     ensures events { desk.new.events ≡ desk.old.events }
     ensures places { desk.new.places ≡ desk.old.places }
+    ensures displays { desk.new.displays ≡ desk.old.displays }
     ensures stood { result
         ≡ stands_at address desk.old.stops.watches.items desk.old.session }
     ensures text { desk.new.text ≡ desk.old.text }
@@ -39,7 +43,7 @@ fn forget(desk: &mut Desk, address: u16) -> bool
     let _ = desk.stops.forget_break(address);
     match desk.stops.forget_watch(address) {
         Some(watch) => {
-            unwatch(desk, watch.stretch);
+            unwatch_changes(desk, watch);
             true
         }
         None => is_break,
@@ -73,12 +77,47 @@ pub fn delete(desk: &mut Desk, address: u16) -> Result<(), AllocError>
         (first_with address desk.old.stops.watches.items) }
     ensures events { desk.new.events ≡ desk.old.events }
     ensures places { desk.new.places ≡ desk.old.places }
+    ensures displays { desk.new.displays ≡ desk.old.displays }
     ensures text { OnOk result (desk.new.text.items ≡ desk.old.text.items
         ++ deleted_text desk.old.places.names address
         (stands_at address desk.old.stops.watches.items desk.old.session)) }
 {
     let stood = forget(desk, address);
     say_deleted(desk, address, stood)
+}
+
+/// Appends that a register is not watched any more, or was not watched.
+fn push_unwatched(text: &mut Vec<u8>, register: Register, stood: bool) -> Result<(), AllocError>
+    ensures { OnOk result (text.new.items
+        ≡ text.old.items ++ register_deleted_text register stood) }
+{
+    if stood {
+        push_text(text, DELETED)?;
+        push_register(text, register)?;
+        push_text(text, "\n")
+    } else {
+        push_register(text, register)?;
+        push_text(text, NOT_WATCHED)
+    }
+}
+
+/// Clears the first watch of a register, and says so.
+///
+/// Errors: `AllocError` if an allocation fails; the watch is cleared all the same.
+pub fn delete_register(desk: &mut Desk, register: Register) -> Result<(), AllocError>
+    ensures watches { desk.new.stops.watches.items
+        ≡ without_register register desk.old.stops.watches.items }
+    ensures session { desk.new.session ≡ desk.old.session }
+    ensures breaks { desk.new.stops.breaks ≡ desk.old.stops.breaks }
+    ensures changes { desk.new.stops.changes ≡ desk.old.stops.changes }
+    ensures events { desk.new.events ≡ desk.old.events }
+    ensures places { desk.new.places ≡ desk.old.places }
+    ensures displays { desk.new.displays ≡ desk.old.displays }
+    ensures text { OnOk result (desk.new.text.items ≡ desk.old.text.items
+        ++ register_deleted_text register (is_watched register desk.old.stops.watches.items)) }
+{
+    let stood = desk.stops.forget_register(register);
+    push_unwatched(&mut desk.text, register, stood)
 }
 
 /// Appends breaks, each on a line.
@@ -90,14 +129,6 @@ fn push_breaks(text: &mut Vec<u8>, breaks: &[Break], places: &Places) -> Result<
         push_stop(text, stop, places)?;
     }
     Ok(())
-}
-
-/// Appends a watch on a line.
-fn push_watched(text: &mut Vec<u8>, watch: Watch, places: &Places) -> Result<(), AllocError>
-    ensures { OnOk result (text.new.items ≡ text.old.items
-        ++ watch_text places.now.names watch) }
-{
-    push_watch(text, places, watch.stretch, watch.kind)
 }
 
 /// Appends watches, each on a line.

@@ -3,10 +3,12 @@
 ghost use Rattle.std.specs.Prelude.{◌≡◌, ◌++◌, OnOk};
 ghost use Rattle.model.specs.declared.event.Event.TheVariants.{Irq, Nmi, Reset, Set};
 ghost use Rattle.mon_settings.specs.ChangeTexts.{if_masked, irq_text, level_text, nmi_text, shown_event};
+ghost use Rattle.mon_settings.specs.FlagLines.{flag_setting, with_flag};
 ghost use Rattle.mon_session.specs.Course.{KeepsStops, ShowsOnly, course_of, happened};
 
 use crate::wording::{IRQ_MASKED, IRQ_NEXT, NMI_NEXT, NO_IRQ};
-use model::Setting;
+use model::{Flags, Setting};
+use mon_lines::Flag;
 use mon_runs::Event;
 use mon_session::Desk;
 use std::alloc::AllocError;
@@ -35,6 +37,35 @@ pub fn set(desk: &mut Desk, setting: Setting) -> Result<(), AllocError>
         ++ shown_event desk.old.places.names (Set setting) (course_of desk.old)) }
 {
     show_event(desk, Event::Set(setting))
+}
+
+/// Returns flags of which one has a value, and the others what they had.
+fn with_flag(flag: Flag, value: bool, flags: Flags) -> Flags
+    ensures { result ≡ with_flag flag value flags }
+{
+    match flag {
+        Flag::N => Flags { n: value, ..flags },
+        Flag::V => Flags { v: value, ..flags },
+        Flag::D => Flags { d: value, ..flags },
+        Flag::I => Flags { i: value, ..flags },
+        Flag::Z => Flags { z: value, ..flags },
+        Flag::C => Flags { c: value, ..flags },
+    }
+}
+
+/// Sets a flag, and shows the state.
+///
+/// Errors: `AllocError` if an allocation fails; the flag is set all the same.
+pub fn set_flag(desk: &mut Desk, flag: Flag, value: bool) -> Result<(), AllocError>
+    ensures course { course_of desk.new
+        ≡ happened (Set (flag_setting flag value desk.old.session.current)) (course_of desk.old) }
+    ensures stops { KeepsStops desk.old desk.new }
+    ensures text { OnOk result (desk.new.text.items ≡ desk.old.text.items
+        ++ shown_event desk.old.places.names
+        (Set (flag_setting flag value desk.old.session.current)) (course_of desk.old)) }
+{
+    let flags = with_flag(flag, value, desk.session.regs().flags);
+    set(desk, Setting::P(flags.to_byte(false)))
 }
 
 /// Returns when an interrupt is entered.

@@ -1,21 +1,23 @@
 //! Lines that set a watch.
 
-ghost use Rattle.std.specs.Prelude.{◌≡◌, ◌≤◌, ◌+◌, ◌++◌, ◌∷◌, [], ℕ, IfOk, OnErr, OnOk};
+ghost use Rattle.std.specs.Prelude.{◌≡◌, ◌≤◌, ◌+◌, ◌++◌, ◌∷◌, [], ℕ, IfOk, OnErr, OnOk, Some};
 ghost use Rattle.std.specs.Prelude.{if◌then◌else◌};
 ghost use Rattle.model.specs.Breakpoints.{watch_set};
 ghost use Rattle.mon_settings.specs.StopLines.{all_unwatched, all_watched, can_watch, or_same};
-ghost use Rattle.mon_settings.specs.StopLines.{stretch_unwatched, stretch_watched, unwatched};
-ghost use Rattle.mon_settings.specs.StopLines.{why_unset, why_unwatched, with_watch};
-ghost use Rattle.mon_settings.specs.StopTexts.{unwatched_text, watched_text};
+ghost use Rattle.mon_settings.specs.StopLines.{if_unwatched, stretch_unwatched, stretch_watched};
+ghost use Rattle.mon_settings.specs.StopLines.{unwatched, why_unchanged, why_unset, why_unwatched};
+ghost use Rattle.mon_settings.specs.StopLines.{with_changes, with_watch};
+ghost use Rattle.mon_settings.specs.StopTexts.{unwatched_text, watch_text, watched_text};
 ghost use Rattle.mon_session.specs.Course.{KeepsStops};
-ghost use Rattle.mon_stops.specs.Stops.{new_changes};
+ghost use Rattle.mon_stops.specs.Stops.{changed, new_changes};
 
 use crate::wording::{PORT_UNWATCHED, WATCH_TOO_WIDE, WATCHES_FULL};
 use mon_lines::{Stretch, WatchKind};
 use mon_runs::SessionFault;
 use mon_session::Desk;
 use mon_stops::Watch;
-use mon_texts::push_watch;
+use mon_texts::{push_register_watch, push_watch};
+use source_map::Places;
 use std::alloc::AllocError;
 
 /// The most bytes that are watched for changes.
@@ -130,7 +132,7 @@ fn unwatch_from(desk: &mut Desk, first: u16, count: u32)
 }
 
 /// Ends the watch of changes in the session at each address of a stretch that no watch has.
-pub fn unwatch(desk: &mut Desk, stretch: Stretch)
+fn unwatch(desk: &mut Desk, stretch: Stretch)
     ensures session { desk.new.session
         ≡ stretch_unwatched desk.old.stops.watches.items stretch desk.old.session }
     ensures events { desk.new.events ≡ desk.old.events }
@@ -141,26 +143,42 @@ pub fn unwatch(desk: &mut Desk, stretch: Stretch)
     unwatch_from(desk, stretch.first, count);
 }
 
-/// Watches a stretch in the session, whole or not at all, if its changes are watched. Returns
-/// why it cannot, if it cannot. Some bytes are watched if memory ran out.
-fn watch_in_session(desk: &mut Desk, watch: Watch) -> Result<Option<Unwatched>, AllocError>
+/// Watches the changes of a stretch in the session, whole or not at all. Returns why it cannot, if
+/// it cannot. Some bytes are watched if memory ran out.
+fn watch_whole(desk: &mut Desk, stretch: Stretch) -> Result<Option<Unwatched>, AllocError>
     ensures session { OnOk result (desk.new.session
-        ≡ with_watch watch desk.old.stops.watches.items desk.old.session) }
-    ensures why { IfOk result (λ why. why ≡ why_unwatched watch desk.old.session) }
+        ≡ with_changes (Some stretch) desk.old.stops.watches.items desk.old.session) }
+    ensures why { IfOk result
+        (λ why. why ≡ why_unchanged (Some stretch) desk.old.session) }
     ensures memory { OnErr result ((n : ℕ)
-        × (desk.new.session ≡ (all_watched watch.stretch.first n desk.old.session).0)) }
+        × (desk.new.session ≡ (all_watched stretch.first n desk.old.session).0)) }
     ensures events { desk.new.events ≡ desk.old.events }
     ensures stops { KeepsStops desk.old desk.new }
     ensures text { desk.new.text ≡ desk.old.text }
 {
-    if !watch.is_change() {
-        return Ok(None);
-    }
-    match watch_changes(desk, watch.stretch)? {
+    match watch_changes(desk, stretch)? {
         Some(why) => {
-            unwatch(desk, watch.stretch);
+            unwatch(desk, stretch);
             Ok(Some(why))
         }
+        None => Ok(None),
+    }
+}
+
+/// Watches in the session what a watch has there: bytes whose changes are watched, whole or not at
+/// all. Returns why it cannot, if it cannot. Some bytes are watched if memory ran out.
+fn watch_in_session(desk: &mut Desk, watch: Watch) -> Result<Option<Unwatched>, AllocError>
+    ensures session { OnOk result (desk.new.session
+        ≡ with_watch watch desk.old.stops.watches.items desk.old.session) }
+    ensures why { IfOk result (λ why. why ≡ why_unwatched watch desk.old.session) }
+    ensures memory { OnErr result ((first : ℕ) × (n : ℕ)
+        × (desk.new.session ≡ (all_watched first n desk.old.session).0)) }
+    ensures events { desk.new.events ≡ desk.old.events }
+    ensures stops { KeepsStops desk.old desk.new }
+    ensures text { desk.new.text ≡ desk.old.text }
+{
+    match watch.changed() {
+        Some(stretch) => watch_whole(desk, stretch),
         None => Ok(None),
     }
 }
@@ -183,6 +201,7 @@ pub fn set_watch(desk: &mut Desk, watch: Watch) -> Result<(), AllocError>
     ensures breaks { desk.new.stops.breaks ≡ desk.old.stops.breaks }
     ensures events { desk.new.events ≡ desk.old.events }
     ensures places { desk.new.places ≡ desk.old.places }
+    ensures displays { desk.new.displays ≡ desk.old.displays }
     ensures text { OnOk result (desk.new.text.items ≡ desk.old.text.items
         ++ watched_text desk.old.places.names watch (why_unwatched watch desk.old.session)) }
 {
@@ -190,7 +209,32 @@ pub fn set_watch(desk: &mut Desk, watch: Watch) -> Result<(), AllocError>
         Some(why) => desk.say(words_of(why)),
         None => {
             desk.stops.note_watch(watch)?;
-            push_watch(&mut desk.text, &desk.places, watch.stretch, watch.kind)
+            push_watched(&mut desk.text, watch, &desk.places)
         }
+    }
+}
+
+/// Appends a watch on a line.
+pub fn push_watched(text: &mut Vec<u8>, watch: Watch, places: &Places) -> Result<(), AllocError>
+    ensures { OnOk result (text.new.items ≡ text.old.items
+        ++ watch_text places.now.names watch) }
+{
+    match watch {
+        Watch::Bytes { stretch, kind } => push_watch(text, places, stretch, kind),
+        Watch::Register(register) => push_register_watch(text, register),
+    }
+}
+
+/// Ends the watch of changes in the session at each address of a deleted watch for changes that no
+/// other watch has.
+pub fn unwatch_changes(desk: &mut Desk, watch: Watch)
+    ensures session { desk.new.session
+        ≡ if_unwatched desk.old.stops.watches.items desk.old.session (changed watch) }
+    ensures events { desk.new.events ≡ desk.old.events }
+    ensures stops { KeepsStops desk.old desk.new }
+    ensures text { desk.new.text ≡ desk.old.text }
+{
+    if let Some(stretch) = watch.changed() {
+        unwatch(desk, stretch);
     }
 }

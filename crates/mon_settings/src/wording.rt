@@ -2,7 +2,7 @@
 //! them.
 
 // Breaks and watches.
-pub const NO_LINE_BEGINS: &str = "no line of the source begins there\n";
+pub const NO_INSTRUCTION_BEGINS: &str = "no instruction of the source begins at ";
 
 pub const PORT_UNWATCHED: &str =
     "no byte of memory stands at the console's port; watch it with read or write\n";
@@ -15,7 +15,18 @@ pub const DELETED: &str = "deleted: ";
 
 pub const NOTHING_AT: &str = "there is no break and no watch at ";
 
+pub const NOT_WATCHED: &str = " is not watched\n";
+
 pub const NOTHING_SET: &str = "no break and no watch is set\n";
+
+// Bytes that are shown at each stop.
+pub const DISPLAY: &str = "display:";
+
+pub const DISPLAYS_FULL: &str = "16 bytes are displayed; undisplay one first\n";
+
+pub const NOTHING_DISPLAYED: &str = "nothing is displayed\n";
+
+pub const NOT_DISPLAYED: &str = " is not displayed\n";
 
 // Interrupts.
 pub const IRQ_MASKED: &str = "IRQ is asked for, but I is 1: it waits until a CLI\n";

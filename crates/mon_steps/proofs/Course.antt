@@ -11,6 +11,7 @@ use Rattle.mon_lines.specs.declared.command.Undoing.TheVariants.{Events, Over}
 use Rattle.mon_runs.specs.Back.{back_over, gone_over, was_return}
 use Rattle.mon_session.specs.Events.{Kept, with_undone}
 use Rattle.mon_session.specs.Course.{Course}
+use Rattle.mon_stops.specs.declared.stops.Stops.{Stops}
 use Rattle.mon_steps.specs.BackLines.{remade, remade_one, undone}
 use Rattle.mon_steps.specs.BackLines.{undone_by, undone_by_watches, undone_over, undone_to_stop}
 use Rattle.mon_session.specs.Course.{IsEither}
@@ -33,21 +34,21 @@ none_over c held =
     (λ i. let way = back_none c.0 held i in (way.1, with_undone way.0 c.1))
     ∙ (λ i. (c.0, none_undone c.1 i))
 
-pub none_to_stop : (watched : List ℕ) (c : Course) → length c.0.earlier ≡ 0
-    → undone_to_stop watched c ≡ c
+pub none_to_stop : (stops : Stops) (c : Course) → length c.0.earlier ≡ 0
+    → undone_to_stop stops c ≡ c
 unfolding recalled
-none_to_stop watched c held =
-    ap (λ n. ((recalled watched n c.0).1, with_undone (recalled watched n c.0).0 c.1)) held
+none_to_stop stops c held =
+    ap (λ n. ((recalled stops n c.0).1, with_undone (recalled stops n c.0).0 c.1)) held
     ∙ (λ i. (c.0, none_undone c.1 i))
 
 none_by_choice : (b : Bool) (c d : Course) → d ≡ c → cond b c d ≡ c
 none_by_choice true c d h = refl
 none_by_choice false c d h = h
 
-pub none_by_watches : (watched : List ℕ) (c : Course) → length c.0.earlier ≡ 0
-    → undone_by_watches watched c ≡ c
-none_by_watches watched c held = none_by_choice (nat_lt 256 (length watched)) c
-    (undone_to_stop watched c) (none_to_stop watched c held)
+pub none_by_watches : (stops : Stops) (c : Course) → length c.0.earlier ≡ 0
+    → undone_by_watches stops c ≡ c
+none_by_watches stops c held = none_by_choice (nat_lt 256 (length stops.changes.items)) c
+    (undone_to_stop stops c) (none_to_stop stops c held)
 
 pub none_held : (undoing : Undoing) (c : Course) → length c.0.earlier ≡ 0
     → undone_by undoing c ≡ c

@@ -38,7 +38,7 @@ unfolding stepped
 steps-over left w s whole h none = sym (h ∙ ap (λ j. stepped j w s) none)
 
 pub kept-none : (a : Desk) → KeepsWatches a a
-kept-none a = (refl, refl, refl)
+kept-none a = (refl, refl, refl, refl)
 
 pub kept-then : (a b c : Desk) → KeepsWatches a b → KeepsWatches b c → KeepsWatches a c
-kept-then a b c p q = (q.0 ∙ p.0, q.1 ∙ p.1, q.2 ∙ p.2)
+kept-then a b c p q = (q.0 ∙ p.0, q.1 ∙ p.1, q.2 ∙ p.2, q.3 ∙ p.3)

@@ -10,6 +10,7 @@ use Rattle.mon_lines.specs.declared.command.Undoing.TheVariants.{Events, Over}
 use Rattle.mon_runs.specs.Back.{back_over}
 use Rattle.mon_session.specs.Events.{with_redone, with_undone}
 use Rattle.mon_session.specs.Course.{Course}
+use Rattle.mon_stops.specs.declared.stops.Stops.{Stops}
 
 -- ---- going back
 
@@ -56,15 +57,15 @@ undone_by (Events count) course = undone_if_any count course
 undone_by Over course = undone_over course
 
 -- All events back to the last stop are undone, or back to the oldest state held. A stop is a break
--- or a change at a watched address.
-abbrev pub undone_to_stop : List ℕ → Course → Course
-undone_to_stop watched course = let found = last_stop watched course.0 in
+-- or a change at a watched address or of a watched register.
+abbrev pub undone_to_stop : Stops → Course → Course
+undone_to_stop stops course = let found = last_stop stops course.0 in
     (found.1, with_undone found.0 course.1)
 
 -- No more than 256 addresses are looked at on the way back.
-abbrev pub undone_by_watches : List ℕ → Course → Course
-undone_by_watches watched course = if nat_lt 256 (length watched) then course
-    else undone_to_stop watched course
+abbrev pub undone_by_watches : Stops → Course → Course
+undone_by_watches stops course = if nat_lt 256 (length stops.changes.items) then course
+    else undone_to_stop stops course
 
 -- The last events are undone, and made again.
 abbrev pub again : ℕ → Course → Course

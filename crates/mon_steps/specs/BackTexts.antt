@@ -15,6 +15,7 @@ use Rattle.mon_runs.specs.Back.{back_over}
 use Rattle.mon_texts.specs.Made.{made_line}
 use Rattle.mon_texts.specs.Places.{place_text}
 use Rattle.mon_runs.specs.Recall.{last_stop}
+use Rattle.mon_stops.specs.declared.stops.Stops.{Stops}
 use Rattle.source_map.specs.Lines.{PlacesView}
 use Rattle.source_map.specs.Names.{Named}
 use Rattle.mon_steps.specs.BackLines.{most_remade, remade, remade_one, undone}
@@ -79,17 +80,17 @@ way_text names s count held = if is_at_break s
     else if count == held then BACK_AT_OLDEST.now
     else BACK_BEFORE_CHANGE.now
 
-abbrev pub stop_text : List ℕ → List Named → Course → List ℕ
-stop_text watched names course =
-    let found = last_stop watched course.0 in
+abbrev pub stop_text : Stops → List Named → Course → List ℕ
+stop_text stops names course =
+    let found = last_stop stops course.0 in
     way_text names found.1 found.0 (length course.0.earlier)
     ++ (codes ", " ++ undone_text found.0 found.1.current names)
 
-abbrev pub undo_to_stop_text : List ℕ → List Named → Course → List ℕ
-undo_to_stop_text watched names course = if nat_lt 256 (length watched)
+abbrev pub undo_to_stop_text : Stops → List Named → Course → List ℕ
+undo_to_stop_text stops names course = if nat_lt 256 (length stops.changes.items)
     then TOO_MANY_WATCHED.now
     else if length course.0.earlier == 0 then none_held
-    else stop_text watched names course
+    else stop_text stops names course
 
 -- ---- again
 

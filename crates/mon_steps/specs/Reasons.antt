@@ -10,8 +10,10 @@ use Rattle.mon_runs.specs.declared.ended.Ended.{Ended}
 use Rattle.source_map.specs.Names.{Named}
 use Rattle.mon_texts.specs.Faults.{fault_text}
 use Rattle.mon_texts.specs.Places.{place_text}
+use Rattle.mon_texts.specs.Stops.{number_text, register_name}
+use Rattle.mon_stops.specs.declared.changes.RegisterChange.{RegisterChange}
 use Rattle.mon_texts.specs.declared.wording.TheConstants.{BREAK_AT}
-use Rattle.mon_steps.specs.declared.wording.TheConstants.{AFTER, DONE, IS_NOW, NO_HANDLER, NO_STOP, RETURNED, STEP, STEPS, STUCK, WAITS, WATCH, WATCHED_READ, WATCHED_WRITE}
+use Rattle.mon_steps.specs.declared.wording.TheConstants.{AFTER, AND_IS_NOW, DONE, IS_NOW, NO_HANDLER, NO_STOP, RETURNED, STEP, STEPS, STUCK, WAITS, WAS, WATCH, WATCHED_READ, WATCHED_WRITE}
 
 abbrev pub break_text : List Named → ℕ → List ℕ
 break_text names address = BREAK_AT.now ++ place_text names address
@@ -24,6 +26,11 @@ stop_text memory names (Watch address) = WATCH.now ++ place_text names address
 stop_text memory names Limit = DONE.now
 stop_text memory names (Refused fault) = fault_text names fault
 
+-- What a watched register was, and what it is now.
+unfoldable pub change_text : RegisterChange → List ℕ
+change_text change = WATCH.now ++ (register_name change.register ++ (WAS.now
+    ++ (number_text change.before ++ (AND_IS_NOW.now ++ number_text change.after))))
+
 -- Why a run has ended. Only a run out of a subroutine has a goal to meet.
 abbrev pub why_text : List ℕ → List Named → EndWhy → List ℕ
 why_text memory names end_why.Met = RETURNED.now
@@ -31,6 +38,7 @@ why_text memory names (end_why.Stopped why) = stop_text memory names why
 why_text memory names end_why.Many = NO_STOP.now
 why_text memory names (end_why.Read at) = WATCHED_READ.now ++ place_text names at
 why_text memory names (end_why.Written at) = WATCHED_WRITE.now ++ place_text names at
+why_text memory names (end_why.Changed change) = change_text change
 why_text memory names end_why.Stuck = STUCK.now
 why_text memory names end_why.NoHandler = NO_HANDLER.now
 why_text memory names end_why.Waits = WAITS.now

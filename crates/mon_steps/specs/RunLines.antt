@@ -38,10 +38,11 @@ Stand = Course × List Break
 abbrev pub stand_of : Desk → Stand
 stand_of desk = (course_of desk, desk.stops.breaks.items)
 
--- Watches, names and lines are what they were.
+-- Watches, names, lines, and what is shown at each stop are what they were.
 abbrev pub KeepsWatches : Desk → Desk → Type 0
 KeepsWatches old new = (new.stops.watches ≡ old.stops.watches)
     × (new.stops.changes ≡ old.stops.changes) × (new.places ≡ old.places)
+    × (new.displays ≡ old.displays)
 
 abbrev pub watches_of : Desk → List Watch
 watches_of desk = desk.stops.watches.items
@@ -85,6 +86,7 @@ is_limit (end_why.Stopped (why.Refused fault)) = false
 is_limit end_why.Many = false
 is_limit (end_why.Read address) = false
 is_limit (end_why.Written address) = false
+is_limit (end_why.Changed change) = false
 is_limit end_why.Stuck = false
 is_limit end_why.NoHandler = false
 is_limit end_why.Waits = false

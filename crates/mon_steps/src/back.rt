@@ -184,14 +184,14 @@ fn tell_also_undone(desk: &mut Desk, count: u32) -> Result<(), AllocError>
 /// returns how many those are.
 fn go_to_stop(desk: &mut Desk) -> u32
     requires { length desk.old.stops.changes.items ≤ 256 }
-    ensures found { last_stop desk.old.stops.changes.items desk.old.session
+    ensures found { last_stop desk.old.stops desk.old.session
         ≡ (result, desk.new.session) }
     ensures course { course_of desk.new
-        ≡ undone_to_stop desk.old.stops.changes.items (course_of desk.old) }
+        ≡ undone_to_stop desk.old.stops (course_of desk.old) }
     ensures stops { KeepsStops desk.old desk.new }
     ensures text { desk.new.text ≡ desk.old.text }
 {
-    let count = back_to_stop(&mut desk.session, desk.stops.changes.as_slice());
+    let count = back_to_stop(&mut desk.session, &desk.stops);
     desk.events.note_undone(count);
     count
 }
@@ -200,10 +200,10 @@ fn go_to_stop(desk: &mut Desk) -> u32
 fn undo_to(desk: &mut Desk) -> Result<(), AllocError>
     requires { length desk.old.stops.changes.items ≤ 256 }
     ensures course { course_of desk.new
-        ≡ undone_to_stop desk.old.stops.changes.items (course_of desk.old) }
+        ≡ undone_to_stop desk.old.stops (course_of desk.old) }
     ensures stops { KeepsStops desk.old desk.new }
     ensures text { OnOk result (desk.new.text.items ≡ desk.old.text.items
-        ++ stop_text desk.old.stops.changes.items desk.old.places.names (course_of desk.old)) }
+        ++ stop_text desk.old.stops desk.old.places.names (course_of desk.old)) }
 {
     let held = desk.session.held();
     let count = go_to_stop(desk);
@@ -217,10 +217,10 @@ fn undo_to(desk: &mut Desk) -> Result<(), AllocError>
 /// Errors: `AllocError` if an allocation fails; the events are undone all the same.
 pub fn undo_to_stop(desk: &mut Desk) -> Result<(), AllocError>
     ensures course { course_of desk.new
-        ≡ undone_by_watches desk.old.stops.changes.items (course_of desk.old) }
+        ≡ undone_by_watches desk.old.stops (course_of desk.old) }
     ensures stops { KeepsStops desk.old desk.new }
     ensures text { OnOk result (desk.new.text.items ≡ desk.old.text.items
-        ++ undo_to_stop_text desk.old.stops.changes.items desk.old.places.names
+        ++ undo_to_stop_text desk.old.stops desk.old.places.names
         (course_of desk.old)) }
 {
     if desk.stops.changes.len() > 256 {

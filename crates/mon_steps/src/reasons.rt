@@ -2,18 +2,19 @@
 
 ghost use Rattle.std.specs.Prelude.{◌≡◌, ◌++◌, OnOk};
 ghost use Rattle.model.specs.declared.run_end.Why.TheVariants.{Watch};
-ghost use Rattle.mon_steps.specs.Reasons.{after_text, break_text, end_line, steps_text, stop_text};
-ghost use Rattle.mon_steps.specs.Reasons.{why_text};
+ghost use Rattle.mon_steps.specs.Reasons.{after_text, break_text, change_text, end_line, steps_text};
+ghost use Rattle.mon_steps.specs.Reasons.{stop_text, why_text};
 ghost use Rattle.mon_texts.specs.Places.{place_text};
 
 use crate::wording::{
-    AFTER, DONE, IS_NOW, NO_HANDLER, NO_STOP, RETURNED, STEP, STEPS, STUCK, WAITS, WATCH,
-    WATCHED_READ, WATCHED_WRITE,
+    AFTER, AND_IS_NOW, DONE, IS_NOW, NO_HANDLER, NO_STOP, RETURNED, STEP, STEPS, STUCK, WAITS, WAS,
+    WATCH, WATCHED_READ, WATCHED_WRITE,
 };
 use formatting::{push_byte, push_count, push_text};
 use mon_runs::{EndWhy, Ended, Session, Why};
+use mon_stops::RegisterChange;
 use mon_texts::wording::BREAK_AT;
-use mon_texts::{push_fault, push_place};
+use mon_texts::{push_fault, push_number, push_place, push_register};
 use source_map::Places;
 use std::alloc::AllocError;
 
@@ -91,6 +92,19 @@ fn push_words_at(
     push_place(text, places, address)
 }
 
+/// Appends what a watched register was, and what it is now.
+#[tactic(auto, unfolding(crate::specs::Reasons::change_text))]
+fn push_change(text: &mut Vec<u8>, change: RegisterChange) -> Result<(), AllocError>
+    ensures { OnOk result (text.new.items ≡ text.old.items ++ change_text change) }
+{
+    push_text(text, WATCH)?;
+    push_register(text, change.register)?;
+    push_text(text, WAS)?;
+    push_number(text, change.before)?;
+    push_text(text, AND_IS_NOW)?;
+    push_number(text, change.after)
+}
+
 /// Appends why a run has ended.
 fn push_why(
     text: &mut Vec<u8>,
@@ -107,6 +121,7 @@ fn push_why(
         EndWhy::Many => push_text(text, NO_STOP),
         EndWhy::Read(at) => push_words_at(text, places, WATCHED_READ, at),
         EndWhy::Written(at) => push_words_at(text, places, WATCHED_WRITE, at),
+        EndWhy::Changed(change) => push_change(text, change),
         EndWhy::Stuck => push_text(text, STUCK),
         EndWhy::NoHandler => push_text(text, NO_HANDLER),
         EndWhy::Waits => push_text(text, WAITS),

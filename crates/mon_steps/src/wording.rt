@@ -15,6 +15,10 @@ pub const WATCHED_WRITE: &str = "watch: a write to ";
 
 pub const IS_NOW: &str = " is now $";
 
+pub const WAS: &str = " was $";
+
+pub const AND_IS_NOW: &str = " and is now $";
+
 pub const WATCH: &str = "watch: ";
 
 pub const DONE: &str = "done";

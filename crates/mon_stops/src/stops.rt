@@ -5,13 +5,14 @@ ghost use Rattle.std.specs.Prelude.{◌+◌, ◌≤◌, length, remove, position
 ghost use Rattle.std.specs.List.{list_all, list_any};
 ghost use Rattle.mon_stops.specs.Stops.{addresses, after_visit, changes_of, first_with, has, has_access};
 ghost use Rattle.mon_stops.specs.Stops.{has_changes_only, is_at, is_plain, is_plain_break, new_among};
-ghost use Rattle.mon_stops.specs.Stops.{new_changes, stops_at, without};
-ghost use Rattle.mon_stops.specs.Stops.{without_first_with};
+ghost use Rattle.mon_stops.specs.Stops.{is_of, is_watched, new_changes, register_change, stops_at};
+ghost use Rattle.mon_stops.specs.Stops.{without, without_first_with, without_register};
 
 use crate::breaks::Break;
+use crate::changes::{RegisterChange, first_change};
 use crate::watches::{Watch, has_access};
-use debugger::Session;
-use mon_lines::WatchKind;
+use debugger::{Regs, Session};
+use mon_lines::{Register, WatchKind};
 use std::alloc::{AllocError, Global};
 
 /// The breaks and the watches that lines have set.
@@ -37,6 +38,14 @@ fn index_with(watches: &[Watch], address: u16) -> Option<usize>
     ensures within { IfSome result (λ index. index < length watches.now) }
 {
     watches.iter().position(|watch| watch.has(address))
+}
+
+/// Returns the index of the first watch of a register.
+fn index_of_register(watches: &[Watch], register: Register) -> Option<usize>
+    ensures first { result ≡ position (is_of register) watches.now }
+    ensures within { IfSome result (λ index. index < length watches.now) }
+{
+    watches.iter().position(|watch| watch.is_of(register))
 }
 
 /// Removes from `changes` the addresses that no watch for changes has.
@@ -93,12 +102,14 @@ fn add_changes(changes: &mut Vec<u16>, watches: &[Watch], watch: Watch) -> Resul
         (changes.new.items ≡ changes.old.items ++ new_changes watches.now watch) }
     ensures err { OnErr result (changes.new.items ≡ changes.old.items) }
 {
-    if !watch.is_change() {
-        return Ok(());
+    match watch.changed() {
+        None => Ok(()),
+        Some(stretch) => {
+            let first = stretch.first;
+            let count = (stretch.last as u32 + 1).saturating_sub(first as u32);
+            add_stretch(changes, watches, first, count)
+        }
     }
-    let first = watch.stretch.first;
-    let count = (watch.stretch.last as u32 + 1).saturating_sub(first as u32);
-    add_stretch(changes, watches, first, count)
 }
 
 /// Returns whether no break has tests or times.
@@ -237,6 +248,31 @@ impl Stops {
             }
             None => None,
         }
+    }
+
+    /// Forgets the first watch of a register, and returns whether there was one.
+    pub fn forget_register(&mut self, register: Register) -> bool
+        ensures found { result ≡ is_watched register self.old.watches.items }
+        ensures after { self.new.watches.items
+            ≡ without_register register self.old.watches.items }
+        ensures breaks { self.new.breaks ≡ self.old.breaks }
+        ensures changes { self.new.changes ≡ self.old.changes }
+    {
+        match index_of_register(self.watches.as_slice(), register) {
+            Some(index) => {
+                let _ = self.watches.remove(index);
+                true
+            }
+            None => false,
+        }
+    }
+
+    /// Returns the change of the first watched register that differs between the registers before a
+    /// step and those after it, if one does.
+    pub fn register_change(&self, before: Regs, after: Regs) -> Option<RegisterChange>
+        ensures { result ≡ register_change self.now.watches.items before after }
+    {
+        first_change(self.watches.as_slice(), before, after)
     }
 
     /// Returns whether an access of a kind at an address stops a run.

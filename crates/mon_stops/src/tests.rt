@@ -2,24 +2,39 @@
 
 ghost use Rattle.std.specs.Prelude.{◌≡◌};
 ghost use Rattle.std.specs.List.{list_all};
-ghost use Rattle.mon_stops.specs.Stops.{all_hold, compares, holds, register_of, value_of};
+ghost use Rattle.model.specs.Arithmetic.{bit};
+ghost use Rattle.mon_stops.specs.Stops.{all_hold, compares, has_flag, holds, register_of, value_of};
 
-use debugger::Session;
-use mon_lines::{Compare, Left, Register, Test};
+use crate::changes::in_regs;
+use debugger::{Flags, Session};
+use mon_lines::{Compare, Flag, Left, Register, Test};
 
 /// Returns the value of a register.
 fn register_of(session: &Session, register: Register) -> u16
     ensures { result ≡ register_of register session.now.current }
 {
-    let regs = session.regs();
-    match register {
-        Register::A => regs.a as u16,
-        Register::X => regs.x as u16,
-        Register::Y => regs.y as u16,
-        Register::S => regs.s as u16,
-        Register::P => regs.flags.to_byte(false) as u16,
-        Register::Pc => regs.pc,
+    in_regs(register, session.regs())
+}
+
+/// Returns whether a flag is 1.
+fn has_flag(flag: Flag, flags: Flags) -> bool
+    ensures { result ≡ has_flag flag flags }
+{
+    match flag {
+        Flag::N => flags.n,
+        Flag::V => flags.v,
+        Flag::D => flags.d,
+        Flag::I => flags.i,
+        Flag::Z => flags.z,
+        Flag::C => flags.c,
     }
+}
+
+/// Returns a flag, which is 0 or 1.
+fn flag_of(session: &Session, flag: Flag) -> u16
+    ensures { result ≡ bit (has_flag flag session.now.current.regs.flags) }
+{
+    has_flag(flag, session.regs().flags) as u16
 }
 
 /// Returns the value of the left side of a test.
@@ -28,6 +43,7 @@ fn value_of(session: &Session, left: Left) -> u16
 {
     match left {
         Left::Register(register) => register_of(session, register),
+        Left::Flag(flag) => flag_of(session, flag),
         Left::Byte(address) => session.peek(address) as u16,
     }
 }

@@ -34,5 +34,5 @@ pub use screen::{push_output_since, push_screen};
 pub use slips::push_slip;
 pub use stack::push_stack;
 pub use state::{push_flags, push_state};
-pub use stops::{push_break, push_watch};
+pub use stops::{push_break, push_number, push_register, push_register_watch, push_watch};
 pub use stores::push_stores;

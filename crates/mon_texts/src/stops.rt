@@ -3,14 +3,15 @@
 ghost use Rattle.std.specs.Prelude.{◌≡◌, ◌++◌, OnOk};
 ghost use Rattle.std.specs.List.{flat_map};
 ghost use Rattle.source_map.specs.Names.{name_at};
-ghost use Rattle.mon_texts.specs.Stops.{break_line, further_test, kind_text, last_text};
+ghost use Rattle.mon_texts.specs.Stops.{break_line, flag_name, further_test, kind_text, last_text};
 ghost use Rattle.mon_texts.specs.Stops.{left_text, name_or_digits, number_text, register_name};
-ghost use Rattle.mon_texts.specs.Stops.{sign, test_text, tests_text, times_text, watch_line};
+ghost use Rattle.mon_texts.specs.Stops.{register_watch_line, sign, test_text, tests_text};
+ghost use Rattle.mon_texts.specs.Stops.{times_text, watch_line};
 
 use crate::places::push_place;
-use crate::wording::{AND, BREAK_AT, IF, READS, TIMES, TO, WATCH_AT, WRITES};
+use crate::wording::{AND, BREAK_AT, IF, READS, TIMES, TO, WATCH_AT, WATCH_OF, WRITES};
 use formatting::{push_address, push_byte, push_count, push_text};
-use mon_lines::{Compare, Left, Register, Stretch, Test, WatchKind};
+use mon_lines::{Compare, Flag, Left, Register, Stretch, Test, WatchKind};
 use source_map::Places;
 use std::alloc::AllocError;
 
@@ -25,6 +26,29 @@ fn name_of(register: Register) -> &'static str
         Register::S => "S",
         Register::P => "P",
         Register::Pc => "PC",
+    }
+}
+
+/// Appends the name of a register.
+///
+/// Errors: `AllocError` if an allocation fails.
+pub fn push_register(text: &mut Vec<u8>, register: Register) -> Result<(), AllocError>
+    ensures { OnOk result (text.new.items ≡ text.old.items ++ register_name register) }
+{
+    push_text(text, name_of(register))
+}
+
+/// The letter of a flag.
+fn letter_of(flag: Flag) -> &'static str
+    ensures { result.now ≡ flag_name flag }
+{
+    match flag {
+        Flag::N => "N",
+        Flag::V => "V",
+        Flag::D => "D",
+        Flag::I => "I",
+        Flag::Z => "Z",
+        Flag::C => "C",
     }
 }
 
@@ -61,13 +85,16 @@ fn push_left(text: &mut Vec<u8>, places: &Places, left: Left) -> Result<(), Allo
     ensures { OnOk result (text.new.items ≡ text.old.items ++ left_text places.now.names left) }
 {
     match left {
-        Left::Register(register) => push_text(text, name_of(register)),
+        Left::Register(register) => push_register(text, register),
+        Left::Flag(flag) => push_text(text, letter_of(flag)),
         Left::Byte(address) => push_byte_at(text, places, address),
     }
 }
 
 /// Appends a number in hex, with two digits if they are enough.
-fn push_number(text: &mut Vec<u8>, number: u16) -> Result<(), AllocError>
+///
+/// Errors: `AllocError` if an allocation fails.
+pub fn push_number(text: &mut Vec<u8>, number: u16) -> Result<(), AllocError>
     ensures { OnOk result (text.new.items ≡ text.old.items ++ number_text number) }
 {
     let high = number / 256;
@@ -194,4 +221,15 @@ pub fn push_watch(
     push_place(text, places, stretch.first)?;
     push_last(text, places, stretch)?;
     push_kind(text, kind)
+}
+
+/// Appends the line of a watch of a register.
+///
+/// Errors: `AllocError` if an allocation fails.
+pub fn push_register_watch(text: &mut Vec<u8>, register: Register) -> Result<(), AllocError>
+    ensures ok { OnOk result (text.new.items ≡ text.old.items ++ register_watch_line register) }
+{
+    push_text(text, WATCH_OF)?;
+    push_register(text, register)?;
+    push_text(text, "\n")
 }

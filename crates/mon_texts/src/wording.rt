@@ -36,7 +36,7 @@ pub const POINTS: &str = "two points between the addresses";
 
 pub const LAST_ADDRESS: &str = "a last address that is not below the first";
 
-pub const A_REGISTER: &str = "a register";
+pub const A_REGISTER: &str = "a register or a flag";
 
 pub const LEVEL: &str = "on or off";
 
@@ -129,6 +129,8 @@ pub const AND: &str = " and ";
 pub const TIMES: &str = " times ";
 
 pub const WATCH_AT: &str = "watch at ";
+
+pub const WATCH_OF: &str = "watch of ";
 
 pub const TO: &str = " to ";
 

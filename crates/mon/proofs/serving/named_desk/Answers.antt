@@ -14,6 +14,7 @@ returns-clause-made g c =
         breaks = rw made at c.new.ensures.breaks;
         watches = rw made at c.new.ensures.watches;
         changes = rw made at c.new.ensures.changes;
+        displays = rw made at c.new.ensures.displays;
         text = rw made at c.new.ensures.text;
         places = (rw made at c.new.ensures.places) ∙ (named.2 ∙ ap (with_names named.0) c.in_ok-places.ensures.places);
       },

@@ -50,7 +50,7 @@ loop-byte-preserved c =
       text = c.in_ok-happen.ensures.text
           ∙ ap (λ l. c.loop-byte.desk.text.items ++ l) (accepted_said c.loop-byte.desk.places.names (Input (get_or bytes i 0)) before [] holds)
           ∙ append-nil c.loop-byte.desk.text.items ∙ c.loop-byte.invariant.text;
-      stops = (c.happen.ensures.stops.0 ∙ c.loop-byte.invariant.stops.0, c.happen.ensures.stops.1 ∙ c.loop-byte.invariant.stops.1);
+      stops = (c.happen.ensures.stops.0 ∙ c.loop-byte.invariant.stops.0, c.happen.ensures.stops.1 ∙ c.loop-byte.invariant.stops.1, c.happen.ensures.stops.2 ∙ c.loop-byte.invariant.stops.2);
     }
 
 pub returns-clause-course : goal.returns-clause-course

@@ -53,7 +53,7 @@ loop-index-preserved c =
       text = c.in_ok-happen.ensures.text
           ∙ ap (λ l. c.loop-index.desk.text.items ++ l) (accepted_said c.loop-index.desk.places.names (Patch (a + i) (get_or bytes i 0 ∷ 0 ∷ 0 ∷ []) 1) before [] holds)
           ∙ append-nil c.loop-index.desk.text.items ∙ c.loop-index.invariant.text;
-      stops = (c.happen.ensures.stops.0 ∙ c.loop-index.invariant.stops.0, c.happen.ensures.stops.1 ∙ c.loop-index.invariant.stops.1);
+      stops = (c.happen.ensures.stops.0 ∙ c.loop-index.invariant.stops.0, c.happen.ensures.stops.1 ∙ c.loop-index.invariant.stops.1, c.happen.ensures.stops.2 ∙ c.loop-index.invariant.stops.2);
     }
 
 pub returns-clause-course : goal.returns-clause-course
