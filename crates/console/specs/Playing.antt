@@ -2,7 +2,7 @@
 -- input and none waits. It ends where nothing stands that could be run. Source: mos65.
 use Rattle.std.specs.Prelude.{ℕ, zero, suc, ◌+◌, Bool, false, not, ◌&&◌, ◌||◌, ◌==◌, nat_lt, if◌then◌else◌, List, [], length, drop, Option, Some, None, Result, Ok, Err}
 use Rattle.std.specs.Option.{option_or}
-use Rattle.model.specs.State.{Map, State, input_waits}
+use Rattle.model.specs.State.{State, input_waits}
 use Rattle.model.specs.Step.{step}
 use Rattle.model.specs.Session.{Session, with_state}
 use Rattle.model.specs.Transcript.{after_input}
@@ -11,6 +11,7 @@ use Rattle.model.specs.declared.registers.Regs.{Regs}
 use Rattle.model.specs.declared.registers.Flags.{Flags}
 use Rattle.cpu_step.specs.PlainSteps.{is_break, stays}
 use Rattle.accesses.specs.Access.{access_here, puts_byte, row_here}
+use Rattle.accesses.specs.Looking.{looks}
 use Rattle.accesses.specs.Moments.{step_stores}
 use Rattle.accesses.specs.Writing.{is_written, with_bytes}
 use Rattle.console.specs.Line.{line_at, room_of}
@@ -27,14 +28,6 @@ pub record Play : Type 0 where
   pub written : List Bool
 
 -- ---- when a line is asked for
-
-abbrev pub is_input_address : Map → Option ℕ → Bool
-is_input_address map None = false
-is_input_address map (Some address) = (address == map.port + 1) || (address == map.port + 2)
-
--- A program looks for input by an instruction that reads base+1 or base+2.
-unfoldable pub looks : State → Bool
-looks state = is_input_address state.bus.map (access_here state).read
 
 -- A line is asked for if no input waits and the program looks for it. A program that has come to a
 -- jump to itself with I clear waits for an interrupt, which input may ask for: so it looks too.

@@ -12,9 +12,8 @@ ghost use Rattle.accesses.specs.Access.{access_here};
 ghost use Rattle.console.specs.Given.{given_to};
 ghost use Rattle.console.specs.Line.{room_of};
 ghost use Rattle.console.specs.Playing.{asks, came as is_some_line, ending_after, ending_before};
-ghost use Rattle.console.specs.Playing.{ending_here, fall_of, is_idle, looks, memo_after};
+ghost use Rattle.console.specs.Playing.{ending_here, fall_of, is_idle, memo_after};
 ghost use Rattle.console.specs.Playing.{same_flags, same_regs, stands, stepped, stray_of};
-ghost use Rattle.cpu_step.specs.PlainSteps.{stays};
 ghost use Rattle.console.specs.Taking.{counted, take_count, Waits};
 ghost use Rattle.console.specs.Turns.{CutTurn, EndsOnce, EndsWith, IsLine, TurnsTo, first_known};
 ghost use Rattle.console.specs.Turns.{known, play_at, turn_to};
@@ -23,7 +22,9 @@ use crate::ending::{Ending, PlayFault};
 use crate::input::hand_in_line;
 use crate::memo::Memo;
 use crate::output::{flush, put_output};
-use accesses::{Access, Written, access_here, is_break, moment_of, row_here, stores_here};
+use accesses::{
+    Access, Written, access_here, is_break, looks, moment_of, row_here, stays, stores_here,
+};
 use debugger::Session;
 use model::{Event, Flags, Regs};
 use std::io::{Read, Write};
@@ -48,26 +49,6 @@ fn is_data(session: &Session, address: u16) -> bool
     // For the proof: that the port's base is a multiple of four.
     session.is_state();
     session.is_port(address) & (address % 4 == 1)
-}
-
-/// Returns whether an address is base+2, where a read tells whether input waits.
-fn is_signal(session: &Session, address: u16) -> bool
-    ensures { result ≡ (address == session.now.current.bus.map.port + 2) }
-{
-    // For the proof: that the port's base is a multiple of four.
-    session.is_state();
-    session.is_port(address) & (address % 4 == 2)
-}
-
-/// Returns whether the instruction at PC reads base+1 or base+2.
-#[tactic(auto, unfolding(crate::specs::Playing::looks))]
-fn looks(session: &Session) -> bool
-    ensures { result ≡ looks session.now.current }
-{
-    match access_here(session).read {
-        None => false,
-        Some(address) => is_data(session, address) || is_signal(session, address),
-    }
 }
 
 /// Returns whether input waits.
@@ -189,12 +170,6 @@ pub fn ending_after(session: &Session, player: &Player) -> Ending
     } else {
         Ending::Limit
     }
-}
-
-fn stays(before: Regs, after: Regs) -> bool
-    ensures { result ≡ stays before after }
-{
-    before.pc == after.pc && before.s == after.s
 }
 
 /// Returns what is remembered after a step, by the access of its instruction.

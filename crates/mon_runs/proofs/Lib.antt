@@ -2,7 +2,6 @@ pub mod Counts
 pub mod Apart
 pub mod LookedRuns
 pub mod Past
-pub mod Port
 pub mod Way
 pub mod Again
 pub mod Found
