@@ -1,3 +1,4 @@
 pub mod Bytes
+pub mod Entries
 pub mod Port
 pub mod Zeros

@@ -1,5 +1,5 @@
 -- Which addresses were ever written. Source: mos65.
-use Rattle.std.specs.Prelude.{ℕ, Bool, true, false, is_some, List, [], ◌∷◌, map, Option, replicate, slice_index_or, slice_set}
+use Rattle.std.specs.Prelude.{◌≡◌, ℕ, ◌<◌, ◌==◌, Bool, true, false, is_some, List, [], ◌∷◌, length, map, Option, replicate, slice_index, slice_index_or, slice_set}
 
 abbrev pub is_written : List Bool → ℕ → Bool
 is_written cells address = slice_index_or cells address false
@@ -21,3 +21,14 @@ everywhere = replicate 65536 true
 abbrev pub or_everywhere : Bool → List Bool → List Bool
 or_everywhere true cells = everywhere
 or_everywhere false cells = cells
+
+-- ---- marks
+
+-- A mark of 0 says that a byte was put at its address.
+abbrev pub is_unmarked : ℕ → Bool
+is_unmarked mark = mark == 0
+
+-- A mark for each address.
+abbrev pub AreMarks : List ℕ → List Bool → Type 0
+AreMarks marks cells = (address : ℕ) → address < length cells
+    → is_written cells address ≡ is_unmarked (slice_index marks address)

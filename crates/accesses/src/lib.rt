@@ -19,5 +19,5 @@ pub use instruction::{access_here, row_here};
 pub use looking::{input_waits, looks, stays};
 pub use moment::{Moment, entry_stores, is_break, moment_of};
 pub use tally::{Count, Tally};
-pub use touches::{Addresses, reads_here, stores_here};
+pub use touches::{Addresses, reads_here, stores_by, stores_here};
 pub use written::Written;

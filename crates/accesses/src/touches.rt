@@ -140,9 +140,10 @@ pub fn reads_here(session: &Session) -> Addresses
     }
 }
 
-/// Returns the addresses that an access stores at, by the stack pointer before it.
+/// Returns the addresses that an access stores at, by the stack pointer before it: that of its
+/// operand, or those of its pushes. Source: MCS6500 manual, chapters 5 and 8.
 #[tactic(auto, unfolding(cpu_step::specs::Stored::stores_by))]
-fn stores_by(access: Access, s: u8) -> Addresses
+pub fn stores_by(access: Access, s: u8) -> Addresses
     ensures { result.items ≡ stores_by access s }
 {
     match (access.store, access.pushes) {

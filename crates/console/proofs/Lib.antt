@@ -3,3 +3,4 @@ pub mod Outputs
 pub mod Port
 pub mod Steps
 pub mod Turning
+pub mod Gliding

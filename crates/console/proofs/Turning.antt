@@ -12,18 +12,22 @@ use Rattle.model.specs.Transcript.{after_input}
 use Rattle.model.specs.declared.event.Event.TheVariants as event
 use Rattle.model.specs.declared.event.EventFault.{EventFault}
 use Rattle.console.specs.Line.{line_at, room_of}
-use Rattle.accesses.specs.Footprint.{stores_here}
+use Rattle.accesses.specs.Access.{access_here}
+use Rattle.accesses.specs.Footprint.{stores_by, stores_here}
+use Rattle.cpu_step.specs.declared.access.Access.{Access}
+use Rattle.model.specs.declared.registers.Regs.{Regs}
 use Rattle.accesses.specs.Moments.{entered, moment_of, step_stores, stored_by}
 use Rattle.accesses.specs.Writing.{with_bytes}
 use Rattle.accesses.specs.declared.moment.Moment.{Moment}
 use Rattle.console.specs.Playing.{Play, Turn, asks, ending_after, ending_here, memo_after, line_for, with_line, came, turn_with, unless_ended, stepped, turn_of, Outcome, is_at, later, after_turn, played}
+use Rattle.console.specs.Stretches.{Glides, going}
 use Rattle.console.specs.Taking.{Waits}
 use Rattle.console.specs.Turns.{CutTurn, EndsOnce, EndsWith, IsLine, Known, MayCome, TurnsTo, play_at, turn_to}
 use Rattle.console.specs.Written.{AreBytesOf, CutRun, RanAs}
 use Rattle.console.specs.declared.memo.Memo.{Memo}
 use Rattle.console.specs.declared.ending.Ending.{Ending}
 use Rattle.console.specs.declared.ending.Ending.TheVariants.{Refused, Until}
-use Rattle.console.proofs.Lines.{line-none}
+use Rattle.console.proofs.Lines.{input-none, line-none}
 use Rattle.console.proofs.Steps.{Leads}
 
 pub drop_told : (told rest : List ℕ) → drop (length told) (told ++ rest) ≡ rest
@@ -76,6 +80,11 @@ bytes_made w v s t state m stores stored e f at here after =
     ∙ ap (λ (x : Moment). stored_by (entered x state) x.regs.s stores) at
     ∙ ap (stored_by (entered (moment_of s.current) state) s.current.regs.s) here)
 
+-- where the instruction at PC stores, by its access
+pub stored_here : (s : State) (access : Access) (regs : Regs) (stores : List ℕ) → access ≡ access_here s → regs ≡ s.regs → stores ≡ stores_by access regs.s → stores ≡ stores_here s
+unfolding stores_here
+stored_here s access regs stores is before e = e ∙ ap (λ (a : Access). stores_by a regs.s) is ∙ ap (λ (r : Regs). stores_by (access_here s) r.s) before
+
 pub step_made : (s after : State) → event_of s event.Step ≡ Ok after → step s ≡ Ok after
 unfolding event_of
 step_made s after e = e
@@ -98,19 +107,19 @@ line_over false room rest e = refl
 pub record RunsOn (until : Option ℕ) (limit : ℕ) (s : Session) (first : Known) (told : List ℕ) (over : Bool) (steps : ℕ) (t : Session) (memo : Known) : Type 0 where
   pub runs : (rest : List ℕ) → MayCome over rest → played until limit (play_at s first (told ++ rest)) ≡ later steps (played until (limit - steps) (play_at t memo rest))
 
+pub later_none : (o : Outcome) → later 0 o ≡ o
+later_none o = ap (λ n. record o { steps = n }) (zero-add o.steps)
+
 pub runs_none : (until : Option ℕ) (limit : ℕ) (s : Session) (first : Known) (over : Bool) → RunsOn until limit s first [] over 0 s first
 runs_none until limit s first over = record {
   runs = λ rest may.
       ap (λ n. played until n (play_at s first rest)) (sym (sub-zero limit)) ∙ sym (later_none (played until (limit - 0) (play_at s first rest)));
 }
-  where
-    later_none : (o : Outcome) → later 0 o ≡ o
-    later_none o = ap (λ n. record o { steps = n }) (zero-add o.steps)
 
-later_twice : (n m : ℕ) (o : Outcome) → later n (later m o) ≡ later (n + m) o
+pub later_twice : (n m : ℕ) (o : Outcome) → later n (later m o) ≡ later (n + m) o
 later_twice n m o = ap (λ k. record o { steps = k }) (sym (add_assoc n m o.steps))
 
-played_turn : (until : Option ℕ) (n m : ℕ) (p : Play) → n ≡ suc m → played until n p ≡ after_turn until (turn_of p) (λ q. played until m q)
+pub played_turn : (until : Option ℕ) (n m : ℕ) (p : Play) → n ≡ suc m → played until n p ≡ after_turn until (turn_of p) (λ q. played until m q)
 unfolding played
 played_turn until n m p e = ap (λ k. played until k p) e
 
@@ -156,6 +165,52 @@ module _ (until : Option ℕ) (limit : ℕ) (s : Session) (first : Known) (told 
       one_turn rest may ∙ ap (λ e. later steps (next until (limit - (steps + 1)) (turn_to e u memo2 rest))) some
       ∙ ap (λ n. record { steps = n; ending = why; play = play_at u memo2 rest }) (add-zero steps)
 
+-- ---- turns made many at a time
+
+-- the run so far, where a step has led: it may be at the address
+pub record GoesOn (until : Option ℕ) (limit : ℕ) (s : Session) (first : Known) (told : List ℕ) (over : Bool) (steps : ℕ) (t : Session) (memo : Known) : Type 0 where
+  pub runs : (rest : List ℕ) → MayCome over rest → played until limit (play_at s first (told ++ rest)) ≡ later steps (going until (limit - steps) (play_at t memo rest))
+
+pub goes_turn : (until : Option ℕ) (limit : ℕ) (s : Session) (first : Known) (told : List ℕ) (over : Bool) (steps : ℕ) (t : Session) (memo : Known) → RunsOn until limit s first told over steps t memo → steps < limit
+    → (told2 : List ℕ) (over2 : Bool) (u : Session) (memo2 : Known) → EndsOnce over over2 told2 → TurnsTo t memo told2 over2 None u memo2
+    → GoesOn until limit s first (told ++ told2) over2 (steps + 1) u memo2
+goes_turn until limit s first told over steps t memo h room told2 over2 u memo2 once turn = record {
+  runs = λ rest may.
+      one_turn until limit s first told over steps t memo h room told2 over2 None u memo2 once turn rest may
+      ∙ goes_by (is_at until u.current) steps (play_at u memo2 rest) (played until (limit - (steps + 1)) (play_at u memo2 rest));
+}
+  where
+    goes_by : (b : Bool) (steps : ℕ) (p : Play) (o : Outcome)
+        → later steps (cond b (record { steps = 1; ending = Until; play = p }) (later 1 o)) ≡ later (steps + 1) (cond b (record { steps = 0; ending = Until; play = p }) o)
+    goes_by true steps p o = ap (λ n. record { steps = n; ending = Until; play = p }) (sym (add-zero (steps + 1)))
+    goes_by false steps p o = later_twice steps 1 o
+
+pub goes_far : (until : Option ℕ) (limit : ℕ) (s : Session) (first : Known) (told : List ℕ) (over : Bool) (steps : ℕ) (t : Session) (memo : Known) → GoesOn until limit s first told over steps t memo
+    → (more : ℕ) (u : Session) (memo2 : Known) → Glides until more t memo u memo2 → more ≤ limit - steps
+    → GoesOn until limit s first told over (steps + more) u memo2
+goes_far until limit s first told over steps t memo h more u memo2 far within = record {
+  runs = λ rest may.
+      let left : limit - steps - more ≡ limit - (steps + more) = omega arith in
+      h.runs rest may ∙ ap (later steps) (far (limit - steps) rest within) ∙ later_twice steps more _
+      ∙ ap (λ n. later (steps + more) (going until n (play_at u memo2 rest))) left;
+}
+
+pub goes_past : (until : Option ℕ) (limit : ℕ) (s : Session) (first : Known) (told : List ℕ) (over : Bool) (steps : ℕ) (t : Session) (memo : Known) → GoesOn until limit s first told over steps t memo
+    → is_at until t.current ≡ false → RunsOn until limit s first told over steps t memo
+goes_past until limit s first told over steps t memo h off = record {
+  runs = λ rest may.
+      h.runs rest may
+      ∙ ap (λ b. later steps (cond b (record { steps = 0; ending = Until; play = play_at t memo rest }) (played until (limit - steps) (play_at t memo rest)))) off;
+}
+
+pub goes_there : (until : Option ℕ) (limit : ℕ) (s : Session) (first : Known) (told : List ℕ) (over : Bool) (steps : ℕ) (t : Session) (memo : Known) → GoesOn until limit s first told over steps t memo
+    → is_at until t.current ≡ true → (rest : List ℕ) → MayCome over rest
+    → played until limit (play_at s first (told ++ rest)) ≡ record { steps = steps; ending = Until; play = play_at t memo rest }
+goes_there until limit s first told over steps t memo h on rest may =
+    h.runs rest may
+    ∙ ap (λ b. later steps (cond b (record { steps = 0; ending = Until; play = play_at t memo rest }) (played until (limit - steps) (play_at t memo rest)))) on
+    ∙ ap (λ n. record { steps = n; ending = Until; play = play_at t memo rest }) (add-zero steps)
+
 pub ends_full : (until : Option ℕ) (limit : ℕ) (s : Session) (first : Known) (told : List ℕ) (over : Bool) (steps : ℕ) (t : Session) (memo : Known) → RunsOn until limit s first told over steps t memo → limit ≤ steps → steps ≤ limit
     → (rest : List ℕ) → MayCome over rest → played until limit (play_at s first (told ++ rest)) ≡ record { steps = limit; ending = ending_after memo.memo t.current; play = play_at t memo rest }
 ends_full until limit s first told over steps t memo h full within rest may =
@@ -176,6 +231,19 @@ cut_run until limit s first told over steps t memo h room told2 over2 u once cut
   made = ap (λ l. played until limit (play_at s first l)) (append_assoc told told2 rest) ∙ h.runs (told2 ++ rest) (may_all over over2 told2 rest once may);
   input = refl;
   turn = cut;
+}
+
+-- a run that was cut short between two turns
+pub cut_here : (until : Option ℕ) (limit : ℕ) (s : Session) (first : Known) (told : List ℕ) (over : Bool) (steps : ℕ) (t : Session) (memo : Known) → RunsOn until limit s first told over steps t memo → steps < limit
+    → (rest : List ℕ) → MayCome over rest → CutRun until limit (play_at s first (told ++ rest)) t rest
+cut_here until limit s first told over steps t memo h room rest may = record {
+  steps = steps;
+  before = play_at t memo rest;
+  told = [];
+  within = room;
+  made = h.runs rest may;
+  input = refl;
+  turn = inl (sym (input-none t));
 }
 
 -- ---- the input

@@ -1,25 +1,37 @@
 //! A run with a reader and a writer.
 
-ghost use Rattle.std.specs.Prelude.{◌≡◌, ◌++◌, false, IfOk, OnErr, ℕ, List};
+ghost use Rattle.std.specs.Prelude.{◌≡◌, ◌≤◌, ◌++◌, Err, false, IfOk, OnErr, ℕ, List};
+ghost use Rattle.std.specs.Io.KnownBytes.{Keeps};
 ghost use Rattle.model.specs.State.{input_waits};
 ghost use Rattle.model.specs.Writers.{Writes};
-ghost use Rattle.console.specs.Playing.{begun, is_at, played};
+ghost use Rattle.console.specs.Playing.{begun, played};
 ghost use Rattle.console.specs.Written.{AreBytesOf, BrokeOff, CutRun, RanAs};
 
 use crate::ending::{Ending, PlayFault, Played};
 use crate::output::flush;
+use crate::stretch::{glide, is_at};
 use crate::turn::{begin, ending_after, take_turn};
 use accesses::Written;
 use debugger::Session;
 use std::io::{Read, Write};
 
-/// Returns whether the program counter is at an address, if there is one.
-fn is_at(until: Option<u16>, session: &Session) -> bool
-    ensures { result ≡ is_at until session.now.current }
+/// How many steps are made at least before what was written is flushed again.
+const PULSE: u64 = 1_000_000;
+
+/// Flushes what was written if many steps were made since the last time. Returns at which step it
+/// was flushed last.
+fn flush_at_times<W: Write>(flushed: u64, steps: u64, writer: &mut W) -> Result<u64, PlayFault>
+    requires { flushed ≤ steps }
+    ensures within { IfOk result (λ at. at ≤ steps) }
+    ensures kept { Keeps (W.contents writer.old) (W.contents writer.new) }
+    ensures fault { OnErr result (result ≡ Err PlayFault.Write) }
 {
-    match until {
-        None => false,
-        Some(address) => session.regs().pc == address,
+    if steps - flushed < PULSE {
+        return Ok(flushed);
+    }
+    match flush(writer) {
+        Ok(()) => Ok(steps),
+        Err(fault) => Err(fault),
     }
 }
 
@@ -38,7 +50,7 @@ fn is_at(until: Option<u16>, session: &Session) -> bool
 /// instruction that reads base+1 or base+2, or at a jump to itself with I clear. No byte is read
 /// that is not handed in. Once the console has taken 65,536 bytes there is no room for more, and
 /// the program is run as if the input had ended. What the program writes is written byte by byte as
-/// it comes, and flushed before a line is read and at the end.
+/// it comes. It is flushed before a line is read, at the end, and every million steps or two.
 ///
 /// # Errors
 ///
@@ -100,15 +112,23 @@ fn make_turns<R: Read, W: Write>(
         × Writes (W.contents writer.old) (W.contents writer.new) text result }
 {
     let mut player = begin(session, written);
-    for steps in 0..limit {
+    let mut steps = 0;
+    let mut flushed = 0;
+    while steps < limit {
+        match flush_at_times(flushed, steps, writer) {
+            Ok(at) => flushed = at,
+            Err(fault) => return Err(fault),
+        }
         match take_turn(session, &mut player, reader, writer) {
             Ok(None) => {}
             Ok(Some(ending)) => return Ok(Played { steps, ending }),
             Err(fault) => return Err(fault),
         }
+        steps += 1;
+        steps += glide(session, &mut player, until, limit - steps);
         if is_at(until, session) {
             return Ok(Played {
-                steps: steps + 1,
+                steps,
                 ending: Ending::Until,
             });
         }

@@ -23,7 +23,7 @@ use crate::input::hand_in_line;
 use crate::memo::Memo;
 use crate::output::{flush, put_output};
 use accesses::{
-    Access, Written, access_here, is_break, looks, moment_of, row_here, stays, stores_here,
+    Access, Written, access_here, is_break, looks, moment_of, row_here, stays, stores_by,
 };
 use debugger::Session;
 use model::{Event, Flags, Regs};
@@ -142,7 +142,7 @@ fn fall_of(session: &Session, written: &Written, from: Option<u16>) -> Option<En
 {
     if !written.contains(session.regs().pc) {
         Some(stray_of(written, from))
-    } else if is_break(row_here(session)) && !stands(written, 0xfffe) {
+    } else if !stands(written, 0xfffe) && is_break(row_here(session)) {
         Some(Ending::NoVector)
     } else {
         None
@@ -250,9 +250,9 @@ fn make_step<W: Write>(
     session.is_state();
     let access = access_here(session);
     let moment = moment_of(session);
-    let stores = stores_here(session);
     let count = take_count(session, access.read, player.waiting);
     let before = session.regs();
+    let stores = stores_by(access, before.s);
     let shown = session.output_len();
     match session.event(Event::Step) {
         Err(fault) => Ok(Some(Ending::Refused(fault))),

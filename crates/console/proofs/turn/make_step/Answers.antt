@@ -4,7 +4,7 @@ use Rattle.console.specs.Playing.{memo_after}
 use Rattle.console.specs.Taking.{counted, take_count}
 use Rattle.console.proofs.Steps.{step_leads}
 use Rattle.console.specs.Turns.{known}
-use Rattle.console.proofs.Turning.{refused, bytes_made, made, step_made, waits_on, added}
+use Rattle.console.proofs.Turning.{refused, bytes_made, stored_here, made, step_made, waits_on, added}
 use Rattle.console.proofs.turn.make_step.Goals as goal
 
 pub returns-in-Err-clause-ok : goal.returns-in-Err-clause-ok
@@ -18,8 +18,9 @@ returns-in-Ok-put_output-clause-ok g c = λ input.
     let s = c.args.session.now in
     let regs = c.regs-after.ensures ∙ ap (λ t. t.current.regs) e.2 in
     let memo = c.memo_after-player.ensures s.current (sym c.access_here-access.ensures) (sym c.regs-before.ensures) ∙ ap (λ r. memo_after c.args.player.now.memo c.args.is_asked c.args.came s.current r) regs in
-    let written = bytes_made c.args.player.now.written c.note_all.new.self s c.event.new.self e.0 c.moment_of-moment.result c.stores_here-stores.result.items c.stored.result.items
-    c.note_all.ensures c.stored.ensures c.moment_of-moment.ensures c.stores_here-stores.ensures e.2 in
+    let stores = stored_here s.current c.access_here-access.result c.regs-before.result c.stores_by-stores.result.items c.access_here-access.ensures c.regs-before.ensures c.stores_by-stores.ensures in
+    let written = bytes_made c.args.player.now.written c.note_all.new.self s c.event.new.self e.0 c.moment_of-moment.result c.stores_by-stores.result.items c.stored.result.items
+    c.note_all.ensures c.stored.ensures c.moment_of-moment.ensures stores e.2 in
     made s c.event.new.self e.0 (known c.args.player.now) (record { memo = c.memo_after-player.result; written = c.note_all.new.self }) input c.args.is_asked c.args.came e.1 e.2 memo written
 
 pub returns-in-Ok-put_output-clause-waits : goal.returns-in-Ok-put_output-clause-waits
