@@ -1,10 +1,13 @@
 -- What a parse of words says, once it is known which command line it is of: what they ask for, and
 -- why they are refused, where they do not fit or a value is wrong.
 use Rattle.std.proofs.Common.{◌≡◌, ◌∙◌, ◌⊎◌, ℕ, arith, inl, inr, List, Option, Some, None, Result, Ok, Err, IfErr, ap, sym, subst}
+use Rattle.std.proofs.Math.Path.{fun_ext}
 use Rattle.std.specs.Prelude.{IsOkUnless}
 use Rattle.std.specs.Result.{IsErrAnd}
-use Rattle.clap.specs.Words.{App, Text, kind_of}
-use Rattle.arguments.specs.Words.{Fits, IsMisfit, IsRefusalOf, IsStatusOf, SaysOfWords, value_in}
+use Rattle.clap.proofs.WalkLemmas.{raw_values-rows}
+use Rattle.clap.specs.Words.{App, Text, all_of, found_of, kind_of, matches_of, rows_of}
+use Rattle.clap.specs.declared.parser.matches.ArgMatches.{ArgMatches}
+use Rattle.arguments.specs.Words.{Fits, IsMisfit, IsRefusalOf, IsStatusOf, SaysOfWords, all_values, value_in, values_in}
 use Rattle.arguments.specs.WrongValues.{IsOfValue}
 use Rattle.arguments.specs.declared.fault.WordsFault.{WordsFault}
 use Rattle.arguments.specs.declared.fault.WordsFault.TheVariants.{Help, OutOfMemory, Usage, Value, Wrong}
@@ -74,3 +77,9 @@ pub refused_by : {X : Type 0} (app is : App) (words : List Text) (W : Type 0) (f
 refused_by app is words W fault (Ok x) same misfit passed = absurd passed
 refused_by app is words W fault (Err f) same misfit passed =
     misfit_refused is words W f (subst (IsMisfit is words) (sym passed) (subst (λ (a : App). IsMisfit a words fault) same misfit))
+
+-- ---- several values of a name
+
+-- All values that are found of a name are those of the definition.
+pub all_found : (app : App) (words : List Text) (m : ArgMatches) → rows_of (found_of m) ≡ matches_of app words → all_values (found_of m) ≡ values_in app words
+all_found app words m rows = fun_ext (λ name. raw_values-rows (found_of m) name ∙ ap (all_of name) rows)

@@ -1,8 +1,10 @@
 -- Parts of command lines, as clap's definitions describe one. How words are matched with a command
 -- line is clap's to say. Source: mos65.
-use Rattle.std.specs.Prelude.{true, Some, codes}
+use Rattle.std.specs.Prelude.{true, ℕ, Some, codes}
+use Rattle.clap.specs.Lexer.{usize_max}
 use Rattle.clap.specs.Words.{App, Rule, Text, new_app, new_rule, with_rule}
-use Rattle.clap.specs.declared.builder.action.ArgAction.TheVariants.{Set, SetTrue}
+use Rattle.clap.specs.declared.builder.action.ArgAction.TheVariants.{Append, Set, SetTrue}
+use Rattle.clap.specs.declared.builder.range.ValueRange.{ValueRange}
 
 -- A word that has to be there.
 abbrev pub file_rule : Text → Rule
@@ -15,6 +17,26 @@ flag_rule name = record (new_rule name) { long = Some name; action = Some SetTru
 -- An option with one value, as `--port HHHH` or `--port=HHHH`.
 abbrev pub option_rule : Text → Rule
 option_rule name = record (new_rule name) { long = Some name; action = Some Set; value_names = 1 }
+
+abbrev pub at_least : ℕ → ValueRange
+at_least least = record { start_inclusive = least; end_inclusive = usize_max }
+
+-- A word that has to be there, and more of its kind.
+abbrev pub files_rule : Text → Rule
+files_rule name = record (new_rule name) {
+  required = true;
+  action = Some Append;
+  range = Some (at_least 1);
+}
+
+-- An option with several values, which can be said more than once.
+abbrev pub list_rule : ℕ → Text → Rule
+list_rule least name = record (new_rule name) {
+  long = Some name;
+  action = Some Append;
+  range = Some (at_least least);
+  value_names = 1;
+}
 
 -- A command line whose words begin without the program's name.
 abbrev pub unnamed : Text → App

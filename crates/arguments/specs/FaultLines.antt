@@ -5,7 +5,7 @@ use Rattle.arguments.specs.declared.fault.WordsFault.{WordsFault}
 use Rattle.arguments.specs.declared.fault.WordsFault.TheVariants.{Help, Usage, Value, Wrong}
 use Rattle.arguments.specs.declared.fault.WordsFault.TheVariants as words_fault
 use Rattle.arguments.specs.declared.load_fault.LoadFault.{LoadFault}
-use Rattle.arguments.specs.declared.load_fault.LoadFault.TheVariants.{LooksLikeTape, Refused}
+use Rattle.arguments.specs.declared.load_fault.LoadFault.TheVariants.{Faults, LooksLikeTape, Refused}
 use Rattle.arguments.specs.declared.refusal.ReadFault.TheVariants.{NoSuchFile, PermissionDenied as permission_denied}
 use Rattle.arguments.specs.declared.refusal.Refusal.{Refusal}
 use Rattle.arguments.specs.declared.refusal.Refusal.TheVariants.{Words, Map, Source, Tape, Session, OutOfMemory, Read, Write}
@@ -65,9 +65,11 @@ file_line file refusal = named_line file refusal
 abbrev pub tape_line : List ℕ → List ℕ
 tape_line file = codes "mos65: " ++ (file ++ codes " looks like a tape: use --tape\n")
 
-unfoldable pub load_line : LoadFault → List ℕ → List ℕ
-load_line LooksLikeTape file = tape_line file
-load_line (Refused refusal) file = file_line file refusal
+-- All faults of a source, or one line.
+unfoldable pub load_text : LoadFault → List ℕ → List ℕ
+load_text LooksLikeTape file = tape_line file
+load_text (Faults fault text) file = text.items
+load_text (Refused refusal) file = file_line file refusal
 
 -- The error stream got the fault line of a refusal with this status, or a beginning of the line if
 -- it cannot be written.

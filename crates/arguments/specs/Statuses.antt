@@ -1,7 +1,7 @@
 -- The exit status of a word that ends without an answer. Source: mos65.
 use Rattle.std.specs.Prelude.{ℕ}
 use Rattle.arguments.specs.declared.load_fault.LoadFault.{LoadFault}
-use Rattle.arguments.specs.declared.load_fault.LoadFault.TheVariants.{LooksLikeTape, Refused}
+use Rattle.arguments.specs.declared.load_fault.LoadFault.TheVariants.{Faults, LooksLikeTape, Refused}
 use Rattle.arguments.specs.declared.refusal.Refusal.{Refusal}
 use Rattle.arguments.specs.declared.refusal.Refusal.TheVariants.{Words, Map, Source, Tape, Session, OutOfMemory, Read, Write}
 
@@ -16,7 +16,8 @@ status_of OutOfMemory = 3
 status_of (Read fault) = 4
 status_of Write = 4
 
--- 2 for a tape that is given as a source; otherwise that of the refusal
+-- 1 for a source with faults, 2 for a tape that is given as a source; otherwise that of the refusal
 abbrev pub status_of_load : LoadFault → ℕ
 status_of_load LooksLikeTape = 2
+status_of_load (Faults fault text) = 1
 status_of_load (Refused refusal) = status_of refusal

@@ -1,11 +1,13 @@
 -- What the words of a command line ask for, by clap's definition of a parse, and why they are
 -- rejected. Source: mos65.
 use Rattle.std.specs.Borrow.{Bor}
-use Rattle.std.specs.Prelude.{◌≡◌, ◌≢◌, ◌≤◌, ◌⊎◌, ℕ, List, [], ◌∷◌, Option, map}
-use Rattle.clap.specs.Words.{App, IsAmong, Text, fault_of, first_of, kind_of, matches_of}
+use Rattle.std.specs.Prelude.{◌≡◌, ◌≢◌, ◌≤◌, ◌⊎◌, ℕ, List, [], ◌∷◌, Option, map, option_map}
+use Rattle.clap.specs.Matches.{matched_of, raw_values}
+use Rattle.clap.specs.Words.{App, IsAmong, Text, all_of, fault_of, first_of, kind_of, matches_of}
 use Rattle.clap.specs.declared.error.Error.{Error}
 use Rattle.clap.specs.declared.error.kind.ErrorKind.{ErrorKind}
 use Rattle.clap.specs.declared.error.kind.ErrorKind.TheVariants as kind
+use Rattle.clap.specs.declared.parser.matches.Found.{Found}
 use Rattle.arguments.specs.declared.fault.WordsFault.{WordsFault}
 use Rattle.arguments.specs.declared.fault.WordsFault.TheVariants.{Help, OutOfMemory, Usage, Value, Wrong}
 
@@ -28,6 +30,14 @@ Misfits app words = (k : ErrorKind) × (k ≢ kind.DisplayHelp) × IsAmong k (fa
 -- The first value of a name among the words.
 abbrev pub value_in : App → List Text → Text → Option Text
 value_in app words name = first_of name (matches_of app words)
+
+-- All values of a name, where clap finds the name.
+abbrev pub all_values : Found → Text → Option (List Text)
+all_values found name = option_map raw_values (matched_of found name)
+
+-- All values of a name among the words.
+abbrev pub values_in : App → List Text → Text → Option (List Text)
+values_in app words name = all_of name (matches_of app words)
 
 -- What an error of clap is returned as.
 abbrev pub AnswersWords : Error → WordsFault → Type 0

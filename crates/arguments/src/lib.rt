@@ -31,7 +31,7 @@ pub use files::{image_of_tape, read_most, read_source, write_file};
 pub use load_fault::LoadFault;
 pub use map::map_of;
 pub use matching::{is_given, matched};
-pub use options::{begin, file, flag, option, port, profile, rom, tape};
+pub use options::{begin, file, file_list, flag, list, option, port, profile, rom, tape};
 pub use output::{NotWritten, put, write_text};
 pub use refusal::{ReadFault, Refusal};
 pub use refused::{finish, refuse, refuse_file, refused_words};

@@ -1,22 +1,25 @@
 //! Why a file is not loaded.
 
 ghost use Rattle.std.specs.Prelude.{◌≡◌};
-ghost use Rattle.arguments.specs.FaultLines.{load_line, tape_line};
+ghost use Rattle.arguments.specs.FaultLines.{load_text, tape_line};
 ghost use Rattle.arguments.specs.Statuses.{status_of_load};
 ghost use Rattle.arguments.specs.declared.load_fault.LoadFault.TheVariants.{Refused};
 ghost use Rattle.model.specs.Writers.{AppendsFront};
 
-use crate::fault_line::put_three;
+use crate::fault_line::{put_all, put_three};
 use crate::refusal::Refusal;
 use crate::refused::refuse_file;
+use model::AsmFault;
 use std::io::Write;
 
 /// Why a file is not loaded.
-#[derive(Clone, Copy, Debug, PartialEq, Eq)]
+#[derive(Drop)]
 pub enum LoadFault {
     /// The file is given as a source, and begins with a record of a tape. As a source it would be
     /// comments.
     LooksLikeTape,
+    /// The source has this fault. The text tells of all its faults, as `check` does.
+    Faults { fault: AsmFault, text: Vec<u8> },
     /// What the word itself is refused for.
     Refused(Refusal),
 }
@@ -38,19 +41,30 @@ fn tell_tape<E: Write>(file: &str, errors: &mut E)
     put_three(b"mos65: ", file.as_bytes(), end, errors);
 }
 
+/// Writes a text, or a beginning of it if a write fails.
+fn tell_text<E: Write>(text: &[u8], errors: &mut E)
+    ensures { AppendsFront (E.contents errors.old) (E.contents errors.new) text.now }
+{
+    put_all(&[text], errors);
+}
+
 impl LoadFault {
-    /// Writes why the file was not loaded, and returns the exit status, even if the line cannot be
-    /// written. It is 2 for a tape that is given as a source.
-    #[tactic(auto, unfolding(crate::specs::FaultLines::load_line))]
+    /// Writes why the file was not loaded, and returns the exit status, even if that cannot be
+    /// written. It is 1 for a source with faults, and 2 for a tape that is given as a source.
+    #[tactic(auto, unfolding(crate::specs::FaultLines::load_text))]
     pub fn tell<E: Write>(self, file: &str, errors: &mut E) -> u8
         ensures status { result ≡ status_of_load self }
         ensures told { AppendsFront (E.contents errors.old) (E.contents errors.new)
-            (load_line self file.now) }
+            (load_text self file.now) }
     {
         match self {
             LoadFault::LooksLikeTape => {
                 tell_tape(file, errors);
                 2
+            }
+            LoadFault::Faults { text, .. } => {
+                tell_text(&text, errors);
+                1
             }
             LoadFault::Refused(refusal) => refuse_file(refusal, file, errors),
         }

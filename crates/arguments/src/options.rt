@@ -1,7 +1,8 @@
 //! Words and options, as `clap` is told of them.
 
 ghost use Rattle.std.specs.Prelude.{◌≡◌, IfErr, IfOk, codes, false};
-ghost use Rattle.arguments.specs.CommandLine.{file_rule, flag_rule, option_rule, unnamed};
+ghost use Rattle.arguments.specs.CommandLine.{file_rule, files_rule, flag_rule, list_rule};
+ghost use Rattle.arguments.specs.CommandLine.{option_rule, unnamed};
 ghost use Rattle.clap.specs.Words.{app_of, kind_of, rule_of};
 ghost use Rattle.clap.specs.declared.builder.command.Command.TheViews.{out-Command};
 
@@ -43,6 +44,18 @@ pub fn file<'a>(alloc: Global, name: &'a str, help: &'a str) -> Arg<'a>
         .help(help)
 }
 
+/// Returns words that name files, one at least.
+pub fn file_list<'a>(alloc: Global, name: &'a str, help: &'a str) -> Arg<'a>
+    ensures rule { rule_of result ≡ files_rule name.entry.now }
+    ensures local { result.global ≡ false }
+{
+    Arg::new(alloc, name)
+        .required(true)
+        .action(ArgAction::Append)
+        .num_args(1..)
+        .help(help)
+}
+
 /// Returns an option that takes no value.
 pub fn flag<'a>(alloc: Global, name: &'a str, help: &'a str) -> Arg<'a>
     ensures rule { rule_of result ≡ flag_rule name.entry.now }
@@ -63,6 +76,26 @@ pub fn option<'a>(alloc: Global, name: &'a str, value: &'a str, help: &'a str) -
         .long(name)
         .value_name(value)
         .action(ArgAction::Set)
+        .help(help)
+}
+
+/// Returns an option with several values, `least` at least each time, which can be said more than
+/// once. Help calls a value `value`.
+pub fn list<'a>(
+    alloc: Global,
+    name: &'a str,
+    value: &'a str,
+    least: usize,
+    help: &'a str,
+) -> Arg<'a>
+    ensures rule { rule_of result ≡ list_rule least name.entry.now }
+    ensures local { result.global ≡ false }
+{
+    Arg::new(alloc, name)
+        .long(name)
+        .value_name(value)
+        .action(ArgAction::Append)
+        .num_args(least..)
         .help(help)
 }
 

@@ -3,10 +3,9 @@
 -- say. Source: mos65.
 use Rattle.std.specs.Prelude.{ℕ, Bool, Option, Some, None, List, [], ◌∷◌, codes}
 use Rattle.arguments.specs.Asked.{is_flag}
-use Rattle.arguments.specs.CommandLine.{flag_rule, option_rule, unnamed}
+use Rattle.arguments.specs.CommandLine.{files_rule, flag_rule, option_rule, unnamed}
 use Rattle.arguments.specs.Values.{port_asked, profile_asked}
-use Rattle.arguments.specs.Words.{texts, value_in}
-use Rattle.arguments_lists.specs.Lists.{files_rule, values_in}
+use Rattle.arguments.specs.Words.{texts, value_in, values_in}
 use Rattle.checking.specs.declared.words.CheckWords.{CheckWords}
 use Rattle.clap.specs.Words.{App, Text, with_rule}
 use Rattle.model.specs.State.{Map}

@@ -1,17 +1,15 @@
 //! The words of `check`.
 
 ghost use Rattle.std.specs.Prelude.{◌≡◌, IfErr, IfOk, None, Some, false, option_map};
-ghost use Rattle.arguments.specs.Words.{Fits, IsRefusalOf, texts};
-ghost use Rattle.arguments_lists.specs.Lists.{all_values};
+ghost use Rattle.arguments.specs.Words.{Fits, IsRefusalOf, all_values, texts};
 ghost use Rattle.checking.specs.CommandLine.{check, check_asked, check_by, check_of, check_view};
 ghost use Rattle.clap.specs.Words.{app_of, first_value, found_of, kind_of};
 ghost use Rattle.clap.specs.declared.builder.command.Command.TheViews.{out-Command};
 
 use arguments::{
-    WordsFault, begin, flag, is_given, matched, port, port_asked, profile, profile_asked,
-    value_fault,
+    WordsFault, begin, file_list, flag, is_given, matched, port, port_asked, profile,
+    profile_asked, value_fault,
 };
-use arguments_lists::files;
 use clap::error::ErrorKind;
 use clap::{ArgMatches, Command, Error};
 use model::Profile;
@@ -45,7 +43,7 @@ pub fn check_command<'a>(alloc: Global) -> Result<Command<'a>, Error>
 {
     let about = "Tells all faults of each source, or its warnings if it has no fault";
     let command = begin(alloc, "check", "mos65 check", about, STATUSES)?
-        .arg(files(alloc, "SOURCE", "The sources to check"))?
+        .arg(file_list(alloc, "SOURCE", "The sources to check"))?
         .arg(flag(alloc, "strict", "End with 1 if there is a warning"))?
         .arg(port(alloc))?
         .arg(profile(alloc))?;

@@ -1,10 +1,9 @@
 -- What is asked for by what was found among the words.
 use Rattle.std.proofs.Common.{◌≡◌, ◌∙◌, List, ap, ap₂}
-use Rattle.arguments.specs.Words.{value_in}
+use Rattle.arguments.specs.Words.{all_values, value_in, values_in}
 use Rattle.clap.specs.Words.{App, Text, first_value, found_of, matches_of, rows_of}
 use Rattle.clap.specs.declared.parser.matches.ArgMatches.{ArgMatches}
-use Rattle.arguments_lists.specs.Lists.{all_values, values_in}
-use Rattle.arguments_lists.proofs.AllFound.{all_found}
+use Rattle.arguments.proofs.Parsed.{all_found}
 use Rattle.dis_source.specs.Asked.{source_asked}
 use Rattle.dis_source.specs.CommandLine.{dis, words_asked}
 

@@ -2,9 +2,8 @@
 -- [--follow ADDRESS ..] [--symbols FILE] [--profile N|C]`, as clap's definitions describe one. How
 -- words are matched with it is clap's to say. Source: mos65.
 use Rattle.std.specs.Prelude.{◌≡◌, List, Option, Some, codes}
-use Rattle.arguments.specs.CommandLine.{file_rule, flag_rule, option_rule, unnamed}
-use Rattle.arguments.specs.Words.{Fits, value_in}
-use Rattle.arguments_lists.specs.Lists.{list_rule, values_in}
+use Rattle.arguments.specs.CommandLine.{file_rule, flag_rule, list_rule, option_rule, unnamed}
+use Rattle.arguments.specs.Words.{Fits, value_in, values_in}
 use Rattle.clap.specs.Words.{App, Rule, Text, new_rule, with_rule}
 use Rattle.clap.specs.declared.builder.action.ArgAction.TheVariants.{Set}
 use Rattle.dis_source.specs.Asked.{SourceAsked, source_asked}

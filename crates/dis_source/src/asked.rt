@@ -1,8 +1,7 @@
 //! What the words ask for.
 ghost use Rattle.std.specs.Prelude.{◌≡◌, IfErr, IfOk, None, Some, map, option_map};
-ghost use Rattle.arguments.specs.Words.{Fits, IsRefusalOf, texts};
+ghost use Rattle.arguments.specs.Words.{Fits, IsRefusalOf, all_values, texts};
 ghost use Rattle.clap.specs.Words.{first_value, found_of};
-ghost use Rattle.arguments_lists.specs.Lists.{all_values};
 ghost use Rattle.dis_source.specs.Asked.{addresses_of, all_of, bounds_asked};
 ghost use Rattle.dis_source.specs.Asked.{follow_asked, range_of, ranges_asked};
 ghost use Rattle.dis_source.specs.Asked.{source_asked};

@@ -5,8 +5,7 @@ ghost use Rattle.clap.specs.Words.{app_of, kind_of, rule_of};
 ghost use Rattle.clap.specs.declared.builder.command.Command.TheViews.{out-Command};
 ghost use Rattle.dis_source.specs.CommandLine.{bound_rule, dis};
 
-use arguments::{begin, file, flag, option, profile};
-use arguments_lists::list;
+use arguments::{begin, file, flag, list, option, profile};
 use clap::error::ErrorKind;
 use clap::{Arg, ArgAction, Command, Error};
 use std::alloc::Global;

@@ -1,9 +1,8 @@
 -- The command line of `test FILE .. [--junit FILE]`, as clap's definitions describe one. How words
 -- are matched with it is clap's to say. Source: mos65.
 use Rattle.std.specs.Prelude.{◌≡◌, List, Option, Some, codes}
-use Rattle.arguments.specs.CommandLine.{option_rule, unnamed}
-use Rattle.arguments.specs.Words.{Fits, value_in}
-use Rattle.arguments_lists.specs.Lists.{files_rule, values_in}
+use Rattle.arguments.specs.CommandLine.{files_rule, option_rule, unnamed}
+use Rattle.arguments.specs.Words.{Fits, value_in, values_in}
 use Rattle.clap.specs.Words.{App, Text, with_rule}
 use Rattle.t65.specs.Asked.{TestAsked, test_asked}
 

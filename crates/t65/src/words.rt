@@ -2,16 +2,14 @@
 
 ghost use Rattle.std.specs.Prelude.{◌≡◌, IfErr, IfOk, None, Some, false, map, option_map};
 ghost use Rattle.std.specs.List.{list_any};
-ghost use Rattle.arguments.specs.Words.{Fits, IsRefusalOf, texts};
-ghost use Rattle.arguments_lists.specs.Lists.{all_values};
+ghost use Rattle.arguments.specs.Words.{Fits, IsRefusalOf, all_values, texts};
 ghost use Rattle.clap.specs.Words.{app_of, first_value, found_of, kind_of};
 ghost use Rattle.clap.specs.declared.builder.command.Command.TheViews.{out-Command};
 ghost use Rattle.t65.specs.Asked.{has_name, replaces, test_asked, test_of};
 ghost use Rattle.t65.specs.CommandLine.{test, words_asked};
 ghost use Rattle.t65.specs.Views.{test_view};
 
-use arguments::{WordsFault, begin, matched, option};
-use arguments_lists::files;
+use arguments::{WordsFault, begin, file_list, matched, option};
 use clap::error::ErrorKind;
 use clap::{ArgMatches, Command, Error};
 use std::alloc::{AllocError, Global};
@@ -42,7 +40,7 @@ pub fn test_command<'a>(alloc: Global) -> Result<Command<'a>, Error>
     let about = "Tests routines by rows: what is given to a call, and what it has to leave";
     let junit = "The file to write a report for JUnit to [default: none]";
     let command = begin(alloc, "test", "mos65 test", about, STATUSES)?
-        .arg(files(
+        .arg(file_list(
             alloc,
             "FILE",
             "Files of rows, each of which names its source",

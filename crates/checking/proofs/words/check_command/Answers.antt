@@ -1,12 +1,11 @@
 use Rattle.std.proofs.Common.{rules, ap₂, codes, ◌≡◌, ◌∙◌}
-use Rattle.arguments.specs.CommandLine.{flag_rule, option_rule, unnamed}
-use Rattle.arguments_lists.specs.Lists.{files_rule}
+use Rattle.arguments.specs.CommandLine.{files_rule, flag_rule, option_rule, unnamed}
 use Rattle.clap.specs.Words.{app_of, rule_of, with_rule}
 use Rattle.checking.proofs.words.check_command.Goals as goal
 
 pub returns-clause-shape : goal.returns-clause-shape
 returns-clause-shape c =
-    let source_is : rule_of c.files.result ≡ files_rule (codes "SOURCE") = search rules in
+    let source_is : rule_of c.file_list.result ≡ files_rule (codes "SOURCE") = search rules in
     let strict_is : rule_of c.flag.result ≡ flag_rule (codes "strict") = search rules in
     let port_is : rule_of c.port.result ≡ option_rule (codes "port") = search rules in
     let profile_is : rule_of c.profile.result ≡ option_rule (codes "profile") = search rules in

@@ -1,7 +1,6 @@
 use Rattle.std.proofs.Common.{rules, ap₂, codes, ◌≡◌, ◌∙◌}
-use Rattle.arguments.specs.CommandLine.{file_rule, flag_rule, option_rule}
+use Rattle.arguments.specs.CommandLine.{file_rule, flag_rule, list_rule, option_rule}
 use Rattle.clap.specs.Words.{rule_of, with_rule}
-use Rattle.arguments_lists.specs.Lists.{list_rule}
 use Rattle.dis_source.specs.CommandLine.{bound_rule}
 use Rattle.dis_source.proofs.command.dis_source_command.Goals as goal
 
