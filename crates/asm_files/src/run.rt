@@ -3,18 +3,24 @@
 ghost use Rattle.std.specs.Prelude.{◌≡◌, ◌≤◌, ◌⊎◌, None, Err, IfErr, IfOk, false};
 ghost use Rattle.arguments.specs.Files.{EndsWriting};
 ghost use Rattle.arguments.specs.Words.{AsksForHelp, Fits, Misfits, texts};
-ghost use Rattle.asm_files.specs.CommandLine.{Asks, HasSource, HasSourceFault, asm, map_asked};
-ghost use Rattle.asm_files.specs.CommandLine.{words_asked};
+ghost use Rattle.asm_files.specs.CommandLine.{Asks, EndsTexts, HasSource, HasSourceFault, asm};
+ghost use Rattle.asm_files.specs.CommandLine.{map_asked, words_asked};
+ghost use Rattle.assembler.specs.Assembly.{out_of_memory};
 ghost use Rattle.asm_files.specs.Views.{files_view};
+ghost use Rattle.arguments.specs.declared.load_fault.LoadFault.TheVariants.{Refused};
+ghost use Rattle.model.specs.Source.{HasFault};
 ghost use Rattle.model.specs.State.{is_map};
 ghost use Rattle.model.specs.declared.bus_fault.BusFault.TheVariants.{BadMap};
-ghost use Rattle.program.specs.Refusals.{EndsAsm};
 
 use crate::asked::{FilesWords, read_files_words};
 use crate::texts::{FileTexts, TextsAsked, file_texts};
 use arguments::{
-    FileRefusal, Refusal, is_one_file, map_of, read_source, refused_words, write_file,
+    FileRefusal, LoadFault, Refusal, is_one_file, map_of, read_source, refused_words, write_file,
 };
+use bus::MapSpec;
+use fault_notes::told_faults;
+use model::AsmFault;
+use std::alloc::Global;
 use std::io::Write;
 use std::rt::Files;
 
@@ -88,39 +94,53 @@ fn texts_asked(words: &FilesWords<'_>) -> TextsAsked {
     }
 }
 
-/// Returns the texts of the source that the words name.
-fn texts_of<H: Files + AllocGlobal>(rt: &H, words: &FilesWords<'_>) -> Result<FileTexts, Refusal>
-    ensures bad_map { is_map None words.now.asm.port ≡ false → result ≡ Err (Refusal.Map BadMap) }
-    ensures refused { IfErr result (EndsAsm (map_asked (files_view words.now))) }
-    ensures done { IfOk result (λ _. HasSource (map_asked (files_view words.now))) }
+/// Returns why a source is refused that has a fault: all its faults, or that memory ran out.
+#[tactic(auto, using(crate::proofs::Ends::told_ends))]
+fn faults_of(alloc: Global, file: &str, source: &[u8], map: &MapSpec, fault: AsmFault) -> LoadFault
+    requires { (fault ≡ out_of_memory) ⊎ HasFault map.now source.now fault }
+    ensures { EndsTexts map.now file.now result }
 {
-    let map = map_of(words.asm.profile, None, words.asm.port)?;
-    let source = read_source(rt, words.asm.source)?;
-    let texts = file_texts(rt.alloc(), source.as_slice(), &map, texts_asked(words))?;
-    Ok(texts)
+    match told_faults(alloc, file.as_bytes(), source, map, fault) {
+        Some(text) => LoadFault::Faults { fault, text },
+        None => LoadFault::Refused(Refusal::OutOfMemory),
+    }
 }
 
-/// Assembles a file, and writes its tape and the files that are asked for.
-///
-/// All texts are whole before a file is made.
-fn assembled<'a, H: Files + AllocGlobal>(
-    rt: &H,
-    words: &FilesWords<'a>,
-) -> Result<(), FileRefusal<'a>>
-    ensures refused { IfErr result (λ why. EndsAsm (map_asked (files_view words.now)) why.refusal) }
+/// Returns the texts of the source that the words name.
+fn texts_of<H: Files + AllocGlobal>(rt: &H, words: &FilesWords<'_>) -> Result<FileTexts, LoadFault>
+    ensures bad_map { is_map None words.now.asm.port ≡ false
+        → result ≡ Err (Refused (Refusal.Map BadMap)) }
+    ensures refused { IfErr result
+        (EndsTexts (map_asked (files_view words.now)) words.now.asm.source.now) }
     ensures done { IfOk result (λ _. HasSource (map_asked (files_view words.now))) }
 {
-    match texts_of(rt, words) {
-        Ok(texts) => write_texts(rt, words, &texts),
-        Err(refusal) => Err(FileRefusal {
-            file: words.asm.source,
-            refusal,
-        }),
+    let map = map_of(words.asm.profile, None, words.asm.port).map_err(Refusal::from)?;
+    let source = read_source(rt, words.asm.source)?;
+    match file_texts(rt.alloc(), source.as_slice(), &map, texts_asked(words)) {
+        Ok(texts) => Ok(texts),
+        Err(fault) => Err(faults_of(rt.alloc(), words.asm.source, &source, &map, fault)),
+    }
+}
+
+/// Writes the texts, or why not, and returns the exit status.
+fn written<H: Files, E: Write>(
+    rt: &H,
+    words: &FilesWords<'_>,
+    texts: &FileTexts,
+    errors: &mut E,
+) -> u8
+    ensures status { result ≤ 4 }
+    ensures late { 1 ≤ result → 3 ≤ result }
+    ensures quiet { result ≡ 0 → errors.new ≡ errors.old }
+{
+    match write_texts(rt, words, texts) {
+        Ok(()) => 0,
+        Err(why) => why.tell(errors),
     }
 }
 
 /// Assembles a file and writes the files that are asked for, or why not, and returns the exit
-/// status.
+/// status. All texts are whole before a file is made.
 fn done<H: Files + AllocGlobal, E: Write>(rt: &H, words: &FilesWords<'_>, errors: &mut E) -> u8
     ensures status { result ≤ 4 }
     ensures quiet { result ≡ 0 → errors.new ≡ errors.old }
@@ -128,9 +148,9 @@ fn done<H: Files + AllocGlobal, E: Write>(rt: &H, words: &FilesWords<'_>, errors
     ensures rejected { result ≡ 1 → HasSourceFault (map_asked (files_view words.now)) }
     ensures refused { result ≡ 2 → is_map None words.now.asm.port ≡ false }
 {
-    match assembled(rt, words) {
-        Ok(()) => 0,
-        Err(why) => why.tell(errors),
+    match texts_of(rt, words) {
+        Ok(texts) => written(rt, words, &texts, errors),
+        Err(fault) => fault.tell(words.asm.source, errors),
     }
 }
 
@@ -138,12 +158,12 @@ fn done<H: Files + AllocGlobal, E: Write>(rt: &H, words: &FilesWords<'_>, errors
 /// exit status.
 ///
 /// The status is that of `asm`: 0 if it is done, 1 if the source is rejected, 2 if the words or the
-/// map are wrong, 3 if memory ran out, 4 if reading or writing failed. For each but 0 a line on
-/// `errors` says why, with the name of the file that has the fault or cannot be read or written;
-/// the status is the same if it cannot be written. The tape is written first, then the listing, the
-/// names and the places of the lines; all texts are whole before the first file is made. If a file
-/// to write is the source under another name, the status is 4 and nothing is written. The output
-/// gets nothing but help.
+/// map are wrong, 3 if memory ran out, 4 if reading or writing failed. For each but 0 `errors` gets
+/// why: all faults of the source, or a line with the name of the file that cannot be read or
+/// written; the status is the same if that cannot be written. The tape is written first, then the
+/// listing, the names and the places of the lines; all texts are whole before the first file is
+/// made. If a file to write is the source under another name, the status is 4 and nothing is
+/// written. The output gets nothing but help.
 pub fn asm_files<H: Files + AllocGlobal, O: Write, E: Write>(
     rt: &H,
     words: &[&str],

@@ -1,11 +1,13 @@
 //! The blocks of all faults.
 
-ghost use Rattle.std.specs.Prelude.{◌≡◌, ◌≤◌, ◌++◌, [], IfOk, OnOk, length, map, take};
+ghost use Rattle.std.specs.Prelude.{◌≡◌, ◌≤◌, ◌++◌, [], IfOk, IfSome, None, OnOk, length, map};
+ghost use Rattle.std.specs.Prelude.{take};
 ghost use Rattle.std.specs.List.Sorted.{IsNonDecreasingBy, IsPermutation};
 ghost use Rattle.std.specs.Option.{option_map};
 ghost use Rattle.fault_notes.specs.Blocks.{IsToldText, fault_blocks, known_in, means_first, means_in};
 ghost use Rattle.fault_notes.specs.Blocks.{shown_lines, title_of};
 ghost use Rattle.fault_notes.specs.Marks.{IsMeant, known_of};
+ghost use Rattle.line_parts.specs.LineFaults.{out_of_memory};
 ghost use Rattle.model.specs.AllFaults.{faults_of};
 ghost use Rattle.model.specs.TextLines.{lines_of};
 ghost use Rattle.source_notes.specs.Blocks.{AreBlocks, block_of};
@@ -189,9 +191,7 @@ pub fn faults_text(
 
 /// Returns the text of all faults of a source on a map, as `faults_text` writes it under the name
 /// of the source's file. It is empty if the source has no fault.
-///
-/// Errors: `AllocError` if an allocation fails. Source: mos65.
-pub fn all_faults_text(
+fn all_faults_text(
     alloc: Global,
     file: &[u8],
     source: &[u8],
@@ -203,4 +203,24 @@ pub fn all_faults_text(
 {
     let faults = source_faults(alloc, source, map)?;
     faults_text(alloc, file, source, map, &faults)
+}
+
+/// Returns the text of all faults of a source that is refused with a fault, as `faults_text` writes
+/// it under the name of the source's file. Returns nothing if memory ran out, or if that is the
+/// fault. Source: mos65.
+pub fn told_faults(
+    alloc: Global,
+    file: &[u8],
+    source: &[u8],
+    map: &MapSpec,
+    fault: AsmFault,
+) -> Option<Vec<u8>>
+    ensures told { IfSome result (λ text. IsToldText file.now source.now map.now.profile
+        (faults_of map.now source.now) text.items) }
+    ensures memory { fault ≡ out_of_memory → result ≡ None }
+{
+    match fault.kind {
+        AsmFaultKind::OutOfMemory => None,
+        _ => all_faults_text(alloc, file, source, map).ok(),
+    }
 }

@@ -2,7 +2,7 @@
 //! name, by how much a value misses.
 //!
 //! `faults_text` writes a block for each fault: the fault's line, name and number, words, and the
-//! source's own line with a mark under the bytes that are meant. `all_faults_text` finds the faults
+//! source's own line with a mark under the bytes that are meant. `told_faults` finds the faults
 //! itself. Which bytes are meant is proved (`Marks.antt`); what the words say is tested and not
 //! proved. `note` finds both for each kind of fault, with `scan` for bytes that begin no token,
 //! `form` for tokens that are none of the grammar, `values` for values, and `near` for names that
@@ -17,4 +17,4 @@ mod scan;
 mod values;
 mod wording;
 
-pub use block::{all_faults_text, faults_text};
+pub use block::{faults_text, told_faults};

@@ -5,19 +5,28 @@ use Rattle.assembler.specs.Assembly.{AssemblyView, IsAssembled}
 use Rattle.arguments.specs.Asked.{FileAsked, map_of}
 use Rattle.arguments.specs.Files.{IsUnread}
 use Rattle.arguments.specs.declared.load_fault.LoadFault.{LoadFault}
-use Rattle.arguments.specs.declared.load_fault.LoadFault.TheVariants.{LooksLikeTape, Refused}
+use Rattle.arguments.specs.declared.load_fault.LoadFault.TheVariants.{Faults, LooksLikeTape, Refused}
 use Rattle.arguments.specs.declared.refusal.Refusal.{Refusal}
 use Rattle.arguments.specs.declared.refusal.Refusal.TheVariants as refusal
+use Rattle.fault_notes.specs.Blocks.{IsToldText}
+use Rattle.model.specs.AllFaults.{faults_of}
 use Rattle.model.specs.Source.{HasFault}
 use Rattle.model.specs.State.{Map, has_port_byte, is_map}
 use Rattle.model.specs.TapePieces.{IsReadInPieces}
 use Rattle.model.specs.declared.bus_fault.BusFault.TheVariants.{BadMap}
+use Rattle.model.specs.declared.source_fault.AsmFault.{AsmFault}
 use Rattle.model.specs.declared.session_fault.SessionFault.TheVariants.{PortAddress}
 use Rattle.papertape.specs.Hint.{BeginsTape}
 
 -- A port and a ROM that make no map are rejected for that.
 abbrev pub IsBadMap : Map → Refusal → Type 0
 IsBadMap bus_map fault = (is_map bus_map.rom bus_map.port ≡ false) × (fault ≡ refusal.Map BadMap)
+
+-- Why a source is not read: memory ran out, or the file cannot be read.
+abbrev pub EndsReading : Refusal → Type 0
+EndsReading refusal.OutOfMemory = ⊤
+EndsReading (refusal.Read why) = ⊤
+EndsReading fault = ⊥
 
 -- Why a source is not assembled: it has this fault, memory ran out, or the file cannot be read.
 abbrev pub EndsSource : Map → Refusal → Type 0
@@ -37,20 +46,28 @@ EndsTape bus_map fault = IsUnread fault
 abbrev pub EndsNames : FileAsked → Refusal → Type 0
 EndsNames asked fault = IsBadMap (map_of asked) fault ⊎ EndsSource (map_of asked) fault
 
--- Why a file is not loaded on a map: as a source it may also begin with a record of a tape.
-abbrev pub EndsFile : Bool → Map → LoadFault → Type 0
-EndsFile true bus_map LooksLikeTape = ⊥
-EndsFile true bus_map (Refused fault) = EndsTape bus_map fault
-EndsFile false bus_map LooksLikeTape = (source : List ℕ) × BeginsTape source
-EndsFile false bus_map (Refused fault) = EndsSource bus_map fault
+-- A source has a fault, and a text tells of all its faults under the name of its file.
+abbrev pub TellsFaults : Map → List ℕ → AsmFault → List ℕ → Type 0
+TellsFaults bus_map file fault text = (source : List ℕ) × HasFault bus_map source fault
+    × IsToldText file source bus_map.profile (faults_of bus_map source) text
+
+-- Why a file is not loaded on a map: as a source it may also have faults, which are told, or begin
+-- with a record of a tape.
+abbrev pub EndsFile : Bool → Map → List ℕ → LoadFault → Type 0
+EndsFile true bus_map file (Refused fault) = EndsTape bus_map fault
+EndsFile true bus_map file fault = ⊥
+EndsFile false bus_map file LooksLikeTape = (source : List ℕ) × BeginsTape source
+EndsFile false bus_map file (Faults fault text) = TellsFaults bus_map file fault text.items
+EndsFile false bus_map file (Refused fault) = EndsReading fault
 
 abbrev pub EndsOnMap : Map → LoadFault → Type 0
-EndsOnMap bus_map LooksLikeTape = ⊥
 EndsOnMap bus_map (Refused fault) = IsBadMap bus_map fault
+EndsOnMap bus_map fault = ⊥
 
 -- Why a file is not loaded.
 abbrev pub EndsLoad : FileAsked → LoadFault → Type 0
-EndsLoad asked fault = EndsOnMap (map_of asked) fault ⊎ EndsFile asked.is_tape (map_of asked) fault
+EndsLoad asked fault = EndsOnMap (map_of asked) fault
+    ⊎ EndsFile asked.is_tape (map_of asked) asked.file fault
 
 -- Some tape denotes an image, which has no assembly; or it is that of some source's assembly.
 abbrev pub IsImageOf : Bool → Map → List (Option ℕ) → Option AssemblyView → Type 0

@@ -1,7 +1,7 @@
 -- What is told of a file that is not loaded. Source: mos65.
 use Rattle.std.specs.Prelude.{◌≡◌, ℕ, List, Option}
 use Rattle.arguments.specs.Asked.{FileAsked}
-use Rattle.arguments.specs.FaultLines.{load_line}
+use Rattle.arguments.specs.FaultLines.{load_text}
 use Rattle.arguments.specs.Statuses.{status_of_load}
 use Rattle.arguments.specs.declared.load_fault.LoadFault.{LoadFault}
 use Rattle.loading.specs.Loads.{EndsLoad}
@@ -12,12 +12,12 @@ pub record Heard : Type 0 where
   pub held : Option (List ℕ)
   pub now : Option (List ℕ)
 
--- The error stream got a line, or a beginning of it where a write failed.
+-- The error stream got a text, or a beginning of it where a write failed.
 abbrev pub Tells : Heard → List ℕ → Type 0
-Tells heard line = AppendsFront heard.held heard.now line
+Tells heard text = AppendsFront heard.held heard.now text
 
 -- The file was not loaded, the error stream got why, and the other streams were left alone,
 -- `Alone`.
 abbrev pub IsUnloaded : FileAsked → Heard → ℕ → Type 0 → Type 0
 IsUnloaded file heard status Alone = (fault : LoadFault) × EndsLoad file fault
-    × (status ≡ status_of_load fault) × Tells heard (load_line fault file.file) × Alone
+    × (status ≡ status_of_load fault) × Tells heard (load_text fault file.file) × Alone

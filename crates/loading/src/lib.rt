@@ -2,8 +2,9 @@
 //!
 //! `load` returns a session at the start of an image that some such file denotes on the map of the
 //! words, with the assembly of a source and the addresses at which the image has a byte, or says
-//! why not (`specs/Loads.antt`). Which file it is, no clause can say. `place_of` finds the address
-//! of a name, of hex digits or of a sum (`specs/Place.antt`).
+//! why not (`specs/Loads.antt`): of a source with faults it tells all of them. Which file it is, no
+//! clause can say. `place_of` finds the address of a name, of hex digits or of a sum
+//! (`specs/Place.antt`).
 #![tactic(auto)]
 
 mod digits;

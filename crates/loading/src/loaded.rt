@@ -1,15 +1,16 @@
 //! A file loaded into a session.
 
 ghost use Rattle.std.specs.Prelude.{◌≡◌, ◌≤◌, ℕ, List, [], Option, Err, IfErr, IfOk, Some, false};
-ghost use Rattle.std.specs.Prelude.{true};
+ghost use Rattle.std.specs.Prelude.{◌⊎◌, true};
 ghost use Rattle.accesses.specs.Writing.{bytes_in};
 ghost use Rattle.arguments.specs.Asked.{file_view, map_of};
 ghost use Rattle.arguments.specs.declared.load_fault.LoadFault.TheVariants.{Refused};
-ghost use Rattle.assembler.specs.Assembly.{IsAssembled};
+ghost use Rattle.assembler.specs.Assembly.{IsAssembled, out_of_memory};
 ghost use Rattle.loading.specs.Loads.{EndsFile, EndsLoad, EndsNames, EndsSource, EndsTape};
 ghost use Rattle.loading.specs.Loads.{IsBadMap, IsImageOf, IsLoaded};
 ghost use Rattle.model.specs.Event.{start};
 ghost use Rattle.model.specs.Session.{new_session};
+ghost use Rattle.model.specs.Source.{HasFault};
 ghost use Rattle.model.specs.State.{has_port_byte, input_waits, is_map};
 ghost use Rattle.model.specs.declared.bus_fault.BusFault.TheVariants.{BadMap};
 
@@ -17,7 +18,9 @@ use accesses::Written;
 use arguments::{FileWords, LoadFault, Refusal, image_of_tape, map_of, read_source};
 use assembler::{Assembly, assemble};
 use debugger::Session;
+use fault_notes::told_faults;
 use memory_map::{Image, MapSpec};
+use model::AsmFault;
 use papertape::looks_like_tape;
 use std::alloc::Global;
 use std::rt::Files;
@@ -54,15 +57,35 @@ fn assembled(alloc: Global, source: &[u8], map: &MapSpec) -> Result<Assembly, Re
     Ok(assemble(alloc, source, map)?)
 }
 
-/// Assembles a source on a map, unless it begins with a record of a tape.
-fn assembled_source(alloc: Global, source: &[u8], map: &MapSpec) -> Result<Assembly, LoadFault>
+/// Returns why a source is refused that has a fault: all its faults, or that memory ran out.
+#[tactic(auto, using(crate::proofs::Ends::told_ends))]
+fn faults_of(alloc: Global, file: &str, source: &[u8], map: &MapSpec, fault: AsmFault) -> LoadFault
+    requires { (fault ≡ out_of_memory) ⊎ HasFault map.now source.now fault }
+    ensures { EndsFile false map.now file.now result }
+{
+    match told_faults(alloc, file.as_bytes(), source, map, fault) {
+        Some(text) => LoadFault::Faults { fault, text },
+        None => LoadFault::Refused(Refusal::OutOfMemory),
+    }
+}
+
+/// Assembles the source of a file on a map, unless it begins with a record of a tape.
+fn assembled_source(
+    alloc: Global,
+    file: &str,
+    source: &[u8],
+    map: &MapSpec,
+) -> Result<Assembly, LoadFault>
     ensures assembled { IfOk result (IsAssembled map.now) }
     ensures kept { IfOk result (λ a. a.source ≡ source.now) }
     ensures spared { IfOk result (λ a. has_port_byte map.now a.image ≡ false) }
-    ensures refused { IfErr result (EndsFile false map.now) }
+    ensures refused { IfErr result (EndsFile false map.now file.now) }
 {
     match looks_like_tape(alloc, source) {
-        Ok(false) => Ok(assembled(alloc, source, map)?),
+        Ok(false) => match assemble(alloc, source, map) {
+            Ok(assembly) => Ok(assembly),
+            Err(fault) => Err(faults_of(alloc, file, source, map, fault)),
+        },
         Ok(true) => Err(LoadFault::LooksLikeTape),
         Err(_) => Err(LoadFault::Refused(Refusal::OutOfMemory)),
     }
@@ -114,10 +137,10 @@ fn load_source<H: Files + AllocGlobal>(
         × IsImageOf false map image loaded.assembly
         × (loaded.session ≡ new_session history (start map image))
         × (loaded.written ≡ bytes_in image)) }
-    ensures refused { IfErr result (EndsFile false map) }
+    ensures refused { IfErr result (EndsFile false map words.now.file.now) }
 {
     let source = read_source(rt, words.file)?;
-    let assembly = assembled_source(rt.alloc(), source.as_slice(), &map)?;
+    let assembly = assembled_source(rt.alloc(), words.file, source.as_slice(), &map)?;
     Ok(start_source(rt.alloc(), map, assembly, history)?)
 }
 
@@ -152,8 +175,8 @@ fn load_tape<H: Files + AllocGlobal>(
 ///
 /// In this order: `Map` if the port and the ROM do not make a map; `Read` if the file cannot be
 /// read; `LooksLikeTape` if the file is given as a source and begins with a record of a tape;
-/// `Source` or `Tape` with its fault; `Session` if a tape has a byte at the port. `OutOfMemory` if
-/// an allocation fails.
+/// `Faults` with all faults of a source; `Tape` with its fault; `Session` if a tape has a byte at
+/// the port. `OutOfMemory` if an allocation fails.
 pub fn load<H: Files + AllocGlobal>(rt: &H, words: &FileWords<'_>) -> Result<Loaded, LoadFault>
     ensures started { IfOk result (λ loaded. (image : List (Option ℕ))
         × IsLoaded (file_view words.now) image loaded.assembly

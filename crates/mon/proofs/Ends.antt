@@ -1,6 +1,6 @@
 -- Why no session begins.
 use Rattle.std.proofs.Common.{◌≡◌, ◌⊎◌, ℕ, inl, inr, subst, List, Option, None, Some, Bor, option_map, unwrap_or}
-use Rattle.arguments.specs.FaultLines.{file_line, load_line}
+use Rattle.arguments.specs.FaultLines.{file_line, load_text}
 use Rattle.arguments.specs.Statuses.{status_of}
 use Rattle.arguments.specs.Asked.{FileAsked}
 use Rattle.arguments.specs.declared.load_fault.LoadFault.TheVariants.{Refused}
@@ -13,7 +13,7 @@ use Rattle.mon.specs.Done.{EndsNamed, IsUnnamed}
 -- Memory ran out: the line names no file.
 memory_unloads : (file : FileAsked) (heard : Heard) (path : List ℕ) (fault : Refusal) (status : ℕ) (Alone : Type 0) → fault ≡ OutOfMemory
     → status ≡ status_of fault → Tells heard (file_line path fault) → Alone → IsUnloaded file heard status Alone
-unfolding load_line file_line
+unfolding load_text file_line
 memory_unloads file heard path fault status A memory is told alone =
     (Refused OutOfMemory, memory_ends file, subst (λ f. status ≡ status_of f) memory is, subst (λ f. Tells heard (file_line path f)) memory told, alone)
 

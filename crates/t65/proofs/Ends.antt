@@ -1,24 +1,27 @@
 -- Why a file of rows cannot be tested, by what its parts say.
-use Rattle.std.proofs.Common.{◌≡◌, ℕ, List, Result, Ok, Err, false, ◌⊎◌, refl, sym, subst, inl, inr}
+use Rattle.std.proofs.Common.{◌≡◌, ℕ, List, Option, Some, None, Result, Ok, Err, false, ◌⊎◌, refl, sym, subst, inl, inr}
 use Rattle.std.specs.Prelude.{IfErr, IsErrAnd}
-use Rattle.arguments.specs.Refusals.{of_source, of_source_kind}
+use Rattle.std.specs.declared.alloc.Global.{Global}
+use Rattle.std.specs.declared.vec.Vec.{Vec}
 use Rattle.arguments.specs.declared.refusal.Refusal.{Refusal}
 use Rattle.arguments.specs.declared.refusal.Refusal.TheVariants.{Words, Map as NoMap, Source, Tape, Session as NoSession, OutOfMemory, Read, Write}
 use Rattle.assembler.specs.Assembly.{AssemblyView, IsAssembled, out_of_memory}
+use Rattle.fault_notes.specs.Blocks.{IsToldText}
+use Rattle.model.specs.AllFaults.{faults_of}
 use Rattle.model.specs.Source.{HasFault}
 use Rattle.model.specs.State.{Map, is_map}
 use Rattle.model.specs.TextLines.{lines_of}
 use Rattle.model.specs.declared.bus_fault.BusFault.TheVariants.{BadMap}
 use Rattle.model.specs.declared.source_fault.AsmFault.{AsmFault}
-use Rattle.model.specs.declared.source_fault.AsmFaultKind.{AsmFaultKind}
-use Rattle.model.specs.declared.source_fault.AsmFaultKind.TheVariants as source_fault
 use Rattle.t65_reader.specs.HeadText.{SeenHead, head_from}
 use Rattle.t65_reader.specs.declared.fault.TextFault.{TextFault}
-use Rattle.t65.specs.Ends.{EndsAssembling, EndsRefused, EndsRows, EndsSource, EndsTest, HeadedFile, IsUntested, fault_in}
+use Rattle.t65.specs.Ends.{EndsRows, EndsSource, EndsTest, HeadedFile, IsUntested, fault_in, fault_of}
 use Rattle.t65.specs.Statuses.{status_of}
 use Rattle.t65.specs.Tested.{map_of}
 use Rattle.t65.specs.declared.fault.FileFault.{FileFault}
 use Rattle.t65.specs.declared.fault.FileFault.TheVariants.{InRows}
+use Rattle.t65.specs.declared.fault.SourceFault.{SourceFault}
+use Rattle.t65.specs.declared.fault.SourceFault.TheVariants.{Faults, Other}
 use Rattle.t65.specs.declared.fault.TestFault.{TestFault}
 use Rattle.t65.specs.declared.fault.TestFault.TheVariants.{Rows, TooLarge, Replaced, Refused}
 
@@ -33,26 +36,23 @@ pub map_ends : (text : List ℕ) (head : SeenHead) (next : ℕ) (lines : List (L
 map_ends text head next lines fault headed is none =
     subst EndsTest (sym is) (headed_file text head next lines headed, refl, none)
 
-refused_ends : (text : List ℕ) (head : SeenHead) (next : ℕ) (lines : List (List ℕ)) (bus_map : Map) (refusal : Refusal)
-    → head_from 1 (lines_of text) ≡ Ok (head, next, lines) → bus_map ≡ map_of head → EndsAssembling bus_map refusal → EndsRefused refusal
-refused_ends text head next lines bus_map Words headed is ends = absurd ends
-refused_ends text head next lines bus_map (NoMap fault) headed is ends = absurd ends
-refused_ends text head next lines bus_map (Source fault) headed is ends =
-    let E : Map → Type 0 = λ m. EndsAssembling m (Source fault) in
+pub source_ends : (text : List ℕ) (head : SeenHead) (next : ℕ) (lines : List (List ℕ)) (bus_map : Map) (path : List ℕ) (fault : SourceFault)
+    → head_from 1 (lines_of text) ≡ Ok (head, next, lines) → bus_map ≡ map_of head → EndsSource bus_map path fault → EndsTest (fault_of fault)
+source_ends text head next lines bus_map path (Faults fault told) headed is ends =
+    let E : Map → Type 0 = λ m. EndsSource m path (Faults fault told) in
     let on_its_map = subst E is ends in
     (headed_file text head next lines headed, on_its_map.0, on_its_map.1)
-refused_ends text head next lines bus_map (Tape fault) headed is ends = absurd ends
-refused_ends text head next lines bus_map (NoSession fault) headed is ends = absurd ends
-refused_ends text head next lines bus_map OutOfMemory headed is ends = tt
-refused_ends text head next lines bus_map (Read why) headed is ends = tt
-refused_ends text head next lines bus_map Write headed is ends = absurd ends
-
-pub source_ends : (text : List ℕ) (head : SeenHead) (next : ℕ) (lines : List (List ℕ)) (bus_map : Map) (fault : TestFault)
-    → head_from 1 (lines_of text) ≡ Ok (head, next, lines) → bus_map ≡ map_of head → EndsSource bus_map fault → EndsTest fault
-source_ends text head next lines bus_map (Rows fault) headed is ends = absurd ends
-source_ends text head next lines bus_map TooLarge headed is ends = tt
-source_ends text head next lines bus_map Replaced headed is ends = tt
-source_ends text head next lines bus_map (Refused refusal) headed is ends = refused_ends text head next lines bus_map refusal headed is ends
+source_ends text head next lines bus_map path (Other (Rows fault)) headed is ends = absurd ends
+source_ends text head next lines bus_map path (Other TooLarge) headed is ends = tt
+source_ends text head next lines bus_map path (Other Replaced) headed is ends = tt
+source_ends text head next lines bus_map path (Other (Refused Words)) headed is ends = absurd ends
+source_ends text head next lines bus_map path (Other (Refused (NoMap fault))) headed is ends = absurd ends
+source_ends text head next lines bus_map path (Other (Refused (Source fault))) headed is ends = absurd ends
+source_ends text head next lines bus_map path (Other (Refused (Tape fault))) headed is ends = absurd ends
+source_ends text head next lines bus_map path (Other (Refused (NoSession fault))) headed is ends = absurd ends
+source_ends text head next lines bus_map path (Other (Refused OutOfMemory)) headed is ends = tt
+source_ends text head next lines bus_map path (Other (Refused (Read why))) headed is ends = tt
+source_ends text head next lines bus_map path (Other (Refused Write)) headed is ends = absurd ends
 
 pub rows_end : (text : List ℕ) (head : SeenHead) (next : ℕ) (lines : List (List ℕ)) (bus_map : Map) (assembly : AssemblyView) (fault : TestFault)
     → head_from 1 (lines_of text) ≡ Ok (head, next, lines) → bus_map ≡ map_of head → IsAssembled bus_map assembly → EndsRows assembly.names next lines fault → EndsTest fault
@@ -68,19 +68,14 @@ rows_end text head next lines bus_map assembly TooLarge headed is a ends = tt
 rows_end text head next lines bus_map assembly Replaced headed is a ends = tt
 rows_end text head next lines bus_map assembly (Refused refusal) headed is a ends = subst EndsTest (sym ends) tt
 
--- A source that is not assembled.
-faulty : (bus_map : Map) (source : List ℕ) (kind : AsmFaultKind) (fault : AsmFault) → HasFault bus_map source fault → EndsAssembling bus_map (of_source_kind kind fault)
-faulty bus_map source source_fault.OutOfMemory fault has = tt
-faulty bus_map source _ fault has = (source, has)
-
-not_assembled : (bus_map : Map) (source : List ℕ) (fault : AsmFault) → (fault ≡ out_of_memory) ⊎ HasFault bus_map source fault → EndsAssembling bus_map (of_source fault)
-not_assembled bus_map source fault (inl memory) = subst (λ (f : AsmFault). EndsAssembling bus_map (of_source f)) (sym memory) tt
-not_assembled bus_map source fault (inr has) = faulty bus_map source fault.kind fault has
-
-pub assembling_ends : {X : Type 0} (bus_map : Map) (source : List ℕ) (fault : AsmFault) (result : Result X Refusal) → IsErrAnd result (λ r. r ≡ of_source fault)
-    → (fault ≡ out_of_memory) ⊎ HasFault bus_map source fault → IfErr result (EndsAssembling bus_map)
-assembling_ends bus_map source fault (Ok x) is why = absurd is
-assembling_ends bus_map source fault (Err refusal) is why = subst (EndsAssembling bus_map) (sym is) (not_assembled bus_map source fault why)
+-- A source whose faults are told.
+pub told_ends : (bus_map : Map) (path source : List ℕ) (fault : AsmFault) (text : Vec ℕ Global) (told : Option (Vec ℕ Global)) → told ≡ Some text → (fault ≡ out_of_memory) ⊎ HasFault bus_map source fault
+    → (fault ≡ out_of_memory → told ≡ None) → IsToldText path source bus_map.profile (faults_of bus_map source) text.items → EndsSource bus_map path (Faults fault text)
+told_ends bus_map path source fault text told some (inl memory) none is = absurd (no_text (none memory))
+  where
+    no_text : told ≡ None → ⊥
+    no_text e = cc
+told_ends bus_map path source fault text told some (inr has) none is = (source, has, is)
 
 -- The fault of rows that are not read, passed on.
 pub rows_passed_on : {X : Type 0} (result : Result X FileFault) (text : List ℕ) (head : SeenHead) (next : ℕ) (lines : List (List ℕ)) (bus_map : Map) (assembly : AssemblyView) (fault : TestFault)

@@ -4,6 +4,8 @@ use Rattle.std.specs.Prelude.{◌≡◌, ◌⊎◌, ⊤, ℕ, false, List, Ok, E
 use Rattle.arguments.specs.declared.refusal.Refusal.{Refusal}
 use Rattle.arguments.specs.declared.refusal.Refusal.TheVariants.{Map as NoMap, Source, OutOfMemory, Read}
 use Rattle.assembler.specs.Assembly.{AssemblyView, IsAssembled}
+use Rattle.fault_notes.specs.Blocks.{IsToldText}
+use Rattle.model.specs.AllFaults.{faults_of}
 use Rattle.model.specs.Names.{Definitions}
 use Rattle.model.specs.Source.{HasFault}
 use Rattle.model.specs.State.{Map, is_map}
@@ -16,6 +18,8 @@ use Rattle.t65.specs.Statuses.{status_of}
 use Rattle.t65.specs.Tested.{map_of}
 use Rattle.t65.specs.declared.fault.FileFault.{FileFault}
 use Rattle.t65.specs.declared.fault.FileFault.TheVariants.{InRows, InSource}
+use Rattle.t65.specs.declared.fault.SourceFault.{SourceFault}
+use Rattle.t65.specs.declared.fault.SourceFault.TheVariants.{Faults, Other}
 use Rattle.t65.specs.declared.fault.TestFault.{TestFault}
 use Rattle.t65.specs.declared.fault.TestFault.TheVariants.{Rows, TooLarge, Replaced, Refused}
 
@@ -53,9 +57,14 @@ EndsTest TooLarge = ⊤
 EndsTest Replaced = ⊤
 EndsTest (Refused refusal) = EndsRefused refusal
 
+-- A source with faults is refused for one of them.
+abbrev pub fault_of : SourceFault → TestFault
+fault_of (Faults fault text) = Refused (Source fault)
+fault_of (Other fault) = fault
+
 abbrev pub fault_in : FileFault → TestFault
 fault_in (InRows fault) = fault
-fault_in (InSource path fault) = fault
+fault_in (InSource path fault) = fault_of fault
 
 -- Some file cannot be tested, for a fault that has this status.
 pub record IsUntested (status : ℕ) : Type 0 where
@@ -63,18 +72,15 @@ pub record IsUntested (status : ℕ) : Type 0 where
   pub ends : EndsTest fault
   pub status_is : status ≡ status_of fault
 
--- Why a source is not assembled on a map.
-abbrev pub EndsAssembling : Map → Refusal → Type 0
-EndsAssembling bus_map (Source fault) = (source : List ℕ) × HasFault bus_map source fault
-EndsAssembling bus_map OutOfMemory = ⊤
-EndsAssembling bus_map (Read why) = ⊤
-EndsAssembling bus_map refusal = ⊥
-
--- The same of a source that the report is not to replace.
-abbrev pub EndsSource : Map → TestFault → Type 0
-EndsSource bus_map (Refused refusal) = EndsAssembling bus_map refusal
-EndsSource bus_map Replaced = ⊤
-EndsSource bus_map fault = ⊥
+-- Why a source is not assembled on a map: it has a fault, and a text tells of all its faults under
+-- its name; it cannot be read; or the report would replace it. Memory may run out at any source.
+abbrev pub EndsSource : Map → List ℕ → SourceFault → Type 0
+EndsSource bus_map path (Faults fault text) = (source : List ℕ) × HasFault bus_map source fault
+    × IsToldText path source bus_map.profile (faults_of bus_map source) text.items
+EndsSource bus_map path (Other (Refused OutOfMemory)) = ⊤
+EndsSource bus_map path (Other (Refused (Read why))) = ⊤
+EndsSource bus_map path (Other Replaced) = ⊤
+EndsSource bus_map path (Other fault) = ⊥
 
 -- Why rows are not read under some names.
 abbrev pub EndsRows : Definitions → ℕ → List (List ℕ) → TestFault → Type 0

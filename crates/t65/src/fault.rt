@@ -3,9 +3,11 @@
 ghost use Rattle.std.specs.Prelude.{◌≡◌, ◌≤◌};
 ghost use Rattle.t65.specs.Statuses.{status_of};
 ghost use Rattle.t65.specs.declared.fault.FileFault.TheVariants.{InRows};
+ghost use Rattle.t65.specs.declared.fault.SourceFault.TheVariants.{Other};
 ghost use Rattle.t65.specs.declared.fault.TestFault.TheVariants.{Refused};
 
 use arguments::Refusal;
+use model::AsmFault;
 use t65_reader::TextFault;
 
 /// Why a file of rows cannot be tested.
@@ -45,11 +47,35 @@ impl From<Refusal> for TestFault {
     }
 }
 
+/// Why the source of a file of rows is not assembled.
+#[derive(Drop)]
+pub enum SourceFault {
+    /// It has this fault. The text tells of all its faults, as `check` does.
+    Faults { fault: AsmFault, text: Vec<u8> },
+    Other(TestFault),
+}
+
 /// Where a fault is: in the file of rows, or in the source of that path.
 #[derive(Drop)]
 pub enum FileFault {
     InRows(TestFault),
-    InSource(String, TestFault),
+    InSource(String, SourceFault),
+}
+
+impl From<Refusal> for SourceFault {
+    ghost from_gives = { λ refusal fault. fault ≡ Other (Refused refusal) };
+
+    fn from(refusal: Refusal) -> SourceFault {
+        SourceFault::Other(TestFault::Refused(refusal))
+    }
+}
+
+impl From<TestFault> for SourceFault {
+    ghost from_gives = { λ fault of_source. of_source ≡ Other fault };
+
+    fn from(fault: TestFault) -> SourceFault {
+        SourceFault::Other(fault)
+    }
 }
 
 impl From<TestFault> for FileFault {

@@ -1,22 +1,24 @@
 //! A file of rows with its source, read.
 
 ghost use Rattle.std.specs.Prelude.{◌≡◌, ◌≤◌, ◌<◌, ◌+◌, ◌∷◌, [], IfErr, IfOk, Ok, false, length};
-ghost use Rattle.std.specs.Prelude.{map, option_map};
-ghost use Rattle.assembler.specs.Assembly.{IsAssembled};
+ghost use Rattle.std.specs.Prelude.{◌⊎◌, map, option_map};
+ghost use Rattle.assembler.specs.Assembly.{IsAssembled, out_of_memory};
+ghost use Rattle.model.specs.Source.{HasFault};
 ghost use Rattle.model.specs.State.{is_map};
 ghost use Rattle.model.specs.TextLines.{lines_of};
 ghost use Rattle.t65_reader.specs.HeadText.{head_from, head_view};
 ghost use Rattle.t65_reader.specs.RowText.{numbered_view, rows_from};
-ghost use Rattle.t65.specs.Ends.{EndsAssembling, EndsRows, EndsSource, EndsTest, fault_in};
+ghost use Rattle.t65.specs.Ends.{EndsRows, EndsSource, EndsTest, fault_in};
 ghost use Rattle.t65.specs.Tested.{IsPrepared, map_of};
 ghost use Rattle.t65.specs.Asked.{replaces};
 
-use crate::fault::{FileFault, TestFault};
+use crate::fault::{FileFault, SourceFault, TestFault};
 use crate::names::{read_rows_text, source_path};
 use arguments::{Refusal, is_one_file, read_source};
 use assembler::{Assembly, assemble};
+use fault_notes::told_faults;
 use memory_map::MapSpec;
-use model::BusFault;
+use model::{AsmFault, BusFault};
 use source_map::Places;
 use std::alloc::Global;
 use std::rt::Files;
@@ -43,21 +45,41 @@ fn map_of(head: Head<'_>) -> Result<MapSpec, TestFault>
     ))
 }
 
+/// Returns why a source is refused that has a fault: all its faults, or that memory ran out.
+#[tactic(auto, using(crate::proofs::Ends::told_ends))]
+fn faults_of(
+    alloc: Global,
+    path: &str,
+    source: &[u8],
+    map: &MapSpec,
+    fault: AsmFault,
+) -> SourceFault
+    requires { (fault ≡ out_of_memory) ⊎ HasFault map.now source.now fault }
+    ensures { EndsSource map.now path.now result }
+{
+    match told_faults(alloc, path.as_bytes(), source, map, fault) {
+        Some(text) => SourceFault::Faults { fault, text },
+        None => SourceFault::from(Refusal::OutOfMemory),
+    }
+}
+
 /// Returns the source of a file, assembled.
 ///
-/// Errors: `Read` if the file cannot be read; `Source` with the source's fault; `OutOfMemory` if an
-/// allocation fails.
+/// Errors: `Read` if the file cannot be read; `Faults` with all faults of the source; `OutOfMemory`
+/// if an allocation fails.
 fn assembled_file<H: Files + AllocGlobal>(
     rt: &H,
     path: &str,
     map: &MapSpec,
-) -> Result<Assembly, Refusal>
+) -> Result<Assembly, SourceFault>
     ensures assembled { IfOk result (IsAssembled map.now) }
-    ensures refused { IfErr result (EndsAssembling map.now) }
+    ensures refused { IfErr result (EndsSource map.now path.now) }
 {
     let source = read_source(rt, path)?;
-    let assembly = assemble(rt.alloc(), &source, map)?;
-    Ok(assembly)
+    match assemble(rt.alloc(), &source, map) {
+        Ok(assembly) => Ok(assembly),
+        Err(fault) => Err(faults_of(rt.alloc(), path, &source, map, fault)),
+    }
 }
 
 /// Returns the source of a file, assembled, and its places.
@@ -67,14 +89,14 @@ fn assembled<H: Files + AllocGlobal>(
     rt: &H,
     path: &str,
     map: &MapSpec,
-) -> Result<(Assembly, Places), Refusal>
+) -> Result<(Assembly, Places), SourceFault>
     ensures assembled { IfOk result (λ found. IsAssembled map.now found.0) }
-    ensures refused { IfErr result (EndsAssembling map.now) }
+    ensures refused { IfErr result (EndsSource map.now path.now) }
 {
     let assembly = assembled_file(rt, path, map)?;
     match Places::of_source(rt.alloc(), path.as_bytes(), &assembly) {
         Ok(places) => Ok((assembly, places)),
-        Err(_) => Err(Refusal::OutOfMemory),
+        Err(_) => Err(SourceFault::from(Refusal::OutOfMemory)),
     }
 }
 
@@ -136,11 +158,11 @@ fn assembled_for<H: Files + AllocGlobal>(
     path: &str,
     map: &MapSpec,
     report: Option<&str>,
-) -> Result<(Assembly, Places), TestFault>
+) -> Result<(Assembly, Places), SourceFault>
     ensures assembled { IfOk result (λ found. IsAssembled map.now found.0) }
     ensures spared { IfOk result
         (λ _. replaces (option_map (λ f. f.now) report.entry) (path.now ∷ []) ≡ false) }
-    ensures refused { IfErr result (EndsSource map.now) }
+    ensures refused { IfErr result (EndsSource map.now path.now) }
 {
     spare(rt, path, report)?;
     let found = assembled(rt, path, map)?;

@@ -3,12 +3,12 @@
 ghost use Rattle.std.specs.Prelude.{◌≡◌, ◌≢◌, ◌⊎◌, ◌≤◌, IfErr, None, false, length, true};
 ghost use Rattle.arguments.specs.Words.{AsksForHelp, Fits, Misfits, texts};
 ghost use Rattle.t65.specs.CommandLine.{Asks, test, words_asked};
-ghost use Rattle.t65.specs.Ends.{EndsTest, IsUntested, fault_in};
+ghost use Rattle.t65.specs.Ends.{EndsTest, IsUntested, fault_in, fault_of};
 ghost use Rattle.t65.specs.Statuses.{status_of};
 ghost use Rattle.t65.specs.Tested.{AreTested};
 ghost use Rattle.t65.specs.Views.{test_view};
 
-use crate::fault::{FileFault, TestFault};
+use crate::fault::{FileFault, SourceFault, TestFault};
 use crate::files::run_files;
 use crate::words::{TestWords, read_words};
 use arguments::{Refusal, refuse, refuse_file, refused_words, write_file, write_text};
@@ -64,6 +64,22 @@ fn refuse_at<E: Write>(path: &str, fault: TestFault, errors: &mut E) -> u8
     fault.status()
 }
 
+/// Writes why a source is not assembled, all faults that it has, and returns the exit status, even
+/// if that cannot be written.
+fn refuse_source<E: Write>(path: &str, fault: SourceFault, errors: &mut E) -> u8
+    ensures value { result ≡ status_of (fault_of fault) }
+    ensures low { 1 ≤ result }
+    ensures high { result ≤ 4 }
+{
+    match fault {
+        SourceFault::Faults { text, .. } => {
+            let _ = errors.write_all(&text);
+            1
+        }
+        SourceFault::Other(fault) => refuse_at(path, fault, errors),
+    }
+}
+
 /// Writes why a file cannot be tested, and returns the exit status.
 fn refuse_untested<E: Write>(file: &str, fault: FileFault, errors: &mut E) -> u8
     ensures value { result ≡ status_of (fault_in fault) }
@@ -72,7 +88,7 @@ fn refuse_untested<E: Write>(file: &str, fault: FileFault, errors: &mut E) -> u8
 {
     match fault {
         FileFault::InRows(fault) => refuse_at(file, fault, errors),
-        FileFault::InSource(path, fault) => refuse_at(&path, fault, errors),
+        FileFault::InSource(path, fault) => refuse_source(&path, fault, errors),
     }
 }
 
@@ -152,8 +168,8 @@ fn run_words<H: Files + AllocGlobal, O: Write, E: Write>(
 /// TAP goes to `output`, when all files were run; and before it the report for JUnit to its file,
 /// if one is asked for. It replaces no file that was read: where its name is that of a file of rows
 /// the words are wrong, and where it is another name for one, or for a source, the status is 4.
-/// Where a file cannot be tested, a line on `errors` says why, and `output` is left alone. That a
-/// line cannot be written changes no status.
+/// Where a file cannot be tested, `errors` gets why: a line, or all faults of a source. `output` is
+/// left alone then. That `errors` cannot be written changes no status.
 pub fn test<H: Files + AllocGlobal, O: Write, E: Write>(
     rt: &H,
     words: &[&str],
