@@ -346,7 +346,7 @@ class Build:
         of its jobs at work all of the time. Each job reads all libraries, so a small crate gets
         one alone."""
         work = sum(self.seconds[it] for it in [*self.left, *(run.crate for run in self.running)])
-        needed = int(self.chain[crate] * self.at_once / max(work, 1))
+        needed = round(self.chain[crate] * self.at_once / max(work, 1))
         jobs = max(1, idle // count, min(needed, idle + self.at_once // 4))
         return min(jobs, 1 + len(read_all(crate)) // SIZE_OF_JOB)
 

@@ -2,8 +2,8 @@
 //!
 //! `play` makes a whole run, and `take_turn` one turn of it. A line is read only where the program
 //! looks for input and none waits; each byte of output is written as it comes. `specs/Playing.antt`
-//! says where a run leads, and `specs/Turns.antt` where a turn does, in words of `model`. Turns that
-//! need no look are made many at a time (`stretch.rt`). `proofs/Steps.antt` and
+//! says where a run leads, and `specs/Turns.antt` where a turn does, in words of `model`. Turns
+//! that need no look are made many at a time (`stretch.rt`). `proofs/Steps.antt` and
 //! `proofs/Gliding.antt` have the proof's ideas: what a step takes of the input shows in the
 //! session's views, and a plain step is a turn that ends no run.
 #![tactic(auto)]

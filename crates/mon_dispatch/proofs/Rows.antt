@@ -2,7 +2,7 @@
 use Rattle.std.proofs.Common.{◌≡◌, ◌∙◌, ℕ, suc, ◌+◌, ◌-◌, ◌<◌, ◌≤◌, cond, List, [], ◌++◌, append_assoc, append-nil, nat_le, refl, sym, ap, arith}
 use Rattle.std.proofs.lemmas.Bool.{le-leb, lt-leb}
 use Rattle.model.specs.State.{State}
-use Rattle.mon_texts.specs.Listed.{listed_len, listed_line}
+use Rattle.mon_instructions.specs.Listed.{listed_len, listed_line}
 use Rattle.source_map.specs.Lines.{PlacesView}
 use Rattle.mon_dispatch.specs.LookTexts.{rows_text}
 

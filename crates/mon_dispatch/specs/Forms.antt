@@ -13,7 +13,7 @@ use Rattle.model.specs.declared.instruction.Profile.{Profile}
 use Rattle.model.specs.declared.instruction.Row.{Row}
 use Rattle.model.specs.declared.registers.Flags.{Flags}
 use Rattle.mon_dispatch.specs.Changed.{changed_by}
-use Rattle.mon_texts.specs.declared.wording.TheConstants.{NO_INSTRUCTION}
+use Rattle.mon_session.specs.declared.wording.TheConstants.{NO_INSTRUCTION}
 use Rattle.mon_dispatch.specs.declared.forms.TheConstants.{MODES}
 use Rattle.mon_dispatch.specs.declared.wording.TheConstants.{BRANCH_CYCLES, BYTE, BYTES, CHANGES, CHANGES_NO_FLAG, CYCLES, FORM_ABS, FORM_ABSX, FORM_ABSY, FORM_ACC, FORM_IMM, FORM_IND, FORM_INDX, FORM_INDY, FORM_INDZ, FORM_REL, FORM_ZP, FORM_ZPX, FORM_ZPY, PAGE_CYCLE}
 

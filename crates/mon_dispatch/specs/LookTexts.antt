@@ -6,10 +6,10 @@ use Rattle.mon_lines.specs.declared.command.Command.{Command}
 use Rattle.mon_lines.specs.declared.command.Command.TheVariants as line
 use Rattle.mon_texts.specs.Calls.{calls_text}
 use Rattle.mon_texts.specs.Help.{help_text}
-use Rattle.mon_texts.specs.Listed.{listed_len, listed_line}
+use Rattle.mon_instructions.specs.Listed.{listed_len, listed_line}
 use Rattle.mon_texts.specs.Memory.{memory_text}
 use Rattle.mon_texts.specs.Stack.{stack_text}
-use Rattle.mon_texts.specs.Places.{place_text}
+use Rattle.mon_instructions.specs.Places.{place_text}
 use Rattle.mon_texts.specs.Registers.{flags_text, state_line}
 use Rattle.mon_texts.specs.Screen.{screen_text}
 use Rattle.mon_dispatch.specs.Forms.{forms_text}

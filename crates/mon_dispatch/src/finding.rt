@@ -7,8 +7,8 @@ ghost use Rattle.mon_dispatch.specs.LookTexts.{find_text, found_line, stands_at}
 
 use crate::wording::{AND_MORE, NOWHERE};
 use formatting::push_text;
+use mon_instructions::push_place;
 use mon_session::{Desk, Session};
-use mon_texts::push_place;
 use source_map::Places;
 use std::alloc::AllocError;
 

@@ -14,7 +14,7 @@ use crate::wording::{
 };
 use formatting::{push_blanks, push_byte, push_count, push_text};
 use model::Flags;
-use mon_texts::wording::NO_INSTRUCTION;
+use mon_session::wording::NO_INSTRUCTION;
 use optable::{
     Mnemonic, Mode, Profile, Row, decode_in, encode_in, letters_of, mnemonic_in, operation,
 };

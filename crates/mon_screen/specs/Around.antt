@@ -2,7 +2,7 @@
 use Rattle.std.specs.Prelude.{ℕ, zero, suc, ◌+◌, ◌-◌, ◌/◌, ◌%◌, ◌==◌, Bool, if◌then◌else◌, List, [], ◌++◌, Option, None, Some, codes, decimal}
 use Rattle.formatting.specs.Padding.{padded}
 use Rattle.model.specs.State.{State}
-use Rattle.mon_texts.specs.Listed.{listed_len, listed_line}
+use Rattle.mon_instructions.specs.Listed.{listed_len, listed_line}
 use Rattle.source_map.specs.Lines.{PlacesView, line_at, text_of}
 use Rattle.mon_screen.specs.declared.wording.TheConstants.{ELSEWHERE, HERE}
 

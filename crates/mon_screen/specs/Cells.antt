@@ -2,7 +2,7 @@
 use Rattle.std.specs.Prelude.{ℕ, zero, suc, ◌+◌, ◌-◌, ◌==◌, not, Bool, if◌then◌else◌, List, [], ◌∷◌, ◌++◌, drop, take}
 use Rattle.std.specs.List.{flat_map, prefix_len}
 use Rattle.formatting.specs.Padding.{padded}
-use Rattle.mon_texts.specs.Characters.{shown_character}
+use Rattle.mon_instructions.specs.Characters.{shown_character}
 use Rattle.mon_screen.specs.declared.wording.TheConstants.{ROW_END}
 
 -- ---- lines of a text

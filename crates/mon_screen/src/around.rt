@@ -8,7 +8,7 @@ ghost use Rattle.source_map.specs.Lines.{text_of};
 use crate::wording::{ELSEWHERE, HERE};
 use debugger::Session;
 use formatting::{push_blanks, push_count, push_text};
-use mon_texts::push_listed;
+use mon_instructions::push_listed;
 use source_map::Places;
 use std::alloc::AllocError;
 

@@ -5,9 +5,9 @@ use Rattle.model.specs.Event.{event_of}
 use Rattle.model.specs.declared.event.Event.{Event}
 use Rattle.model.specs.declared.event.EventFault.{EventFault}
 use Rattle.mon_runs.specs.Ends.{is_entry}
-use Rattle.mon_texts.specs.Instructions.{next_line}
-use Rattle.mon_texts.specs.Places.{place_text}
-use Rattle.mon_texts.specs.Faults.{fault_text}
+use Rattle.mon_instructions.specs.Instructions.{next_line}
+use Rattle.mon_instructions.specs.Places.{place_text}
+use Rattle.mon_session.specs.Faults.{fault_text}
 use Rattle.mon_texts.specs.Registers.{state_line}
 use Rattle.source_map.specs.Names.{Named}
 use Rattle.mon_session.specs.Course.{Course}

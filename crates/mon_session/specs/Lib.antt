@@ -1,3 +1,4 @@
 pub mod Course
 pub mod EventTexts
 pub mod Events
+pub mod Faults

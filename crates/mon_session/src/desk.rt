@@ -8,22 +8,21 @@ ghost use Rattle.model.specs.State.{State};
 ghost use Rattle.mon_session.specs.Course.{KeepsStops, ShowsOnly, course_of, happened};
 ghost use Rattle.mon_session.specs.EventTexts.{count_text, entry_text, event_text, rejected_text};
 ghost use Rattle.mon_session.specs.EventTexts.{row_or_entry, shown_text};
-ghost use Rattle.mon_texts.specs.Instructions.{instruction_line};
-ghost use Rattle.mon_texts.specs.Listed.{listed_len, listed_line};
-ghost use Rattle.mon_texts.specs.Made.{made_line, made_row};
-ghost use Rattle.mon_texts.specs.Stores.{stores_text};
+ghost use Rattle.mon_instructions.specs.Instructions.{instruction_line};
+ghost use Rattle.mon_instructions.specs.Listed.{listed_len, listed_line};
+ghost use Rattle.mon_instructions.specs.Made.{made_line, made_row};
+ghost use Rattle.mon_instructions.specs.Stores.{stores_text};
 ghost use Rattle.mon_texts.specs.Screen.{output_since};
 
 use crate::Events;
+use crate::faults::push_fault;
 use crate::wording::INTERRUPT;
 use formatting::{push_count, push_text};
 use model::EventFault;
+use mon_instructions::{push_listed, push_made_row, push_next, push_place, push_row, push_stores};
 use mon_runs::{Event, Session, is_entry};
 use mon_stops::Stops;
-use mon_texts::{
-    push_fault, push_listed, push_made_row, push_next, push_output_since, push_place, push_row,
-    push_state, push_stores,
-};
+use mon_texts::{push_output_since, push_state};
 use source_map::Places;
 use std::alloc::{AllocError, Global};
 

@@ -9,8 +9,10 @@
 
 mod desk;
 mod events;
+mod faults;
 pub mod wording;
 
 pub use desk::Desk;
 pub use events::Events;
+pub use faults::push_fault;
 pub use mon_runs::Session;

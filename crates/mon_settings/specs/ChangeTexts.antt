@@ -10,8 +10,8 @@ use Rattle.model.specs.declared.event.EventFault.TheVariants.{PastEnd}
 use Rattle.model.specs.declared.source_fault.AsmFaultKind.{AsmFaultKind}
 use Rattle.mon_session.specs.Course.{Course, happened}
 use Rattle.mon_session.specs.EventTexts.{count_text, event_text, rejected_text, shown_text}
-use Rattle.mon_texts.specs.Instructions.{instruction_line}
-use Rattle.mon_texts.specs.Places.{place_text}
+use Rattle.mon_instructions.specs.Instructions.{instruction_line}
+use Rattle.mon_instructions.specs.Places.{place_text}
 use Rattle.source_map.specs.Lines.{PlacesView}
 use Rattle.source_map.specs.Names.{Named}
 use Rattle.mon_settings.specs.ByteLines.{first_fault, inputs, patch, patches}

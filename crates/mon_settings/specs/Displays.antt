@@ -4,7 +4,7 @@ use Rattle.std.specs.List.{flat_map, list_any}
 use Rattle.model.specs.State.{State}
 use Rattle.model.specs.Text.{hex_address, hex_byte}
 use Rattle.source_map.specs.Names.{Named, name_at}
-use Rattle.mon_texts.specs.Places.{place_text}
+use Rattle.mon_instructions.specs.Places.{place_text}
 use Rattle.mon_settings.specs.declared.wording.TheConstants.{DELETED, DISPLAY, DISPLAYS_FULL, NOT_DISPLAYED, NOTHING_DISPLAYED}
 
 -- Whether an address is one of those shown.

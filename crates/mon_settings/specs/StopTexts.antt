@@ -8,7 +8,7 @@ use Rattle.mon_lines.specs.declared.command.Test.{Test}
 use Rattle.mon_stops.specs.declared.breaks.Break.{Break}
 use Rattle.mon_stops.specs.declared.watches.Watch.{Watch}
 use Rattle.mon_stops.specs.declared.watches.Watch.TheVariants as watching
-use Rattle.mon_texts.specs.Places.{place_text}
+use Rattle.mon_instructions.specs.Places.{place_text}
 use Rattle.mon_texts.specs.Stops.{break_line, register_name, register_watch_line, watch_line}
 use Rattle.source_map.specs.Lines.{PlacesView, row_at}
 use Rattle.source_map.specs.Names.{Named}

@@ -9,11 +9,12 @@ ghost use Rattle.source_map.specs.Lines.{row_at};
 ghost use Rattle.mon_session.specs.Course.{IsEither, KeepsStops, ShowsOnly, course_of};
 
 use crate::wording::NO_INSTRUCTION_BEGINS;
+use mon_instructions::push_place;
 use mon_runs::SessionFault;
 use mon_session::Desk;
 use mon_session::wording::BREAKS_FULL;
 use mon_stops::Break;
-use mon_texts::{push_break, push_place};
+use mon_texts::push_break;
 use source_map::Places;
 use std::alloc::AllocError;
 

@@ -8,9 +8,9 @@ ghost use Rattle.mon_session.specs.Course.{KeepsStops, ShowsOnly, course_of};
 
 use crate::wording::{BYTE_AT, BYTE_HANDED_IN, BYTES_AT, BYTES_HANDED_IN};
 use model::EventFault;
+use mon_instructions::push_place;
 use mon_runs::Event;
 use mon_session::Desk;
-use mon_texts::push_place;
 use std::alloc::AllocError;
 
 /// Puts bytes that do not go past FFFF into memory, an event for each, up to the first that is

@@ -13,10 +13,11 @@ use crate::breaks::push_stop;
 use crate::watches::{push_watched, unwatch_changes};
 use crate::wording::{DELETED, NOT_WATCHED, NOTHING_AT, NOTHING_SET};
 use formatting::push_text;
+use mon_instructions::push_place;
 use mon_lines::Register;
 use mon_session::Desk;
 use mon_stops::{Break, Stops, Watch};
-use mon_texts::{push_place, push_register};
+use mon_texts::push_register;
 use source_map::Places;
 use std::alloc::AllocError;
 

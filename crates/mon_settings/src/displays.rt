@@ -11,9 +11,9 @@ ghost use Rattle.mon_session.specs.Course.{IsEither, ShowsOnly, course_of};
 
 use crate::wording::{DELETED, DISPLAY, DISPLAYS_FULL, NOT_DISPLAYED, NOTHING_DISPLAYED};
 use formatting::{push_address, push_byte, push_text};
+use mon_instructions::push_place;
 use mon_runs::Session;
 use mon_session::Desk;
-use mon_texts::push_place;
 use source_map::Places;
 use std::alloc::AllocError;
 

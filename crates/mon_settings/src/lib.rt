@@ -1,8 +1,9 @@
 //! Lines of `mon` that change what a session has.
 //!
-//! `breaks`, `watches` and `deleting` set, list and delete breaks and watches, `displays` says which
-//! bytes are shown at each stop. `bytes` puts bytes into memory or hands them to the console's
-//! input, `asm` assembles an instruction, for which `names` puts addresses in place of names.
+//! `breaks`, `watches` and `deleting` set, list and delete breaks and watches, `displays` says
+//! which bytes are shown at each stop. `bytes` puts bytes into memory or hands them to the
+//! console's input, `asm` assembles an instruction, for which `names` puts addresses in place of
+//! names.
 //! `events` sets registers, flags and interrupt lines. What each line does stands in
 //! `specs/StopLines.antt`, `specs/ByteLines.antt`, `specs/FlagLines.antt` and
 //! `specs/Displays.antt`, what it says there and in `specs/StopTexts.antt` and

@@ -12,8 +12,8 @@ use Rattle.mon_session.specs.EventTexts.{count_text, row_or_entry, shown_text}
 use Rattle.mon_lines.specs.declared.command.Undoing.{Undoing}
 use Rattle.mon_lines.specs.declared.command.Undoing.TheVariants.{Events, Over}
 use Rattle.mon_runs.specs.Back.{back_over}
-use Rattle.mon_texts.specs.Made.{made_line}
-use Rattle.mon_texts.specs.Places.{place_text}
+use Rattle.mon_instructions.specs.Made.{made_line}
+use Rattle.mon_instructions.specs.Places.{place_text}
 use Rattle.mon_runs.specs.Recall.{last_stop}
 use Rattle.mon_stops.specs.declared.stops.Stops.{Stops}
 use Rattle.source_map.specs.Lines.{PlacesView}

@@ -8,8 +8,8 @@ use Rattle.mon_runs.specs.declared.ended.EndWhy.{EndWhy}
 use Rattle.mon_runs.specs.declared.ended.EndWhy.TheVariants as end_why
 use Rattle.mon_runs.specs.declared.ended.Ended.{Ended}
 use Rattle.source_map.specs.Names.{Named}
-use Rattle.mon_texts.specs.Faults.{fault_text}
-use Rattle.mon_texts.specs.Places.{place_text}
+use Rattle.mon_session.specs.Faults.{fault_text}
+use Rattle.mon_instructions.specs.Places.{place_text}
 use Rattle.mon_texts.specs.Stops.{number_text, register_name}
 use Rattle.mon_stops.specs.declared.changes.RegisterChange.{RegisterChange}
 use Rattle.mon_texts.specs.declared.wording.TheConstants.{BREAK_AT}

@@ -13,10 +13,10 @@ use Rattle.mon_runs.specs.declared.ended.EndWhy.TheVariants as end_why
 use Rattle.mon_runs.specs.declared.ended.Ended.{Ended}
 use Rattle.mon_stops.specs.declared.watches.Watch.{Watch}
 use Rattle.accesses.specs.Footprint.{stores_here}
-use Rattle.mon_texts.specs.Made.{made_line, made_row}
-use Rattle.mon_texts.specs.Places.{place_text}
+use Rattle.mon_instructions.specs.Made.{made_line, made_row}
+use Rattle.mon_instructions.specs.Places.{place_text}
 use Rattle.mon_texts.specs.Screen.{output_since}
-use Rattle.mon_texts.specs.Stores.{stores_text}
+use Rattle.mon_instructions.specs.Stores.{stores_text}
 use Rattle.mon_steps.specs.Reasons.{after_text, end_line}
 use Rattle.mon_runs.specs.Goals.{opcode_at_pc}
 use Rattle.source_map.specs.Lines.{PlacesView}

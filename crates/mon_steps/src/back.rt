@@ -8,17 +8,17 @@ ghost use Rattle.mon_steps.specs.BackLines.{undone_to_stop};
 ghost use Rattle.mon_steps.specs.BackTexts.{at_break_text, back_text, is_this, is_at_break, only_text, over_text, stop_text, undo_text};
 ghost use Rattle.mon_steps.specs.BackTexts.{undo_to_stop_text, undone_text, way_text};
 ghost use Rattle.mon_runs.specs.Back.{back_over};
-ghost use Rattle.mon_texts.specs.Places.{place_text};
+ghost use Rattle.mon_instructions.specs.Places.{place_text};
 ghost use Rattle.mon_runs.specs.Recall.{last_stop};
 
 use crate::wording::{
     BACK_AT_BREAK, BACK_AT_OLDEST, BACK_BEFORE_CHANGE, EVENT_HELD, EVENT_UNDONE, EVENTS_HELD,
     EVENTS_UNDONE, NONE_HELD, ONLY, TOO_MANY_WATCHED,
 };
+use mon_instructions::push_place;
 use mon_lines::Undoing;
 use mon_runs::{SessionFault, back_over, back_to_stop};
 use mon_session::Desk;
-use mon_texts::push_place;
 use std::alloc::AllocError;
 
 /// Says how many events were undone, and shows the state before them.

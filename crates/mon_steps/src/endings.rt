@@ -5,14 +5,14 @@ ghost use Rattle.mon_session.specs.Course.{ShowsOnly};
 ghost use Rattle.mon_steps.specs.RunTexts.{begun_of, here_text, is_there, shown_end_at_text};
 ghost use Rattle.mon_steps.specs.RunTexts.{shown_end_text, since_text};
 ghost use Rattle.mon_steps.specs.Reasons.{after_text, end_line};
-ghost use Rattle.mon_texts.specs.Places.{place_text};
+ghost use Rattle.mon_instructions.specs.Places.{place_text};
 
 use crate::reasons::{push_after, push_end};
 use crate::wording::HERE;
 use formatting::push_text;
+use mon_instructions::push_place;
 use mon_runs::{EndWhy, Ended, Why};
 use mon_session::Desk;
-use mon_texts::push_place;
 use source_map::Places;
 use std::alloc::AllocError;
 

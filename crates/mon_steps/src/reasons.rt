@@ -4,17 +4,19 @@ ghost use Rattle.std.specs.Prelude.{◌≡◌, ◌++◌, OnOk};
 ghost use Rattle.model.specs.declared.run_end.Why.TheVariants.{Watch};
 ghost use Rattle.mon_steps.specs.Reasons.{after_text, break_text, change_text, end_line, steps_text};
 ghost use Rattle.mon_steps.specs.Reasons.{stop_text, why_text};
-ghost use Rattle.mon_texts.specs.Places.{place_text};
+ghost use Rattle.mon_instructions.specs.Places.{place_text};
 
 use crate::wording::{
     AFTER, AND_IS_NOW, DONE, IS_NOW, NO_HANDLER, NO_STOP, RETURNED, STEP, STEPS, STUCK, WAITS, WAS,
     WATCH, WATCHED_READ, WATCHED_WRITE,
 };
 use formatting::{push_byte, push_count, push_text};
+use mon_instructions::push_place;
 use mon_runs::{EndWhy, Ended, Session, Why};
+use mon_session::push_fault;
 use mon_stops::RegisterChange;
 use mon_texts::wording::BREAK_AT;
-use mon_texts::{push_fault, push_number, push_place, push_register};
+use mon_texts::{push_number, push_register};
 use source_map::Places;
 use std::alloc::AllocError;
 

@@ -3,8 +3,8 @@ use Rattle.std.specs.Prelude.{ℕ, ◌+◌, List, [], ◌++◌, codes}
 use Rattle.model.specs.State.{State}
 use Rattle.source_map.specs.Lines.{PlacesView}
 use Rattle.source_map.specs.Names.{Named}
-use Rattle.mon_texts.specs.Instructions.{instruction_text}
-use Rattle.mon_texts.specs.Places.{place_text}
+use Rattle.mon_instructions.specs.Instructions.{instruction_text}
+use Rattle.mon_instructions.specs.Places.{place_text}
 use Rattle.mon_texts.specs.Pushed.{entries, entry_len, pushed_at}
 use Rattle.mon_texts.specs.declared.pushed.Pushed.{Pushed}
 use Rattle.mon_texts.specs.declared.pushed.Pushed.TheVariants.{Call, Break, Interrupt, Byte}

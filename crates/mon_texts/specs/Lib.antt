@@ -1,14 +1,7 @@
-pub mod Characters
-pub mod Places
 pub mod Registers
-pub mod Faults
-pub mod Instructions
-pub mod Made
-pub mod Listed
 pub mod Pushed
 pub mod Stack
 pub mod Stops
-pub mod Stores
 pub mod Memory
 pub mod Slips
 pub mod Help

@@ -3,9 +3,9 @@ use Rattle.std.specs.Prelude.{ℕ, ◌+◌, ◌-◌, ◌*◌, ◌/◌, ◌==◌,
 use Rattle.std.specs.List.{flat_map, range_with_len}
 use Rattle.model.specs.Text.{hex_address, hex_byte}
 use Rattle.mon_lines.specs.declared.command.Stretch.{Stretch}
-use Rattle.mon_texts.specs.Instructions.{byte_column}
+use Rattle.mon_instructions.specs.Instructions.{byte_column}
 use Rattle.formatting.specs.Padding.{padded}
-use Rattle.mon_texts.specs.Characters.{shown_character}
+use Rattle.mon_instructions.specs.Characters.{shown_character}
 use Rattle.mon_texts.specs.declared.wording.TheConstants.{GOES_ON, MEMORY_PART, STACK_EMPTY}
 
 -- ---- memory

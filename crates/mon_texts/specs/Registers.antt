@@ -5,7 +5,7 @@ use Rattle.model.specs.Text.{hex_byte}
 use Rattle.model.specs.declared.registers.Flags.{Flags}
 use Rattle.model.specs.declared.registers.Regs.{Regs}
 use Rattle.source_map.specs.Names.{Named}
-use Rattle.mon_texts.specs.Places.{place_text}
+use Rattle.mon_instructions.specs.Places.{place_text}
 use Rattle.mon_texts.specs.declared.wording.TheConstants.{CARRY, DECIMAL, INTERRUPT_DISABLE, NEGATIVE, OVERFLOW, ZERO}
 
 -- A flag's letter, a capital if the flag is 1.

@@ -5,9 +5,9 @@ use Rattle.model.specs.State.{State}
 use Rattle.model.specs.Text.{hex_address, hex_byte}
 use Rattle.source_map.specs.Lines.{PlacesView}
 use Rattle.source_map.specs.Names.{Named}
-use Rattle.mon_texts.specs.Instructions.{byte_column, front_columns, instruction_text}
+use Rattle.mon_instructions.specs.Instructions.{byte_column, front_columns, instruction_text}
 use Rattle.mon_texts.specs.Memory.{stack_line}
-use Rattle.mon_texts.specs.Places.{place_text}
+use Rattle.mon_instructions.specs.Places.{place_text}
 use Rattle.mon_texts.specs.Pushed.{entries, entry_len, pushed_at}
 use Rattle.mon_texts.specs.Registers.{flag_letters}
 use Rattle.mon_texts.specs.declared.pushed.Pushed.{Pushed}

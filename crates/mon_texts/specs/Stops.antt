@@ -15,7 +15,7 @@ use Rattle.mon_lines.specs.declared.command.Test.{Test}
 use Rattle.mon_lines.specs.declared.command.WatchKind.{WatchKind}
 use Rattle.mon_lines.specs.declared.command.WatchKind.TheVariants.{Change, Read, Write}
 use Rattle.source_map.specs.Names.{Named, name_at}
-use Rattle.mon_texts.specs.Places.{place_text}
+use Rattle.mon_instructions.specs.Places.{place_text}
 use Rattle.mon_texts.specs.declared.wording.TheConstants.{AND, BREAK_AT, IF, READS, TIMES, TO, WATCH_AT, WATCH_OF, WRITES}
 
 -- ---- tests

@@ -4,12 +4,11 @@ ghost use Rattle.std.specs.Prelude.{◌≡◌, ◌<◌, ◌≤◌, ◌++◌, OnO
 ghost use Rattle.mon_texts.specs.Calls.{at_line, calls_text, frame_line, frame_of, from_line};
 ghost use Rattle.mon_texts.specs.Pushed.{entries, entry_len};
 
-use crate::instructions::push_instruction;
-use crate::places::push_place;
 use crate::pushed::{Pushed, pushed_at, pushed_len};
 use crate::wording::{CALLED_FROM, INTERRUPTED_AT, PROGRAM_AT};
 use debugger::Session;
 use formatting::push_text;
+use mon_instructions::{push_instruction, push_place};
 use source_map::Places;
 use std::alloc::AllocError;
 

@@ -2,16 +2,15 @@
 
 ghost use Rattle.std.specs.Prelude.{◌≡◌, ◌+◌, ◌*◌, ◌≤◌, ◌<◌, ◌++◌, OnOk};
 ghost use Rattle.std.specs.List.{flat_map};
-ghost use Rattle.mon_texts.specs.Instructions.{byte_column};
+ghost use Rattle.mon_instructions.specs.Instructions.{byte_column};
 ghost use Rattle.mon_texts.specs.Memory.{byte_after_blank, bytes_from, character_text, goes_on};
 ghost use Rattle.mon_texts.specs.Memory.{goes_on_at, memory_row, memory_rows, memory_text, next_of};
 ghost use Rattle.mon_texts.specs.Memory.{numbered_row, shown_count, stack_line};
 
-use crate::instructions::push_byte_column;
-use crate::places::push_character;
 use crate::wording::{GOES_ON, MEMORY_PART, STACK_EMPTY};
 use debugger::Session;
 use formatting::{push_address, push_blanks, push_byte, push_text};
+use mon_instructions::{push_byte_column, push_character};
 use mon_lines::Stretch;
 use std::alloc::AllocError;
 

@@ -5,10 +5,10 @@ ghost use Rattle.std.specs.List.{flat_map};
 ghost use Rattle.mon_texts.specs.Screen.{is_open, line_end, output_since, output_text};
 ghost use Rattle.mon_texts.specs.Screen.{screen_text, with_line_end};
 
-use crate::places::push_character;
 use crate::wording::{NOTHING_WRITTEN, OUTPUT};
 use debugger::Session;
 use formatting::push_text;
+use mon_instructions::push_character;
 use std::alloc::AllocError;
 
 /// Appends what a byte of the output shows: LF ends the line, and CR is left out.

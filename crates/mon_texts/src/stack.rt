@@ -5,15 +5,14 @@ ghost use Rattle.mon_texts.specs.Pushed.{entries, entry_len};
 ghost use Rattle.mon_texts.specs.Stack.{byte_row, entry_of, entry_row, pair_columns, return_row};
 ghost use Rattle.mon_texts.specs.Stack.{return_text, stack_text, status_row, status_text};
 
-use crate::instructions::{push_byte_column, push_front, push_instruction};
 use crate::memory::push_stack_line;
-use crate::places::push_place;
 use crate::pushed::{Pushed, pushed_at, pushed_len};
 use crate::state::letters;
 use crate::wording::{BREAK_FROM, INTERRUPTED_AT, OF, RETURN_TO, STATUS};
 use debugger::Session;
 use formatting::{push_address, push_byte, push_text};
 use model::Flags;
+use mon_instructions::{push_byte_column, push_front, push_instruction, push_place};
 use source_map::Places;
 use std::alloc::AllocError;
 

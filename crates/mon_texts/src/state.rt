@@ -5,11 +5,11 @@ ghost use Rattle.mon_texts.specs.Registers.{course_text, flag_letter, flag_lette
 ghost use Rattle.mon_texts.specs.Registers.{flag_value, flags_text, named_byte, regs_text};
 ghost use Rattle.mon_texts.specs.Registers.{since_text, state_line};
 
-use crate::places::push_place;
 use crate::wording::{CARRY, DECIMAL, INTERRUPT_DISABLE, NEGATIVE, OVERFLOW, ZERO};
 use debugger::{Flags, Session};
 use formatting::{push_byte, push_count, push_text};
 use model::Regs;
+use mon_instructions::push_place;
 use source_map::Places;
 use std::alloc::AllocError;
 

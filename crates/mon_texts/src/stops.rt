@@ -8,9 +8,9 @@ ghost use Rattle.mon_texts.specs.Stops.{left_text, name_or_digits, number_text, 
 ghost use Rattle.mon_texts.specs.Stops.{register_watch_line, sign, test_text, tests_text};
 ghost use Rattle.mon_texts.specs.Stops.{times_text, watch_line};
 
-use crate::places::push_place;
 use crate::wording::{AND, BREAK_AT, IF, READS, TIMES, TO, WATCH_AT, WATCH_OF, WRITES};
 use formatting::{push_address, push_byte, push_count, push_text};
+use mon_instructions::push_place;
 use mon_lines::{Compare, Flag, Left, Register, Stretch, Test, WatchKind};
 use source_map::Places;
 use std::alloc::AllocError;

@@ -57,28 +57,6 @@ pub const NOT_BETWEEN: &str = "the number is not between ";
 
 pub const TOO_MANY: &str = "there are too many";
 
-// Why an event is refused.
-pub const CYCLES_FULL: &str = "the count of cycles is full";
-
-pub const AT: &str = " at ";
-
-pub const NO_INSTRUCTION: &str = " is no instruction of this processor";
-
-pub const CONSOLE_FULL: &str = "the console is full: it holds 65536 bytes";
-
-pub const PAST_END: &str = "that goes past FFFF";
-
-pub const PORT_ADDRESS: &str = "that is an address of the console's port";
-
-pub const TOO_MANY_BYTES: &str = "there are too many bytes";
-
-pub const INPUT_FULL: &str = "65536 bytes of input were handed in already";
-
-// Data among instructions.
-pub const DATA: &str = ".BYTE $";
-
-pub const FURTHER_DATA: &str = ",$";
-
 // Calls, memory, the stack and the screen.
 pub const CALLED_FROM: &str = "called from ";
 
@@ -89,8 +67,6 @@ pub const BREAK_FROM: &str = "BRK at ";
 pub const STATUS: &str = ", P ";
 
 pub const PROGRAM_AT: &str = "at ";
-
-pub const NEXT: &str = "next: ";
 
 pub const MEMORY_PART: &str = "256 bytes at a time; mem ";
 

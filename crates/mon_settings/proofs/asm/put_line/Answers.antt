@@ -4,7 +4,7 @@ use Rattle.std.proofs.lemmas.Grind.{common_steps}
 use Rattle.model.specs.Event.{event_of}
 use Rattle.model.specs.declared.event.Event.TheVariants.{Patch}
 use Rattle.mon_session.specs.Course.{course_of}
-use Rattle.mon_texts.specs.Instructions.{instruction_line}
+use Rattle.mon_instructions.specs.Instructions.{instruction_line}
 use Rattle.mon_settings.proofs.Made.{then_said}
 use Rattle.mon_settings.proofs.asm.put_line.Goals as goal
 

@@ -1,5 +1,5 @@
 use Rattle.std.proofs.Common.{◌∙◌, ◌++◌, ap, refl, arith}
-use Rattle.mon_texts.specs.Instructions.{byte_column}
+use Rattle.mon_instructions.specs.Instructions.{byte_column}
 use Rattle.mon_texts.proofs.Bytes.{none_yet, one_more, all_done}
 use Rattle.mon_texts.proofs.memory.push_bytes.Goals as goal
 

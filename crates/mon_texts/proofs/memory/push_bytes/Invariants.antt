@@ -1,6 +1,6 @@
 use Rattle.std.proofs.Common.{◌≡◌, ◌++◌, ◌+◌, ◌-◌}
 use Rattle.std.specs.List.{flat_map}
-use Rattle.mon_texts.specs.Instructions.{byte_column}
+use Rattle.mon_instructions.specs.Instructions.{byte_column}
 use Rattle.mon_texts.specs.Memory.{bytes_from}
 use Rattle.mon_texts.proofs.memory.push_bytes.Given as goal
 

@@ -6,11 +6,11 @@ use Rattle.source_map.proofs.places.Places.add_names.Goals as goal
 
 pub returns-clause-err : goal.returns-clause-err
 returns-clause-err c = IfErr-weaker c.append.result _ _ (λ _ h. (
-      h.0,
-      λ i. record {
-        names = (h.1 ∙ ap (λ (v : PlacesView). v.names ++ names_of c.args.assembly.now.image (take h.0 (named_numbers c.args.assembly.now))) c.self.view_is) i;
-        lines = (c.self.view_is i).lines;
-        texts = (c.self.view_is i).texts;
-        file = (c.self.view_is i).file;
-      },
-    )) c.append.ensures.err
+  h.0,
+  λ i. record {
+    names = (h.1 ∙ ap (λ (v : PlacesView). v.names ++ names_of c.args.assembly.now.image (take h.0 (named_numbers c.args.assembly.now))) c.self.view_is) i;
+    lines = (c.self.view_is i).lines;
+    texts = (c.self.view_is i).texts;
+    file = (c.self.view_is i).file;
+  },
+)) c.append.ensures.err

@@ -4,8 +4,8 @@ use Rattle.model.specs.Text.{hex_byte}
 use Rattle.model.specs.declared.event.EventFault.{EventFault}
 use Rattle.model.specs.declared.event.EventFault.TheVariants as fault
 use Rattle.source_map.specs.Names.{Named}
-use Rattle.mon_texts.specs.Places.{place_text}
-use Rattle.mon_texts.specs.declared.wording.TheConstants.{AT, CONSOLE_FULL, CYCLES_FULL, INPUT_FULL, NO_INSTRUCTION, PAST_END, PORT_ADDRESS, TOO_MANY_BYTES}
+use Rattle.mon_instructions.specs.Places.{place_text}
+use Rattle.mon_session.specs.declared.wording.TheConstants.{AT, CONSOLE_FULL, CYCLES_FULL, INPUT_FULL, NO_INSTRUCTION, PAST_END, PORT_ADDRESS, TOO_MANY_BYTES}
 
 -- A byte that is no instruction, and its place.
 abbrev pub undocumented_text : List Named → ℕ → ℕ → List ℕ

@@ -1,15 +1,15 @@
 //! Why an event is refused.
 
 ghost use Rattle.std.specs.Prelude.{◌≡◌, ◌++◌, OnOk};
-ghost use Rattle.mon_texts.specs.Faults.{fault_text, undocumented_text};
+ghost use Rattle.mon_session.specs.Faults.{fault_text, undocumented_text};
 
-use crate::places::push_place;
 use crate::wording::{
     AT, CONSOLE_FULL, CYCLES_FULL, INPUT_FULL, NO_INSTRUCTION, PAST_END, PORT_ADDRESS,
     TOO_MANY_BYTES,
 };
-use debugger::EventFault;
 use formatting::{push_byte, push_text};
+use model::EventFault;
+use mon_instructions::push_place;
 use source_map::Places;
 use std::alloc::AllocError;
 

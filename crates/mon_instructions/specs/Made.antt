@@ -9,7 +9,7 @@ use Rattle.formatting.specs.Padding.{padded}
 use Rattle.model.specs.State.{State}
 use Rattle.source_map.specs.Lines.{PlacesView, row_at, text_of}
 use Rattle.source_map.specs.declared.rows.Row.{Row}
-use Rattle.mon_texts.specs.Instructions.{bytes_at, instruction_front, instruction_row}
+use Rattle.mon_instructions.specs.Instructions.{bytes_at, instruction_front, instruction_row}
 
 -- ---- the text of a line
 

@@ -1,7 +1,7 @@
 use Rattle.std.proofs.Common.{refl}
 use Rattle.std.proofs.lemmas.Str.Ascii.{trim_ascii_is}
-use Rattle.mon_texts.specs.Made.{trimmed}
-use Rattle.mon_texts.proofs.made.trimmed.Goals as goal
+use Rattle.mon_instructions.specs.Made.{trimmed}
+use Rattle.mon_instructions.proofs.made.trimmed.Goals as goal
 
 pub returns : goal.returns
 unfolding trimmed

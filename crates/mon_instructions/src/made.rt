@@ -2,9 +2,9 @@
 
 ghost use Rattle.std.specs.Prelude.{◌≡◌, ◌++◌, OnOk};
 ghost use Rattle.std.specs.List.{flat_map};
-ghost use Rattle.mon_texts.specs.Made.{has_bytes_of, if_written, is_written, line_text, line_view};
-ghost use Rattle.mon_texts.specs.Made.{made_row, row_or_source, shown_byte, source_row, trimmed};
-ghost use Rattle.mon_texts.specs.Made.{with_text};
+ghost use Rattle.mon_instructions.specs.Made.{has_bytes_of, if_written, is_written, line_text, line_view};
+ghost use Rattle.mon_instructions.specs.Made.{made_row, row_or_source, shown_byte, source_row, trimmed};
+ghost use Rattle.mon_instructions.specs.Made.{with_text};
 
 use crate::instructions::{bytes_at, push_instruction_front, push_open_row};
 use debugger::Session;

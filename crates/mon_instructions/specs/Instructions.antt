@@ -9,7 +9,7 @@ use Rattle.mon_line_parts.specs.Reading.{number_in}
 use Rattle.source_map.specs.Lines.{PlacesView, line_at}
 use Rattle.source_map.specs.Names.{Named, name_at}
 use Rattle.formatting.specs.Padding.{padded}
-use Rattle.mon_texts.specs.declared.wording.TheConstants.{NEXT}
+use Rattle.mon_instructions.specs.declared.wording.TheConstants.{NEXT}
 
 -- ---- a name in place of an address
 

@@ -1,7 +1,7 @@
 //! What a step has stored.
 
 ghost use Rattle.std.specs.Prelude.{◌≡◌, ◌++◌, OnOk};
-ghost use Rattle.mon_texts.specs.Stores.{byte_left, store_text, stores_text};
+ghost use Rattle.mon_instructions.specs.Stores.{byte_left, store_text, stores_text};
 
 use debugger::Session;
 use formatting::{push_address, push_byte, push_text};

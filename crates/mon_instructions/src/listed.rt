@@ -2,8 +2,8 @@
 
 ghost use Rattle.std.specs.Prelude.{◌≡◌, ◌≤◌, ◌++◌, IfOk, OnOk};
 ghost use Rattle.std.specs.List.{flat_map};
-ghost use Rattle.mon_texts.specs.Listed.{begins_line, columns_of, data_columns, data_len};
-ghost use Rattle.mon_texts.specs.Listed.{data_text, further_byte, is_cut, listed_len, listed_line};
+ghost use Rattle.mon_instructions.specs.Listed.{begins_line, columns_of, data_columns, data_len};
+ghost use Rattle.mon_instructions.specs.Listed.{data_text, further_byte, is_cut, listed_len, listed_line};
 
 use crate::instructions::{bytes_at, push_columns, push_front, push_line, row_at};
 use crate::made::has_bytes_of;

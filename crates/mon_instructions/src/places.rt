@@ -2,8 +2,8 @@
 
 ghost use Rattle.std.specs.Prelude.{◌≡◌, ◌∷◌, ◌++◌, [], OnErr, OnOk, None, Some};
 ghost use Rattle.source_map.specs.Names.{name_at};
-ghost use Rattle.mon_texts.specs.Places.{name_or, name_text, place_text};
-ghost use Rattle.mon_texts.specs.Characters.{shown_character};
+ghost use Rattle.mon_instructions.specs.Places.{name_or, name_text, place_text};
+ghost use Rattle.mon_instructions.specs.Characters.{shown_character};
 
 use formatting::{push_address, push_count};
 use source_map::Places;

@@ -6,9 +6,9 @@ use Rattle.model.specs.Text.{hex_byte}
 use Rattle.source_map.specs.Lines.{PlacesView, data_left, line_at, row_at}
 use Rattle.source_map.specs.Names.{Named}
 use Rattle.source_map.specs.declared.rows.Row.{Row}
-use Rattle.mon_texts.specs.Instructions.{bytes_at, front_columns, instruction_at, instruction_columns, with_line}
-use Rattle.mon_texts.specs.Made.{has_bytes_of}
-use Rattle.mon_texts.specs.declared.wording.TheConstants.{DATA, FURTHER_DATA}
+use Rattle.mon_instructions.specs.Instructions.{bytes_at, front_columns, instruction_at, instruction_columns, with_line}
+use Rattle.mon_instructions.specs.Made.{has_bytes_of}
+use Rattle.mon_instructions.specs.declared.wording.TheConstants.{DATA, FURTHER_DATA}
 
 -- ---- where rows end
 
