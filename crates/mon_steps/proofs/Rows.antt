@@ -1,5 +1,5 @@
 -- Rows that are taken back or kept, and steps one by one.
-use Rattle.std.proofs.Common.{◌≡◌, ◌∙◌, ℕ, suc, ◌-◌, Bool, true, false, cond, List, [], ◌∷◌, ◌++◌, length, take, drop, refl, sym, ap, append_assoc, append-nil, Result, arith}
+use Rattle.std.proofs.Common.{◌≡◌, ◌∙◌, ℕ, suc, ◌-◌, Bool, true, false, cond, List, [], ◌∷◌, ◌++◌, length, take, drop, refl, sym, ap, append_assoc, append-nil, Result, Ok, Err, arith}
 use Rattle.std.proofs.lemmas.Result.{IfOk-weaker}
 use Rattle.std.specs.Prelude.{⊤, OnOk}
 use Rattle.std.specs.declared.alloc.AllocError.{AllocError}
@@ -22,6 +22,14 @@ pub at_row : (f : List ℕ → List ℕ) (t0 t1 row : List ℕ) (n : ℕ) → n 
 at_row f t0 t1 row n size grown =
     (λ i. take (size i) (grown i) ++ f (drop (size i) (grown i)))
     ∙ (λ i. front t0 row i ++ f (back t0 row i))
+
+-- what is said in place of a row, where the same is said by another name
+pub row_said : {X : Type 0} (r : Result X AllocError) (f : List ℕ → List ℕ) (t0 t1 t2 row also : List ℕ) (n : ℕ)
+    → n ≡ length t0 → t1 ≡ t0 ++ row → f row ≡ also
+    → OnOk r (t2 ≡ take n t1 ++ f (drop n t1)) → OnOk r (t2 ≡ t0 ++ also)
+row_said (Ok x) f t0 t1 t2 row also n size grown same said
+    = said ∙ at_row f t0 t1 row n size grown ∙ ap (λ l. t0 ++ l) same
+row_said (Err fault) f t0 t1 t2 row also n size grown same said = tt
 
 -- other words behind some
 pub behind : (r : Result ⊤ AllocError) (t0 t1 t2 a b also : List ℕ) → t1 ≡ t0 ++ a → b ≡ also
