@@ -6,7 +6,7 @@ use Rattle.std.proofs.lemmas.List.{take_all}
 use Rattle.std.proofs.Math.ListN.{drop_of_length-le}
 use Rattle.std.specs.List.{flat_map}
 use Rattle.source_map.specs.Names.{Named}
-use Rattle.std.specs.Prelude.{codes, slice_index}
+use Rattle.std.specs.Prelude.{slice_index}
 use Rattle.mon_dispatch.specs.LookTexts.{found_below, found_line, places_found, stands_at}
 use Rattle.mon_dispatch.specs.declared.wording.TheConstants.{AND_MORE, NOWHERE}
 

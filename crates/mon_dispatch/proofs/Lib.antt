@@ -1,3 +1,4 @@
 mod Found
 mod Rows
+mod Followed
 pub mod Others

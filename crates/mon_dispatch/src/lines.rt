@@ -47,6 +47,18 @@ fn outcome_of(command: &Command<'_>) -> Outcome
     }
 }
 
+/// Has a byte shown at each stop, or lists those that are.
+fn display_or_list(desk: &mut Desk, place: Option<u16>) -> Result<(), AllocError>
+    ensures does { OnOk result (Does (Command.Display place) desk.old desk.new) }
+    ensures text { OnOk result
+        (Says (line_text (Command.Display place) desk.old) desk.old desk.new) }
+{
+    match place {
+        Some(address) => display(desk, address),
+        None => list_displays(desk),
+    }
+}
+
 /// Does what a line asks for, and says so.
 fn obey(desk: &mut Desk, alloc: Global, command: Command<'_>) -> Result<(), AllocError>
     ensures does { OnOk result (Does command.entry desk.old desk.new) }
@@ -73,8 +85,7 @@ fn obey(desk: &mut Desk, alloc: Global, command: Command<'_>) -> Result<(), Allo
         Command::List => list(desk),
         Command::Delete(address) => delete(desk, address),
         Command::DeleteRegister(register) => delete_register(desk, register),
-        Command::Display(Some(address)) => display(desk, address),
-        Command::Display(None) => list_displays(desk),
+        Command::Display(place) => display_or_list(desk, place),
         Command::Undisplay(address) => undisplay(desk, address),
         Command::Set(setting) => set(desk, setting),
         Command::SetFlag { flag, value } => set_flag(desk, flag, value),

@@ -12,7 +12,7 @@ loop-address-init c =
     let m = desk.session.current.bus.memory in
     let none = none_found m c.args.bytes.now in
     record {
-      shows = (refl, refl, refl, refl);
+      shows = (refl, refl, refl, refl, refl);
       count = ap length (sym none);
       few = omega arith;
       text = sym (append-nil desk.text.items) ∙ ap (λ l. desk.text.items ++ flat_map (found_line desk.places.names) l) (sym none);
@@ -28,7 +28,7 @@ loop-address-preserved c =
     let grown = c.in_ok-count.ensures.count ∙ (λ k. c.loop-address.count + cond (stands_at (shows.0 k).current.bus.memory bytes i) 1 0) in
     let said = c.in_ok-count.ensures.text ∙ (λ k. c.loop-address.desk.text.items ++ cond (stands_at (shows.0 k).current.bus.memory bytes i) (cond (nat_lt c.loop-address.count 16) (found_line c.loop-address.desk.places.names i) []) []) in
     record {
-      shows = (shown.0 ∙ shows.0, shown.1 ∙ shows.1, shown.2 ∙ shows.2, shown.3 ∙ shows.3);
+      shows = (shown.0 ∙ shows.0, shown.1 ∙ shows.1, shown.2 ∙ shows.2, shown.3 ∙ shows.3, shown.4 ∙ shows.4);
       count = count_more m bytes i c.loop-address.count c.in_ok-count.count c.loop-address.invariant.count grown;
       few = c.if-count-gt-MOST_FOUND.false;
       text = text_more m bytes c.args.desk.now.places.names c.loop-address.desk.places.names i c.loop-address.count c.in_ok-count.count _ _ _

@@ -13,7 +13,7 @@ loop-preserved c =
     let shows = c.loop.invariant.shows in
     let shown = c.show_listed.ensures.shows in
     record {
-      shows = (shown.0 ∙ shows.0, shown.1 ∙ shows.1, shown.2 ∙ shows.2, shown.3 ∙ shows.3);
+      shows = (shown.0 ∙ shows.0, shown.1 ∙ shows.1, shown.2 ∙ shows.2, shown.3 ∙ shows.3, shown.4 ∙ shows.4);
       text = row_more c.args.desk.now.session.current c.loop.desk.session.current c.args.desk.now.places c.loop.desk.places
           (ap (λ (s : Session). s.current) shows.0) shows.3 _ n c.loop.at c.in-Some.next _ _ _ c.loop.invariant.text some
           c.in_ok-length.ensures.text (c.in-Some.ensures.1 ∙ ap (λ n. c.loop.at + n) c.in_ok-length.ensures.len)
