@@ -73,7 +73,10 @@ def source_of(program: str, source: str, options: Sequence[str]) -> Source:
         words = [program, "asm", source, tape, "--symbols", names, "--map", places, *options]
         ran = subprocess.run(words, capture_output=True)
         if ran.returncode:
-            raise refusal(ran.stderr.decode("ascii", "replace"), ran.returncode)
+            # With no file beside the tape, `asm` tells the source's fault in one line.
+            alone = subprocess.run([program, "asm", source, tape, *options], capture_output=True)
+            failed = alone if alone.returncode else ran
+            raise refusal(failed.stderr.decode("ascii", "replace"), failed.returncode)
         found = Source()
         with open(names, encoding="ascii") as it:
             for row in it:
