@@ -26,11 +26,11 @@ use std::alloc::{AllocError, Global};
 /// What a line has made of the session.
 #[derive(Clone, Copy)]
 pub enum Outcome {
-    /// It is to end.
+    /// The session is to end.
     Over,
-    /// It has moved, so that it stops anew.
+    /// The line made or undid events, after which the bytes that are displayed are shown.
     Moved,
-    /// Neither.
+    /// The session stands where it stood.
     Stays,
 }
 
