@@ -118,8 +118,13 @@ def rom_of(options):
     return hex4(low), hex4(high)
 
 
+def port_of(options):
+    word = options.get("--port", "F000")
+    return None if word == "none" else hex4(word)
+
+
 def map_of(options):
-    port = hex4(options.get("--port", "F000"))
+    port = port_of(options)
     rom, profile = rom_of(options), profile_of(options)
     return lambda: checked_map(port, rom, profile)
 

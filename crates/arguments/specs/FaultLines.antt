@@ -1,16 +1,18 @@
 -- The fault lines of the program. Source: mos65.
-use Rattle.std.specs.Prelude.{◌≡◌, ◌≤◌, ⊤, ℕ, List, [], ◌∷◌, ◌++◌, codes, decimal, Option}
+use Rattle.std.specs.Prelude.{◌≡◌, ◌≤◌, ⊤, ℕ, List, [], ◌∷◌, ◌++◌, codes, decimal, Option, Some, None}
 use Rattle.arguments.specs.Statuses.{status_of}
 use Rattle.arguments.specs.declared.fault.WordsFault.{WordsFault}
 use Rattle.arguments.specs.declared.fault.WordsFault.TheVariants.{Help, Usage, Value, Wrong}
 use Rattle.arguments.specs.declared.fault.WordsFault.TheVariants as words_fault
 use Rattle.arguments.specs.declared.load_fault.LoadFault.{LoadFault}
-use Rattle.arguments.specs.declared.load_fault.LoadFault.TheVariants.{Faults, LooksLikeTape, Refused}
+use Rattle.arguments.specs.declared.load_fault.LoadFault.TheVariants.{AtPort, Faults, LooksLikeTape, Refused}
 use Rattle.arguments.specs.declared.refusal.ReadFault.TheVariants.{NoSuchFile, PermissionDenied as permission_denied}
 use Rattle.arguments.specs.declared.refusal.Refusal.{Refusal}
 use Rattle.arguments.specs.declared.refusal.Refusal.TheVariants.{Words, Map, Source, Tape, Session, OutOfMemory, Read, Write}
-use Rattle.arguments.specs.declared.wording.TheConstants.{NO_SUCH_FILE, PERMISSION_DENIED}
+use Rattle.arguments.specs.declared.wording.TheConstants.{AT_PORT, IS_FREE, NONE_IS_FREE, NO_SUCH_FILE, PERMISSION_DENIED, TRY_PORT}
 use Rattle.model.specs.FaultTexts.{bus_fault_text, session_fault_text, source_fault_text, tape_fault_text}
+use Rattle.model.specs.Listing.{address_text}
+use Rattle.model.specs.Text.{hex_address}
 use Rattle.model.specs.Writers.{AppendsFront}
 
 -- The parts of a line, one after another.
@@ -65,10 +67,25 @@ file_line file refusal = named_line file refusal
 abbrev pub tape_line : List ℕ → List ℕ
 tape_line file = codes "mos65: " ++ (file ++ codes " looks like a tape: use --tape\n")
 
+-- Which base is free, after the addresses of the port.
+abbrev pub free_part : Option ℕ → List ℕ
+free_part None = NONE_IS_FREE.now
+free_part (Some base) = TRY_PORT.now ++ hex_address base ++ IS_FREE.now
+
+-- The addresses of the port, and which base is free.
+unfoldable pub port_part : ℕ → ℕ → Option ℕ → List ℕ
+port_part first last free = address_text first ++ codes "-" ++ address_text last ++ free_part free
+
+-- The image of a tape has bytes at the port.
+abbrev pub port_line : List ℕ → ℕ → ℕ → Option ℕ → List ℕ
+port_line file first last free
+    = joined (codes "mos65: " ∷ file ∷ AT_PORT.now ∷ port_part first last free ∷ [])
+
 -- All faults of a source, or one line.
 unfoldable pub load_text : LoadFault → List ℕ → List ℕ
 load_text LooksLikeTape file = tape_line file
 load_text (Faults fault text) file = text.items
+load_text (AtPort first last free) file = port_line file first last free
 load_text (Refused refusal) file = file_line file refusal
 
 -- The error stream got the fault line of a refusal with this status, or a beginning of the line if

@@ -1,7 +1,7 @@
 -- The exit status of a word that ends without an answer. Source: mos65.
 use Rattle.std.specs.Prelude.{ℕ}
 use Rattle.arguments.specs.declared.load_fault.LoadFault.{LoadFault}
-use Rattle.arguments.specs.declared.load_fault.LoadFault.TheVariants.{Faults, LooksLikeTape, Refused}
+use Rattle.arguments.specs.declared.load_fault.LoadFault.TheVariants.{AtPort, Faults, LooksLikeTape, Refused}
 use Rattle.arguments.specs.declared.refusal.Refusal.{Refusal}
 use Rattle.arguments.specs.declared.refusal.Refusal.TheVariants.{Words, Map, Source, Tape, Session, OutOfMemory, Read, Write}
 
@@ -20,4 +20,5 @@ status_of Write = 4
 abbrev pub status_of_load : LoadFault → ℕ
 status_of_load LooksLikeTape = 2
 status_of_load (Faults fault text) = 1
+status_of_load (AtPort first last free) = 1
 status_of_load (Refused refusal) = status_of refusal

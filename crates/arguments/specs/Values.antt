@@ -1,9 +1,11 @@
 -- What the words that stand for values mean. Source: mos65.
 use Rattle.model.specs.Digits.{decimal_number}
 use Rattle.model.specs.Commands.{address_of}
+use Rattle.model.specs.State.{no_port}
 use Rattle.model.specs.declared.instruction.Profile.{Profile}
 use Rattle.model.specs.declared.instruction.Profile.TheVariants.{C, N}
-use Rattle.std.specs.Prelude.{ℕ, List, length, take, drop, get_or, nat_lt, nat_le, ◌==◌, ◌&&◌, if◌then◌else◌, Option, Some, None, option_map}
+use Rattle.std.specs.Str.{bytes_eq}
+use Rattle.std.specs.Prelude.{ℕ, List, codes, length, take, drop, get_or, nat_lt, nat_le, ◌==◌, ◌&&◌, if◌then◌else◌, Option, Some, None, option_map}
 
 -- a number of at most 65,536
 abbrev pub at_most_65536 : Option ℕ → Option ℕ
@@ -34,10 +36,19 @@ abbrev pub debug_history_asked : Option (List ℕ) → Option ℕ
 debug_history_asked None = Some 1024
 debug_history_asked (Some word) = history_of word
 
+-- the base of a port, or of none
+abbrev pub base_of : Option ℕ → ℕ
+base_of None = no_port
+base_of (Some base) = base
+
+-- the base of the port, or `none` for no port
+abbrev pub port_of : List ℕ → Option ℕ
+port_of word = if bytes_eq word (codes "none") then Some no_port else address_of word
+
 -- the port that is asked for: $F000 where no word says it
 abbrev pub port_asked : Option (List ℕ) → Option ℕ
 port_asked None = Some 61440
-port_asked (Some word) = address_of word
+port_asked (Some word) = port_of word
 
 -- the ROM that is asked for: none where no word says it
 abbrev pub rom_asked : Option (List ℕ) → Option (Option (ℕ × ℕ))

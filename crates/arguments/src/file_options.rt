@@ -11,6 +11,7 @@ use crate::options::{file, port, profile, rom, tape};
 use crate::value::{port_asked, profile_asked, rom_asked};
 use clap::error::ErrorKind;
 use clap::{ArgMatches, Command, Error};
+use memory_map::Port;
 use model::Profile;
 use std::alloc::Global;
 
@@ -21,8 +22,8 @@ pub struct FileWords<'a> {
     pub file: &'a str,
     /// Whether it is a tape.
     pub is_tape: bool,
-    /// The first of the port's four addresses.
-    pub port: u16,
+    /// The first of the port's four addresses, or no port.
+    pub port: Port,
     /// The first and the last address of the ROM, if there is one.
     pub rom: Option<(u16, u16)>,
     /// The processor.

@@ -104,7 +104,7 @@ pub fn port<'a>(alloc: Global) -> Arg<'a>
     ensures rule { rule_of result ≡ option_rule (codes "port") }
     ensures local { result.global ≡ false }
 {
-    let help = "The first of the port's four addresses, four hex digits [default: F000]";
+    let help = "The first of the port's four addresses, four hex digits, or none [default: F000]";
     option(alloc, "port", "HHHH", help)
 }
 

@@ -2,7 +2,7 @@
 
 ghost use Rattle.std.specs.Prelude.{◌≡◌, ◌≤◌, IfSome, length, option_and_then, option_map};
 ghost use Rattle.arguments.specs.Values.{debug_history_asked, history_asked, history_of, number_of};
-ghost use Rattle.arguments.specs.Values.{port_asked, profile_asked, profile_of, range_of};
+ghost use Rattle.arguments.specs.Values.{port_asked, port_of, profile_asked, profile_of, range_of};
 ghost use Rattle.arguments.specs.Values.{rom_asked, steps_asked};
 ghost use Rattle.arguments.specs.WrongValues.{IsOfValue, wrong_value};
 ghost use Rattle.clap.specs.Words.{first_value, found_of};
@@ -14,6 +14,7 @@ use crate::wording::{HISTORY_TAKES, PORT_TAKES, PROFILE_TAKES, ROM_TAKES, STEPS_
 use clap::ArgMatches;
 use commands::{address_of, digits};
 use formatting::decimal_value;
+use memory_map::Port;
 use model::Profile;
 
 /// Returns the number of events to hold, of one to five decimal digits and at most 65,536.
@@ -71,13 +72,23 @@ pub fn debug_history_asked(word: Option<&str>) -> Option<u32>
     }
 }
 
+/// Returns the port that a word writes, or `None` if it writes none.
+fn port(word: &[u8]) -> Option<Port>
+    ensures { result ≡ port_of word.now }
+{
+    if word == b"none".as_slice() {
+        return Some(Port::none());
+    }
+    address_of(word).map(Port::based)
+}
+
 /// Returns the port that the word after `--port` asks for, or `None` if it is wrong.
-pub fn port_asked(word: Option<&str>) -> Option<u16>
+pub fn port_asked(word: Option<&str>) -> Option<Port>
     ensures { result ≡ port_asked (option_map (λ w. w.now) word.entry) }
 {
     match word {
-        None => Some(0xf000),
-        Some(word) => address_of(word.as_bytes()),
+        None => Some(Port::based(0xf000)),
+        Some(word) => port(word.as_bytes()),
     }
 }
 

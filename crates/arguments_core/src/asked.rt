@@ -1,6 +1,7 @@
 //! What words ask for.
 ghost use Rattle.std.specs.Prelude.{◌≤◌};
 
+use memory_map::Port;
 use model::Profile;
 
 /// What the words of the program ask for.
@@ -25,8 +26,8 @@ pub struct AsmWords<'a> {
     pub tape: &'a str,
     /// The file to write the listing to, if one is asked for.
     pub listing: Option<&'a str>,
-    /// The first of the port's four addresses.
-    pub port: u16,
+    /// The first of the port's four addresses, or no port.
+    pub port: Port,
     /// The processor whose instructions the source is written in.
     pub profile: Profile,
 }
@@ -55,8 +56,8 @@ pub struct DebugWords<'a> {
     pub is_tape: bool,
     /// How many events the session holds.
     pub history: u32,
-    /// The first of the port's four addresses.
-    pub port: u16,
+    /// The first of the port's four addresses, or no port.
+    pub port: Port,
     /// The first and the last address of the ROM, if there is one.
     pub rom: Option<(u16, u16)>,
     /// The processor of the machine.

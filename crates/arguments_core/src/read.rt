@@ -95,9 +95,15 @@ fn asked<'a>(matches: &ArgMatches<'a>) -> Option<Words<'a>>
     ensures { option_map view result ≡ asked_of (subcommand_rows_of matches.now) }
 {
     match matches.subcommand()? {
-        ("asm", found) => Some(Words::Asm(asm_words(found)?)),
+        ("asm", found) => match asm_words(found) {
+            Some(words) => Some(Words::Asm(words)),
+            None => None,
+        },
         ("dis", found) => Some(Words::Dis(dis_words(found)?)),
-        ("debug", found) => Some(Words::Debug(debug_words(found)?)),
+        ("debug", found) => match debug_words(found) {
+            Some(words) => Some(Words::Debug(words)),
+            None => None,
+        },
         _ => None,
     }
 }

@@ -53,8 +53,11 @@ pub fn mon_command<'a>(alloc: Global) -> Result<Command<'a>, Error>
 fn asked<'a>(matches: &ArgMatches<'a>) -> Option<MonWords<'a>>
     ensures { option_map mon_view result ≡ mon_asked (first_value (found_of matches.now)) }
 {
+    let Some(file) = file_words(matches) else {
+        return None;
+    };
     Some(MonWords {
-        file: file_words(matches)?,
+        file,
         history: history_asked(matches.get_str("history"))?,
         symbols: matches.get_str("symbols"),
         prompts: is_given(matches, "prompt"),

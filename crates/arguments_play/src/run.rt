@@ -78,8 +78,11 @@ fn status_asked(word: Option<&str>) -> Option<bool>
 fn asked<'a>(matches: &ArgMatches<'a>) -> Option<RunWords<'a>>
     ensures { option_map run_view result ≡ run_asked (first_value (found_of matches.now)) }
 {
+    let Some(file) = file_words(matches) else {
+        return None;
+    };
     Some(RunWords {
-        file: file_words(matches)?,
+        file,
         until: matches.get_str("until"),
         steps: steps_asked(matches.get_str("steps"))?,
         is_status_of_a: status_asked(matches.get_str("status"))?,

@@ -78,8 +78,11 @@ pub fn trace_command<'a>(alloc: Global) -> Result<Command<'a>, Error>
 fn asked<'a>(matches: &ArgMatches<'a>) -> Option<TraceWords<'a>>
     ensures { option_map trace_view result ≡ trace_asked (first_value (found_of matches.now)) }
 {
+    let Some(file) = file_words(matches) else {
+        return None;
+    };
     Some(TraceWords {
-        file: file_words(matches)?,
+        file,
         from: matches.get_str("from"),
         to: matches.get_str("to"),
         steps: steps_asked(matches.get_str("steps"))?,

@@ -9,7 +9,7 @@ ghost use Rattle.model.specs.State.{console_size, is_port, is_rom, byte_read, af
 ghost use Rattle.model.specs.State.{overflows, after_write, bus_with_byte, input_waits, loaded_bus};
 ghost use Rattle.model.specs.State.{has_port_byte, AreBytes, IsBus};
 ghost use Rattle.model.specs.Event.{meets_port, bus_with_patch};
-ghost use Rattle.model.specs.Image.{empty_image, has_byte};
+ghost use Rattle.model.specs.Image.{empty_image};
 ghost use Rattle.model.specs.Undo.{CanRestore, bus_before, cells_of, put_cells};
 ghost use Rattle.model.specs.Checkpoint.{saved_of, bus_at, CanPutBack};
 ghost use Rattle.bus.specs.Memory.{zeros};
@@ -98,7 +98,7 @@ impl Bus {
         ensures port { IsErr result ↔ (has_port_byte self.old.map image.now ≡ true) }
         ensures only { IfErr result (λ fault. fault ≡ BusFault.PortAddress) }
     {
-        if has_port_byte(&self.map, image) {
+        if self.map.meets(image) {
             return Err(BusFault::PortAddress);
         }
         image.fill(&mut self.memory);
@@ -148,6 +148,7 @@ impl Bus {
         }
         let port = self.map.port();
         let waits = self.input_waits();
+        let address = address as u32;
         if address == port + 1 {
             self.take_input()
         } else if address == port + 2 {
@@ -274,7 +275,7 @@ impl Bus {
         ensures exact { result ≡ (address == self.now.map.port + 1) }
         ensures kept { result ≡ false → after_read self.now address ≡ self.now }
     {
-        address == self.map.port() + 1
+        address as u32 == self.map.port() + 1
     }
 
     /// Returns how many bytes of input were taken.
@@ -343,7 +344,7 @@ impl Bus {
     pub fn overflows(&self, address: u16) -> bool
         ensures { result ≡ overflows self.now address }
     {
-        address == self.map.port() && self.out.len() >= 65536
+        address as u32 == self.map.port() && self.out.len() >= 65536
     }
 
     /// Returns whether a store at this address changes memory.
@@ -362,9 +363,9 @@ impl Bus {
     {
         if self.is_plain(address) {
             self.set(address, value);
-        } else if address == self.map.port() {
+        } else if address as u32 == self.map.port() {
             let _ = self.out.try_push_back(value);
-        } else if address == self.map.port() + 3 {
+        } else if address as u32 == self.map.port() + 3 {
             self.control = value % 2 == 1;
         }
     }
@@ -624,26 +625,6 @@ fn zeros(alloc: Global, size: usize) -> Result<Vec<u8>, AllocError>
     ensures clear { IfOk result (λ memory. (k : ℕ) → slice_index memory.items k ≡ 0) }
 {
     vec![in alloc; 0u8; size]
-}
-
-/// Returns whether an image has a byte here.
-#[tactic(auto, unfolding(model::specs::Image::has_byte))]
-fn has_byte(image: &Image, address: u16) -> bool
-    ensures { result ≡ has_byte image.now address }
-{
-    image.get(address).is_some()
-}
-
-/// Returns whether an image has a byte at a port address.
-#[tactic(auto, unfolding(model::specs::State::has_port_byte))]
-fn has_port_byte(map: &MapSpec, image: &Image) -> bool
-    ensures { result ≡ has_port_byte map.now image.now }
-{
-    let port = map.port();
-    has_byte(image, port)
-        | has_byte(image, port + 1)
-        | has_byte(image, port + 2)
-        | has_byte(image, port + 3)
 }
 
 /// States that each of some bytes is below 256, as their type says. A law for proofs: it does

@@ -7,7 +7,7 @@ use Rattle.std.proofs.KnownBytes.{Appends-nil, Appends-trans}
 use Rattle.arguments.specs.Statuses.{status_of_load}
 use Rattle.arguments.specs.Words.{texts}
 use Rattle.arguments.specs.declared.load_fault.LoadFault.{LoadFault}
-use Rattle.arguments.specs.declared.load_fault.LoadFault.TheVariants.{Faults, LooksLikeTape, Refused}
+use Rattle.arguments.specs.declared.load_fault.LoadFault.TheVariants.{AtPort, Faults, LooksLikeTape, Refused}
 use Rattle.arguments.specs.declared.refusal.Refusal.TheVariants.{Words, Map as NoMap, Source, Tape, Session as NoSession, OutOfMemory, Read, Write}
 use Rattle.checking.specs.CommandLine.{CheckAsked}
 use Rattle.checking.specs.Files.{AreBegun, AreKeptBack, AreOutcomes, AreTried, IsBegun, IsOutcome, IsTried, Outcome, said_of, worst_of}
@@ -60,6 +60,7 @@ kept_back asked file why held now U status ends is same unwritten = record {
 pub kept_status : (why : LoadFault) → EndsFile why → (2 ≤ status_of_load why) × (status_of_load why ≤ 4)
 kept_status LooksLikeTape ends = (omega arith, omega arith)
 kept_status (Faults fault text) ends = absurd ends
+kept_status (AtPort first last free) ends = absurd ends
 kept_status (Refused Words) ends = absurd ends
 kept_status (Refused (NoMap fault)) ends = absurd ends
 kept_status (Refused (Source fault)) ends = absurd ends

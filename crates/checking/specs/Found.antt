@@ -1,7 +1,7 @@
 -- What `check` finds of a source, and what it writes of it. Source: mos65.
 use Rattle.std.specs.Prelude.{◌≡◌, ⊤, ℕ, ◌==◌, ◌&&◌, ◌||◌, Bool, not, true, false, List, None, length}
 use Rattle.arguments.specs.declared.load_fault.LoadFault.{LoadFault}
-use Rattle.arguments.specs.declared.load_fault.LoadFault.TheVariants.{Faults, LooksLikeTape, Refused}
+use Rattle.arguments.specs.declared.load_fault.LoadFault.TheVariants.{AtPort, Faults, LooksLikeTape, Refused}
 use Rattle.arguments.specs.declared.refusal.Refusal.TheVariants.{OutOfMemory, Read}
 use Rattle.checking.specs.Checked.{IsCheckedText}
 use Rattle.checking.specs.CommandLine.{CheckAsked, map_asked}
@@ -39,6 +39,7 @@ HasTape = (text : List ℕ) × BeginsTape text
 abbrev pub EndsFile : LoadFault → Type 0
 EndsFile LooksLikeTape = HasTape
 EndsFile (Faults fault text) = ⊥
+EndsFile (AtPort first last free) = ⊥
 EndsFile (Refused OutOfMemory) = ⊤
 EndsFile (Refused (Read why)) = ⊤
 EndsFile (Refused refusal) = ⊥

@@ -12,6 +12,7 @@ use arguments::{
 };
 use clap::error::ErrorKind;
 use clap::{ArgMatches, Command, Error};
+use memory_map::Port;
 use model::Profile;
 use std::alloc::{AllocError, Global};
 
@@ -20,8 +21,8 @@ use std::alloc::{AllocError, Global};
 pub struct CheckWords<'a> {
     /// The files to read, one at least.
     pub sources: Vec<&'a str>,
-    /// The first of the port's four addresses.
-    pub port: u16,
+    /// The first of the port's four addresses, or no port.
+    pub port: Port,
     /// The processor whose instructions the sources are written in.
     pub profile: Profile,
     /// Whether a warning counts as a fault does for the exit status.
@@ -54,7 +55,7 @@ pub fn check_command<'a>(alloc: Global) -> Result<Command<'a>, Error>
 fn words_of<'a>(
     alloc: Global,
     sources: &[&'a str],
-    port: Option<u16>,
+    port: Option<Port>,
     profile: Option<Profile>,
     strict: bool,
 ) -> Result<Option<CheckWords<'a>>, AllocError>

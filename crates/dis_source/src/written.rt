@@ -12,7 +12,7 @@ use crate::asked::SourceWords;
 use crate::marks::{between, marks_of};
 use arguments::{Refusal, map_of};
 use assembler::{Assembly, assemble};
-use bus::Image;
+use bus::{Image, Port};
 use model::Profile;
 use named_source::named_text;
 use reached::{followed_marks, vectors};
@@ -29,7 +29,7 @@ pub fn defined(alloc: Global, profile: Profile, source: &[u8]) -> Result<Assembl
     ensures kept { IfOk result (λ a. a.source ≡ source.now) }
     ensures refused { IfErr result (EndsNames profile source.now) }
 {
-    let map = map_of(profile, None, 0xf000)?;
+    let map = map_of(profile, None, Port::based(0xf000))?;
     let names = assemble(alloc, source, &map)?;
     Ok(names)
 }

@@ -439,7 +439,7 @@ fn has_port(map: &MapSpec, address: u32, count: u32) -> bool
     requires { address + count < 2 ^ 32 }
     ensures { result ≡ has_port map.now address count }
 {
-    let port = map.port() as u32;
+    let port = map.port();
     (0 < count) & (address < port + 4) & (port < address + count)
 }
 

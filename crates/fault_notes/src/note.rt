@@ -32,7 +32,7 @@ use symbols::Symbols;
 #[derive(Clone, Copy)]
 pub struct Context<'s, 'a> {
     pub profile: Profile,
-    pub port: u16,
+    pub port: u32,
     /// The names that lines begin with, in their order.
     pub names: &'s [Name<'a>],
     pub symbols: &'s Symbols,
@@ -480,9 +480,10 @@ fn placed_words(
         }
         _ => {
             let mut words = phrase(alloc, "the port has the addresses ")?;
-            push_dollar_address(&mut words, context.port as u32)?;
+            push_dollar_address(&mut words, context.port)?;
             words.extend_from_slice(b"..")?;
-            push_dollar_address(&mut words, (context.port as u32).saturating_add(3))?;
+            push_dollar_address(&mut words, context.port.saturating_add(3))?;
+            words.extend_from_slice(b"; --port moves it, --port none leaves it out")?;
             Ok(words)
         }
     }

@@ -2,7 +2,7 @@
 -- past its end reads as 0.
 use Rattle.std.proofs.Common.{◌≡◌, ℕ, Bool, true, false, List, [], ◌∷◌, ◌++◌, length, replicate, refl, codes}
 use Rattle.std.specs.Prelude.{◌==◌, ◌||◌, ◌&&◌, not, decimal, Result, Ok, Err, None, Some}
-use Rattle.model.specs.State.{Map, Bus, State, is_map, is_port, is_rom, overflows, byte_read, after_read, after_write}
+use Rattle.model.specs.State.{Map, Bus, State, no_port, is_map, is_port, is_rom, overflows, byte_read, after_read, after_write}
 use Rattle.model.specs.Operand.{effective_address, address_at, address_in_page, jump_target}
 use Rattle.model.specs.Arithmetic.{adc, sbc}
 use Rattle.model.specs.Effect.{operation_of, regs_after_read, load, operand, after_operand, regs_after_move, store, store_value, modify_a, modify_sum, branch, branches, after_push, stack_top, after_pull, pull_x, interrupt_sequence, break_entry, after_operation, status, flags_of_byte}
@@ -386,6 +386,19 @@ map_port_too_high = refl
 map_rom_meets_port : is_map (Some (0xEF00, 0xF003)) 0xF000 ≡ false
 unfolding is_map
 map_rom_meets_port = refl
+
+-- without a port the ROM may have any address from $0200 on, and no address is the port's
+map_without_port : is_map (Some (0x0200, 0xFFFF)) no_port ≡ true
+unfolding is_map
+map_without_port = refl
+
+map_past_the_end : is_map None 0x10004 ≡ false
+unfolding is_map
+map_past_the_end = refl
+
+no_address_is_its_port : is_port (record { profile = N; rom = None; port = no_port }) 0xFFFF ≡ false
+unfolding is_port
+no_address_is_its_port = refl
 
 -- lines: LF and CR LF end one, a lone CR does not, and the last needs no end
 cut_lines : lines_of (codes "a\nb\r\n\nc\rd") ≡ codes "a" ∷ codes "b" ∷ [] ∷ codes "c\rd" ∷ []

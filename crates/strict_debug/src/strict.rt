@@ -41,9 +41,9 @@ fn refused<O: Write, E: Write>(fault: WordsFault, output: O, errors: &mut E) -> 
 }
 
 /// Returns what words ask `debug` for, or `None` if they are of another word.
-fn as_debug<'a>(words: Words<'a>) -> Option<DebugWords<'a>>
-    ensures some { IfSome result (λ w. view words.entry ≡ debug (debug_view w)) }
-    ensures none { IfNone result ((d : DebugAsked) → ¬ (view words.entry ≡ debug d)) }
+fn as_debug<'w, 'a>(words: &'w Words<'a>) -> Option<&'w DebugWords<'a>>
+    ensures some { IfSome result (λ w. view words.now ≡ debug (debug_view w.now)) }
+    ensures none { IfNone result ((d : DebugAsked) → ¬ (view words.now ≡ debug d)) }
 {
     match words {
         Words::Debug(words) => Some(words),
@@ -105,8 +105,8 @@ fn serve<H: Files + AllocGlobal, R: Read, O: Write, E: Write>(
     }) result.0 (input.new ≡ input.old) (result.1 ≡ output) }
 {
     match read_words(rt.alloc(), plain) {
-        Ok(words) => match as_debug(words) {
-            Some(words) => serve_session(rt, &words, input, output, errors),
+        Ok(words) => match as_debug(&words) {
+            Some(words) => serve_session(rt, words, input, output, errors),
             None => (refuse(Refusal::Words, errors), output),
         },
         Err(fault) => refused(fault, output, errors),

@@ -2,6 +2,7 @@
 use Rattle.std.specs.Prelude.{ℕ, ◌+◌, ◌-◌, ◌^◌, ◌==◌, Bool, true, false, if◌then◌else◌, List, [], ◌∷◌, ◌++◌, Option, Some, None, codes, encode_utf8_all, length}
 use Rattle.std.specs.Fmt.{digits, format_spec, padded_integral}
 use Rattle.std.specs.List.{flat_map, zip}
+use Rattle.model.specs.State.{no_port}
 use Rattle.model.specs.declared.instruction.Profile.{Profile}
 use Rattle.tape_words.specs.Answers.{counted}
 use Rattle.tape_words.specs.Instructions.{row_at, text_by}
@@ -90,11 +91,15 @@ amount_text bytes = (if bytes == 0 then NOTHING.now else byte_count bytes) ++ co
 abbrev pub part_row : List ℕ → ℕ → ℕ → ℕ → List ℕ
 part_row words first last bytes = stretch_text words first last ++ amount_text bytes
 
--- The rows of page 0, of page 1 and of the port's four addresses.
+-- The row of the port's four addresses, where there is a port.
+abbrev pub port_row : ℕ → Facts → List ℕ
+port_row port facts =
+    if port == no_port then [] else part_row PORT_ROW.now port (port + 3) facts.at_port
+
+-- The rows of page 0, of page 1 and of the port.
 unfoldable pub part_rows : ℕ → Facts → List ℕ
 part_rows port facts = part_row PAGE_0_ROW.now 0 255 facts.in_page_0
-    ++ part_row PAGE_1_ROW.now 256 511 facts.in_page_1
-    ++ part_row PORT_ROW.now port (port + 3) facts.at_port
+    ++ part_row PAGE_1_ROW.now 256 511 facts.in_page_1 ++ port_row port facts
 
 -- ---- all rows
 

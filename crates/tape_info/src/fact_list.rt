@@ -56,11 +56,14 @@ fn count_bytes(cells: &[Option<u8>]) -> u32
 #[tactic(auto, unfolding(crate::specs::Facts::bytes_among))]
 fn bytes_among(cells: &[Option<u8>], first: usize, count: usize) -> u32
     requires size { length cells.now ≡ 65536 }
-    requires inside { first + count ≤ 65536 }
+    requires inside { first ≤ 65536 }
     ensures { result ≡ bytes_among cells.now first count }
 {
     let rest = cells.split_at(first).1;
-    count_bytes(rest.split_at(count).0)
+    if count < rest.len() {
+        return count_bytes(rest.split_at(count).0);
+    }
+    count_bytes(rest)
 }
 
 /// Returns two bytes as an address, the low byte first, if both are there.

@@ -2,14 +2,14 @@
 
 ghost use Rattle.std.specs.Prelude.{◌≡◌, ◌++◌, IfOk, OnOk, string_bytes};
 ghost use Rattle.tape_info.specs.Rows.{amount_text, byte_count, gap_row, known_gap_row, part_row};
-ghost use Rattle.tape_info.specs.Rows.{part_rows, range_row, range_rows, rows_of, stretch_text};
+ghost use Rattle.tape_info.specs.Rows.{part_rows, port_row, range_row, range_rows, rows_of, stretch_text};
 ghost use Rattle.tape_info.specs.Rows.{sum_text, tape_row, target_text, vector_rows};
 
 use crate::fact_list::Facts;
 use crate::gaps::Gap;
 use crate::ranges::Range;
 use crate::wording;
-use memory_map::Image;
+use memory_map::{Image, MapSpec};
 use model::Profile;
 use std::alloc::{AllocError, Global};
 use tape_words::{RECORD, RECORDS, push_count, push_instruction};
@@ -187,21 +187,27 @@ fn push_part(
     push_amount(words, bytes)
 }
 
+/// Appends the row of the port's four addresses, where there is a port.
+fn push_port(words: &mut String, map: &MapSpec, facts: &Facts) -> Result<(), AllocError>
+    ensures { OnOk result (string_bytes words.new
+        ≡ string_bytes words.old ++ port_row map.now.port facts.now) }
+{
+    let port = map.port();
+    if port == 65536 {
+        return Ok(());
+    }
+    push_part(words, wording::PORT_ROW, port, port + 3, facts.at_port)
+}
+
 /// Appends the rows of pages 0 and 1 and of the port.
 #[tactic(auto, unfolding(crate::specs::Rows::part_rows))]
-fn push_parts(words: &mut String, port: u16, facts: &Facts) -> Result<(), AllocError>
+fn push_parts(words: &mut String, map: &MapSpec, facts: &Facts) -> Result<(), AllocError>
     ensures { OnOk result (string_bytes words.new
-        ≡ string_bytes words.old ++ part_rows port facts.now) }
+        ≡ string_bytes words.old ++ part_rows map.now.port facts.now) }
 {
     push_part(words, wording::PAGE_0_ROW, 0x0000, 0x00ff, facts.in_page_0)?;
     push_part(words, wording::PAGE_1_ROW, 0x0100, 0x01ff, facts.in_page_1)?;
-    push_part(
-        words,
-        wording::PORT_ROW,
-        port as u32,
-        port as u32 + 3,
-        facts.at_port,
-    )
+    push_port(words, map, facts)
 }
 
 /// Returns the rows of `info`: the tape, its ranges, the largest gap, the vectors, and what stands
@@ -213,18 +219,18 @@ pub fn image_text(
     alloc: Global,
     profile: Profile,
     image: &Image,
-    port: u16,
+    map: &MapSpec,
     facts: &Facts,
     records: usize,
 ) -> Result<String, AllocError>
     ensures { IfOk result (λ words. string_bytes words
-        ≡ rows_of profile image.now port facts.now records) }
+        ≡ rows_of profile image.now map.now.port facts.now records) }
 {
     let mut words = String::new(alloc);
     push_tape(&mut words, facts, records)?;
     push_ranges(&mut words, facts)?;
     push_gap(&mut words, facts.gap)?;
     push_vectors(&mut words, profile, image, facts)?;
-    push_parts(&mut words, port, facts)?;
+    push_parts(&mut words, map, facts)?;
     Ok(words)
 }

@@ -37,7 +37,7 @@ fn right_tape(
 {
     let facts = facts_of(alloc, image, map)?;
     let records = data_records(text);
-    let said = image_text(alloc, words.profile, image, map.port(), &facts, records)?;
+    let said = image_text(alloc, words.profile, image, map, &facts, records)?;
     Ok(said)
 }
 
@@ -134,7 +134,7 @@ fn done<'a, H: Files + AllocGlobal>(
     ensures refused { IfErr result (λ why. EndsInfo (info_view words.now) why.refusal) }
 {
     let file = words.tape;
-    let map = match MapSpec::new(None, words.port) {
+    let map = match MapSpec::at(None, words.port) {
         Ok(map) => map,
         Err(fault) => {
             return Err(FileRefusal {

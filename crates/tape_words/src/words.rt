@@ -10,6 +10,7 @@ ghost use Rattle.tape_words.specs.CommandLines.{cmp, info, mend};
 use crate::command::{cmp_command, info_command, mend_command};
 use arguments::{WordsFault, matched, port_asked, profile_asked, value_fault};
 use clap::ArgMatches;
+use memory_map::Port;
 use model::Profile;
 use std::alloc::Global;
 
@@ -18,8 +19,8 @@ use std::alloc::Global;
 pub struct InfoWords<'a> {
     /// The file to read.
     pub tape: &'a str,
-    /// The first of the port's four addresses.
-    pub port: u16,
+    /// The first of the port's four addresses, or no port.
+    pub port: Port,
     /// The processor whose instructions are shown.
     pub profile: Profile,
 }

@@ -1,13 +1,13 @@
 use Rattle.std.proofs.Common.{◌≡◌, List, Option, ℕ, sym, ◌∙◌, subst, ap}
-use Rattle.std.proofs.lemmas.Bool.{both_ways, false≢true}
+use Rattle.std.proofs.lemmas.Bool.{false≢true}
 use Rattle.model.specs.Source.{Denotes}
-use Rattle.model.specs.State.{has_port_byte}
 use Rattle.model.specs.declared.source_fault.AsmFault.{AsmFault}
 use Rattle.named_source.proofs.Carried.{denotes_under}
+use Rattle.named_source.proofs.Maps.{spared_without}
 use Rattle.named_source.proofs.checked.is_right.Goals as goal
 
 pub returns-in_default-clause-wrong : goal.returns-in_default-clause-wrong
-returns-in_default-clause-wrong c wrong s = both_ways (has_port_byte s.bus_map c.args.image.now) s.spared (c.in_default.ensures.none s.bus_map s.valid)
+returns-in_default-clause-wrong c wrong s = c.in_default.ensures.none
 
 pub returns-in-Ok-clause-denotes : goal.returns-in-Ok-clause-denotes
 returns-in-Ok-clause-denotes c right bus_map same spared =
@@ -22,14 +22,14 @@ returns-in-Ok-clause-right c right =
       bus_map = c.in-Some.map;
       valid = c.is_map.ensures;
       same = c.in-Some.ensures.profile;
-      spared = c.in-Some.ensures.spared;
+      spared = spared_without c.in-Some.map c.args.image.now c.in-Some.ensures.port c.cells.ensures.image;
       denotes = subst (λ (i : List (Option ℕ)). Denotes c.in-Some.map c.args.source.now i) one c.in-Ok.ensures.denoted;
     }
 
 pub returns-in-Ok-clause-wrong : goal.returns-in-Ok-clause-wrong
 returns-in-Ok-clause-wrong c wrong s =
     let here : Denotes c.in-Some.map c.args.source.now c.args.image.now =
-    denotes_under c.bytes_fill_their_size.ensures s.bus_map c.in-Some.map c.args.source.now c.args.image.now (c.in-Some.ensures.profile ∙ sym s.same) c.in-Some.ensures.spared s.denotes in
+    denotes_under c.bytes_fill_their_size.ensures s.bus_map c.in-Some.map c.args.source.now c.args.image.now (c.in-Some.ensures.profile ∙ sym s.same) (spared_without c.in-Some.map c.args.image.now c.in-Some.ensures.port c.cells.ensures.image) s.denotes in
     let one : c.in-Ok.assembly.image ≡ c.args.image.now = c.in-Ok.ensures.only c.args.image.now here in
     c.is_same.ensures.apart wrong (c.image.ensures ∙ one)
 
@@ -42,5 +42,5 @@ returns-in_default-kind-clause-right c right = absurd (false≢true right)
 pub returns-in_default-kind-clause-wrong : goal.returns-in_default-kind-clause-wrong
 returns-in_default-kind-clause-wrong c wrong s =
     let here : Denotes c.in-Some.map c.args.source.now c.args.image.now =
-    denotes_under c.bytes_fill_their_size.ensures s.bus_map c.in-Some.map c.args.source.now c.args.image.now (c.in-Some.ensures.profile ∙ sym s.same) c.in-Some.ensures.spared s.denotes in
+    denotes_under c.bytes_fill_their_size.ensures s.bus_map c.in-Some.map c.args.source.now c.args.image.now (c.in-Some.ensures.profile ∙ sym s.same) (spared_without c.in-Some.map c.args.image.now c.in-Some.ensures.port c.cells.ensures.image) s.denotes in
     c.in_default-kind.not-OutOfMemory (ap (λ (f : AsmFault). f.kind) (c.in-Err.ensures.only c.args.image.now here))

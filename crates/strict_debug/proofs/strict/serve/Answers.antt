@@ -15,11 +15,11 @@ use Rattle.strict_debug.proofs.strict.serve.Goals as goal
 -- the words were right, and a session was watched
 pub returns-in-Some-clause-told : goal.returns-in-Some-clause-told
 returns-in-Some-clause-told g c one four which =
-    inr (debug_view c.in-Some.words, c.in-Ok.ensures.asked ∙ ap Some c.in-Some.ensures.some, c.serve_session.ensures.told one four)
+    inr (debug_view c.in-Some.words.now, c.in-Ok.ensures.asked ∙ ap Some c.in-Some.ensures.some, c.serve_session.ensures.told one four)
 
 pub returns-in-Some-clause-named : goal.returns-in-Some-clause-named
 returns-in-Some-clause-named g c d h taken one four =
-    let same = one_debug _ (debug_view c.in-Some.words) d (c.in-Ok.ensures.asked ∙ ap Some c.in-Some.ensures.some) h in
+    let same = one_debug _ (debug_view c.in-Some.words.now) d (c.in-Ok.ensures.asked ∙ ap Some c.in-Some.ensures.some) h in
     rw (sym same) (c.serve_session.ensures.told one four)
 
 pub returns-in-Some-clause-serves : goal.returns-in-Some-clause-serves
@@ -27,7 +27,7 @@ returns-in-Some-clause-serves g c = record {
   untouched = c.serve_session.ensures.untouched;
   refuses = not_refused mos65 (texts c.args.plain.now) _ _ _ _ c.in-Ok.ensures.taken (λ none. let no : Some (view c.in-Ok.words) ≡ None = sym c.in-Ok.ensures.asked ∙ none in absurd cc);
   serves = λ d h taken.
-      let same = one_debug _ (debug_view c.in-Some.words) d (c.in-Ok.ensures.asked ∙ ap Some c.in-Some.ensures.some) h in
+      let same = one_debug _ (debug_view c.in-Some.words.now) d (c.in-Ok.ensures.asked ∙ ap Some c.in-Some.ensures.some) h in
       rw (sym same) c.serve_session.ensures.runs;
 }
 

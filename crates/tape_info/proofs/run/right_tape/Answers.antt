@@ -1,4 +1,4 @@
-use Rattle.std.proofs.Common.{◌≡◌, ◌∙◌, ap, ℕ, List, Option}
+use Rattle.std.proofs.Common.{◌≡◌, ◌∙◌, refl, ap, ℕ, List, Option}
 use Rattle.model.specs.declared.instruction.Profile.{Profile}
 use Rattle.tape_info.specs.Rows.{rows_of}
 use Rattle.tape_info.specs.declared.fact_list.Facts.{Facts}
@@ -24,5 +24,5 @@ returns c = record {
     reset = c.in_ok-facts.ensures.reset;
     irq = c.in_ok-facts.ensures.irq;
   };
-  rows = same_rows _ _ _ _ _ _ _ _ c.port.ensures.value c.data_records-records.ensures.count c.in_ok-said.ensures;
+  rows = same_rows _ _ _ _ _ _ _ _ refl c.data_records-records.ensures.count c.in_ok-said.ensures;
 }
