@@ -1,13 +1,11 @@
 -- What the fault of a source makes of the result.
-use Rattle.std.proofs.Common.{◌≡◌, ℕ, List, Option, Some, None, Result, Ok, Err, ◌⊎◌, inl, inr, ap}
-use Rattle.std.specs.declared.alloc.Global.{Global}
-use Rattle.std.specs.declared.vec.Vec.{Vec}
-use Rattle.arguments.specs.declared.load_fault.LoadFault.TheVariants.{Faults}
+use Rattle.std.proofs.Common.{◌≡◌, Result, Ok, Err, ◌⊎◌, inl, inr, ap}
+use Rattle.arguments.specs.declared.load_fault.LoadFault.{LoadFault}
+use Rattle.arguments.specs.declared.load_fault.LoadFault.TheVariants.{AtPort, Faults, LooksLikeTape, Refused}
+use Rattle.arguments.specs.declared.refusal.Refusal.TheVariants.{Words, Map as NoMap, Source, Tape, Session as NoSession, OutOfMemory, Read, Write}
 use Rattle.asm_files.specs.CommandLine.{EndsTexts}
-use Rattle.assembler.specs.Assembly.{out_of_memory}
-use Rattle.fault_notes.specs.Blocks.{IsToldText}
-use Rattle.model.specs.AllFaults.{faults_of}
-use Rattle.model.specs.Source.{HasFault}
+use Rattle.clap.specs.Words.{Text}
+use Rattle.loading.specs.Loads.{EndsSourceFile}
 use Rattle.model.specs.State.{Map}
 use Rattle.model.specs.declared.source_fault.AsmFault.{AsmFault}
 
@@ -28,11 +26,16 @@ pub other_result : {A X : Type 0} (e f g : AsmFault) → (failed A e ≡ failed 
 other_result e f g (inl same) = inl (ap Err (ap (fault_or e) same))
 other_result e f g (inr same) = inr (ap Err (ap (fault_or e) same))
 
--- a source whose faults are told
-pub told_ends : (bus_map : Map) (file source : List ℕ) (fault : AsmFault) (text : Vec ℕ Global) (told : Option (Vec ℕ Global)) → told ≡ Some text → (fault ≡ out_of_memory) ⊎ HasFault bus_map source fault
-    → (fault ≡ out_of_memory → told ≡ None) → IsToldText file source bus_map.profile (faults_of bus_map source) text.items → EndsTexts bus_map file (Faults fault text)
-told_ends bus_map file source fault text told some (inl memory) none is = absurd (no_text (none memory))
-  where
-    no_text : told ≡ None → ⊥
-    no_text e = cc
-told_ends bus_map file source fault text told some (inr has) none is = (source, has, is)
+-- a source that is not assembled
+pub source_ends : (bus_map : Map) (file : Text) (fault : LoadFault) → EndsSourceFile bus_map file fault → EndsTexts bus_map file fault
+source_ends bus_map file LooksLikeTape ends = absurd ends
+source_ends bus_map file (Faults fault text) ends = ends
+source_ends bus_map file (AtPort first last free) ends = absurd ends
+source_ends bus_map file (Refused Words) ends = absurd ends
+source_ends bus_map file (Refused (NoMap fault)) ends = absurd ends
+source_ends bus_map file (Refused (Source fault)) ends = absurd ends
+source_ends bus_map file (Refused (Tape fault)) ends = absurd ends
+source_ends bus_map file (Refused (NoSession fault)) ends = absurd ends
+source_ends bus_map file (Refused OutOfMemory) ends = ends
+source_ends bus_map file (Refused (Read why)) ends = ends
+source_ends bus_map file (Refused Write) ends = absurd ends

@@ -5,12 +5,11 @@ use Rattle.std.specs.Prelude.{◌≡◌, ⊤, ℕ, false, List, Option, Some, No
 use Rattle.arguments.specs.CommandLine.{file_rule, option_rule, unnamed}
 use Rattle.arguments.specs.Words.{Fits, value_in}
 use Rattle.arguments.specs.declared.load_fault.LoadFault.{LoadFault}
-use Rattle.arguments.specs.declared.load_fault.LoadFault.TheVariants.{Faults, Refused}
-use Rattle.arguments.specs.declared.refusal.Refusal.TheVariants.{Map as NoMap, OutOfMemory, Read}
+use Rattle.arguments.specs.declared.load_fault.LoadFault.TheVariants.{Refused}
+use Rattle.arguments.specs.declared.refusal.Refusal.TheVariants.{Map as NoMap}
 use Rattle.asm_files.specs.Asked.{FilesAsked, files_asked}
 use Rattle.clap.specs.Words.{App, Text, with_rule}
-use Rattle.fault_notes.specs.Blocks.{IsToldText}
-use Rattle.model.specs.AllFaults.{faults_of}
+use Rattle.loading.specs.Loads.{EndsSourceFile}
 use Rattle.model.specs.Source.{Denotes, HasFault}
 use Rattle.model.specs.State.{Map, is_map}
 use Rattle.model.specs.declared.bus_fault.BusFault.TheVariants.{BadMap}
@@ -43,13 +42,8 @@ HasSource bus_map = (source : List ℕ) × ((image : List (Option ℕ)) × Denot
 abbrev pub HasSourceFault : Map → Type 0
 HasSourceFault bus_map = (source : List ℕ) × ((fault : AsmFault) × HasFault bus_map source fault)
 
--- Why the texts of a file are not made: the port makes no map; the source has a fault, and a text
--- tells of all its faults; the file cannot be read. Memory may run out at any file.
+-- Why the texts of a file are not made: the port makes no map, or its source is not assembled.
 abbrev pub EndsTexts : Map → Text → LoadFault → Type 0
-EndsTexts bus_map file (Faults fault text) = (source : List ℕ) × HasFault bus_map source fault
-    × IsToldText file source bus_map.profile (faults_of bus_map source) text.items
 EndsTexts bus_map file (Refused (NoMap fault)) = (fault ≡ BadMap)
     × (is_map bus_map.rom bus_map.port ≡ false)
-EndsTexts bus_map file (Refused OutOfMemory) = ⊤
-EndsTexts bus_map file (Refused (Read why)) = ⊤
-EndsTexts bus_map file fault = ⊥
+EndsTexts bus_map file fault = EndsSourceFile bus_map file fault

@@ -93,7 +93,9 @@ fn is_wrong(
 fn files_words<'a>(matches: &ArgMatches<'a>) -> Option<FilesWords<'a>>
     ensures { option_map files_view result ≡ files_asked (first_value (found_of matches.now)) }
 {
-    let asm = asm_words(matches)?;
+    let Some(asm) = asm_words(matches) else {
+        return None;
+    };
     let symbols = matches.get_str("symbols");
     let map = matches.get_str("map");
     let named = matches.get_str("symbols-format");

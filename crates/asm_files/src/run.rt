@@ -5,10 +5,8 @@ ghost use Rattle.arguments.specs.Files.{EndsWriting};
 ghost use Rattle.arguments.specs.Words.{AsksForHelp, Fits, Misfits, texts};
 ghost use Rattle.asm_files.specs.CommandLine.{Asks, EndsTexts, HasSource, HasSourceFault, asm};
 ghost use Rattle.asm_files.specs.CommandLine.{map_asked, words_asked};
-ghost use Rattle.assembler.specs.Assembly.{out_of_memory};
 ghost use Rattle.asm_files.specs.Views.{files_view};
 ghost use Rattle.arguments.specs.declared.load_fault.LoadFault.TheVariants.{Refused};
-ghost use Rattle.model.specs.Source.{HasFault};
 ghost use Rattle.model.specs.State.{is_map};
 ghost use Rattle.model.specs.declared.bus_fault.BusFault.TheVariants.{BadMap};
 
@@ -17,10 +15,7 @@ use crate::texts::{FileTexts, TextsAsked, file_texts};
 use arguments::{
     FileRefusal, LoadFault, Refusal, is_one_file, map_of, read_source, refused_words, write_file,
 };
-use bus::MapSpec;
-use fault_notes::told_faults;
-use model::AsmFault;
-use std::alloc::Global;
+use loading::faults_of;
 use std::io::Write;
 use std::rt::Files;
 
@@ -94,19 +89,8 @@ fn texts_asked(words: &FilesWords<'_>) -> TextsAsked {
     }
 }
 
-/// Returns why a source is refused that has a fault: all its faults, or that memory ran out.
-#[tactic(auto, using(crate::proofs::Ends::told_ends))]
-fn faults_of(alloc: Global, file: &str, source: &[u8], map: &MapSpec, fault: AsmFault) -> LoadFault
-    requires { (fault ≡ out_of_memory) ⊎ HasFault map.now source.now fault }
-    ensures { EndsTexts map.now file.now result }
-{
-    match told_faults(alloc, file.as_bytes(), source, map, fault) {
-        Some(text) => LoadFault::Faults { fault, text },
-        None => LoadFault::Refused(Refusal::OutOfMemory),
-    }
-}
-
 /// Returns the texts of the source that the words name.
+#[tactic(auto, using(crate::proofs::Ends::source_ends))]
 fn texts_of<H: Files + AllocGlobal>(rt: &H, words: &FilesWords<'_>) -> Result<FileTexts, LoadFault>
     ensures bad_map { is_map None words.now.asm.port ≡ false
         → result ≡ Err (Refused (Refusal.Map BadMap)) }

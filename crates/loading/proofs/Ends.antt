@@ -5,12 +5,13 @@ use Rattle.std.specs.declared.alloc.Global.{Global}
 use Rattle.std.specs.declared.vec.Vec.{Vec}
 use Rattle.arguments.specs.Asked.{FileAsked, map_of}
 use Rattle.arguments.specs.Refusals.{of_source, of_source_kind}
-use Rattle.arguments.specs.declared.load_fault.LoadFault.TheVariants.{Faults, Refused}
+use Rattle.arguments.specs.declared.load_fault.LoadFault.{LoadFault}
+use Rattle.arguments.specs.declared.load_fault.LoadFault.TheVariants.{AtPort, Faults, LooksLikeTape, Refused}
 use Rattle.arguments.specs.declared.refusal.Refusal.{Refusal}
 use Rattle.arguments.specs.declared.refusal.Refusal.TheVariants.{OutOfMemory, Source}
 use Rattle.assembler.specs.Assembly.{out_of_memory}
 use Rattle.fault_notes.specs.Blocks.{IsToldText}
-use Rattle.loading.specs.Loads.{EndsFile, EndsLoad, EndsSource}
+use Rattle.loading.specs.Loads.{EndsFile, EndsLoad, EndsSource, EndsSourceFile}
 use Rattle.model.specs.AllFaults.{faults_of}
 use Rattle.model.specs.Source.{HasFault}
 use Rattle.model.specs.State.{Map}
@@ -39,12 +40,18 @@ source_ends bus_map source f (Err r) (inr has) is = subst (EndsSource bus_map) (
 -- ---- a source whose faults are told
 
 pub told_ends : (bus_map : Map) (file source : List ℕ) (fault : AsmFault) (text : Vec ℕ Global) (told : Option (Vec ℕ Global)) → told ≡ Some text → (fault ≡ out_of_memory) ⊎ HasFault bus_map source fault
-    → (fault ≡ out_of_memory → told ≡ None) → IsToldText file source bus_map.profile (faults_of bus_map source) text.items → EndsFile false bus_map file (Faults fault text)
+    → (fault ≡ out_of_memory → told ≡ None) → IsToldText file source bus_map.profile (faults_of bus_map source) text.items → EndsSourceFile bus_map file (Faults fault text)
 told_ends bus_map file source fault text told some (inl memory) none is = absurd (no_text (none memory))
   where
     no_text : told ≡ None → ⊥
     no_text e = cc
 told_ends bus_map file source fault text told some (inr has) none is = (source, has, is)
+
+pub in_file : (bus_map : Map) (file : List ℕ) (fault : LoadFault) → EndsSourceFile bus_map file fault → EndsFile false bus_map file fault
+in_file bus_map file LooksLikeTape ends = absurd ends
+in_file bus_map file (AtPort first last free) ends = absurd ends
+in_file bus_map file (Faults fault text) ends = ends
+in_file bus_map file (Refused fault) ends = ends
 
 -- ---- memory may run out for any words
 

@@ -1,3 +1,4 @@
+pub mod FreeBase
 pub mod Loads
 pub mod Place
 pub mod Told

@@ -2,14 +2,15 @@
 //!
 //! `load` returns a session at the start of an image that some such file denotes on the map of the
 //! words, with the assembly of a source and the addresses at which the image has a byte, or says
-//! why not (`specs/Loads.antt`): of a source with faults it tells all of them. Which file it is, no
-//! clause can say. `place_of` finds the address of a name, of hex digits or of a sum
-//! (`specs/Place.antt`).
+//! why not (`specs/Loads.antt`): of a source with faults it tells all of them, as `faults_of` does
+//! for every word. Which file it is, no clause can say. `place_of` finds the address of a name, of
+//! hex digits or of a sum (`specs/Place.antt`).
 #![tactic(auto)]
 
 mod digits;
+mod free_base;
 mod loaded;
 mod place;
 
-pub use loaded::{Loaded, load, load_names, load_with_history};
+pub use loaded::{Loaded, faults_of, load, load_names, load_with_history};
 pub use place::place_of;

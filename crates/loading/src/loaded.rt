@@ -1,19 +1,21 @@
 //! A file loaded into a session.
 
 ghost use Rattle.std.specs.Prelude.{◌≡◌, ◌≤◌, ℕ, List, [], Option, Err, IfErr, IfOk, Some, false};
+ghost use Rattle.std.specs.Prelude.{None};
 ghost use Rattle.std.specs.Prelude.{◌⊎◌, true};
 ghost use Rattle.accesses.specs.Writing.{bytes_in};
 ghost use Rattle.arguments.specs.Asked.{file_view, map_of};
 ghost use Rattle.arguments.specs.declared.load_fault.LoadFault.TheVariants.{Refused};
 ghost use Rattle.assembler.specs.Assembly.{IsAssembled, out_of_memory};
-ghost use Rattle.loading.specs.Loads.{EndsFile, EndsLoad, EndsNames, EndsSource, EndsTape};
-ghost use Rattle.loading.specs.Loads.{IsBadMap, IsImageOf, IsLoaded};
+ghost use Rattle.loading.specs.Loads.{EndsFile, EndsLoad, EndsNames, EndsSource};
+ghost use Rattle.loading.specs.Loads.{EndsSourceFile, IsBadMap, IsImageOf, IsLoaded};
 ghost use Rattle.model.specs.Event.{start};
 ghost use Rattle.model.specs.Session.{new_session};
 ghost use Rattle.model.specs.Source.{HasFault};
 ghost use Rattle.model.specs.State.{has_port_byte, input_waits, is_map};
 ghost use Rattle.model.specs.declared.bus_fault.BusFault.TheVariants.{BadMap};
 
+use crate::free_base::free_base;
 use accesses::Written;
 use arguments::{FileWords, LoadFault, Refusal, image_of_tape, map_of, read_source};
 use assembler::{Assembly, assemble};
@@ -57,11 +59,18 @@ fn assembled(alloc: Global, source: &[u8], map: &MapSpec) -> Result<Assembly, Re
     Ok(assemble(alloc, source, map)?)
 }
 
-/// Returns why a source is refused that has a fault: all its faults, or that memory ran out.
+/// Returns why the source of a file is refused that has a fault: `Faults` with the text of all its
+/// faults under the name of the file, or `OutOfMemory` if that is the fault or an allocation fails.
 #[tactic(auto, using(crate::proofs::Ends::told_ends))]
-fn faults_of(alloc: Global, file: &str, source: &[u8], map: &MapSpec, fault: AsmFault) -> LoadFault
+pub fn faults_of(
+    alloc: Global,
+    file: &str,
+    source: &[u8],
+    map: &MapSpec,
+    fault: AsmFault,
+) -> LoadFault
     requires { (fault ≡ out_of_memory) ⊎ HasFault map.now source.now fault }
-    ensures { EndsFile false map.now file.now result }
+    ensures { EndsSourceFile map.now file.now result }
 {
     match told_faults(alloc, file.as_bytes(), source, map, fault) {
         Some(text) => LoadFault::Faults { fault, text },
@@ -70,6 +79,7 @@ fn faults_of(alloc: Global, file: &str, source: &[u8], map: &MapSpec, fault: Asm
 }
 
 /// Assembles the source of a file on a map, unless it begins with a record of a tape.
+#[tactic(auto, using(crate::proofs::Ends::in_file))]
 fn assembled_source(
     alloc: Global,
     file: &str,
@@ -144,28 +154,49 @@ fn load_source<H: Files + AllocGlobal>(
     Ok(start_source(rt.alloc(), map, assembly, history)?)
 }
 
+/// Returns a session that holds at most `history` earlier states, on the image of a tape.
+fn start_tape(alloc: Global, map: MapSpec, image: &Image, history: u32) -> Result<Loaded, Refusal>
+    requires history { history ≤ 65536 }
+    requires spared { has_port_byte map image.now ≡ false }
+    ensures started { IfOk result
+        (λ loaded. loaded.session ≡ new_session history (start map image.now)) }
+    ensures assembly { IfOk result (λ loaded. loaded.assembly ≡ None) }
+    ensures bytes { IfOk result (λ loaded. loaded.written ≡ bytes_in image.now) }
+    ensures refused { IfErr result (λ fault. fault ≡ Refusal.OutOfMemory) }
+{
+    let session = Session::new(alloc, map, image, history)?;
+    let written = bytes_of(alloc, image)?;
+    Ok(Loaded {
+        session,
+        assembly: None,
+        written,
+    })
+}
+
 /// Returns a session that holds at most `history` earlier states, on the image of a tape's file.
 fn load_tape<H: Files + AllocGlobal>(
     rt: &H,
     words: &FileWords<'_>,
     map: MapSpec,
     history: u32,
-) -> Result<Loaded, Refusal>
-    requires { history ≤ 65536 }
+) -> Result<Loaded, LoadFault>
+    requires history { history ≤ 65536 }
+    requires rom { map.rom ≡ words.now.rom }
     ensures started { IfOk result (λ loaded. (image : List (Option ℕ))
         × IsImageOf true map image loaded.assembly
         × (loaded.session ≡ new_session history (start map image))
         × (loaded.written ≡ bytes_in image)) }
-    ensures refused { IfErr result (EndsTape map) }
+    ensures refused { IfErr result (EndsFile true map words.now.file.now) }
 {
     let image = image_of_tape(rt, words.file)?;
-    let session = Session::new(rt.alloc(), map, &image, history)?;
-    let written = bytes_of(rt.alloc(), &image)?;
-    Ok(Loaded {
-        session,
-        assembly: None,
-        written,
-    })
+    if map.meets(&image) {
+        return Err(LoadFault::AtPort {
+            first: map.port(),
+            last: map.port() + 3,
+            free: free_base(words.rom, &image),
+        });
+    }
+    Ok(start_tape(rt.alloc(), map, &image, history)?)
 }
 
 /// Loads the file of the words: returns a session that starts with its image and holds no earlier
@@ -175,7 +206,7 @@ fn load_tape<H: Files + AllocGlobal>(
 ///
 /// In this order: `Map` if the port and the ROM do not make a map; `Read` if the file cannot be
 /// read; `LooksLikeTape` if the file is given as a source and begins with a record of a tape;
-/// `Faults` with all faults of a source; `Tape` with its fault; `Session` if a tape has a byte at
+/// `Faults` with all faults of a source; `Tape` with its fault; `AtPort` if a tape has a byte at
 /// the port. `OutOfMemory` if an allocation fails.
 pub fn load<H: Files + AllocGlobal>(rt: &H, words: &FileWords<'_>) -> Result<Loaded, LoadFault>
     ensures started { IfOk result (λ loaded. (image : List (Option ℕ))
@@ -213,7 +244,7 @@ pub fn load_with_history<H: Files + AllocGlobal>(
 {
     let map = map_of_words(words)?;
     if words.is_tape {
-        Ok(load_tape(rt, words, map, history)?)
+        load_tape(rt, words, map, history)
     } else {
         load_source(rt, words, map, history)
     }

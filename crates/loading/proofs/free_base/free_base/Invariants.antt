@@ -1,0 +1,7 @@
+use Rattle.std.proofs.Common.{ℕ, ◌<◌}
+use Rattle.loading.specs.FreeBase.{IsFree}
+use Rattle.loading.proofs.free_base.free_base.Given as goal
+
+-- no base before this one is free
+abbrev pub invariant-loop-base : goal.invariant-loop-base
+invariant-loop-base l = (lower : ℕ) → lower < l.base → IsFree l.rom l.image lower → ⊥
