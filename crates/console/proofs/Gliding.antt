@@ -19,7 +19,7 @@ use Rattle.cpu_step.specs.PlainSteps.{IsFree, is_break, is_port_read, stays}
 use Rattle.law_sessions.proofs.Runs.{after_steps-zero}
 use Rattle.law_states.proofs.Numbers.{byte_small}
 use Rattle.law_states.proofs.Steps.{step_follows}
-use Rattle.debugger.proofs.PlainRuns.{session_at, session_next}
+use Rattle.debugger.proofs.PlainRuns.{after_one, session_at, session_next}
 use Rattle.debugger.proofs.Runs.{event_is_step}
 use Rattle.accesses.specs.Access.{access_here, puts_byte, row_here}
 use Rattle.accesses.specs.Footprint.{stores_here}
@@ -31,7 +31,7 @@ use Rattle.accesses.proofs.Entries.{no_entry}
 use Rattle.console.specs.Playing.{asks, ending_before, ending_here, fall_of, is_at, later, memo_after, played, stands, stepped, stray_of, turn_of, unless_ended, after_turn, Outcome, Play}
 use Rattle.console.specs.Stretches.{Bound, Glides, going, is_place}
 use Rattle.console.specs.Taking.{Waits}
-use Rattle.console.specs.Turns.{Known, play_at, turn_to}
+use Rattle.console.specs.Turns.{Known, TurnsTo, play_at, turn_to}
 use Rattle.console.specs.declared.ending.Ending.TheVariants.{NoVector, Until}
 use Rattle.console.proofs.Lines.{input-none}
 use Rattle.console.proofs.Turning.{later_none, later_twice, made, played_turn, turned}
@@ -275,3 +275,40 @@ glides_nowhere place s u k cells at' same =
 
 pub same_waits : (s t : State) (waiting : ℕ) → SameConsole s t → Waits s waiting → Waits t waiting
 same_waits s t waiting same waits = ap (λ n. n + waiting) same.taken ∙ waits ∙ sym (ap length same.given)
+
+-- ---- one plain step by itself
+
+-- a plain step leads from one session to another, from an address
+pub record StepsPlainly (marks : List ℕ) (at' : ℕ) (s u : Session) : Type 0 where
+  pub plain : IsPlainStep marks s.current u.current
+  pub from : at' ≡ s.current.regs.pc
+  pub after : u ≡ with_state s u.current
+
+pub steps_plainly : (marks : List ℕ) (n at' : ℕ) (s u : Session) → 0 < n → n ≤ 1 → AllPlainButLast marks marks n at' s.current u.current → u ≡ after_steps n s → StepsPlainly marks at' s u
+steps_plainly marks n at' s u some one all end =
+    let none : n - 1 ≡ 0 = omega arith in
+    let here : all.0 ≡ s.current = subst (λ k. AllPlain marks marks k s.current all.0) none all.1 in
+    let plain = subst (λ (x : State). IsPlainStep marks x u.current) here all.2 in
+    record {
+      plain = plain;
+      from = all.3 ∙ ap (λ (x : State). x.regs.pc) here;
+      after = end ∙ sym (after_one n s u.current plain.made some one);
+    }
+
+-- it is a turn, and no interrupt entry
+pub turns_plainly : (marks : List ℕ) (k : Known) (at' : ℕ) (over : Bool) (s u : Session) → k.memo.rests ≡ false → k.memo.idle ≡ None → AreMarks marks k.written → length k.written ≡ 65536 → IsState s.current → is_written k.written s.current.regs.pc ≡ true
+    → StepsPlainly marks at' s u → TurnsTo s k [] over None u (record { memo = record { rests = k.memo.rests; idle = k.memo.idle; from = Some at' }; written = k.written })
+turns_plainly marks k at' over s u rests idle are size state is h = λ rest may.
+    let bound = bound_off marks k.written None size are (λ address none. absurd cc) in
+    let after : gliding k.written (Some s.current.regs.pc) ≡ record { memo = record { rests = k.memo.rests; idle = k.memo.idle; from = Some at' }; written = k.written }
+    = λ i. record { memo = record { rests = sym rests i; idle = sym idle i; from = Some (sym h.from i) }; written = k.written } in
+    ap (λ (l : Known). turn_of (play_at s l rest)) (is_gliding k rests idle)
+    ∙ plain_turn marks k.written None k.memo.from s u.current bound state is h.plain rest
+    ∙ ap (λ (l : Known). turn_to None (with_state s u.current) l rest) after
+    ∙ ap (λ (v : Session). turn_to None v (record { memo = record { rests = k.memo.rests; idle = k.memo.idle; from = Some at' }; written = k.written }) rest) (sym h.after)
+
+pub no_entry_made : (marks : List ℕ) (at' : ℕ) (s u : Session) → IsState s.current → StepsPlainly marks at' s u → entered (moment_of s.current) u.current ≡ false
+no_entry_made marks at' s u state h = not_entered marks s.current u.current state h.plain
+
+pub same_console : (marks : List ℕ) (at' : ℕ) (s u : Session) → StepsPlainly marks at' s u → SameConsole s.current u.current
+same_console marks at' s u h = same_then marks s.current s.current u.current (record { out = refl; taken = refl; given = refl }) h.plain

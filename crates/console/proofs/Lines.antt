@@ -1,5 +1,5 @@
 -- Lines of input, byte by byte.
-use Rattle.std.proofs.Common.{◌≡◌, ◌≢◌, ℕ, zero, suc, ◌+◌, ◌-◌, ◌<◌, ◌≤◌, List, [], ◌∷◌, ◌++◌, length, refl, sym, ap, ◌∙◌, arith, append-nil, append_assoc, length-append, inl, inr}
+use Rattle.std.proofs.Common.{◌≡◌, ◌≢◌, ℕ, zero, suc, ◌+◌, ◌-◌, ◌<◌, ◌≤◌, List, [], ◌∷◌, ◌++◌, length, Option, Some, None, refl, sym, ap, ◌∙◌, arith, append-nil, append_assoc, length-append, inl, inr}
 use Rattle.std.proofs.Math.Nat.{sub-zero}
 use Rattle.std.proofs.lemmas.Bool.Decides.{eqb_tells}
 use Rattle.model.specs.Session.{Session}
@@ -7,6 +7,15 @@ use Rattle.model.specs.Event.{event_of}
 use Rattle.model.specs.Transcript.{after_event, after_input}
 use Rattle.model.specs.declared.event.Event.TheVariants as event
 use Rattle.model.specs.State.{State}
+use Rattle.model.specs.Effect.{operation_of}
+use Rattle.model.specs.Operand.{address_at, address_in_page, effective_address, jump_target, next_byte, straight}
+use Rattle.model.specs.declared.instruction.EffectiveAddress.{EffectiveAddress}
+use Rattle.model.specs.declared.instruction.Mode.{Mode}
+use Rattle.model.specs.declared.instruction.Mode.TheVariants as mode
+use Rattle.model.specs.declared.instruction.Profile.{Profile}
+use Rattle.model.specs.declared.instruction.Profile.TheVariants as profile
+use Rattle.model.specs.declared.instruction.Row.{Row}
+use Rattle.accesses.specs.Access.{access_by, access_here, access_of, row_here}
 use Rattle.console.specs.Given.{given_to}
 use Rattle.console.specs.Line.{line_at}
 
@@ -106,3 +115,36 @@ hands_byte s t u told b h e f = record {
   session = e ∙ ap (λ x. after_input x (b ∷ [])) h.session ∙ sym (input-append s told (b ∷ []));
   current = f ∙ ap (λ x. given_to x (b ∷ [])) h.current ∙ given-then s.current told (b ∷ []);
 }
+
+-- ---- what the instruction at PC touches
+
+same_target : (profile : Profile) (state : State) (bytes : List ℕ) (pointer : ℕ) → jump_target profile (given_to state bytes).bus pointer ≡ jump_target profile state.bus pointer
+unfolding jump_target address_at address_in_page
+same_target profile.N state bytes pointer = refl
+same_target profile.C state bytes pointer = refl
+
+same_place : (state : State) (bytes : List ℕ) (mode : Mode) → effective_address (given_to state bytes).bus state.regs mode ≡ effective_address state.bus state.regs mode
+unfolding effective_address address_at address_in_page
+same_place state bytes mode.Imp = refl
+same_place state bytes mode.Acc = refl
+same_place state bytes mode.Imm = refl
+same_place state bytes mode.Zp = refl
+same_place state bytes mode.ZpX = refl
+same_place state bytes mode.ZpY = refl
+same_place state bytes mode.Abs = refl
+same_place state bytes mode.AbsX = refl
+same_place state bytes mode.AbsY = refl
+same_place state bytes mode.IndX = refl
+same_place state bytes mode.IndY = refl
+same_place state bytes mode.Ind = ap straight (same_target state.bus.map.profile state bytes (address_at state.bus (next_byte state.regs)))
+same_place state bytes mode.Rel = refl
+same_place state bytes mode.IndZ = refl
+
+-- it is the same after bytes of input
+pub access_given : (state : State) (bytes : List ℕ) → access_here (given_to state bytes) ≡ access_here state
+unfolding access_here
+access_given state bytes = by (row_here state)
+  where
+    by : (row : Option Row) → access_by row (given_to state bytes) ≡ access_by row state
+    by None = refl
+    by (Some row) = ap (λ (place : EffectiveAddress). access_of (operation_of row.mnemonic) row.mode place.address) (same_place state bytes row.mode)

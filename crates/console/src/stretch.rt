@@ -1,13 +1,14 @@
 //! Turns that need no look, many at a time.
 
-ghost use Rattle.std.specs.Prelude.{◌≡◌, ◌<◌, ◌≤◌, None, List, true, false, ℕ, length};
+ghost use Rattle.std.specs.Prelude.{◌≡◌, ◌<◌, ◌≤◌, [], None, List, true, false, ℕ, length};
 ghost use Rattle.cpu.specs.PlainRuns.{AllPlainButLast};
 ghost use Rattle.model.specs.Run.{after_steps};
+ghost use Rattle.accesses.specs.Moments.{entered, moment_of};
 ghost use Rattle.accesses.specs.Writing.{AreMarks, is_written};
 ghost use Rattle.console.specs.Playing.{is_at};
 ghost use Rattle.console.specs.Stretches.{Bound, Glides};
 ghost use Rattle.console.specs.Taking.{Waits};
-ghost use Rattle.console.specs.Turns.{known};
+ghost use Rattle.console.specs.Turns.{TurnsTo, known};
 
 use crate::turn::Player;
 use accesses::Written;
@@ -106,4 +107,34 @@ pub fn glide(session: &mut Session, player: &mut Player, until: Option<u16>, lim
     }
     player.memo.from = Some(ran.from);
     ran.steps as u64
+}
+
+/// Makes the turn that comes next, if it needs no look: a turn as `glide` makes them many at a
+/// time, and no interrupt entry. Returns whether it was made; if not, nothing changes. It puts
+/// nothing out, and reads nothing.
+///
+/// A caller that looks at the session between two turns makes those that it can by this call, which
+/// costs less, and the others by `take_turn`. Source: mos65.
+pub fn take_plain_turn(session: &mut Session, player: &mut Player) -> bool
+    requires waits { Waits session.old.current player.old.waiting }
+    ensures made { result ≡ true → TurnsTo session.old (known player.old) [] player.new.is_over
+        None session.new (known player.new) }
+    ensures entry { result ≡ true
+        → entered (moment_of session.old.current) session.new.current ≡ false }
+    ensures not { result ≡ false → (session.new ≡ session.old) × (player.new ≡ player.old) }
+    ensures waits { Waits session.new.current player.new.waiting }
+    ensures over { player.new.is_over ≡ player.old.is_over }
+    ensures output { session.new.current.bus.out ≡ session.old.current.bus.out }
+{
+    if !may_glide(session, player, None) {
+        return false;
+    }
+    // For the proof: that the program counter has 16 bits.
+    session.is_state();
+    let ran = run_within(session, &player.written, 1);
+    if ran.steps == 0 {
+        return false;
+    }
+    player.memo.from = Some(ran.from);
+    true
 }

@@ -9,6 +9,7 @@ ghost use Rattle.model.specs.State.{input_waits, State};
 ghost use Rattle.model.specs.Transcript.{after_input};
 ghost use Rattle.model.specs.Writers.{Writes};
 ghost use Rattle.accesses.specs.Access.{access_here};
+ghost use Rattle.accesses.specs.Looking.{is_input_address};
 ghost use Rattle.console.specs.Given.{given_to};
 ghost use Rattle.console.specs.Line.{room_of};
 ghost use Rattle.console.specs.Playing.{asks, came as is_some_line, ending_after, ending_before};
@@ -22,9 +23,7 @@ use crate::ending::{Ending, PlayFault};
 use crate::input::hand_in_line;
 use crate::memo::Memo;
 use crate::output::{flush, put_output};
-use accesses::{
-    Access, Written, access_here, is_break, looks, moment_of, row_here, stays, stores_by,
-};
+use accesses::{Access, Written, access_here, is_break, moment_of, row_here, stays, stores_by};
 use debugger::Session;
 use model::{Event, Flags, Regs};
 use std::io::{Read, Write};
@@ -60,10 +59,30 @@ fn input_waits(session: &Session, waiting: u32) -> bool
     waiting > 0
 }
 
-/// Returns whether a line is asked for.
-#[tactic(auto, unfolding(crate::specs::Playing::asks))]
-fn asks(session: &Session, player: &Player) -> bool
-    requires { Waits session.now.current player.now.waiting }
+/// Returns whether an address is base+2, where a read says whether input waits.
+fn is_signal(session: &Session, address: u16) -> bool
+    ensures { result ≡ (address == session.now.current.bus.map.port + 2) }
+{
+    // For the proof: that the port's base is a multiple of four.
+    session.is_state();
+    session.is_port(address) & (address % 4 == 2)
+}
+
+/// Returns whether a bus read looks for input.
+fn is_look(session: &Session, read: Option<u16>) -> bool
+    ensures { result ≡ is_input_address session.now.current.bus.map read }
+{
+    match read {
+        None => false,
+        Some(address) => is_data(session, address) || is_signal(session, address),
+    }
+}
+
+/// Returns whether a line is asked for, by the access of the instruction at PC.
+#[tactic(auto, unfolding(crate::specs::Playing::asks, accesses::specs::Looking::looks))]
+fn asks(session: &Session, player: &Player, access: Access) -> bool
+    requires waits { Waits session.now.current player.now.waiting }
+    requires access { access ≡ access_here session.now.current }
     ensures { result ≡ asks player.now.memo session.now.current }
 {
     if input_waits(session, player.waiting) {
@@ -72,7 +91,7 @@ fn asks(session: &Session, player: &Player) -> bool
     if player.memo.rests {
         !session.regs().flags.i
     } else {
-        looks(session)
+        is_look(session, access.read)
     }
 }
 
@@ -165,7 +184,7 @@ pub fn ending_after(session: &Session, player: &Player) -> Ending
     requires { Waits session.now.current player.now.waiting }
     ensures { result ≡ ending_after player.now.memo session.now.current }
 {
-    if player.memo.rests && !asks(session, player) {
+    if player.memo.rests && !asks(session, player, access_here(session)) {
         Ending::Rest
     } else {
         Ending::Limit
@@ -225,15 +244,17 @@ fn counted(before: u8, after: u8, count: u32) -> u32
     if before == after { count } else { 0 }
 }
 
-/// Makes the step of a turn, and writes the output that it adds.
+/// Makes the step of a turn, whose access is known, and writes the output that it adds.
 fn make_step<W: Write>(
     session: &mut Session,
     player: &mut Player,
+    access: Access,
     is_asked: bool,
     came: bool,
     writer: &mut W,
 ) -> Result<Option<Ending>, PlayFault>
-    requires { Waits session.old.current player.old.waiting }
+    requires waits { Waits session.old.current player.old.waiting }
+    requires access { access ≡ access_here session.old.current }
     ensures ok { IfOk result (λ ending. (input : List ℕ)
         → stepped (play_at session.old (known player.old) input) is_asked came
         (step session.old.current) ≡ turn_to ending session.new (known player.new) input) }
@@ -248,7 +269,6 @@ fn make_step<W: Write>(
 {
     // For the proof: that the stack pointer has eight bits.
     session.is_state();
-    let access = access_here(session);
     let moment = moment_of(session);
     let count = take_count(session, access.read, player.waiting);
     let before = session.regs();
@@ -269,8 +289,8 @@ fn make_step<W: Write>(
     }
 }
 
-/// Reads a line and hands it in if one is asked for, after all output is flushed. Returns whether
-/// one came.
+/// Reads a line and hands it in if one is asked for and the reader has not ended, after all output
+/// is flushed. Returns whether one came.
 fn supply<R: Read, W: Write>(
     session: &mut Session,
     player: &mut Player,
@@ -302,12 +322,12 @@ fn supply<R: Read, W: Write>(
     if !is_asked {
         return Ok(false);
     }
+    if player.is_over {
+        return Ok(false);
+    }
     match flush(writer) {
         Ok(()) => {}
         Err(fault) => return Err(fault),
-    }
-    if player.is_over {
-        return Ok(false);
     }
     match hand_in_line(session, reader) {
         Ok(line) => {
@@ -382,14 +402,16 @@ pub fn take_turn<R: Read, W: Write>(
         × (session.new.current.bus.out ≡ session.old.current.bus.out ++ text)
         × Writes (W.contents writer.old) (W.contents writer.new) text result }
 {
-    let is_asked = asks(session, player);
+    // What it reads and stores is the same after a line was handed in.
+    let access = access_here(session);
+    let is_asked = asks(session, player, access);
     let came = match supply(session, player, is_asked, reader, writer) {
         Ok(came) => came,
         Err(fault) => return Err(fault),
     };
     match ending_here(session, player, is_asked, came) {
         Some(ending) => Ok(Some(ending)),
-        None => match make_step(session, player, is_asked, came, writer) {
+        None => match make_step(session, player, access, is_asked, came, writer) {
             Ok(ending) => Ok(ending),
             Err(fault) => Err(fault),
         },

@@ -103,6 +103,25 @@ quiet_now t more r part room = record {
     quiet_room : (held history len more : ℕ) → held ≤ history → len + more < held + 1024 → len + 0 + more < min (held + 0) history + 1024
     quiet_room held history len more h room = grind arith
 
+-- a trail with its steps noted is as quiet
+pub quiet_here : (t : Trail) (p q : ℕ) → IsQuiet t p q → IsQuiet (with_steps t p) 0 q
+quiet_here t p q k =
+    let n = long t p in
+    record {
+      few = omega (arith, k.few);
+      size = k.size;
+      held = held_within (t.held + p) t.history;
+      part = omega (arith, n, k.part);
+      room = room_here (length (with_steps t p).events.items) (length t.events.items + p) (t.held + p) t.history q n k.room;
+      capacity = k.capacity;
+    }
+  where
+    held_within : (held history : ℕ) → min held history ≤ history
+    held_within held history = grind arith
+
+    room_here : (l len held history q : ℕ) → l ≡ len → len + q < min held history + 1024 → l + 0 + q < min (min held history + 0) history + 1024
+    room_here l len held history q same room = grind arith
+
 -- some steps put after the others at once
 pub settled : (t : Trail) (steps count held : ℕ) (given : List Event) (events : Buffer Event) → given ≡ replicate steps Step → length t.events.items + steps ≤ t.events.capacity
     → count ≡ min (length given) (t.events.capacity - length t.events.items) → events ≡ buffer (t.events.items ++ take count given) t.events.capacity → held ≡ min (t.held + steps) t.history

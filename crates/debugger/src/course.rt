@@ -84,6 +84,14 @@ impl Course {
         let held = self.trail.held + self.steps;
         held.min(self.trail.history)
     }
+
+    /// Returns how many steps may come before one that makes a checkpoint or drops the oldest part.
+    #[inline(always)]
+    pub fn quiet_count(&self) -> u32
+        ensures { IsQuiet self.now 0 result }
+    {
+        self.quiet
+    }
 }
 
 /// Undoes the last `count` events: goes back to the last checkpoint that is not later, and makes

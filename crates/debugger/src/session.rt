@@ -235,8 +235,8 @@ impl Session {
     ///
     /// A plain step is no interrupt entry and no BRK. It reads no byte of the port, stores only at
     /// addresses that are not the port's and whose byte of `marks` is 0, and is no jump and no
-    /// branch to itself. A step that stores in ROM, or that clears I while an IRQ is asked for, may
-    /// be declined too. Source: mos65.
+    /// branch to itself. A step that stores in ROM, one that clears I while an IRQ is asked for,
+    /// and one that is made near the end of the cycle count may be declined too. Source: mos65.
     pub fn run_plainly(&mut self, limit: u32, stops: &[u8], marks: &[u8]) -> PlainRun
         requires stops { length stops.now ≡ 65536 }
         requires marks { length marks.now ≡ 65536 }
@@ -255,8 +255,10 @@ impl Session {
             stopped: false,
             from: 0,
         };
-        while ran.steps < limit && !ran.stopped {
-            let more = self.run_plainly_on(limit - ran.steps, stops, marks);
+        let mut goes_on = true;
+        while ran.steps < limit && !ran.stopped && goes_on {
+            let most = self.trail.quiet_count().max(1).min(limit - ran.steps);
+            let more = self.run_plainly_on(most, stops, marks);
             if more.steps == 0 {
                 return ran;
             }
@@ -264,11 +266,13 @@ impl Session {
                 steps: ran.steps + more.steps,
                 ..more
             };
+            goes_on = more.steps == most;
         }
         ran
     }
 
-    /// Makes the first steps of such a run: none if none can be made.
+    /// Makes the first steps of such a run: none if none can be made. No more are made than lead to
+    /// the next step that makes a checkpoint or drops the oldest part, or that step by itself.
     fn run_plainly_on(&mut self, limit: u32, stops: &[u8], marks: &[u8]) -> PlainRun
         requires limit { 0 < limit }
         requires stops { length stops.now ≡ 65536 }
@@ -277,18 +281,17 @@ impl Session {
         ensures session { self.new ≡ after_steps result.steps self.old }
         ensures ran { RanPlainly stops.now marks.now result self.old.current self.new.current }
     {
-        let ran = run_plainly(
+        if self.trail.quiet_count() == 0 {
+            return self.step_plainly(stops, marks);
+        }
+        run_plainly(
             &mut self.trail,
             &mut self.machine,
             &mut self.pages,
             limit,
             stops,
             marks,
-        );
-        if ran.steps > 0 {
-            return ran;
-        }
-        self.step_plainly(stops, marks)
+        )
     }
 
     /// Makes one step of such a run by itself, if one can be made.

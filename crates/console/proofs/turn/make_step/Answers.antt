@@ -17,8 +17,8 @@ returns-in-Ok-put_output-clause-ok g c = λ input.
     let e = c.in-Ok.ensures.ok in
     let s = c.args.session.now in
     let regs = c.regs-after.ensures ∙ ap (λ t. t.current.regs) e.2 in
-    let memo = c.memo_after-player.ensures s.current (sym c.access_here-access.ensures) (sym c.regs-before.ensures) ∙ ap (λ r. memo_after c.args.player.now.memo c.args.is_asked c.args.came s.current r) regs in
-    let stores = stored_here s.current c.access_here-access.result c.regs-before.result c.stores_by-stores.result.items c.access_here-access.ensures c.regs-before.ensures c.stores_by-stores.ensures in
+    let memo = c.memo_after-player.ensures s.current (sym c.requires.access) (sym c.regs-before.ensures) ∙ ap (λ r. memo_after c.args.player.now.memo c.args.is_asked c.args.came s.current r) regs in
+    let stores = stored_here s.current c.args.access c.regs-before.result c.stores_by-stores.result.items c.requires.access c.regs-before.ensures c.stores_by-stores.ensures in
     let written = bytes_made c.args.player.now.written c.note_all.new.self s c.event.new.self e.0 c.moment_of-moment.result c.stores_by-stores.result.items c.stored.result.items
     c.note_all.ensures c.stored.ensures c.moment_of-moment.ensures stores e.2 in
     made s c.event.new.self e.0 (known c.args.player.now) (record { memo = c.memo_after-player.result; written = c.note_all.new.self }) input c.args.is_asked c.args.came e.1 e.2 memo written
@@ -29,12 +29,12 @@ returns-in-Ok-put_output-clause-waits g c =
     let s = c.args.session.now.current in
     let leads = step_leads s e.0 c.is_state.ensures.regs.s (step_made s e.0 e.1) in
     let after = c.regs-after.ensures ∙ ap (λ t. t.current.regs) e.2 in
-    let count = c.take_count-count.ensures.count ∙ ap (λ a. take_count a.read s.bus) c.access_here-access.ensures in
+    let count = c.take_count-count.ensures.count ∙ ap (λ a. take_count a.read s.bus) c.requires.access in
     let same : c.counted.result ≡ counted s.regs.s e.0.regs.s (take_count (access_here s).read s.bus)
     = c.counted.ensures.value ∙ ap (λ r. counted r.s c.regs-after.result.s c.take_count-count.result) c.regs-before.ensures
     ∙ ap (λ r. counted s.regs.s r.s c.take_count-count.result) after ∙ ap (counted s.regs.s e.0.regs.s) count in
     let within : c.counted.result ≤ c.args.player.now.waiting = omega (arith, c.counted.ensures.within, c.take_count-count.ensures.within) in
-    rw e.2 (waits_on s e.0 c.args.player.now.waiting c.counted.result (rw (← same) at leads) c.requires within)
+    rw e.2 (waits_on s e.0 c.args.player.now.waiting c.counted.result (rw (← same) at leads) c.requires.waits within)
 
 pub returns-in-Ok-put_output-clause-output : goal.returns-in-Ok-put_output-clause-output
 returns-in-Ok-put_output-clause-output g c =

@@ -4,6 +4,8 @@ use Rattle.console.specs.Turns.{Known, known, play_at, turn_to}
 use Rattle.model.specs.Step.{step}
 use Rattle.model.specs.State.{State}
 use Rattle.model.specs.Session.{with_state}
+use Rattle.accesses.specs.Access.{access_here}
+use Rattle.console.proofs.Lines.{access_given}
 use Rattle.console.proofs.Turning.{turned}
 use Rattle.console.proofs.turn.take_turn.Goals as goal
 
@@ -58,3 +60,9 @@ returns-in-Err-make_step-clause-err g c =
       (λ is. let ends = line.3 is in (ends.0, over ∙ ends.1)),
       inr (subst (λ t. (state : State) × (step t.current ≡ Ok state) × (c.make_step.new.session ≡ with_state t state)) line.5 e),
     )
+
+pub make_step-requires-clause-access : goal.make_step-requires-clause-access
+make_step-requires-clause-access g c =
+    let line = c.in-Ok.ensures.ok in
+    let s = c.args.session.now.current in
+    c.access_here-access.ensures ∙ sym (access_given s line.0) ∙ sym (ap access_here line.6)
