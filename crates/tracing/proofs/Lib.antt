@@ -1,3 +1,4 @@
+mod Counting
 mod Done
 mod Gathering
 mod Going

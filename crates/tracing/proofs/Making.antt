@@ -1,13 +1,17 @@
 -- What the steps of a run make of something, one turn after another.
-use Rattle.std.proofs.Common.{◌≡◌, ◌∙◌, ℕ, suc, ◌+◌, ◌-◌, ◌<◌, ◌≤◌, Bool, true, false, cond, List, [], ◌++◌, Option, Some, None, sym, ap, arith, append_assoc}
+use Rattle.std.proofs.Common.{◌≡◌, ◌∙◌, ℕ, suc, ◌+◌, ◌-◌, ◌<◌, ◌≤◌, Bool, true, false, cond, List, [], ◌++◌, Option, Some, None, refl, sym, ap, subst, inl, arith, append_assoc, append-nil}
+use Rattle.std.proofs.KnownBytes.{Consumes-nil}
+use Rattle.std.specs.Io.KnownBytes.{Consumes}
 use Rattle.std.proofs.Math.Nat.{sub-zero}
 use Rattle.console.specs.Playing.{Play, Turn, is_at, turn_of}
-use Rattle.console.specs.Turns.{EndsOnce, Known, MayCome, TurnsTo, play_at, turn_to}
+use Rattle.console.specs.Turns.{EndsOnce, EndsWith, Known, MayCome, TurnsTo, known, play_at, turn_to}
+use Rattle.console.specs.declared.turn.Player.{Player}
 use Rattle.console.specs.declared.ending.Ending.{Ending}
 use Rattle.model.specs.Session.{Session}
 use Rattle.model.specs.State.{State}
-use Rattle.tracing.specs.Gathered.{ahead_of, gathered, noted_here, text_of_step}
-use Rattle.tracing.specs.Texts.{Noted, by_steps, by_turn, note_step, noted_in}
+use Rattle.tracing.specs.Gathered.{Gathered, ahead_of, gathered, noted_here, text_of_step}
+use Rattle.tracing.specs.Texts.{Noted, TurnNoted, by_steps, by_turn, note_step, noted_in}
+use Rattle.tracing.specs.Traces.{Turned}
 use Rattle.tracing.specs.declared.notes.Ahead.{Ahead}
 use Rattle.tracing.specs.declared.tracer.Tracer.{Tracer}
 use Rattle.tracing.proofs.Going.{may_all}
@@ -69,8 +73,36 @@ module _ {A : Type 0} (each : State → State → A → A) (until : Option ℕ) 
   makes_with why some rest may = one_turn rest may ∙ ap (λ e. next (turn_to e u memo2 rest)) some
 
 -- A step that was noted.
-pub noted_on : (before after : State) (old new : Tracer) (ahead : Ahead) (text : List ℕ) → ahead ≡ ahead_of (gathered old) before → gathered new ≡ noted_here after ahead (gathered old)
-    → noted_in new (text ++ text_of_step after ahead (gathered old)) ≡ note_step before after (noted_in old text)
-noted_on before after old new ahead text is noted =
-    let made : Ahead → Noted = λ x. record { gathered = noted_here after x (gathered old); text = text ++ text_of_step after x (gathered old) } in
-    ap (λ g. record { gathered = g; text = text ++ text_of_step after ahead (gathered old) }) noted ∙ ap made is
+pub turn_noted_on : (before after : State) (old new : Tracer) (text step : List ℕ) → TurnNoted None before after (gathered old) (gathered new) step → noted_in new (text ++ step) ≡ note_step before after (noted_in old text)
+turn_noted_on before after old new text step is = ap (λ (n : Noted). record { gathered = n.gathered; text = text ++ n.text }) is
+
+-- A turn as a step of it tells.
+pub turned : (ending : Option Ending) (s : Session) (before : Player) (given left : Option (List ℕ)) (t : Session) (after : Player) (told : List ℕ) → Consumes given left told → EndsWith before.is_over after.is_over given left → EndsOnce before.is_over after.is_over told
+    → TurnsTo s (known before) told after.is_over ending t (known after) → Turned ending s before given left t after told
+turned ending s before given left t after told consumes over once turn = record { consumes = consumes; over = over; once = once; turn = turn }
+
+pub turned_alone : (s : Session) (before : Player) (given : Option (List ℕ)) (t : Session) (after : Player) → after.is_over ≡ before.is_over → TurnsTo s (known before) [] after.is_over None t (known after) → Turned None s before given given t after []
+turned_alone s before given t after over turn = record {
+  consumes = Consumes-nil given;
+  over = λ is. inl (sym over ∙ is, refl);
+  once = λ is. (refl, over ∙ is);
+  turn = turn;
+}
+
+pub turn_noted : (before after : State) (g h : Gathered) (ahead : Ahead) → ahead ≡ ahead_of g before → h ≡ noted_here after ahead g → TurnNoted None before after g h (text_of_step after ahead g)
+turn_noted before after g h ahead is noted =
+    let made : Ahead → Noted = λ x. record { gathered = noted_here after x g; text = text_of_step after x g } in
+    ap (λ k. record { gathered = k; text = text_of_step after ahead g }) noted ∙ ap made is
+
+pub turn_counted : (before after : State) (g h : Gathered) → h ≡ noted_here after (ahead_of g before) g → text_of_step after (ahead_of g before) g ≡ [] → TurnNoted None before after g h []
+turn_counted before after g h noted none = λ i. record { gathered = noted i; text = sym none i }
+
+-- What was not made changes nothing.
+pub with_same : (P : Session → Player → Type 0) {s t : Session} {p q : Player} → s ≡ t → p ≡ q → P s p → P t q
+with_same P {s} {t} {p} {q} is same told = subst (λ x. P t x) same (subst (λ x. P x p) is told)
+
+-- A turn that ended the run.
+pub ended_on : (why : Ending) (before after : State) (old new : Tracer) (text step : List ℕ) → TurnNoted (Some why) before after (gathered old) (gathered new) step → noted_in old text ≡ noted_in new (text ++ step)
+ended_on why before after old new text step is =
+    let same : text ≡ text ++ step = sym (ap (λ (xs : List ℕ). text ++ xs) is.1 ∙ append-nil text) in
+    λ i. record { gathered = sym is.0 i; text = same i }

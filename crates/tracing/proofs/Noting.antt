@@ -28,7 +28,7 @@ marked_on a b c p q = q ∙ ap (marked c.written) p
 pub same_sites : (a b : Tracer) (w : Option (List Bool)) → gathered b ≡ marked w (gathered a) → b.sites ≡ a.sites
 same_sites a b w e = ap (λ (g : Gathered). g.sites) e
 
-pub same_asked : (a b : Tracer) (w : Option (List Bool)) → gathered b ≡ marked w (gathered a) → trace_view b.words ≡ trace_view a.words
+pub same_asked : (a b : Tracer) (w : Option (List Bool)) → gathered b ≡ marked w (gathered a) → trace_view b.words.now ≡ trace_view a.words.now
 same_asked a b w e = ap (λ (g : Gathered). g.asked) e
 
 pub same_number : (a b : Tracer) (w : Option (List Bool)) → gathered b ≡ marked w (gathered a) → b.all.visits ≡ a.all.visits
@@ -77,28 +77,28 @@ pub step_gathered : {A : Type 0} (state : State) (ahead : Ahead) (t c d n : Trac
     → is_entry ≡ entered ahead.moment state → cycles ≡ cycles_of ahead.moment state
     → gathered c ≡ counted_step is_entry ahead.moment.regs.pc cycles (gathered t) → c.sheet ≡ t.sheet
     → gathered d ≡ marked w (gathered c) → Gathers held mid c.sheet.text.items d.sheet.text.items (reads_text is_entry state c.sites c.all.visits ahead c.written)
-    → gathered n ≡ marked v (gathered d) → n.sheet ≡ d.sheet → stores ≡ left_at state (trace_view d.words).file is_entry ahead
-    → OnOk r (Gathers mid now n.sheet.text.items after (row_text (trace_view n.words) state n.sites (record { moment = ahead.moment; is_entry = is_entry; stores = record { items = stores } })))
+    → gathered n ≡ marked v (gathered d) → n.sheet ≡ d.sheet → stores ≡ left_at state (trace_view d.words.now).file is_entry ahead
+    → OnOk r (Gathers mid now n.sheet.text.items after (row_text (trace_view n.words.now) state n.sites (record { moment = ahead.moment; is_entry = is_entry; stores = record { items = stores } })))
     → OnOk r (Gathers held now t.sheet.text.items after (text_of_step state ahead (gathered t)))
 step_gathered state ahead t c d n is_entry cycles w v stores r held mid now after is took counts sheet reads read left sheet2 stored row =
     let at : Bool = entered ahead.moment state in
     let took_so : ℕ = cycles_of ahead.moment state in
-    let file : trace_view d.words ≡ trace_view t.words = same_asked c d w reads ∙ ap (λ (g : Gathered). g.asked) counts in
-    let words : trace_view n.words ≡ trace_view t.words = same_asked d n v left ∙ file in
+    let file : trace_view d.words.now ≡ trace_view t.words.now = same_asked c d w reads ∙ ap (λ (g : Gathered). g.asked) counts in
+    let words : trace_view n.words.now ≡ trace_view t.words.now = same_asked d n v left ∙ file in
     let sites : n.sites ≡ t.sites = same_sites d n v left ∙ same_sites c d w reads ∙ ap (λ (g : Gathered). g.sites) counts in
-    let stores_are : stores ≡ left_at state (trace_view t.words).file at ahead =
-    stored ∙ ap (λ (ws : TraceAsked). left_at state ws.file is_entry ahead) file ∙ ap (λ b. left_at state (trace_view t.words).file b ahead) is in
+    let stores_are : stores ≡ left_at state (trace_view t.words.now).file at ahead =
+    stored ∙ ap (λ (ws : TraceAsked). left_at state ws.file is_entry ahead) file ∙ ap (λ b. left_at state (trace_view t.words.now).file b ahead) is in
     let text : reads_text is_entry state c.sites c.all.visits ahead c.written ≡ reads_text at state t.sites (counted_here state ahead (gathered t)).all.visits ahead t.written =
     ap (λ (g : Gathered). reads_text is_entry state g.sites g.all.visits ahead g.written) counts
     ∙ ap (λ n. reads_text is_entry state t.sites (counted t.all n).visits ahead t.written) took
     ∙ ap (λ b. reads_text b state t.sites (counted t.all took_so).visits ahead t.written) is in
-    let made : row_text (trace_view n.words) state n.sites (record { moment = ahead.moment; is_entry = is_entry; stores = record { items = stores } }) ≡ row_text (trace_view t.words) state t.sites (step_of state (trace_view t.words).file at ahead) =
+    let made : row_text (trace_view n.words.now) state n.sites (record { moment = ahead.moment; is_entry = is_entry; stores = record { items = stores } }) ≡ row_text (trace_view t.words.now) state t.sites (step_of state (trace_view t.words.now).file at ahead) =
     ap (λ ws. row_text ws state n.sites (record { moment = ahead.moment; is_entry = is_entry; stores = record { items = stores } })) words
-    ∙ ap (λ s. row_text (trace_view t.words) state s (record { moment = ahead.moment; is_entry = is_entry; stores = record { items = stores } })) sites
-    ∙ ap (λ b. row_text (trace_view t.words) state t.sites (record { moment = ahead.moment; is_entry = b; stores = record { items = stores } })) is
-    ∙ ap (λ xs. row_text (trace_view t.words) state t.sites (record { moment = ahead.moment; is_entry = at; stores = record { items = xs } })) stores_are in
+    ∙ ap (λ s. row_text (trace_view t.words.now) state s (record { moment = ahead.moment; is_entry = is_entry; stores = record { items = stores } })) sites
+    ∙ ap (λ b. row_text (trace_view t.words.now) state t.sites (record { moment = ahead.moment; is_entry = b; stores = record { items = stores } })) is
+    ∙ ap (λ xs. row_text (trace_view t.words.now) state t.sites (record { moment = ahead.moment; is_entry = at; stores = record { items = xs } })) stores_are in
     let told_here = subst (λ xs. Gathers held mid t.sheet.text.items d.sheet.text.items xs) text
     (subst (λ s. Gathers held mid s.text.items d.sheet.text.items (reads_text is_entry state c.sites c.all.visits ahead c.written)) sheet read) in
     ok_then r _ _ (λ more. gathers_both held mid now t.sheet.text.items d.sheet.text.items after _ _ told_here
     (subst (λ xs. Gathers mid now d.sheet.text.items after xs) made
-    (subst (λ s. Gathers mid now s.text.items after (row_text (trace_view n.words) state n.sites (record { moment = ahead.moment; is_entry = is_entry; stores = record { items = stores } }))) sheet2 more))) row
+    (subst (λ s. Gathers mid now s.text.items after (row_text (trace_view n.words.now) state n.sites (record { moment = ahead.moment; is_entry = is_entry; stores = record { items = stores } }))) sheet2 more))) row

@@ -1,6 +1,6 @@
 -- What a trace gathers of a step: what it counts, which addresses it holds for written, and the
 -- text that comes of it. Source: mos65.
-use Rattle.std.specs.Prelude.{◌≡◌, ℕ, ◌+◌, ◌-◌, Bool, true, false, not, ◌&&◌, ◌||◌, if◌then◌else◌, List, [], ◌∷◌, ◌++◌, Option, None, Some, is_some, slice_set, option_map}
+use Rattle.std.specs.Prelude.{◌≡◌, ⊤, ℕ, ◌+◌, ◌-◌, Bool, true, false, not, ◌&&◌, ◌||◌, if◌then◌else◌, List, [], ◌∷◌, ◌++◌, Option, None, Some, is_some, slice_set, option_map}
 use Rattle.std.specs.Io.KnownBytes.{Appends}
 use Rattle.std.specs.List.{flat_map}
 use Rattle.accesses.specs.Footprint.{reads_here, stores_here}
@@ -19,7 +19,7 @@ use Rattle.trace_rows.specs.declared.steps.Step.{Step}
 use Rattle.trace_rows.specs.declared.unwritten.Part.{Part}
 use Rattle.trace_rows.specs.declared.unwritten.Part.TheVariants.{Code, Data, Vector}
 use Rattle.arguments_play.specs.Trace.{TraceAsked, trace_view}
-use Rattle.tracing.specs.Notes.{code_of, entry_reads, if_asked, left_at}
+use Rattle.tracing.specs.Notes.{TouchesWritten, code_of, entry_reads, if_asked, left_at}
 use Rattle.tracing.specs.declared.notes.Ahead.{Ahead}
 use Rattle.tracing.specs.declared.tracer.Tracer.{Tracer}
 
@@ -135,7 +135,7 @@ pub record Gathered : Type 0 where
 
 abbrev pub gathered : Tracer → Gathered
 gathered t = record {
-  asked = trace_view t.words;
+  asked = trace_view t.words.now;
   sites = t.sites;
   tally = t.tally;
   written = t.written;
@@ -203,6 +203,18 @@ text_of_step state ahead g = reads_text (entered ahead.moment state) state g.sit
     (counted_here state ahead g).all.visits ahead g.written
     ++ row_text g.asked state g.sites
     (step_of state g.asked.file (entered ahead.moment state) ahead)
+
+-- ---- a step that is counted and no more
+
+-- All that the instruction at PC touches counts as written, if reads of other addresses are looked
+-- for.
+abbrev pub TouchesNoOther : Option (List Bool) → State → Type 0
+TouchesNoOther None state = ⊤
+TouchesNoOther (Some cells) state = TouchesWritten cells state
+
+-- No row is asked for.
+abbrev pub has_no_rows : TraceAsked → Bool
+has_no_rows asked = asked.counts || asked.finds_unwritten
 
 -- ---- the end
 

@@ -1,9 +1,11 @@
 -- The addresses that a step is about to touch, and those where it has left a byte. Source: mos65.
-use Rattle.std.specs.Prelude.{ℕ, ◌+◌, ◌%◌, ◌==◌, Bool, true, false, not, if◌then◌else◌, List, [], ◌∷◌, Option, None, Some, take}
+use Rattle.std.specs.Prelude.{◌≡◌, ℕ, ◌+◌, ◌%◌, ◌==◌, ◌&&◌, Bool, true, false, not, if◌then◌else◌, List, [], ◌∷◌, Option, None, Some, take}
 use Rattle.arguments.specs.Asked.{FileAsked}
 use Rattle.model.specs.State.{Map, State, is_port, lies_in}
 use Rattle.model.specs.declared.instruction.Row.{Row}
-use Rattle.accesses.specs.Moments.{stored_by}
+use Rattle.accesses.specs.Footprint.{reads_here, stores_here}
+use Rattle.accesses.specs.Moments.{moment_of, stored_by}
+use Rattle.accesses.specs.Writing.{is_written}
 use Rattle.accesses.specs.declared.moment.Moment.{Moment}
 use Rattle.tracing.specs.declared.notes.Ahead.{Ahead}
 
@@ -40,3 +42,15 @@ kept map rom port (address ∷ addresses) = if is_kept map rom port address
 abbrev pub left_at : State → FileAsked → Bool → Ahead → List ℕ
 left_at state file is_entry ahead = kept state.bus.map file.rom file.port
     (stored_by is_entry ahead.moment.regs.s ahead.stores.items)
+
+-- Whether a byte was put at each of these addresses.
+unfoldable pub are_written : List Bool → List ℕ → Bool
+are_written cells [] = true
+are_written cells (address ∷ addresses) = is_written cells address && are_written cells addresses
+
+-- All that the instruction at PC touches was written: its own bytes, what it reads as data, and
+-- where it stores.
+pub record TouchesWritten (cells : List Bool) (state : State) : Type 0 where
+  pub code : are_written cells (code_of (moment_of state)) ≡ true
+  pub reads : are_written cells (reads_here state) ≡ true
+  pub stores : are_written cells (stores_here state) ≡ true

@@ -55,6 +55,17 @@ note_step before after n = record {
   text = n.text ++ text_of_step after (ahead_of n.gathered before) n.gathered;
 }
 
+-- What a turn has passed over: nothing if the run ended before its step, and otherwise its step.
+abbrev pub TurnPassed : Option Ending → State → State → Gathered → Gathered → Type 0
+TurnPassed (Some why) before after g h = h ≡ g
+TurnPassed None before after g h = h ≡ pass_step before after g
+
+-- What a turn has noted, so.
+abbrev pub TurnNoted : Option Ending → State → State → Gathered → Gathered → List ℕ → Type 0
+TurnNoted (Some why) before after g h text = (h ≡ g) × (text ≡ [])
+TurnNoted None before after g h text = record { gathered = h; text = text }
+    ≡ note_step before after (no_text g)
+
 -- ---- the text
 
 -- The text at the end: with the counts behind it, if they are asked for. They follow what was not

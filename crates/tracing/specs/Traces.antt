@@ -5,7 +5,7 @@ use Rattle.std.specs.Io.KnownBytes.{Consumes, IsAtEnd}
 use Rattle.accesses.specs.Writing.{bytes_in, or_everywhere}
 use Rattle.assembler.specs.Assembly.{AssemblyView}
 use Rattle.console.specs.Playing.{Outcome, Play, begun, is_at, played}
-use Rattle.console.specs.Turns.{EndsOnce, MayCome, known, play_at}
+use Rattle.console.specs.Turns.{EndsOnce, EndsWith, MayCome, TurnsTo, known, play_at}
 use Rattle.console.specs.Written.{AreBytesOf}
 use Rattle.console.specs.declared.ending.Ending.{Ending}
 use Rattle.console.specs.declared.ending.Ending.TheVariants.{Until}
@@ -30,8 +30,9 @@ use Rattle.running.specs.Told.{unplaced_line}
 use Rattle.trace_rows.specs.declared.sites.Sites.{Sites}
 use Rattle.arguments_play.specs.Trace.{TraceAsked}
 use Rattle.tracing.specs.Beginnings.{AreSites, first_written}
-use Rattle.tracing.specs.Gathered.{Gathered, none_gathered}
-use Rattle.tracing.specs.Texts.{GotText, Noted, by_steps, no_text, note_step, pass_step}
+use Rattle.tracing.specs.Gathered.{Gathered, Gathers, gathered, none_gathered}
+use Rattle.tracing.specs.Texts.{GotText, Noted, TurnNoted, TurnPassed, by_steps, no_text, note_step, pass_step}
+use Rattle.tracing.specs.declared.tracer.Tracer.{Tracer}
 
 -- ---- a trace
 
@@ -97,6 +98,30 @@ pub record WentOn {A : Type 0} (part : Play → Outcome) (makes : Play → A) (s
       → (part (play_at s (known before) (told ++ rest))
       ≡ record { steps = end.steps; ending = end.ending; play = play_at t (known after) rest })
       × (makes (play_at s (known before) (told ++ rest)) ≡ made)
+
+-- A turn was made in a session, from what its player remembered: what it read, and where that leads,
+-- whatever comes after it.
+pub record Turned (ending : Option Ending) (s : Session) (before : Player)
+    (given left : Option (List ℕ)) (t : Session) (after : Player) (told : List ℕ) : Type 0 where
+  pub consumes : Consumes given left told
+  pub over : EndsWith before.is_over after.is_over given left
+  pub once : EndsOnce before.is_over after.is_over told
+  pub turn : TurnsTo s (known before) told after.is_over ending t (known after)
+
+-- Its step was passed over.
+abbrev pub PassedTurn : Option Ending → Session → Player → Tracer → Option (List ℕ)
+    → Option (List ℕ) → Session → Player → Tracer → Type 0
+PassedTurn ending s before a given left t after b = (told : List ℕ)
+    × Turned ending s before given left t after told
+    × TurnPassed ending s.current t.current (gathered a) (gathered b)
+
+-- Its step was noted, and so much text was gathered.
+abbrev pub NotedTurn : Option Ending → Session → Player → Tracer → Streams → Session → Player
+    → Tracer → Type 0
+NotedTurn ending s before a streams t after b = (told : List ℕ) × (text : List ℕ)
+    × Turned ending s before streams.given streams.left t after told
+    × TurnNoted ending s.current t.current (gathered a) (gathered b) text
+    × Gathers streams.held streams.now a.sheet.text.items b.sheet.text.items text
 
 -- ---- what the word does
 

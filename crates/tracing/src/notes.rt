@@ -1,14 +1,18 @@
 //! What a step is about to touch, and what it has touched.
 
-ghost use Rattle.std.specs.Prelude.{◌≡◌, ◌≤◌, length};
+ghost use Rattle.std.specs.Prelude.{◌≡◌, ◌<◌, ◌≤◌, ◌+◌, ◌%◌, length, true};
 ghost use Rattle.accesses.specs.Footprint.{reads_here, stores_here};
 ghost use Rattle.accesses.specs.Moments.{moment_of};
+ghost use Rattle.accesses.specs.Writing.{is_written};
+ghost use Rattle.accesses.specs.declared.moment.Moment.{Moment};
 ghost use Rattle.arguments.specs.Asked.{file_view};
 ghost use Rattle.model.specs.State.{lies_in};
 ghost use Rattle.tracing.specs.Notes.{code_of, entry_reads, if_asked, is_kept, kept, left_at};
-ghost use Rattle.tracing.specs.Notes.{len_of};
+ghost use Rattle.tracing.specs.Notes.{TouchesWritten, are_written, len_of};
 
-use accesses::{Addresses, Moment, entry_stores, moment_of, reads_here, stores_here};
+use accesses::{
+    Addresses, Moment, Written, entry_stores, moment_of, reads_here, row_here, stores_here,
+};
 use arguments::FileWords;
 use debugger::Session;
 use model::Row;
@@ -73,6 +77,56 @@ pub fn code_of(moment: &Moment) -> Addresses
     addresses(&code[..len])
 }
 
+/// Returns whether the byte of an instruction at a place of it was written, if it has one there.
+fn is_part_written(pc: u16, len: u8, place: u8, written: &Written) -> bool
+    ensures { result ≡ true → place < len
+        → is_written written.now ((pc + place) % 65536) ≡ true }
+{
+    if len <= place {
+        return true;
+    }
+    written.contains(pc.wrapping_add(place as u16))
+}
+
+/// Returns whether the bytes of an instruction were written.
+fn is_code_written(pc: u16, row: Option<Row>, written: &Written) -> bool
+    ensures { (moment : Moment) → moment.regs.pc ≡ pc → moment.row ≡ row → result ≡ true
+        → are_written written.now (code_of moment) ≡ true }
+{
+    let len = len_of(row);
+    let first = written.contains(pc);
+    let second = is_part_written(pc, len, 1, written);
+    let third = is_part_written(pc, len, 2, written);
+    first & second & third
+}
+
+/// Returns whether each of these addresses was written.
+fn are_written(written: &Written, addresses: &Addresses) -> bool
+    ensures { result ≡ are_written written.now addresses.now.items }
+{
+    for address in addresses.as_slice() {
+        if !written.contains(*address) {
+            return false;
+        }
+    }
+    true
+}
+
+/// Returns whether all that the next instruction touches was written: its own bytes, what it reads
+/// as data, and where it stores.
+pub fn is_touched_written(session: &Session, written: &Written) -> bool
+    ensures { result ≡ true → TouchesWritten written.now session.now.current }
+{
+    let regs = session.regs();
+    let row = row_here(session);
+    let reads = reads_here(session);
+    let stores = stores_here(session);
+    let code_is = is_code_written(regs.pc, row, written);
+    let reads_are = are_written(written, &reads);
+    let stores_are = are_written(written, &stores);
+    code_is & reads_are & stores_are
+}
+
 /// Returns the addresses that the entry of an IRQ reads: its vector.
 pub fn entry_reads() -> Addresses
     ensures { result.items ≡ entry_reads }
@@ -96,7 +150,7 @@ fn is_kept(session: &Session, file: &FileWords<'_>, address: u16) -> bool
     ensures { result ≡ is_kept session.now.current.bus.map file.now.rom file.now.port address }
 {
     if session.is_port(address) {
-        address == file.port
+        address as u32 == file.port.base()
     } else {
         !is_rom(file, address)
     }

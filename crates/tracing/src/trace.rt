@@ -21,13 +21,14 @@ ghost use Rattle.tracing.specs.Traces.{WentOn, WroteNotes, begin_view, gathered_
 ghost use Rattle.tracing.specs.Traces.{play_of, reached, trace_noted, traced};
 
 use crate::tracer::Tracer;
+use crate::turns::{noted_turn, passed_turn};
 use accesses::Written;
 use arguments::{Refusal, refuse, refused_words};
 use arguments_play::{TraceWords, read_trace_words};
-use console::{Ending, Played, Player, begin, ending_after, take_turn};
+use console::{Ending, Played, Player, begin, ending_after};
 use debugger::Session;
 use loading::{Loaded, load};
-use running::{place_named, refusal_of, status_of_ending, tell_ending};
+use running::{place_named, status_of_ending, tell_ending};
 use std::alloc::Global;
 use std::io::{Read, Write};
 use std::rt::Files;
@@ -82,11 +83,10 @@ fn run_to_place<R: Read, E: Write>(
     ensures over { OnOk result (EndsAt player.new.is_over (R.remaining input.new)) }
 {
     for steps in 0..u64::MAX {
-        let ahead = tracer.look_ahead(session);
-        match take_turn(session, player, input, errors) {
-            Ok(None) => tracer.pass(session, ahead),
+        match passed_turn(tracer, session, player, input, errors) {
+            Ok(None) => {}
             Ok(Some(ending)) => return Ok(Played { steps, ending }),
-            Err(fault) => return Err(refusal_of(fault)),
+            Err(fault) => return Err(fault),
         }
         if is_at(place, session) {
             return Ok(Played {
@@ -154,13 +154,11 @@ fn run_noting<R: Read, O: Write, E: Write>(
     ensures over { OnOk result (EndsAt player.new.is_over (R.remaining input.new)) }
 {
     for steps in 0..limit {
-        let ahead = tracer.look_ahead(session);
-        match take_turn(session, player, input, errors) {
+        match noted_turn(tracer, session, player, input, output, errors) {
             Ok(None) => {}
             Ok(Some(ending)) => return Ok(Played { steps, ending }),
-            Err(fault) => return Err(refusal_of(fault)),
+            Err(fault) => return Err(fault),
         }
-        tracer.note(session, ahead, output)?;
         if is_at(to, session) {
             return Ok(Played {
                 steps: steps + 1,
@@ -220,7 +218,7 @@ fn sites_of(alloc: Global, loaded: &Loaded) -> Result<Sites, Refusal>
 /// Errors: `OutOfMemory` if an allocation fails.
 fn make_tracer<'a>(
     alloc: Global,
-    words: &TraceWords<'a>,
+    words: &'a TraceWords<'a>,
     loaded: &Loaded,
 ) -> Result<Tracer<'a>, Refusal>
     ensures nothing { IfOk result (λ t. (sites : Sites) × AreSites loaded.now.assembly sites

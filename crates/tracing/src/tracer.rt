@@ -1,17 +1,18 @@
 //! What a trace gathers while its program runs.
 
-ghost use Rattle.std.specs.Prelude.{◌≡◌, ◌⊎◌, [], ◌∷◌, Err, IfErr, IfOk, OnErr, OnOk};
+ghost use Rattle.std.specs.Prelude.{◌≡◌, ◌⊎◌, [], ◌∷◌, Err, IfErr, IfOk, OnErr, OnOk, true};
 ghost use Rattle.std.specs.Io.KnownBytes.{Appends};
 ghost use Rattle.arguments.specs.declared.refusal.Refusal.{Refusal};
 ghost use Rattle.arguments_play.specs.Trace.{trace_view};
-ghost use Rattle.tracing.specs.Gathered.{Gathers, ahead_of, counted, counted_here};
-ghost use Rattle.tracing.specs.Gathered.{counted_step, findings, gathered, is_told, marked};
+ghost use Rattle.tracing.specs.Gathered.{Gathers, TouchesNoOther, ahead_of, counted, counted_here};
+ghost use Rattle.tracing.specs.Gathered.{counted_step, findings, gathered, has_no_rows, is_told};
+ghost use Rattle.tracing.specs.Gathered.{marked};
 ghost use Rattle.tracing.specs.Gathered.{none_gathered, noted_here, passed, reads_text, row_text};
 ghost use Rattle.tracing.specs.Gathered.{text_at_end};
 ghost use Rattle.tracing.specs.Gathered.{text_of_step, told, with_all_written, with_reads};
 ghost use Rattle.tracing.specs.Gathered.{with_told, with_written};
 
-use crate::notes::{Ahead, code_of, entry_reads, left_at, look_ahead};
+use crate::notes::{Ahead, code_of, entry_reads, is_touched_written, left_at, look_ahead};
 use crate::sheet::Sheet;
 use accesses::{Addresses, Count, Moment, Tally, Written};
 use arguments::Refusal;
@@ -25,7 +26,7 @@ use trace_rows::{Finding, Part, Sites, Step, push_counts, push_finding, push_ste
 /// address, and which addresses were ever written.
 #[derive(Drop)]
 pub struct Tracer<'a> {
-    words: TraceWords<'a>,
+    words: &'a TraceWords<'a>,
     sites: Sites,
     sheet: Sheet,
     tally: Option<Tally>,
@@ -49,7 +50,7 @@ impl<'a> Tracer<'a> {
     /// Errors: `OutOfMemory` if an allocation fails.
     pub fn new(
         alloc: Global,
-        words: &TraceWords<'a>,
+        words: &'a TraceWords<'a>,
         sites: Sites,
         written: Option<Written>,
     ) -> Result<Tracer<'a>, Refusal>
@@ -68,7 +69,7 @@ impl<'a> Tracer<'a> {
             cycles: 0,
         };
         Ok(Tracer {
-            words: *words,
+            words,
             sites,
             sheet: Sheet::new(alloc),
             tally,
@@ -86,16 +87,34 @@ impl<'a> Tracer<'a> {
     }
 
     /// Counts a step: an interrupt entry by itself, any other at the address of its instruction.
-    fn count(&mut self, moment: &Moment, is_entry: bool, cycles: u64)
+    pub fn count(&mut self, is_entry: bool, address: u16, cycles: u64)
         ensures counted { gathered self.new
-            ≡ counted_step is_entry moment.now.regs.pc cycles (gathered self.old) }
+            ≡ counted_step is_entry address cycles (gathered self.old) }
         ensures sheet { self.new.sheet ≡ self.old.sheet }
     {
         add(&mut self.all, cycles);
         if is_entry {
             add(&mut self.entries, cycles);
         } else if let Some(tally) = &mut self.tally {
-            tally.note(moment.regs.pc, cycles);
+            tally.note(address, cycles);
+        }
+    }
+
+    /// Returns whether no row is asked for: counts or unwritten memory are, in its place.
+    pub fn has_no_rows(&self) -> bool
+        ensures { result ≡ has_no_rows (trace_view self.now.words.now) }
+    {
+        self.words.counts || self.words.finds_unwritten
+    }
+
+    /// Returns whether all that the next instruction touches counts as written, if reads of other
+    /// addresses are looked for.
+    pub fn touches_no_other(&self, session: &Session) -> bool
+        ensures { result ≡ true → TouchesNoOther self.now.written session.now.current }
+    {
+        match &self.written {
+            None => true,
+            Some(written) => is_touched_written(session, written),
         }
     }
 
@@ -234,7 +253,8 @@ impl<'a> Tracer<'a> {
     ) -> Result<(), Refusal>
         ensures gathered { OnOk result (Gathers (O.contents output.old) (O.contents output.new)
             self.old.sheet.text.items self.new.sheet.text.items
-            (row_text (trace_view self.old.words) session.now.current self.old.sites step.now)) }
+            (row_text (trace_view self.old.words.now) session.now.current self.old.sites
+            step.now)) }
         ensures same { gathered self.new ≡ gathered self.old }
         ensures fault { OnErr result ((result ≡ Err Refusal.OutOfMemory)
             ⊎ (result ≡ Err Refusal.Write)) }
@@ -282,7 +302,7 @@ impl<'a> Tracer<'a> {
     {
         let is_entry = ahead.moment.was_entered(session);
         let cycles = session.cycles().saturating_sub(ahead.moment.cycles);
-        self.count(&ahead.moment, is_entry, cycles);
+        self.count(is_entry, ahead.moment.regs.pc, cycles);
         self.tell_reads(session, &ahead, is_entry, output)?;
         let stores = left_at(session, &self.words.file, is_entry, &ahead);
         self.note_stores(&stores);

@@ -4,11 +4,11 @@ use Rattle.console.specs.Playing.{is_at}
 use Rattle.console.specs.Turns.{known, play_at}
 use Rattle.console.specs.declared.ending.Ending.{Ending}
 use Rattle.console.proofs.Turning.{ends_at, ends_full, ends_with, runs_none, runs_on, still_over}
-use Rattle.tracing.specs.Gathered.{gathered, text_of_step}
+use Rattle.tracing.specs.Gathered.{gathered}
 use Rattle.tracing.specs.Texts.{no_text, note_step, noted_in}
 use Rattle.tracing.proofs.Gathering.{gathers_both, gathers_none}
 use Rattle.tracing.proofs.Going.{once_both, once_none}
-use Rattle.tracing.proofs.Making.{makes_at, makes_full, makes_none, makes_on, makes_with, noted_on}
+use Rattle.tracing.proofs.Making.{ended_on, makes_at, makes_full, makes_none, makes_on, makes_with, turn_noted_on}
 use Rattle.tracing.proofs.trace.run_noting.Goals as goal
 
 pub loop-steps-init : goal.loop-steps-init
@@ -31,82 +31,81 @@ returns-in-Ok-Some-clause-ok g c =
     let inv = c.loop-steps.invariant in
     let l = c.loop-steps in
     let turn = rw c.in-Ok-Some.field-0-is at c.in-Ok-Some.ensures.ok in
-    let u = c.take_turn.new.session in
-    let p = c.take_turn.new.player in (
-      inv.1,
+    let u = c.noted_turn.new.session in
+    let p = c.noted_turn.new.player in (
+      inv.1 ++ turn.1,
       record {
         told = inv.0 ++ turn.0;
-        consumes = Consumes-trans _ _ _ inv.0 turn.0 inv.2.consumes turn.1;
-        once = once_both c.args.player.now.is_over l.player.is_over p.is_over inv.0 turn.0 inv.2.once turn.3;
+        consumes = Consumes-trans _ _ _ inv.0 turn.0 inv.2.consumes turn.2.consumes;
+        once = once_both c.args.player.now.is_over l.player.is_over p.is_over inv.0 turn.0 inv.2.once turn.2.once;
         leads = λ rest may. (
           ends_with c.args.to c.args.limit c.args.session.now (known c.args.player.now) inv.0 l.player.is_over l.steps l.session (known l.player) inv.2.runs c.loop-steps-test.true
-              turn.0 p.is_over (Some c.in-Ok-Some.ending) u (known p) turn.3 turn.4 c.in-Ok-Some.ending refl rest may,
+              turn.0 p.is_over (Some c.in-Ok-Some.ending) u (known p) turn.2.once turn.2.turn c.in-Ok-Some.ending refl rest may,
           makes_with note_step c.args.to c.args.limit c.args.session.now (known c.args.player.now) inv.0 l.player.is_over l.steps l.session (known l.player) (no_text (gathered c.args.tracer.now)) (noted_in l.tracer inv.1) inv.2.makes c.loop-steps-test.true
-              turn.0 p.is_over (Some c.in-Ok-Some.ending) u (known p) turn.3 turn.4 c.in-Ok-Some.ending refl rest may,
+              turn.0 p.is_over (Some c.in-Ok-Some.ending) u (known p) turn.2.once turn.2.turn c.in-Ok-Some.ending refl rest may
+              ∙ ended_on c.in-Ok-Some.ending l.session.current u.current l.tracer c.noted_turn.new.tracer inv.1 turn.1 turn.3,
         );
       },
-      inv.2.text,
+      gathers_both _ (g.O.Write.contents l.output) _ _ l.tracer.sheet.text.items _ inv.1 turn.1 inv.2.text turn.4,
     )
 
 pub returns-in-Ok-Some-clause-over : goal.returns-in-Ok-Some-clause-over
 returns-in-Ok-Some-clause-over g c =
     let inv = c.loop-steps.invariant in
     let turn = rw c.in-Ok-Some.field-0-is at c.in-Ok-Some.ensures.ok in
-    still_over c.loop-steps.player.is_over c.take_turn.new.player.is_over _ _ turn.2 inv.2.over
+    still_over c.loop-steps.player.is_over c.noted_turn.new.player.is_over _ _ turn.2.over inv.2.over
 
 pub returns-then-is_at-clause-ok : goal.returns-then-is_at-clause-ok
 returns-then-is_at-clause-ok g c =
     let inv = c.loop-steps.invariant in
     let l = c.loop-steps in
     let turn = rw c.in-Ok-None.field-0-is at c.in-Ok-None.ensures.ok in
-    let u = c.take_turn.new.session in
-    let p = c.take_turn.new.player in
-    let ahead = c.look_ahead-ahead.result in
-    let step = text_of_step u.current ahead (gathered l.tracer) in
+    let u = c.noted_turn.new.session in
+    let p = c.noted_turn.new.player in
+    let step = turn.1 in
     let at' : is_at c.args.to u.current ≡ true = sym c.is_at.ensures ∙ c.if-is_at.true in (
       inv.1 ++ step,
       record {
         told = inv.0 ++ turn.0;
-        consumes = Consumes-trans _ _ _ inv.0 turn.0 inv.2.consumes turn.1;
-        once = once_both c.args.player.now.is_over l.player.is_over p.is_over inv.0 turn.0 inv.2.once turn.3;
+        consumes = Consumes-trans _ _ _ inv.0 turn.0 inv.2.consumes turn.2.consumes;
+        once = once_both c.args.player.now.is_over l.player.is_over p.is_over inv.0 turn.0 inv.2.once turn.2.once;
         leads = λ rest may. (
           ends_at c.args.to c.args.limit c.args.session.now (known c.args.player.now) inv.0 l.player.is_over l.steps l.session (known l.player) inv.2.runs c.loop-steps-test.true
-              turn.0 p.is_over None u (known p) turn.3 turn.4 refl at' rest may,
+              turn.0 p.is_over None u (known p) turn.2.once turn.2.turn refl at' rest may,
           makes_at note_step c.args.to c.args.limit c.args.session.now (known c.args.player.now) inv.0 l.player.is_over l.steps l.session (known l.player) (no_text (gathered c.args.tracer.now)) (noted_in l.tracer inv.1) inv.2.makes c.loop-steps-test.true
-              turn.0 p.is_over None u (known p) turn.3 turn.4 (noted_in c.note.new.self (inv.1 ++ step)) (noted_on l.session.current u.current l.tracer c.note.new.self ahead inv.1 c.look_ahead-ahead.ensures c.in_ok-note.ensures.noted) refl at' rest may,
+              turn.0 p.is_over None u (known p) turn.2.once turn.2.turn (noted_in c.noted_turn.new.tracer (inv.1 ++ step)) (turn_noted_on l.session.current u.current l.tracer c.noted_turn.new.tracer inv.1 step turn.3) refl at' rest may,
         );
       },
-      gathers_both _ (g.O.Write.contents l.output) _ _ l.tracer.sheet.text.items _ inv.1 step inv.2.text c.in_ok-note.ensures.gathered,
+      gathers_both _ (g.O.Write.contents l.output) _ _ l.tracer.sheet.text.items _ inv.1 step inv.2.text turn.4,
     )
 
 pub returns-then-is_at-clause-over : goal.returns-then-is_at-clause-over
 returns-then-is_at-clause-over g c =
     let inv = c.loop-steps.invariant in
     let turn = rw c.in-Ok-None.field-0-is at c.in-Ok-None.ensures.ok in
-    still_over c.loop-steps.player.is_over c.take_turn.new.player.is_over _ _ turn.2 inv.2.over
+    still_over c.loop-steps.player.is_over c.noted_turn.new.player.is_over _ _ turn.2.over inv.2.over
 
 pub loop-steps-preserved : goal.loop-steps-preserved
 loop-steps-preserved g c =
     let inv = c.loop-steps.invariant in
     let l = c.loop-steps in
     let turn = rw c.in-Ok-None.field-0-is at c.in-Ok-None.ensures.ok in
-    let u = c.take_turn.new.session in
-    let p = c.take_turn.new.player in
-    let ahead = c.look_ahead-ahead.result in
-    let step = text_of_step u.current ahead (gathered l.tracer) in
+    let u = c.noted_turn.new.session in
+    let p = c.noted_turn.new.player in
+    let step = turn.1 in
     let off : is_at c.args.to u.current ≡ false = sym c.is_at.ensures ∙ c.if-is_at.false in (
       inv.0 ++ turn.0,
       inv.1 ++ step,
       record {
-        consumes = Consumes-trans _ _ _ inv.0 turn.0 inv.2.consumes turn.1;
-        once = once_both c.args.player.now.is_over l.player.is_over p.is_over inv.0 turn.0 inv.2.once turn.3;
+        consumes = Consumes-trans _ _ _ inv.0 turn.0 inv.2.consumes turn.2.consumes;
+        once = once_both c.args.player.now.is_over l.player.is_over p.is_over inv.0 turn.0 inv.2.once turn.2.once;
         waits = c.in-Ok-None.ensures.waits;
-        over = still_over l.player.is_over p.is_over _ _ turn.2 inv.2.over;
+        over = still_over l.player.is_over p.is_over _ _ turn.2.over inv.2.over;
         runs = runs_on c.args.to c.args.limit c.args.session.now (known c.args.player.now) inv.0 l.player.is_over l.steps l.session (known l.player) inv.2.runs c.loop-steps-test.true
-            turn.0 p.is_over None u (known p) turn.3 turn.4 refl off;
+            turn.0 p.is_over None u (known p) turn.2.once turn.2.turn refl off;
         makes = makes_on note_step c.args.to c.args.limit c.args.session.now (known c.args.player.now) inv.0 l.player.is_over l.steps l.session (known l.player) (no_text (gathered c.args.tracer.now)) (noted_in l.tracer inv.1) inv.2.makes c.loop-steps-test.true
-            turn.0 p.is_over None u (known p) turn.3 turn.4 (noted_in c.note.new.self (inv.1 ++ step)) (noted_on l.session.current u.current l.tracer c.note.new.self ahead inv.1 c.look_ahead-ahead.ensures c.in_ok-note.ensures.noted) refl off;
-        text = gathers_both _ (g.O.Write.contents l.output) _ _ l.tracer.sheet.text.items _ inv.1 step inv.2.text c.in_ok-note.ensures.gathered;
+            turn.0 p.is_over None u (known p) turn.2.once turn.2.turn (noted_in c.noted_turn.new.tracer (inv.1 ++ step)) (turn_noted_on l.session.current u.current l.tracer c.noted_turn.new.tracer inv.1 step turn.3) refl off;
+        text = gathers_both _ (g.O.Write.contents l.output) _ _ l.tracer.sheet.text.items _ inv.1 step inv.2.text turn.4;
       },
     )
 

@@ -4,7 +4,7 @@ use Rattle.console.specs.Playing.{is_at}
 use Rattle.console.specs.Turns.{known, play_at}
 use Rattle.console.specs.declared.ending.Ending.{Ending}
 use Rattle.console.proofs.Turning.{ends_at, ends_full, ends_with, runs_none, runs_on, still_over}
-use Rattle.tracing.specs.Gathered.{gathered, passed}
+use Rattle.tracing.specs.Gathered.{gathered}
 use Rattle.tracing.specs.Texts.{pass_step}
 use Rattle.tracing.proofs.Going.{once_both, once_none}
 use Rattle.tracing.proofs.Making.{makes_at, makes_full, makes_none, makes_on, makes_with}
@@ -29,16 +29,16 @@ returns-in-Ok-Some-clause-ok g c =
     let inv = c.loop-steps.invariant in
     let l = c.loop-steps in
     let turn = rw c.in-Ok-Some.field-0-is at c.in-Ok-Some.ensures.ok in
-    let u = c.take_turn.new.session in
-    let p = c.take_turn.new.player in record {
+    let u = c.passed_turn.new.session in
+    let p = c.passed_turn.new.player in record {
       told = inv.0 ++ turn.0;
-      consumes = Consumes-trans _ _ _ inv.0 turn.0 inv.1.consumes turn.1;
-      once = once_both c.args.player.now.is_over l.player.is_over p.is_over inv.0 turn.0 inv.1.once turn.3;
+      consumes = Consumes-trans _ _ _ inv.0 turn.0 inv.1.consumes turn.1.consumes;
+      once = once_both c.args.player.now.is_over l.player.is_over p.is_over inv.0 turn.0 inv.1.once turn.1.once;
       leads = λ rest may. (
         ends_with c.args.place 18446744073709551615 c.args.session.now (known c.args.player.now) inv.0 l.player.is_over l.steps l.session (known l.player) inv.1.runs c.loop-steps-test.true
-            turn.0 p.is_over (Some c.in-Ok-Some.ending) u (known p) turn.3 turn.4 c.in-Ok-Some.ending refl rest may,
+            turn.0 p.is_over (Some c.in-Ok-Some.ending) u (known p) turn.1.once turn.1.turn c.in-Ok-Some.ending refl rest may,
         makes_with pass_step c.args.place 18446744073709551615 c.args.session.now (known c.args.player.now) inv.0 l.player.is_over l.steps l.session (known l.player) (gathered c.args.tracer.now) (gathered l.tracer) inv.1.makes c.loop-steps-test.true
-            turn.0 p.is_over (Some c.in-Ok-Some.ending) u (known p) turn.3 turn.4 c.in-Ok-Some.ending refl rest may,
+            turn.0 p.is_over (Some c.in-Ok-Some.ending) u (known p) turn.1.once turn.1.turn c.in-Ok-Some.ending refl rest may ∙ sym turn.2,
       );
     }
 
@@ -46,24 +46,24 @@ pub returns-in-Ok-Some-clause-over : goal.returns-in-Ok-Some-clause-over
 returns-in-Ok-Some-clause-over g c =
     let inv = c.loop-steps.invariant in
     let turn = rw c.in-Ok-Some.field-0-is at c.in-Ok-Some.ensures.ok in
-    still_over c.loop-steps.player.is_over c.take_turn.new.player.is_over _ _ turn.2 inv.1.over
+    still_over c.loop-steps.player.is_over c.passed_turn.new.player.is_over _ _ turn.1.over inv.1.over
 
 pub returns-then-is_at-clause-ok : goal.returns-then-is_at-clause-ok
 returns-then-is_at-clause-ok g c =
     let inv = c.loop-steps.invariant in
     let l = c.loop-steps in
     let turn = rw c.in-Ok-None.field-0-is at c.in-Ok-None.ensures.ok in
-    let u = c.take_turn.new.session in
-    let p = c.take_turn.new.player in
+    let u = c.passed_turn.new.session in
+    let p = c.passed_turn.new.player in
     let at' : is_at c.args.place u.current ≡ true = sym c.is_at.ensures ∙ c.if-is_at.true in record {
       told = inv.0 ++ turn.0;
-      consumes = Consumes-trans _ _ _ inv.0 turn.0 inv.1.consumes turn.1;
-      once = once_both c.args.player.now.is_over l.player.is_over p.is_over inv.0 turn.0 inv.1.once turn.3;
+      consumes = Consumes-trans _ _ _ inv.0 turn.0 inv.1.consumes turn.1.consumes;
+      once = once_both c.args.player.now.is_over l.player.is_over p.is_over inv.0 turn.0 inv.1.once turn.1.once;
       leads = λ rest may. (
         ends_at c.args.place 18446744073709551615 c.args.session.now (known c.args.player.now) inv.0 l.player.is_over l.steps l.session (known l.player) inv.1.runs c.loop-steps-test.true
-            turn.0 p.is_over None u (known p) turn.3 turn.4 refl at' rest may,
+            turn.0 p.is_over None u (known p) turn.1.once turn.1.turn refl at' rest may,
         makes_at pass_step c.args.place 18446744073709551615 c.args.session.now (known c.args.player.now) inv.0 l.player.is_over l.steps l.session (known l.player) (gathered c.args.tracer.now) (gathered l.tracer) inv.1.makes c.loop-steps-test.true
-            turn.0 p.is_over None u (known p) turn.3 turn.4 (gathered c.pass.new.self) (c.pass.ensures.passed ∙ ap (λ x. passed u.current x (gathered l.tracer)) c.look_ahead-ahead.ensures) refl at' rest may,
+            turn.0 p.is_over None u (known p) turn.1.once turn.1.turn (gathered c.passed_turn.new.tracer) turn.2 refl at' rest may,
       );
     }
 
@@ -71,27 +71,27 @@ pub returns-then-is_at-clause-over : goal.returns-then-is_at-clause-over
 returns-then-is_at-clause-over g c =
     let inv = c.loop-steps.invariant in
     let turn = rw c.in-Ok-None.field-0-is at c.in-Ok-None.ensures.ok in
-    still_over c.loop-steps.player.is_over c.take_turn.new.player.is_over _ _ turn.2 inv.1.over
+    still_over c.loop-steps.player.is_over c.passed_turn.new.player.is_over _ _ turn.1.over inv.1.over
 
 pub loop-steps-preserved : goal.loop-steps-preserved
 loop-steps-preserved g c =
     let inv = c.loop-steps.invariant in
     let l = c.loop-steps in
     let turn = rw c.in-Ok-None.field-0-is at c.in-Ok-None.ensures.ok in
-    let u = c.take_turn.new.session in
-    let p = c.take_turn.new.player in
+    let u = c.passed_turn.new.session in
+    let p = c.passed_turn.new.player in
     let off : is_at c.args.place u.current ≡ false = sym c.is_at.ensures ∙ c.if-is_at.false in (
       inv.0 ++ turn.0,
       record {
-        consumes = Consumes-trans _ _ _ inv.0 turn.0 inv.1.consumes turn.1;
-        once = once_both c.args.player.now.is_over l.player.is_over p.is_over inv.0 turn.0 inv.1.once turn.3;
+        consumes = Consumes-trans _ _ _ inv.0 turn.0 inv.1.consumes turn.1.consumes;
+        once = once_both c.args.player.now.is_over l.player.is_over p.is_over inv.0 turn.0 inv.1.once turn.1.once;
         waits = c.in-Ok-None.ensures.waits;
-        over = still_over l.player.is_over p.is_over _ _ turn.2 inv.1.over;
+        over = still_over l.player.is_over p.is_over _ _ turn.1.over inv.1.over;
         runs = runs_on c.args.place 18446744073709551615 c.args.session.now (known c.args.player.now) inv.0 l.player.is_over l.steps l.session (known l.player) inv.1.runs c.loop-steps-test.true
-            turn.0 p.is_over None u (known p) turn.3 turn.4 refl off;
+            turn.0 p.is_over None u (known p) turn.1.once turn.1.turn refl off;
         makes = makes_on pass_step c.args.place 18446744073709551615 c.args.session.now (known c.args.player.now) inv.0 l.player.is_over l.steps l.session (known l.player) (gathered c.args.tracer.now) (gathered l.tracer) inv.1.makes c.loop-steps-test.true
-            turn.0 p.is_over None u (known p) turn.3 turn.4 (gathered c.pass.new.self) (c.pass.ensures.passed ∙ ap (λ x. passed u.current x (gathered l.tracer)) c.look_ahead-ahead.ensures) refl off;
-        sheet = c.pass.ensures.sheet ∙ inv.1.sheet;
+            turn.0 p.is_over None u (known p) turn.1.once turn.1.turn (gathered c.passed_turn.new.tracer) turn.2 refl off;
+        sheet = c.in-Ok-None.ensures.sheet ∙ inv.1.sheet;
       },
     )
 
@@ -114,3 +114,6 @@ returns-clause-over g c = c.loop-steps.invariant.1.over
 
 pub returns-clause-waits : goal.returns-clause-waits
 returns-clause-waits g c = c.loop-steps.invariant.1.waits
+
+pub returns-in-Ok-Some-clause-sheet : goal.returns-in-Ok-Some-clause-sheet
+returns-in-Ok-Some-clause-sheet g c = c.in-Ok-Some.ensures.sheet ∙ c.loop-steps.invariant.1.sheet

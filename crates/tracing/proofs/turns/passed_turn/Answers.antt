@@ -1,0 +1,19 @@
+use Rattle.std.proofs.Common.{[], IfOk}
+use Rattle.console.specs.declared.turn.Player.{Player}
+use Rattle.model.specs.Session.{Session}
+use Rattle.tracing.specs.Traces.{PassedTurn}
+use Rattle.tracing.proofs.Making.{turned_alone, with_same}
+use Rattle.tracing.proofs.turns.passed_turn.Goals as goal
+
+pub returns-then-take_unnoted_turn-clause-ok : goal.returns-then-take_unnoted_turn-clause-ok
+returns-then-take_unnoted_turn-clause-ok g c =
+    let turn = c.take_unnoted_turn.ensures in
+    let is = c.if-take_unnoted_turn.true in
+    ([], turned_alone _ _ _ _ _ turn.over (turn.made is), turn.passed is)
+
+pub returns-clause-ok : goal.returns-clause-ok
+returns-clause-ok g c =
+    let same = c.take_unnoted_turn.ensures.not c.if-take_unnoted_turn.false in
+    let slow = c.pass_slowly in
+    with_same (λ (s : Session) (p : Player). IfOk slow.result (λ ending. PassedTurn ending s p c.args.tracer.now (g.R.Read.remaining c.args.input.now) (g.R.Read.remaining slow.new.input) slow.new.session slow.new.player slow.new.tracer))
+    same.0 same.1 slow.ensures.ok
