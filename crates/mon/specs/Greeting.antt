@@ -4,26 +4,39 @@ use Rattle.model.specs.State.{State}
 use Rattle.source_map.specs.Names.{Named, address_of}
 use Rattle.mon.specs.declared.wording.TheConstants.{GREETING, HIDDEN, NO_VECTOR}
 
--- ---- names of the program that mean registers: A, X and Y are reserved words
+-- ---- names of the program that mean a register or a flag: A, X and Y are reserved words
 
 abbrev pub is_hidden : List Named → List ℕ → Bool
-is_hidden names register = is_some (address_of names register)
+is_hidden names word = is_some (address_of names word)
 
-unfoldable pub has_hidden : List Named → Bool
-has_hidden names = is_hidden names (codes "S") || is_hidden names (codes "P")
-    || is_hidden names (codes "PC")
+unfoldable pub hides_register : List Named → Bool
+hides_register names = is_hidden names (codes "S") || is_hidden names (codes "SP")
+    || is_hidden names (codes "P") || is_hidden names (codes "PC")
+
+unfoldable pub hides_flag : List Named → Bool
+hides_flag names = is_hidden names (codes "N") || is_hidden names (codes "V")
+    || is_hidden names (codes "D") || is_hidden names (codes "I")
+    || is_hidden names (codes "Z") || is_hidden names (codes "C")
+
+abbrev pub has_hidden : List Named → Bool
+has_hidden names = hides_register names || hides_flag names
 
 abbrev pub hidden_name : List Named → List ℕ → List ℕ
-hidden_name names register = if is_hidden names register then 32 ∷ register else []
+hidden_name names word = if is_hidden names word then 32 ∷ word else []
 
-unfoldable pub hidden_names : List Named → List ℕ
-hidden_names names = hidden_name names (codes "S") ++ hidden_name names (codes "P")
-    ++ hidden_name names (codes "PC")
+unfoldable pub hidden_registers : List Named → List ℕ
+hidden_registers names = hidden_name names (codes "S") ++ hidden_name names (codes "SP")
+    ++ hidden_name names (codes "P") ++ hidden_name names (codes "PC")
 
--- The registers whose names the program has too, in any letter case.
+unfoldable pub hidden_flags : List Named → List ℕ
+hidden_flags names = hidden_name names (codes "N") ++ hidden_name names (codes "V")
+    ++ hidden_name names (codes "D") ++ hidden_name names (codes "I")
+    ++ hidden_name names (codes "Z") ++ hidden_name names (codes "C")
+
+-- The registers and flags whose names the program has too, in any letter case.
 abbrev pub hidden_text : List Named → List ℕ
 hidden_text names = if has_hidden names
-    then HIDDEN.now ++ hidden_names names ++ codes "\n" else []
+    then HIDDEN.now ++ hidden_registers names ++ hidden_flags names ++ codes "\n" else []
 
 -- ---- the whole
 

@@ -2,8 +2,9 @@
 
 ghost use Rattle.std.specs.Prelude.{◌≡◌, ◌++◌, IfErr, OnOk};
 ghost use Rattle.mon.specs.Done.{EndsAnswer};
-ghost use Rattle.mon.specs.Greeting.{greeting, greeting_of, has_hidden, hidden_name, hidden_names};
-ghost use Rattle.mon.specs.Greeting.{hidden_text, vector_text};
+ghost use Rattle.mon.specs.Greeting.{greeting, greeting_of, has_hidden, hidden_flags, hidden_name};
+ghost use Rattle.mon.specs.Greeting.{hidden_registers, hidden_text, hides_flag, hides_register};
+ghost use Rattle.mon.specs.Greeting.{vector_text};
 ghost use Rattle.mon_session.specs.Course.{ShowsOnly};
 
 use crate::seat::of_memory;
@@ -16,44 +17,80 @@ use std::alloc::AllocError;
 
 /// Returns whether a name of the program is a register's. A, X and Y are reserved, so no name is
 /// one of them.
-#[tactic(auto, unfolding(crate::specs::Greeting::has_hidden))]
-fn has_hidden(names: &Names) -> bool
-    ensures { result ≡ has_hidden names.now }
+#[tactic(auto, unfolding(crate::specs::Greeting::hides_register))]
+fn hides_register(names: &Names) -> bool
+    ensures { result ≡ hides_register names.now }
 {
     names.address_of(b"S").is_some()
+        || names.address_of(b"SP").is_some()
         || names.address_of(b"P").is_some()
         || names.address_of(b"PC").is_some()
 }
 
-/// Appends a register's name behind a blank, if a name of the program is the same but for capitals.
-fn push_hidden_name(text: &mut Vec<u8>, names: &Names, register: &[u8]) -> Result<(), AllocError>
-    ensures { OnOk result (text.new.items ≡ text.old.items
-        ++ hidden_name names.now register.now) }
+/// Returns whether a name of the program is a flag's letter.
+#[tactic(auto, unfolding(crate::specs::Greeting::hides_flag))]
+fn hides_flag(names: &Names) -> bool
+    ensures { result ≡ hides_flag names.now }
 {
-    if names.address_of(register).is_some() {
+    names.address_of(b"N").is_some()
+        || names.address_of(b"V").is_some()
+        || names.address_of(b"D").is_some()
+        || names.address_of(b"I").is_some()
+        || names.address_of(b"Z").is_some()
+        || names.address_of(b"C").is_some()
+}
+
+/// Returns whether a name of the program is a register's or a flag's.
+fn has_hidden(names: &Names) -> bool
+    ensures { result ≡ has_hidden names.now }
+{
+    hides_register(names) || hides_flag(names)
+}
+
+/// Appends a register or a flag behind a blank, if a name of the program is the same but for
+/// capitals.
+fn push_hidden_name(text: &mut Vec<u8>, names: &Names, word: &[u8]) -> Result<(), AllocError>
+    ensures { OnOk result (text.new.items ≡ text.old.items ++ hidden_name names.now word.now) }
+{
+    if names.address_of(word).is_some() {
         text.push(b' ')?;
-        text.extend_from_slice(register)?;
+        text.extend_from_slice(word)?;
     }
     Ok(())
 }
 
 /// Appends the registers' names that the program has too.
-#[tactic(auto, unfolding(crate::specs::Greeting::hidden_names))]
-fn push_hidden_names(text: &mut Vec<u8>, names: &Names) -> Result<(), AllocError>
-    ensures { OnOk result (text.new.items ≡ text.old.items ++ hidden_names names.now) }
+#[tactic(auto, unfolding(crate::specs::Greeting::hidden_registers))]
+fn push_hidden_registers(text: &mut Vec<u8>, names: &Names) -> Result<(), AllocError>
+    ensures { OnOk result (text.new.items ≡ text.old.items ++ hidden_registers names.now) }
 {
     push_hidden_name(text, names, b"S")?;
+    push_hidden_name(text, names, b"SP")?;
     push_hidden_name(text, names, b"P")?;
     push_hidden_name(text, names, b"PC")
 }
 
-/// Appends which names of the program the registers hide, if they hide one.
+/// Appends the flags' letters that are names of the program too.
+#[tactic(auto, unfolding(crate::specs::Greeting::hidden_flags))]
+fn push_hidden_flags(text: &mut Vec<u8>, names: &Names) -> Result<(), AllocError>
+    ensures { OnOk result (text.new.items ≡ text.old.items ++ hidden_flags names.now) }
+{
+    push_hidden_name(text, names, b"N")?;
+    push_hidden_name(text, names, b"V")?;
+    push_hidden_name(text, names, b"D")?;
+    push_hidden_name(text, names, b"I")?;
+    push_hidden_name(text, names, b"Z")?;
+    push_hidden_name(text, names, b"C")
+}
+
+/// Appends which names of the program mean a register or a flag here, if one does.
 fn push_hidden(text: &mut Vec<u8>, names: &Names) -> Result<(), AllocError>
     ensures { OnOk result (text.new.items ≡ text.old.items ++ hidden_text names.now) }
 {
     if has_hidden(names) {
         push_text(text, HIDDEN)?;
-        push_hidden_names(text, names)?;
+        push_hidden_registers(text, names)?;
+        push_hidden_flags(text, names)?;
         push_text(text, "\n")?;
     }
     Ok(())
@@ -80,7 +117,7 @@ fn push_greeting(text: &mut Vec<u8>, names: &Names, low: u8, high: u8) -> Result
 }
 
 /// Says what is written first, if prompts are asked for: which lines help, which names of the
-/// program the registers hide, and that there is no reset vector.
+/// program mean registers or flags, and that there is no reset vector.
 pub fn greet(desk: &mut Desk, prompts: bool) -> Result<(), Refusal>
     ensures shows { ShowsOnly desk.old desk.new }
     ensures said { OnOk result (desk.new.text.items ≡ desk.old.text.items

@@ -3,8 +3,8 @@
 /// What is written first, if a prompt is asked for.
 pub const GREETING: &str = "mos65 mon: help lists the words, an empty line steps, quit ends\n";
 
-/// Before the registers whose names the program has too.
-pub const HIDDEN: &str = "names of the program that mean registers here:";
+/// Before the registers and flags whose names the program has too.
+pub const HIDDEN: &str = "names of the program that mean registers or flags here:";
 
 /// What is said where there is no reset vector.
 pub const NO_VECTOR: &str =
