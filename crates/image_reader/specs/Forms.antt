@@ -1,0 +1,43 @@
+-- How a text tells its form. Source: mos65.
+use Rattle.std.specs.Prelude.{ℕ, ◌==◌, ◌||◌, ◌&&◌, nat_le, Bool, if◌then◌else◌, List, [], ◌∷◌, drop, take, Result, Ok, Err}
+use Rattle.std.specs.List.{list_all, prefix_len}
+use Rattle.image_reader.specs.declared.form.Form.{Form}
+use Rattle.image_reader.specs.declared.form.Form.TheVariants.{Tape, Text}
+use Rattle.image_reader.specs.declared.form.OtherText.{OtherText}
+use Rattle.image_reader.specs.declared.form.OtherText.TheVariants as other
+use Rattle.image_reader.specs.declared.form.TextForm.TheVariants.{Hex, SRecord}
+use Rattle.model.specs.Tape.{is_skipped}
+
+-- A byte of a text: $20..$7E, a tab or a line end.
+abbrev pub is_plain : ℕ → Bool
+is_plain b = (nat_le 32 b && nat_le b 126) || (b == 9) || (b == 10) || (b == 13)
+
+-- The bytes that tell what begins with no record: the first 64.
+unfoldable pub front_bytes : List ℕ → List ℕ
+front_bytes bytes = take 64 bytes
+
+-- What bytes look like that begin with no record.
+abbrev pub other_of : List ℕ → OtherText
+other_of bytes = if list_all is_plain (front_bytes bytes) then other.Plain else other.Bytes
+
+abbrev pub is_digit : ℕ → Bool
+is_digit b = nat_le 48 b && nat_le b 57
+
+-- `S` begins an S-record if a digit follows.
+abbrev pub s_form : List ℕ → List ℕ → Result Form OtherText
+s_form bytes [] = Err (other_of bytes)
+s_form bytes (c ∷ rest) = if is_digit c then Ok (Text SRecord) else Err (other_of bytes)
+
+-- The form by the first byte that a tape does not skip.
+abbrev pub form_by : List ℕ → List ℕ → Result Form OtherText
+form_by bytes [] = Err other.Nothing
+form_by bytes (b ∷ rest) =
+    if b == 59 then Ok Tape
+    else if b == 58 then Ok (Text Hex)
+    else if b == 83 then s_form bytes rest
+    else Err (other_of bytes)
+
+-- The form that the first record of some bytes tells: `;` a tape, `:` Intel HEX, `S` and a digit
+-- S-records. Before it may stand what a tape skips.
+unfoldable pub form_of : List ℕ → Result Form OtherText
+form_of bytes = form_by bytes (drop (prefix_len is_skipped bytes) bytes)

@@ -1,0 +1,10 @@
+pub mod RecordFault
+pub mod Records
+pub mod Progress
+pub mod HexRecords
+pub mod SRecords
+pub mod Texts
+pub mod Feeding
+pub mod Forms
+pub mod Images
+pub mod Streaming

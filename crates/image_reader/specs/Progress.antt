@@ -1,0 +1,34 @@
+-- What was read of a text of records. Source: mos65.
+use Rattle.std.specs.Prelude.{◌≡◌, ℕ, ◌+◌, nat_le, nat_lt, if◌then◌else◌, List, length, Option, Result, Ok, Err}
+use Rattle.model.specs.Image.{empty_image, with_bytes}
+use Rattle.image_reader.specs.declared.fault.LineFault.{LineFault}
+use Rattle.image_reader.specs.declared.fault.RecordFaultKind.TheVariants.{PastEnd}
+use Rattle.image_reader.specs.declared.form.TextForm.{TextForm}
+use Rattle.image_reader.specs.declared.reading.Place.{Place}
+use Rattle.image_reader.specs.declared.reading.Place.TheVariants.{Open}
+use Rattle.image_reader.specs.Records.{at}
+
+pub record Progress : Type 0 where
+  pub form : TextForm
+  pub cells : List (Option ℕ)
+  -- Intel HEX: what is added to the offset of a data record
+  pub base : ℕ
+  -- S-records: how many data records there were, up to one more than a count record can say
+  pub count : ℕ
+  pub place : Place
+
+-- Nothing was read.
+abbrev pub start : TextForm → Progress
+start form = record { form = form; cells = empty_image; base = 0; count = 0; place = Open }
+
+-- Data from an address on, in place of what is there. The column is that of the address.
+unfoldable pub stored : ℕ → ℕ → List ℕ → Progress → Result Progress LineFault
+stored column address bytes s = if nat_le (address + length bytes) 65536
+    then Ok (record s { cells = with_bytes s.cells address bytes })
+    else Err (at PastEnd column)
+
+-- What a step of the code returned, and what it left, is what the step gives. After a fault
+-- nothing is said of what it left.
+abbrev pub Gives : Result Unit LineFault → Progress → Result Progress LineFault → Type 0
+Gives (Ok u) new gives = gives ≡ Ok new
+Gives (Err f) new gives = gives ≡ Err f

@@ -1,0 +1,24 @@
+//! Images as other tools write them: Intel HEX, Motorola S-records, raw bytes, PRG files and tapes.
+//!
+//! `specs/Records.antt` says what the bytes of a record are, `specs/HexRecords.antt` and
+//! `specs/SRecords.antt` what a record does, and `specs/Texts.antt` what a text denotes or which
+//! fault is its first. A `RecordReader` is fed a text piece by piece; `read_image` reads some bytes
+//! and `read_text_from` a reader, in any form. `form_of` tells the form by the first record.
+#![tactic(auto)]
+
+mod begun;
+mod fault;
+mod form;
+mod hex_records;
+mod reader;
+mod reading;
+mod record;
+mod s_records;
+mod stream;
+mod whole;
+
+pub use fault::{ImageFault, ImageReadFault, RecordFault, RecordFaultKind};
+pub use form::{Form, OtherText, TextForm, form_of};
+pub use reader::RecordReader;
+pub use stream::read_text_from;
+pub use whole::read_image;
