@@ -1,0 +1,19 @@
+use Rattle.std.proofs.Common.{subst, sym, ap, ◌∙◌, ◌++◌, arith, List, ℕ, Option}
+use Rattle.image_reader.specs.Images.{raw_image}
+use Rattle.image_writer.specs.ImageTexts.{raw_bytes}
+use Rattle.image_writer.specs.Window.{IsReadPart}
+use Rattle.image_writer.proofs.RawBytes.{raw_read}
+use Rattle.image_writer.proofs.raw.write_raw.Goals as goal
+
+pub returns-clause-bytes : goal.returns-clause-bytes
+returns-clause-bytes c =
+    c.in_ok-push_bytes.ensures ∙ ap (λ (o : List ℕ). o ++ raw_bytes c.args.low c.args.high c.args.fill c.cells.result.now) c.new-out.ensures.items
+    ∙ ap (λ (cs : List (Option ℕ)). raw_bytes c.args.low c.args.high c.args.fill cs) c.cells.ensures.same
+
+pub returns-clause-read : goal.returns-clause-read
+returns-clause-read c =
+    let bytes =
+    c.in_ok-push_bytes.ensures ∙ ap (λ (o : List ℕ). o ++ raw_bytes c.args.low c.args.high c.args.fill c.cells.result.now) c.new-out.ensures.items
+    ∙ ap (λ (cs : List (Option ℕ)). raw_bytes c.args.low c.args.high c.args.fill cs) c.cells.ensures.same in
+    subst (λ (b : List ℕ). IsReadPart c.args.low c.args.high c.args.fill c.args.image.now (raw_image c.args.low b)) (sym bytes)
+    (raw_read c.args.low c.args.high c.args.fill c.args.image.now c.requires (omega arith) c.cells.ensures.image.size)
