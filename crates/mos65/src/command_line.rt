@@ -9,6 +9,7 @@ use checking::check_command;
 use clap::error::ErrorKind;
 use clap::{Command, Error};
 use dis_source::dis_source_command;
+use image_words::convert_command;
 use std::alloc::Global;
 use std::io::Write;
 use strict_debug::strict_debug_command;
@@ -41,7 +42,8 @@ fn with_files<'a>(alloc: Global, command: Command<'a>) -> Result<Command<'a>, Er
     let command = with(command, check_command(alloc))?;
     let command = with(command, info_command(alloc))?;
     let command = with(command, cmp_command(alloc))?;
-    with(command, mend_command(alloc))
+    let command = with(command, mend_command(alloc))?;
+    with(command, convert_command(alloc))
 }
 
 /// Adds the words that run a program.

@@ -10,6 +10,7 @@ use crate::routes::{Route, route_of};
 use asm_files::asm_files;
 use checking::check;
 use dis_source::dis_source;
+use image_words::convert;
 use mon::mon;
 use program::{process_words, program, unreadable_words, words_of};
 use running::run_program;
@@ -83,6 +84,7 @@ fn serve(rt: &HostRuntime, words: &[&str]) -> u8 {
         Route::Info => tape_info(rt, rest, &mut io::writer(rt), &mut rt.stderr()),
         Route::Cmp => tape_cmp(rt, rest, &mut io::writer(rt), &mut rt.stderr()),
         Route::Mend => tape_mend(rt, rest, &mut io::writer(rt), &mut rt.stderr()),
+        Route::Convert => convert(rt, rest, &mut io::writer(rt), &mut rt.stderr()),
         Route::Test => test(rt, rest, &mut io::writer(rt), &mut rt.stderr()),
         Route::DisSource => dis_source(rt, rest, &mut io::writer(rt), &mut rt.stderr()),
         Route::AsmFiles => asm_files(rt, rest, &mut io::writer(rt), &mut rt.stderr()),

@@ -19,6 +19,8 @@ pub enum Route {
     Cmp,
     /// `mend`.
     Mend,
+    /// `convert`.
+    Convert,
     /// `test`.
     Test,
     /// `mon`.
@@ -48,6 +50,7 @@ fn added(name: &str) -> Route
         "info" => Route::Info,
         "cmp" => Route::Cmp,
         "mend" => Route::Mend,
+        "convert" => Route::Convert,
         "test" => Route::Test,
         "mon" => Route::Mon,
         "run" => Route::Run,

@@ -1,0 +1,4 @@
+mod Read
+pub mod Ranges
+pub mod Refused
+pub mod Whole
