@@ -2,3 +2,4 @@ mod Ends
 mod Facts
 mod Paths
 mod Read
+mod Walk

@@ -1,32 +1,64 @@
 -- What the words of `test` ask for, by the values that clap's definition of a parse finds among
 -- them. Source: mos65.
-use Rattle.std.specs.Prelude.{Bool, false, if◌then◌else◌, List, [], ◌∷◌, Option, Some, None, codes}
+use Rattle.std.specs.Prelude.{ℕ, nat_lt, Bool, false, ◌||◌, if◌then◌else◌, List, [], ◌∷◌, Option, Some, None, codes}
 use Rattle.std.specs.List.{list_any}
 use Rattle.std.specs.Str.{bytes_eq}
+use Rattle.arguments.specs.Asked.{is_flag}
+use Rattle.arguments.specs.Values.{steps_asked}
 use Rattle.clap.specs.Words.{Text}
+use Rattle.t65_reader.specs.RowText.{most_steps}
 
--- The files of rows, one at least, and the file that a report goes to, which has another name.
+-- The files of rows, one at least, and the sources that they are run on, where those are not the
+-- files' own; the file that a report goes to, which has another name than these; the most steps of a
+-- call; and whether a line is written of each file.
 pub record TestAsked : Type 0 where
   pub files : List Text
+  pub sources : List Text
   pub junit : Option Text
+  pub steps : ℕ
+  pub is_summary : Bool
 
 abbrev pub has_name : Text → Text → Bool
 has_name name file = bytes_eq file name
 
--- The report has the name of a file of rows, which it would replace.
+-- The report has the name of one of some files, which it would replace.
 abbrev pub replaces : Option Text → List Text → Bool
 replaces None files = false
 replaces (Some report) files = list_any (has_name report) files
 
-abbrev pub test_of : Option Text → List Text → Option TestAsked
-test_of junit [] = None
-test_of junit (file ∷ files) = if replaces junit (file ∷ files) then None
-    else Some (record { files = file ∷ files; junit = junit })
+-- At most 4,294,967,295.
+abbrev pub limit_of : Option ℕ → Option ℕ
+limit_of None = None
+limit_of (Some steps) = if nat_lt steps 4294967296 then Some steps else None
 
-abbrev pub test_by : Option Text → Option (List Text) → Option TestAsked
-test_by junit None = None
-test_by junit (Some files) = test_of junit files
+abbrev pub limit_asked : Option Text → Option ℕ
+limit_asked None = Some most_steps
+limit_asked (Some word) = limit_of (steps_asked (Some word))
+
+abbrev pub sources_asked : Option (List Text) → List Text
+sources_asked None = []
+sources_asked (Some sources) = sources
+
+abbrev pub test_of : Option Text → Option ℕ → Bool → List Text → List Text → Option TestAsked
+test_of junit None is_summary sources files = None
+test_of junit (Some steps) is_summary sources [] = None
+test_of junit (Some steps) is_summary sources (file ∷ files)
+    = if replaces junit (file ∷ files) || replaces junit sources then None else Some (record {
+      files = file ∷ files;
+      sources = sources;
+      junit = junit;
+      steps = steps;
+      is_summary = is_summary;
+    })
+
+abbrev pub test_by : Option Text → Option ℕ → Bool → List Text → Option (List Text)
+    → Option TestAsked
+test_by junit steps is_summary sources None = None
+test_by junit steps is_summary sources (Some files)
+    = test_of junit steps is_summary sources files
 
 -- What the first values and all values of the names ask for.
 abbrev pub test_asked : (Text → Option Text) → (Text → Option (List Text)) → Option TestAsked
-test_asked value values = test_by (value (codes "junit")) (values (codes "FILE"))
+test_asked value values = test_by (value (codes "junit")) (limit_asked (value (codes "steps")))
+    (is_flag (value (codes "summary"))) (sources_asked (values (codes "source")))
+    (values (codes "FILE"))

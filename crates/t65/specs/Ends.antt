@@ -1,27 +1,23 @@
--- Why a file of rows cannot be tested. No clause can say whether memory is there, what is in a file,
--- nor which names are one file. Source: mos65.
-use Rattle.std.specs.Prelude.{◌≡◌, ◌⊎◌, ⊤, ℕ, false, List, Ok, Err}
+-- Why a file of rows cannot be tested. No clause can say whether memory is there, nor what is in a
+-- file. Source: mos65.
+use Rattle.std.specs.Prelude.{◌≡◌, ◌⊎◌, ⊤, ℕ, false, List, [], Ok, Err, string_bytes}
+use Rattle.arguments.specs.Values.{base_of}
 use Rattle.arguments.specs.declared.refusal.Refusal.{Refusal}
-use Rattle.arguments.specs.declared.refusal.Refusal.TheVariants.{Map as NoMap, Source, OutOfMemory, Read}
+use Rattle.arguments.specs.declared.refusal.Refusal.TheVariants.{Map as NoMap, OutOfMemory, Read}
 use Rattle.assembler.specs.Assembly.{AssemblyView, IsAssembled}
-use Rattle.fault_notes.specs.Blocks.{IsToldText}
-use Rattle.model.specs.AllFaults.{faults_of}
+use Rattle.loading.specs.Loads.{EndsSourceFile}
 use Rattle.model.specs.Names.{Definitions}
-use Rattle.model.specs.Source.{HasFault}
 use Rattle.model.specs.State.{Map, is_map}
 use Rattle.model.specs.TextLines.{lines_of}
 use Rattle.model.specs.declared.bus_fault.BusFault.TheVariants.{BadMap}
 use Rattle.t65_reader.specs.HeadText.{SeenHead, head_from}
-use Rattle.t65_reader.specs.RowText.{rows_from}
+use Rattle.t65_reader.specs.RowText.{Rows, rows_from}
 use Rattle.t65_reader.specs.declared.fault.TextFault.{TextFault}
-use Rattle.t65.specs.Statuses.{status_of}
 use Rattle.t65.specs.Tested.{map_of}
 use Rattle.t65.specs.declared.fault.FileFault.{FileFault}
 use Rattle.t65.specs.declared.fault.FileFault.TheVariants.{InRows, InSource}
-use Rattle.t65.specs.declared.fault.SourceFault.{SourceFault}
-use Rattle.t65.specs.declared.fault.SourceFault.TheVariants.{Faults, Other}
 use Rattle.t65.specs.declared.fault.TestFault.{TestFault}
-use Rattle.t65.specs.declared.fault.TestFault.TheVariants.{Rows, TooLarge, Replaced, Refused}
+use Rattle.t65.specs.declared.fault.TestFault.TheVariants.{Rows as NotRows, TooLarge, NoRow, Refused}
 
 -- The head of some file of rows, and the lines after it.
 pub record HeadedFile : Type 0 where
@@ -31,58 +27,41 @@ pub record HeadedFile : Type 0 where
   pub lines : List (List ℕ)
   pub headed : head_from 1 (lines_of text) ≡ Ok (head, next, lines)
 
--- The rows of some file have this fault, under the names of some source on its map.
-pub record IsRowFault (fault : TextFault) : Type 0 where
+-- The rows of some file are read so under the names of some source on its map.
+pub record AreRead (rows : Rows) : Type 0 where
   pub file : HeadedFile
   pub assembly : AssemblyView
   pub assembled : IsAssembled (map_of file.head) assembly
-  pub refused : rows_from assembly.names file.next file.lines ≡ Err fault
+  pub steps : ℕ
+  pub read : rows_from steps assembly.names file.next file.lines ≡ rows
 
--- Why a file cannot be tested, where it is what other words are refused for: its source, on the map
--- of its head, has this fault, or its head asks for a map that is none.
+-- Why a file cannot be tested, where it is what other words are refused for too: its head asks for a
+-- map that is none, it cannot be read, or memory ran out.
 abbrev pub EndsRefused : Refusal → Type 0
-EndsRefused (Source fault) = (file : HeadedFile) × (source : List ℕ)
-    × HasFault (map_of file.head) source fault
 EndsRefused (NoMap fault) = (file : HeadedFile) × (fault ≡ BadMap)
-    × (is_map file.head.rom file.head.port ≡ false)
+    × (is_map file.head.rom (base_of file.head.port) ≡ false)
 EndsRefused OutOfMemory = ⊤
 EndsRefused (Read why) = ⊤
 EndsRefused refusal = ⊥
 
--- Why a file cannot be tested: its head or a row has this fault, or it is refused.
+-- Why a file of rows cannot be tested: its head or a row has this fault, it has no row, or it is
+-- refused.
 abbrev pub EndsTest : TestFault → Type 0
-EndsTest (Rows fault) = ((text : List ℕ) × (head_from 1 (lines_of text) ≡ Err fault))
-    ⊎ IsRowFault fault
+EndsTest (NotRows fault) = ((text : List ℕ) × (head_from 1 (lines_of text) ≡ Err fault))
+    ⊎ AreRead (Err fault)
 EndsTest TooLarge = ⊤
-EndsTest Replaced = ⊤
+EndsTest NoRow = AreRead (Ok [])
 EndsTest (Refused refusal) = EndsRefused refusal
 
--- A source with faults is refused for one of them.
-abbrev pub fault_of : SourceFault → TestFault
-fault_of (Faults fault text) = Refused (Source fault)
-fault_of (Other fault) = fault
-
-abbrev pub fault_in : FileFault → TestFault
-fault_in (InRows fault) = fault
-fault_in (InSource path fault) = fault_of fault
-
--- Some file cannot be tested, for a fault that has this status.
-pub record IsUntested (status : ℕ) : Type 0 where
-  pub fault : TestFault
-  pub ends : EndsTest fault
-  pub status_is : status ≡ status_of fault
-
--- Why a source is not assembled on a map: it has a fault, and a text tells of all its faults under
--- its name; it cannot be read; or the report would replace it. Memory may run out at any source.
-abbrev pub EndsSource : Map → List ℕ → SourceFault → Type 0
-EndsSource bus_map path (Faults fault text) = (source : List ℕ) × HasFault bus_map source fault
-    × IsToldText path source bus_map.profile (faults_of bus_map source) text.items
-EndsSource bus_map path (Other (Refused OutOfMemory)) = ⊤
-EndsSource bus_map path (Other (Refused (Read why))) = ⊤
-EndsSource bus_map path (Other Replaced) = ⊤
-EndsSource bus_map path (Other fault) = ⊥
+-- Why a suite cannot be tested: its file of rows cannot, or the source is not assembled on the map
+-- of its head.
+abbrev pub EndsFile : FileFault → Type 0
+EndsFile (InRows fault) = EndsTest fault
+EndsFile (InSource path fault) = (file : HeadedFile)
+    × EndsSourceFile (map_of file.head) (string_bytes path) fault
 
 -- Why rows are not read under some names.
-abbrev pub EndsRows : Definitions → ℕ → List (List ℕ) → TestFault → Type 0
-EndsRows names next lines (Rows fault) = rows_from names next lines ≡ Err fault
-EndsRows names next lines fault = fault ≡ Refused OutOfMemory
+abbrev pub EndsRows : ℕ → Definitions → ℕ → List (List ℕ) → TestFault → Type 0
+EndsRows steps names next lines (NotRows fault) = rows_from steps names next lines ≡ Err fault
+EndsRows steps names next lines NoRow = rows_from steps names next lines ≡ Ok []
+EndsRows steps names next lines fault = fault ≡ Refused OutOfMemory

@@ -1,50 +1,140 @@
--- What a file of rows is that was tested, and whether its rows pass. Source: mos65.
-use Rattle.std.specs.Prelude.{◌≡◌, ℕ, Bool, List, Ok, length, map}
-use Rattle.std.specs.List.{list_all}
+-- What a suite is that was tested, and what TAP tells of it. Source: mos65.
+use Rattle.std.specs.Prelude.{◌≡◌, ℕ, ◌+◌, ◌-◌, ◌^◌, ◌&&◌, min, Bool, true, false, is_none, if◌then◌else◌, List, [], ◌∷◌, ◌++◌, Option, Some, None, Ok, map, option_map}
+use Rattle.arguments.specs.Values.{base_of}
 use Rattle.assembler.specs.Assembly.{AssemblyView, IsAssembled}
+use Rattle.clap.specs.Words.{Text}
 use Rattle.model.specs.State.{Map}
 use Rattle.model.specs.TextLines.{lines_of}
+use Rattle.source_map.specs.Lines.{PlacesView, places_of}
 use Rattle.t65_reader.specs.HeadText.{SeenHead, head_from}
 use Rattle.t65_reader.specs.RowText.{SeenRow, numbered_view, rows_from}
+use Rattle.t65_reports.specs.Failures.{detail_text}
+use Rattle.t65_reports.specs.Lines.{line_at, lines_after, next_after}
+use Rattle.t65_reports.specs.Reports.{summary_text, tap_case}
+use Rattle.t65_reports.specs.declared.reports.Score.{Score}
+use Rattle.t65_runner.specs.Passes.{Pair, first_failed}
 use Rattle.t65_runner.specs.Start.{fresh}
-use Rattle.t65_runner.specs.Verdicts.{all_pass}
+use Rattle.t65.specs.Paths.{source_path}
+use Rattle.t65.specs.Suites.{SuiteAsked}
 use Rattle.t65.specs.declared.prepared.Prepared.{Prepared}
+use Rattle.t65.specs.declared.tally.Tally.{Tally}
 
 -- The map that a head asks for.
 abbrev pub map_of : SeenHead → Map
-map_of head = record { profile = head.profile; rom = head.rom; port = head.port }
+map_of head = record { profile = head.profile; rom = head.rom; port = base_of head.port }
 
--- The text of a file, its head, its source and what that is assembled to, and its rows, which are
--- read under the source's names.
-pub record TestedFile : Type 0 where
+-- The path of a suite's source: the one that the words name, or that the file of rows does.
+abbrev pub path_by : Text → Option Text → Text → Text
+path_by rows None name = source_path rows name
+path_by rows (Some source) name = source
+
+abbrev pub path_of : SuiteAsked → Text → Text
+path_of suite name = path_by suite.rows suite.source name
+
+-- The text of a file of rows, its head, the path of the source, what that is assembled to, and the
+-- rows, which are read under the source's names.
+pub record TestedFile (steps : ℕ) (suite : SuiteAsked) : Type 0 where
   pub text : List ℕ
   pub head : SeenHead
   pub next : ℕ
   pub lines : List (List ℕ)
   pub headed : head_from 1 (lines_of text) ≡ Ok (head, next, lines)
+  pub path : Text
+  pub path_is : path ≡ path_of suite head.source
   pub assembly : AssemblyView
   pub assembled : IsAssembled (map_of head) assembly
   pub rows : List (ℕ × SeenRow)
-  pub read : rows_from assembly.names next lines ≡ Ok rows
+  pub read : rows_from steps assembly.names next lines ≡ Ok rows
 
--- All rows of a file pass from the start of its source's machine.
-abbrev pub passes : TestedFile → Bool
-passes file = all_pass (fresh (map_of file.head) file.assembly.image) file.rows
+-- ---- rows on a machine
 
--- What was prepared of a file is what the file says.
-pub record IsPrepared (prepared : Prepared) : Type 0 where
-  pub file : TestedFile
-  pub map_is : map_of file.head ≡ prepared.map
-  pub image_is : file.assembly.image ≡ prepared.assembly.image
+-- A machine at its start, and what stands where in its source.
+pub record Ground : Type 0 where
+  pub bus_map : Map
+  pub image : List (Option ℕ)
+  pub places : PlacesView
+
+-- The first values for which a row fails.
+abbrev pub failure_of : Ground → SeenRow → Option Pair
+failure_of bench row = first_failed row (fresh bench.bus_map bench.image)
+
+-- Why a row fails, if it does.
+abbrev pub why : Ground → SeenRow → Option (List ℕ)
+why bench row
+    = option_map (detail_text bench.bus_map bench.image bench.places row) (failure_of bench row)
+
+-- A count, at most 2^64 - 1.
+abbrev pub plus : ℕ → ℕ → ℕ
+plus count more = min (count + more) (2 ^ 64 - 1)
+
+-- What TAP tells of rows after so many tests: of each row its line of the file, whose lines from the
+-- one with the number `next` on are left, and why it fails, if it does.
+unfoldable pub rows_text : Ground → Text → ℕ → ℕ → List (List ℕ) → List (ℕ × SeenRow) → List ℕ
+rows_text bench name count next lines [] = []
+rows_text bench name count next lines (row ∷ rows)
+    = tap_case (plus count 1) name row.0 (line_at row.0 next lines) (why bench row.1)
+    ++ rows_text bench name (plus count 1) (next_after row.0 next lines)
+    (lines_after row.0 next lines) rows
+
+-- ---- what they come to
+
+abbrev pub scored : Bool → ℕ → Score → Score
+scored true points score = record {
+  passed = plus score.passed 1;
+  failed = score.failed;
+  earned = plus score.earned points;
+  worth = plus score.worth points;
+}
+scored false points score = record {
+  passed = score.passed;
+  failed = plus score.failed 1;
+  earned = score.earned;
+  worth = plus score.worth points;
+}
+
+-- One more test, which passes or not, and is worth so many points.
+abbrev pub tally_after : Bool → ℕ → Tally → Tally
+tally_after passes points tally = record {
+  count = plus tally.count 1;
+  score = scored passes points tally.score;
+  all_pass = tally.all_pass && passes;
+}
+
+unfoldable pub tally_rows : Ground → Tally → List (ℕ × SeenRow) → Tally
+tally_rows bench tally [] = tally
+tally_rows bench tally (row ∷ rows) = tally_rows bench
+    (tally_after (is_none (failure_of bench row.1)) row.1.points tally) rows
+
+-- Before a suite, after so many tests of others.
+abbrev pub fresh_tally : ℕ → Tally
+fresh_tally count = record {
+  count = count;
+  score = record { passed = 0; failed = 0; earned = 0; worth = 0 };
+  all_pass = true;
+}
+
+abbrev pub summary_if : Bool → Text → Score → List ℕ
+summary_if is_summary name score = if is_summary then summary_text name score else []
+
+-- ---- a suite
+
+abbrev pub ground_of : (steps : ℕ) → (suite : SuiteAsked) → TestedFile steps suite → Ground
+ground_of steps suite file = record {
+  bus_map = map_of file.head;
+  image = file.assembly.image;
+  places = places_of file.path file.assembly;
+}
+
+abbrev pub ground_in : Prepared → Ground
+ground_in prepared = record {
+  bus_map = prepared.map;
+  image = prepared.assembly.image;
+  places = prepared.places;
+}
+
+-- What was prepared of a suite is what its file says.
+pub record IsPrepared (steps : ℕ) (suite : SuiteAsked) (prepared : Prepared) : Type 0 where
+  pub file : TestedFile steps suite
+  pub text_is : file.text ≡ prepared.text.items
+  pub ground_is : ground_of steps suite file ≡ ground_in prepared
   pub rows_are : file.rows ≡ map numbered_view prepared.rows.items
-
--- Some file was tested, and all of its rows pass, or not.
-pub record IsTested (all : Bool) : Type 0 where
-  pub file : TestedFile
-  pub all_is : passes file ≡ all
-
--- So many files were tested, and all of their rows pass, or not.
-pub record AreTested (count : ℕ) (all : Bool) : Type 0 where
-  pub files : List TestedFile
-  pub count_is : length files ≡ count
-  pub all_is : list_all passes files ≡ all

@@ -6,5 +6,8 @@ use Rattle.t65.specs.declared.words.TestWords.{TestWords}
 abbrev pub test_view : TestWords → TestAsked
 test_view w = record {
   files = map (λ f. f.now) w.files.items;
+  sources = map (λ f. f.now) w.sources.items;
   junit = option_map (λ f. f.now) w.junit;
+  steps = w.steps;
+  is_summary = w.is_summary;
 }

@@ -1,52 +1,192 @@
-//! Files of rows, run.
+//! Suites, run and told of one after another.
 
-ghost use Rattle.std.specs.Prelude.{◌≡◌, ◌&&◌, IfErr, IfOk, length};
-ghost use Rattle.t65_runner.specs.Start.{fresh};
-ghost use Rattle.t65_runner.specs.Verdicts.{failures, failures_view, rows_view};
-ghost use Rattle.t65.specs.Ends.{EndsTest, fault_in};
-ghost use Rattle.t65.specs.Tested.{AreTested, IsTested};
+ghost use Rattle.std.specs.Prelude.{◌≡◌, ◌++◌, ◌&&◌, ℕ, List, IfOk, OnOk, false, map};
+ghost use Rattle.std.specs.Prelude.{string_bytes};
+ghost use Rattle.std.specs.Io.KnownBytes.{Appends};
+ghost use Rattle.model.specs.TextLines.{lines_of};
+ghost use Rattle.t65_reader.specs.RowText.{numbered_view};
+ghost use Rattle.t65_reports.specs.Reports.{tap_fault};
+ghost use Rattle.t65.specs.Suites.{name_of, suite_view};
+ghost use Rattle.t65.specs.Tested.{fresh_tally, ground_in, rows_text, summary_if, tally_after};
+ghost use Rattle.t65.specs.Tested.{tally_rows};
+ghost use Rattle.t65.specs.Told.{AreRun, IsRun};
 
-use crate::fault::{FileFault, TestFault};
+use crate::fault::{FileFault, is_memory};
+use crate::fault_words::{remarks_of, title_of};
 use crate::prepared::{Prepared, prepare};
-use crate::telling::tell_file;
-use arguments::Refusal;
-use debugger::Session;
-use std::alloc::Global;
+use crate::report::Report;
+use crate::rows::{Told, run_rows, write_told};
+use crate::stop::Stop;
+use crate::suites::Suite;
+use crate::tally::{Tally, fresh_tally, tally_after};
+use arguments::write_text;
+use std::alloc::{AllocError, Global};
+use std::io::{Seek, Write};
 use std::rt::Files;
-use t65_reports::Reports;
-use t65_runner::{HISTORY, Pair, all_pass, judge};
+use t65_reports::{Score, junit_fault, summary, tap_fault};
 
-/// Runs the rows of a file from the start of its source's machine.
-fn judged(alloc: Global, file: &Prepared) -> Result<Vec<Option<Pair>>, TestFault>
-    ensures failed { IfOk result (λ found. failures_view found.items ≡ failures
-        (fresh file.now.map file.now.assembly.image) (rows_view file.now.rows.items)) }
-    ensures refused { IfErr result EndsTest }
-{
-    let image = file.assembly.image();
-    let Ok(mut session) = Session::new(alloc, file.map, image, HISTORY) else {
-        return Err(TestFault::Refused(Refusal::OutOfMemory));
-    };
-    judge(alloc, &mut session, file.map, image, &file.rows).map_err(|_| TestFault::Refused(
-        Refusal::OutOfMemory,
-    ))
+/// How rows are run and told of.
+#[derive(Clone, Copy)]
+pub struct Manner {
+    /// The most steps of a call.
+    pub steps: u32,
+    /// Whether a line sums up each suite.
+    pub is_summary: bool,
 }
 
-/// Runs a file and tells of its rows. Returns whether all of them pass.
-fn run_file<H: Files + AllocGlobal>(
-    rt: &H,
-    file: &str,
-    report: Option<&str>,
-    reports: &mut Reports,
-) -> Result<bool, FileFault>
-    ensures tested { IfOk result IsTested }
-    ensures refused { IfErr result (λ fault. EndsTest (fault_in fault)) }
+/// Writes the line that sums up a suite, if there is to be one.
+fn write_summary<O: Write>(
+    alloc: Global,
+    is_summary: bool,
+    name: &str,
+    score: Score,
+    output: &mut O,
+) -> Result<(), Stop>
+    ensures { OnOk result (Appends (O.contents output.old) (O.contents output.new)
+        (summary_if is_summary name.now score)) }
 {
-    let readied = prepare(rt, file, report)?;
-    let found = judged(rt.alloc(), &readied)?;
-    match tell_file(rt.alloc(), reports, file, &readied, &found) {
-        Ok(()) => Ok(all_pass(&found)),
-        Err(_) => Err(FileFault::InRows(TestFault::Refused(Refusal::OutOfMemory))),
+    if !is_summary {
+        return Ok(());
     }
+    let line = summary(alloc, name, score)?;
+    write_text(output, line.as_bytes())?;
+    Ok(())
+}
+
+/// Runs the rows of a suite that was prepared, after so many tests, and sums them up.
+fn run_tested<O: Write, F: Write + Seek + Drop>(
+    alloc: Global,
+    prepared: &Prepared,
+    is_summary: bool,
+    name: &str,
+    count: u64,
+    output: &mut O,
+    report: &mut Report<F>,
+) -> Result<Tally, Stop>
+    ensures tally { IfOk result (λ tally. tally ≡ tally_rows (ground_in prepared.now)
+        (fresh_tally count) (map numbered_view prepared.now.rows.items)) }
+    ensures written { IfOk result (λ tally. Appends (O.contents output.old) (O.contents output.new)
+        (rows_text (ground_in prepared.now) name.now count 1
+        (lines_of prepared.now.text.items) (map numbered_view prepared.now.rows.items)
+        ++ summary_if is_summary name.now tally.score)) }
+{
+    report.begin_suite(alloc, name, prepared.rows.len())?;
+    let tally = run_rows(alloc, prepared, name, fresh_tally(count), output, report)?;
+    report.end_suite();
+    write_summary(alloc, is_summary, name, tally.score, output)?;
+    Ok(tally)
+}
+
+/// Returns what is told of a suite that cannot be tested, by the number of that test among all.
+fn untested(
+    alloc: Global,
+    number: u64,
+    suite: Suite<'_>,
+    fault: &FileFault,
+) -> Result<Told, AllocError>
+    ensures tap { IfOk result (λ told. (title : List ℕ) × (remarks : List ℕ)
+        × (string_bytes told.tap
+        ≡ tap_fault number (name_of (suite_view suite.entry)) title remarks)) }
+{
+    let title = title_of(alloc, fault)?;
+    let remarks = remarks_of(alloc, suite.rows, fault)?;
+    Ok(Told {
+        tap: tap_fault(alloc, number, suite.name(), &title, &remarks)?,
+        junit: junit_fault(alloc, suite.name(), &title, &remarks)?,
+        passes: false,
+    })
+}
+
+/// Tells of a suite that cannot be tested, after so many tests: as a test that fails.
+fn run_untested<O: Write, F: Write + Seek + Drop>(
+    alloc: Global,
+    suite: Suite<'_>,
+    is_summary: bool,
+    count: u64,
+    fault: &FileFault,
+    output: &mut O,
+    report: &mut Report<F>,
+) -> Result<Tally, Stop>
+    ensures tally { IfOk result (λ tally. tally ≡ tally_after false 0 (fresh_tally count)) }
+    ensures written { IfOk result (λ tally. (title : List ℕ) × (remarks : List ℕ)
+        × Appends (O.contents output.old) (O.contents output.new)
+        (tap_fault tally.count (name_of (suite_view suite.entry)) title remarks
+        ++ summary_if is_summary (name_of (suite_view suite.entry)) tally.score)) }
+{
+    let tally = tally_after(false, 0, fresh_tally(count));
+    let told = untested(alloc, tally.count, suite, fault)?;
+    report.begin_suite(alloc, suite.name(), 1)?;
+    write_told(alloc, suite.name(), &told, output, report)?;
+    report.end_suite();
+    write_summary(alloc, is_summary, suite.name(), tally.score, output)?;
+    Ok(tally)
+}
+
+/// Runs a suite after so many tests. Its texts are written, and the output is flushed, test by
+/// test.
+fn run_suite<H: Files + AllocGlobal, O: Write>(
+    rt: &H,
+    suite: Suite<'_>,
+    manner: Manner,
+    count: u64,
+    output: &mut O,
+    report: &mut Report<H::File>,
+) -> Result<Tally, Stop>
+    ensures { IfOk result (IsRun manner (suite_view suite.entry) count (O.contents output.old)
+        (O.contents output.new)) }
+{
+    let alloc = rt.alloc();
+    let is_summary = manner.is_summary;
+    match prepare(rt, suite, manner.steps) {
+        Ok(prepared) => {
+            run_tested(
+                alloc,
+                &prepared,
+                is_summary,
+                suite.name(),
+                count,
+                output,
+                report,
+            )
+        }
+        Err(fault) => {
+            if is_memory(&fault) {
+                return Err(Stop::OutOfMemory);
+            }
+            run_untested(alloc, suite, is_summary, count, &fault, output, report)
+        }
+    }
+}
+
+/// Runs suites, each on its source, and tells of their tests as they end. Returns how many tests
+/// there are, and whether all pass.
+///
+/// # Errors
+///
+/// `OutOfMemory` if an allocation fails, `Output` and `Report` if these cannot be written. What
+/// cannot be read or assembled is a test that fails, and the other suites are run.
+pub fn run_suites<H: Files + AllocGlobal, O: Write>(
+    rt: &H,
+    suites: &[Suite<'_>],
+    manner: Manner,
+    output: &mut O,
+    report: &mut Report<H::File>,
+) -> Result<(u64, bool), Stop>
+    ensures { IfOk result (λ end. AreRun manner (map suite_view suites.now)
+        (O.contents output.old) (O.contents output.new) end.0 end.1) }
+{
+    let mut count = 0u64;
+    let mut all_pass = true;
+    for index in 0..suites.len() {
+        match run_suite(rt, suites[index], manner, count, output, report) {
+            Ok(tally) => {
+                count = tally.count;
+                all_pass = both(all_pass, tally.all_pass);
+            }
+            Err(stop) => return Err(stop),
+        }
+    }
+    Ok((count, all_pass))
 }
 
 /// Returns whether both hold.
@@ -54,31 +194,4 @@ fn both(first: bool, second: bool) -> bool
     ensures { result ≡ (first && second) }
 {
     first && second
-}
-
-/// Runs files of rows, each on the machine of the source that it names, and tells of their rows.
-/// Returns whether all rows pass.
-///
-/// # Errors
-///
-/// The index of the first file that cannot be tested, and why. A report is written by none of this,
-/// but where it would replace a file that is read, that file is not tested.
-#[tactic(auto, using(crate::proofs::Facts::none_tested, crate::proofs::Facts::one_more, crate::proofs::Facts::all_tested))]
-pub fn run_files<H: Files + AllocGlobal>(
-    rt: &H,
-    files: &[&str],
-    report: Option<&str>,
-    reports: &mut Reports,
-) -> Result<bool, (usize, FileFault)>
-    ensures tested { IfOk result (λ all. AreTested (length files.entry.now) all) }
-    ensures refused { IfErr result (λ refused. EndsTest (fault_in refused.1)) }
-{
-    let mut all = true;
-    for index in 0..files.len() {
-        match run_file(rt, files[index], report, reports) {
-            Ok(passes) => all = both(passes, all),
-            Err(fault) => return Err((index, fault)),
-        }
-    }
-    Ok(all)
 }

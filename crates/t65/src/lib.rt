@@ -1,19 +1,25 @@
 //! The word `test`: routines tested by files of rows.
 //!
-//! `test` serves the word, `test_command` is its command line, and `run_files` runs the files.
-//! `specs/Tested.antt` says what a file is that was tested; which bytes a file has, no clause can
+//! `test` serves the word, and `test_command` is its command line. Suites are run one after
+//! another, and each test is told of when it has ended. `specs/Told.antt` says what TAP tells of
+//! suites, and `specs/Tested.antt` what it tells of rows; which bytes a file has, no clause can
 //! say.
 #![tactic(auto)]
 
 mod fault;
+mod fault_words;
 mod files;
 mod names;
 mod prepared;
+mod replaced;
+mod report;
+mod rows;
 mod run;
-mod telling;
+mod stop;
+mod suites;
+mod tally;
 mod words;
 
 pub use fault::{FileFault, TestFault};
-pub use files::run_files;
 pub use run::test;
 pub use words::test_command;

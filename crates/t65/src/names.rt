@@ -1,11 +1,15 @@
 //! Files by their names.
 
-ghost use Rattle.std.specs.Prelude.{◌≡◌, ◌≤◌, ◌⊎◌, ◌++◌, IfErr, IfOk, length, string_bytes, vec_len};
+ghost use Rattle.std.specs.Prelude.{◌≡◌, ◌≤◌, ◌⊎◌, ◌++◌, IfErr, IfOk, length, string_bytes};
+ghost use Rattle.std.specs.Prelude.{vec_len};
 ghost use Rattle.std.specs.Str.{IsUtf8};
 ghost use Rattle.t65.specs.Ends.{EndsTest};
 ghost use Rattle.t65.specs.Paths.{begins_at_root, folder_for, name_start, source_path};
+ghost use Rattle.t65.specs.Suites.{suite_view};
+ghost use Rattle.t65.specs.Tested.{path_of};
 
 use crate::fault::TestFault;
+use crate::suites::Suite;
 use arguments::{ReadFault, Refusal, read_most};
 use std::alloc::{AllocError, Global};
 use std::rt::Files;
@@ -77,7 +81,7 @@ fn joined(alloc: Global, front: &[u8], back: &[u8]) -> Result<Vec<u8>, AllocErro
 /// not begin with `/`.
 ///
 /// Errors: `Read` if the name is no text of UTF-8; `OutOfMemory`.
-pub fn source_path(alloc: Global, file: &str, name: &[u8]) -> Result<String, TestFault>
+fn source_path(alloc: Global, file: &str, name: &[u8]) -> Result<String, TestFault>
     ensures path { IfOk result (λ path. string_bytes path ≡ source_path file.now name.now) }
     ensures fault { IfErr result (λ fault. (fault ≡ TestFault.Refused Refusal.OutOfMemory)
         ⊎ ((fault ≡ TestFault.Refused (Refusal.Read ReadFault.Other))
@@ -89,6 +93,33 @@ pub fn source_path(alloc: Global, file: &str, name: &[u8]) -> Result<String, Tes
         Ok(path) => String::from_utf8(path).map_err(|_| TestFault::Refused(Refusal::Read(
             ReadFault::Other,
         ))),
+        Err(_) => Err(TestFault::Refused(Refusal::OutOfMemory)),
+    }
+}
+
+/// Returns the path of a suite's source: the one that the words name, or that the file of rows does
+/// by this name.
+///
+/// Errors: those of `source_path`.
+pub fn path_of(alloc: Global, suite: Suite<'_>, name: &[u8]) -> Result<String, TestFault>
+    ensures path { IfOk result
+        (λ path. string_bytes path ≡ path_of (suite_view suite.entry) name.now) }
+    ensures refused { IfErr result EndsTest }
+{
+    match suite.source {
+        None => source_path(alloc, suite.rows, name),
+        Some(source) => copied(alloc, source),
+    }
+}
+
+/// Returns a text that is there already.
+pub fn copied(alloc: Global, text: &str) -> Result<String, TestFault>
+    ensures copied { IfOk result (λ copy. string_bytes copy ≡ text.now) }
+    ensures refused { IfErr result (λ fault. fault ≡ TestFault.Refused Refusal.OutOfMemory) }
+{
+    let mut copy = String::new(alloc);
+    match copy.push_str(text) {
+        Ok(()) => Ok(copy),
         Err(_) => Err(TestFault::Refused(Refusal::OutOfMemory)),
     }
 }

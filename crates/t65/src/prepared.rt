@@ -1,30 +1,33 @@
-//! A file of rows with its source, read.
+//! A suite read: its rows, its source assembled, and the places of that.
 
-ghost use Rattle.std.specs.Prelude.{◌≡◌, ◌≤◌, ◌<◌, ◌+◌, ◌∷◌, [], IfErr, IfOk, Ok, false, length};
-ghost use Rattle.std.specs.Prelude.{◌⊎◌, map, option_map};
-ghost use Rattle.assembler.specs.Assembly.{IsAssembled, out_of_memory};
-ghost use Rattle.model.specs.Source.{HasFault};
+ghost use Rattle.std.specs.Prelude.{◌≡◌, ◌≤◌, ◌<◌, ◌+◌, [], IfErr, IfOk, Ok, Some, false, length};
+ghost use Rattle.std.specs.Prelude.{map, string_bytes};
+ghost use Rattle.arguments.specs.Values.{base_of};
+ghost use Rattle.assembler.specs.Assembly.{IsAssembled};
+ghost use Rattle.loading.specs.Loads.{EndsSourceFile};
 ghost use Rattle.model.specs.State.{is_map};
 ghost use Rattle.model.specs.TextLines.{lines_of};
+ghost use Rattle.source_map.specs.Lines.{places_of};
 ghost use Rattle.t65_reader.specs.HeadText.{head_from, head_view};
 ghost use Rattle.t65_reader.specs.RowText.{numbered_view, rows_from};
-ghost use Rattle.t65.specs.Ends.{EndsRows, EndsSource, EndsTest, fault_in};
+ghost use Rattle.t65.specs.Ends.{EndsFile, EndsRows, EndsTest};
+ghost use Rattle.t65.specs.Suites.{suite_view};
 ghost use Rattle.t65.specs.Tested.{IsPrepared, map_of};
-ghost use Rattle.t65.specs.Asked.{replaces};
 
-use crate::fault::{FileFault, SourceFault, TestFault};
-use crate::names::{read_rows_text, source_path};
-use arguments::{Refusal, is_one_file, read_source};
+use crate::fault::{FileFault, TestFault};
+use crate::names::{path_of, read_rows_text};
+use crate::suites::Suite;
+use arguments::{LoadFault, Refusal, read_source};
 use assembler::{Assembly, assemble};
-use fault_notes::told_faults;
-use memory_map::MapSpec;
-use model::{AsmFault, BusFault};
+use loading::faults_of;
+use memory_map::{MapSpec, Port};
+use model::BusFault;
 use source_map::Places;
 use std::alloc::Global;
 use std::rt::Files;
 use t65_reader::{Head, Opened, Row, RowFaultKind, read_head, read_rows};
 
-/// A file of rows, its source assembled, and its rows.
+/// A file of rows, the source assembled, and the rows, one at least.
 #[derive(Drop)]
 pub struct Prepared {
     pub text: Vec<u8>,
@@ -34,33 +37,25 @@ pub struct Prepared {
     pub places: Places,
 }
 
+/// Returns the port with a base, or none.
+fn port_at(base: Option<u16>) -> Port
+    ensures { result ≡ base_of base }
+{
+    match base {
+        Some(base) => Port::based(base),
+        None => Port::none(),
+    }
+}
+
 /// Returns the map that a head asks for.
 fn map_of(head: Head<'_>) -> Result<MapSpec, TestFault>
     ensures map { IfOk result (λ map. map ≡ map_of (head_view head.entry)) }
     ensures none { IfErr result (λ fault. (fault ≡ TestFault.Refused (Refusal.Map BusFault.BadMap))
-        × (is_map (head_view head.entry).rom (head_view head.entry).port ≡ false)) }
+        × (is_map (head_view head.entry).rom (base_of (head_view head.entry).port) ≡ false)) }
 {
-    arguments::map_of(head.profile, head.rom, head.port).map_err(|fault| TestFault::Refused(
-        Refusal::Map(fault),
-    ))
-}
-
-/// Returns why a source is refused that has a fault: all its faults, or that memory ran out.
-#[tactic(auto, using(crate::proofs::Ends::told_ends))]
-fn faults_of(
-    alloc: Global,
-    path: &str,
-    source: &[u8],
-    map: &MapSpec,
-    fault: AsmFault,
-) -> SourceFault
-    requires { (fault ≡ out_of_memory) ⊎ HasFault map.now source.now fault }
-    ensures { EndsSource map.now path.now result }
-{
-    match told_faults(alloc, path.as_bytes(), source, map, fault) {
-        Some(text) => SourceFault::Faults { fault, text },
-        None => SourceFault::from(Refusal::OutOfMemory),
-    }
+    arguments::map_of(head.profile, head.rom, port_at(head.port)).map_err(
+        |fault| TestFault::Refused(Refusal::Map(fault)),
+    )
 }
 
 /// Returns the source of a file, assembled.
@@ -71,9 +66,9 @@ fn assembled_file<H: Files + AllocGlobal>(
     rt: &H,
     path: &str,
     map: &MapSpec,
-) -> Result<Assembly, SourceFault>
+) -> Result<Assembly, LoadFault>
     ensures assembled { IfOk result (IsAssembled map.now) }
-    ensures refused { IfErr result (EndsSource map.now path.now) }
+    ensures refused { IfErr result (EndsSourceFile map.now path.now) }
 {
     let source = read_source(rt, path)?;
     match assemble(rt.alloc(), &source, map) {
@@ -89,14 +84,15 @@ fn assembled<H: Files + AllocGlobal>(
     rt: &H,
     path: &str,
     map: &MapSpec,
-) -> Result<(Assembly, Places), SourceFault>
+) -> Result<(Assembly, Places), LoadFault>
     ensures assembled { IfOk result (λ found. IsAssembled map.now found.0) }
-    ensures refused { IfErr result (EndsSource map.now path.now) }
+    ensures places { IfOk result (λ found. found.1 ≡ places_of path.now found.0) }
+    ensures refused { IfErr result (EndsSourceFile map.now path.now) }
 {
     let assembly = assembled_file(rt, path, map)?;
     match Places::of_source(rt.alloc(), path.as_bytes(), &assembly) {
         Ok(places) => Ok((assembly, places)),
-        Err(_) => Err(SourceFault::from(Refusal::OutOfMemory)),
+        Err(_) => Err(LoadFault::Refused(Refusal::OutOfMemory)),
     }
 }
 
@@ -113,81 +109,51 @@ fn opened_in(text: &[u8]) -> Result<Opened<'_>, TestFault>
     read_head(text).map_err(TestFault::Rows)
 }
 
-/// Returns the rows of a text, under the names of a source.
+/// Returns the rows of a text, one at least, under the names of a source.
 fn rows_in(
     alloc: Global,
     names: &Assembly,
     first: u32,
+    steps: u32,
     text: &[u8],
 ) -> Result<Vec<(u32, Row)>, TestFault>
     requires { first + length text.now < 4294967296 }
-    ensures rows { IfOk result (λ rows. rows_from names.now.names first (lines_of text.now)
+    ensures rows { IfOk result (λ rows. rows_from steps names.now.names first (lines_of text.now)
         ≡ Ok (map numbered_view rows.items)) }
-    ensures refused { IfErr result (EndsRows names.now.names first (lines_of text.now)) }
+    ensures refused { IfErr result (EndsRows steps names.now.names first (lines_of text.now)) }
 {
-    read_rows(alloc, names, first, text).map_err(|fault| match fault.kind {
-        RowFaultKind::OutOfMemory => TestFault::Refused(Refusal::OutOfMemory),
-        _ => TestFault::Rows(fault),
-    })
-}
-
-/// Lets go on where the report is not to replace a file that is read.
-///
-/// Errors: `Replaced` if both are one file.
-fn spare<H: Files>(rt: &H, path: &str, report: Option<&str>) -> Result<(), TestFault>
-    ensures spared { IfOk result
-        (λ _. replaces (option_map (λ f. f.now) report.entry) (path.now ∷ []) ≡ false) }
-    ensures refused { IfErr result (λ fault. fault ≡ TestFault.Replaced) }
-{
-    match report {
-        None => Ok(()),
-        Some(report) => {
-            if is_one_file(rt, path, report) {
-                return Err(TestFault::Replaced);
+    match read_rows(alloc, names, first, steps, text) {
+        Ok(rows) => {
+            if rows.is_empty() {
+                Err(TestFault::NoRow)
+            } else {
+                Ok(rows)
             }
-            Ok(())
         }
+        Err(fault) => match fault.kind {
+            RowFaultKind::OutOfMemory => Err(TestFault::Refused(Refusal::OutOfMemory)),
+            _ => Err(TestFault::Rows(fault)),
+        },
     }
 }
 
-/// Returns the source that a file of rows names, assembled, and its places.
-///
-/// Errors: those of `assembled`; `Replaced` if the report would replace the source.
-fn assembled_for<H: Files + AllocGlobal>(
-    rt: &H,
-    path: &str,
-    map: &MapSpec,
-    report: Option<&str>,
-) -> Result<(Assembly, Places), SourceFault>
-    ensures assembled { IfOk result (λ found. IsAssembled map.now found.0) }
-    ensures spared { IfOk result
-        (λ _. replaces (option_map (λ f. f.now) report.entry) (path.now ∷ []) ≡ false) }
-    ensures refused { IfErr result (EndsSource map.now path.now) }
-{
-    spare(rt, path, report)?;
-    let found = assembled(rt, path, map)?;
-    Ok(found)
-}
-
-/// Reads a file of rows, assembles the source that it names, and reads its rows under the names of
-/// the source. Neither of the two is the report's file.
-#[tactic(auto, using(crate::proofs::Facts::ready, crate::proofs::Ends::map_ends, crate::proofs::Ends::source_ends, crate::proofs::Ends::rows_end))]
+/// Reads the rows of a suite, and assembles its source.
+#[tactic(auto, using(crate::proofs::Ends::map_ends))]
 pub fn prepare<H: Files + AllocGlobal>(
     rt: &H,
-    file: &str,
-    report: Option<&str>,
+    suite: Suite<'_>,
+    steps: u32,
 ) -> Result<Prepared, FileFault>
-    ensures prepared { IfOk result IsPrepared }
-    ensures refused { IfErr result (λ fault. EndsTest (fault_in fault)) }
+    ensures prepared { IfOk result (IsPrepared steps (suite_view suite.entry)) }
+    ensures refused { IfErr result EndsFile }
 {
-    spare(rt, file, report)?;
-    let text = read_rows_text(rt, file)?;
+    let text = read_rows_text(rt, suite.rows)?;
     let opened = opened_in(&text)?;
     let map = map_of(opened.head)?;
-    let path = source_path(rt.alloc(), file, opened.head.source)?;
-    match assembled_for(rt, &path, &map, report) {
+    let path = path_of(rt.alloc(), suite, opened.head.source)?;
+    match assembled(rt, &path, &map) {
         Ok((assembly, places)) => {
-            let rows = rows_in(rt.alloc(), &assembly, opened.next, opened.rest)?;
+            let rows = rows_in(rt.alloc(), &assembly, opened.next, steps, opened.rest)?;
             Ok(Prepared {
                 text,
                 map,

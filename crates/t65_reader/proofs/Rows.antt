@@ -15,15 +15,15 @@ unfolding rows_after
 row_pushed front number row (Ok rows) = ap (λ (x : List (ℕ × SeenRow)). Ok x) (sym (append_assoc front ((number, row) ∷ []) rows))
 row_pushed front number row (Err fault) = refl
 
-pub line_more : (names : Definitions) (number : ℕ) (line : List ℕ) (lines : List (List ℕ)) → rows_from names number (line ∷ lines) ≡ line_before number line (line_of names line) (rows_from names (number + 1) lines)
+pub line_more : (steps : ℕ) (names : Definitions) (number : ℕ) (line : List ℕ) (lines : List (List ℕ)) → rows_from steps names number (line ∷ lines) ≡ line_before number line (line_of steps names line) (rows_from steps names (number + 1) lines)
 unfolding rows_from
-line_more names number line lines = refl
+line_more steps names number line lines = refl
 
 pub after_fault : (front : List (ℕ × SeenRow)) (rows : Rows) (fault : TextFault) → rows ≡ Err fault → rows_after front rows ≡ Err fault
 unfolding rows_after
 after_fault front rows fault h = rw h refl
 
-pub at_end : (names : Definitions) (number : ℕ) (front : List (ℕ × SeenRow)) (text : List ℕ) → length text ≡ 0 → rows_after front (rows_from names number (lines_of text)) ≡ Ok front
+pub at_end : (steps : ℕ) (names : Definitions) (number : ℕ) (front : List (ℕ × SeenRow)) (text : List ℕ) → length text ≡ 0 → rows_after front (rows_from steps names number (lines_of text)) ≡ Ok front
 unfolding rows_from rows_after lines_from
-at_end names number front (b ∷ text) h = absurd (omega arith)
-at_end names number front [] h = ap (λ (x : List (ℕ × SeenRow)). Ok x) (append-nil front)
+at_end steps names number front (b ∷ text) h = absurd (omega arith)
+at_end steps names number front [] h = ap (λ (x : List (ℕ × SeenRow)). Ok x) (append-nil front)

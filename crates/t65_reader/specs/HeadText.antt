@@ -16,7 +16,7 @@ pub record SeenHead : Type 0 where
   pub source : List ℕ
   pub profile : Profile
   pub rom : Option (ℕ × ℕ)
-  pub port : ℕ
+  pub port : Option ℕ
 
 -- A name of a file as it is written without `"`: no blank, no `;`, no `"` and no control byte.
 abbrev pub is_name_byte : ℕ → Bool
@@ -41,10 +41,12 @@ profile_of head text =
     else if bytes_eq (word_of text) (codes "C") then Ok (record head { profile = profile.C }, after_word text)
     else Err (fault_at Syntax text)
 
--- The first of the port's four addresses.
+-- The first of the port's four addresses, or no port.
 unfoldable pub port_of : SeenHead → List ℕ → Reads SeenHead
-port_of head text
-    = and_then (number_of Hex text) (λ port rest. Ok (record head { port = port }, rest))
+port_of head text =
+    if bytes_eq (word_of text) (codes "none")
+    then Ok (record head { port = None }, after_word text)
+    else and_then (number_of Hex text) (λ base rest. Ok (record head { port = Some base }, rest))
 
 -- The first and the last address of the ROM.
 unfoldable pub rom_of : SeenHead → List ℕ → Reads SeenHead
@@ -66,7 +68,7 @@ option_of head text =
 
 -- A machine of profile N without ROM, with the port at $F000.
 abbrev pub plain_head : List ℕ → SeenHead
-plain_head source = record { source = source; profile = profile.N; rom = None; port = 61440 }
+plain_head source = record { source = source; profile = profile.N; rom = None; port = Some 61440 }
 
 -- What was read is all of a line.
 abbrev pub then_ends : Reads SeenHead → Result SeenHead RowFault

@@ -322,10 +322,19 @@ item_by names letters side place text (Some relation) = if fits side place relat
     then and_then (value_of names letters (base_of place) (skip_blanks (drop 1 text))) (one_item place relation)
     else Err (fault_at Syntax text)
 
--- Bytes of memory: a value or a string.
+-- What stands after an address and `.`: `w`, and what the two bytes from there on are given or
+-- compared with.
+unfoldable pub word_item : Definitions → Letters → Side → ℕ → List ℕ → Items
+word_item names letters side address text = if bytes_eq (word_of text) (codes "w")
+    then item_by names letters side (place.Word address) (after_word text)
+    (relation_at (after_word text))
+    else Err (fault_at Syntax text)
+
+-- Bytes of memory: a value, a value of two bytes, or a string.
 unfoldable pub memory_item : Definitions → Letters → Side → ℕ → List ℕ → Items
 memory_item names letters side address text =
-    if is_next (byte "=") text && is_next 34 (skip_blanks (drop 1 text))
+    if is_next (byte ".") text then word_item names letters side address (skip_blanks (drop 1 text))
+    else if is_next (byte "=") text && is_next 34 (skip_blanks (drop 1 text))
     then string_at InMemory address (skip_blanks (drop 1 text))
     else item_by names letters side (place.Byte address) text (relation_at text)
 
@@ -406,6 +415,12 @@ pub record SeenRow : Type 0 where
   pub address : ℕ
   pub given : List Item
   pub wanted : List Item
+  pub steps : ℕ
+  pub points : ℕ
+
+-- The most steps of a call, where nothing else is asked for. Source: mos65.
+abbrev pub most_steps : ℕ
+most_steps = 10000000
 
 abbrev pub letter_of : Option Range → Option ℕ
 letter_of None = None
@@ -425,7 +440,18 @@ call_of names first second text = without_rest (
     and_then (items_of names (letters_of first second) Given rest) (λ given rest.
     and_then (items_of names (letters_of first second) Wanted (skip_blanks (drop 2 rest)))
     (λ wanted rest.
-    Ok (record { first = first; second = second; address = address; given = given; wanted = wanted }, rest)))))
+    Ok (
+      record {
+        first = first;
+        second = second;
+        address = address;
+        given = given;
+        wanted = wanted;
+        steps = most_steps;
+        points = 1;
+      },
+      rest,
+    )))))
 
 abbrev pub called_of : Definitions → Option Range → Option Range → List ℕ → Result SeenRow RowFault
 called_of names first second text = if bytes_eq (word_of text) (codes "call")
@@ -489,19 +515,40 @@ unfoldable pub row_of : Definitions → List ℕ → Result SeenRow RowFault
 row_of names text = if bytes_eq (word_of text) (codes "all")
     then all_of names (ranges_of (after_word text)) else called_of names None None text
 
-abbrev pub some_row : Result SeenRow RowFault → Result (Option SeenRow) RowFault
-some_row (Ok row) = Ok (Some row)
-some_row (Err fault) = Err fault
+-- A row that is worth so many points.
+abbrev pub worth : ℕ → Result SeenRow RowFault → Result SeenRow RowFault
+worth points (Ok row) = Ok (record row { points = points })
+worth points (Err fault) = Err fault
 
-abbrev pub line_at : Definitions → List ℕ → Result (Option SeenRow) RowFault
-line_at names text =
+abbrev pub worth_by : Definitions → Reads ℕ → Result SeenRow RowFault
+worth_by names (Ok read) = worth read.0 (row_of names read.1)
+worth_by names (Err fault) = Err fault
+
+abbrev pub decimal_after : Result (List ℕ) RowFault → Reads ℕ
+decimal_after (Ok rest) = number_of Decimal rest
+decimal_after (Err fault) = Err fault
+
+-- A row, and `points=` with a decimal number before it: otherwise it is worth one point.
+unfoldable pub pointed_row_of : Definitions → List ℕ → Result SeenRow RowFault
+pointed_row_of names text = if bytes_eq (word_of text) (codes "points")
+    then worth_by names (decimal_after (after_sign (byte "=") (after_word text)))
+    else row_of names text
+
+-- A row whose calls have so many steps at most.
+abbrev pub some_row : ℕ → Result SeenRow RowFault → Result (Option SeenRow) RowFault
+some_row steps (Ok row) = Ok (Some (record row { steps = steps }))
+some_row steps (Err fault) = Err fault
+
+abbrev pub line_at : ℕ → Definitions → List ℕ → Result (Option SeenRow) RowFault
+line_at steps names text =
     if ends text then Ok None
     else if bytes_eq (word_of text) (codes "source") then Err (fault_at SecondSource text)
-    else some_row (row_of names text)
+    else some_row steps (pointed_row_of names text)
 
--- What a line says after the one that names the source: nothing, or a row.
-unfoldable pub line_of : Definitions → List ℕ → Result (Option SeenRow) RowFault
-line_of names line = line_at names (skip_blanks line)
+-- What a line says after the one that names the source: nothing, or a row, whose calls have so many
+-- steps at most.
+unfoldable pub line_of : ℕ → Definitions → List ℕ → Result (Option SeenRow) RowFault
+line_of steps names line = line_at steps names (skip_blanks line)
 
 -- ---- all lines
 
@@ -523,10 +570,10 @@ line_before number line (Err fault) rows = Err (record {
   kind = fault.kind;
 })
 
-unfoldable pub rows_from : Definitions → ℕ → List (List ℕ) → Rows
-rows_from names number [] = Ok []
-rows_from names number (line ∷ lines) =
-    line_before number line (line_of names line) (rows_from names (number + 1) lines)
+unfoldable pub rows_from : ℕ → Definitions → ℕ → List (List ℕ) → Rows
+rows_from steps names number [] = Ok []
+rows_from steps names number (line ∷ lines) = line_before number line (line_of steps names line)
+    (rows_from steps names (number + 1) lines)
 
 -- A row as the code keeps it.
 abbrev pub row_view : Row → SeenRow
@@ -536,6 +583,8 @@ row_view row = record {
   address = row.address;
   given = row.given.items;
   wanted = row.wanted.items;
+  steps = row.steps;
+  points = row.points;
 }
 
 abbrev pub numbered_view : ℕ × Row → ℕ × SeenRow

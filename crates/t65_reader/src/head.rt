@@ -27,8 +27,8 @@ pub struct Head<'a> {
     pub profile: Profile,
     /// The first and the last address of the ROM, if there is one.
     pub rom: Option<(u16, u16)>,
-    /// The first of the port's four addresses.
-    pub port: u16,
+    /// The first of the port's four addresses, or no port.
+    pub port: Option<u16>,
 }
 
 /// A test file whose head was read.
@@ -84,14 +84,19 @@ fn profile_of<'a>(head: Head<'a>, text: &'a [u8]) -> Result<(Head<'a>, &'a [u8])
     Ok((Head { profile, ..head }, after_word(text)))
 }
 
-/// Reads the port's first address.
+/// Reads the port's first address, or `none`.
 #[tactic(auto, unfolding(crate::specs::HeadText::port_of))]
 fn port_of<'a>(head: Head<'a>, text: &'a [u8]) -> Result<(Head<'a>, &'a [u8]), RowFault>
     ensures ok { IfOk result (λ p. port_of (head_view head.entry) text.now
         ≡ Ok (head_view p.0, p.1.now)) }
     ensures err { IfErr result (λ fault. port_of (head_view head.entry) text.now ≡ Err fault) }
 {
-    let (port, rest) = hex_of(text)?;
+    if is_text(word_of(text), b"none") {
+        let port = None;
+        return Ok((Head { port, ..head }, after_word(text)));
+    }
+    let (base, rest) = hex_of(text)?;
+    let port = Some(base);
     Ok((Head { port, ..head }, rest))
 }
 
@@ -160,7 +165,7 @@ fn head_of(text: &[u8]) -> Result<Head<'_>, RowFault>
         source,
         profile: Profile::N,
         rom: None,
-        port: 0xf000,
+        port: Some(0xf000),
     };
     options_of(plain, rest)
 }

@@ -9,7 +9,7 @@ ghost use Rattle.t65_reader.specs.RowText.{items_of, items_within, just, letter_
 ghost use Rattle.t65_reader.specs.RowText.{place_in, place_item, place_of, relation_at, relation_of};
 ghost use Rattle.t65_reader.specs.RowText.{string_after, string_at, string_items, string_of};
 ghost use Rattle.t65_reader.specs.RowText.{string_place, string_word, is_over, letter_in};
-ghost use Rattle.t65_reader.specs.RowText.{word_of};
+ghost use Rattle.t65_reader.specs.RowText.{word_item, word_of};
 ghost use Rattle.t65_reader.specs.declared.row.Item.{Item as SeenItem};
 
 use crate::fault::{Base, RowFault, RowFaultKind};
@@ -273,7 +273,37 @@ fn item_by<'a>(
     }
 }
 
-/// Reads bytes of memory: a value or a string.
+/// Reads what stands after an address and a `.`: `w`, and a value of two bytes.
+#[tactic(auto, unfolding(crate::specs::RowText::word_item))]
+fn word_item<'a>(
+    found: &mut Vec<Item>,
+    names: &Assembly,
+    letters: Letters,
+    side: Side,
+    address: u16,
+    text: &'a [u8],
+) -> Result<&'a [u8], RowFault>
+    ensures ok { IfOk result (λ rest. before found.old.items
+        (word_item names.now.names letters side address text.now)
+        ≡ Ok (found.new.items, rest.now)) }
+    ensures err { IfErr result (λ fault. fault.kind ≢ RowFaultKind.OutOfMemory
+        → word_item names.now.names letters side address text.now ≡ Err fault) }
+{
+    if is_text(word_of(text), b"w") {
+        item_by(
+            found,
+            names,
+            letters,
+            side,
+            Place::Word(address),
+            after_word(text),
+        )
+    } else {
+        Err(fault_at(RowFaultKind::Syntax, text))
+    }
+}
+
+/// Reads bytes of memory: a value, a value of two bytes, or a string.
 #[tactic(auto, unfolding(crate::specs::RowText::memory_item))]
 fn memory_item<'a>(
     found: &mut Vec<Item>,
@@ -289,7 +319,9 @@ fn memory_item<'a>(
     ensures err { IfErr result (λ fault. fault.kind ≢ RowFaultKind.OutOfMemory
         → memory_item names.now.names letters side address text.now ≡ Err fault) }
 {
-    if is_next(b'=', text) && is_next(b'"', after(1, text)) {
+    if is_next(b'.', text) {
+        word_item(found, names, letters, side, address, after(1, text))
+    } else if is_next(b'=', text) && is_next(b'"', after(1, text)) {
         string_at(found, StringPlace::InMemory, address, after(1, text))
     } else {
         item_by(found, names, letters, side, Place::Byte(address), text)

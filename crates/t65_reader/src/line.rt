@@ -4,13 +4,14 @@ ghost use Rattle.std.specs.Prelude.{◌≤◌, ◌≡◌, ◌≢◌, IfErr, IfOk
 ghost use Rattle.std.specs.Option.{option_map};
 ghost use Rattle.t65_reader.specs.RowText.{after_dots, after_word, call_of, called_of, letter_of};
 ghost use Rattle.t65_reader.specs.RowText.{line_at, line_of, range_between, range_letter, range_of};
-ghost use Rattle.t65_reader.specs.RowText.{ranges_of, row_of, values_of, word_of, row_view};
+ghost use Rattle.t65_reader.specs.RowText.{pointed_row_of, ranges_of, row_of, row_view, values_of};
+ghost use Rattle.t65_reader.specs.RowText.{word_of};
 
-use crate::fault::{RowFault, RowFaultKind};
+use crate::fault::{Base, RowFault, RowFaultKind};
 use crate::item::{Side, items_of};
-use crate::row::{Range, Row};
+use crate::row::{MOST_STEPS, Range, Row};
 use crate::scan::{
-    address_of, after, after_sign, after_word, ends, fault_at, hex_of, is_next, is_text,
+    address_of, after, after_sign, after_word, ends, fault_at, hex_of, is_next, is_text, number_of,
     skip_blanks, word_of,
 };
 use crate::value::Letters;
@@ -53,6 +54,8 @@ fn call_of(
         address,
         given,
         wanted,
+        steps: MOST_STEPS,
+        points: 1,
     })
 }
 
@@ -178,8 +181,26 @@ fn row_of(alloc: Global, names: &Assembly, text: &[u8]) -> Result<Row, RowFault>
     }
 }
 
-/// Reads a line after the one that names the source: a row, or nothing where the line is blank or a
-/// comment.
+/// Reads a row, and how many points it is worth where `points=` stands before it.
+#[tactic(auto, unfolding(crate::specs::RowText::pointed_row_of))]
+fn pointed_row_of(alloc: Global, names: &Assembly, text: &[u8]) -> Result<Row, RowFault>
+    ensures ok { IfOk result (λ row. pointed_row_of names.now.names text.now ≡ Ok (row_view row)) }
+    ensures err { IfErr result (λ fault. fault.kind ≢ RowFaultKind.OutOfMemory
+        → pointed_row_of names.now.names text.now ≡ Err fault) }
+{
+    if is_text(word_of(text), b"points") {
+        let rest = after_sign(b'=', after_word(text))?;
+        let (points, rest) = number_of(Base::Decimal, rest)?;
+        let mut row = row_of(alloc, names, rest)?;
+        row.points = points;
+        Ok(row)
+    } else {
+        row_of(alloc, names, text)
+    }
+}
+
+/// Reads a line after the one that names the source: a row, whose calls have so many steps at most,
+/// or nothing where the line is blank or a comment.
 ///
 /// # Errors
 ///
@@ -192,11 +213,16 @@ fn row_of(alloc: Global, names: &Assembly, text: &[u8]) -> Result<Row, RowFault>
 ///
 /// The first that is met from left to right is told. Source: mos65.
 #[tactic(auto, unfolding(crate::specs::RowText::line_of))]
-pub fn read_row(alloc: Global, names: &Assembly, line: &[u8]) -> Result<Option<Row>, RowFault>
+pub fn read_row(
+    alloc: Global,
+    names: &Assembly,
+    steps: u32,
+    line: &[u8],
+) -> Result<Option<Row>, RowFault>
     ensures ok { IfOk result
-        (λ row. line_of names.now.names line.now ≡ Ok (option_map row_view row)) }
+        (λ row. line_of steps names.now.names line.now ≡ Ok (option_map row_view row)) }
     ensures err { IfErr result (λ fault. fault.kind ≢ RowFaultKind.OutOfMemory
-        → line_of names.now.names line.now ≡ Err fault) }
+        → line_of steps names.now.names line.now ≡ Err fault) }
 {
     let text = skip_blanks(line);
     if ends(text) {
@@ -204,7 +230,8 @@ pub fn read_row(alloc: Global, names: &Assembly, line: &[u8]) -> Result<Option<R
     } else if is_text(word_of(text), b"source") {
         Err(fault_at(RowFaultKind::SecondSource, text))
     } else {
-        let row = row_of(alloc, names, text)?;
+        let mut row = pointed_row_of(alloc, names, text)?;
+        row.steps = steps;
         Ok(Some(row))
     }
 }

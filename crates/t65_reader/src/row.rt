@@ -32,6 +32,8 @@ pub enum Place {
     Flag(Flag),
     /// The byte of memory at an address.
     Byte(u16),
+    /// The two bytes of memory from an address on, the low one first.
+    Word(u16),
     /// One more byte of input; it is set, and not looked at.
     Input,
     /// The byte of output that the call wrote at an index, counted from 0.
@@ -113,4 +115,11 @@ pub struct Row {
     pub address: u16,
     pub given: Vec<Item>,
     pub wanted: Vec<Item>,
+    /// The most steps of a call.
+    pub steps: u32,
+    /// How many points it is worth.
+    pub points: u32,
 }
+
+/// The most steps of a call, where nothing else is asked for. Source: mos65.
+pub const MOST_STEPS: u32 = 10_000_000;

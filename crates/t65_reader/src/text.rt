@@ -36,17 +36,18 @@ fn push_row(rows: &mut Vec<(u32, Row)>, number: u32, row: Row) -> Result<(), Tex
 fn push_line(
     alloc: Global,
     names: &Assembly,
+    steps: u32,
     rows: &mut Vec<(u32, Row)>,
     number: u32,
     line: &[u8],
 ) -> Result<(), TextFault>
     ensures ok { IfOk result (λ _. (behind : Rows) → rows_after (map numbered_view rows.old.items)
-        (line_before number line.now (line_of names.now.names line.now) behind)
+        (line_before number line.now (line_of steps names.now.names line.now) behind)
         ≡ rows_after (map numbered_view rows.new.items) behind) }
     ensures err { IfErr result (λ fault. fault.kind ≢ RowFaultKind.OutOfMemory → (behind : Rows)
-        → line_before number line.now (line_of names.now.names line.now) behind ≡ Err fault) }
+        → line_before number line.now (line_of steps names.now.names line.now) behind ≡ Err fault) }
 {
-    match read_row(alloc, names, line) {
+    match read_row(alloc, names, steps, line) {
         Ok(Some(row)) => {
             push_row(rows, number, row)?;
             Ok(())
@@ -57,7 +58,7 @@ fn push_line(
 }
 
 /// Reads the rows of a text, each with the number of its line, under the names of a source. The
-/// first line of the text has the number `first`.
+/// first line of the text has the number `first`; a call of a row has `steps` steps at most.
 ///
 /// # Errors
 ///
@@ -67,20 +68,21 @@ pub fn read_rows(
     alloc: Global,
     names: &Assembly,
     first: u32,
+    steps: u32,
     text: &[u8],
 ) -> Result<Vec<(u32, Row)>, TextFault>
     requires { first + length text.now < 4294967296 }
-    ensures ok { IfOk result (λ rows. rows_from names.now.names first (lines_of text.now)
+    ensures ok { IfOk result (λ rows. rows_from steps names.now.names first (lines_of text.now)
         ≡ Ok (map numbered_view rows.items)) }
     ensures err { IfErr result (λ fault. fault.kind ≢ RowFaultKind.OutOfMemory
-        → rows_from names.now.names first (lines_of text.now) ≡ Err fault) }
+        → rows_from steps names.now.names first (lines_of text.now) ≡ Err fault) }
 {
     let mut rows = Vec::new(alloc);
     let mut rest = text;
     let mut number = first;
     while rest.len() > 0 {
         let (line, behind) = next_line(rest);
-        push_line(alloc, names, &mut rows, number, line)?;
+        push_line(alloc, names, steps, &mut rows, number, line)?;
         rest = behind;
         number += 1;
     }

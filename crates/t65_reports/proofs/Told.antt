@@ -6,7 +6,7 @@ use Rattle.source_map.specs.Lines.{PlacesView}
 use Rattle.rig.specs.Subroutine.{call_of}
 use Rattle.t65_reader.specs.RowText.{SeenRow}
 use Rattle.t65_reader.specs.declared.row.Item.{Item}
-use Rattle.t65_runner.specs.Passes.{Pair, given_one, most_steps}
+use Rattle.t65_runner.specs.Passes.{Pair, given_one}
 use Rattle.t65_reports.specs.Failures.{called_text, if_taken, told_from, untaken_text, values_text}
 
 module _ (places : PlacesView) (row : SeenRow) (pair : Pair) (items : List Item) (i : ℕ) (s : Session) where
@@ -34,7 +34,7 @@ module _ (places : PlacesView) (row : SeenRow) (pair : Pair) (items : List Item)
 
   -- All items were given.
   pub all_taken : (whole : List ℕ) → length items ≤ i → told_from places row pair (drop i items) s ≡ whole
-      → called_text places row pair s (call_of row.address most_steps s) ≡ whole
+      → called_text places row pair s (call_of row.address row.steps s) ≡ whole
   unfolding told_from
   all_taken whole h left = sym (ap (λ rest. told_from places row pair rest s) (drop_all i items h)) ∙ left
 

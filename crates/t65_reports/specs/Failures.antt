@@ -1,5 +1,5 @@
 -- Why a row fails, as text. Source: mos65.
-use Rattle.std.specs.Prelude.{ℕ, ◌==◌, ◌&&◌, Bool, if◌then◌else◌, List, [], ◌∷◌, ◌++◌, Option, None, Some, Result, Ok, Err, codes, decimal}
+use Rattle.std.specs.Prelude.{ℕ, ◌==◌, ◌&&◌, nat_lt, Bool, if◌then◌else◌, List, [], ◌∷◌, ◌++◌, Option, None, Some, Result, Ok, Err, codes, decimal}
 use Rattle.std.specs.List.{flat_map}
 use Rattle.model.specs.FaultNames.{event_fault_name, event_fault_number}
 use Rattle.model.specs.Session.{Session}
@@ -16,10 +16,10 @@ use Rattle.t65_reader.specs.RowText.{SeenRow}
 use Rattle.t65_reader.specs.declared.row.Item.{Item}
 use Rattle.t65_reader.specs.declared.row.Place.{Place}
 use Rattle.t65_reader.specs.declared.row.Range.{Range}
-use Rattle.t65_runner.specs.Passes.{Pair, came, given_one, if_came, is_return, most_steps, number_of}
+use Rattle.t65_runner.specs.Passes.{Pair, came, given_one, if_came, is_return, number_of}
 use Rattle.t65_runner.specs.Start.{fresh}
 use Rattle.t65_reports.specs.Steps.{last_steps_text}
-use Rattle.t65_reports.specs.declared.wording.TheConstants.{CALLED_WITH, CAME, CANNOT_BE_GIVEN, EXPECTED, FOR, NOTHING_CAME, NO_RETURN, RETURNED_WITH, STOPPED, THEN_AT}
+use Rattle.t65_reports.specs.declared.wording.TheConstants.{CALLED_WITH, CAME, CANNOT_BE_GIVEN, EXPECTED, FOR, HEX_HINT, NOTHING_CAME, NO_RETURN, RETURNED_WITH, STOPPED, THEN_AT}
 use Rattle.t65_reports.specs.Texts.{named_address, named_byte, named_count, number_text, place_text, relation_sign, value_text}
 
 -- ---- the ranges
@@ -36,9 +36,14 @@ values_text (Some first) second pair = FOR.now ++ value_text first pair.0
 
 -- ---- what cannot be given
 
+-- Where a number is larger than a byte, it may have been meant as decimal.
+abbrev pub hint_text : ℕ → List ℕ
+hint_text number = if nat_lt 255 number then HEX_HINT.now else []
+
 abbrev pub untaken_text : Pair → Item → List ℕ
 untaken_text pair item = place_text item.place ++ CANNOT_BE_GIVEN.now
-    ++ number_text item.place (number_of pair item.value) ++ codes "\n"
+    ++ number_text item.place (number_of pair item.value)
+    ++ hint_text (number_of pair item.value) ++ codes "\n"
 
 -- ---- how the call has ended
 
@@ -122,7 +127,7 @@ if_taken untaken next (Some s) = next s
 -- the call.
 unfoldable pub told_from : PlacesView → SeenRow → Pair → List Item → Session → List ℕ
 told_from places row pair [] s
-    = called_text places row pair s (call_of row.address most_steps s)
+    = called_text places row pair s (call_of row.address row.steps s)
 told_from places row pair (item ∷ items) s =
     if_taken (untaken_text pair item ++ values_text row.first row.second pair)
     (told_from places row pair items) (given_one pair item s)

@@ -4,8 +4,10 @@ use Rattle.std.specs.Char.{is_ascii_whitespace}
 use Rattle.std.specs.Option.{is_some}
 use Rattle.std.specs.Str.Lines.{lines}
 use Rattle.std.specs.List.{flat_map, prefix_len, suffix_len}
-use Rattle.t65_reports.specs.declared.wording.TheConstants.{CASE, CASE_END, CASE_FAILS, CASE_PASSES, FAILS, FAILURES, LINE, PASSES, SUITE, TAG_END, TESTS}
+use Rattle.t65_reports.specs.declared.wording.TheConstants.{CASE, CASE_END, CASE_FAILS, CASE_PASSES, FAILS, FAILURES, FAULT_NAME, LINE, PASSES, QUOTE, SUITE, TAG_END, TESTS}
+use Rattle.t65_reports.specs.Steps.{blanks}
 use Rattle.t65_reports.specs.Texts.{visible}
+use Rattle.t65_reports.specs.declared.reports.Score.{Score}
 
 -- ---- the text of a row
 
@@ -58,6 +60,28 @@ abbrev pub tap_case : ℕ → List ℕ → ℕ → List ℕ → Option (List ℕ
 tap_case count file line text why
     = tap_row (is_some why) count file line text ++ tap_detail why
 
+-- The row of TAP for a file that cannot be tested, by the number of that test among all.
+unfoldable pub tap_title : ℕ → List ℕ → List ℕ → List ℕ
+tap_title number file title = FAILS.now ++ decimal number ++ codes " - " ++ tap_text file
+    ++ codes ": " ++ tap_text title ++ 10 ∷ []
+
+-- What TAP tells of such a file: why, in a few words, and remarks.
+abbrev pub tap_fault : ℕ → List ℕ → List ℕ → List ℕ → List ℕ
+tap_fault number file title remarks = tap_title number file title ++ tap_detail (Some remarks)
+
+unfoldable pub score_text : Score → List ℕ
+score_text score = decimal score.passed ++ codes " passed, " ++ decimal score.failed
+    ++ codes " failed, " ++ decimal score.earned ++ codes " of " ++ decimal score.worth
+    ++ codes " points\n"
+
+-- A comment of TAP: what the tests of a file have come to.
+abbrev pub summary_text : List ℕ → Score → List ℕ
+summary_text file score = codes "# " ++ tap_text file ++ codes ": " ++ score_text score
+
+-- How many tests there are.
+abbrev pub plan_text : ℕ → List ℕ
+plan_text count = codes "1.." ++ decimal count ++ codes "\n"
+
 -- ---- JUnit
 
 -- A byte as XML has it between tags and in values.
@@ -72,18 +96,28 @@ xml text = flat_map xml_byte text
 abbrev pub first_line : List ℕ → List ℕ
 first_line text = take (prefix_len (λ b. not (b == 10)) text) text
 
-abbrev pub counts_text : ℕ → ℕ → List ℕ
-counts_text rows failed = TESTS.now ++ decimal rows ++ FAILURES.now ++ decimal failed
-    ++ TAG_END.now ++ codes "\n"
+abbrev pub numbers_text : ℕ → ℕ → List ℕ
+numbers_text tests failed
+    = TESTS.now ++ decimal tests ++ FAILURES.now ++ decimal failed ++ QUOTE.now
 
--- The head of a file of so many rows, of which so many fail.
+-- Blanks make the text as long as it is where all tests fail, so that it can be written again in
+-- its place.
+unfoldable pub counts_text : ℕ → ℕ → List ℕ
+counts_text tests failed = numbers_text tests failed
+    ++ blanks (length (decimal tests) - length (decimal failed)) ++ codes ">\n"
+
+-- The head of a file of so many tests, of which so many fail.
 unfoldable pub suite_head : List ℕ → ℕ → ℕ → List ℕ
-suite_head file rows failed = SUITE.now ++ xml file ++ counts_text rows failed
+suite_head file tests failed = SUITE.now ++ xml file ++ counts_text tests failed
+
+-- Why a test fails, in a few words and in all.
+abbrev pub case_fails : List ℕ → List ℕ → List ℕ
+case_fails message why
+    = CASE_FAILS.now ++ xml message ++ TAG_END.now ++ xml why ++ CASE_END.now
 
 abbrev pub case_end : Option (List ℕ) → List ℕ
 case_end None = CASE_PASSES.now
-case_end (Some why) = CASE_FAILS.now ++ xml (first_line why) ++ TAG_END.now ++ xml why
-    ++ CASE_END.now
+case_end (Some why) = case_fails (first_line why) why
 
 abbrev pub line_text : ℕ → List ℕ
 line_text line = LINE.now ++ decimal line ++ codes ": "
@@ -95,3 +129,10 @@ case_front file line text = CASE.now ++ xml file
 -- What is told of a row: the file, the line, its text, and why it fails, if it does.
 abbrev pub junit_case : List ℕ → ℕ → List ℕ → Option (List ℕ) → List ℕ
 junit_case file line text why = case_front file line text ++ case_end why
+
+abbrev pub fault_front : List ℕ → List ℕ
+fault_front file = CASE.now ++ xml file ++ FAULT_NAME.now
+
+-- What is told of a file that cannot be tested: a test of its own, which fails.
+abbrev pub junit_fault : List ℕ → List ℕ → List ℕ → List ℕ
+junit_fault file title remarks = fault_front file ++ case_fails title remarks

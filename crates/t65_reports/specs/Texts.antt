@@ -52,6 +52,7 @@ abbrev pub place_text : Place → List ℕ
 place_text (place.Register register) = register_name register
 place_text (place.Flag flag) = flag_name flag
 place_text (place.Byte address) = codes "[" ++ hex_of 4 address ++ codes "]"
+place_text (place.Word address) = codes "[" ++ hex_of 4 address ++ codes "].w"
 place_text place.Input = INPUT.now
 place_text (place.Output index) = OUTPUT_BYTE.now ++ decimal index
 place_text place.OutputCount = OUTPUT_COUNT.now
@@ -68,6 +69,7 @@ abbrev pub number_text : Place → ℕ → List ℕ
 number_text place.Cycles number = decimal number
 number_text place.OutputCount number = decimal number
 number_text (place.Flag flag) number = decimal number
+number_text (place.Word address) number = hex_of 4 number
 number_text place number = hex_of 2 number
 
 -- The letter of a range, and its value.

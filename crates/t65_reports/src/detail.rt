@@ -5,9 +5,9 @@ ghost use Rattle.std.specs.List.{flat_map};
 ghost use Rattle.model.specs.State.{State};
 ghost use Rattle.rig.specs.Subroutine.{call_of};
 ghost use Rattle.t65_reader.specs.RowText.{row_view};
-ghost use Rattle.t65_runner.specs.Passes.{most_steps, pair_of};
+ghost use Rattle.t65_runner.specs.Passes.{pair_of};
 ghost use Rattle.t65_reports.specs.Failures.{called_text, came_text, detail_text, end_text};
-ghost use Rattle.t65_reports.specs.Failures.{ending_by, expected_text, fault_text, is_back, miss_text};
+ghost use Rattle.t65_reports.specs.Failures.{ending_by, expected_text, fault_text, hint_text, is_back, miss_text};
 ghost use Rattle.t65_reports.specs.Failures.{no_return_text, other_stack_text, refused_text};
 ghost use Rattle.t65_reports.specs.Failures.{second_value_text, told_from, unlike_text};
 ghost use Rattle.t65_reports.specs.Failures.{untaken_text, values_text};
@@ -18,8 +18,8 @@ use crate::texts::{
     push_value,
 };
 use crate::wording::{
-    CALLED_WITH, CAME, CANNOT_BE_GIVEN, EXPECTED, FOR, NO_RETURN, NOTHING_CAME, RETURNED_WITH,
-    STOPPED, THEN_AT,
+    CALLED_WITH, CAME, CANNOT_BE_GIVEN, EXPECTED, FOR, HEX_HINT, NO_RETURN, NOTHING_CAME,
+    RETURNED_WITH, STOPPED, THEN_AT,
 };
 use bus::{Image, MapSpec};
 use debugger::{EventFault, Regs, RunEnd, Session, Why};
@@ -27,9 +27,7 @@ use rig::call;
 use source_map::Places;
 use std::alloc::{AllocError, Global};
 use t65_reader::{Item, Place, Range, Row};
-use t65_runner::{
-    CallStart, HISTORY, MOST_STEPS, Pair, call_start, came, compares, given_one, number_of,
-};
+use t65_runner::{CallStart, HISTORY, Pair, call_start, came, compares, given_one, number_of};
 
 /// The machine that rows run on, and the places of its source.
 #[derive(Clone, Copy)]
@@ -70,6 +68,17 @@ fn push_values(text: &mut String, row: &Row, pair: Pair) -> Result<(), AllocErro
     text.push('\n')
 }
 
+/// Appends a hint, where a number is larger than a byte.
+fn push_hint(text: &mut String, number: u32) -> Result<(), AllocError>
+    ensures { OnOk result (string_bytes text.new ≡ string_bytes text.old ++ hint_text number) }
+{
+    if number > 255 {
+        text.push_str(HEX_HINT)
+    } else {
+        Ok(())
+    }
+}
+
 /// Appends what was to be given and cannot be.
 fn push_untaken(text: &mut String, pair: Pair, item: Item) -> Result<(), AllocError>
     ensures { OnOk result (string_bytes text.new
@@ -77,7 +86,9 @@ fn push_untaken(text: &mut String, pair: Pair, item: Item) -> Result<(), AllocEr
 {
     push_place(text, item.place)?;
     text.push_str(CANNOT_BE_GIVEN)?;
-    push_number(text, item.place, number_of(pair, item.value) as u64)?;
+    let number = number_of(pair, item.value);
+    push_number(text, item.place, number as u64)?;
+    push_hint(text, number)?;
     text.push('\n')
 }
 
@@ -293,10 +304,10 @@ fn push_called(
 ) -> Result<(), AllocError>
     ensures { OnOk result (string_bytes text.new ≡ string_bytes text.old
         ++ called_text places.now (row_view row.now) (pair_of pair) session.old
-        (call_of row.now.address most_steps session.old)) }
+        (call_of row.now.address row.now.steps session.old)) }
 {
     let before = call_start(session);
-    let Ok(end) = call(session, row.address, MOST_STEPS) else {
+    let Ok(end) = call(session, row.address, row.steps) else {
         return Err(AllocError);
     };
     push_end(text, session, before, pair, &row.wanted, end)?;

@@ -1,19 +1,21 @@
-//! TAP and JUnit.
+//! TAP and JUnit: a test's text is made when it has ended.
 
-ghost use Rattle.std.specs.Prelude.{◌≡◌, ◌+◌, ◌-◌, ◌^◌, ◌==◌, ◌&&◌, ◌++◌, if◌then◌else◌, false};
-ghost use Rattle.std.specs.Prelude.{codes, decimal, min, not, string_bytes, IfOk, OnOk};
+ghost use Rattle.std.specs.Prelude.{◌≡◌, ◌-◌, ◌==◌, ◌&&◌, ◌++◌, if◌then◌else◌, false};
+ghost use Rattle.std.specs.Prelude.{decimal, length, not, string_bytes, IfOk, OnOk};
 ghost use Rattle.std.specs.List.{prefix_len};
 ghost use Rattle.std.specs.Option.{option_map};
-ghost use Rattle.t65_reports.specs.Reports.{before_comment, case_end, case_front, counts_text};
-ghost use Rattle.t65_reports.specs.Reports.{first_line, line_text};
-ghost use Rattle.t65_reports.specs.Reports.{junit_case, row_of, suite_head, tap_byte, tap_case, tap_comment};
-ghost use Rattle.t65_reports.specs.declared.wording.TheConstants as the_text;
-ghost use Rattle.t65_reports.specs.Reports.{tap_detail, tap_row, tap_text, xml, xml_byte};
+ghost use Rattle.t65_reports.specs.Reports.{before_comment, case_end, case_fails, case_front};
+ghost use Rattle.t65_reports.specs.Reports.{counts_text, fault_front, first_line, junit_case};
+ghost use Rattle.t65_reports.specs.Reports.{junit_fault, line_text, numbers_text, plan_text, row_of, score_text};
+ghost use Rattle.t65_reports.specs.Reports.{suite_head, summary_text, tap_byte, tap_case};
+ghost use Rattle.t65_reports.specs.Reports.{tap_comment, tap_detail, tap_fault, tap_row, tap_text};
+ghost use Rattle.t65_reports.specs.Reports.{tap_title, xml, xml_byte};
 
+use crate::steps::push_blanks;
 use crate::texts::push_bytes;
 use crate::wording::{
-    CASE, CASE_END, CASE_FAILS, CASE_PASSES, FAILS, FAILURES, JUNIT_BEGIN, JUNIT_END, LINE, PASSES,
-    SUITE, SUITE_END, TAG_END, TAP_BEGIN, TESTS,
+    CASE, CASE_END, CASE_FAILS, CASE_PASSES, FAILS, FAILURES, FAULT_NAME, LINE, PASSES, QUOTE,
+    SUITE, TAG_END, TESTS,
 };
 use std::alloc::{AllocError, Global};
 
@@ -28,14 +30,17 @@ pub struct Case<'a> {
     pub text: &'a [u8],
 }
 
-/// The texts that are told of rows: TAP, and the report for JUnit.
-#[derive(Drop)]
-pub struct Reports {
-    /// The text of TAP so far.
-    pub tap: String,
-    /// The report for JUnit so far.
-    pub junit: String,
-    count: u64,
+/// What the tests of a file have come to.
+#[derive(Clone, Copy)]
+pub struct Score {
+    /// How many pass.
+    pub passed: u64,
+    /// How many fail.
+    pub failed: u64,
+    /// The points of those that pass.
+    pub earned: u64,
+    /// The points of all.
+    pub worth: u64,
 }
 
 /// Returns whether a comment begins with this byte of a row, where a string is open or not.
@@ -141,20 +146,48 @@ fn first_line(text: &[u8]) -> &[u8]
     &text[..line_len(text)]
 }
 
-/// Appends the first line of a text as XML has it in values.
-fn push_first_line(text: &mut String, other: &str) -> Result<(), AllocError>
-    ensures { OnOk result (string_bytes text.new
-        ≡ string_bytes text.old ++ xml (first_line other.now)) }
+/// Returns the digits of a number.
+fn digits_of(alloc: Global, number: usize) -> Result<String, AllocError>
+    ensures { IfOk result (λ text. string_bytes text ≡ decimal number) }
 {
-    push_xml(text, first_line(other.as_bytes()))
+    let mut text = String::new(alloc);
+    write!(text, "{number}")?;
+    Ok(text)
 }
 
-/// Appends how many rows a file has, and how many of them fail, and ends its head.
-fn push_counts(text: &mut String, rows: usize, failed: usize) -> Result<(), AllocError>
-    ensures { OnOk result (string_bytes text.new
-        ≡ string_bytes text.old ++ counts_text rows failed) }
+/// Returns how many digits fewer a number of failures has than that of all tests.
+fn room_for(alloc: Global, tests: usize, failed: usize) -> Result<usize, AllocError>
+    ensures { IfOk result (λ room. room ≡ length (decimal tests) - length (decimal failed)) }
 {
-    writeln!(text, "{}{rows}{}{failed}{}", TESTS, FAILURES, TAG_END)
+    let all = digits_of(alloc, tests)?;
+    let few = digits_of(alloc, failed)?;
+    Ok(all.len().saturating_sub(few.len()))
+}
+
+/// Appends how many tests a file has, and how many of them fail.
+fn push_numbers(text: &mut String, tests: usize, failed: usize) -> Result<(), AllocError>
+    ensures { OnOk result (string_bytes text.new
+        ≡ string_bytes text.old ++ numbers_text tests failed) }
+{
+    write!(text, "{}{tests}{}{failed}{}", TESTS, FAILURES, QUOTE)
+}
+
+/// Appends how many tests a file has, and how many of them fail, and ends its head. Blanks make the
+/// head as long as it is where all fail.
+#[tactic(auto, unfolding(crate::specs::Reports::counts_text))]
+fn push_counts(
+    alloc: Global,
+    text: &mut String,
+    tests: usize,
+    failed: usize,
+) -> Result<(), AllocError>
+    ensures { OnOk result (string_bytes text.new
+        ≡ string_bytes text.old ++ counts_text tests failed) }
+{
+    let room = room_for(alloc, tests, failed)?;
+    push_numbers(text, tests, failed)?;
+    push_blanks(text, room)?;
+    text.push_str(">\n")
 }
 
 /// Appends the number of a row's line.
@@ -164,20 +197,24 @@ fn push_line(text: &mut String, line: u32) -> Result<(), AllocError>
     write!(text, "{}{line}: ", LINE)
 }
 
-/// Appends the head of a file of so many rows, of which so many fail.
-fn push_suite_head(
-    junit: &mut String,
+/// Returns the head of a file of so many tests, of which so many fail so far, in the report for
+/// JUnit. It is as long for each number that fail.
+///
+/// Errors: `AllocError` if an allocation fails.
+#[tactic(auto, unfolding(crate::specs::Reports::suite_head))]
+pub fn suite_head(
+    alloc: Global,
     file: &str,
-    rows: usize,
+    tests: usize,
     failed: usize,
-) -> Result<(), AllocError>
-    ensures { OnOk result (string_bytes junit.new
-        ≡ string_bytes junit.old ++ suite_head file.now rows failed) }
+) -> Result<String, AllocError>
+    ensures { IfOk result (λ text. string_bytes text ≡ suite_head file.now tests failed) }
 {
+    let mut junit = String::new(alloc);
     junit.push_str(SUITE)?;
-    push_xml_text(junit, file)?;
-    push_counts(junit, rows, failed)?;
-    Ok(())
+    push_xml_text(&mut junit, file)?;
+    push_counts(alloc, &mut junit, tests, failed)?;
+    Ok(junit)
 }
 
 /// Appends a row's text without its comment as XML has it in values.
@@ -225,22 +262,98 @@ fn push_tap_detail(tap: &mut String, detail: &str) -> Result<(), AllocError>
     Ok(())
 }
 
-/// Appends what TAP tells of a row: its row, and why it fails.
-fn push_tap(
-    tap: &mut String,
-    count: u64,
+/// Returns what TAP tells of a row, by its number among all tests: its row, and why it fails, if it
+/// does.
+///
+/// Errors: `AllocError` if an allocation fails.
+pub fn tap_case(
+    alloc: Global,
+    number: u64,
     case: Case<'_>,
     detail: Option<&str>,
-) -> Result<(), AllocError>
-    ensures { OnOk result (string_bytes tap.new ≡ string_bytes tap.old
-        ++ tap_case count case.entry.file.now case.entry.line case.entry.text.now
+) -> Result<String, AllocError>
+    ensures { IfOk result (λ tap. string_bytes tap
+        ≡ tap_case number case.entry.file.now case.entry.line case.entry.text.now
         (option_map (λ why. why.now) detail.entry)) }
 {
-    push_tap_row(tap, count, case, detail.is_some())?;
+    let mut tap = String::new(alloc);
+    push_tap_row(&mut tap, number, case, detail.is_some())?;
     match detail {
-        None => Ok(()),
-        Some(detail) => push_tap_detail(tap, detail),
+        None => {}
+        Some(detail) => push_tap_detail(&mut tap, detail)?,
     }
+    Ok(tap)
+}
+
+/// Appends the row of TAP of a file that cannot be tested.
+#[tactic(auto, unfolding(crate::specs::Reports::tap_title))]
+fn push_tap_title(tap: &mut String, number: u64, file: &str, title: &str) -> Result<(), AllocError>
+    ensures { OnOk result (string_bytes tap.new
+        ≡ string_bytes tap.old ++ tap_title number file.now title.now) }
+{
+    tap.push_str(FAILS)?;
+    write!(tap, "{number} - ")?;
+    push_description(tap, file.as_bytes())?;
+    tap.push_str(": ")?;
+    push_description(tap, title.as_bytes())?;
+    tap.push('\n')
+}
+
+/// Returns what TAP tells of a file that cannot be tested, by the number of that test among all:
+/// why, in a few words, and remarks.
+///
+/// Errors: `AllocError` if an allocation fails.
+pub fn tap_fault(
+    alloc: Global,
+    number: u64,
+    file: &str,
+    title: &str,
+    remarks: &str,
+) -> Result<String, AllocError>
+    ensures { IfOk result (λ tap. string_bytes tap
+        ≡ tap_fault number file.now title.now remarks.now) }
+{
+    let mut tap = String::new(alloc);
+    push_tap_title(&mut tap, number, file, title)?;
+    push_tap_detail(&mut tap, remarks)?;
+    Ok(tap)
+}
+
+/// Appends what a file's tests have come to.
+#[tactic(auto, unfolding(crate::specs::Reports::score_text))]
+fn push_score(tap: &mut String, score: Score) -> Result<(), AllocError>
+    ensures { OnOk result (string_bytes tap.new ≡ string_bytes tap.old ++ score_text score) }
+{
+    writeln!(
+        tap,
+        "{} passed, {} failed, {} of {} points",
+        score.passed, score.failed, score.earned, score.worth
+    )
+}
+
+/// Returns the line of a file with what its tests have come to: a comment of TAP.
+///
+/// Errors: `AllocError` if an allocation fails.
+pub fn summary(alloc: Global, file: &str, score: Score) -> Result<String, AllocError>
+    ensures { IfOk result (λ tap. string_bytes tap ≡ summary_text file.now score) }
+{
+    let mut tap = String::new(alloc);
+    tap.push_str("# ")?;
+    push_description(&mut tap, file.as_bytes())?;
+    tap.push_str(": ")?;
+    push_score(&mut tap, score)?;
+    Ok(tap)
+}
+
+/// Returns the last line of TAP: how many tests there are.
+///
+/// Errors: `AllocError` if an allocation fails.
+pub fn plan(alloc: Global, count: u64) -> Result<String, AllocError>
+    ensures { IfOk result (λ tap. string_bytes tap ≡ plan_text count) }
+{
+    let mut tap = String::new(alloc);
+    writeln!(tap, "1..{count}")?;
+    Ok(tap)
 }
 
 /// Appends the beginning of what the report for JUnit tells of a row.
@@ -255,96 +368,70 @@ fn push_case_front(junit: &mut String, case: Case<'_>) -> Result<(), AllocError>
     Ok(())
 }
 
-/// Appends why a row fails, and the end of what the report for JUnit tells of it.
-fn push_case_failure(junit: &mut String, detail: &str) -> Result<(), AllocError>
-    ensures { OnOk result (string_bytes junit.new ≡ string_bytes junit.old
-        ++ case_end (Some detail.now)) }
+/// Appends why a test fails, in a few words and in all, and the end of what the report for JUnit
+/// tells of it.
+fn push_failure(junit: &mut String, message: &[u8], detail: &str) -> Result<(), AllocError>
+    ensures { OnOk result (string_bytes junit.new
+        ≡ string_bytes junit.old ++ case_fails message.now detail.now) }
 {
     junit.push_str(CASE_FAILS)?;
-    push_first_line(junit, detail)?;
+    push_xml(junit, message)?;
     junit.push_str(TAG_END)?;
     push_xml_text(junit, detail)?;
     junit.push_str(CASE_END)?;
     Ok(())
 }
 
-/// Appends what the report for JUnit tells of a row.
-fn push_junit(junit: &mut String, case: Case<'_>, detail: Option<&str>) -> Result<(), AllocError>
+/// Appends the end of what the report for JUnit tells of a row.
+fn push_case_end(junit: &mut String, detail: Option<&str>) -> Result<(), AllocError>
     ensures { OnOk result (string_bytes junit.new ≡ string_bytes junit.old
-        ++ junit_case case.entry.file.now case.entry.line case.entry.text.now
-        (option_map (λ why. why.now) detail.entry)) }
+        ++ case_end (option_map (λ why. why.now) detail.entry)) }
 {
-    push_case_front(junit, case)?;
     match detail {
         None => junit.push_str(CASE_PASSES),
-        Some(detail) => push_case_failure(junit, detail),
+        Some(detail) => push_failure(junit, first_line(detail.as_bytes()), detail),
     }
 }
 
-impl Reports {
-    /// Begins both texts.
-    pub fn new(alloc: Global) -> Result<Reports, AllocError>
-        ensures tap { IfOk result (λ reports. string_bytes reports.tap
-            ≡ the_text.TAP_BEGIN.now) }
-        ensures junit { IfOk result (λ reports. string_bytes reports.junit
-            ≡ the_text.JUNIT_BEGIN.now) }
-        ensures count { IfOk result (λ reports. reports.count ≡ 0) }
-    {
-        let mut tap = String::new(alloc);
-        tap.push_str(TAP_BEGIN)?;
-        let mut junit = String::new(alloc);
-        junit.push_str(JUNIT_BEGIN)?;
-        Ok(Reports {
-            tap,
-            junit,
-            count: 0,
-        })
-    }
+/// Returns what the report for JUnit tells of a row.
+///
+/// Errors: `AllocError` if an allocation fails.
+pub fn junit_case(alloc: Global, case: Case<'_>, detail: Option<&str>) -> Result<String, AllocError>
+    ensures { IfOk result (λ junit. string_bytes junit
+        ≡ junit_case case.entry.file.now case.entry.line case.entry.text.now
+        (option_map (λ why. why.now) detail.entry)) }
+{
+    let mut junit = String::new(alloc);
+    push_case_front(&mut junit, case)?;
+    push_case_end(&mut junit, detail)?;
+    Ok(junit)
+}
 
-    /// Begins a file of so many rows, of which so many fail.
-    pub fn begin_file(&mut self, file: &str, rows: usize, failed: usize) -> Result<(), AllocError>
-        ensures junit { OnOk result (string_bytes self.new.junit
-            ≡ string_bytes self.old.junit ++ suite_head file.now rows failed) }
-        ensures tap { self.new.tap ≡ self.old.tap }
-        ensures count { self.new.count ≡ self.old.count }
-    {
-        push_suite_head(&mut self.junit, file, rows, failed)
-    }
+/// Appends the beginning of what the report for JUnit tells of a file that cannot be tested.
+fn push_fault_front(junit: &mut String, file: &str) -> Result<(), AllocError>
+    ensures { OnOk result (string_bytes junit.new
+        ≡ string_bytes junit.old ++ fault_front file.now) }
+{
+    junit.push_str(CASE)?;
+    push_xml_text(junit, file)?;
+    junit.push_str(FAULT_NAME)?;
+    Ok(())
+}
 
-    /// Tells of a row whether it passes, and if it does not, why.
-    pub fn push_case(&mut self, case: Case<'_>, detail: Option<&str>) -> Result<(), AllocError>
-        ensures count { self.new.count ≡ min (self.old.count + 1) (2 ^ 64 - 1) }
-        ensures tap { OnOk result (string_bytes self.new.tap ≡ string_bytes self.old.tap
-            ++ tap_case (min (self.old.count + 1) (2 ^ 64 - 1)) case.entry.file.now
-            case.entry.line case.entry.text.now (option_map (λ why. why.now) detail.entry)) }
-        ensures junit { OnOk result (string_bytes self.new.junit
-            ≡ string_bytes self.old.junit ++ junit_case case.entry.file.now case.entry.line
-            case.entry.text.now (option_map (λ why. why.now) detail.entry)) }
-    {
-        self.count = self.count.saturating_add(1);
-        push_tap(&mut self.tap, self.count, case, detail)?;
-        push_junit(&mut self.junit, case, detail)
-    }
-
-    /// Ends a file.
-    pub fn end_file(&mut self) -> Result<(), AllocError>
-        ensures junit { OnOk result (string_bytes self.new.junit
-            ≡ string_bytes self.old.junit ++ the_text.SUITE_END.now) }
-        ensures tap { self.new.tap ≡ self.old.tap }
-        ensures count { self.new.count ≡ self.old.count }
-    {
-        self.junit.push_str(SUITE_END)
-    }
-
-    /// Ends both texts.
-    pub fn end(&mut self) -> Result<(), AllocError>
-        ensures tap { OnOk result (string_bytes self.new.tap ≡ string_bytes self.old.tap
-            ++ codes "1.." ++ decimal self.old.count ++ codes "\n") }
-        ensures junit { OnOk result (string_bytes self.new.junit
-            ≡ string_bytes self.old.junit ++ the_text.JUNIT_END.now) }
-        ensures count { self.new.count ≡ self.old.count }
-    {
-        writeln!(self.tap, "1..{}", self.count)?;
-        self.junit.push_str(JUNIT_END)
-    }
+/// Returns what the report for JUnit tells of a file that cannot be tested.
+///
+/// Errors: `AllocError` if an allocation fails.
+pub fn junit_fault(
+    alloc: Global,
+    file: &str,
+    title: &str,
+    remarks: &str,
+) -> Result<String, AllocError>
+    ensures { IfOk result (λ junit. string_bytes junit
+        ≡ junit_fault file.now title.now remarks.now) }
+{
+    let mut junit = String::new(alloc);
+    push_fault_front(&mut junit, file)?;
+    push_failure(&mut junit, title.as_bytes(), remarks)?;
+    Ok(junit)
 }

@@ -56,17 +56,23 @@ fn push_row(text: &mut String, session: &Session, address: u16) -> Result<(), Al
     push_row_bytes(text, row.text.as_slice())
 }
 
+/// Appends so many blanks.
+pub fn push_blanks(text: &mut String, count: usize) -> Result<(), AllocError>
+    ensures { OnOk result (string_bytes text.new ≡ string_bytes text.old ++ blanks count) }
+{
+    for _ in 0..count {
+        text.push(' ')?;
+    }
+    Ok(())
+}
+
 /// Appends blanks until so many bytes follow the first `from`.
-fn push_blanks(text: &mut String, from: usize, width: usize) -> Result<(), AllocError>
+fn pad(text: &mut String, from: usize, width: usize) -> Result<(), AllocError>
     requires { from ≤ string_len text.old }
     ensures { OnOk result (string_bytes text.new ≡ string_bytes text.old
         ++ blanks (width - (string_len text.old - from))) }
 {
-    let missing = width.saturating_sub(text.len() - from);
-    for _ in 0..missing {
-        text.push(' ')?;
-    }
-    Ok(())
+    push_blanks(text, width.saturating_sub(text.len() - from))
 }
 
 /// Appends the row of the instruction at an address, with blanks behind it up to a width.
@@ -82,7 +88,7 @@ fn push_padded_row(
 {
     let from = text.len();
     push_row(text, session, address)?;
-    push_blanks(text, from, width)
+    pad(text, from, width)
 }
 
 /// Appends the status register, which is told with B clear.

@@ -63,6 +63,7 @@ pub fn push_place(text: &mut String, place: Place) -> Result<(), AllocError>
         Place::Register(register) => text.push_str(register_name(register)),
         Place::Flag(flag) => text.push_str(flag_name(flag)),
         Place::Byte(address) => write!(text, "[{address:04X}]"),
+        Place::Word(address) => write!(text, "[{address:04X}].w"),
         Place::Input => text.push_str(INPUT),
         Place::Output(index) => write!(text, "{}{index}", OUTPUT_BYTE),
         Place::OutputCount => text.push_str(OUTPUT_COUNT),
@@ -89,6 +90,7 @@ pub fn push_number(text: &mut String, place: Place, number: u64) -> Result<(), A
 {
     match place {
         Place::Cycles | Place::OutputCount | Place::Flag(_) => write!(text, "{number}"),
+        Place::Word(_) => write!(text, "{number:04X}"),
         Place::Register(_) | Place::Byte(_) | Place::Input | Place::Output(_) => {
             write!(text, "{number:02X}")
         }

@@ -8,6 +8,9 @@ pub const FOR: &str = "for ";
 /// Stands between a place and what was to be given there.
 pub const CANNOT_BE_GIVEN: &str = " cannot be given ";
 
+/// What stands behind a number that is too large to be given.
+pub const HEX_HINT: &str = " (numbers here are hexadecimal)";
+
 /// What stands before the stack pointer after a call.
 pub const RETURNED_WITH: &str = "returned with S=";
 
@@ -85,6 +88,9 @@ pub const TESTS: &str = "\" tests=\"";
 /// What stands before the number of rows that fail.
 pub const FAILURES: &str = "\" failures=\"";
 
+/// Ends a value.
+pub const QUOTE: &str = "\"";
+
 /// Ends a tag that has values.
 pub const TAG_END: &str = "\">";
 
@@ -93,6 +99,9 @@ pub const CASE: &str = "    <testcase classname=\"";
 
 /// What stands before the line of a row.
 pub const LINE: &str = "\" name=\"line ";
+
+/// What stands behind the name of a file that cannot be tested.
+pub const FAULT_NAME: &str = "\" name=\"rows and source";
 
 /// Ends a row that passes.
 pub const CASE_PASSES: &str = "\"/>\n";

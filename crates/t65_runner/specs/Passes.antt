@@ -30,7 +30,7 @@ use Rattle.t65_reader.specs.declared.row.Operation.{Operation}
 use Rattle.t65_reader.specs.declared.row.Operation.TheVariants.{Add, Subtract, Multiply, Divide, Remainder, And, Or, ExclusiveOr}
 use Rattle.t65_reader.specs.declared.row.Operator.{Operator}
 use Rattle.t65_reader.specs.declared.row.Place.{Place}
-use Rattle.t65_reader.specs.declared.row.Place.TheVariants.{Register as InRegister, Flag as InFlag, Byte, Input, Output, OutputCount, Cycles}
+use Rattle.t65_reader.specs.declared.row.Place.TheVariants.{Register as InRegister, Flag as InFlag, Byte, Word, Input, Output, OutputCount, Cycles}
 use Rattle.t65_reader.specs.declared.row.Range.{Range}
 use Rattle.t65_reader.specs.declared.row.Register.{Register}
 use Rattle.t65_reader.specs.declared.row.Register.TheVariants.{A, X, Y, S, P}
@@ -88,16 +88,28 @@ setting_of P number = setting.P number
 abbrev pub if_byte : ℕ → Event → Option Event
 if_byte number event = if nat_lt number 256 then Some event else None
 
--- The event that gives a place a value. A byte is below 256, a flag below 2.
-unfoldable pub giving : Regs → Place → ℕ → Option Event
-giving regs (InRegister register) number = if_byte number (event.Set (setting_of register number))
-giving regs (InFlag flag) number = if nat_lt number 2
+-- The event that gives a place of a byte or less a value. A byte is below 256, a flag below 2.
+unfoldable pub giving_byte : Regs → Place → ℕ → Option Event
+giving_byte regs (InRegister register) number
+    = if_byte number (event.Set (setting_of register number))
+giving_byte regs (InFlag flag) number = if nat_lt number 2
     then Some (event.Set (setting.P (status false (with_flag flag (number == 1) regs.flags)))) else None
-giving regs (Byte address) number = if_byte number (byte_patched address number)
-giving regs Input number = if_byte number (event.Input number)
-giving regs (Output index) number = None
-giving regs OutputCount number = None
-giving regs Cycles number = None
+giving_byte regs (Byte address) number = if_byte number (byte_patched address number)
+giving_byte regs (Word address) number = None
+giving_byte regs Input number = if_byte number (event.Input number)
+giving_byte regs (Output index) number = None
+giving_byte regs OutputCount number = None
+giving_byte regs Cycles number = None
+
+-- The event that gives the two bytes from an address on a value, the low byte first.
+abbrev pub giving_word : ℕ → ℕ → Option Event
+giving_word address number = if nat_lt number 65536
+    then Some (event.Patch address (number % 256 ∷ number / 256 ∷ 0 ∷ []) 2) else None
+
+-- The event that gives a place a value.
+unfoldable pub giving : Regs → Place → ℕ → Option Event
+giving regs (Word address) number = giving_word address number
+giving regs place number = giving_byte regs place number
 
 abbrev pub accepted : Session → Result State EventFault → Option Session
 accepted s (Ok state) = Some (with_state s state)
@@ -136,11 +148,17 @@ register_of Y regs = regs.y
 register_of S regs = regs.s
 register_of P regs = status false regs.flags
 
+-- The number of two bytes, the low one first. $0000 comes after $FFFF.
+abbrev pub word_at : List ℕ → ℕ → ℕ
+word_at memory address
+    = slice_index memory address + 256 * slice_index memory ((address + 1) % 65536)
+
 -- What is in a place after a call, which began in another state.
 unfoldable pub came : State → State → Place → Option ℕ
 came before after (InRegister register) = Some (register_of register after.regs)
 came before after (InFlag flag) = Some (bit (flag_of flag after.regs.flags))
 came before after (Byte address) = Some (slice_index after.bus.memory address)
+came before after (Word address) = Some (word_at after.bus.memory address)
 came before after Input = None
 came before after (Output index) = slice_get after.bus.out (length before.bus.out + index)
 came before after OutputCount = Some (length after.bus.out - length before.bus.out)
@@ -161,10 +179,6 @@ item_holds pair before after item
 
 -- ---- rows
 
--- The most steps of a call. Source: mos65.
-abbrev pub most_steps : ℕ
-most_steps = 10000000
-
 abbrev pub is_return : Why → Bool
 is_return (Break address) = address == return_address
 is_return why = false
@@ -178,7 +192,7 @@ passes_after pair wanted s (Err fault) = false
 
 abbrev pub passes_given : Pair → SeenRow → Option Session → Bool
 passes_given pair row None = false
-passes_given pair row (Some s) = passes_after pair row.wanted s (call_of row.address most_steps s)
+passes_given pair row (Some s) = passes_after pair row.wanted s (call_of row.address row.steps s)
 
 -- Whether a row passes for one value of each range, from a session on.
 unfoldable pub pair_passes : SeenRow → Session → Pair → Bool

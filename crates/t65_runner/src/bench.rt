@@ -5,7 +5,7 @@ ghost use Rattle.std.specs.Option.{option_map};
 ghost use Rattle.model.specs.State.{State};
 ghost use Rattle.t65_reader.specs.RowText.{row_view};
 ghost use Rattle.rig.specs.Subroutine.{call_of};
-ghost use Rattle.t65_runner.specs.Passes.{most_steps, failed_pair, first_failed, first_from, first_in, pair_of};
+ghost use Rattle.t65_runner.specs.Passes.{failed_pair, first_failed, first_from, first_in, pair_of};
 ghost use Rattle.t65_runner.specs.Passes.{pair_passes};
 ghost use Rattle.t65_runner.specs.Start.{fresh, IsSince};
 
@@ -17,21 +17,18 @@ use rig::call;
 use std::alloc::{AllocError, Global};
 use t65_reader::{Range, Row};
 
-/// The most steps of a call.
-pub const MOST_STEPS: u32 = 10_000_000;
-
 /// Where a called subroutine returns to, as `rig` calls it.
 const RETURN_ADDRESS: u16 = 0xffff;
 
-/// Calls a row's subroutine in a session with no breakpoint.
-fn called(session: &mut Session, address: u16) -> Result<RunEnd, AllocError>
+/// Calls a subroutine, for so many steps at most, in a session with no breakpoint.
+fn called(session: &mut Session, address: u16, steps: u32) -> Result<RunEnd, AllocError>
     requires stops { session.old.breaks ≡ [] }
     ensures ok { IfOk result
-        (λ end. call_of address most_steps session.old ≡ Ok (end, session.new)) }
+        (λ end. call_of address steps session.old ≡ Ok (end, session.new)) }
     ensures since { (s : State) → IsSince s session.old → IsSince s session.new }
     ensures stops { session.new.breaks ≡ [] }
 {
-    match call(session, address, MOST_STEPS) {
+    match call(session, address, steps) {
         Ok(end) => Ok(end),
         Err(_) => Err(AllocError),
     }
@@ -55,7 +52,7 @@ pub fn run_pair(session: &mut Session, row: &Row, pair: Pair) -> Result<bool, Al
         return Ok(false);
     }
     let before = call_start(session);
-    let end = called(session, row.address)?;
+    let end = called(session, row.address, row.steps)?;
     let has_returned = end.why == Why::Break(RETURN_ADDRESS);
     Ok(
         has_returned

@@ -8,7 +8,8 @@ ghost use Rattle.model.specs.Effect.{status};
 ghost use Rattle.model.specs.State.{State};
 ghost use Rattle.t65_runner.specs.Start.{IsSince};
 ghost use Rattle.t65_runner.specs.Passes.{atom_number, came, compares, flag_of, given_all, given_one};
-ghost use Rattle.t65_runner.specs.Passes.{giving, if_byte, item_holds, joined, number_of, operate};
+ghost use Rattle.t65_runner.specs.Passes.{giving, giving_byte, giving_word, if_byte, item_holds, joined};
+ghost use Rattle.t65_runner.specs.Passes.{number_of, operate, word_at};
 ghost use Rattle.t65_runner.specs.Passes.{pair_of, register_of, setting_of, with_flag};
 
 use debugger::{Event, Flags, Regs, Session, Setting};
@@ -97,10 +98,11 @@ fn setting_of(register: Register, byte: u8) -> Setting
     }
 }
 
-/// Returns the event that gives a place a value, or `None` where the place cannot have it.
-#[tactic(auto, unfolding(crate::specs::Passes::giving))]
-pub fn giving(regs: Regs, place: Place, number: u32) -> Option<Event>
-    ensures { result ≡ giving regs place number }
+/// Returns the event that gives a place of a byte or less a value, or `None` where the place cannot
+/// have it.
+#[tactic(auto, unfolding(crate::specs::Passes::giving_byte))]
+fn giving_byte(regs: Regs, place: Place, number: u32) -> Option<Event>
+    ensures { result ≡ giving_byte regs place number }
 {
     if number > 255 {
         return None;
@@ -121,7 +123,33 @@ pub fn giving(regs: Regs, place: Place, number: u32) -> Option<Event>
             count: 1,
         }),
         Place::Input => Some(Event::Input(byte)),
-        Place::Output(_) | Place::OutputCount | Place::Cycles => None,
+        Place::Word(_) | Place::Output(_) | Place::OutputCount | Place::Cycles => None,
+    }
+}
+
+/// Returns the event that gives the two bytes from an address on a value, or `None` where it has
+/// more than two bytes.
+fn giving_word(address: u16, number: u32) -> Option<Event>
+    ensures { result ≡ giving_word address number }
+{
+    if number > 65535 {
+        return None;
+    }
+    Some(Event::Patch {
+        address,
+        bytes: [(number % 256) as u8, (number / 256) as u8, 0],
+        count: 2,
+    })
+}
+
+/// Returns the event that gives a place a value, or `None` where the place cannot have it.
+#[tactic(auto, unfolding(crate::specs::Passes::giving))]
+pub fn giving(regs: Regs, place: Place, number: u32) -> Option<Event>
+    ensures { result ≡ giving regs place number }
+{
+    match place {
+        Place::Word(address) => giving_word(address, number),
+        _ => giving_byte(regs, place, number),
     }
 }
 
@@ -181,6 +209,16 @@ fn register_of(register: Register, regs: Regs) -> u8
     }
 }
 
+/// Returns the number that the bytes of a session at an address and at the next one are, the low
+/// one first.
+fn word_at(session: &Session, address: u16) -> u64
+    ensures { result ≡ word_at session.now.current.bus.memory address }
+{
+    let low = session.peek(address);
+    let high = session.peek(address.wrapping_add(1));
+    low as u64 + 256 * high as u64
+}
+
 /// Returns what is in a place after a call, or `None` where nothing is.
 #[tactic(auto, unfolding(crate::specs::Passes::came))]
 pub fn came(session: &Session, before: CallStart, place: Place) -> Option<u64>
@@ -192,6 +230,7 @@ pub fn came(session: &Session, before: CallStart, place: Place) -> Option<u64>
         Place::Register(register) => Some(register_of(register, session.regs()) as u64),
         Place::Flag(flag) => Some(flag_of(flag, session.regs().flags) as u64),
         Place::Byte(address) => Some(session.peek(address) as u64),
+        Place::Word(address) => Some(word_at(session, address)),
         Place::Input => None,
         Place::Output(index) => {
             let byte = session.output_at(before.output_count + index as u32)?;

@@ -12,7 +12,7 @@ pub returns-in-Ok-clause-failed : goal.returns-in-Ok-clause-failed
 returns-in-Ok-clause-failed g c = λ one. (test_view c.in-Ok.asked, c.in-Ok.ensures.taken, c.in-Ok.ensures.asked, c.run_words.ensures.failed one)
 
 pub returns-in-Ok-clause-refused : goal.returns-in-Ok-clause-refused
-returns-in-Ok-clause-refused g c = λ two. inr (inr (test_view c.in-Ok.asked, c.in-Ok.ensures.taken, c.in-Ok.ensures.asked, c.run_words.ensures.wrong two))
+returns-in-Ok-clause-refused g c = λ two. absurd (c.run_words.ensures.never two)
 
 pub returns-in-Ok-clause-begun : goal.returns-in-Ok-clause-begun
 returns-in-Ok-clause-begun g c = λ four. inr c.in-Ok.ensures.taken
@@ -24,7 +24,7 @@ pub returns-in-Err-clause-failed : goal.returns-in-Err-clause-failed
 returns-in-Err-clause-failed g c = λ one. absurd ((says_of_words test (texts c.args.words.now) _ _ _ c.in-Err.ensures.refused c.refused_words.ensures.status).never one)
 
 pub returns-in-Err-clause-refused : goal.returns-in-Err-clause-refused
-returns-in-Err-clause-refused g c = λ two. elim ((says_of_words test (texts c.args.words.now) _ _ _ c.in-Err.ensures.refused c.refused_words.ensures.status).wrong two) [ inl m ↦ inl m | inr w ↦ inr (inl w) ]
+returns-in-Err-clause-refused g c = λ two. (says_of_words test (texts c.args.words.now) _ _ _ c.in-Err.ensures.refused c.refused_words.ensures.status).wrong two
 
 pub returns-in-Err-clause-begun : goal.returns-in-Err-clause-begun
 returns-in-Err-clause-begun g c = λ four. inl ((says_of_words test (texts c.args.words.now) _ _ _ c.in-Err.ensures.refused c.refused_words.ensures.status).help (inr four))

@@ -1,0 +1,21 @@
+use Rattle.std.proofs.Common.{◌∙◌, ap, ap₂, ℕ, List, map, subst}
+use Rattle.std.specs.Borrow.{Bor}
+use Rattle.std.specs.Io.KnownBytes.{Appends}
+use Rattle.t65.specs.Suites.{suite_view, suites_of}
+use Rattle.t65.specs.Views.{test_view}
+use Rattle.t65.specs.declared.suites.Suite.{Suite}
+use Rattle.t65.proofs.Facts.{all_told}
+use Rattle.t65.proofs.run.run_told.Goals as goal
+
+pub returns : goal.returns
+returns g c =
+    let old = g.O.Write.contents c.args.output.now in
+    let begun = g.O.Write.contents c.write_text.new.output in
+    let ran = g.O.Write.contents c.run_suites.new.output in
+    let new = g.O.Write.contents c.write_text-2.new.output in
+    all_told (test_view c.args.words.now) _ old begun ran new c.in_ok-count.count c.in_ok-count.all_pass
+    (ap (λ (s : List Suite). map suite_view s) c.deref-3.ensures.value ∙ (c.in_ok-suites.ensures
+    ∙ ap₂ (λ (s f : List (Bor (List ℕ))). suites_of (map (λ x. x.now) s) (map (λ x. x.now) f)) c.deref-2.ensures.value c.deref.ensures.value))
+    (subst (Appends old begun) c.as_bytes.ensures.value c.in_ok-write_text.ensures)
+    c.in_ok-count.ensures
+    (subst (Appends ran new) (c.as_bytes-2.ensures.value ∙ c.in_ok-plan.ensures) c.in_ok-write_text-2.ensures)
