@@ -1,0 +1,12 @@
+pub mod Xor
+pub mod Marked
+pub mod Reading
+pub mod Memory
+pub mod Effects
+pub mod Between
+pub mod Telling
+pub mod Pushing
+pub mod Safe
+pub mod Starting
+pub mod Pages
+pub mod Recording
