@@ -1,8 +1,9 @@
 /* mos65.h: an NMOS 6502 with a history of its whole states, for programs and test rigs in C and C++.
  *
  * A call answers a status: MOS65_OK, which is 0, or why it was refused. A refused call changes nothing, and
- * what it was to fill in stays as it was, but for *fault, which always tells. A call on what is not open answers
- * MOS65_CLOSED before anything else.
+ * what it was to fill in stays as it was, but for *fault, which always tells. The one exception is mos65_write,
+ * which is many calls: those before the refused one were made. A call on what is not open answers MOS65_CLOSED
+ * before anything else. Four statuses say that memory was refused: mos65_is_out_of_memory knows them.
  * A machine and an assembly are variables of the caller, MOS65_INIT before they are opened and again after
  * they are closed:
  *
@@ -21,8 +22,9 @@
  * It is proved; what it is called with is not, so a caller upholds these:
  *
  * - A mos65_t or a mos65_assembly_t is not copied, and nothing but these calls changes its fields.
- * - It stays on the thread that opened it, and has one call at a time.
- * - No pointer is NULL, also where its length is 0, and two pointers of one call do not overlap.
+ * - It stays on the thread that opened it, and has one call at a time, also where the call takes it as const.
+ * - No pointer is NULL, also where its length is 0, but for what a device has; and two pointers of one call do
+ *   not overlap.
  * - malloc, realloc and free are of one allocator. No call is made from a signal handler, or from the forked
  *   child of a process with threads.
  */
@@ -76,6 +78,7 @@ enum { MOS65_A = 0, MOS65_X = 1, MOS65_Y = 2, MOS65_S = 3, MOS65_P = 4, MOS65_PC
 enum { MOS65_LIMIT = 0, MOS65_BREAK = 1, MOS65_WATCH = 2, MOS65_REFUSED = 3 };
 
 #define MOS65_RETURN 0xFFFF  /* where a call ends at its RTS: MOS65_BREAK at this address */
+#define MOS65_NO_PORT 0xFFFF /* of a configuration: a machine without a port */
 #define MOS65_CALL_EVENTS 4  /* how many events a call makes before its first step */
 
 typedef struct mos65 { void *opaque; bool live; } mos65_t;                   /* a machine, or none */
@@ -84,7 +87,7 @@ typedef struct mos65_assembly { void *opaque; bool live; } mos65_assembly_t; /* 
 
 typedef struct mos65_config {
     uint32_t history;             /* how many events are held: 0 to 65,536 */
-    uint16_t port;                /* the port's base: a multiple of 4 in $0200..$FFF4 */
+    uint16_t port;                /* the port's base: a multiple of 4 in $0200..$FFF4; or MOS65_NO_PORT */
     uint16_t rom_first, rom_last; /* the ROM's first and last address, where has_rom is true */
     bool has_rom;
     uint8_t profile;              /* 'N' or 'C' */
@@ -118,6 +121,13 @@ typedef struct mos65_ending {
     uint8_t opcode;   /* the undocumented opcode; else 0 */
 } mos65_ending_t;
 
+/* What an instruction reads and stores besides registers, and besides the bytes of its own and of pointers. */
+typedef struct mos65_access {
+    uint16_t read, store;  /* the address that its operand is read from, and the one that it stores at; else 0 */
+    bool reads, stores;
+    uint8_t pushes;        /* how many bytes it pushes on the stack */
+} mos65_access_t;
+
 /* The registers that a call sets first: those for which has_ is true. */
 typedef struct mos65_given {
     uint8_t a, x, y;
@@ -139,92 +149,105 @@ uint32_t mos65_version_number(void);
 
 /* Assembles n bytes of source. MISUSE where the assembly is open; then MISUSE or BAD_MAP for the
    configuration; then 300 + the fault's number, with its line in *fault. */
-int mos65_assemble(mos65_assembly_t *, const mos65_config_t *, const uint8_t *source, size_t n,
+int mos65_assemble(mos65_assembly_t *assembly, const mos65_config_t *config, const uint8_t *source, size_t n,
                    mos65_fault_t *fault);
 /* Puts the number of a name into *value. NO_SUCH_NAME where the source defines none such. */
-int mos65_symbol(mos65_assembly_t *, const uint8_t *name, size_t n, int32_t *value);
+int mos65_symbol(const mos65_assembly_t *assembly, const uint8_t *name, size_t n, int32_t *value);
 /* Puts the number of names into *count. */
-int mos65_symbol_count(mos65_assembly_t *, size_t *count);
+int mos65_symbol_count(const mos65_assembly_t *assembly, size_t *count);
 /* Puts the name at an index, in order of definition, into name[0..*length), and its number into *value.
    NO_SUCH_NAME from the count on; MISUSE where n is below the name's length, at most 31. */
-int mos65_symbol_at(mos65_assembly_t *, size_t index, uint8_t *name, size_t n, size_t *length,
+int mos65_symbol_at(const mos65_assembly_t *assembly, size_t index, uint8_t *name, size_t n, size_t *length,
                     int32_t *value);
 /* Puts the number of lines that were read into *count: all, or up to that of .END. */
-int mos65_line_count(mos65_assembly_t *, size_t *count);
+int mos65_line_count(const mos65_assembly_t *assembly, size_t *count);
 /* Puts the line at an index, counted from 0, into *line, and its text without its end into text[0..*length).
    It takes the same time for each line. NO_SUCH_LINE from the count on; MISUSE where n is below the text's
    length, at most 255. */
-int mos65_line(mos65_assembly_t *, size_t index, mos65_line_t *line, uint8_t *text, size_t n, size_t *length);
+int mos65_line(const mos65_assembly_t *assembly, size_t index, mos65_line_t *line, uint8_t *text, size_t n,
+               size_t *length);
 /* Puts the listing's first n bytes, or all of it, into out, and its whole length into *length. */
-int mos65_listing(mos65_assembly_t *, uint8_t *out, size_t n, size_t *length);
+int mos65_listing(const mos65_assembly_t *assembly, uint8_t *out, size_t n, size_t *length);
 /* Frees an assembly. CLOSED where none is open. A machine that was opened with it goes on. */
-int mos65_assembly_close(mos65_assembly_t *);
+int mos65_assembly_close(mos65_assembly_t *assembly);
 
 /* ---- machines opened and closed ---- */
 
 /* Opens a machine that starts with the assembly's image. MISUSE where the machine is open; CLOSED where the
    assembly is not; MISUSE or BAD_MAP for the configuration; SESSION_PORT_ADDRESS where the image has a byte
    at the port. */
-int mos65_open(mos65_t *, const mos65_config_t *, mos65_assembly_t *);
+int mos65_open(mos65_t *m, const mos65_config_t *config, const mos65_assembly_t *assembly);
 /* The same with the image of a tape of n bytes. After the configuration, 400 + the fault's number, with its
    offset in *fault. */
-int mos65_open_tape(mos65_t *, const mos65_config_t *, const uint8_t *tape, size_t n, mos65_fault_t *fault);
+int mos65_open_tape(mos65_t *m, const mos65_config_t *config, const uint8_t *tape, size_t n,
+                    mos65_fault_t *fault);
 /* The same with n bytes from an address on; MISUSE where they go past $FFFF, before the configuration. */
-int mos65_open_bytes(mos65_t *, const mos65_config_t *, uint16_t address, const uint8_t *bytes, size_t n);
+int mos65_open_bytes(mos65_t *m, const mos65_config_t *config, uint16_t address, const uint8_t *bytes,
+                     size_t n);
 /* Frees a machine. CLOSED where none is open. */
-int mos65_close(mos65_t *);
+int mos65_close(mos65_t *m);
 
 /* ---- events: each that is accepted can be gone back over ---- */
 
 /* One instruction or interrupt entry. UNDOCUMENTED, CONSOLE_FULL or CYCLES_FULL. */
-int mos65_step(mos65_t *);
+int mos65_step(mos65_t *m);
 /* A reset. CYCLES_FULL. */
-int mos65_reset(mos65_t *);
+int mos65_reset(mos65_t *m);
 /* The IRQ line, true for the level that asks for an interrupt. */
-int mos65_irq(mos65_t *, bool level);
+int mos65_irq(mos65_t *m, bool level);
 /* An NMI, pending until it is taken. */
-int mos65_nmi(mos65_t *);
+int mos65_nmi(mos65_t *m);
 /* A register's value. MISUSE for another register, or above 255 where it is not PC. */
-int mos65_set(mos65_t *, uint32_t reg, uint16_t value);
+int mos65_set(mos65_t *m, uint32_t reg, uint16_t value);
 /* One to three bytes of memory, in ROM too. BAD_LENGTH, PAST_END, PORT_ADDRESS. */
-int mos65_patch(mos65_t *, uint16_t address, const uint8_t *bytes, size_t n);
+int mos65_patch(mos65_t *m, uint16_t address, const uint8_t *bytes, size_t n);
 /* A byte of input. INPUT_FULL. */
-int mos65_input(mos65_t *, uint8_t byte);
+int mos65_input(mos65_t *m, uint8_t byte);
 
 /* ---- runs, calls, and going back ---- */
 
 /* Steps up to a limit: to the first that changes a watched byte, leads to a breakpoint, or is refused. */
-int mos65_run(mos65_t *, uint32_t limit, mos65_ending_t *);
-/* The same, and stops at an address too. TABLE_FULL where 256 other breakpoints are set. */
-int mos65_run_to(mos65_t *, uint16_t address, uint32_t limit, mos65_ending_t *);
+int mos65_run(mos65_t *m, uint32_t limit, mos65_ending_t *ending);
+/* The same, and stops at an address too. TABLE_FULL where 256 other breakpoints are set; SESSION_OUT_OF_MEMORY. */
+int mos65_run_to(mos65_t *m, uint16_t address, uint32_t limit, mos65_ending_t *ending);
 /* Calls a subroutine as a JSR at $FFFC would, and runs to its RTS: MOS65_BREAK at MOS65_RETURN, and the
    stack pointer is what it was. The JSR's own 6 cycles are not counted. did + MOS65_CALL_EVENTS events. */
-int mos65_call(mos65_t *, uint16_t address, uint32_t limit, mos65_ending_t *);
+int mos65_call(mos65_t *m, uint16_t address, uint32_t limit, mos65_ending_t *ending);
 /* The same with registers set before, and tells the registers and the cycles too: one call for all that a
    test of a routine asks. did + MOS65_CALL_EVENTS events, and one for each register that is set. */
-int mos65_call_with(mos65_t *, uint16_t address, uint32_t limit, const mos65_given_t *, mos65_called_t *);
+int mos65_call_with(mos65_t *m, uint16_t address, uint32_t limit, const mos65_given_t *given,
+                    mos65_called_t *called);
+/* Runs as mos65_run does, and ends too before an instruction that reads or stores at an address whose mark is
+   not 0: why is MOS65_LIMIT then, and did below the limit. What mos65_access tells of the instruction is what
+   counts; an interrupt may come in its place. MISUSE where n is not 65,536. */
+int mos65_run_to_access(mos65_t *m, const uint8_t *marks, size_t n, uint32_t limit, mos65_ending_t *ending);
 /* Goes back over the last count events. NO_HISTORY where fewer are held. */
-int mos65_back(mos65_t *, uint32_t count);
+int mos65_back(mos65_t *m, uint32_t count);
 /* Puts into *count how many events can be gone back over. */
-int mos65_held(mos65_t *, uint32_t *count);
-/* Breakpoints and watches, at most 256 of each. ALREADY_SET, TABLE_FULL, SESSION_PORT_ADDRESS for a watch;
-   NOT_SET. */
-int mos65_break(mos65_t *, uint16_t address);
-int mos65_unbreak(mos65_t *, uint16_t address);
-int mos65_watch(mos65_t *, uint16_t address);
-int mos65_unwatch(mos65_t *, uint16_t address);
+int mos65_held(const mos65_t *m, uint32_t *count);
+/* Breakpoints, at most 256. ALREADY_SET, TABLE_FULL, SESSION_OUT_OF_MEMORY; NOT_SET. */
+int mos65_break(mos65_t *m, uint16_t address);
+int mos65_unbreak(mos65_t *m, uint16_t address);
+/* Watches, at most 256: a run ends after a step that changes the byte at this address. A store of the byte
+   that is there already, a store in ROM, a read, and what mos65_patch changes are not seen.
+   SESSION_PORT_ADDRESS, ALREADY_SET, TABLE_FULL, SESSION_OUT_OF_MEMORY; NOT_SET. */
+int mos65_watch(mos65_t *m, uint16_t address);
+int mos65_unwatch(mos65_t *m, uint16_t address);
 
 /* ---- looking: nothing is changed ---- */
 
-int mos65_registers(mos65_t *, mos65_registers_t *);
+/* The registers and the cycles. */
+int mos65_registers(const mos65_t *m, mos65_registers_t *registers);
+/* What the instruction at PC reads and stores, before its step is made. An interrupt may come in its place. */
+int mos65_access(const mos65_t *m, mos65_access_t *access);
 /* n bytes of memory from an address on; 0 at the port. PAST_END where they go past $FFFF. */
-int mos65_read(mos65_t *, uint16_t address, uint8_t *out, size_t n);
+int mos65_read(const mos65_t *m, uint16_t address, uint8_t *out, size_t n);
 /* How many bytes the console's output has, and n of them from an index on. MISUSE where it has fewer. */
-int mos65_output_length(mos65_t *, uint32_t *count);
-int mos65_output(mos65_t *, uint32_t from, uint8_t *out, size_t n);
+int mos65_output_length(const mos65_t *m, uint32_t *count);
+int mos65_output(const mos65_t *m, uint32_t from, uint8_t *out, size_t n);
 /* The instruction at an address as text with zero bytes after it, and its bytes of memory in *count.
    MISUSE where n is below 13. */
-int mos65_disassemble(mos65_t *, uint16_t address, uint8_t *out, size_t n, uint32_t *count);
+int mos65_disassemble(const mos65_t *m, uint16_t address, uint8_t *out, size_t n, uint32_t *count);
 
 /* Any number of bytes of memory, as one patch for each three. PAST_END, and nothing is made; PORT_ADDRESS at
    the first patch that meets the port, and those before it were made. */
@@ -236,6 +259,89 @@ static inline int mos65_write(mos65_t *m, uint16_t address, const uint8_t *bytes
         if (status != MOS65_OK) return status;
     }
     return m->live ? MOS65_OK : MOS65_CLOSED;
+}
+
+/* ---- devices ---- */
+
+/* A device at addresses: read gives the byte that an instruction reads at first..last, write takes the one that
+   it stores there; NULL where there is none. They may look at the machine, set its lines, and change it by
+   events; they make no step, no run and no call of mos65_back. */
+typedef struct mos65_device {
+    uint16_t first, last;
+    uint8_t (*read)(void *user, uint16_t address);
+    void (*write)(void *user, uint16_t address, uint8_t byte);
+    void *user;
+} mos65_device_t;
+
+static inline const mos65_device_t *mos65_device_at(const mos65_device_t *devices, size_t n, uint16_t address,
+                                                    bool is_read) {
+    for (size_t i = 0; i < n; i++)
+        if (devices[i].first <= address && address <= devices[i].last
+            && (is_read ? devices[i].read != NULL : devices[i].write != NULL)) return &devices[i];
+    return NULL;
+}
+
+/* One step with devices, told as a run of one. Where an instruction reads, it is made first and gone back over,
+   since only the step tells whether an interrupt comes in its place. Then the byte is put into memory by a
+   patch, and the step made. */
+static inline int mos65_step_with(mos65_t *m, const mos65_device_t *devices, size_t n, mos65_ending_t *ending) {
+    mos65_access_t access;
+    mos65_registers_t before, after;
+    int status = mos65_access(m, &access);
+    if (status != MOS65_OK) return status;
+    const mos65_device_t *reader = access.reads ? mos65_device_at(devices, n, access.read, true) : NULL;
+    const mos65_device_t *writer = access.stores ? mos65_device_at(devices, n, access.store, false) : NULL;
+    mos65_registers(m, &before);
+    mos65_run(m, 1, ending);
+    mos65_registers(m, &after);
+    /* An interrupt's entry takes 7 cycles and pushes three bytes. No instruction that reads or stores does. */
+    bool is_entry = after.cycles - before.cycles == 7 && after.s == (uint8_t)(before.s - 3);
+    if (ending->did == 0 || is_entry) return MOS65_OK;
+    if (reader != NULL) {
+        status = mos65_back(m, 1);
+        if (status != MOS65_OK) return status;
+        uint8_t byte = reader->read(reader->user, access.read);
+        status = mos65_patch(m, access.read, &byte, 1);
+        if (status != MOS65_OK) return status;
+        mos65_run(m, 1, ending);
+    }
+    if (writer != NULL && ending->did == 1) {
+        uint8_t byte = 0;
+        mos65_read(m, access.store, &byte, 1);
+        writer->write(writer->user, access.store, byte);
+    }
+    return MOS65_OK;
+}
+
+/* Runs as mos65_run does, with devices, of which the first at an address counts. A byte that is given is one
+   event more, before its step. NO_HISTORY at the first read where no event is held; PORT_ADDRESS where a device
+   is at the port; what was made before stays. */
+static inline int mos65_run_with(mos65_t *m, const mos65_device_t *devices, size_t n, uint32_t limit,
+                                 mos65_ending_t *ending) {
+    uint8_t marks[65536] = {0};
+    mos65_ending_t end = {0, MOS65_LIMIT, 0, 0, 0};
+    uint32_t did = 0;
+    int status = MOS65_OK;
+    for (size_t i = 0; i < n; i++)
+        for (uint32_t at = devices[i].first; at <= devices[i].last; at++) marks[at] = 1;
+    do {
+        status = mos65_run_to_access(m, marks, sizeof marks, limit - did, &end);
+        if (status != MOS65_OK) return status;
+        did += end.did;
+        if (end.why != MOS65_LIMIT || did == limit) break;
+        status = mos65_step_with(m, devices, n, &end);
+        if (status != MOS65_OK) return status;
+        did += end.did;
+    } while (end.why == MOS65_LIMIT && did < limit);
+    *ending = end;
+    ending->did = did;
+    return MOS65_OK;
+}
+
+/* Whether a status says that a request for memory was refused. */
+static inline bool mos65_is_out_of_memory(int status) {
+    return status == MOS65_OUT_OF_MEMORY || status == MOS65_SESSION_OUT_OF_MEMORY
+        || status == MOS65_SOURCE_OUT_OF_MEMORY || status == MOS65_TAPE_OUT_OF_MEMORY;
 }
 
 /* A status's name, as the program prints it. */

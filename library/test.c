@@ -172,6 +172,85 @@ static void runs(mos65_t *m, mos65_assembly_t *a) {
     CHECK(mos65_reset(m) == MOS65_OK && mos65_registers(m, &r) == MOS65_OK && r.pc == hello);
 }
 
+static void accesses(void) {
+    mos65_config_t config = MOS65_CONFIG;
+    mos65_t m = MOS65_INIT;
+    mos65_access_t access = {7, 7, true, true, 7};
+    mos65_ending_t end;
+    static uint8_t marks[65536];
+    /* NOP, INC $3000, PHA, STA ($10),Y with $3010 at $10, JMP $0200 */
+    static const uint8_t code[] = {0xEA, 0xEE, 0x00, 0x30, 0x48, 0x91, 0x10, 0x4C, 0x00, 0x02};
+    CHECK(mos65_access(&m, &access) == MOS65_CLOSED && access.read == 7 && access.pushes == 7);
+    CHECK(mos65_run_to_access(&m, marks, 1, 1, &end) == MOS65_CLOSED);
+    CHECK(mos65_open_bytes(&m, &config, 0x0200, code, sizeof code) == MOS65_OK);
+    CHECK(mos65_set(&m, MOS65_PC, 0x0200) == MOS65_OK && mos65_set(&m, MOS65_Y, 4) == MOS65_OK);
+    CHECK(mos65_patch(&m, 0x10, (const uint8_t *)"\x10\x30", 2) == MOS65_OK);
+    CHECK(mos65_access(&m, &access) == MOS65_OK && !access.reads && !access.stores && access.read == 0 && access.pushes == 0);
+    CHECK(mos65_run_to_access(&m, marks, 65535, 9, &end) == MOS65_MISUSE);
+    CHECK(mos65_run_to_access(&m, marks, 65536, 9, &end) == MOS65_OK && end.why == MOS65_LIMIT && end.did == 9);
+    CHECK(mos65_back(&m, 9) == MOS65_OK);
+    marks[0x3000] = marks[0x3014] = 1;
+    CHECK(mos65_run_to_access(&m, marks, 65536, 9, &end) == MOS65_OK && end.why == MOS65_LIMIT && end.did == 1);
+    CHECK(mos65_access(&m, &access) == MOS65_OK && access.reads && access.stores && access.read == 0x3000 && access.store == 0x3000);
+    CHECK(mos65_run_to_access(&m, marks, 65536, 9, &end) == MOS65_OK && end.did == 0);
+    CHECK(mos65_step(&m) == MOS65_OK && mos65_access(&m, &access) == MOS65_OK && access.pushes == 1 && !access.stores);
+    CHECK(mos65_run_to_access(&m, marks, 65536, 9, &end) == MOS65_OK && end.did == 1);
+    CHECK(mos65_access(&m, &access) == MOS65_OK && !access.reads && access.stores && access.store == 0x3014);
+    CHECK(mos65_step(&m) == MOS65_OK && mos65_break(&m, 0x0200) == MOS65_OK);
+    CHECK(mos65_run_to_access(&m, marks, 65536, 9, &end) == MOS65_OK && end.why == MOS65_BREAK && end.did == 1 && end.address == 0x0200);
+    CHECK(mos65_patch(&m, 0x0200, (const uint8_t *)"\x02", 1) == MOS65_OK);
+    CHECK(mos65_run_to_access(&m, marks, 65536, 9, &end) == MOS65_OK && end.why == MOS65_REFUSED && end.did == 0 && end.opcode == 2);
+    CHECK(mos65_close(&m) == MOS65_OK);
+}
+
+struct counter {
+    unsigned reads, writes;
+    uint16_t address;
+    uint8_t byte;
+};
+
+static uint8_t count_read(void *user, uint16_t address) {
+    struct counter *counter = user;
+    counter->address = address;
+    return (uint8_t)(0x40 + ++counter->reads);
+}
+
+static void count_write(void *user, uint16_t address, uint8_t byte) {
+    struct counter *counter = user;
+    counter->writes++, counter->address = address, counter->byte = byte;
+}
+
+static void devices(void) {
+    mos65_config_t config = MOS65_CONFIG;
+    mos65_t m = MOS65_INIT;
+    mos65_registers_t r;
+    mos65_ending_t end;
+    struct counter counter = {0, 0, 0, 0};
+    const mos65_device_t device = {0x3000, 0x300F, count_read, count_write, &counter};
+    uint32_t held = 0;
+    uint8_t byte = 0;
+    /* LDA $3001, INC $3002, STA $3003, JMP $0209; RTI at $020C, where all vectors lead */
+    static const uint8_t code[] = {0xAD, 0x01, 0x30, 0xEE, 0x02, 0x30, 0x8D, 0x03, 0x30, 0x4C, 0x09, 0x02, 0x40};
+    static const uint8_t vectors[] = {0x0C, 0x02, 0x00, 0x02, 0x0C, 0x02};
+    CHECK(mos65_run_with(&m, &device, 1, 9, &end) == MOS65_CLOSED);
+    CHECK(mos65_open_bytes(&m, &config, 0x0200, code, sizeof code) == MOS65_OK);
+    CHECK(mos65_write(&m, 0xFFFA, vectors, 6) == MOS65_OK && mos65_set(&m, MOS65_PC, 0x0200) == MOS65_OK);
+    CHECK(mos65_run_with(&m, &device, 1, 1, &end) == MOS65_OK && end.did == 1 && end.why == MOS65_LIMIT);
+    CHECK(mos65_registers(&m, &r) == MOS65_OK && r.a == 0x41 && counter.reads == 1 && counter.address == 0x3001);
+    /* The NMI comes in place of the INC, which reads and stores nothing then. */
+    CHECK(mos65_nmi(&m) == MOS65_OK && mos65_run_with(&m, &device, 1, 2, &end) == MOS65_OK && end.did == 2);
+    CHECK(counter.reads == 1 && counter.writes == 0);
+    CHECK(mos65_run_with(&m, &device, 1, 1, &end) == MOS65_OK && counter.reads == 2 && counter.writes == 1);
+    CHECK(counter.address == 0x3002 && counter.byte == 0x43);
+    CHECK(mos65_run_with(&m, &device, 1, 9, &end) == MOS65_OK && end.did == 9 && end.why == MOS65_LIMIT);
+    CHECK(counter.address == 0x3003 && counter.byte == 0x41 && counter.writes == 2 && counter.reads == 2);
+    /* Two patches of the vectors, PC, two bytes given, the NMI, and 13 steps. */
+    CHECK(mos65_held(&m, &held) == MOS65_OK && held == 2 + 1 + 2 + 1 + 13);
+    CHECK(mos65_back(&m, held - 3) == MOS65_OK && mos65_registers(&m, &r) == MOS65_OK && r.pc == 0x0200 && r.cycles == 7);
+    CHECK(mos65_read(&m, 0x3001, &byte, 1) == MOS65_OK && byte == 0);
+    CHECK(mos65_close(&m) == MOS65_OK);
+}
+
 static void closed(mos65_t *m) {
     mos65_registers_t r;
     mos65_ending_t end = {7, 7, 7, 7, 7};
@@ -206,12 +285,21 @@ int main(void) {
     CHECK(mos65_version_number() == MOS65_VERSION_NUMBER);
     CHECK(strcmp(mos65_status_name(MOS65_SOURCE_VALUE_DIVIDE_BY_ZERO), "DivideByZero") == 0);
     CHECK(strcmp(mos65_status_name(MOS65_OUT_OF_MEMORY), "OutOfMemory") == 0 && *mos65_status_name(999) == 0);
+    int refused = 0;
+    for (int status = 0; status < 1000; status++) {
+        bool is_named = strcmp(mos65_status_name(status), "OutOfMemory") == 0;
+        CHECK(mos65_is_out_of_memory(status) == is_named);
+        refused += is_named;
+    }
+    CHECK(refused == 4);
     closed(&m);
     CHECK(mos65_open(&m, &config, &a) == MOS65_CLOSED);
     sources(&a, &config);
     CHECK(mos65_open(&m, &config, &a) == MOS65_OK && m.live && mos65_open(&m, &config, &a) == MOS65_MISUSE);
     calls(&m, &a);
     calls_with_registers(&m, &a);
+    accesses();
+    devices();
     runs(&m, &a);
     CHECK(mos65_open_bytes(&other, &rom, 0x8000, (const uint8_t *)"\x1A", 1) == MOS65_OK);
     /* $1A is INC A in profile C, and no opcode in profile N. */
@@ -222,6 +310,9 @@ int main(void) {
     CHECK(mos65_open_tape(&other, &config, (const uint8_t *)"x", 1, &fault) == MOS65_TAPE_JUNK_BETWEEN && fault.offset == 0);
     config.port = 0xF001;
     CHECK(mos65_open_tape(&other, &config, (const uint8_t *)"x", 1, &fault) == MOS65_BAD_MAP && fault.status == 0);
+    config.port = MOS65_NO_PORT;
+    CHECK(mos65_open_bytes(&other, &config, 0xF000, (const uint8_t *)"\xA9\x41", 2) == MOS65_OK);
+    CHECK(mos65_read(&other, 0xF000, &byte, 1) == MOS65_OK && byte == 0xA9 && mos65_close(&other) == MOS65_OK);
     config.port = 0xF000;
     CHECK(mos65_open_tape(&other, &config, tape, 11, &fault) == MOS65_TAPE_BAD_COUNT && fault.status == MOS65_TAPE_BAD_COUNT);
     CHECK(mos65_open_tape(&other, &config, right, sizeof right - 1, &fault) == MOS65_OK && fault.status == 0);

@@ -1,2 +1,3 @@
 mod Refused
 mod Shown
+mod TouchingRuns

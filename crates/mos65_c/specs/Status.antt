@@ -1,7 +1,7 @@
 -- What C hands over and is answered: configurations, statuses, registers and how a run ended.
 -- Source: mos65.
 use Rattle.std.specs.Prelude.{ℕ, ◌+◌, Bool, false, not, ◌||◌, ◌==◌, nat_lt, if◌then◌else◌, List, [], ◌∷◌, ◌++◌, take, Option, Some, None}
-use Rattle.model.specs.State.{Map, State, is_map}
+use Rattle.model.specs.State.{Map, State, is_map, no_port}
 use Rattle.model.specs.Effect.{status}
 use Rattle.model.specs.FaultNames.{event_fault_number}
 use Rattle.model.specs.declared.event.EventFault.{EventFault}
@@ -31,16 +31,20 @@ profile_of letter = if letter == 67 then C else N
 abbrev pub rom_of : Config → Option (ℕ × ℕ)
 rom_of c = if c.has_rom then Some (c.rom_first, c.rom_last) else None
 
+-- The base of the port; $FFFF is no base, and stands for no port.
+abbrev pub port_of : Config → ℕ
+port_of c = if c.port == 0xFFFF then no_port else c.port
+
 -- The map of a configuration.
 abbrev pub config_map : Config → Map
-config_map c = record { profile = profile_of c.profile; rom = rom_of c; port = c.port }
+config_map c = record { profile = profile_of c.profile; rom = rom_of c; port = port_of c }
 
 -- 2 where the history is above 65,536 or the profile has another letter than N or C; then 501, 500
 -- and the number of BadMap, where port and ROM make no map; else 0.
 unfoldable pub config_status : Config → ℕ
 config_status c =
     if nat_lt 65536 c.history || not (is_profile c.profile) then 2
-    else if is_map (rom_of c) c.port then 0
+    else if is_map (rom_of c) (port_of c) then 0
     else 501
 
 -- ---- events

@@ -1,10 +1,10 @@
 //! What C asks of a machine.
 
 ghost use Rattle.std.specs.Prelude.{◌≡◌, ◌≢◌, ◌≤◌, IfOk, IfErr};
-ghost use Rattle.mos65_c.specs.Status.{config_map, config_status, rom_of};
+ghost use Rattle.mos65_c.specs.Status.{config_map, config_status, port_of, rom_of};
 
 use crate::machine::MISUSE;
-use bus::MapSpec;
+use bus::{MapSpec, Port};
 
 /// The number of `BadMap`, and 500.
 const BAD_MAP: u32 = 501;
@@ -15,7 +15,7 @@ const BAD_MAP: u32 = 501;
 pub struct Config {
     /// How many events are held, at most 65,536.
     pub history: u32,
-    /// The first of the port's four addresses.
+    /// The first of the port's four addresses, or $FFFF for no port.
     pub port: u16,
     pub rom_first: u16,
     pub rom_last: u16,
@@ -34,6 +34,17 @@ fn rom(config: &Config) -> Option<(u16, u16)>
     }
 }
 
+/// Returns the port of a configuration, or none.
+fn port(config: &Config) -> Port
+    ensures { result ≡ port_of config.now }
+{
+    if config.port == 0xffff {
+        Port::none()
+    } else {
+        Port::based(config.port)
+    }
+}
+
 /// Returns the map of a configuration, or the status that refuses it.
 #[tactic(auto, unfolding(crate::specs::Status::config_status))]
 pub fn map_of(config: &Config) -> Result<MapSpec, u32>
@@ -46,7 +57,7 @@ pub fn map_of(config: &Config) -> Result<MapSpec, u32>
     if config.history > 65536 || (config.profile != b'N' && config.profile != b'C') {
         return Err(MISUSE);
     }
-    match MapSpec::new(rom(config), config.port) {
+    match MapSpec::at(rom(config), port(config)) {
         Ok(map) => {
             if config.profile == b'C' {
                 Ok(map.profile_c())

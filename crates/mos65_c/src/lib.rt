@@ -17,3 +17,4 @@ mod names;
 mod opening;
 mod running;
 mod stops;
+mod touching;
