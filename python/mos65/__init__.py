@@ -7,10 +7,12 @@
         result = m.call("multiply")
         assert m.read(0x12, 2) == b"\\x18\\x60" and result.cycles < 200
 
-Addresses are numbers 0 to 0xFFFF or names of the source. Cycles are those of the chip. A machine is reached by the library
-`libmos65.so` where it is found, and else through a pipe to the program `mos65 debug`; both answer alike.
+Addresses are numbers 0 to 0xFFFF or names of the source. Cycles are those of the chip. A machine
+is reached by the library `libmos65.so` where it is found, and else through a pipe to the program
+`mos65 debug`; both answer alike.
 """
 
+from .devices import Device
 from .faults import (
     AssemblyFault,
     Closed,
@@ -32,6 +34,7 @@ __all__ = [
     "AssemblyFault",
     "Call",
     "Closed",
+    "Device",
     "DidNotReturn",
     "EngineDied",
     "EventFault",

@@ -6,12 +6,14 @@ from typing import Optional
 
 
 class Fault(Exception):
-    """A refusal. Nothing was changed by the call that raised it.
+    """A refusal. Nothing was changed by the call that raised it, except where the call says so.
 
     name: the fault's name, as mos65 prints it
     number: its number among the faults of its class, None where it has none
     line: the line of a source, counted from 1, else None
     offset: the byte of a tape, counted from 0, else None
+
+    A Fault of no other class says that memory was refused: its name is OutOfMemory.
     """
 
     def __init__(
@@ -48,7 +50,7 @@ class EventFault(Fault):
 
 
 class SessionFault(Fault):
-    """Going back, a breakpoint or a watch is refused."""
+    """Going back, a breakpoint or a watch is refused; or an image has a byte at the port."""
 
 
 class NoSuchName(Fault):
@@ -60,19 +62,23 @@ class Closed(Fault):
 
 
 class Refused(Fault):
-    """An argument is out of its range."""
+    """An argument is out of its range, or a call is made where it cannot be."""
 
 
 class DidNotReturn(Fault):
-    """A called subroutine did not come to its RTS. `end` is how its run ended; the machine stands there."""
+    """A called subroutine did not come to its end. The machine stands where its run ended.
 
-    def __init__(self, where: str, end: object) -> None:
+    end: how that run ended
+    events: how many events `back` goes over to undo the call
+    """
+
+    def __init__(self, where: str, end: object, events: int = 0) -> None:
         super().__init__("DidNotReturn", text=f"{where}: {end}")
-        self.end = end
+        self.end, self.events = end, events
 
 
 class EngineDied(Fault):
-    """The program at the other end of the pipe has ended, or has answered what it never answers."""
+    """The program at the other end of the pipe has ended, or answered what it never answers."""
 
 
 class Timeout(EngineDied):

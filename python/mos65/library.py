@@ -9,6 +9,7 @@ import shutil
 import struct
 from typing import Optional, Tuple
 
+from .accesses import Access
 from .faults import (
     AssemblyFault,
     Closed,
@@ -23,16 +24,23 @@ from .faults import (
 from .values import Registers, RunEnd, Source, Why, made
 
 VERSION_NUMBER = 100
+NO_PORT = 0xFFFF
 
-_OWN = {1: (Closed, "Closed"), 2: (Refused, "Misuse"), 3: (Fault, "OutOfMemory"), 4: (NoSuchName, "NoSuchName"),
-        5: (Refused, "NoSuchLine")}
+_OWN = {
+    1: (Closed, "Closed"),
+    2: (Refused, "Misuse"),
+    3: (Fault, "OutOfMemory"),
+    4: (NoSuchName, "NoSuchName"),
+    5: (Refused, "NoSuchLine"),
+}
 _NAMES = {
     1: "CyclesFull Undocumented ConsoleFull PastEnd PortAddress BadLength InputFull",
     2: "NoHistory TableFull AlreadySet NotSet PortAddress OutOfMemory",
-    3: "TooLarge LineTooLong NotAscii Syntax ReservedName DuplicateName UnknownHere NoSuchForm TooManyNames"
-    " OriginRange ExprRange DivideByZero NotOneLine - - - - - - UndefinedName ByteRange WordRange BranchRange"
-    " PastEnd Overlap PortAddress ExprRange DivideByZero",
-    4: "NoRecord BadHex BadChecksum PastEnd Truncated BadCount JunkAfterEnd JunkBetween OutOfMemory",
+    3: "TooLarge LineTooLong NotAscii Syntax ReservedName DuplicateName UnknownHere NoSuchForm"
+    " TooManyNames OriginRange ExprRange DivideByZero NotOneLine - - - - - - UndefinedName"
+    " ByteRange WordRange BranchRange PastEnd Overlap PortAddress ExprRange DivideByZero",
+    4: "NoRecord BadHex BadChecksum PastEnd Truncated BadCount JunkAfterEnd JunkBetween"
+    " OutOfMemory",
     5: "BadMap",
 }
 _CLASSES = {1: EventFault, 2: SessionFault, 3: AssemblyFault, 4: TapeFault, 5: MapFault}
@@ -57,7 +65,11 @@ class _Config(ctypes.Structure):
 
 
 class _Fault(ctypes.Structure):
-    _fields_ = [("status", ctypes.c_uint32), ("line", ctypes.c_uint32), ("offset", ctypes.c_uint64)]
+    _fields_ = [
+        ("status", ctypes.c_uint32),
+        ("line", ctypes.c_uint32),
+        ("offset", ctypes.c_uint64),
+    ]
 
 
 class _Registers(ctypes.Structure):
@@ -90,14 +102,30 @@ class _Called(ctypes.Structure):
     _fields_ = [("cycles", ctypes.c_uint64), ("registers", _Registers), ("ending", _Ending)]
 
 
+class _Touch(ctypes.Structure):
+    _fields_ = [
+        ("read", ctypes.c_uint16),
+        ("store", ctypes.c_uint16),
+        ("reads", ctypes.c_bool),
+        ("stores", ctypes.c_bool),
+        ("pushes", ctypes.c_uint8),
+    ]
+
+
 class _Line(ctypes.Structure):
-    _fields_ = [(it, ctypes.c_uint32) for it in ("number", "address", "count")] + [("is_instruction", ctypes.c_bool)]
+    _fields_ = [
+        ("number", ctypes.c_uint32),
+        ("address", ctypes.c_uint32),
+        ("count", ctypes.c_uint32),
+        ("is_instruction", ctypes.c_bool),
+    ]
 
 
 # Most bytes of a name and of a line.
 _NAME, _TEXT = 31, 255
 
-# A call's arguments and what it did, as they stand in memory: writing and reading them whole takes less than by fields.
+# A call's arguments and what it did, as they stand in memory: writing and reading them whole takes
+# less than by fields.
 _GIVEN_FORM = struct.Struct("=BBBBBB")
 _CALLED_FORM = struct.Struct("=QQHBBBBBxIIIHBx")
 
@@ -115,6 +143,7 @@ _CALLS = {
     "assembly_close": [_M],
     "open": [_M, _P(_Config), _M],
     "open_tape": [_M, _P(_Config), _BYTES, _N, _P(_Fault)],
+    "open_bytes": [_M, _P(_Config), _U16, _BYTES, _N],
     "close": [_M],
     "step": [_M],
     "reset": [_M],
@@ -127,6 +156,8 @@ _CALLS = {
     "run_to": [_M, _U16, _U32, _P(_Ending)],
     "call": [_M, _U16, _U32, _P(_Ending)],
     "call_with": [_M, _U16, _U32, _P(_Given), _P(_Called)],
+    "access": [_M, _P(_Touch)],
+    "run_to_access": [_M, _BYTES, _N, _U32, _P(_Ending)],
     "back": [_M, _U32],
     "held": [_M, _P(_U32)],
     "break": [_M, _U16],
@@ -142,8 +173,8 @@ _CALLS = {
 
 
 def find_library(library: Optional[str] = None) -> Optional[str]:
-    """The library's file: the one that is given, that of MOS65_LIBRARY, the one in `lib` beside the program's folder, the one in
-    ~/.local, or the system's. None where there is none."""
+    """The library's file: the one that is given, that of MOS65_LIBRARY, the one in `lib` beside
+    the program's folder, the one in ~/.local, or the system's. None where there is none."""
     found = library or os.environ.get("MOS65_LIBRARY")
     if found:
         return found
@@ -194,15 +225,20 @@ class Library:
 class Session:
     """A machine by the library, with the same methods as `pipe.Pipe`."""
 
-    def __init__(self, library: Library, config: _Config, source: bytes, is_tape: bool) -> None:
+    def __init__(
+        self, library: Library, config: _Config, source: bytes, kind: str, at: Optional[int]
+    ) -> None:
         self._lib, self._slot = library, _Slot()
         self._m = ctypes.byref(self._slot)
         self._regs, self._ending, self._count = _Registers(), _Ending(), _U32()
-        self._given, self._called = _Given(), _Called()
+        self._given, self._called, self._touch = _Given(), _Called(), _Touch()
         self._given_ref, self._called_ref = ctypes.byref(self._given), ctypes.byref(self._called)
         self.source = Source()
         told = _Fault()
-        if is_tape:
+        if kind == "image":
+            self._check(library.open_bytes(self._m, config, at, source, len(source)))
+            return
+        if kind == "tape":
             self._check(library.open_tape(self._m, config, source, len(source), told), told)
             return
         assembly = _Slot()
@@ -215,7 +251,8 @@ class Session:
 
     def _source_of(self, assembly: _Slot) -> Source:
         found, count, length, number = Source(), _N(), _N(), ctypes.c_int32()
-        name, text, line = ctypes.create_string_buffer(_NAME), ctypes.create_string_buffer(_TEXT), _Line()
+        name, text = (ctypes.create_string_buffer(it) for it in (_NAME, _TEXT))
+        line = _Line()
         self._check(self._lib.symbol_count(assembly, count))
         for index in range(count.value):
             self._check(self._lib.symbol_at(assembly, index, name, _NAME, length, number))
@@ -326,6 +363,16 @@ class Session:
     def back(self, count: int) -> None:
         self._check(self._lib.back(self._m, count))
 
+    def access(self) -> Access:
+        t = self._touch
+        self._check(self._lib.access(self._m, t))
+        return (t.read if t.reads else None), (t.store if t.stores else None)
+
+    def run_to_access(self, marks: bytes, limit: int) -> RunEnd:
+        status = self._lib.run_to_access(self._m, marks, len(marks), limit, self._ending)
+        self._check(status)
+        return self._end()
+
     def held(self) -> int:
         self._check(self._lib.held(self._m, self._count))
         return self._count.value
@@ -348,7 +395,10 @@ class Session:
         return out.value.decode("ascii"), self._count.value
 
 
-def config_of(history: int, port: int, rom: Optional[Tuple[int, int]], profile: str) -> _Config:
+def config_of(
+    history: int, port: Optional[int], rom: Optional[Tuple[int, int]], profile: str
+) -> _Config:
     """A configuration as the library takes it."""
     first, last = rom or (0, 0)
-    return _Config(history, port, first, last, rom is not None, ord(profile))
+    base = NO_PORT if port is None else port
+    return _Config(history, base, first, last, rom is not None, ord(profile))

@@ -12,6 +12,7 @@ import time
 from dataclasses import replace
 from typing import List, Optional, Sequence, Set, Tuple
 
+from .accesses import Access, access_here, run_to_access
 from .faults import (
     AssemblyFault,
     Closed,
@@ -88,19 +89,22 @@ def source_of(program: str, source: str, options: Sequence[str]) -> Source:
                 found.lines.setdefault(int(address, 16), int(line))
     # Only these bytes end a line, and what stands behind `.END` may be no ASCII.
     with open(source, encoding="latin-1", newline="") as it:
-        found.texts = [line[:-1] if line.endswith("\r") else line for line in it.read().split("\n")]
+        found.texts = [row[:-1] if row.endswith("\r") else row for row in it.read().split("\n")]
     return found
 
 
 class Pipe:
-    """The program, with one request at a time. A reply that takes longer than `timeout` seconds ends it."""
+    """The program, with one request at a time.
+
+    A reply that takes longer than `timeout` seconds ends it.
+    """
 
     def __init__(self, program: str, words: Sequence[str], timeout: float) -> None:
         self._timeout, self._pending = timeout, b""
         self._breaks: Set[int] = set()
         # The registers, where nothing has changed them since they were told.
         self._known: Optional[Registers] = None
-        # How many events the last call made and the registers before it, where no event came after it.
+        # How many events the last call made and the registers before it, if no event came after.
         self._last: Optional[Tuple[int, Registers]] = None
         self._errors = tempfile.TemporaryFile()
         self._engine: Optional[subprocess.Popen[bytes]] = subprocess.Popen(
@@ -171,7 +175,10 @@ class Pipe:
         return time.monotonic() + self._timeout
 
     def _ask_all(self, lines: Sequence[str], is_judged: bool = True) -> List[str]:
-        """Sends lines with one reply line each, and returns the replies. The first refusal is raised once all have come."""
+        """Sends lines with one reply line each, and returns the replies.
+
+        The first refusal is raised once all have come.
+        """
         if any(not it.startswith(_KEEPING) for it in lines):
             self._known = None
         if any(not it.startswith(_LOOKING) for it in lines):
@@ -317,12 +324,15 @@ class Pipe:
         return None if is_back else end, end.steps, after.cycles - before.cycles, after
 
     def _has_room(self, address: int) -> None:
-        """Raises TableFull where no breakpoint can be set at an address, before anything is changed."""
+        """Raises TableFull where no breakpoint can be set at an address, and changes nothing."""
         if address not in self._breaks and len(self._breaks) == _TABLE:
             raise SessionFault("TableFull", 2)
 
     def _stopping(self, address: int, ready: List[str], limit: int) -> Tuple[RunEnd, Registers]:
-        """A run that also stops at an address, and the registers after it; a breakpoint that was set there before stays."""
+        """A run that also stops at an address, and the registers after it.
+
+        A breakpoint that was set there before stays.
+        """
         is_set = address in self._breaks
         first = ready if is_set else [f"break {address:04X}", *ready]
         last = ["regs"] if is_set else [f"unbreak {address:04X}", "regs"]
@@ -343,6 +353,12 @@ class Pipe:
         self._ask(f"back {min(count, _MOST)}")
         if last and last[0] == count:
             self._known = last[1]
+
+    def access(self) -> Access:
+        return access_here(self)
+
+    def run_to_access(self, marks: bytes, limit: int) -> RunEnd:
+        return run_to_access(self, marks, limit)
 
     def held(self) -> int:
         # More than can be held: the refusal tells how many are.

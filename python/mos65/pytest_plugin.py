@@ -1,4 +1,5 @@
-"""Shows, when a test fails, the last twenty steps of each machine that is open, with their source lines."""
+"""Shows, when a test fails, the last twenty steps of each machine that is open, with their source
+lines. The machines stay as they are."""
 
 from __future__ import annotations
 
@@ -8,7 +9,7 @@ from .machine import Machine
 
 
 def told() -> str:
-    """The last steps of all open machines. Their machines stand before these steps afterwards."""
+    """The last steps of all open machines."""
     parts = []
     for machine in list(Machine.open_machines):
         try:

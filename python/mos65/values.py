@@ -8,7 +8,10 @@ from typing import Dict, List, Optional
 
 
 def made(kind, fields):
-    """A frozen value with these fields. A call of the class sets each by itself, which takes twice as long."""
+    """A frozen value with these fields.
+
+    A call of the class sets each by itself, which takes twice as long.
+    """
     it = object.__new__(kind)
     object.__setattr__(it, "__dict__", fields)
     return it
@@ -16,7 +19,8 @@ def made(kind, fields):
 
 @dataclass
 class Source:
-    """The names of a source with their numbers, the line of each address at which one with bytes begins, and each line's text."""
+    """The names of a source with their numbers, the line of each address at which one with bytes
+    begins, and each line's text."""
 
     symbols: Dict[str, int] = field(default_factory=dict)
     lines: Dict[int, int] = field(default_factory=dict)
@@ -111,10 +115,10 @@ class Call:
 
 @dataclass(frozen=True)
 class Step:
-    """An instruction that was executed.
+    """An instruction that was executed, or an interrupt's entry in its place.
 
     registers: the registers before it
-    text: the instruction, as it is disassembled
+    text: the instruction, as it is disassembled; `interrupt` for an entry
     line: the line of the source, counted from 1, None where no line stands there
     source: the text of that line
     """

@@ -1,51 +1,44 @@
-"""Tests of the package by both ways, with the standard library alone: python3 -m unittest discover python/tests
+"""Tests of the package by both ways, with the standard library alone:
 
-MOS65_PROGRAM and MOS65_LIBRARY name the program and the library; a way whose file is not named is left out. Expected values are counted by
-hand: 200 times 123 is $6018; cycles are those of the MCS6500 manual's table."""
+    python3 -m unittest discover python/tests
+
+MOS65_PROGRAM and MOS65_LIBRARY name the program and the library; a way whose file is not named is
+left out. Expected values are counted by hand: 200 times 123 is $6018; cycles are those of the
+MCS6500 manual's table."""
 
 import os
 import stat
-import sys
 import tempfile
 import types
 import unittest
 import unittest.mock
 
-HERE = os.path.dirname(os.path.abspath(__file__))
-sys.path.insert(0, os.path.dirname(HERE))
+from ways import LIBRARY, PROGRAM, SOURCE, Ways  # first: it finds the package
 
-try:
-    import pytest  # noqa: F401
-except ImportError:
-    # Where there is no pytest its hook is called by hand.
-    stand_in = types.ModuleType("pytest")
-    stand_in.hookimpl = lambda **options: lambda hook: hook
-    sys.modules["pytest"] = stand_in
-
-import mos65  # noqa: E402
-from mos65 import Machine, Why, pytest_plugin  # noqa: E402
-from mos65.library import find_library  # noqa: E402
-
-SOURCE = os.path.join(HERE, "routines.a65")
-PROGRAM = os.environ.get("MOS65_PROGRAM")
-LIBRARY = os.environ.get("MOS65_LIBRARY")
+import mos65
+from mos65 import Machine, Why, pytest_plugin
+from mos65.library import find_library
 
 
-class Ways:
+INTERRUPTED = b"""*=$0200
+start:  CLI
+loop:   JMP loop
+irq:    RTI
+nmi:    RTI
+count:  PHA
+        PHP
+        PLA
+        STA $21
+        PLA
+        INC $20
+        RTI
+*=$FFFA
+.WORD nmi,start,irq
+"""
+
+
+class Calls(Ways):
     """What a machine does, whichever way leads to it."""
-
-    way: dict = {}
-
-    def machine(self, source=SOURCE, **options):
-        made = Machine(source, **options, **self.way)
-        self.addCleanup(made.close)
-        return made
-
-    def refused(self, kind, name, number, call, *words, **options):
-        with self.assertRaises(kind) as raised:
-            call(*words, **options)
-        self.assertEqual((raised.exception.name, raised.exception.number), (name, number))
-        return raised.exception
 
     def test_a_routine_is_called_and_taken_back(self):
         m = self.machine()
@@ -115,10 +108,12 @@ class Ways:
         m.set(pc=0x0300)
         self.refused(mos65.EventFault, "Undocumented", 2, m.step)
         end = m.run(9)
-        self.assertEqual((end.steps, end.why, end.opcode, end.address), (0, Why.REFUSED, 2, 0x0300))
+        self.assertEqual((end.steps, end.why), (0, Why.REFUSED))
+        self.assertEqual((end.opcode, end.address), (2, 0x0300))
 
     def test_sources_and_maps_are_refused(self):
-        fault = self.refused(mos65.AssemblyFault, "DuplicateName", 6, self.machine, b"a1 = 1\na1 = 2\n")
+        twice = b"a1 = 1\na1 = 2\n"
+        fault = self.refused(mos65.AssemblyFault, "DuplicateName", 6, self.machine, twice)
         self.assertEqual(fault.line, 2)
         fault = self.refused(mos65.TapeFault, "JunkBetween", 8, self.machine, b"x", tape=True)
         self.assertEqual(fault.offset, 0)
@@ -188,6 +183,105 @@ class Ways:
         self.assertEqual(rows[0].line, 19)
         self.assertIn("ADC $10", str(rows[0]))
 
+    def all_of(self, m):
+        """What is known of a machine, its history apart."""
+        return m.registers, m.read(0, 0x10000), m.output, m.held
+
+    def test_the_last_steps_leave_the_machine_as_it_was(self):
+        m = self.machine(history=40)
+        m.send(b"i")
+        m.write(0x20, bytes(range(7)))
+        m.call("times10", a=7, x=1)
+        m.irq(True)
+        m.irq(False)
+        m.call("hello")
+        m.set(pc="times10", s=0x80)
+        m.write(0x10, b"\x07")
+        m.run(3)
+        m.back(1)
+        before = self.all_of(m)
+        rows = m.last_steps(20)
+        self.assertEqual(self.all_of(m), before)
+        self.assertEqual(len(rows), 14)
+        self.assertEqual([it.text for it in rows[-3:]], ["RTS", "STA $10", "ASL A"])
+        self.assertEqual([len(m.last_steps(it)) for it in (0, 1, 5)], [0, 1, 5])
+        self.assertEqual(self.all_of(m), before)
+        # 7 steps of each call, and 2 after them; the oldest events are no longer held.
+        while m.held:
+            m.back(1)
+        self.assertEqual(m.registers.cycles, 7)
+
+    def test_a_write_is_gone_back_over_by_no_look(self):
+        m = self.machine()
+        m.write(0x20, b"\x07")
+        m.set(pc="multiply")
+        m.run(3)
+        self.assertEqual(len(m.last_steps()), 3)
+        self.assertEqual((m.read(0x20), m.held), (b"\x07", 5))
+
+    def test_a_part_of_a_call_is_gone_back_over(self):
+        m = self.machine()
+        first = m.call("times10", a=7)
+        for count in (first.events - 3, 3, 1):
+            m.call("times10", a=9, y=1)
+            m.back(count)
+            before = self.all_of(m)
+            m.last_steps()
+            self.assertEqual(self.all_of(m), before)
+            m.back(first.events + 1 - count)
+
+    def test_an_interrupt_among_the_last_steps(self):
+        m = self.machine(b"*=$0200\nLDA #1\nBRK\n*=$FFFC\n.WORD $0200,$0200\n")
+        m.nmi()
+        m.run(3)
+        self.assertEqual([it.text for it in m.last_steps()], ["interrupt", "BRK", "LDA #$01"])
+
+    def test_a_missing_file(self):
+        with self.assertRaises(FileNotFoundError):
+            self.machine("there is no such file.a65")
+        with self.assertRaises(FileNotFoundError):
+            self.machine("there is no such file.tape", tape=True)
+
+    def test_sources_tapes_and_images(self):
+        tape = b";030200E61060015B\r\n;0000010001\r\n"
+        rows = [(0x0200, "INC $10"), (0x0202, "RTS")]
+        for m in (
+            self.machine(tape),
+            self.machine(tape, tape=True),
+            self.machine(b"\xe6\x10\x60", at=0x0200),
+        ):
+            self.assertEqual(m.disassemble(0x0200, 2), rows)
+            self.assertEqual((m.symbols, m.lines, m.line(0x0200)), ({}, {}, None))
+        self.assertEqual(self.machine(tape, tape=False).read(0x0200, 3), bytes(3))
+        whole = bytes(it * 7 % 251 for it in range(0xF000))
+        m = self.machine(whole, at=0, port=0xF000)
+        self.assertEqual(m.read(0, 0xF001), whole + b"\0")
+        self.refused(mos65.Refused, "Image", None, self.machine, b"ab", at=0xFFFF)
+        self.refused(mos65.Refused, "Words", None, self.machine, b"ab", at=0, tape=True)
+        self.refused(mos65.SessionFault, "PortAddress", 5, self.machine, b"a", at=0xF003)
+        self.refused(mos65.AssemblyFault, "PortAddress", 26, self.machine, b"*=$F003\nNOP\n")
+
+    def test_what_begins_as_a_tape_does(self):
+        # Without its sum, with a wrong one, past $FFFF, and behind a line of comment.
+        for text in (
+            b";030200E61060\n",
+            b";030200E610600158\n",
+            b";03FFFEE610600356\n",
+            b"; 1\n;030200E61060015B\n",
+        ):
+            self.assertEqual(self.machine(text).read(0x0200, 3), bytes(3))
+
+    def test_lines_have_the_texts_of_the_source(self):
+        source = b"a1 = 1\r\n*=$0200 ; caf\r\nx1: NOP\n\n.BYTE 1,2\n.END\n\xff nothing\n"
+        m = self.machine(source)
+        self.assertEqual(m.lines, {0x0200: 3, 0x0201: 5})
+        self.assertEqual([m.line(0x0200), m.line(0x0201)], [(3, "x1: NOP"), (5, ".BYTE 1,2")])
+
+    def test_registers_are_set_all_or_none(self):
+        m = self.machine()
+        self.refused(mos65.Refused, "Value", None, m.set, a=1, x=256)
+        self.assertEqual((m.registers.a, m.held), (0, 0))
+
     def test_a_failed_test_shows_the_last_steps(self):
         m = self.machine()
         m.call("times10", a=7)
@@ -200,6 +294,7 @@ class Ways:
         self.assertEqual(name, "mos65: the last steps")
         self.assertEqual(len(text.splitlines()), 7)
         self.assertIn("ADC $10", text)
+        self.assertEqual(m.held, 12)
 
     def test_signals(self):
         m = self.machine(rom=(0x8000, 0x8FFF), profile="C")
@@ -215,6 +310,85 @@ class Ways:
         m.write(0x0200, data)
         self.assertEqual(m.read(0x0200, len(data)), data)
 
+    def test_a_run_to_a_cycle(self):
+        m = self.machine()
+        m.set(pc="forever")
+        self.assertEqual(m.run_until_cycle(7), mos65.RunEnd(0, Why.LIMIT))
+        # JMP takes 3 cycles: 10, 13 ..
+        for cycle, came in ((8, 10), (10, 10), (11, 13), (3007, 3007), (100000, 100000)):
+            end = m.run_until_cycle(cycle)
+            self.assertEqual((m.cycles, end.why), (came, Why.LIMIT))
+        m.set(pc="multiply")
+        m.break_at("next")
+        end = m.run_until_cycle(200000)
+        self.assertEqual((end.steps, end.why, end.address), (2, Why.BREAK, m.symbols["next"]))
+        self.refused(mos65.Refused, "Cycle", None, m.run_until_cycle, -1)
+
+    def test_an_interrupt_at_a_cycle(self):
+        m = self.machine(INTERRUPTED)
+        m.irq(True, at=20)
+        m.nmi(at=30)
+        # CLI 9, then JMP 12, 15, 18, 21: the IRQ's entry to 28, RTI 34: the NMI's entry to 41.
+        self.assertEqual([m.step().cycles for _ in range(8)], [9, 12, 15, 18, 21, 28, 34, 41])
+        self.assertEqual(m.registers.pc, m.symbols["nmi"])
+        m.back(8)
+        self.assertEqual(m.run_until_cycle(41).steps, 6)
+        self.assertEqual(m.registers.pc, m.symbols["nmi"])
+        m.back(m.held)
+        self.assertEqual(m.registers.cycles, 7)
+        m.run(8)
+        self.assertEqual((m.cycles, m.registers.pc), (41, m.symbols["nmi"]))
+        self.refused(mos65.Refused, "Cycle", None, m.irq, True, at=-1)
+
+    def test_a_handler_is_called(self):
+        m = self.machine(INTERRUPTED, profile="C")
+        m.set(p=0xC9)
+        before = m.registers
+        call = m.call("count", a=5, interrupt=True)
+        # PHA 3, PHP 3, PLA 4, STA zp 3, PLA 4, INC zp 5, RTI 6; what PHP pushes has I and no D.
+        self.assertEqual((call.cycles, call.steps, call.events), (28, 7, 1 + 6 + 7))
+        self.assertEqual(m.read(0x20, 2), bytes([1, 0xF5]))
+        self.assertEqual(m.read(0x0100 + before.s - 2, 3), b"\xe9\xff\xff")
+        after = call.registers
+        self.assertEqual((after.a, after.s, after.p, after.pc), (5, before.s, before.p, 0xFFFF))
+        m.back(call.events)
+        self.assertEqual((m.registers, m.held), (before, 1))
+        with self.assertRaises(mos65.DidNotReturn) as raised:
+            m.call("loop", limit=9, interrupt=True)
+        m.back(raised.exception.events)
+        self.assertEqual((m.registers, m.held), (before, 1))
+        for at in range(256):
+            m.break_at(0x4000 + at)
+        self.refused(mos65.SessionFault, "TableFull", 2, m.call, "count", interrupt=True)
+        self.assertEqual((m.registers, m.held), (before, 1))
+
+    def test_a_copy(self):
+        m = self.machine(history=30)
+        m.send(b"ij")
+        m.call("hello")
+        m.write(0x20, bytes(range(10)))
+        m.irq(True)
+        m.call("times10", a=7, x=3)
+        m.back(2)
+        m.break_at("times10")
+        m.watch(0x10)
+        other = m.copy()
+        self.addCleanup(other.close)
+        self.assertEqual(self.all_of(other), self.all_of(m))
+        self.assertEqual((other.symbols, other.lines), (m.symbols, m.lines))
+        for it in (m, other):
+            self.refused(mos65.SessionFault, "AlreadySet", 3, it.break_at, "times10")
+            self.refused(mos65.SessionFault, "AlreadySet", 3, it.watch, 0x10)
+        rows = [m.last_steps(), other.last_steps()]
+        self.assertEqual(rows[0], rows[1])
+        other.run(1)
+        self.assertNotEqual(other.registers, m.registers)
+        m.back(m.held)
+        other.back(other.held)
+        self.assertEqual(self.all_of(other), self.all_of(m))
+        m.close()
+        self.refused(mos65.Closed, "Closed", 1, m.copy)
+
     def test_closed(self):
         m = self.machine()
         m.close()
@@ -227,7 +401,7 @@ class Ways:
 
 
 @unittest.skipUnless(PROGRAM, "MOS65_PROGRAM is not named")
-class ByPipe(Ways, unittest.TestCase):
+class ByPipe(Calls, unittest.TestCase):
     way = {"library": False, "program": PROGRAM}
 
     def test_a_program_that_dies(self):
@@ -247,7 +421,7 @@ class ByPipe(Ways, unittest.TestCase):
 
 
 @unittest.skipUnless(LIBRARY, "MOS65_LIBRARY is not named")
-class ByLibrary(Ways, unittest.TestCase):
+class ByLibrary(Calls, unittest.TestCase):
     way = {"library": LIBRARY}
 
     def test_the_library_is_found_in_the_home_folder(self):
