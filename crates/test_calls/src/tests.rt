@@ -143,6 +143,14 @@ fn map_tells_its_parts(rt: HostRuntime) -> Result<(), Fail> {
     Ok(())
 }
 
+/// Without a port no address is the port's, and the ROM may reach to the end.
+#[test]
+fn map_without_port(rt: HostRuntime) -> Result<(), Fail> {
+    let map = MapSpec::without_port(Some((0x0200, 0xffff)))?;
+    assert_eq!(rt; (map.is_port(0xf000), map.is_rom(0xffff)), (false, true));
+    Ok(())
+}
+
 /// Maps that are rejected.
 #[test]
 fn refused_maps(rt: HostRuntime) {
