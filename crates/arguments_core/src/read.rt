@@ -116,11 +116,11 @@ fn asked<'a>(matches: &ArgMatches<'a>) -> Option<Words<'a>>
 ///
 /// - `Help`: the words ask for help. The text is `clap`'s.
 /// - `Usage`: a word is missing or unknown, or there are too many. The text is `clap`'s.
-/// - `Value`: `clap` takes the words, and a value is wrong: `--port` has anything but four hex
-///   digits, `--history` anything but one to five decimal digits of a number up to 65,536, `--rom`
-///   anything but two such addresses with `-` between them, `--profile` anything but `N` or `C`; LO
-///   or HI of `dis` is anything but such an address, or LO is above HI; two files of `asm` have one
-///   name.
+/// - `Value`: `clap` takes the words, and a value is wrong: `--port` has neither four hex digits
+///   nor `none`, `--history` anything but one to five decimal digits of a number up to 65,536,
+///   `--rom` anything but two such addresses with `-` between them, `--profile` anything but `N` or
+///   `C`; LO or HI of `dis` is anything but such an address, or LO is above HI; two files of `asm`
+///   have one name.
 /// - `OutOfMemory`: an allocation failed.
 pub fn read_words<'a>(alloc: Global, words: &'a [&'a str]) -> Result<Words<'a>, WordsFault>
     ensures asked { IfOk result (λ w. asked (texts words.entry.now) ≡ Some (view w)) }
