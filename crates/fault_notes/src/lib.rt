@@ -4,7 +4,7 @@
 //! `faults_text` writes a block for each fault: the fault's line, name and number, words, and the
 //! source's own line with a mark under the bytes that are meant. `told_faults` finds the faults
 //! itself. Which bytes are meant is proved (`Marks.antt`); what the words say is tested and not
-//! proved. `note` finds both for each kind of fault, with `scan` for bytes that begin no token,
+//! proved. `note_of` finds both for each kind of fault, with `scan` for bytes that begin no token,
 //! `form` for tokens that are none of the grammar, `values` for values, and `near` for names that
 //! are nearly the same.
 #![tactic(auto)]
@@ -18,3 +18,4 @@ mod values;
 mod wording;
 
 pub use block::{faults_text, told_faults};
+pub use note::{Context, note_of};

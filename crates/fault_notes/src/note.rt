@@ -575,7 +575,9 @@ fn ascii_words(alloc: Global, bytes: &[u8]) -> Result<Vec<u8>, AllocError> {
     phrase(alloc, "a byte is neither printable ASCII nor a tab")
 }
 
-/// Returns what is said of a fault of a line, by its number.
+/// Returns what is said of a fault of a line, and which bytes of the line are meant. Source: mos65.
+///
+/// Errors: `AllocError` if an allocation fails.
 pub fn note_of(
     alloc: Global,
     context: &Context<'_, '_>,
