@@ -1,5 +1,4 @@
 mod Digits
-mod Ends
 mod Lines
 mod Parses
 pub mod Parsed

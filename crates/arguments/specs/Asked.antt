@@ -2,7 +2,8 @@
 -- among them. Source: mos65.
 use Rattle.std.specs.Prelude.{ℕ, Bool, false, Option, Some, None, codes}
 use Rattle.std.specs.Str.{bytes_eq}
-use Rattle.arguments.specs.Values.{port_asked, profile_asked, rom_asked}
+use Rattle.arguments.specs.Values.{form_asked, port_asked, profile_asked, rom_asked}
+use Rattle.arguments.specs.declared.file_options.FileForm.{FileForm}
 use Rattle.arguments.specs.declared.file_options.FileWords.{FileWords}
 use Rattle.clap.specs.Words.{Text}
 use Rattle.model.specs.State.{Map}
@@ -15,7 +16,7 @@ is_flag (Some text) = bytes_eq text (codes "true")
 
 pub record FileAsked : Type 0 where
   pub file : Text
-  pub is_tape : Bool
+  pub form : FileForm
   pub port : ℕ
   pub rom : Option (ℕ × ℕ)
   pub profile : Profile
@@ -24,15 +25,20 @@ pub record FileAsked : Type 0 where
 abbrev pub map_of : FileAsked → Map
 map_of file = record { profile = file.profile; rom = file.rom; port = file.port }
 
-abbrev pub file_of : Option Text → Bool → Option ℕ → Option (Option (ℕ × ℕ)) → Option Profile
-    → Option FileAsked
-file_of (Some file) is_tape (Some port) (Some rom) (Some profile) = Some
-    (record { file = file; is_tape = is_tape; port = port; rom = rom; profile = profile })
-file_of file is_tape port rom profile = None
+abbrev pub file_of : Option Text → Option FileForm → Option ℕ → Option (Option (ℕ × ℕ))
+    → Option Profile → Option FileAsked
+file_of (Some file) (Some form) (Some port) (Some rom) (Some profile) = Some
+    (record { file = file; form = form; port = port; rom = rom; profile = profile })
+file_of file form port rom profile = None
+
+-- How the file is read.
+abbrev pub form_by : (Text → Option Text) → Option FileForm
+form_by value = form_asked (is_flag (value (codes "tape"))) (value (codes "bin"))
+    (is_flag (value (codes "prg")))
 
 -- What the values of the names ask for, where each is one that its name can have.
 abbrev pub file_asked : (Text → Option Text) → Option FileAsked
-file_asked value = file_of (value (codes "FILE")) (is_flag (value (codes "tape")))
+file_asked value = file_of (value (codes "FILE")) (form_by value)
     (port_asked (value (codes "port"))) (rom_asked (value (codes "rom")))
     (profile_asked (value (codes "profile")))
 
@@ -40,7 +46,7 @@ file_asked value = file_of (value (codes "FILE")) (is_flag (value (codes "tape")
 abbrev pub file_view : FileWords → FileAsked
 file_view w = record {
   file = w.file.now;
-  is_tape = w.is_tape;
+  form = w.form;
   port = w.port;
   rom = w.rom;
   profile = w.profile;

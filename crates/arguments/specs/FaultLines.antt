@@ -5,11 +5,11 @@ use Rattle.arguments.specs.declared.fault.WordsFault.{WordsFault}
 use Rattle.arguments.specs.declared.fault.WordsFault.TheVariants.{Help, Usage, Value, Wrong}
 use Rattle.arguments.specs.declared.fault.WordsFault.TheVariants as words_fault
 use Rattle.arguments.specs.declared.load_fault.LoadFault.{LoadFault}
-use Rattle.arguments.specs.declared.load_fault.LoadFault.TheVariants.{AtPort, Faults, LooksLikeTape, Refused}
+use Rattle.arguments.specs.declared.load_fault.LoadFault.TheVariants.{AtPort, Faults, LooksLikeHex, LooksLikeSRecords, LooksLikeTape, NoImage, Refused}
 use Rattle.arguments.specs.declared.refusal.ReadFault.TheVariants.{NoSuchFile, PermissionDenied as permission_denied}
 use Rattle.arguments.specs.declared.refusal.Refusal.{Refusal}
 use Rattle.arguments.specs.declared.refusal.Refusal.TheVariants.{Words, Map, Source, Tape, Session, OutOfMemory, Read, Write}
-use Rattle.arguments.specs.declared.wording.TheConstants.{AT_PORT, IS_FREE, NONE_IS_FREE, NO_SUCH_FILE, PERMISSION_DENIED, TRY_PORT}
+use Rattle.arguments.specs.declared.wording.TheConstants.{AT_PORT, IS_FREE, LIKE_HEX, LIKE_S_RECORDS, LIKE_TAPE, NONE_IS_FREE, NO_SUCH_FILE, PERMISSION_DENIED, TRY_PORT, USE_TAPE}
 use Rattle.model.specs.FaultTexts.{bus_fault_text, session_fault_text, source_fault_text, tape_fault_text}
 use Rattle.model.specs.Listing.{address_text}
 use Rattle.model.specs.Text.{hex_address}
@@ -63,9 +63,19 @@ file_line file (Map fault) = fault_line (Map fault)
 file_line file OutOfMemory = fault_line OutOfMemory
 file_line file refusal = named_line file refusal
 
--- A file is given as a source, and begins with a record of a tape.
-abbrev pub tape_line : List ℕ → List ℕ
-tape_line file = codes "mos65: " ++ (file ++ codes " looks like a tape: use --tape\n")
+-- A file is given as a source, and begins with a record of an image.
+abbrev pub like_line : List ℕ → List ℕ → List ℕ
+like_line like file = joined (codes "mos65: " ∷ file ∷ like ∷ USE_TAPE.now ∷ [])
+
+-- The number of what is wrong, if it has one, and the end of the line.
+unfoldable pub number_part : Option ℕ → List ℕ
+number_part None = codes "\n"
+number_part (Some number) = codes " " ++ decimal number ++ codes "\n"
+
+-- A file is no image: where that shows, what is wrong, and its number.
+abbrev pub no_image_line : List ℕ → List ℕ → List ℕ → Option ℕ → List ℕ
+no_image_line file place what number = joined (codes "mos65: " ∷ file ∷ codes ": " ∷ place
+    ∷ what ∷ number_part number ∷ [])
 
 -- Which base is free, after the addresses of the port.
 abbrev pub free_part : Option ℕ → List ℕ
@@ -76,14 +86,17 @@ free_part (Some base) = TRY_PORT.now ++ hex_address base ++ IS_FREE.now
 unfoldable pub port_part : ℕ → ℕ → Option ℕ → List ℕ
 port_part first last free = address_text first ++ codes "-" ++ address_text last ++ free_part free
 
--- The image of a tape has bytes at the port.
+-- The image of a file has bytes at the port.
 abbrev pub port_line : List ℕ → ℕ → ℕ → Option ℕ → List ℕ
 port_line file first last free
     = joined (codes "mos65: " ∷ file ∷ AT_PORT.now ∷ port_part first last free ∷ [])
 
 -- All faults of a source, or one line.
 unfoldable pub load_text : LoadFault → List ℕ → List ℕ
-load_text LooksLikeTape file = tape_line file
+load_text LooksLikeTape file = like_line LIKE_TAPE.now file
+load_text LooksLikeHex file = like_line LIKE_HEX.now file
+load_text LooksLikeSRecords file = like_line LIKE_S_RECORDS.now file
+load_text (NoImage place what number) file = no_image_line file place.items what.now number
 load_text (Faults fault text) file = text.items
 load_text (AtPort first last free) file = port_line file first last free
 load_text (Refused refusal) file = file_line file refusal

@@ -1,7 +1,7 @@
 -- The exit status of a word that ends without an answer. Source: mos65.
 use Rattle.std.specs.Prelude.{ℕ}
 use Rattle.arguments.specs.declared.load_fault.LoadFault.{LoadFault}
-use Rattle.arguments.specs.declared.load_fault.LoadFault.TheVariants.{AtPort, Faults, LooksLikeTape, Refused}
+use Rattle.arguments.specs.declared.load_fault.LoadFault.TheVariants.{AtPort, Faults, LooksLikeHex, LooksLikeSRecords, LooksLikeTape, NoImage, Refused}
 use Rattle.arguments.specs.declared.refusal.Refusal.{Refusal}
 use Rattle.arguments.specs.declared.refusal.Refusal.TheVariants.{Words, Map, Source, Tape, Session, OutOfMemory, Read, Write}
 
@@ -16,9 +16,13 @@ status_of OutOfMemory = 3
 status_of (Read fault) = 4
 status_of Write = 4
 
--- 1 for a source with faults, 2 for a tape that is given as a source; otherwise that of the refusal
+-- 1 for a source with faults and for a file that is no image, 2 for an image that is given as a
+-- source; otherwise that of the refusal
 abbrev pub status_of_load : LoadFault → ℕ
 status_of_load LooksLikeTape = 2
+status_of_load LooksLikeHex = 2
+status_of_load LooksLikeSRecords = 2
+status_of_load (NoImage place what number) = 1
 status_of_load (Faults fault text) = 1
 status_of_load (AtPort first last free) = 1
 status_of_load (Refused refusal) = status_of refusal

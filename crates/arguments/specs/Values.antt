@@ -1,11 +1,13 @@
 -- What the words that stand for values mean. Source: mos65.
+use Rattle.arguments.specs.declared.file_options.FileForm.{FileForm}
+use Rattle.arguments.specs.declared.file_options.FileForm.TheVariants.{Source, Records, Raw, Prg}
 use Rattle.model.specs.Digits.{decimal_number}
 use Rattle.model.specs.Commands.{address_of}
 use Rattle.model.specs.State.{no_port}
 use Rattle.model.specs.declared.instruction.Profile.{Profile}
 use Rattle.model.specs.declared.instruction.Profile.TheVariants.{C, N}
 use Rattle.std.specs.Str.{bytes_eq}
-use Rattle.std.specs.Prelude.{ℕ, List, codes, length, take, drop, get_or, nat_lt, nat_le, ◌==◌, ◌&&◌, if◌then◌else◌, Option, Some, None, option_map}
+use Rattle.std.specs.Prelude.{ℕ, Bool, true, false, List, codes, length, take, drop, get_or, nat_lt, nat_le, ◌==◌, ◌&&◌, if◌then◌else◌, Option, Some, None, option_map}
 
 -- a number of at most 65,536
 abbrev pub at_most_65536 : Option ℕ → Option ℕ
@@ -49,6 +51,20 @@ port_of word = if bytes_eq word (codes "none") then Some no_port else address_of
 abbrev pub port_asked : Option (List ℕ) → Option ℕ
 port_asked None = Some 61440
 port_asked (Some word) = port_of word
+
+-- raw bytes from an address on
+abbrev pub raw_form : Option ℕ → Option FileForm
+raw_form None = None
+raw_form (Some address) = Some (Raw address)
+
+-- how a file is read: by at most one of `--tape`, `--bin HHHH` and `--prg`, and without them as a
+-- source
+abbrev pub form_asked : Bool → Option (List ℕ) → Bool → Option FileForm
+form_asked false None false = Some Source
+form_asked true None false = Some Records
+form_asked false (Some word) false = raw_form (address_of word)
+form_asked false None true = Some Prg
+form_asked is_tape raw is_prg = None
 
 -- the ROM that is asked for: none where no word says it
 abbrev pub rom_asked : Option (List ℕ) → Option (Option (ℕ × ℕ))

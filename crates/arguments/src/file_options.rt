@@ -7,21 +7,34 @@ ghost use Rattle.clap.specs.Words.{app_of, first_value, found_of, kind_of};
 ghost use Rattle.clap.specs.declared.builder.command.Command.TheViews.{out-Command};
 
 use crate::matching::is_given;
-use crate::options::{file, port, profile, rom, tape};
-use crate::value::{port_asked, profile_asked, rom_asked};
+use crate::options::{file, flag, option, port, profile, rom};
+use crate::value::{form_asked, port_asked, profile_asked, rom_asked};
 use clap::error::ErrorKind;
 use clap::{ArgMatches, Command, Error};
 use memory_map::Port;
 use model::Profile;
 use std::alloc::Global;
 
+/// How a file is read.
+#[derive(Clone, Copy, Debug, PartialEq, Eq)]
+pub enum FileForm {
+    /// A source, which is assembled.
+    Source,
+    /// An image whose form its first record tells: a tape, Intel HEX or S-records.
+    Records,
+    /// Bytes alone, from this address on.
+    Raw(u16),
+    /// The address in two bytes, the low one first, and then bytes from it on.
+    Prg,
+}
+
 /// A file, and the map that it is loaded on.
 #[derive(Clone, Copy, Debug, PartialEq, Eq)]
 pub struct FileWords<'a> {
     /// The file to load.
     pub file: &'a str,
-    /// Whether it is a tape.
-    pub is_tape: bool,
+    /// How it is read.
+    pub form: FileForm,
     /// The first of the port's four addresses, or no port.
     pub port: Port,
     /// The first and the last address of the ROM, if there is one.
@@ -39,12 +52,17 @@ pub fn with_file_options<'a>(alloc: Global, command: Command<'a>) -> Result<Comm
         → (out-Command c).has_globals ≡ false) }
     ensures memory { IfErr result (λ e. kind_of e ≡ ErrorKind.OutOfMemory) }
 {
+    let records = "FILE is an image: a tape, Intel HEX or S-records";
+    let raw = "FILE is a raw image, from this address on, four hex digits";
+    let prg = "FILE is a PRG file: its address in two bytes, and bytes from it on";
     let command = command
         .arg(file(alloc, "FILE", "The source to assemble and load"))?
-        .arg(tape(alloc))?
+        .arg(flag(alloc, "tape", records))?
         .arg(port(alloc))?
         .arg(rom(alloc))?
-        .arg(profile(alloc))?;
+        .arg(profile(alloc))?
+        .arg(option(alloc, "bin", "HHHH", raw))?
+        .arg(flag(alloc, "prg", prg))?;
     Ok(command)
 }
 
@@ -53,12 +71,17 @@ pub fn file_words<'a>(matches: &ArgMatches<'a>) -> Option<FileWords<'a>>
     ensures { option_map file_view result ≡ file_asked (first_value (found_of matches.now)) }
 {
     let file = matches.get_str("FILE")?;
+    let form = form_asked(
+        is_given(matches, "tape"),
+        matches.get_str("bin"),
+        is_given(matches, "prg"),
+    )?;
     let port = port_asked(matches.get_str("port"))?;
     let rom = rom_asked(matches.get_str("rom"))?;
     let profile = profile_asked(matches.get_str("profile"))?;
     Some(FileWords {
         file,
-        is_tape: is_given(matches, "tape"),
+        form,
         port,
         rom,
         profile,

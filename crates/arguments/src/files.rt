@@ -1,12 +1,9 @@
 //! Files that are read and written.
 
-ghost use Rattle.std.specs.Prelude.{◌≡◌, ℕ, List, Option, IfErr, IfOk};
-ghost use Rattle.arguments.specs.Files.{EndsReading, EndsWriting, IsUnread};
-ghost use Rattle.model.specs.TapePieces.{IsReadInPieces};
+ghost use Rattle.std.specs.Prelude.{IfErr};
+ghost use Rattle.arguments.specs.Files.{EndsReading, EndsWriting};
 
 use crate::refusal::Refusal;
-use memory_map::Image;
-use papertape::read_tape_from;
 use std::fs::File;
 use std::io::Read;
 use std::rt::Files;
@@ -39,21 +36,6 @@ pub fn read_source<H: Files + AllocGlobal>(rt: &H, path: &str) -> Result<Vec<u8>
     ensures { IfErr result EndsReading }
 {
     read_most(rt, path, MOST_OF_SOURCE)
-}
-
-/// Returns the image of a tape's file, which is read in pieces.
-///
-/// Errors: `Read` if the file cannot be read, `Tape` with the tape's fault, `OutOfMemory` if an
-/// allocation fails.
-pub fn image_of_tape<H: Files + AllocGlobal>(rt: &H, path: &str) -> Result<Image, Refusal>
-    // The image is one that some tape denotes, and a fault of a tape is one that some tape has: no
-    // clause can say what is in a file.
-    ensures denoted { IfOk result (λ image. (text : List ℕ) × IsReadInPieces text image) }
-    ensures refused { IfErr result IsUnread }
-{
-    let mut tape = File::open(rt, path).map_err(|error| Refusal::unreadable(&error))?;
-    let image = read_tape_from(rt.alloc(), &mut tape)?;
-    Ok(image)
 }
 
 /// Writes a text to a file of that name. A file that is there is replaced.

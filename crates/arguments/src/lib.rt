@@ -25,10 +25,10 @@ mod wording;
 
 pub use fault::WordsFault;
 pub use fault_line::{put_all, put_fault_line, put_three, put_two};
-pub use file_options::{FileWords, file_words, with_file_options};
+pub use file_options::{FileForm, FileWords, file_words, with_file_options};
 pub use file_refusal::FileRefusal;
-pub use files::{image_of_tape, read_most, read_source, write_file};
-pub use load_fault::LoadFault;
+pub use files::{read_most, read_source, write_file};
+pub use load_fault::{LoadFault, tell_no_image};
 pub use map::map_of;
 pub use matching::{is_given, matched};
 pub use options::{begin, file, file_list, flag, list, option, port, profile, rom, tape};
@@ -37,6 +37,6 @@ pub use refusal::{ReadFault, Refusal};
 pub use refused::{finish, refuse, refuse_file, refused_words};
 pub use same_file::is_one_file;
 pub use value::{
-    address_asked, debug_history_asked, history_asked, port_asked, profile_asked, rom_asked,
-    steps_asked, value_fault, wrong_value,
+    address_asked, debug_history_asked, form_asked, history_asked, port_asked, profile_asked,
+    rom_asked, steps_asked, value_fault, wrong_value,
 };

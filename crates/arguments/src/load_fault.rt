@@ -1,17 +1,20 @@
 //! Why a file is not loaded.
 
 ghost use Rattle.std.specs.Prelude.{◌≡◌, ◌∷◌, [], codes};
-ghost use Rattle.arguments.specs.FaultLines.{joined, load_text, port_part, tape_line};
+ghost use Rattle.arguments.specs.FaultLines.{joined, like_line, load_text, no_image_line};
+ghost use Rattle.arguments.specs.FaultLines.{number_part, port_part};
 ghost use Rattle.arguments.specs.Statuses.{status_of_load};
-ghost use Rattle.arguments.specs.declared.wording.TheConstants.{AT_PORT};
+ghost use Rattle.arguments.specs.declared.wording.TheConstants.{AT_PORT, USE_TAPE};
 ghost use Rattle.arguments.specs.declared.load_fault.LoadFault.TheVariants.{Refused};
 ghost use Rattle.model.specs.Writers.{AppendsFront};
 
-use crate::fault_line::{put_all, put_three};
+use crate::fault_line::put_all;
 use crate::refusal::Refusal;
 use crate::refused::refuse_file;
-use crate::wording::{AT_PORT, IS_FREE, NONE_IS_FREE, TRY_PORT};
-use formatting::{Text, address_text, push_bytes, push_hex_address};
+use crate::wording::{
+    AT_PORT, IS_FREE, LIKE_HEX, LIKE_S_RECORDS, LIKE_TAPE, NONE_IS_FREE, TRY_PORT, USE_TAPE,
+};
+use formatting::{Text, address_text, push_bytes, push_decimal, push_hex_address};
 use model::AsmFault;
 use std::io::Write;
 
@@ -21,12 +24,23 @@ pub enum LoadFault {
     /// The file is given as a source, and begins with a record of a tape. As a source it would be
     /// comments.
     LooksLikeTape,
+    /// The file is given as a source, and begins with a record of Intel HEX.
+    LooksLikeHex,
+    /// The file is given as a source, and begins with an S-record.
+    LooksLikeSRecords,
+    /// The file is given as an image, and is none in its form: where that shows, if it is in a
+    /// line, what is wrong, and the number of that if it has one.
+    NoImage {
+        place: Text,
+        what: &'static str,
+        number: Option<u8>,
+    },
     /// The source has this fault. The text tells of all its faults, as `check` does.
     Faults {
         fault: AsmFault,
         text: Vec<u8>,
     },
-    /// The image of a tape has bytes at the port's addresses, the first to the last. A port with
+    /// The image of a file has bytes at the port's addresses, the first to the last. A port with
     /// the base `free` would meet none; it is `None` where no base would.
     AtPort {
         first: u32,
@@ -45,13 +59,63 @@ impl From<Refusal> for LoadFault {
     }
 }
 
-/// Writes that a file that is given as a source looks like a tape.
-fn tell_tape<E: Write>(file: &str, errors: &mut E)
+/// Writes what a file looks like that is given as a source.
+fn tell_like<E: Write>(file: &str, like: &str, errors: &mut E)
     ensures { AppendsFront (E.contents errors.old) (E.contents errors.new)
-        (tape_line file.now) }
+        (like_line like.now file.now) }
 {
-    let end = b" looks like a tape: use --tape\n";
-    put_three(b"mos65: ", file.as_bytes(), end, errors);
+    put_all(
+        &[
+            b"mos65: ",
+            file.as_bytes(),
+            like.as_bytes(),
+            USE_TAPE.as_bytes(),
+        ],
+        errors,
+    );
+}
+
+/// Returns the number of what is wrong, if it has one, and the end of the line.
+#[tactic(auto, unfolding(crate::specs::FaultLines::number_part))]
+fn number_text(number: Option<u8>) -> Text
+    ensures { result.items ≡ number_part number }
+{
+    let mut text = Text::new();
+    if let Some(number) = number {
+        push_bytes(&mut text, b" ");
+        push_decimal(&mut text, number as u64);
+    }
+    push_bytes(&mut text, b"\n");
+    text
+}
+
+/// Writes the parts of a line that says why a file is no image.
+fn put_no_image<E: Write>(file: &[u8], place: &[u8], what: &[u8], end: &[u8], errors: &mut E)
+    ensures { AppendsFront (E.contents errors.old) (E.contents errors.new)
+        (joined (codes "mos65: " ∷ file.now ∷ codes ": " ∷ place.now ∷ what.now ∷ end.now ∷ [])) }
+{
+    put_all(&[b"mos65: ", file, b": ", place, what, end], errors);
+}
+
+/// Writes why a file is no image: where that shows, what is wrong, and its number if it has one.
+pub fn tell_no_image<E: Write>(
+    file: &str,
+    place: &[u8],
+    what: &str,
+    number: Option<u8>,
+    errors: &mut E,
+)
+    ensures { AppendsFront (E.contents errors.old) (E.contents errors.new)
+        (no_image_line file.now place.now what.now number) }
+{
+    let end = number_text(number);
+    put_no_image(
+        file.as_bytes(),
+        place,
+        what.as_bytes(),
+        end.as_slice(),
+        errors,
+    );
 }
 
 /// Returns the addresses of a port, and which base is free.
@@ -94,8 +158,8 @@ fn tell_text<E: Write>(text: &[u8], errors: &mut E)
 
 impl LoadFault {
     /// Writes why the file was not loaded, and returns the exit status, even if that cannot be
-    /// written. It is 1 for a source with faults and for bytes at the port, 2 for a tape that is
-    /// given as a source.
+    /// written. It is 1 for a source with faults, for a file that is no image and for bytes at the
+    /// port, 2 for an image that is given as a source.
     #[tactic(auto, unfolding(crate::specs::FaultLines::load_text))]
     pub fn tell<E: Write>(self, file: &str, errors: &mut E) -> u8
         ensures status { result ≡ status_of_load self }
@@ -104,8 +168,24 @@ impl LoadFault {
     {
         match self {
             LoadFault::LooksLikeTape => {
-                tell_tape(file, errors);
+                tell_like(file, LIKE_TAPE, errors);
                 2
+            }
+            LoadFault::LooksLikeHex => {
+                tell_like(file, LIKE_HEX, errors);
+                2
+            }
+            LoadFault::LooksLikeSRecords => {
+                tell_like(file, LIKE_S_RECORDS, errors);
+                2
+            }
+            LoadFault::NoImage {
+                place,
+                what,
+                number,
+            } => {
+                tell_no_image(file, &place, what, number, errors);
+                1
             }
             LoadFault::Faults { text, .. } => {
                 tell_text(&text, errors);

@@ -1,7 +1,8 @@
 //! The values of options.
 
 ghost use Rattle.std.specs.Prelude.{◌≡◌, ◌≤◌, IfSome, length, option_and_then, option_map};
-ghost use Rattle.arguments.specs.Values.{debug_history_asked, history_asked, history_of, number_of};
+ghost use Rattle.arguments.specs.Values.{debug_history_asked, form_asked, history_asked, history_of};
+ghost use Rattle.arguments.specs.Values.{number_of, raw_form};
 ghost use Rattle.arguments.specs.Values.{port_asked, port_of, profile_asked, profile_of, range_of};
 ghost use Rattle.arguments.specs.Values.{rom_asked, steps_asked};
 ghost use Rattle.arguments.specs.WrongValues.{IsOfValue, wrong_value};
@@ -10,7 +11,11 @@ ghost use Rattle.model.specs.Commands.{address_of};
 ghost use Rattle.model.specs.Digits.{decimal_number};
 
 use crate::fault::WordsFault;
-use crate::wording::{HISTORY_TAKES, PORT_TAKES, PROFILE_TAKES, ROM_TAKES, STEPS_TAKES};
+use crate::file_options::FileForm;
+use crate::matching::is_given;
+use crate::wording::{
+    FORM_TAKES, HISTORY_TAKES, PORT_TAKES, PROFILE_TAKES, ROM_TAKES, STEPS_TAKES,
+};
 use clap::ArgMatches;
 use commands::{address_of, digits};
 use formatting::decimal_value;
@@ -125,6 +130,30 @@ pub fn address_asked(word: Option<&str>) -> Option<u16>
     }
 }
 
+/// Returns the form of raw bytes from an address on, if there is an address.
+fn raw_form(address: Option<u16>) -> Option<FileForm>
+    ensures { result ≡ raw_form address }
+{
+    match address {
+        None => None,
+        Some(address) => Some(FileForm::Raw(address)),
+    }
+}
+
+/// Returns how a file is read, by at most one of `--tape`, `--bin HHHH` and `--prg`: a source
+/// without them. Returns `None` for two of them, or if the word after `--bin` is no address.
+pub fn form_asked(is_tape: bool, raw: Option<&str>, is_prg: bool) -> Option<FileForm>
+    ensures { result ≡ form_asked is_tape (option_map (λ w. w.now) raw.entry) is_prg }
+{
+    match (is_tape, raw, is_prg) {
+        (false, None, false) => Some(FileForm::Source),
+        (true, None, false) => Some(FileForm::Records),
+        (false, Some(_), false) => raw_form(address_asked(raw)),
+        (false, None, true) => Some(FileForm::Prg),
+        _ => None,
+    }
+}
+
 /// Returns the number that at most eighteen decimal digits write, or `None` if a byte is no digit.
 fn decimal_number(word: &[u8]) -> Option<u64>
     requires { length word.now ≤ 18 }
@@ -192,6 +221,14 @@ pub fn wrong_value(matches: &ArgMatches<'_>) -> Option<&'static str>
         Some(HISTORY_TAKES)
     } else if steps_asked(matches.get_str("steps")).is_none() {
         Some(STEPS_TAKES)
+    } else if form_asked(
+        is_given(matches, "tape"),
+        matches.get_str("bin"),
+        is_given(matches, "prg"),
+    )
+    .is_none()
+    {
+        Some(FORM_TAKES)
     } else {
         None
     }

@@ -5,6 +5,15 @@ pub const NO_SUCH_FILE: &str = " no such file";
 
 pub const PERMISSION_DENIED: &str = " permission denied";
 
+/// What a file looks like that is given as a source, and how to say so.
+pub const LIKE_TAPE: &str = " looks like a tape";
+
+pub const LIKE_HEX: &str = " looks like Intel HEX";
+
+pub const LIKE_S_RECORDS: &str = " looks like S-records";
+
+pub const USE_TAPE: &str = ": use --tape\n";
+
 /// That an image has bytes at the port's addresses, which follow, and which base is free.
 pub const AT_PORT: &str = ": TAPE PortAddress 5 at ";
 
@@ -22,5 +31,8 @@ pub const ROM_TAKES: &str = "--rom takes two addresses of four hex digits, as 80
 pub const PROFILE_TAKES: &str = "--profile takes N or C";
 
 pub const HISTORY_TAKES: &str = "--history takes a number up to 65536";
+
+pub const FORM_TAKES: &str =
+    "--bin takes four hex digits; only one of --tape, --bin and --prg can be said";
 
 pub const STEPS_TAKES: &str = "--steps takes a number of at most eighteen digits";

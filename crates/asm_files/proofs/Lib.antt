@@ -1,3 +1,4 @@
 pub mod Ends
 pub mod Laid
 pub mod Rows
+pub mod Imaged

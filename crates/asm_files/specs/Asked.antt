@@ -1,10 +1,10 @@
--- What the words of `asm` with `--symbols` or `--map` ask for, and which words these are. Source:
--- mos65.
+-- What the words of `asm` with further files ask for, and which words these are. Source: mos65.
 use Rattle.std.specs.Prelude.{ℕ, Bool, false, List, [], ◌∷◌, Option, Some, None, codes, ◌==◌, ◌||◌, if◌then◌else◌, is_some, not, ◌&&◌}
 use Rattle.std.specs.List.{starts_with}
 use Rattle.std.specs.Str.{bytes_eq}
 use Rattle.clap.specs.Words.{Text}
-use Rattle.arguments_core.specs.Asked.{AsmAsked, asm_asked, is_named}
+use Rattle.arguments_core.specs.Asked.{AsmAsked, asm_asked}
+use Rattle.image_files.specs.Options.{fill_asked}
 use Rattle.asm_files.specs.declared.format.SymbolsFormat.{SymbolsFormat}
 use Rattle.asm_files.specs.declared.format.SymbolsFormat.TheVariants.{Plain, Vice}
 
@@ -15,10 +15,20 @@ abbrev pub is_option : List ℕ → List ℕ → List ℕ → Bool
 is_option word name with_value = bytes_eq word name || starts_with (λ a b. a == b) word with_value
 
 -- `--symbols`, `--symbols-format` or `--map`.
-abbrev pub names_file : List ℕ → Bool
-names_file word = is_option word (codes "--symbols") (codes "--symbols=")
+abbrev pub names_table : List ℕ → Bool
+names_table word = is_option word (codes "--symbols") (codes "--symbols=")
     || is_option word (codes "--symbols-format") (codes "--symbols-format=")
     || is_option word (codes "--map") (codes "--map=")
+
+-- `--bin`, `--hex`, `--srec` or `--fill`.
+abbrev pub names_image : List ℕ → Bool
+names_image word = is_option word (codes "--bin") (codes "--bin=")
+    || is_option word (codes "--hex") (codes "--hex=")
+    || is_option word (codes "--srec") (codes "--srec=")
+    || is_option word (codes "--fill") (codes "--fill=")
+
+abbrev pub names_file : List ℕ → Bool
+names_file word = names_table word || names_image word
 
 -- One of these words stands before `--`, after which no word is an option.
 abbrev pub asks_for_files : List Text → Bool
@@ -28,11 +38,20 @@ asks_for_files (word ∷ words) = if bytes_eq word (codes "--") then false
 
 -- ---- what is asked for
 
+-- The files to write the image to in other forms, and the byte that gaps of bytes alone are filled
+-- with.
+pub record ImageFiles : Type 0 where
+  pub raw : Option Text
+  pub hex : Option Text
+  pub srec : Option Text
+  pub fill : ℕ
+
 pub record FilesAsked : Type 0 where
   pub asm : AsmAsked
   pub symbols : Option Text
   pub format : SymbolsFormat
   pub map : Option Text
+  pub images : ImageFiles
 
 -- The format that is asked for: plain where no word says it.
 abbrev pub format_asked : Option (List ℕ) → Option SymbolsFormat
@@ -40,26 +59,64 @@ format_asked None = Some Plain
 format_asked (Some word) = if bytes_eq word (codes "plain") then Some Plain
     else if bytes_eq word (codes "vice") then Some Vice else None
 
--- A file to write has the name of another file of `asm`.
-abbrev pub is_used : AsmAsked → Option Text → Bool
-is_used asm None = false
-is_used asm (Some file)
-    = bytes_eq file asm.source || bytes_eq file asm.tape || is_named asm.listing file
+-- The byte that gaps are filled with: $FF where no word says it, as an erased EPROM.
+abbrev pub fill_of : Option (Option ℕ) → Option ℕ
+fill_of None = None
+fill_of (Some None) = Some 255
+fill_of (Some (Some fill)) = Some fill
 
--- A format without a file of names, or a file to write that has the name of another one.
-abbrev pub is_wrong : AsmAsked → Option Text → Option Text → Option Text → Bool
-is_wrong asm symbols None format = is_some format && not (is_some symbols) || is_used asm symbols
-is_wrong asm symbols (Some map) format = is_some format && not (is_some symbols)
-    || is_used asm symbols || is_used asm (Some map) || is_named symbols map
+abbrev pub images_of : Option Text → Option Text → Option Text → Option ℕ → Option ImageFiles
+images_of raw hex srec None = None
+images_of raw hex srec (Some fill)
+    = Some (record { raw = raw; hex = hex; srec = srec; fill = fill })
 
-abbrev pub files_of : Option AsmAsked → Option Text → Option Text → Option Text
-    → Option SymbolsFormat → Option FilesAsked
-files_of (Some asm) symbols map named (Some format) = if is_wrong asm symbols map named then None
-    else Some (record { asm = asm; symbols = symbols; format = format; map = map })
-files_of asm symbols map named format = None
+abbrev pub images_asked : (Text → Option Text) → Option ImageFiles
+images_asked value = images_of (value (codes "bin")) (value (codes "hex")) (value (codes "srec"))
+    (fill_of (fill_asked (value (codes "fill"))))
+
+-- One of the files has a name.
+abbrev pub is_among : Text → List (Option Text) → Bool
+is_among name [] = false
+is_among name (None ∷ files) = is_among name files
+is_among name (Some file ∷ files) = bytes_eq file name || is_among name files
+
+-- A file has the name of one of the others.
+abbrev pub is_again : Option Text → List (Option Text) → Bool
+is_again None files = false
+is_again (Some file) files = is_among file files
+
+-- Two of the files have one name.
+abbrev pub has_twice : List (Option Text) → Bool
+has_twice [] = false
+has_twice (file ∷ files) = is_again file files || has_twice files
+
+-- All files of the words.
+abbrev pub names_of : AsmAsked → Option Text → Option Text → ImageFiles → List (Option Text)
+names_of asm symbols map images = Some asm.source ∷ Some asm.tape ∷ asm.listing ∷ symbols ∷ map
+    ∷ images.raw ∷ images.hex ∷ images.srec ∷ []
+
+-- An option without the one that it is about: a format without a file of names, a byte to fill with
+-- without a file of bytes alone.
+abbrev pub is_lone : Option Text → Option Text → Bool
+is_lone option about = is_some option && not (is_some about)
+
+abbrev pub files_of : Option AsmAsked → Option Text → Option Text → Option ImageFiles
+    → Option SymbolsFormat → Option Text → Option Text → Option FilesAsked
+files_of (Some asm) symbols map (Some images) (Some format) named fill =
+    if is_lone named symbols || is_lone fill images.raw
+    || has_twice (names_of asm symbols map images) then None
+    else Some (record {
+      asm = asm;
+      symbols = symbols;
+      format = format;
+      map = map;
+      images = images;
+    })
+files_of asm symbols map images format named fill = None
 
 -- What the values of the names ask for, where each is one that its name can have: what `asm` does,
 -- and the files.
 abbrev pub files_asked : (Text → Option Text) → Option FilesAsked
 files_asked value = files_of (asm_asked value) (value (codes "symbols")) (value (codes "map"))
-    (value (codes "symbols-format")) (format_asked (value (codes "symbols-format")))
+    (images_asked value) (format_asked (value (codes "symbols-format")))
+    (value (codes "symbols-format")) (value (codes "fill"))

@@ -1,6 +1,7 @@
 -- The command line of `asm SOURCE TAPE [--listing FILE] [--symbols FILE] [--symbols-format
--- plain|vice] [--map FILE] [--port HHHH] [--profile N|C]`, as clap's definitions describe one. How
--- words are matched with it is clap's to say. Source: mos65.
+-- plain|vice] [--map FILE] [--port HHHH] [--profile N|C] [--bin FILE] [--hex FILE] [--srec FILE]
+-- [--fill HH]`, as clap's definitions describe one. How words are matched with it is clap's to say.
+-- Source: mos65.
 use Rattle.std.specs.Prelude.{◌≡◌, ⊤, ℕ, false, List, Option, Some, None, codes}
 use Rattle.arguments.specs.CommandLine.{file_rule, option_rule, unnamed}
 use Rattle.arguments.specs.Words.{Fits, value_in}
@@ -17,10 +18,11 @@ use Rattle.model.specs.declared.source_fault.AsmFault.{AsmFault}
 
 abbrev pub asm : App
 asm = with_rule (with_rule (with_rule (with_rule (with_rule (with_rule (with_rule (with_rule
-    (unnamed (codes "asm")) (file_rule (codes "SOURCE"))) (file_rule (codes "TAPE")))
+    (with_rule (with_rule (with_rule (with_rule (unnamed (codes "asm")) (file_rule (codes "SOURCE"))) (file_rule (codes "TAPE")))
     (option_rule (codes "listing"))) (option_rule (codes "symbols")))
     (option_rule (codes "symbols-format"))) (option_rule (codes "map")))
-    (option_rule (codes "port"))) (option_rule (codes "profile"))
+    (option_rule (codes "port"))) (option_rule (codes "profile"))) (option_rule (codes "bin")))
+    (option_rule (codes "hex"))) (option_rule (codes "srec"))) (option_rule (codes "fill"))
 
 -- What words ask for, where the values that clap finds are right.
 abbrev pub words_asked : List Text → Option FilesAsked

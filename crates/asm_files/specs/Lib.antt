@@ -1,5 +1,6 @@
 pub mod Asked
 pub mod CommandLine
 pub mod Found
+pub mod Images
 pub mod Texts
 pub mod Views

@@ -1,8 +1,17 @@
 -- What was read from the words, as what they ask for.
 use Rattle.std.specs.Prelude.{option_map}
 use Rattle.arguments_core.specs.Views.{asm_view}
-use Rattle.asm_files.specs.Asked.{FilesAsked}
+use Rattle.asm_files.specs.Asked.{FilesAsked, ImageFiles}
+use Rattle.asm_files.specs.declared.asked.ImageNames.{ImageNames}
 use Rattle.asm_files.specs.declared.asked.FilesWords.{FilesWords}
+
+abbrev pub images_view : ImageNames → ImageFiles
+images_view w = record {
+  raw = option_map (λ s. s.now) w.raw;
+  hex = option_map (λ s. s.now) w.hex;
+  srec = option_map (λ s. s.now) w.srec;
+  fill = w.fill;
+}
 
 abbrev pub files_view : FilesWords → FilesAsked
 files_view w = record {
@@ -10,4 +19,5 @@ files_view w = record {
   symbols = option_map (λ s. s.now) w.symbols;
   format = w.format;
   map = option_map (λ s. s.now) w.map;
+  images = images_view w.images;
 }

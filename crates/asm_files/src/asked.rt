@@ -1,12 +1,12 @@
 //! What the words ask for.
 
-ghost use Rattle.std.specs.Prelude.{◌≡◌, IfErr, IfOk, None, Some, option_map};
+ghost use Rattle.std.specs.Prelude.{◌≡◌, IfErr, IfOk, None, Some, map, option_map};
 ghost use Rattle.arguments.specs.Words.{Fits, IsRefusalOf, texts};
-ghost use Rattle.arguments_core.specs.Asked.{is_named};
 ghost use Rattle.arguments_core.specs.Views.{asm_view};
-ghost use Rattle.asm_files.specs.Asked.{files_asked, format_asked, is_used, is_wrong};
+ghost use Rattle.asm_files.specs.Asked.{files_asked, fill_of, format_asked, has_twice, images_asked};
+ghost use Rattle.asm_files.specs.Asked.{is_again, is_among, is_lone, names_of};
 ghost use Rattle.asm_files.specs.CommandLine.{asm, words_asked};
-ghost use Rattle.asm_files.specs.Views.{files_view};
+ghost use Rattle.asm_files.specs.Views.{files_view, images_view};
 ghost use Rattle.clap.specs.Words.{first_value, found_of};
 
 use crate::command::asm_files_command;
@@ -14,9 +14,23 @@ use crate::format::SymbolsFormat;
 use arguments::{WordsFault, matched, wrong_value};
 use arguments_core::{AsmWords, asm_words};
 use clap::ArgMatches;
+use image_files::fill_asked;
 use std::alloc::Global;
 
-/// What the words of `asm` with `--symbols` or `--map` ask for.
+/// The files to write the image to in other forms than a tape.
+#[derive(Clone, Copy)]
+pub struct ImageNames<'a> {
+    /// The file for bytes alone, if one is asked for.
+    pub raw: Option<&'a str>,
+    /// The file for Intel HEX, if one is asked for.
+    pub hex: Option<&'a str>,
+    /// The file for S-records, if one is asked for.
+    pub srec: Option<&'a str>,
+    /// The byte that the gaps of bytes alone are filled with.
+    pub fill: u8,
+}
+
+/// What the words of `asm` with further files ask for.
 ///
 /// No two of the files have the same name.
 #[derive(Clone, Copy)]
@@ -29,6 +43,8 @@ pub struct FilesWords<'a> {
     pub format: SymbolsFormat,
     /// The file to write the places of the lines to, if one is asked for.
     pub map: Option<&'a str>,
+    /// The files to write the image to.
+    pub images: ImageNames<'a>,
 }
 
 /// Returns the format that the word after `--symbols-format` asks for, or `None` if it is wrong.
@@ -49,44 +65,98 @@ fn format_asked(word: Option<&str>) -> Option<SymbolsFormat>
     }
 }
 
-/// Returns whether a file that is asked for has a name.
-fn is_named(file: Option<&str>, name: &str) -> bool
-    ensures { result ≡ is_named (option_map (λ s. s.now) file.entry) name.now }
+/// Returns the byte that gaps are filled with, by the word after `--fill`: $FF without it.
+fn fill_of(fill: Option<Option<u8>>) -> Option<u8>
+    ensures { result ≡ fill_of fill }
 {
-    match file {
-        None => false,
-        Some(file) => file == name,
+    match fill {
+        None => None,
+        Some(None) => Some(0xff),
+        Some(Some(fill)) => Some(fill),
     }
 }
 
-/// Returns whether a file to write has the name of another file of `asm`.
-fn is_used(asm: &AsmWords<'_>, file: Option<&str>) -> bool
-    ensures { result ≡ is_used (asm_view asm.now) (option_map (λ s. s.now) file.entry) }
+/// Returns the files of the image that the values ask for, or `None` if the byte of gaps is wrong.
+fn images_asked<'a>(matches: &ArgMatches<'a>) -> Option<ImageNames<'a>>
+    ensures { option_map images_view result ≡ images_asked (first_value (found_of matches.now)) }
 {
-    match file {
-        None => false,
-        Some(file) => file == asm.source || file == asm.tape || is_named(asm.listing, file),
-    }
+    let fill = fill_of(fill_asked(matches.get_str("fill")))?;
+    Some(ImageNames {
+        raw: matches.get_str("bin"),
+        hex: matches.get_str("hex"),
+        srec: matches.get_str("srec"),
+        fill,
+    })
 }
 
-/// Returns whether there is a format without a file of names, or a file to write has the name of
-/// another one.
-fn is_wrong(
-    asm: &AsmWords<'_>,
-    symbols: Option<&str>,
-    map: Option<&str>,
-    format: Option<&str>,
-) -> bool
-    ensures { result ≡ is_wrong (asm_view asm.now) (option_map (λ s. s.now) symbols.entry)
-        (option_map (λ s. s.now) map.entry) (option_map (λ s. s.now) format.entry) }
+/// Returns whether one of the files has a name.
+fn is_among(name: &str, files: &[Option<&str>]) -> bool
+    ensures { result ≡ is_among name.now (map (option_map (λ s. s.now)) files.now) }
 {
-    let is_lone = format.is_some() && !symbols.is_some();
-    match map {
-        None => is_lone || is_used(asm, symbols),
-        Some(file) => {
-            is_lone || is_used(asm, symbols) || is_used(asm, map) || is_named(symbols, file)
+    for file in files {
+        if let Some(file) = file {
+            if *file == name {
+                return true;
+            }
         }
     }
+    false
+}
+
+/// Returns whether a file has the name of one of the others.
+fn is_again(file: Option<&str>, files: &[Option<&str>]) -> bool
+    ensures { result ≡ is_again (option_map (λ s. s.now) file.entry)
+        (map (option_map (λ s. s.now)) files.now) }
+{
+    match file {
+        None => false,
+        Some(file) => is_among(file, files),
+    }
+}
+
+/// Returns whether two of the files have one name.
+fn has_twice(files: &[Option<&str>]) -> bool
+    ensures { result ≡ has_twice (map (option_map (λ s. s.now)) files.now) }
+{
+    let mut rest = files;
+    for seen in 0..files.len() {
+        match rest {
+            [] => return false,
+            [file, others @ ..] => {
+                if is_again(*file, others) {
+                    return true;
+                }
+                rest = others;
+            }
+        }
+    }
+    false
+}
+
+/// Returns whether an option is there without the one that it is about.
+fn is_lone(option: Option<&str>, about: Option<&str>) -> bool
+    ensures { result ≡ is_lone (option_map (λ s. s.now) option.entry)
+        (option_map (λ s. s.now) about.entry) }
+{
+    option.is_some() && !about.is_some()
+}
+
+/// Returns whether two of the files of the words have one name.
+fn overlaps(words: &FilesWords<'_>) -> bool
+    ensures { result ≡ has_twice (names_of (asm_view words.now.asm)
+        (option_map (λ s. s.now) words.now.symbols) (option_map (λ s. s.now) words.now.map)
+        (images_view words.now.images)) }
+{
+    has_twice(&[
+        Some(words.asm.source),
+        Some(words.asm.tape),
+        words.asm.listing,
+        words.symbols,
+        words.map,
+        words.images.raw,
+        words.images.hex,
+        words.images.srec,
+    ])
 }
 
 /// Returns what the values that were found ask for, or `None` if one is wrong.
@@ -99,16 +169,23 @@ fn files_words<'a>(matches: &ArgMatches<'a>) -> Option<FilesWords<'a>>
     let symbols = matches.get_str("symbols");
     let map = matches.get_str("map");
     let named = matches.get_str("symbols-format");
-    let format = format_asked(named)?;
-    if is_wrong(&asm, symbols, map, named) {
+    let Some(images) = images_asked(matches) else {
         return None;
-    }
-    Some(FilesWords {
+    };
+    let format = format_asked(named)?;
+    let words = FilesWords {
         asm,
         symbols,
         format,
         map,
-    })
+        images,
+    };
+    let is_alone = is_lone(named, symbols) || is_lone(matches.get_str("fill"), images.raw);
+    if is_alone || overlaps(&words) {
+        None
+    } else {
+        Some(words)
+    }
 }
 
 /// Returns a sentence that says which of the values that were found is wrong.
@@ -118,6 +195,12 @@ fn wrong_word(matches: &ArgMatches<'_>) -> &'static str {
         "--symbols-format takes plain or vice"
     } else if format.is_some() && matches.get_str("symbols").is_none() {
         "--symbols-format needs --symbols"
+    } else if fill_asked(matches.get_str("fill")).is_none() {
+        "--fill takes two hex digits"
+    } else if is_lone(matches.get_str("fill"), matches.get_str("bin")) {
+        "--fill needs --bin"
+    } else if asm_words(matches).is_some() {
+        "two of the files have one name"
     } else {
         wrong_value(matches).unwrap_or("two of the files have one name")
     }
@@ -130,7 +213,8 @@ fn wrong_word(matches: &ArgMatches<'_>) -> &'static str {
 /// - `Help` if they ask for help, and `Usage` if they do not fit the command line, with `clap`'s
 ///   text.
 /// - `Wrong`: they fit, and a value is wrong: one of those of `asm`, a format that is neither
-///   `plain` nor `vice` or has no file, or two files with one name.
+///   `plain` nor `vice` or has no file, a byte to fill with that is none or has no file, or two
+///   files with one name.
 /// - `OutOfMemory`: an allocation failed.
 pub fn read_files_words<'a>(
     alloc: Global,

@@ -11,8 +11,9 @@ use clap::{Command, Error};
 use std::alloc::Global;
 
 /// What the help of `asm` with its further files shows below its options.
-const EXAMPLE: &str = "Example:
-  mos65 asm hello.a65 hello.tape --symbols hello.sym --map hello.map";
+const EXAMPLE: &str = "Examples:
+  mos65 asm hello.a65 hello.tape --symbols hello.sym --map hello.map
+  mos65 asm rom.a65 rom.tape --bin rom.bin --fill 00";
 
 /// Returns the command line of `asm` with its options and those for further files.
 ///
@@ -27,6 +28,10 @@ pub fn asm_files_command<'a>(alloc: Global) -> Result<Command<'a>, Error>
     let symbols = "The file to write names and their numbers to [default: none]";
     let format = "How names are written: NAME = $0200, or al C:0200 .NAME [default: plain]";
     let map = "The file to write address, length and number of each line to [default: none]";
+    let raw = "The file to write bytes alone to, from the first to the last [default: none]";
+    let hex = "The file to write Intel HEX to [default: none]";
+    let srec = "The file to write S-records to [default: none]";
+    let fill = "The byte of the gaps in the file of --bin, two hex digits [default: FF]";
     let command = begin(alloc, "asm", "mos65 asm", about, EXAMPLE)?
         .arg(file(alloc, "SOURCE", "The source to assemble"))?
         .arg(file(alloc, "TAPE", "The file to write the tape to"))?
@@ -35,6 +40,10 @@ pub fn asm_files_command<'a>(alloc: Global) -> Result<Command<'a>, Error>
         .arg(option(alloc, "symbols-format", "plain|vice", format))?
         .arg(option(alloc, "map", "FILE", map))?
         .arg(port(alloc))?
-        .arg(profile(alloc))?;
+        .arg(profile(alloc))?
+        .arg(option(alloc, "bin", "FILE", raw))?
+        .arg(option(alloc, "hex", "FILE", hex))?
+        .arg(option(alloc, "srec", "FILE", srec))?
+        .arg(option(alloc, "fill", "HH", fill))?;
     Ok(command)
 }

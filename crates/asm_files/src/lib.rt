@@ -1,14 +1,17 @@
-//! `asm SOURCE TAPE` with `--symbols FILE` or `--map FILE`: the tape and the listing of `asm`, and
-//! files for other programs: the names of the source, and where each of its lines stands.
+//! `asm SOURCE TAPE` with further files: the tape and the listing of `asm`, and files for other
+//! programs: the names of the source, where each of its lines stands, and its image as bytes alone,
+//! Intel HEX and S-records.
 //!
-//! `symbols_text` and `map_text` make the two texts, and `file_texts` all that the words ask for,
-//! each as the definitions in `specs/Texts.antt` have it. `asm_files` serves the words; whether it
+//! `symbols_text` and `map_text` make the two texts, `image_texts` the image, and `file_texts` all
+//! that the words ask for, each as the definitions in `specs/Texts.antt` and `specs/Images.antt`
+//! have it. `asm_files` serves the words; whether it
 //! has to is what `asks_for_files` says.
 #![tactic(auto)]
 
 mod asked;
 mod command;
 mod format;
+mod images;
 mod names;
 mod places;
 mod run;
@@ -17,6 +20,7 @@ mod words;
 
 pub use command::asm_files_command;
 pub use format::SymbolsFormat;
+pub use images::{ImageTexts, ImagesAsked, image_texts};
 pub use names::symbols_text;
 pub use places::map_text;
 pub use run::asm_files;

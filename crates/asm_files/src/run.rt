@@ -10,7 +10,8 @@ ghost use Rattle.arguments.specs.declared.load_fault.LoadFault.TheVariants.{Refu
 ghost use Rattle.model.specs.State.{is_map};
 ghost use Rattle.model.specs.declared.bus_fault.BusFault.TheVariants.{BadMap};
 
-use crate::asked::{FilesWords, read_files_words};
+use crate::asked::{FilesWords, ImageNames, read_files_words};
+use crate::images::{ImageTexts, ImagesAsked};
 use crate::texts::{FileTexts, TextsAsked, file_texts};
 use arguments::{
     FileRefusal, LoadFault, Refusal, is_one_file, map_of, read_source, refused_words, write_file,
@@ -47,6 +48,9 @@ fn replaced_source<'a, H: Files>(rt: &H, words: &FilesWords<'a>) -> Option<&'a s
         words.asm.listing,
         words.symbols,
         words.map,
+        words.images.raw,
+        words.images.hex,
+        words.images.srec,
     ] {
         match file {
             Some(file) if is_one_file(rt, words.asm.source, file) => return Some(file),
@@ -56,8 +60,21 @@ fn replaced_source<'a, H: Files>(rt: &H, words: &FilesWords<'a>) -> Option<&'a s
     None
 }
 
-/// Writes the tape's file, and then the listing's, that of the names and that of the places. None
-/// is written if one of the files is the source.
+/// Writes the image's files, if they are asked for.
+fn write_images<'a, H: Files>(
+    rt: &H,
+    names: &ImageNames<'a>,
+    texts: &ImageTexts,
+) -> Result<(), FileRefusal<'a>>
+    ensures only { IfErr result (λ why. EndsWriting why.refusal) }
+{
+    write_asked(rt, names.raw, &texts.raw)?;
+    write_asked(rt, names.hex, &texts.hex)?;
+    write_asked(rt, names.srec, &texts.srec)
+}
+
+/// Writes the tape's file, and then the listing's, that of the names, that of the places and those
+/// of the image. None is written if one of the files is the source.
 fn write_texts<'a, H: Files>(
     rt: &H,
     words: &FilesWords<'a>,
@@ -74,7 +91,8 @@ fn write_texts<'a, H: Files>(
     write_named(rt, words.asm.tape, texts.asm.tape.as_slice())?;
     write_asked(rt, words.asm.listing, &texts.asm.listing)?;
     write_asked(rt, words.symbols, &texts.symbols)?;
-    write_asked(rt, words.map, &texts.map)
+    write_asked(rt, words.map, &texts.map)?;
+    write_images(rt, &words.images, &texts.images)
 }
 
 /// Returns which texts the words ask for beside that of the tape.
@@ -86,6 +104,14 @@ fn texts_asked(words: &FilesWords<'_>) -> TextsAsked {
             None => None,
         },
         is_mapped: words.map.is_some(),
+        images: ImagesAsked {
+            raw: match words.images.raw {
+                Some(_) => Some(words.images.fill),
+                None => None,
+            },
+            is_hex: words.images.hex.is_some(),
+            is_srec: words.images.srec.is_some(),
+        },
     }
 }
 
@@ -138,16 +164,16 @@ fn done<H: Files + AllocGlobal, E: Write>(rt: &H, words: &FilesWords<'_>, errors
     }
 }
 
-/// Does what the words after `asm` ask for if `--symbols` or `--map` is among them, and returns the
-/// exit status.
+/// Does what the words after `asm` ask for if further files are among it, and returns the exit
+/// status.
 ///
 /// The status is that of `asm`: 0 if it is done, 1 if the source is rejected, 2 if the words or the
 /// map are wrong, 3 if memory ran out, 4 if reading or writing failed. For each but 0 `errors` gets
 /// why: all faults of the source, or a line with the name of the file that cannot be read or
 /// written; the status is the same if that cannot be written. The tape is written first, then the
-/// listing, the names and the places of the lines; all texts are whole before the first file is
-/// made. If a file to write is the source under another name, the status is 4 and nothing is
-/// written. The output gets nothing but help.
+/// listing, the names, the places of the lines and the image in other forms; all texts are whole
+/// before the first file is made. If a file to write is the source under another name, the status
+/// is 4 and nothing is written. The output gets nothing but help.
 pub fn asm_files<H: Files + AllocGlobal, O: Write, E: Write>(
     rt: &H,
     words: &[&str],

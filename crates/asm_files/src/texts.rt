@@ -3,6 +3,7 @@
 ghost use Rattle.std.specs.Prelude.{◌≡◌, ◌⊎◌, ◌≤◌, ℕ, List, Option, Err, IfErr, IfOk, MatchResult};
 ghost use Rattle.std.specs.Prelude.{None, Some, if◌then◌else◌, length, option_map};
 ghost use Rattle.asm_files.specs.Found.{names_found, places_found};
+ghost use Rattle.asm_files.specs.Images.{AreImagesOf};
 ghost use Rattle.asm_files.specs.Texts.{AreSymbols, IsMapAsked, map_text, symbols_text};
 ghost use Rattle.assembler.specs.Assembly.{out_of_memory};
 ghost use Rattle.model.specs.Source.{Denotes, HasFault};
@@ -11,8 +12,10 @@ ghost use Rattle.model.specs.declared.source_fault.AsmFault.{AsmFault};
 ghost use Rattle.program.specs.Texts.{IsAsked};
 
 use crate::format::SymbolsFormat;
+use crate::images::{ImageTexts, ImagesAsked, image_texts};
 use crate::names::symbols_text;
 use crate::places::map_text;
+use assembler::assemble;
 use bus::MapSpec;
 use line_parts::OUT_OF_MEMORY;
 use model::AsmFault;
@@ -30,9 +33,11 @@ pub struct TextsAsked {
     pub symbols: Option<SymbolsFormat>,
     /// Whether the places of the lines are.
     pub is_mapped: bool,
+    /// In which other forms the image is.
+    pub images: ImagesAsked,
 }
 
-/// The texts that `asm` writes with `--symbols` or `--map`.
+/// The texts that `asm` writes with further files.
 #[derive(Drop)]
 pub struct FileTexts {
     /// The texts of the tape and of the listing.
@@ -41,6 +46,8 @@ pub struct FileTexts {
     pub symbols: Option<Vec<u8>>,
     /// The places of the lines, if they are asked for.
     pub map: Option<Vec<u8>>,
+    /// The image in other forms.
+    pub images: ImageTexts,
 }
 
 /// The names and the places of a source, each if it is asked for.
@@ -77,6 +84,26 @@ fn other_texts(
     Ok(OtherTexts { symbols, map })
 }
 
+/// Returns the image of a source in the forms that are asked for.
+///
+/// Errors: as those of `file_texts`.
+#[tactic(auto, using(crate::proofs::Imaged::images_as))]
+fn images_of(
+    alloc: Global,
+    source: &[u8],
+    map: &MapSpec,
+    asked: ImagesAsked,
+) -> Result<ImageTexts, AsmFault>
+    ensures images { IfOk result (AreImagesOf map.now source.now asked) }
+    ensures refused { IfErr result (λ f. (f ≡ out_of_memory) ⊎ HasFault map.now source.now f) }
+{
+    let assembly = assemble(alloc, source, map)?;
+    match image_texts(alloc, assembly.image(), asked) {
+        Ok(texts) => Ok(texts),
+        Err(_) => Err(OUT_OF_MEMORY),
+    }
+}
+
 /// Assembles a source on a map, and returns the texts that `asm` writes: that of the tape, and
 /// those that are asked for.
 ///
@@ -101,6 +128,8 @@ pub fn file_texts(
     // So are the places of the lines.
     ensures places { IfOk result (λ t. IsMapAsked map.now source.now asked.is_mapped
         (option_map (λ l. l.items) t.map)) }
+    // The image of the source is there in each form that is asked for.
+    ensures images { IfOk result (λ t. AreImagesOf map.now source.now asked.images t.images) }
     // A source that denotes an image has its tape, unless memory runs out.
     ensures only { (image : List (Option ℕ)) → Denotes map.now source.now image
         → MatchResult result (λ t. t.asm.tape.items ≡ tape_text image) (λ f. f ≡ out_of_memory) }
@@ -111,11 +140,15 @@ pub fn file_texts(
 {
     match asm_texts(alloc, source, map, asked.is_listed) {
         Ok(asm) => match other_texts(alloc, source, map, asked) {
-            Ok(others) => Ok(FileTexts {
-                asm,
-                symbols: others.symbols,
-                map: others.map,
-            }),
+            Ok(others) => match images_of(alloc, source, map, asked.images) {
+                Ok(images) => Ok(FileTexts {
+                    asm,
+                    symbols: others.symbols,
+                    map: others.map,
+                    images,
+                }),
+                Err(_) => Err(OUT_OF_MEMORY),
+            },
             Err(_) => Err(OUT_OF_MEMORY),
         },
         Err(fault) => Err(fault),

@@ -2,11 +2,12 @@
 
 ghost use Rattle.std.specs.Prelude.{◌≡◌};
 ghost use Rattle.arguments.specs.Words.{texts};
-ghost use Rattle.asm_files.specs.Asked.{asks_for_files, names_file};
+ghost use Rattle.asm_files.specs.Asked.{asks_for_files, names_file, names_image, names_table};
 
-/// Returns whether a word is an option that asks for a file, or for the format of one.
-fn names_file(word: &str) -> bool
-    ensures { result ≡ names_file word.now }
+/// Returns whether a word is an option that asks for the names or the places of a source, or for
+/// the format of the names.
+fn names_table(word: &str) -> bool
+    ensures { result ≡ names_table word.now }
 {
     let bytes = word.as_bytes();
     word == "--symbols"
@@ -17,8 +18,31 @@ fn names_file(word: &str) -> bool
         || bytes.starts_with(b"--map=")
 }
 
-/// Returns whether the words after `asm` ask for a file of names or of places: whether `--symbols`,
-/// `--symbols-format` or `--map` is among them, before a word `--`.
+/// Returns whether a word is an option that asks for the image in another form than a tape, or for
+/// the byte of its gaps.
+fn names_image(word: &str) -> bool
+    ensures { result ≡ names_image word.now }
+{
+    let bytes = word.as_bytes();
+    word == "--bin"
+        || bytes.starts_with(b"--bin=")
+        || word == "--hex"
+        || bytes.starts_with(b"--hex=")
+        || word == "--srec"
+        || bytes.starts_with(b"--srec=")
+        || word == "--fill"
+        || bytes.starts_with(b"--fill=")
+}
+
+/// Returns whether a word is an option that asks for a file beside the tape and the listing.
+fn names_file(word: &str) -> bool
+    ensures { result ≡ names_file word.now }
+{
+    names_table(word) || names_image(word)
+}
+
+/// Returns whether the words after `asm` ask for a file of names, of places or of the image in
+/// another form: whether one of the options that do so is among them, before a word `--`.
 pub fn asks_for_files(words: &[&str]) -> bool
     ensures { result ≡ asks_for_files (texts words.entry.now) }
 {

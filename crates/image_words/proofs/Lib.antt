@@ -1,4 +1,3 @@
 mod Read
-pub mod Ranges
 pub mod Refused
 pub mod Whole

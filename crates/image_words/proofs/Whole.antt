@@ -1,17 +1,18 @@
 -- From what the parts of a conversion say to what the whole does.
-use Rattle.std.proofs.Common.{◌≡◌, ◌≤◌, ◌⊎◌, ℕ, List, Option, Result, Ok, Err, IfOk, IfErr, subst, inl, inr, arith}
-use Rattle.image_reader.specs.Images.{Denotes, HasFault}
-use Rattle.image_reader.specs.declared.fault.ImageFault.{ImageFault}
-use Rattle.image_reader.specs.declared.fault.ImageFault.TheVariants as image_fault
-use Rattle.image_reader.specs.declared.form.Form.{Form}
+use Rattle.std.proofs.Common.{◌≡◌, ◌≤◌, ◌⊎◌, ℕ, List, Option, Result, Ok, Err, IfOk, IfErr, subst, sym, inl, inr, arith}
+use Rattle.arguments.specs.Files.{EndsWriting}
+use Rattle.arguments.specs.declared.refusal.Refusal.{Refusal}
+use Rattle.arguments.specs.declared.refusal.Refusal.TheVariants.{Words, Map as NoMap, Source, Tape, Session, OutOfMemory, Read, Write}
+use Rattle.image_files.specs.Bytes.{IsImage, IsNoImage}
+use Rattle.image_files.specs.Files.{EndsBytes}
+use Rattle.image_files.specs.declared.refusal.ImageRefusal.{ImageRefusal}
+use Rattle.image_files.specs.declared.refusal.ImageRefusal.TheVariants as why
 use Rattle.image_writer.specs.Window.{IsPart}
 use Rattle.image_words.specs.Asked.{ConvertAsked}
-use Rattle.image_words.specs.Converted.{IsConverted, IsNotWritten, IsPartWritten, IsRefused, IsWritten, ReadsAs, fill_for, form_by, of_image}
-use Rattle.image_words.specs.Statuses.{status_of, status_of_bytes, status_of_image}
+use Rattle.image_words.specs.Converted.{IsConverted, IsNotWritten, IsPartWritten, IsRefused, IsWritten, ReadsAs, fill_for}
+use Rattle.image_words.specs.Statuses.{EndsConvert, status_of}
 use Rattle.image_words.specs.declared.fault.ConvertFault.{ConvertFault}
-use Rattle.image_words.specs.declared.fault.ConvertFault.TheVariants.{Image, Looks, NoByte, TooLong, OutOfMemory}
-use Rattle.image_words.specs.declared.fault.FileFault.{FileFault}
-use Rattle.image_words.specs.declared.fault.FileFault.TheVariants as file_fault
+use Rattle.image_words.specs.declared.fault.ConvertFault.TheVariants.{Refused, NoByte}
 
 abbrev Cells : Type 0
 Cells = List (Option ℕ)
@@ -22,33 +23,55 @@ part_as (Err e) items asked image part low high fill is p h = tt
 part_as (Ok out) items asked image part low high fill is p h =
     record { part = part; is_part = subst (λ (f : Option ℕ). IsPart low high f image part) is p; reads = h }
 
-pub converted_as : {X E : Type 0} (r : Result X E) (items : X → List ℕ) (asked : ConvertAsked) (bytes : List ℕ) (form : Form) (image : Cells) → form_by asked.from bytes ≡ Ok form
-    → Denotes form bytes image → IfOk r (λ out. IsWritten asked image (items out)) → IfOk r (λ out. IsConverted asked bytes (items out))
-converted_as (Err e) items asked bytes form image told denotes h = tt
-converted_as (Ok out) items asked bytes form image told denotes h = record { form = form; image = image; told = told; denotes = denotes; written = h }
+pub converted_as : {X E : Type 0} (r : Result X E) (items : X → List ℕ) (asked : ConvertAsked) (bytes : List ℕ) (image : Cells) → IsImage asked.from bytes image
+    → IfOk r (λ out. IsWritten asked image (items out)) → IfOk r (λ out. IsConverted asked bytes (items out))
+converted_as (Err e) items asked bytes image denotes h = tt
+converted_as (Ok out) items asked bytes image denotes h = record { image = image; denotes = denotes; written = h }
 
-pub refused_as : {X : Type 0} (r : Result X ConvertFault) (asked : ConvertAsked) (bytes : List ℕ) (form : Form) (image : Cells) → form_by asked.from bytes ≡ Ok form
-    → Denotes form bytes image → IfErr r (IsNotWritten asked image) → IfErr r (IsRefused asked bytes)
-refused_as (Ok out) asked bytes form image told denotes h = tt
-refused_as (Err NoByte) asked bytes form image told denotes h = record { form = form; image = image; told = told; denotes = denotes; none = h }
-refused_as (Err OutOfMemory) asked bytes form image told denotes h = tt
-refused_as (Err (Image f)) asked bytes form image told denotes h = absurd h
-refused_as (Err (Looks like)) asked bytes form image told denotes h = absurd h
-refused_as (Err TooLong) asked bytes form image told denotes h = absurd h
+pub refused_as : {X : Type 0} (r : Result X ConvertFault) (asked : ConvertAsked) (bytes : List ℕ) (image : Cells) → IsImage asked.from bytes image
+    → IfErr r (IsNotWritten asked image) → IfErr r (IsRefused asked bytes)
+refused_as (Ok out) asked bytes image denotes h = tt
+refused_as (Err NoByte) asked bytes image denotes h = record { image = image; denotes = denotes; none = h }
+refused_as (Err (Refused why)) asked bytes image denotes h = inl h
 
-abbrev Faulty : ConvertAsked → List ℕ → Form → ImageFault → Type 0
-Faulty asked bytes form f = (f ≡ image_fault.OutOfMemory) ⊎ HasFault form bytes f
+-- ---- why a file is not converted
 
-pub fault_as : (asked : ConvertAsked) (bytes : List ℕ) (form : Form) (f : ImageFault) → form_by asked.from bytes ≡ Ok form → Faulty asked bytes form f → IsRefused asked bytes (of_image f)
-fault_as asked bytes form image_fault.OutOfMemory told h = tt
-fault_as asked bytes form (image_fault.Record f) told (inl e) = absurd cc
-fault_as asked bytes form (image_fault.Record f) told (inr h) = (form, told, h)
-fault_as asked bytes form (image_fault.Tape f) told (inl e) = absurd cc
-fault_as asked bytes form (image_fault.Tape f) told (inr h) = (form, told, h)
-fault_as asked bytes form image_fault.PastEnd told (inl e) = absurd cc
-fault_as asked bytes form image_fault.PastEnd told (inr h) = (form, told, h)
-fault_as asked bytes form image_fault.NoAddress told (inl e) = absurd cc
-fault_as asked bytes form image_fault.NoAddress told (inr h) = (form, told, h)
+pub bytes_end : (w : ImageRefusal) → EndsBytes w → EndsConvert (Refused w)
+bytes_end (why.NoImage no_image) ends = tt
+bytes_end (why.Refused OutOfMemory) ends = tt
+bytes_end (why.Refused (Read fault)) ends = tt
+bytes_end (why.Refused Words) ends = absurd ends
+bytes_end (why.Refused (NoMap fault)) ends = absurd ends
+bytes_end (why.Refused (Source fault)) ends = absurd ends
+bytes_end (why.Refused (Tape fault)) ends = absurd ends
+bytes_end (why.Refused (Session fault)) ends = absurd ends
+bytes_end (why.Refused Write) ends = absurd ends
+
+pub writing_ends : (refusal : Refusal) → EndsWriting refusal → EndsConvert (Refused (why.Refused refusal))
+writing_ends OutOfMemory ends = tt
+writing_ends Write ends = tt
+writing_ends Words ends = absurd ends
+writing_ends (NoMap fault) ends = absurd ends
+writing_ends (Source fault) ends = absurd ends
+writing_ends (Tape fault) ends = absurd ends
+writing_ends (Session fault) ends = absurd ends
+writing_ends (Read fault) ends = absurd ends
+
+no_image_ends : (asked : ConvertAsked) (bytes : List ℕ) (w : ImageRefusal) → IsNoImage asked.from bytes w → EndsConvert (Refused w)
+no_image_ends asked bytes (why.NoImage no_image) is = tt
+no_image_ends asked bytes (why.Refused (Tape fault)) is = tt
+no_image_ends asked bytes (why.Refused OutOfMemory) is = tt
+no_image_ends asked bytes (why.Refused (Read fault)) is = tt
+no_image_ends asked bytes (why.Refused Write) is = tt
+no_image_ends asked bytes (why.Refused Words) is = absurd is
+no_image_ends asked bytes (why.Refused (NoMap fault)) is = absurd is
+no_image_ends asked bytes (why.Refused (Source fault)) is = absurd is
+no_image_ends asked bytes (why.Refused (Session fault)) is = absurd is
+
+pub refused_ends : (asked : ConvertAsked) (bytes : List ℕ) (fault : ConvertFault) → IsRefused asked bytes fault → EndsConvert fault
+refused_ends asked bytes NoByte is = tt
+refused_ends asked bytes (Refused w) (inl memory) = subst (λ (x : ImageRefusal). EndsConvert (Refused x)) (sym memory) tt
+refused_ends asked bytes (Refused w) (inr is) = no_image_ends asked bytes w is
 
 -- ---- statuses
 
@@ -64,22 +87,14 @@ three = (omega arith, omega arith, λ e. omega (arith, e))
 four : Bounded 4
 four = (omega arith, omega arith, λ e. omega (arith, e))
 
-of_image_bounded : (f : ImageFault) → Bounded (status_of_image f)
-of_image_bounded (image_fault.Record f) = one
-of_image_bounded (image_fault.Tape f) = one
-of_image_bounded image_fault.PastEnd = one
-of_image_bounded image_fault.NoAddress = one
-of_image_bounded image_fault.OutOfMemory = three
-
-of_bytes_bounded : (f : ConvertFault) → Bounded (status_of_bytes f)
-of_bytes_bounded (Image f) = of_image_bounded f
-of_bytes_bounded (Looks like) = one
-of_bytes_bounded NoByte = one
-of_bytes_bounded TooLong = one
-of_bytes_bounded OutOfMemory = three
-
-pub bounded : (f : FileFault) → Bounded (status_of f)
-bounded (file_fault.Bytes f) = of_bytes_bounded f
-bounded (file_fault.Unread why) = four
-bounded file_fault.Unwritten = four
-bounded file_fault.OutOfMemory = three
+pub bounded : (fault : ConvertFault) → EndsConvert fault → Bounded (status_of fault)
+bounded NoByte ends = one
+bounded (Refused (why.NoImage no_image)) ends = one
+bounded (Refused (why.Refused (Tape fault))) ends = one
+bounded (Refused (why.Refused OutOfMemory)) ends = three
+bounded (Refused (why.Refused (Read fault))) ends = four
+bounded (Refused (why.Refused Write)) ends = four
+bounded (Refused (why.Refused Words)) ends = absurd ends
+bounded (Refused (why.Refused (NoMap fault))) ends = absurd ends
+bounded (Refused (why.Refused (Source fault))) ends = absurd ends
+bounded (Refused (why.Refused (Session fault))) ends = absurd ends

@@ -1,19 +1,21 @@
 -- What the words of `convert` ask for, by the values that clap's definition of a parse finds among
 -- them. Source: mos65.
-use Rattle.std.specs.Prelude.{ℕ, nat_eq, nat_le, Bool, List, Option, Some, None, codes, option_map, if◌then◌else◌}
+use Rattle.std.specs.Prelude.{ℕ, nat_eq, nat_le, Bool, true, false, List, Option, Some, None, codes, option_map, if◌then◌else◌}
 use Rattle.std.specs.List.{ends_with}
 use Rattle.std.specs.Str.{bytes_eq}
+use Rattle.arguments.specs.Asked.{is_flag}
 use Rattle.arguments.specs.Values.{both}
 use Rattle.arguments.specs.Words.{value_in}
 use Rattle.clap.specs.Words.{Text}
 use Rattle.image_reader.specs.declared.form.Form.{Form}
 use Rattle.image_reader.specs.declared.form.Form.TheVariants as form
 use Rattle.image_reader.specs.declared.form.TextForm.TheVariants as text_form
+use Rattle.image_files.specs.Options.{fill_asked}
 use Rattle.image_words.specs.CommandLine.{convert}
 use Rattle.image_words.specs.declared.names.FormName.{FormName}
 use Rattle.image_words.specs.declared.names.FormName.TheVariants.{Bin, Hex, SRecord, Tape, Prg}
 use Rattle.image_words.specs.declared.words.ConvertWords.{ConvertWords}
-use Rattle.model.specs.Commands.{address_of, byte_of}
+use Rattle.model.specs.Commands.{address_of}
 
 -- ---- forms
 
@@ -64,13 +66,15 @@ from_name (Some SRecord) = Some (Some (form.Text text_form.SRecord))
 from_name (Some Tape) = Some (Some form.Tape)
 from_name (Some Prg) = Some (Some form.Prg)
 
--- The form of IN that `--from` and `--bin` say, if they say one.
-abbrev pub from_asked : Option Text → Option Text → Option (Option Form)
-from_asked None None = Some None
-from_asked None (Some address) = raw_at (address_of address)
-from_asked (Some name) None = from_name (form_named name)
-from_asked (Some name) (Some address) = if bytes_eq name (codes "bin")
+-- The form of IN that `--from`, `--bin` and `--prg` say, if they say one.
+abbrev pub from_asked : Option Text → Option Text → Bool → Option (Option Form)
+from_asked None None false = Some None
+from_asked None None true = Some (Some form.Prg)
+from_asked None (Some address) false = raw_at (address_of address)
+from_asked (Some name) None false = from_name (form_named name)
+from_asked (Some name) (Some address) false = if bytes_eq name (codes "bin")
     then raw_at (address_of address) else None
+from_asked name address true = None
 
 -- ---- the part that is written
 
@@ -84,11 +88,6 @@ range_asked None None = Some None
 range_asked None (Some high) = None
 range_asked (Some low) None = None
 range_asked (Some low) (Some high) = in_order (both (address_of low) (address_of high))
-
--- The byte that gaps are filled with, if one is said.
-abbrev pub fill_asked : Option Text → Option (Option ℕ)
-fill_asked None = Some None
-fill_asked (Some word) = option_map Some (byte_of word)
 
 -- ---- all words
 
@@ -109,7 +108,7 @@ asked_of input out from to range fill = None
 -- The files have two names, and what is asked for is right.
 abbrev pub convert_of : Option Text → Option Text → (Text → Option Text) → Option ConvertAsked
 convert_of (Some input) (Some out) value = asked_of input out
-    (from_asked (value (codes "from")) (value (codes "bin")))
+    (from_asked (value (codes "from")) (value (codes "bin")) (is_flag (value (codes "prg"))))
     (to_asked (value (codes "to")) out)
     (range_asked (value (codes "LO")) (value (codes "HI")))
     (fill_asked (value (codes "fill")))

@@ -1,25 +1,19 @@
 -- What `convert` makes of the bytes of a file. Source: mos65.
-use Rattle.std.specs.Prelude.{◌≡◌, ◌<◌, ◌≤◌, ⊤, ℕ, List, Option, Some, None, Result, Ok, Err}
-use Rattle.image_reader.specs.Forms.{form_of}
-use Rattle.image_reader.specs.Images.{Denotes, HasFault, prg_image, raw_image}
+use Rattle.std.specs.Prelude.{◌≡◌, ◌<◌, ◌≤◌, ◌⊎◌, ℕ, List, Option, Some, None, Ok}
+use Rattle.arguments.specs.declared.refusal.Refusal.TheVariants as refusal
+use Rattle.image_files.specs.Bytes.{IsImage, IsNoImage}
+use Rattle.image_files.specs.declared.refusal.ImageRefusal.{ImageRefusal}
+use Rattle.image_files.specs.declared.refusal.ImageRefusal.TheVariants as image_refusal
+use Rattle.image_reader.specs.Images.{prg_image, raw_image}
 use Rattle.image_reader.specs.Texts.{text_image}
-use Rattle.image_reader.specs.declared.fault.ImageFault.{ImageFault}
-use Rattle.image_reader.specs.declared.fault.ImageFault.TheVariants as image_fault
-use Rattle.image_reader.specs.declared.form.Form.{Form}
-use Rattle.image_reader.specs.declared.form.OtherText.{OtherText}
 use Rattle.image_reader.specs.declared.form.TextForm.TheVariants as text_form
 use Rattle.image_writer.specs.Window.{IsFirst, IsLast, IsPart, IsReadPart}
 use Rattle.image_words.specs.Asked.{ConvertAsked}
 use Rattle.image_words.specs.declared.fault.ConvertFault.{ConvertFault}
-use Rattle.image_words.specs.declared.fault.ConvertFault.TheVariants.{Image, Looks, NoByte, TooLong, OutOfMemory}
+use Rattle.image_words.specs.declared.fault.ConvertFault.TheVariants.{Refused, NoByte}
 use Rattle.image_words.specs.declared.names.FormName.{FormName}
 use Rattle.image_words.specs.declared.names.FormName.TheVariants.{Bin, Hex, SRecord, Tape, Prg}
 use Rattle.model.specs.Tape.{TapeDenotes}
-
--- The form of the bytes: the one that is said, or that of their first record.
-abbrev pub form_by : Option Form → List ℕ → Result Form OtherText
-form_by (Some form) bytes = Ok form
-form_by None bytes = form_of bytes
 
 -- The addresses that are written: those that are said, or from the first byte to the last. There
 -- are none where none are said and the image has no byte, or where the last is below the first.
@@ -34,6 +28,9 @@ HasNoRange None image = IsFirst image None
 abbrev pub IsRangeOf : Option (ℕ × ℕ) → List (Option ℕ) → Option (ℕ × ℕ) → Type 0
 IsRangeOf range image None = HasNoRange range image
 IsRangeOf range image (Some found) = IsRange range image found.0 found.1 × (found.0 ≤ found.1)
+
+abbrev pub out_of_memory : ImageRefusal
+out_of_memory = image_refusal.Refused refusal.OutOfMemory
 
 -- The byte that gaps are filled with. Bytes without records have none: $FF where none is said.
 abbrev pub fill_for : FormName → Option ℕ → Option ℕ
@@ -68,37 +65,21 @@ pub record IsWritten (asked : ConvertAsked) (image : List (Option ℕ)) (out : L
 
 abbrev pub IsNotWritten : ConvertAsked → List (Option ℕ) → ConvertFault → Type 0
 IsNotWritten asked image NoByte = HasNoRange asked.range image
-IsNotWritten asked image OutOfMemory = ⊤
-IsNotWritten asked image (Image f) = ⊥
-IsNotWritten asked image (Looks like) = ⊥
-IsNotWritten asked image TooLong = ⊥
+IsNotWritten asked image (Refused why) = why ≡ out_of_memory
 
 -- The bytes denote an image, of which this is written.
 pub record IsConverted (asked : ConvertAsked) (bytes out : List ℕ) : Type 0 where
-  pub form : Form
   pub image : List (Option ℕ)
-  pub told : form_by asked.from bytes ≡ Ok form
-  pub denotes : Denotes form bytes image
+  pub denotes : IsImage asked.from bytes image
   pub written : IsWritten asked image out
 
 -- The bytes denote an image that nothing is written for.
 pub record HasNoByte (asked : ConvertAsked) (bytes : List ℕ) : Type 0 where
-  pub form : Form
   pub image : List (Option ℕ)
-  pub told : form_by asked.from bytes ≡ Ok form
-  pub denotes : Denotes form bytes image
+  pub denotes : IsImage asked.from bytes image
   pub none : HasNoRange asked.range image
 
--- Why nothing is written for some bytes.
+-- Why nothing is written for some bytes. Memory may run out at any bytes.
 abbrev pub IsRefused : ConvertAsked → List ℕ → ConvertFault → Type 0
-IsRefused asked bytes (Image fault)
-    = (form : Form) × (form_by asked.from bytes ≡ Ok form) × HasFault form bytes fault
-IsRefused asked bytes (Looks like) = form_by asked.from bytes ≡ Err like
 IsRefused asked bytes NoByte = HasNoByte asked bytes
-IsRefused asked bytes TooLong = ⊥
-IsRefused asked bytes OutOfMemory = ⊤
-
--- A fault of the image as one of converting.
-abbrev pub of_image : ImageFault → ConvertFault
-of_image image_fault.OutOfMemory = OutOfMemory
-of_image fault = Image fault
+IsRefused asked bytes (Refused why) = (why ≡ out_of_memory) ⊎ IsNoImage asked.from bytes why

@@ -1,25 +1,24 @@
--- The exit status of `convert` where a file is not converted. Source: mos65.
-use Rattle.std.specs.Prelude.{ℕ}
-use Rattle.image_reader.specs.declared.fault.ImageFault.{ImageFault}
-use Rattle.image_reader.specs.declared.fault.ImageFault.TheVariants as image_fault
+-- Why a file is not converted, and the exit status of `convert` then. Source: mos65.
+use Rattle.std.specs.Prelude.{⊤, ℕ}
+use Rattle.arguments.specs.declared.refusal.Refusal.TheVariants as refusal
+use Rattle.image_files.specs.Told.{status_of_image}
+use Rattle.image_files.specs.declared.refusal.ImageRefusal.TheVariants as why
 use Rattle.image_words.specs.declared.fault.ConvertFault.{ConvertFault}
-use Rattle.image_words.specs.declared.fault.ConvertFault.TheVariants as convert_fault
-use Rattle.image_words.specs.declared.fault.FileFault.{FileFault}
-use Rattle.image_words.specs.declared.fault.FileFault.TheVariants.{Bytes, Unread, Unwritten, OutOfMemory}
+use Rattle.image_words.specs.declared.fault.ConvertFault.TheVariants.{Refused, NoByte}
 
--- 1 for bytes that are no image, or that nothing is written for; 3 for memory.
-abbrev pub status_of_image : ImageFault → ℕ
-status_of_image image_fault.OutOfMemory = 3
-status_of_image fault = 1
+-- IN is no image or has no byte, a file cannot be read or written, or memory ran out. No clause can
+-- say what a file has.
+abbrev pub EndsConvert : ConvertFault → Type 0
+EndsConvert NoByte = ⊤
+EndsConvert (Refused (why.NoImage no_image)) = ⊤
+EndsConvert (Refused (why.Refused (refusal.Tape fault))) = ⊤
+EndsConvert (Refused (why.Refused refusal.OutOfMemory)) = ⊤
+EndsConvert (Refused (why.Refused (refusal.Read fault))) = ⊤
+EndsConvert (Refused (why.Refused refusal.Write)) = ⊤
+EndsConvert (Refused (why.Refused refusal)) = ⊥
 
-abbrev pub status_of_bytes : ConvertFault → ℕ
-status_of_bytes (convert_fault.Image fault) = status_of_image fault
-status_of_bytes convert_fault.OutOfMemory = 3
-status_of_bytes fault = 1
-
--- The same, and 4 for reading and writing.
-abbrev pub status_of : FileFault → ℕ
-status_of (Bytes fault) = status_of_bytes fault
-status_of (Unread why) = 4
-status_of Unwritten = 4
-status_of OutOfMemory = 3
+-- 1 for bytes that are no image, or that nothing is written for; 3 for memory; 4 for reading and
+-- writing.
+abbrev pub status_of : ConvertFault → ℕ
+status_of (Refused why) = status_of_image why
+status_of NoByte = 1

@@ -5,7 +5,7 @@ ghost use Rattle.clap.specs.Words.{app_of, kind_of, rule_of};
 ghost use Rattle.clap.specs.declared.builder.command.Command.TheViews.{out-Command};
 ghost use Rattle.image_words.specs.CommandLine.{convert, word_rule};
 
-use arguments::{begin, file, option};
+use arguments::{begin, file, flag, option};
 use clap::error::ErrorKind;
 use clap::{Arg, ArgAction, Command, Error};
 use std::alloc::Global;
@@ -55,6 +55,7 @@ pub fn convert_command<'a>(alloc: Global) -> Result<Command<'a>, Error>
         .arg(option(alloc, "from", "FORM", from))?
         .arg(option(alloc, "bin", "HHHH", bin))?
         .arg(option(alloc, "to", "FORM", to))?
-        .arg(option(alloc, "fill", "HH", fill))?;
+        .arg(option(alloc, "fill", "HH", fill))?
+        .arg(flag(alloc, "prg", "IN is a PRG file, as with --from prg"))?;
     Ok(command)
 }

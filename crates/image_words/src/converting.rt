@@ -1,50 +1,20 @@
 //! The bytes of one form from those of another.
 
-ghost use Rattle.std.specs.Prelude.{◌≡◌, ◌≤◌, IfErr, IfOk, None, Ok, Some};
+ghost use Rattle.std.specs.Prelude.{◌≡◌, ◌≤◌, IfErr, IfOk, None, Some};
 ghost use Rattle.image_words.specs.Asked.{convert_view};
 ghost use Rattle.image_words.specs.Converted.{IsConverted, IsNotWritten, IsPartWritten, IsRange};
-ghost use Rattle.image_writer.specs.Window.{IsFirst};
-ghost use Rattle.image_words.specs.Converted.{IsRangeOf, IsRefused, IsWritten, ReadsAs, fill_for, form_by};
+ghost use Rattle.image_words.specs.Converted.{IsRangeOf, IsRefused, IsWritten, ReadsAs, fill_for};
 
-use crate::fault::{ConvertFault, of_image};
+use crate::fault::ConvertFault;
 use crate::names::FormName;
 use crate::words::ConvertWords;
-use image_reader::{Form, OtherText, TextForm, form_of, read_image};
-use image_writer::{first_address, last_address, part_of, write_prg, write_raw, write_text};
+use arguments::Refusal;
+use image_files::{ImageRefusal, ends_of, image_of_bytes};
+use image_reader::TextForm;
+use image_writer::{part_of, write_prg, write_raw, write_text};
 use memory_map::Image;
 use papertape::write_tape;
 use std::alloc::{AllocError, Global};
-
-/// Returns the form of bytes: the one that is said, or that of their first record.
-fn form_by(from: Option<Form>, bytes: &[u8]) -> Result<Form, OtherText>
-    ensures { result ≡ form_by from bytes.now }
-{
-    match from {
-        Some(form) => Ok(form),
-        None => form_of(bytes),
-    }
-}
-
-/// Returns the addresses of the first byte of an image, which is known, and of the last.
-fn ends_from(image: &Image, low: u16) -> Option<(u16, u16)>
-    requires { IsFirst image.now (Some low) }
-    ensures { IsRangeOf None image.now result }
-{
-    match last_address(image) {
-        None => None,
-        Some(high) => Some((low, high)),
-    }
-}
-
-/// Returns the addresses of the first and of the last byte of an image, if there is one.
-fn ends_of(image: &Image) -> Option<(u16, u16)>
-    ensures { IsRangeOf None image.now result }
-{
-    match first_address(image) {
-        None => None,
-        Some(low) => ends_from(image, low),
-    }
-}
 
 /// Returns the first and the last address to write: those that are said, or those of the first and
 /// of the last byte, if there is one.
@@ -128,7 +98,7 @@ fn range_written(
 {
     match part_written(alloc, words, image, low, high) {
         Ok(out) => Ok(out),
-        Err(_) => Err(ConvertFault::OutOfMemory),
+        Err(_) => Err(ConvertFault::Refused(ImageRefusal::Refused(Refusal::OutOfMemory))),
     }
 }
 
@@ -147,29 +117,11 @@ fn image_written(
     }
 }
 
-/// Returns the bytes of OUT for those of IN, which are read in a form.
-fn form_converted(
-    alloc: Global,
-    words: &ConvertWords<'_>,
-    form: Form,
-    bytes: &[u8],
-) -> Result<Vec<u8>, ConvertFault>
-    requires { form_by (convert_view words.now).from bytes.now ≡ Ok form }
-    ensures found { IfOk result
-        (λ out. IsConverted (convert_view words.now) bytes.now out.items) }
-    ensures fault { IfErr result (IsRefused (convert_view words.now) bytes.now) }
-{
-    match read_image(alloc, form, bytes) {
-        Ok(image) => image_written(alloc, words, &image),
-        Err(fault) => Err(of_image(fault)),
-    }
-}
-
 /// Returns the bytes of OUT for those of IN.
 ///
-/// Errors: `Looks` if no form is said and the bytes begin with no record; `Image` with the first
-/// fault of the bytes in their form; `NoByte` if the image has no byte and no addresses are said;
-/// `OutOfMemory` if an allocation fails.
+/// Errors: `Refused` with why the bytes are no image in the form that is said or told, or with
+/// `OutOfMemory` if an allocation fails; `NoByte` if the image has no byte and no addresses are
+/// said.
 pub fn converted(
     alloc: Global,
     words: &ConvertWords<'_>,
@@ -178,11 +130,11 @@ pub fn converted(
     // What is written, read again, is the part of the image that is asked for.
     ensures found { IfOk result
         (λ out. IsConverted (convert_view words.now) bytes.now out.items) }
-    // Each error is the first fault of the bytes, or `OutOfMemory`.
+    // Each error says why the bytes denote no image, or that memory ran out.
     ensures fault { IfErr result (IsRefused (convert_view words.now) bytes.now) }
 {
-    match form_by(words.from, bytes) {
-        Ok(form) => form_converted(alloc, words, form, bytes),
-        Err(like) => Err(ConvertFault::Looks(like)),
+    match image_of_bytes(alloc, words.from, bytes) {
+        Ok(image) => image_written(alloc, words, &image),
+        Err(why) => Err(ConvertFault::Refused(why)),
     }
 }

@@ -1,7 +1,8 @@
 //! `convert IN OUT`: an image in one form from an image in another.
 //!
 //! `converted` has the theorem: what is written, read again, is the part of the image that the
-//! bytes of IN denote. `convert` is the word: it reads its words and IN, and writes OUT.
+//! bytes of IN denote. `convert` is the word: it reads its words and IN, and writes OUT. How IN is
+//! read is of `image_files`.
 #![tactic(auto)]
 
 mod command;

@@ -14,18 +14,5 @@ pub const FILL_TAKES: &str = "--fill takes two hex digits";
 
 pub const ONE_NAME: &str = "IN and OUT have one name";
 
-/// What is wrong with a file.
-pub const LOOKS_EMPTY: &str = "has no record";
-
-pub const LOOKS_RAW: &str =
-    "has no record: it looks like a raw image (--bin HHHH) or a PRG file (--from prg)";
-
-pub const LOOKS_PLAIN: &str = "has no record: it looks like a text, as the source of an assembler";
-
+/// What is wrong with an image of which nothing is to be written.
 pub const NO_BYTE: &str = "has no byte: LO and HI say which addresses to write";
-
-pub const TOO_LONG: &str = "has more than 16777216 bytes";
-
-pub const PAST_END: &str = "has bytes past address FFFF";
-
-pub const NO_ADDRESS: &str = "has fewer than the two bytes of its address";

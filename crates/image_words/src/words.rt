@@ -4,18 +4,17 @@ ghost use Rattle.std.specs.Prelude.{◌≡◌, ◌≤◌, IfErr, IfOk, IfSome, N
 ghost use Rattle.arguments.specs.Values.{both};
 ghost use Rattle.arguments.specs.Words.{Fits, IsRefusalOf, texts};
 ghost use Rattle.clap.specs.Words.{first_value, found_of};
-ghost use Rattle.image_words.specs.Asked.{convert_asked, convert_by, convert_view, fill_asked};
+ghost use Rattle.image_words.specs.Asked.{convert_asked, convert_by, convert_view};
 ghost use Rattle.image_words.specs.Asked.{from_asked, from_name, in_order, range_asked, raw_at};
 ghost use Rattle.image_words.specs.Asked.{to_asked};
 ghost use Rattle.image_words.specs.CommandLine.{convert};
-ghost use Rattle.model.specs.Commands.{byte_of};
 
 use crate::command::convert_command;
 use crate::names::{FormName, form_named, form_of_ending};
 use crate::wording::{BIN_TAKES, FILL_TAKES, FROM_TAKES, ONE_NAME, RANGE_TAKES, TO_TAKES};
-use arguments::{WordsFault, address_asked, matched};
+use arguments::{WordsFault, address_asked, is_given, matched};
 use clap::ArgMatches;
-use formatting::hex_value;
+use image_files::fill_asked;
 use image_reader::{Form, TextForm};
 use std::alloc::Global;
 
@@ -71,22 +70,24 @@ fn raw_at(address: Option<u16>) -> Option<Option<Form>>
     }
 }
 
-/// Returns the form of the file to read, by the words after `--from` and `--bin`.
-fn from_asked(name: Option<&str>, address: Option<&str>) -> Option<Option<Form>>
+/// Returns the form of the file to read, by the words after `--from` and `--bin`, and by `--prg`.
+fn from_asked(name: Option<&str>, address: Option<&str>, is_prg: bool) -> Option<Option<Form>>
     ensures { result ≡ from_asked (option_map (λ w. w.now) name.entry)
-        (option_map (λ w. w.now) address.entry) }
+        (option_map (λ w. w.now) address.entry) is_prg }
 {
-    match (name, address) {
-        (None, None) => Some(None),
-        (None, Some(_)) => raw_at(address_asked(address)),
-        (Some(name), None) => from_name(form_named(name)),
-        (Some(name), Some(_)) => {
+    match (name, address, is_prg) {
+        (None, None, false) => Some(None),
+        (None, None, true) => Some(Some(Form::Prg)),
+        (None, Some(_), false) => raw_at(address_asked(address)),
+        (Some(name), None, false) => from_name(form_named(name)),
+        (Some(name), Some(_), false) => {
             if name == "bin" {
                 raw_at(address_asked(address))
             } else {
                 None
             }
         }
+        _ => None,
     }
 }
 
@@ -122,38 +123,14 @@ fn range_asked(low: Option<&str>, high: Option<&str>) -> Option<Option<(u16, u16
     }
 }
 
-/// Returns the byte that exactly two hex digits write; otherwise `None`.
-fn byte_of(word: &[u8]) -> Option<u8>
-    ensures { result ≡ byte_of word.now }
-{
-    let [high, low] = word else {
-        return None;
-    };
-    let high = hex_value(*high)?;
-    let low = hex_value(*low)?;
-    Some(high * 16 + low)
-}
-
-/// Returns the byte that gaps are filled with, by the word after `--fill`.
-fn fill_asked(word: Option<&str>) -> Option<Option<u8>>
-    ensures { result ≡ fill_asked (option_map (λ w. w.now) word.entry) }
-{
-    match word {
-        None => Some(None),
-        Some(word) => match byte_of(word.as_bytes()) {
-            None => None,
-            Some(byte) => Some(Some(byte)),
-        },
-    }
-}
-
 /// Returns what the values that were found ask for, or `None` where one is wrong.
 fn convert_words<'a>(matches: &ArgMatches<'a>) -> Option<ConvertWords<'a>>
     ensures { option_map convert_view result ≡ convert_by (first_value (found_of matches.now)) }
 {
     let input = matches.get_str("IN")?;
     let out = matches.get_str("OUT")?;
-    let from = from_asked(matches.get_str("from"), matches.get_str("bin"))?;
+    let is_prg = is_given(matches, "prg");
+    let from = from_asked(matches.get_str("from"), matches.get_str("bin"), is_prg)?;
     let to = to_asked(matches.get_str("to"), out)?;
     let range = range_asked(matches.get_str("LO"), matches.get_str("HI"))?;
     let fill = fill_asked(matches.get_str("fill"))?;
@@ -172,7 +149,8 @@ fn convert_words<'a>(matches: &ArgMatches<'a>) -> Option<ConvertWords<'a>>
 
 /// Returns a sentence that says which of the values that were found is wrong.
 fn wrong_value(matches: &ArgMatches<'_>) -> &'static str {
-    if from_asked(matches.get_str("from"), matches.get_str("bin")).is_none() {
+    let is_prg = is_given(matches, "prg");
+    if from_asked(matches.get_str("from"), matches.get_str("bin"), is_prg).is_none() {
         if matches.get_str("bin").is_some() {
             return BIN_TAKES;
         }

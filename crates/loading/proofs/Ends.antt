@@ -1,17 +1,24 @@
 -- Why a file is not loaded.
-use Rattle.std.proofs.Common.{Bool, true, false, ◌≡◌, ◌∙◌, ℕ, List, Option, Some, None, ◌⊎◌, inl, inr, Result, Ok, Err, IfErr, refl, sym, ap, subst}
+use Rattle.std.proofs.Common.{◌≡◌, ◌∙◌, ℕ, List, Option, Some, None, ◌⊎◌, inl, inr, Result, Ok, Err, IfErr, IfOk, refl, sym, ap, subst}
 use Rattle.std.specs.Result.{IsErrAnd}
 use Rattle.std.specs.declared.alloc.Global.{Global}
 use Rattle.std.specs.declared.vec.Vec.{Vec}
 use Rattle.arguments.specs.Asked.{FileAsked, map_of}
 use Rattle.arguments.specs.Refusals.{of_source, of_source_kind}
+use Rattle.arguments.specs.declared.file_options.FileForm.{FileForm}
+use Rattle.arguments.specs.declared.file_options.FileForm.TheVariants as form
 use Rattle.arguments.specs.declared.load_fault.LoadFault.{LoadFault}
-use Rattle.arguments.specs.declared.load_fault.LoadFault.TheVariants.{AtPort, Faults, LooksLikeTape, Refused}
+use Rattle.arguments.specs.declared.load_fault.LoadFault.TheVariants.{AtPort, Faults, LooksLikeHex, LooksLikeSRecords, LooksLikeTape, NoImage, Refused}
 use Rattle.arguments.specs.declared.refusal.Refusal.{Refusal}
-use Rattle.arguments.specs.declared.refusal.Refusal.TheVariants.{OutOfMemory, Source}
-use Rattle.assembler.specs.Assembly.{out_of_memory}
+use Rattle.arguments.specs.declared.refusal.Refusal.TheVariants.{Map as NoMap, OutOfMemory, Read, Session, Source, Tape, Words, Write}
+use Rattle.assembler.specs.Assembly.{AssemblyView, out_of_memory}
 use Rattle.fault_notes.specs.Blocks.{IsToldText}
-use Rattle.loading.specs.Loads.{EndsFile, EndsLoad, EndsSource, EndsSourceFile}
+use Rattle.image_files.specs.declared.refusal.ImageRefusal.TheVariants as why
+use Rattle.image_files.specs.Files.{EndsImage, IsOfFile}
+use Rattle.image_files.specs.Looks.{EndsLooks}
+use Rattle.image_files.specs.Options.{said_of}
+use Rattle.image_reader.specs.declared.form.Form.{Form}
+use Rattle.loading.specs.Loads.{EndsAsImage, EndsFile, EndsImageFile, EndsLoad, EndsSource, EndsSourceFile, IsImageOf}
 use Rattle.model.specs.AllFaults.{faults_of}
 use Rattle.model.specs.Source.{HasFault}
 use Rattle.model.specs.State.{Map}
@@ -47,17 +54,78 @@ told_ends bus_map file source fault text told some (inl memory) none is = absurd
     no_text e = cc
 told_ends bus_map file source fault text told some (inr has) none is = (source, has, is)
 
-pub in_file : (bus_map : Map) (file : List ℕ) (fault : LoadFault) → EndsSourceFile bus_map file fault → EndsFile false bus_map file fault
+pub in_file : (bus_map : Map) (file : List ℕ) (fault : LoadFault) → EndsSourceFile bus_map file fault → EndsFile form.Source bus_map file fault
 in_file bus_map file LooksLikeTape ends = absurd ends
+in_file bus_map file LooksLikeHex ends = absurd ends
+in_file bus_map file LooksLikeSRecords ends = absurd ends
+in_file bus_map file (NoImage place what number) ends = absurd ends
 in_file bus_map file (AtPort first last free) ends = absurd ends
 in_file bus_map file (Faults fault text) ends = ends
 in_file bus_map file (Refused fault) ends = ends
 
+pub looks_end : (bus_map : Map) (file source : List ℕ) (fault : LoadFault) → EndsLooks source fault → EndsFile form.Source bus_map file fault
+looks_end bus_map file source LooksLikeTape ends = (source, ends)
+looks_end bus_map file source LooksLikeHex ends = (source, ends)
+looks_end bus_map file source LooksLikeSRecords ends = (source, ends)
+looks_end bus_map file source (NoImage place what number) ends = absurd ends
+looks_end bus_map file source (AtPort first last free) ends = absurd ends
+looks_end bus_map file source (Faults fault text) ends = absurd ends
+looks_end bus_map file source (Refused OutOfMemory) ends = tt
+looks_end bus_map file source (Refused Words) ends = absurd ends
+looks_end bus_map file source (Refused (NoMap f)) ends = absurd ends
+looks_end bus_map file source (Refused (Source f)) ends = absurd ends
+looks_end bus_map file source (Refused (Tape f)) ends = absurd ends
+looks_end bus_map file source (Refused (Session f)) ends = absurd ends
+looks_end bus_map file source (Refused (Read f)) ends = absurd ends
+looks_end bus_map file source (Refused Write) ends = absurd ends
+
+-- ---- a file that is no source
+
+pub as_ends : (said : Option Form) (bus_map : Map) (fault : LoadFault) → EndsImageFile said fault → EndsAsImage said bus_map fault
+as_ends said bus_map LooksLikeTape ends = ends
+as_ends said bus_map LooksLikeHex ends = ends
+as_ends said bus_map LooksLikeSRecords ends = ends
+as_ends said bus_map (NoImage place what number) ends = ends
+as_ends said bus_map (Faults fault text) ends = ends
+as_ends said bus_map (Refused refusal) ends = ends
+as_ends said bus_map (AtPort first last free) (why.NoImage no_image, ends, is) = absurd is
+as_ends said bus_map (AtPort first last free) (why.Refused refusal, ends, is) = absurd (no is)
+  where
+    no : AtPort first last free ≡ Refused refusal → ⊥
+    no e = cc
+
+pub memory_as_image : (said : Option Form) (bus_map : Map) (refusal : Refusal) → refusal ≡ OutOfMemory → EndsAsImage said bus_map (Refused refusal)
+memory_as_image said bus_map refusal is = (why.Refused refusal, subst (λ r. EndsImage said (why.Refused r)) (sym is) tt, refl)
+
+as_image : (f : FileForm) (bus_map : Map) (file : List ℕ) (fault : LoadFault) → (f ≡ form.Source → ⊥) → EndsAsImage (said_of f) bus_map fault → EndsFile f bus_map file fault
+as_image form.Source bus_map file fault apart ends = absurd (apart refl)
+as_image form.Records bus_map file fault apart ends = ends
+as_image (form.Raw address) bus_map file fault apart ends = ends
+as_image form.Prg bus_map file fault apart ends = ends
+
+image_as : (f : FileForm) (bus_map : Map) (image : List (Option ℕ)) (held : Option AssemblyView) → (f ≡ form.Source → ⊥) → held ≡ None → IsOfFile (said_of f) image → IsImageOf f bus_map image held
+image_as form.Source bus_map image held apart is of_file = absurd (apart refl)
+image_as form.Records bus_map image held apart is of_file = subst (IsImageOf form.Records bus_map image) (sym is) of_file
+image_as (form.Raw address) bus_map image held apart is of_file = subst (IsImageOf (form.Raw address) bus_map image) (sym is) of_file
+image_as form.Prg bus_map image held apart is of_file = subst (IsImageOf form.Prg bus_map image) (sym is) of_file
+
+pub refused_as : {X : Type 0} (f : FileForm) (bus_map : Map) (file : List ℕ) (result : Result X LoadFault) → (f ≡ form.Source → ⊥) → IfErr result (EndsAsImage (said_of f) bus_map) → IfErr result (EndsFile f bus_map file)
+refused_as f bus_map file (Ok x) apart ends = tt
+refused_as f bus_map file (Err fault) apart ends = as_image f bus_map file fault apart ends
+
+pub started_as : {X E : Type 0} (f : FileForm) (bus_map : Map) (held : X → Option AssemblyView) (A B : X → List (Option ℕ) → Type 0) (result : Result X E) → (f ≡ form.Source → ⊥)
+    → IfOk result (λ x. (image : List (Option ℕ)) × IsOfFile (said_of f) image × (held x ≡ None) × A x image × B x image)
+    → IfOk result (λ x. (image : List (Option ℕ)) × IsImageOf f bus_map image (held x) × A x image × B x image)
+started_as f bus_map held A B (Ok x) apart s = (s.0, image_as f bus_map s.0 (held x) apart s.2 s.1, s.3, s.4)
+started_as f bus_map held A B (Err e) apart s = tt
+
 -- ---- memory may run out for any words
 
-memory_by : (is_tape : Bool) (bus_map : Map) (file : List ℕ) → EndsFile is_tape bus_map file (Refused OutOfMemory)
-memory_by true bus_map file = tt
-memory_by false bus_map file = tt
+memory_by : (f : FileForm) (bus_map : Map) (file : List ℕ) → EndsFile f bus_map file (Refused OutOfMemory)
+memory_by form.Source bus_map file = tt
+memory_by form.Records bus_map file = (why.Refused OutOfMemory, tt, refl)
+memory_by (form.Raw address) bus_map file = (why.Refused OutOfMemory, tt, refl)
+memory_by form.Prg bus_map file = (why.Refused OutOfMemory, tt, refl)
 
 pub memory_ends : (asked : FileAsked) → EndsLoad asked (Refused OutOfMemory)
-memory_ends asked = inr (memory_by asked.is_tape (map_of asked) asked.file)
+memory_ends asked = inr (memory_by asked.form (map_of asked) asked.file)

@@ -1,4 +1,3 @@
-pub mod FreeBase
 pub mod Loads
 pub mod Place
 pub mod Told

@@ -1,22 +1,27 @@
 -- Which image and assembly a file is loaded with, and why it is not loaded. No clause can say
 -- whether memory is there, nor what is in a file. Source: mos65.
-use Rattle.std.specs.Prelude.{◌≡◌, ◌+◌, ◌⊎◌, ⊤, ℕ, true, false, Bool, List, Option, None, Some}
+use Rattle.std.specs.Prelude.{◌≡◌, ◌+◌, ◌⊎◌, ⊤, ℕ, true, false, List, Option, None, Some}
 use Rattle.assembler.specs.Assembly.{AssemblyView, IsAssembled}
 use Rattle.arguments.specs.Asked.{FileAsked, map_of}
-use Rattle.arguments.specs.Files.{IsUnread}
+use Rattle.arguments.specs.declared.file_options.FileForm.{FileForm}
+use Rattle.arguments.specs.declared.file_options.FileForm.TheVariants.{Source}
 use Rattle.arguments.specs.declared.load_fault.LoadFault.{LoadFault}
-use Rattle.arguments.specs.declared.load_fault.LoadFault.TheVariants.{AtPort, Faults, LooksLikeTape, Refused}
+use Rattle.arguments.specs.declared.load_fault.LoadFault.TheVariants.{AtPort, Faults, LooksLikeHex, LooksLikeSRecords, LooksLikeTape, NoImage, Refused}
 use Rattle.arguments.specs.declared.refusal.Refusal.{Refusal}
 use Rattle.arguments.specs.declared.refusal.Refusal.TheVariants as refusal
 use Rattle.fault_notes.specs.Blocks.{IsToldText}
+use Rattle.image_files.specs.Files.{EndsImage, IsOfFile}
+use Rattle.image_files.specs.FreeBase.{IsFreeBase}
+use Rattle.image_files.specs.Looks.{EndsLooks}
+use Rattle.image_files.specs.Options.{said_of}
+use Rattle.image_files.specs.Told.{IsUnloaded}
+use Rattle.image_files.specs.declared.refusal.ImageRefusal.{ImageRefusal}
+use Rattle.image_reader.specs.declared.form.Form.{Form}
 use Rattle.model.specs.AllFaults.{faults_of}
 use Rattle.model.specs.Source.{HasFault}
 use Rattle.model.specs.State.{Map, has_port_byte, is_map}
-use Rattle.model.specs.TapePieces.{IsReadInPieces}
 use Rattle.model.specs.declared.bus_fault.BusFault.TheVariants.{BadMap}
 use Rattle.model.specs.declared.source_fault.AsmFault.{AsmFault}
-use Rattle.loading.specs.FreeBase.{IsFreeBase}
-use Rattle.papertape.specs.Hint.{BeginsTape}
 
 -- A port and a ROM that make no map are rejected for that.
 abbrev pub IsBadMap : Map → Refusal → Type 0
@@ -35,11 +40,11 @@ EndsSource bus_map refusal.OutOfMemory = ⊤
 EndsSource bus_map (refusal.Read why) = ⊤
 EndsSource bus_map fault = ⊥
 
--- A tape has a byte at the port, whose first and last address are these, and `free` is the base that
--- would be free.
-abbrev pub MeetsPort : Map → ℕ → ℕ → Option ℕ → Type 0
-MeetsPort bus_map first last free = (first ≡ bus_map.port) × (last ≡ bus_map.port + 3)
-    × ((text : List ℕ) × (image : List (Option ℕ)) × IsReadInPieces text image
+-- An image has a byte at the port, whose first and last address are these, and `free` is the base
+-- that would be free.
+abbrev pub MeetsPort : Option Form → Map → ℕ → ℕ → Option ℕ → Type 0
+MeetsPort said bus_map first last free = (first ≡ bus_map.port) × (last ≡ bus_map.port + 3)
+    × ((image : List (Option ℕ)) × IsOfFile said image
     × (has_port_byte bus_map image ≡ true) × IsFreeBase bus_map.rom image free)
 
 -- Why a file of names is not assembled.
@@ -54,19 +59,31 @@ TellsFaults bus_map file fault text = (source : List ℕ) × HasFault bus_map so
 -- Why the source of a file is not assembled on a map: it has a fault, and all its faults are told;
 -- or it is not read.
 abbrev pub EndsSourceFile : Map → List ℕ → LoadFault → Type 0
-EndsSourceFile bus_map file LooksLikeTape = ⊥
 EndsSourceFile bus_map file (Faults fault text) = TellsFaults bus_map file fault text.items
-EndsSourceFile bus_map file (AtPort first last free) = ⊥
 EndsSourceFile bus_map file (Refused fault) = EndsReading fault
+EndsSourceFile bus_map file fault = ⊥
 
--- Why a file is not loaded on a map: as a tape it may have bytes at the port; as a source it may
--- begin with a record of a tape.
-abbrev pub EndsFile : Bool → Map → List ℕ → LoadFault → Type 0
-EndsFile true bus_map file (Refused fault) = IsUnread fault
-EndsFile true bus_map file (AtPort first last free) = MeetsPort bus_map first last free
-EndsFile true bus_map file fault = ⊥
-EndsFile false bus_map file LooksLikeTape = (source : List ℕ) × BeginsTape source
-EndsFile false bus_map file fault = EndsSourceFile bus_map file fault
+-- Why a file is not loaded as a source: it may begin with a record of an image.
+abbrev pub EndsAsSource : Map → List ℕ → LoadFault → Type 0
+EndsAsSource bus_map file LooksLikeTape = (source : List ℕ) × EndsLooks source LooksLikeTape
+EndsAsSource bus_map file LooksLikeHex = (source : List ℕ) × EndsLooks source LooksLikeHex
+EndsAsSource bus_map file LooksLikeSRecords
+    = (source : List ℕ) × EndsLooks source LooksLikeSRecords
+EndsAsSource bus_map file fault = EndsSourceFile bus_map file fault
+
+-- Why a file is no image, as why it is not loaded.
+abbrev pub EndsImageFile : Option Form → LoadFault → Type 0
+EndsImageFile said fault = (why : ImageRefusal) × EndsImage said why × IsUnloaded why fault
+
+-- Why a file is not loaded as an image: it may have bytes at the port.
+abbrev pub EndsAsImage : Option Form → Map → LoadFault → Type 0
+EndsAsImage said bus_map (AtPort first last free) = MeetsPort said bus_map first last free
+EndsAsImage said bus_map fault = EndsImageFile said fault
+
+-- Why a file is not loaded on a map.
+abbrev pub EndsFile : FileForm → Map → List ℕ → LoadFault → Type 0
+EndsFile Source bus_map file fault = EndsAsSource bus_map file fault
+EndsFile form bus_map file fault = EndsAsImage (said_of form) bus_map fault
 
 abbrev pub EndsOnMap : Map → LoadFault → Type 0
 EndsOnMap bus_map (Refused fault) = IsBadMap bus_map fault
@@ -75,17 +92,17 @@ EndsOnMap bus_map fault = ⊥
 -- Why a file is not loaded.
 abbrev pub EndsLoad : FileAsked → LoadFault → Type 0
 EndsLoad asked fault = EndsOnMap (map_of asked) fault
-    ⊎ EndsFile asked.is_tape (map_of asked) asked.file fault
+    ⊎ EndsFile asked.form (map_of asked) asked.file fault
 
--- Some tape denotes an image, which has no assembly; or it is that of some source's assembly.
-abbrev pub IsImageOf : Bool → Map → List (Option ℕ) → Option AssemblyView → Type 0
-IsImageOf true bus_map image None = (text : List ℕ) × IsReadInPieces text image
-IsImageOf true bus_map image (Some a) = ⊥
-IsImageOf false bus_map image None = ⊥
-IsImageOf false bus_map image (Some a) = IsAssembled bus_map a × (image ≡ a.image)
+-- An image is that of some source's assembly; or it is that of some file, and has no assembly.
+abbrev pub IsImageOf : FileForm → Map → List (Option ℕ) → Option AssemblyView → Type 0
+IsImageOf Source bus_map image None = ⊥
+IsImageOf Source bus_map image (Some a) = IsAssembled bus_map a × (image ≡ a.image)
+IsImageOf form bus_map image None = IsOfFile (said_of form) image
+IsImageOf form bus_map image (Some a) = ⊥
 
 -- What is loaded: the port and the ROM make a map, and the image is one that a file can have, with
 -- the assembly of a source.
 abbrev pub IsLoaded : FileAsked → List (Option ℕ) → Option AssemblyView → Type 0
 IsLoaded asked image assembly = (is_map asked.rom asked.port ≡ true)
-    × IsImageOf asked.is_tape (map_of asked) image assembly
+    × IsImageOf asked.form (map_of asked) image assembly

@@ -8,9 +8,8 @@
 #![tactic(auto)]
 
 mod digits;
-mod free_base;
 mod loaded;
 mod place;
 
-pub use loaded::{Loaded, faults_of, load, load_names, load_with_history};
+pub use loaded::{Loaded, assembled_source, faults_of, load, load_names, load_with_history};
 pub use place::place_of;

@@ -1,13 +1,15 @@
 //! A file loaded into a session.
 
-ghost use Rattle.std.specs.Prelude.{◌≡◌, ◌≤◌, ℕ, List, [], Option, Err, IfErr, IfOk, Some, false};
+ghost use Rattle.std.specs.Prelude.{◌≡◌, ◌≢◌, ◌≤◌, ℕ, List, [], Option, Err, IfErr, IfOk, Some, false};
 ghost use Rattle.std.specs.Prelude.{None};
 ghost use Rattle.std.specs.Prelude.{◌⊎◌, true};
 ghost use Rattle.accesses.specs.Writing.{bytes_in};
 ghost use Rattle.arguments.specs.Asked.{file_view, map_of};
 ghost use Rattle.arguments.specs.declared.load_fault.LoadFault.TheVariants.{Refused};
 ghost use Rattle.assembler.specs.Assembly.{IsAssembled, out_of_memory};
-ghost use Rattle.loading.specs.Loads.{EndsFile, EndsLoad, EndsNames, EndsSource};
+ghost use Rattle.image_files.specs.Files.{IsOfFile};
+ghost use Rattle.loading.specs.Loads.{EndsAsImage, EndsFile, EndsImageFile, EndsLoad, EndsNames};
+ghost use Rattle.loading.specs.Loads.{EndsSource};
 ghost use Rattle.loading.specs.Loads.{EndsSourceFile, IsBadMap, IsImageOf, IsLoaded};
 ghost use Rattle.model.specs.Event.{start};
 ghost use Rattle.model.specs.Session.{new_session};
@@ -15,15 +17,15 @@ ghost use Rattle.model.specs.Source.{HasFault};
 ghost use Rattle.model.specs.State.{has_port_byte, input_waits, is_map};
 ghost use Rattle.model.specs.declared.bus_fault.BusFault.TheVariants.{BadMap};
 
-use crate::free_base::free_base;
 use accesses::Written;
-use arguments::{FileWords, LoadFault, Refusal, image_of_tape, map_of, read_source};
+use arguments::{FileForm, FileWords, LoadFault, Refusal, map_of, read_source};
 use assembler::{Assembly, assemble};
 use debugger::Session;
 use fault_notes::told_faults;
+use image_files::{free_base, image_of_file, refuse_image, said_of};
+use image_reader::Form;
 use memory_map::{Image, MapSpec};
 use model::AsmFault;
-use papertape::looks_like_tape;
 use std::alloc::Global;
 use std::rt::Files;
 
@@ -78,9 +80,14 @@ pub fn faults_of(
     }
 }
 
-/// Assembles the source of a file on a map, unless it begins with a record of a tape.
-#[tactic(auto, using(crate::proofs::Ends::in_file))]
-fn assembled_source(
+/// Assembles the source of a file on a map, unless it begins with a record of an image.
+///
+/// # Errors
+///
+/// `LooksLikeTape`, `LooksLikeHex` or `LooksLikeSRecords` by that record; `Faults` with all faults
+/// of the source; `OutOfMemory` if an allocation fails.
+#[tactic(auto, using(crate::proofs::Ends::in_file, crate::proofs::Ends::looks_end))]
+pub fn assembled_source(
     alloc: Global,
     file: &str,
     source: &[u8],
@@ -89,15 +96,12 @@ fn assembled_source(
     ensures assembled { IfOk result (IsAssembled map.now) }
     ensures kept { IfOk result (λ a. a.source ≡ source.now) }
     ensures spared { IfOk result (λ a. has_port_byte map.now a.image ≡ false) }
-    ensures refused { IfErr result (EndsFile false map.now file.now) }
+    ensures refused { IfErr result (EndsFile FileForm.Source map.now file.now) }
 {
-    match looks_like_tape(alloc, source) {
-        Ok(false) => match assemble(alloc, source, map) {
-            Ok(assembly) => Ok(assembly),
-            Err(fault) => Err(faults_of(alloc, file, source, map, fault)),
-        },
-        Ok(true) => Err(LoadFault::LooksLikeTape),
-        Err(_) => Err(LoadFault::Refused(Refusal::OutOfMemory)),
+    refuse_image(alloc, source)?;
+    match assemble(alloc, source, map) {
+        Ok(assembly) => Ok(assembly),
+        Err(fault) => Err(faults_of(alloc, file, source, map, fault)),
     }
 }
 
@@ -144,18 +148,18 @@ fn load_source<H: Files + AllocGlobal>(
 ) -> Result<Loaded, LoadFault>
     requires { history ≤ 65536 }
     ensures started { IfOk result (λ loaded. (image : List (Option ℕ))
-        × IsImageOf false map image loaded.assembly
+        × IsImageOf FileForm.Source map image loaded.assembly
         × (loaded.session ≡ new_session history (start map image))
         × (loaded.written ≡ bytes_in image)) }
-    ensures refused { IfErr result (EndsFile false map words.now.file.now) }
+    ensures refused { IfErr result (EndsFile FileForm.Source map words.now.file.now) }
 {
     let source = read_source(rt, words.file)?;
     let assembly = assembled_source(rt.alloc(), words.file, source.as_slice(), &map)?;
     Ok(start_source(rt.alloc(), map, assembly, history)?)
 }
 
-/// Returns a session that holds at most `history` earlier states, on the image of a tape.
-fn start_tape(alloc: Global, map: MapSpec, image: &Image, history: u32) -> Result<Loaded, Refusal>
+/// Returns a session that holds at most `history` earlier states, on an image.
+fn start_image(alloc: Global, map: MapSpec, image: &Image, history: u32) -> Result<Loaded, Refusal>
     requires history { history ≤ 65536 }
     requires spared { has_port_byte map image.now ≡ false }
     ensures started { IfOk result
@@ -173,8 +177,85 @@ fn start_tape(alloc: Global, map: MapSpec, image: &Image, history: u32) -> Resul
     })
 }
 
-/// Returns a session that holds at most `history` earlier states, on the image of a tape's file.
-fn load_tape<H: Files + AllocGlobal>(
+/// Returns the image of a file that is no source.
+fn image_in<H: Files + AllocGlobal>(
+    rt: &H,
+    path: &str,
+    said: Option<Form>,
+) -> Result<Image, LoadFault>
+    ensures found { IfOk result (IsOfFile said) }
+    ensures refused { IfErr result (EndsImageFile said) }
+{
+    match image_of_file(rt, path, said) {
+        Ok(image) => Ok(image),
+        Err(why) => Err(why.unloaded()),
+    }
+}
+
+/// Returns why an image is not loaded that has bytes at the port of a map.
+fn at_port(map: &MapSpec, rom: Option<(u16, u16)>, said: Option<Form>, image: &Image) -> LoadFault
+    requires rom { map.now.rom ≡ rom }
+    requires file { IsOfFile said image.now }
+    requires met { has_port_byte map.now image.now ≡ true }
+    ensures { EndsAsImage said map.now result }
+{
+    LoadFault::AtPort {
+        first: map.port(),
+        last: map.port() + 3,
+        free: free_base(rom, image),
+    }
+}
+
+/// Returns the image of a file that is no source, if it has no byte at the port of a map.
+#[tactic(auto, using(crate::proofs::Ends::as_ends))]
+fn image_on<H: Files + AllocGlobal>(
+    rt: &H,
+    path: &str,
+    said: Option<Form>,
+    map: &MapSpec,
+    rom: Option<(u16, u16)>,
+) -> Result<Image, LoadFault>
+    requires { map.now.rom ≡ rom }
+    ensures found { IfOk result (IsOfFile said) }
+    ensures spared { IfOk result (λ image. has_port_byte map.now image ≡ false) }
+    ensures refused { IfErr result (EndsAsImage said map.now) }
+{
+    let image = image_in(rt, path, said)?;
+    if map.meets(&image) {
+        Err(at_port(map, rom, said, &image))
+    } else {
+        Ok(image)
+    }
+}
+
+/// Returns a session that holds at most `history` earlier states, on the image of a file that is no
+/// source.
+fn load_image<H: Files + AllocGlobal>(
+    rt: &H,
+    path: &str,
+    said: Option<Form>,
+    map: MapSpec,
+    rom: Option<(u16, u16)>,
+    history: u32,
+) -> Result<Loaded, LoadFault>
+    requires history { history ≤ 65536 }
+    requires rom { map.rom ≡ rom }
+    ensures started { IfOk result (λ loaded. (image : List (Option ℕ)) × IsOfFile said image
+        × (loaded.assembly ≡ None)
+        × (loaded.session ≡ new_session history (start map image))
+        × (loaded.written ≡ bytes_in image)) }
+    ensures refused { IfErr result (EndsAsImage said map) }
+{
+    let image = image_on(rt, path, said, &map, rom)?;
+    match start_image(rt.alloc(), map, &image, history) {
+        Ok(loaded) => Ok(loaded),
+        Err(refusal) => Err(LoadFault::Refused(refusal)),
+    }
+}
+
+/// Returns a session that holds at most `history` earlier states, on the image of a file that the
+/// words give as one.
+fn load_form<H: Files + AllocGlobal>(
     rt: &H,
     words: &FileWords<'_>,
     map: MapSpec,
@@ -182,21 +263,15 @@ fn load_tape<H: Files + AllocGlobal>(
 ) -> Result<Loaded, LoadFault>
     requires history { history ≤ 65536 }
     requires rom { map.rom ≡ words.now.rom }
+    requires form { words.now.form ≢ FileForm.Source }
     ensures started { IfOk result (λ loaded. (image : List (Option ℕ))
-        × IsImageOf true map image loaded.assembly
+        × IsImageOf words.now.form map image loaded.assembly
         × (loaded.session ≡ new_session history (start map image))
         × (loaded.written ≡ bytes_in image)) }
-    ensures refused { IfErr result (EndsFile true map words.now.file.now) }
+    ensures refused { IfErr result (EndsFile words.now.form map words.now.file.now) }
 {
-    let image = image_of_tape(rt, words.file)?;
-    if map.meets(&image) {
-        return Err(LoadFault::AtPort {
-            first: map.port(),
-            last: map.port() + 3,
-            free: free_base(words.rom, &image),
-        });
-    }
-    Ok(start_tape(rt.alloc(), map, &image, history)?)
+    let said = said_of(words.form);
+    load_image(rt, words.file, said, map, words.rom, history)
 }
 
 /// Loads the file of the words: returns a session that starts with its image and holds no earlier
@@ -205,9 +280,10 @@ fn load_tape<H: Files + AllocGlobal>(
 /// # Errors
 ///
 /// In this order: `Map` if the port and the ROM do not make a map; `Read` if the file cannot be
-/// read; `LooksLikeTape` if the file is given as a source and begins with a record of a tape;
-/// `Faults` with all faults of a source; `Tape` with its fault; `AtPort` if a tape has a byte at
-/// the port. `OutOfMemory` if an allocation fails.
+/// read; `LooksLikeTape`, `LooksLikeHex` or `LooksLikeSRecords` if the file is given as a source
+/// and begins with such a record; `Faults` with all faults of a source; `Tape` with the fault of a
+/// tape; `NoImage` with why any other file is no image; `AtPort` if an image has a byte at the
+/// port. `OutOfMemory` if an allocation fails.
 pub fn load<H: Files + AllocGlobal>(rt: &H, words: &FileWords<'_>) -> Result<Loaded, LoadFault>
     ensures started { IfOk result (λ loaded. (image : List (Option ℕ))
         × IsLoaded (file_view words.now) image loaded.assembly
@@ -243,10 +319,11 @@ pub fn load_with_history<H: Files + AllocGlobal>(
     ensures refused { IfErr result (EndsLoad (file_view words.now)) }
 {
     let map = map_of_words(words)?;
-    if words.is_tape {
-        load_tape(rt, words, map, history)
-    } else {
-        load_source(rt, words, map, history)
+    match words.form {
+        FileForm::Source => load_source(rt, words, map, history),
+        FileForm::Records | FileForm::Raw(_) | FileForm::Prg => {
+            load_form(rt, words, map, history)
+        }
     }
 }
 

@@ -6,3 +6,4 @@ pub mod Below
 pub mod DifferenceRows
 pub mod Starts
 pub mod CompareWord
+pub mod Forms

@@ -1,10 +1,9 @@
--- What `cmp` has done. Source: mos65. No clause can say which tapes two files have.
-use Rattle.std.specs.Prelude.{◌≡◌, ◌≢◌, ℕ, Bool, true, false, List, [], Option, Some, string_bytes}
+-- What `cmp` has done. Source: mos65. No clause can say what two files have.
+use Rattle.std.specs.Prelude.{◌≡◌, ◌≢◌, ℕ, ◌==◌, if◌then◌else◌, Bool, true, false, List, [], Option, Some, string_bytes}
 use Rattle.arguments.specs.Streams.{Tells, TellsFront}
 use Rattle.arguments.specs.Words.{Fits}
 use Rattle.clap.specs.Words.{Text}
-use Rattle.model.specs.TapePieces.{IsReadInPieces, IsRefusedInPieces}
-use Rattle.model.specs.declared.tape.TapeFault.{TapeFault}
+use Rattle.image_files.specs.Files.{IsOfFile}
 use Rattle.tape_info.specs.Differences.{differences}
 use Rattle.tape_info.specs.DifferenceRows.{SideView, rows_of, side_of}
 use Rattle.tape_words.specs.Answers.{EndsLine}
@@ -22,26 +21,18 @@ IsSaidOf one other false said = (one.image ≢ other.image)
 abbrev pub IsAnswerOf : SideView → SideView → Answer → Type 0
 IsAnswerOf one other answer = IsSaidOf one other answer.is_right (string_bytes answer.text)
 
--- An image is that of some tape.
-abbrev pub IsOfTape : List (Option ℕ) → Type 0
-IsOfTape image = (text : List ℕ) × IsReadInPieces text image
-
--- A text can be said of some two tapes, by the names and the profile that are asked for.
+-- A text can be said of the images of some two files, by the names, the form and the profile that are asked for.
 pub record IsSaid (asked : CmpAsked) (is_same : Bool) (said : List ℕ) : Type 0 where
   pub one : List (Option ℕ)
   pub other : List (Option ℕ)
-  pub one_is : IsOfTape one
-  pub other_is : IsOfTape other
+  pub one_is : IsOfFile asked.form one
+  pub other_is : IsOfFile asked.form other
   pub about : IsSaidOf (side_of asked.tape one asked.profile)
       (side_of asked.other other asked.profile) is_same said
 
--- Some tape has a fault.
-abbrev pub HasTapeFault : Type 0
-HasTapeFault = (fault : TapeFault) × ((text : List ℕ) × IsRefusedInPieces text fault)
-
--- The words fit, and each value is one that its name can have.
-abbrev pub Asks : List Text → Type 0
-Asks words = (asked : CmpAsked) × Fits cmp words × (cmp_asked words ≡ Some asked)
+-- The words fit, each value is one that its name can have, and a fact holds of what they ask for.
+abbrev pub Asks : List Text → (CmpAsked → Type 0) → Type 0
+Asks words P = (asked : CmpAsked) × Fits cmp words × (cmp_asked words ≡ Some asked) × P asked
 
 -- The words fit, and what they ask for was written, with the meaning of the status.
 abbrev pub TellsAsked : List Text → Bool → Option (List ℕ) → Option (List ℕ) → Type 0
@@ -52,3 +43,7 @@ TellsAsked words is_same held now = (asked : CmpAsked) × Fits cmp words
 abbrev pub TellsAskedFront : List Text → Option (List ℕ) → Option (List ℕ) → Type 0
 TellsAskedFront words held now = (asked : CmpAsked) × Fits cmp words
     × (cmp_asked words ≡ Some asked) × TellsFront (IsSaid asked) held now
+
+-- The exit status for that of a file that is not read: 2 for one that is no image.
+abbrev pub cmp_status : ℕ → ℕ
+cmp_status status = if status == 1 then 2 else status

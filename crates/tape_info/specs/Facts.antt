@@ -1,9 +1,10 @@
 -- What `info` tells of an image. Source: mos65; the vectors are those of the MCS6500 manual.
-use Rattle.std.specs.Prelude.{ℕ, ◌+◌, ◌*◌, ◌-◌, ◌==◌, nat_lt, if◌then◌else◌, List, [], ◌∷◌, length, map, take, drop, Option, Some, None, is_some}
+use Rattle.std.specs.Prelude.{ℕ, ◌+◌, ◌*◌, ◌-◌, ◌%◌, ◌==◌, nat_lt, if◌then◌else◌, List, [], ◌∷◌, length, map, take, drop, Option, Some, None, is_some}
 use Rattle.std.specs.List.{count_by, fold}
 use Rattle.model.specs.Image.{cell_at}
 use Rattle.model.specs.TapeText.{Stretch, runs}
 use Rattle.tape_info.specs.Crc.{crc_32}
+use Rattle.tape_info.specs.declared.checksum.Sums.{Sums}
 use Rattle.tape_info.specs.declared.ranges.Range.{Range}
 use Rattle.tape_info.specs.declared.gaps.Gap.{Gap}
 
@@ -21,9 +22,19 @@ ranges_of cells = map range_of_run (runs 0 cells)
 abbrev pub bytes_of : List ℕ → Range → List ℕ
 bytes_of memory range = take (range.last + 1 - range.first) (drop range.first memory)
 
--- The check sum of each range: that of the image's bytes there.
-unfoldable pub checksums_of : List ℕ → List Range → List ℕ
-checksums_of memory ranges = map (λ range. crc_32 (bytes_of memory range)) ranges
+-- The sum of some bytes, modulo 65,536.
+abbrev pub add_16 : ℕ → ℕ → ℕ
+add_16 total byte = (total + byte) % 65536
+
+abbrev pub sum_16 : List ℕ → ℕ
+sum_16 bytes = fold add_16 0 bytes
+
+abbrev pub sums_of : List ℕ → Sums
+sums_of bytes = record { crc_32 = crc_32 bytes; sum_16 = sum_16 bytes }
+
+-- The check sums of each range: those of the image's bytes there.
+unfoldable pub checksums_of : List ℕ → List Range → List Sums
+checksums_of memory ranges = map (λ range. sums_of (bytes_of memory range)) ranges
 
 -- How many bytes an image has from an address on, among so many addresses.
 unfoldable pub bytes_among : List (Option ℕ) → ℕ → ℕ → ℕ

@@ -1,5 +1,5 @@
 -- The rows in which `info` tells an image's facts. Source: mos65.
-use Rattle.std.specs.Prelude.{ℕ, ◌+◌, ◌-◌, ◌^◌, ◌==◌, Bool, true, false, if◌then◌else◌, List, [], ◌∷◌, ◌++◌, Option, Some, None, codes, encode_utf8_all, length}
+use Rattle.std.specs.Prelude.{ℕ, ◌+◌, ◌-◌, ◌%◌, ◌^◌, ◌==◌, Bool, true, false, if◌then◌else◌, List, [], ◌∷◌, ◌++◌, Option, Some, None, codes, decimal, encode_utf8_all, length}
 use Rattle.std.specs.Fmt.{digits, format_spec, padded_integral}
 use Rattle.std.specs.List.{flat_map, zip}
 use Rattle.model.specs.State.{no_port}
@@ -7,11 +7,17 @@ use Rattle.model.specs.declared.instruction.Profile.{Profile}
 use Rattle.tape_words.specs.Answers.{counted}
 use Rattle.tape_words.specs.Instructions.{row_at, text_by}
 use Rattle.tape_info.specs.Facts.{gap_size}
+use Rattle.image_files.specs.Told.{what_of}
+use Rattle.image_files.specs.declared.refusal.NoImage.{NoImage}
+use Rattle.image_files.specs.declared.refusal.NoImage.TheVariants.{Record}
+use Rattle.image_reader.specs.RecordFault.{record_fault_name, record_fault_number}
+use Rattle.image_reader.specs.declared.fault.RecordFaultKind.{RecordFaultKind}
+use Rattle.tape_info.specs.declared.checksum.Sums.{Sums}
 use Rattle.tape_info.specs.declared.fact_list.Facts.{Facts}
 use Rattle.tape_info.specs.declared.gaps.Gap.{Gap}
 use Rattle.tape_info.specs.declared.ranges.Range.{Range}
 use Rattle.tape_words.specs.declared.wording.TheConstants.{RECORD, RECORDS}
-use Rattle.tape_info.specs.declared.wording.TheConstants.{TAPE_ROW, IN, AND, BYTE, BYTES, RANGE, RANGES, RANGE_ROW, CRC_32, GAP_ROW, NOTHING, NMI_ROW, RESET_ROW, IRQ_ROW, PAGE_0_ROW, PAGE_1_ROW, PORT_ROW}
+use Rattle.tape_info.specs.declared.wording.TheConstants.{TAPE_ROW, IMAGE_ROW, IN, AND, BYTE, BYTES, RANGE, RANGES, RANGE_ROW, CRC_32, SUM_16, SUM_8, CLASH, NO_BASE, FREE, GAP_ROW, NOTHING, NMI_ROW, RESET_ROW, IRQ_ROW, PAGE_0_ROW, PAGE_1_ROW, PORT_ROW}
 
 -- ---- words of the rows
 
@@ -35,20 +41,32 @@ byte_count count = counted count BYTE.now BYTES.now
 
 -- ---- the tape
 
--- The first row: how many bytes, ranges and records a tape has.
-abbrev pub tape_row : Facts → ℕ → List ℕ
-tape_row facts records = TAPE_ROW.now ++ counted facts.bytes BYTE.now BYTES.now
+-- How many data records a tape has. Of another image nothing is said.
+abbrev pub records_text : Option ℕ → List ℕ
+records_text None = []
+records_text (Some records) = AND.now ++ counted records RECORD.now RECORDS.now
+
+abbrev pub image_name : Option ℕ → List ℕ
+image_name None = IMAGE_ROW.now
+image_name (Some records) = TAPE_ROW.now
+
+-- The first row: how many bytes and ranges an image has, and how many records if it is a tape.
+abbrev pub tape_row : Facts → Option ℕ → List ℕ
+tape_row facts records = image_name records ++ counted facts.bytes BYTE.now BYTES.now
     ++ IN.now ++ counted (length facts.ranges.items) RANGE.now RANGES.now
-    ++ AND.now ++ counted records RECORD.now RECORDS.now ++ 10 ∷ []
+    ++ records_text records ++ 10 ∷ []
 
 -- ---- ranges and gaps
 
--- A check sum as eight hex digits behind words.
-unfoldable pub sum_text : ℕ → List ℕ
-sum_text sum = CRC_32.now ++ hex_digits false 8 sum ++ codes "\n"
+-- Check sums behind words: CRC-32, the sum modulo 65,536 and the sum modulo 256.
+unfoldable pub sum_text : Sums → List ℕ
+sum_text sums = CRC_32.now ++ hex_digits false 8 sums.crc_32 ++ SUM_16.now
+    ++ hex_digits true 4 sums.sum_16 ++ SUM_8.now ++ hex_digits true 2 (sums.sum_16 % 256)
+    ++ codes "\n"
 
--- The row of a range and its check sum: `range   0200-02FF  256 bytes  CRC-32 0123abcd`.
-unfoldable pub range_row : Range × ℕ → List ℕ
+-- The row of a range and its check sums:
+-- `range   0200-02FF  256 bytes  CRC-32 0123abcd  sum16 7F80  sum8 80`.
+unfoldable pub range_row : Range × Sums → List ℕ
 range_row summed = stretch_text RANGE_ROW.now summed.0.first summed.0.last
     ++ byte_count (summed.0.last - summed.0.first + 1) ++ sum_text summed.1
 
@@ -91,10 +109,25 @@ amount_text bytes = (if bytes == 0 then NOTHING.now else byte_count bytes) ++ co
 abbrev pub part_row : List ℕ → ℕ → ℕ → ℕ → List ℕ
 part_row words first last bytes = stretch_text words first last ++ amount_text bytes
 
+-- An address between words.
+unfoldable pub between_text : List ℕ → ℕ → List ℕ → List ℕ
+between_text before address behind = before ++ address_text address ++ behind
+
+-- Which base is free.
+abbrev pub base_text : Option ℕ → List ℕ
+base_text None = NO_BASE.now
+base_text (Some base) = between_text CLASH.now base FREE.now
+
+-- How many bytes stand at the port, where the machine would have none of them, and which base is
+-- free; or `nothing`.
+unfoldable pub clash_text : ℕ → Option ℕ → List ℕ
+clash_text bytes free = if bytes == 0 then NOTHING.now ++ codes "\n"
+    else byte_count bytes ++ base_text free
+
 -- The row of the port's four addresses, where there is a port.
 abbrev pub port_row : ℕ → Facts → List ℕ
-port_row port facts =
-    if port == no_port then [] else part_row PORT_ROW.now port (port + 3) facts.at_port
+port_row port facts = if port == no_port then []
+    else stretch_text PORT_ROW.now port (port + 3) ++ clash_text facts.at_port facts.free_base
 
 -- The rows of page 0, of page 1 and of the port.
 unfoldable pub part_rows : ℕ → Facts → List ℕ
@@ -103,7 +136,24 @@ part_rows port facts = part_row PAGE_0_ROW.now 0 255 facts.in_page_0
 
 -- ---- all rows
 
--- All rows of an image's facts, for a profile, a port and so many records.
-unfoldable pub rows_of : Profile → List (Option ℕ) → ℕ → Facts → ℕ → List ℕ
+-- All rows of an image's facts, for a profile, a port and so many records of a tape.
+unfoldable pub rows_of : Profile → List (Option ℕ) → ℕ → Facts → Option ℕ → List ℕ
 rows_of profile image port facts records = tape_row facts records ++ range_rows facts
     ++ gap_row facts.gap ++ vector_rows profile image facts ++ part_rows port facts
+
+-- ---- what is no image
+
+-- Where a fault of a text of records is: `rom.hex:2:14: `.
+unfoldable pub place_text : List ℕ → ℕ → ℕ → List ℕ
+place_text file line column = file ++ codes ":" ++ decimal line ++ codes ":" ++ decimal column
+    ++ codes ": "
+
+-- Its name and number.
+unfoldable pub kind_text : RecordFaultKind → List ℕ
+kind_text kind = record_fault_name kind ++ codes " " ++ decimal (record_fault_number kind)
+    ++ codes "\n"
+
+-- What is wrong with a file: in which line and column of a text of records, or a sentence.
+unfoldable pub no_image_text : List ℕ → NoImage → List ℕ
+no_image_text file (Record f) = place_text file f.line f.column ++ kind_text f.kind
+no_image_text file no_image = file ++ codes ": " ++ what_of no_image ++ codes "\n"

@@ -1,5 +1,12 @@
 -- What `info` says of a tape. Source: mos65. No clause can say which tape a file has.
-use Rattle.std.specs.Prelude.{◌≡◌, ◌⊎◌, ℕ, List, [], ◌++◌, Option}
+use Rattle.std.specs.Prelude.{◌≡◌, ◌⊎◌, ℕ, Bool, true, false, List, [], ◌++◌, Option, None, Some, Result, Ok, Err}
+use Rattle.image_files.specs.Bytes.{IsImage, IsNoImage, form_by}
+use Rattle.image_files.specs.FreeBase.{IsFreeBase}
+use Rattle.image_files.specs.declared.refusal.ImageRefusal.TheVariants as why
+use Rattle.image_files.specs.declared.refusal.NoImage.{NoImage}
+use Rattle.image_reader.specs.declared.form.Form.{Form}
+use Rattle.image_reader.specs.declared.form.Form.TheVariants.{Tape}
+use Rattle.image_reader.specs.declared.form.OtherText.{OtherText}
 use Rattle.model.specs.State.{memory_of}
 use Rattle.model.specs.Tape.{FirstFault, TapeDenotes}
 use Rattle.model.specs.declared.instruction.Profile.{Profile}
@@ -8,7 +15,7 @@ use Rattle.tape_mend.specs.Mending.{IsMendedText, mended_text}
 use Rattle.tape_words.specs.Asked.{InfoAsked}
 use Rattle.tape_words.specs.Meanings.{fault_line}
 use Rattle.tape_info.specs.Facts.{bytes_among, checksums_of, data_records, largest_gap, ranges_of, vector_at}
-use Rattle.tape_info.specs.Rows.{rows_of}
+use Rattle.tape_info.specs.Rows.{no_image_text, rows_of}
 use Rattle.tape_info.specs.declared.fact_list.Facts.{Facts}
 use Rattle.tape_info.specs.declared.wording.TheConstants.{MEND_MENDS_IT}
 
@@ -21,23 +28,34 @@ pub record AreFacts (image : List (Option ℕ)) (port : ℕ) (f : Facts) : Type 
   pub page_0 : f.in_page_0 ≡ bytes_among image 0 256
   pub page_1 : f.in_page_1 ≡ bytes_among image 256 256
   pub port_bytes : f.at_port ≡ bytes_among image port 4
+  pub free : IsFreeBase None image f.free_base
   pub nmi : f.nmi ≡ vector_at image 65530
   pub reset : f.reset ≡ vector_at image 65532
   pub irq : f.irq ≡ vector_at image 65534
 
 -- The rows of an image's facts, for a profile and a port.
-pub record AreRows (profile : Profile) (image : List (Option ℕ)) (port records : ℕ) (said : List ℕ)
-    : Type 0 where
+pub record AreRows (profile : Profile) (image : List (Option ℕ)) (port : ℕ) (records : Option ℕ)
+    (said : List ℕ) : Type 0 where
   pub facts : Facts
   pub are : AreFacts image port facts
   pub rows : said ≡ rows_of profile image port facts records
 
--- What is said of some right tape.
-pub record IsRightTape (asked : InfoAsked) (said : List ℕ) : Type 0 where
-  pub text : List ℕ
+abbrev pub is_tape : Result Form OtherText → Bool
+is_tape (Ok Tape) = true
+is_tape told = false
+
+-- How many data records some bytes have, where they are a tape.
+abbrev pub records_in : Result Form OtherText → List ℕ → Option ℕ
+records_in (Ok Tape) bytes = Some (data_records bytes)
+records_in told bytes = None
+
+-- What is said of an image that some bytes denote.
+pub record IsRightImage (asked : InfoAsked) (said : List ℕ) : Type 0 where
+  pub bytes : List ℕ
   pub image : List (Option ℕ)
-  pub denotes : TapeDenotes text image
-  pub rows : AreRows asked.profile image asked.port (data_records text) said
+  pub denotes : IsImage asked.form bytes image
+  pub rows : AreRows asked.profile image asked.port
+      (records_in (form_by asked.form bytes) bytes) said
 
 -- `mend` makes a right tape of a text.
 abbrev pub IsMendable : List ℕ → Type 0
@@ -64,3 +82,10 @@ pub record IsWrongTape (asked : InfoAsked) (said : List ℕ) : Type 0 where
   pub fault : TapeFault
   pub first : FirstFault text fault.kind fault.offset
   pub told : IsFaultText asked.tape text fault said
+
+-- What is said of bytes that denote no image in another form, or that tell none.
+pub record IsOther (asked : InfoAsked) (said : List ℕ) : Type 0 where
+  pub bytes : List ℕ
+  pub no_image : NoImage
+  pub is : IsNoImage asked.form bytes (why.NoImage no_image)
+  pub told : said ≡ no_image_text asked.tape no_image

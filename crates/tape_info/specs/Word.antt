@@ -1,22 +1,22 @@
 -- What `info` has done, for words and by what its output held before and now. Source: mos65. No
 -- clause can say which tape a file has.
-use Rattle.std.specs.Prelude.{◌≡◌, ⊤, ℕ, Bool, true, false, List, Some, None, string_bytes}
+use Rattle.std.specs.Prelude.{◌≡◌, ◌⊎◌, ⊤, ℕ, Bool, true, false, List, Some, None, string_bytes}
 use Rattle.arguments.specs.Words.{Fits}
 use Rattle.arguments.specs.declared.refusal.Refusal.{Refusal}
 use Rattle.arguments.specs.declared.refusal.Refusal.TheVariants.{Map, Tape, OutOfMemory, Read}
 use Rattle.clap.specs.Words.{Text}
 use Rattle.model.specs.State.{is_map}
 use Rattle.model.specs.declared.bus_fault.BusFault.TheVariants.{BadMap}
-use Rattle.tape_info.specs.Told.{IsRightTape, IsWrongTape}
+use Rattle.tape_info.specs.Told.{IsOther, IsRightImage, IsWrongTape}
 use Rattle.tape_words.specs.Asked.{InfoAsked, info_asked}
 use Rattle.tape_words.specs.CommandLines.{info}
 use Rattle.tape_words.specs.Files.{too_long_file}
 use Rattle.tape_words.specs.declared.answer.Answer.{Answer}
 
--- A text can be said of some right tape, or of some tape with a fault.
+-- A text can be said of some image, or of some file that is none: a tape with a fault, or another.
 abbrev pub IsSaid : InfoAsked → Bool → List ℕ → Type 0
-IsSaid asked true said = IsRightTape asked said
-IsSaid asked false said = IsWrongTape asked said
+IsSaid asked true said = IsRightImage asked said
+IsSaid asked false said = IsWrongTape asked said ⊎ IsOther asked said
 
 abbrev pub IsAbout : InfoAsked → Answer → Type 0
 IsAbout asked answer = IsSaid asked answer.is_right (string_bytes answer.text)

@@ -1,8 +1,8 @@
-//! The check sum CRC-32.
+//! Check sums: CRC-32, and the sum of bytes.
 
 ghost use Rattle.std.specs.Prelude.{◌≡◌, IfOk, length};
 ghost use Rattle.tape_info.specs.Crc.{crc_32, crc_bit, crc_byte, crc_two_bits};
-ghost use Rattle.tape_info.specs.Facts.{bytes_of, checksums_of};
+ghost use Rattle.tape_info.specs.Facts.{bytes_of, checksums_of, sum_16, sums_of};
 
 use crate::ranges::Range;
 use std::alloc::{AllocError, Global};
@@ -52,6 +52,35 @@ pub fn crc_32(bytes: &[u8]) -> u32
     crc ^ 0xffff_ffff
 }
 
+/// Returns the sum of some bytes, modulo 65,536. Its low byte is their sum modulo 256.
+fn sum_16(bytes: &[u8]) -> u16
+    ensures { result ≡ sum_16 bytes.now }
+{
+    let mut sum = 0u32;
+    for byte in bytes {
+        sum = (sum + *byte as u32) % 65536;
+    }
+    sum as u16
+}
+
+/// The check sums of a range.
+#[derive(Clone, Copy, Debug, PartialEq, Eq)]
+pub struct Sums {
+    pub crc_32: u32,
+    /// The sum of the bytes, modulo 65,536, as EPROM programmers show it.
+    pub sum_16: u16,
+}
+
+/// Returns the check sums of some bytes.
+fn sums_of(bytes: &[u8]) -> Sums
+    ensures { result ≡ sums_of bytes.now }
+{
+    Sums {
+        crc_32: crc_32(bytes),
+        sum_16: sum_16(bytes),
+    }
+}
+
 /// Returns the bytes of memory at the addresses of a range.
 fn bytes_of(memory: &[u8], range: Range) -> &[u8]
     requires { length memory.now ≡ 65536 }
@@ -65,15 +94,15 @@ fn bytes_of(memory: &[u8], range: Range) -> &[u8]
     rest.split_at(count).0
 }
 
-/// Returns the CRC-32 of each range of a memory.
+/// Returns the check sums of each range of a memory.
 #[tactic(auto, unfolding(crate::specs::Facts::checksums_of))]
-pub fn checksums_of(alloc: Global, memory: &[u8], ranges: &[Range]) -> Result<Vec<u32>, AllocError>
+pub fn checksums_of(alloc: Global, memory: &[u8], ranges: &[Range]) -> Result<Vec<Sums>, AllocError>
     requires { length memory.now ≡ 65536 }
     ensures { IfOk result (λ sums. sums.items ≡ checksums_of memory.now ranges.now) }
 {
     let mut sums = Vec::new(alloc);
     for range in ranges {
-        sums.push(crc_32(bytes_of(memory, *range)))?;
+        sums.push(sums_of(bytes_of(memory, *range)))?;
     }
     Ok(sums)
 }

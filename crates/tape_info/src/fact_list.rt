@@ -1,15 +1,17 @@
 //! The facts of an image.
 
-ghost use Rattle.std.specs.Prelude.{◌≡◌, ℕ, ◌+◌, ◌<◌, ◌≤◌, List, Option, IfOk, is_some, length};
+ghost use Rattle.std.specs.Prelude.{◌≡◌, ℕ, ◌+◌, ◌<◌, ◌≤◌, List, Option, IfOk, None, is_some, length};
+ghost use Rattle.image_files.specs.FreeBase.{IsFreeBase};
 ghost use Rattle.std.specs.List.{count_by};
 ghost use Rattle.model.specs.Tape.{TapeDenotes, count_of};
 ghost use Rattle.model.specs.State.{memory_of};
 ghost use Rattle.tape_info.specs.Facts.{address_in, bytes_among, checksums_of, data_records};
 ghost use Rattle.tape_info.specs.Facts.{largest_gap, ranges_of, vector_at};
 
-use crate::checksum::checksums_of;
+use crate::checksum::{Sums, checksums_of};
 use crate::gaps::{Gap, largest_gap};
 use crate::ranges::{Range, ranges_of};
+use image_files::free_base;
 use memory_map::{Image, MapSpec, memory_of};
 use std::alloc::{AllocError, Global};
 
@@ -18,8 +20,8 @@ use std::alloc::{AllocError, Global};
 pub struct Facts {
     /// The ranges, in rising order.
     pub ranges: Vec<Range>,
-    /// The CRC-32 of each range.
-    pub checksums: Vec<u32>,
+    /// The check sums of each range.
+    pub checksums: Vec<Sums>,
     /// How many bytes there are.
     pub bytes: u32,
     /// The largest gap between two ranges, if there are two.
@@ -30,6 +32,8 @@ pub struct Facts {
     pub in_page_1: u32,
     /// How many bytes stand at the port's four addresses.
     pub at_port: u32,
+    /// The lowest base at which a port would meet no byte, if there is one.
+    pub free_base: Option<u16>,
     /// The address in the NMI vector at $FFFA, if both its bytes are there.
     pub nmi: Option<u16>,
     /// The address in the reset vector at $FFFC, if both its bytes are there.
@@ -96,6 +100,7 @@ pub fn facts_of(alloc: Global, image: &Image, map: &MapSpec) -> Result<Facts, Al
     ensures page_0 { IfOk result (λ f. f.in_page_0 ≡ bytes_among image.now 0 256) }
     ensures page_1 { IfOk result (λ f. f.in_page_1 ≡ bytes_among image.now 256 256) }
     ensures port { IfOk result (λ f. f.at_port ≡ bytes_among image.now map.now.port 4) }
+    ensures free { IfOk result (λ f. IsFreeBase None image.now f.free_base) }
     ensures nmi { IfOk result (λ f. f.nmi ≡ vector_at image.now 65530) }
     ensures reset { IfOk result (λ f. f.reset ≡ vector_at image.now 65532) }
     ensures irq { IfOk result (λ f. f.irq ≡ vector_at image.now 65534) }
@@ -113,6 +118,7 @@ pub fn facts_of(alloc: Global, image: &Image, map: &MapSpec) -> Result<Facts, Al
         in_page_0: bytes_among(cells, 0, 256),
         in_page_1: bytes_among(cells, 256, 256),
         at_port: bytes_among(cells, map.port() as usize, 4),
+        free_base: free_base(None, image),
         nmi: vector_at(image, 0xfffa),
         reset: vector_at(image, 0xfffc),
         irq: vector_at(image, 0xfffe),

@@ -1,25 +1,56 @@
 //! The facts of an image as text.
 
 ghost use Rattle.std.specs.Prelude.{◌≡◌, ◌++◌, IfOk, OnOk, string_bytes};
-ghost use Rattle.tape_info.specs.Rows.{amount_text, byte_count, gap_row, known_gap_row, part_row};
-ghost use Rattle.tape_info.specs.Rows.{part_rows, port_row, range_row, range_rows, rows_of, stretch_text};
-ghost use Rattle.tape_info.specs.Rows.{sum_text, tape_row, target_text, vector_rows};
+ghost use Rattle.tape_info.specs.Rows.{amount_text, base_text, between_text, byte_count, clash_text};
+ghost use Rattle.tape_info.specs.Rows.{gap_row, kind_text, place_text};
+ghost use Rattle.tape_info.specs.Rows.{known_gap_row, part_row, part_rows, port_row, range_row};
+ghost use Rattle.tape_info.specs.Rows.{range_rows, records_text, rows_of, stretch_text, sum_text};
+ghost use Rattle.tape_info.specs.Rows.{image_name, no_image_text, tape_row, target_text, vector_rows};
+ghost use Rattle.image_files.specs.declared.refusal.NoImage.TheVariants.{Record};
 
+use crate::checksum::Sums;
 use crate::fact_list::Facts;
 use crate::gaps::Gap;
 use crate::ranges::Range;
 use crate::wording;
+use image_files::NoImage;
+use image_reader::{RecordFault, RecordFaultKind};
 use memory_map::{Image, MapSpec};
 use model::Profile;
 use std::alloc::{AllocError, Global};
 use tape_words::{RECORD, RECORDS, push_count, push_instruction};
 
-/// Appends the row of the whole tape: how many bytes, ranges and records it has.
-fn push_tape(words: &mut String, facts: &Facts, records: usize) -> Result<(), AllocError>
+/// Appends how many data records a tape has; of another image nothing.
+fn push_records(words: &mut String, records: Option<usize>) -> Result<(), AllocError>
+    ensures { OnOk result
+        (string_bytes words.new ≡ string_bytes words.old ++ records_text records) }
+{
+    match records {
+        None => Ok(()),
+        Some(records) => {
+            words.push_str(wording::AND)?;
+            push_count(words, records as u64, RECORD, RECORDS)
+        }
+    }
+}
+
+/// Returns the name of the first row.
+fn image_name(records: Option<usize>) -> &'static str
+    ensures { result.now ≡ image_name records }
+{
+    match records {
+        None => wording::IMAGE_ROW,
+        Some(_) => wording::TAPE_ROW,
+    }
+}
+
+/// Appends the row of the whole image: how many bytes and ranges it has, and how many records if it
+/// is a tape.
+fn push_tape(words: &mut String, facts: &Facts, records: Option<usize>) -> Result<(), AllocError>
     ensures { OnOk result
         (string_bytes words.new ≡ string_bytes words.old ++ tape_row facts.now records) }
 {
-    words.push_str(wording::TAPE_ROW)?;
+    words.push_str(image_name(records))?;
     push_count(words, facts.bytes as u64, wording::BYTE, wording::BYTES)?;
     words.push_str(wording::IN)?;
     push_count(
@@ -28,8 +59,7 @@ fn push_tape(words: &mut String, facts: &Facts, records: usize) -> Result<(), Al
         wording::RANGE,
         wording::RANGES,
     )?;
-    words.push_str(wording::AND)?;
-    push_count(words, records as u64, RECORD, RECORDS)?;
+    push_records(words, records)?;
     words.push_str("\n")
 }
 
@@ -49,20 +79,26 @@ fn push_bytes(words: &mut String, count: u64) -> Result<(), AllocError>
     push_count(words, count, wording::BYTE, wording::BYTES)
 }
 
-/// Appends a CRC-32, and ends the row.
+/// Appends check sums, and ends the row.
 #[tactic(auto, unfolding(crate::specs::Rows::sum_text))]
-fn push_sum(words: &mut String, sum: u32) -> Result<(), AllocError>
-    ensures { OnOk result (string_bytes words.new ≡ string_bytes words.old ++ sum_text sum) }
+fn push_sums(words: &mut String, sums: Sums) -> Result<(), AllocError>
+    ensures { OnOk result (string_bytes words.new ≡ string_bytes words.old ++ sum_text sums) }
 {
+    let (crc_32, sum_16) = (sums.crc_32, sums.sum_16);
+    let sum_8 = sum_16 % 256;
     words.push_str(wording::CRC_32)?;
-    writeln!(words, "{sum:08x}")
+    write!(words, "{crc_32:08x}")?;
+    words.push_str(wording::SUM_16)?;
+    write!(words, "{sum_16:04X}")?;
+    words.push_str(wording::SUM_8)?;
+    writeln!(words, "{sum_8:02X}")
 }
 
-/// Appends the row of a range: its addresses, its size and its CRC-32.
+/// Appends the row of a range: its addresses, its size and its check sums.
 #[tactic(auto, unfolding(crate::specs::Rows::range_row))]
-fn push_range(words: &mut String, range: Range, sum: u32) -> Result<(), AllocError>
+fn push_range(words: &mut String, range: Range, sums: Sums) -> Result<(), AllocError>
     ensures { OnOk result (string_bytes words.new
-        ≡ string_bytes words.old ++ range_row (range, sum)) }
+        ≡ string_bytes words.old ++ range_row (range, sums)) }
 {
     push_stretch(
         words,
@@ -71,16 +107,16 @@ fn push_range(words: &mut String, range: Range, sum: u32) -> Result<(), AllocErr
         range.last as u32,
     )?;
     push_bytes(words, range.last.saturating_sub(range.first) as u64 + 1)?;
-    push_sum(words, sum)
+    push_sums(words, sums)
 }
 
-/// Appends a row for each range: its addresses, its size and its CRC-32.
+/// Appends a row for each range: its addresses, its size and its check sums.
 fn push_ranges(words: &mut String, facts: &Facts) -> Result<(), AllocError>
     ensures { OnOk result (string_bytes words.new
         ≡ string_bytes words.old ++ range_rows facts.now) }
 {
-    for (range, sum) in facts.ranges.iter().zip(facts.checksums.iter()) {
-        push_range(words, *range, *sum)?;
+    for (range, sums) in facts.ranges.iter().zip(facts.checksums.iter()) {
+        push_range(words, *range, *sums)?;
     }
     Ok(())
 }
@@ -187,6 +223,45 @@ fn push_part(
     push_amount(words, bytes)
 }
 
+/// Appends an address between words.
+#[tactic(auto, unfolding(crate::specs::Rows::between_text))]
+fn push_between(
+    words: &mut String,
+    before: &str,
+    address: u32,
+    behind: &str,
+) -> Result<(), AllocError>
+    ensures { OnOk result (string_bytes words.new
+        ≡ string_bytes words.old ++ between_text before.now address behind.now) }
+{
+    write!(words, "{before}{address:04X}{behind}")
+}
+
+/// Appends which base is free, and ends the row.
+fn push_base(words: &mut String, free: Option<u16>) -> Result<(), AllocError>
+    ensures { OnOk result (string_bytes words.new ≡ string_bytes words.old ++ base_text free) }
+{
+    match free {
+        None => words.push_str(wording::NO_BASE),
+        Some(base) => push_between(words, wording::CLASH, base as u32, wording::FREE),
+    }
+}
+
+/// Appends how many bytes stand at the port, and which base is free, and ends the row.
+#[tactic(auto, unfolding(crate::specs::Rows::clash_text))]
+fn push_clash(words: &mut String, bytes: u32, free: Option<u16>) -> Result<(), AllocError>
+    ensures { OnOk result (string_bytes words.new
+        ≡ string_bytes words.old ++ clash_text bytes free) }
+{
+    if bytes == 0 {
+        words.push_str(wording::NOTHING)?;
+        words.push_str("\n")
+    } else {
+        push_bytes(words, bytes as u64)?;
+        push_base(words, free)
+    }
+}
+
 /// Appends the row of the port's four addresses, where there is a port.
 fn push_port(words: &mut String, map: &MapSpec, facts: &Facts) -> Result<(), AllocError>
     ensures { OnOk result (string_bytes words.new
@@ -196,7 +271,8 @@ fn push_port(words: &mut String, map: &MapSpec, facts: &Facts) -> Result<(), All
     if port == 65536 {
         return Ok(());
     }
-    push_part(words, wording::PORT_ROW, port, port + 3, facts.at_port)
+    push_stretch(words, wording::PORT_ROW, port, port + 3)?;
+    push_clash(words, facts.at_port, facts.free_base)
 }
 
 /// Appends the rows of pages 0 and 1 and of the port.
@@ -210,7 +286,7 @@ fn push_parts(words: &mut String, map: &MapSpec, facts: &Facts) -> Result<(), Al
     push_port(words, map, facts)
 }
 
-/// Returns the rows of `info`: the tape, its ranges, the largest gap, the vectors, and what stands
+/// Returns the rows of `info`: the image, its ranges, the largest gap, the vectors, and what stands
 /// in pages 0 and 1 and at the port.
 ///
 /// Errors: `AllocError` if an allocation fails.
@@ -221,7 +297,7 @@ pub fn image_text(
     image: &Image,
     map: &MapSpec,
     facts: &Facts,
-    records: usize,
+    records: Option<usize>,
 ) -> Result<String, AllocError>
     ensures { IfOk result (λ words. string_bytes words
         ≡ rows_of profile image.now map.now.port facts.now records) }
@@ -233,4 +309,55 @@ pub fn image_text(
     push_vectors(&mut words, profile, image, facts)?;
     push_parts(&mut words, map, facts)?;
     Ok(words)
+}
+
+/// Appends where a fault of a text of records is.
+#[tactic(auto, unfolding(crate::specs::Rows::place_text))]
+fn push_place(words: &mut String, file: &str, line: u64, column: u64) -> Result<(), AllocError>
+    ensures { OnOk result (string_bytes words.new
+        ≡ string_bytes words.old ++ place_text file.now line column) }
+{
+    write!(words, "{file}:{line}:{column}: ")
+}
+
+/// Appends the name and the number of a fault, and ends the line.
+#[tactic(auto, unfolding(crate::specs::Rows::kind_text))]
+fn push_kind(words: &mut String, kind: RecordFaultKind) -> Result<(), AllocError>
+    ensures { OnOk result
+        (string_bytes words.new ≡ string_bytes words.old ++ kind_text kind) }
+{
+    let (name, number) = (kind.name(), kind.number());
+    writeln!(words, "{name} {number}")
+}
+
+/// Returns what is wrong with a text of records of a file.
+///
+/// Errors: `AllocError` if an allocation fails.
+#[tactic(auto, unfolding(crate::specs::Rows::no_image_text))]
+fn record_text(alloc: Global, file: &str, fault: RecordFault) -> Result<String, AllocError>
+    ensures { IfOk result
+        (λ words. string_bytes words ≡ no_image_text file.now (Record fault)) }
+{
+    let mut words = String::new(alloc);
+    push_place(&mut words, file, fault.line as u64, fault.column as u64)?;
+    push_kind(&mut words, fault.kind)?;
+    Ok(words)
+}
+
+/// Returns what is wrong with a file that is no image.
+///
+/// Errors: `AllocError` if an allocation fails.
+#[tactic(auto, unfolding(crate::specs::Rows::no_image_text))]
+pub fn no_image_text(alloc: Global, file: &str, why: NoImage) -> Result<String, AllocError>
+    ensures { IfOk result (λ words. string_bytes words ≡ no_image_text file.now why) }
+{
+    let what = why.what();
+    match why {
+        NoImage::Record(fault) => record_text(alloc, file, fault),
+        NoImage::PastEnd | NoImage::NoAddress | NoImage::Looks(_) | NoImage::TooLong => {
+            let mut words = String::new(alloc);
+            writeln!(words, "{file}: {what}")?;
+            Ok(words)
+        }
+    }
 }

@@ -4,17 +4,20 @@ ghost use Rattle.std.specs.Prelude.{◌≡◌, ◌≤◌, ◌⊎◌, IfErr, IfOk
 ghost use Rattle.arguments.specs.Streams.{Tells, TellsFront};
 ghost use Rattle.arguments.specs.Words.{AsksForHelp, Fits, Misfits, texts};
 ghost use Rattle.model.specs.State.{is_map};
-ghost use Rattle.model.specs.Tape.{FirstFault, TapeDenotes};
-ghost use Rattle.tape_info.specs.Facts.{data_records};
-ghost use Rattle.tape_info.specs.Told.{AreRows, IsFaultText, IsHint};
+ghost use Rattle.image_files.specs.Bytes.{IsImage, IsNoImage, form_by};
+ghost use Rattle.image_files.specs.declared.refusal.ImageRefusal.TheVariants as why_not;
+ghost use Rattle.model.specs.Tape.{FirstFault};
+ghost use Rattle.tape_info.specs.Told.{AreRows, IsFaultText, IsHint, is_tape, records_in};
 ghost use Rattle.tape_info.specs.Word.{Asks, EndsInfo, IsAbout, IsSaid};
 ghost use Rattle.tape_words.specs.Asked.{info_asked, info_view};
 ghost use Rattle.tape_words.specs.CommandLines.{info};
 
 use crate::fact_list::{data_records, facts_of};
-use crate::fact_text::image_text;
+use crate::fact_text::{image_text, no_image_text};
 use crate::wording;
 use arguments::{FileRefusal, Refusal, refused_words};
+use image_files::{ImageRefusal, NoImage, form_by, image_of_bytes};
+use image_reader::{Form, OtherText};
 use memory_map::{Image, MapSpec};
 use model::{TapeFault, TapeFaultKind};
 use papertape::read_tape;
@@ -24,19 +27,18 @@ use std::rt::Files;
 use tape_mend::mend_text;
 use tape_words::{Answer, InfoWords, answered, fault_text, read_info_words, read_text};
 
-/// Returns what is on a tape, by its text and its image.
-fn right_tape(
+/// Returns what is in an image, which has so many records if it is a tape.
+fn image_rows(
     alloc: Global,
     words: &InfoWords<'_>,
     map: &MapSpec,
-    text: &[u8],
     image: &Image,
+    records: Option<usize>,
 ) -> Result<String, AllocError>
     ensures { IfOk result (λ said. AreRows words.now.profile image.now map.now.port
-        (data_records text.now) (string_bytes said)) }
+        records (string_bytes said)) }
 {
     let facts = facts_of(alloc, image, map)?;
-    let records = data_records(text);
     let said = image_text(alloc, words.profile, image, map, &facts, records)?;
     Ok(said)
 }
@@ -70,19 +72,22 @@ fn wrong_tape(
     Ok(said)
 }
 
-/// Returns what is to be said of a right tape. The only error is that an allocation failed.
+/// Returns what is to be said of bytes that denote an image. The only error is that an allocation
+/// failed.
 fn right_answer(
     alloc: Global,
     words: &InfoWords<'_>,
     map: &MapSpec,
-    text: &[u8],
+    bytes: &[u8],
     image: &Image,
+    records: Option<usize>,
 ) -> Result<Answer, AllocError>
     requires port { map.now.port ≡ words.now.port }
-    requires denotes { TapeDenotes text.now image.now }
+    requires denotes { IsImage words.now.form bytes.now image.now }
+    requires records { records ≡ records_in (form_by words.now.form bytes.now) bytes.now }
     ensures { IfOk result (IsAbout (info_view words.now)) }
 {
-    let text = right_tape(alloc, words, map, text, image)?;
+    let text = image_rows(alloc, words, map, image, records)?;
     Ok(Answer {
         text,
         is_right: true,
@@ -106,18 +111,38 @@ fn wrong_answer(
     })
 }
 
+/// Returns whether a form is told, and is that of a tape.
+fn is_tape(form: Result<Form, OtherText>) -> bool
+    ensures { result ≡ is_tape form }
+{
+    match form {
+        Ok(form) => match form {
+            Form::Tape => true,
+            Form::Text(_) => false,
+            Form::Raw(_) => false,
+            Form::Prg => false,
+        },
+        Err(_) => false,
+    }
+}
+
 /// Returns what is to be said of the text of a tape. The only error is that an allocation failed.
-fn answer_of(
+#[tactic(auto, using(crate::proofs::Forms::tape_image, crate::proofs::Forms::tape_records))]
+fn tape_answer(
     alloc: Global,
     words: &InfoWords<'_>,
     map: &MapSpec,
     text: &[u8],
 ) -> Result<Answer, AllocError>
-    requires { map.now.port ≡ words.now.port }
+    requires port { map.now.port ≡ words.now.port }
+    requires form { is_tape (form_by words.now.form text.now) ≡ true }
     ensures { IfOk result (IsAbout (info_view words.now)) }
 {
     match read_tape(alloc, text) {
-        Ok(image) => right_answer(alloc, words, map, text, &image),
+        Ok(image) => {
+            let records = data_records(text);
+            right_answer(alloc, words, map, text, &image, Some(records))
+        }
         Err(fault) => match fault.kind {
             TapeFaultKind::OutOfMemory => Err(AllocError),
             _ => wrong_answer(alloc, words, text, fault),
@@ -125,7 +150,62 @@ fn answer_of(
     }
 }
 
-/// Returns what is to be said of the tape that the words name.
+/// Returns what is to be said of bytes that are no image. The only error is that an allocation
+/// failed.
+fn other_answer(
+    alloc: Global,
+    words: &InfoWords<'_>,
+    bytes: &[u8],
+    why: NoImage,
+) -> Result<Answer, AllocError>
+    requires { IsNoImage words.now.form bytes.now (why_not.NoImage why) }
+    ensures { IfOk result (IsAbout (info_view words.now)) }
+{
+    let text = no_image_text(alloc, words.tape, why)?;
+    Ok(Answer {
+        text,
+        is_right: false,
+    })
+}
+
+/// Returns what is to be said of bytes that are no tape. The only error is that an allocation
+/// failed.
+#[tactic(auto, using(crate::proofs::Forms::no_records, crate::proofs::Forms::other_image))]
+fn image_answer(
+    alloc: Global,
+    words: &InfoWords<'_>,
+    map: &MapSpec,
+    bytes: &[u8],
+) -> Result<Answer, AllocError>
+    requires port { map.now.port ≡ words.now.port }
+    requires form { is_tape (form_by words.now.form bytes.now) ≡ false }
+    ensures { IfOk result (IsAbout (info_view words.now)) }
+{
+    match image_of_bytes(alloc, words.form, bytes) {
+        Ok(image) => right_answer(alloc, words, map, bytes, &image, None),
+        Err(ImageRefusal::NoImage(why)) => other_answer(alloc, words, bytes, why),
+        Err(ImageRefusal::Refused(_)) => Err(AllocError),
+    }
+}
+
+/// Returns what is to be said of some bytes. The only error is that an allocation failed.
+fn answer_of(
+    alloc: Global,
+    words: &InfoWords<'_>,
+    map: &MapSpec,
+    bytes: &[u8],
+) -> Result<Answer, AllocError>
+    requires { map.now.port ≡ words.now.port }
+    ensures { IfOk result (IsAbout (info_view words.now)) }
+{
+    if is_tape(form_by(words.form, bytes)) {
+        tape_answer(alloc, words, map, bytes)
+    } else {
+        image_answer(alloc, words, map, bytes)
+    }
+}
+
+/// Returns what is to be said of the file that the words name.
 fn done<'a, H: Files + AllocGlobal>(
     rt: &H,
     words: &InfoWords<'a>,
@@ -150,11 +230,11 @@ fn done<'a, H: Files + AllocGlobal>(
     })
 }
 
-/// Does what the words after `info` ask for, and returns the exit status: 0 if the tape is right, 1
-/// if it has a fault, 2 if the words or the map are wrong, 3 if memory ran out, 4 if reading or
-/// writing failed. What is on the tape, or what is wrong with it, goes to `output`. For 2 and above
-/// a line on `errors` says why, with the name of the file; that it cannot be written changes no
-/// status.
+/// Does what the words after `info` ask for, and returns the exit status: 0 if the file is an
+/// image, 1 if it is none, 2 if the words or the map are wrong, 3 if memory ran out, 4 if reading
+/// or writing failed. What is in the image, or what is wrong with it, goes to `output`. For 2 and
+/// above a line on `errors` says why, with the name of the file; that it cannot be written changes
+/// no status.
 pub fn tape_info<H: Files + AllocGlobal, O: Write, E: Write>(
     rt: &H,
     words: &[&str],
@@ -162,15 +242,15 @@ pub fn tape_info<H: Files + AllocGlobal, O: Write, E: Write>(
     errors: &mut E,
 ) -> u8
     ensures status { result ≤ 4 }
-    // Where the tape is right nothing is said on the error stream.
+    // Where the image is right nothing is said on the error stream.
     ensures quiet { result ≡ 0 → errors.new ≡ errors.old }
     // Words or a map that are refused leave the output as it was.
     ensures untouched { 2 ≤ result → result ≤ 3 → output.new ≡ output.old }
-    // 0 means that the rows of some right tape were written, or the help that is asked for.
+    // 0 means that the rows of some image were written, or the help that is asked for.
     ensures right { result ≡ 0 → AsksForHelp info (texts words.entry.now)
         ⊎ Asks (texts words.entry.now) (λ asked. Tells (IsSaid asked) true
         (O.contents output.old) (O.contents output.new)) }
-    // 1 means that the first fault of some tape was written, or that the file is too long.
+    // 1 means that it was written why some bytes are no image, or that the file is too long.
     ensures wrong { result ≡ 1 → Asks (texts words.entry.now)
         (λ asked. Tells (IsSaid asked) false (O.contents output.old) (O.contents output.new)
         ⊎ (output.new ≡ output.old)) }
@@ -179,7 +259,7 @@ pub fn tape_info<H: Files + AllocGlobal, O: Write, E: Write>(
         ⊎ ((Fits info (texts words.entry.now)
         × (info_asked (texts words.entry.now) ≡ None))
         ⊎ Asks (texts words.entry.now) (λ asked. is_map None asked.port ≡ false)) }
-    // 4 means that a beginning was written of what is said of some tape, or nothing; or help is
+    // 4 means that a beginning was written of what is said of some bytes, or nothing; or help is
     // asked for.
     ensures begun { result ≡ 4 → AsksForHelp info (texts words.entry.now)
         ⊎ Asks (texts words.entry.now) (λ asked. TellsFront (IsSaid asked)

@@ -3,6 +3,8 @@
 
 pub const TAPE_ROW: &str = "tape    ";
 
+pub const IMAGE_ROW: &str = "image   ";
+
 pub const IN: &str = " in ";
 
 pub const AND: &str = " and ";
@@ -19,6 +21,10 @@ pub const RANGE_ROW: &str = "range   ";
 
 pub const CRC_32: &str = "  CRC-32 ";
 
+pub const SUM_16: &str = "  sum16 ";
+
+pub const SUM_8: &str = "  sum8 ";
+
 pub const GAP_ROW: &str = "gap     ";
 
 pub const NOTHING: &str = "nothing";
@@ -34,6 +40,12 @@ pub const PAGE_0_ROW: &str = "page 0  ";
 pub const PAGE_1_ROW: &str = "page 1  ";
 
 pub const PORT_ROW: &str = "port    ";
+
+pub const CLASH: &str = " of the image; --port ";
+
+pub const FREE: &str = " is free, or --port none\n";
+
+pub const NO_BASE: &str = " of the image; no base is free, try --port none\n";
 
 pub const MEND_MENDS_IT: &str = "`mend` mends it\n";
 

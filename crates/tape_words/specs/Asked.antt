@@ -6,6 +6,8 @@ use Rattle.clap.specs.Words.{Text}
 use Rattle.model.specs.declared.instruction.Profile.{Profile}
 use Rattle.arguments.specs.Values.{port_asked, profile_asked}
 use Rattle.arguments.specs.Words.{value_in}
+use Rattle.image_files.specs.Options.{form_said}
+use Rattle.image_reader.specs.declared.form.Form.{Form}
 use Rattle.tape_words.specs.CommandLines.{cmp, info, mend}
 use Rattle.tape_words.specs.declared.words.CmpWords.{CmpWords}
 use Rattle.tape_words.specs.declared.words.InfoWords.{InfoWords}
@@ -13,27 +15,31 @@ use Rattle.tape_words.specs.declared.words.MendWords.{MendWords}
 
 pub record InfoAsked : Type 0 where
   pub tape : Text
+  pub form : Option Form
   pub port : ℕ
   pub profile : Profile
 
 pub record CmpAsked : Type 0 where
   pub tape : Text
   pub other : Text
+  pub form : Option Form
   pub profile : Profile
 
 pub record MendAsked : Type 0 where
   pub tape : Text
   pub out : Text
 
-abbrev pub info_of : Option Text → Option ℕ → Option Profile → Option InfoAsked
-info_of (Some tape) (Some port) (Some profile)
-    = Some (record { tape = tape; port = port; profile = profile })
-info_of tape port profile = None
+abbrev pub info_of : Option Text → Option (Option Form) → Option ℕ → Option Profile
+    → Option InfoAsked
+info_of (Some tape) (Some form) (Some port) (Some profile)
+    = Some (record { tape = tape; form = form; port = port; profile = profile })
+info_of tape form port profile = None
 
-abbrev pub cmp_of : Option Text → Option Text → Option Profile → Option CmpAsked
-cmp_of (Some tape) (Some other) (Some profile)
-    = Some (record { tape = tape; other = other; profile = profile })
-cmp_of tape other profile = None
+abbrev pub cmp_of : Option Text → Option Text → Option (Option Form) → Option Profile
+    → Option CmpAsked
+cmp_of (Some tape) (Some other) (Some form) (Some profile)
+    = Some (record { tape = tape; other = other; form = form; profile = profile })
+cmp_of tape other form profile = None
 
 -- The file to write has another name than the tape.
 abbrev pub mend_of : Option Text → Option Text → Option MendAsked
@@ -43,11 +49,11 @@ mend_of tape out = None
 
 -- What the values of the names ask for, where each is one that its name can have.
 abbrev pub info_by : (Text → Option Text) → Option InfoAsked
-info_by value = info_of (value (codes "TAPE")) (port_asked (value (codes "port")))
-    (profile_asked (value (codes "profile")))
+info_by value = info_of (value (codes "TAPE")) (form_said value)
+    (port_asked (value (codes "port"))) (profile_asked (value (codes "profile")))
 
 abbrev pub cmp_by : (Text → Option Text) → Option CmpAsked
-cmp_by value = cmp_of (value (codes "TAPE")) (value (codes "OTHER"))
+cmp_by value = cmp_of (value (codes "TAPE")) (value (codes "OTHER")) (form_said value)
     (profile_asked (value (codes "profile")))
 
 abbrev pub mend_by : (Text → Option Text) → Option MendAsked
@@ -66,10 +72,15 @@ mend_asked words = mend_by (value_in mend words)
 -- ---- what was read, as what is asked for
 
 abbrev pub info_view : InfoWords → InfoAsked
-info_view w = record { tape = w.tape.now; port = w.port; profile = w.profile }
+info_view w = record { tape = w.tape.now; form = w.form; port = w.port; profile = w.profile }
 
 abbrev pub cmp_view : CmpWords → CmpAsked
-cmp_view w = record { tape = w.tape.now; other = w.other.now; profile = w.profile }
+cmp_view w = record {
+  tape = w.tape.now;
+  other = w.other.now;
+  form = w.form;
+  profile = w.profile;
+}
 
 abbrev pub mend_view : MendWords → MendAsked
 mend_view w = record { tape = w.tape.now; out = w.out.now }

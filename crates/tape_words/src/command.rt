@@ -8,11 +8,17 @@ ghost use Rattle.tape_words.specs.CommandLines.{cmp, info, mend};
 use arguments::{begin, file, port, profile};
 use clap::error::ErrorKind;
 use clap::{Command, Error};
+use image_files::with_image_options;
 use std::alloc::Global;
 
 /// The exit statuses of `info` and `mend`, in their help.
 const STATUSES: &str =
     "Exit status: 0 right, 1 a fault, 2 words or map wrong, 3 memory, 4 reading or writing";
+
+/// The help of the options that say the form of an image.
+const RAW: &str = "An image has bytes alone, from this address on, four hex digits";
+
+const PRG: &str = "An image is a PRG file: its address in two bytes, and bytes from it on";
 
 /// Returns the command line of `info`. The only error is that an allocation failed.
 pub fn info_command<'a>(alloc: Global) -> Result<Command<'a>, Error>
@@ -20,12 +26,13 @@ pub fn info_command<'a>(alloc: Global) -> Result<Command<'a>, Error>
     ensures local { IfOk result (λ c. (out-Command c).has_globals ≡ false) }
     ensures memory { IfErr result (λ e. kind_of e ≡ ErrorKind.OutOfMemory) }
 {
-    let about = "Tells what is on a tape, or what is wrong with it";
+    let about = "Tells what is on a tape or in another image, or what is wrong with it";
+    let tape = "The tape to read, Intel HEX or S-records";
     let command = begin(alloc, "info", "mos65 info", about, STATUSES)?
-        .arg(file(alloc, "TAPE", "The tape to read"))?
+        .arg(file(alloc, "TAPE", tape))?
         .arg(port(alloc))?
         .arg(profile(alloc))?;
-    Ok(command)
+    with_image_options(alloc, command, RAW, PRG)
 }
 
 /// Returns the command line of `cmp`. The only error is that an allocation failed.
@@ -34,14 +41,14 @@ pub fn cmp_command<'a>(alloc: Global) -> Result<Command<'a>, Error>
     ensures local { IfOk result (λ c. (out-Command c).has_globals ≡ false) }
     ensures memory { IfErr result (λ e. kind_of e ≡ ErrorKind.OutOfMemory) }
 {
-    let about = "Tells in which bytes two tapes differ, with the instructions there";
+    let about = "Tells in which bytes two images differ, with the instructions there";
     let statuses =
-        "Exit status: 0 the same, 1 they differ, 2 words or a tape wrong, 3 memory, 4 reading or writing";
+        "Exit status: 0 the same, 1 they differ, 2 words or an image wrong, 3 memory, 4 reading or writing";
     let command = begin(alloc, "cmp", "mos65 cmp", about, statuses)?
-        .arg(file(alloc, "TAPE", "The first tape"))?
-        .arg(file(alloc, "OTHER", "The tape to compare it with"))?
+        .arg(file(alloc, "TAPE", "The first tape, Intel HEX or S-records"))?
+        .arg(file(alloc, "OTHER", "The image to compare it with"))?
         .arg(profile(alloc))?;
-    Ok(command)
+    with_image_options(alloc, command, RAW, PRG)
 }
 
 /// Returns the command line of `mend`. The only error is that an allocation failed.

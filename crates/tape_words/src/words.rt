@@ -10,28 +10,34 @@ ghost use Rattle.tape_words.specs.CommandLines.{cmp, info, mend};
 use crate::command::{cmp_command, info_command, mend_command};
 use arguments::{WordsFault, matched, port_asked, profile_asked, value_fault};
 use clap::ArgMatches;
+use image_files::form_said;
+use image_reader::Form;
 use memory_map::Port;
 use model::Profile;
 use std::alloc::Global;
 
-/// What the words of `info TAPE [--port HHHH] [--profile N|C]` ask for.
+/// What the words of `info TAPE [--port HHHH] [--profile N|C] [--bin HHHH] [--prg]` ask for.
 #[derive(Clone, Copy)]
 pub struct InfoWords<'a> {
     /// The file to read.
     pub tape: &'a str,
+    /// Its form, if one is said.
+    pub form: Option<Form>,
     /// The first of the port's four addresses, or no port.
     pub port: Port,
     /// The processor whose instructions are shown.
     pub profile: Profile,
 }
 
-/// What the words of `cmp TAPE OTHER [--profile N|C]` ask for.
+/// What the words of `cmp TAPE OTHER [--profile N|C] [--bin HHHH] [--prg]` ask for.
 #[derive(Clone, Copy)]
 pub struct CmpWords<'a> {
     /// The first file to read.
     pub tape: &'a str,
     /// The file to compare it with.
     pub other: &'a str,
+    /// The form of both, if one is said.
+    pub form: Option<Form>,
     /// The processor whose instructions are shown.
     pub profile: Profile,
 }
@@ -51,6 +57,7 @@ fn info_words<'a>(matches: &ArgMatches<'a>) -> Option<InfoWords<'a>>
 {
     Some(InfoWords {
         tape: matches.get_str("TAPE")?,
+        form: form_said(matches)?,
         port: port_asked(matches.get_str("port"))?,
         profile: profile_asked(matches.get_str("profile"))?,
     })
@@ -63,6 +70,7 @@ fn cmp_words<'a>(matches: &ArgMatches<'a>) -> Option<CmpWords<'a>>
     Some(CmpWords {
         tape: matches.get_str("TAPE")?,
         other: matches.get_str("OTHER")?,
+        form: form_said(matches)?,
         profile: profile_asked(matches.get_str("profile"))?,
     })
 }

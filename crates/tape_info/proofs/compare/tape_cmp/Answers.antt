@@ -12,12 +12,12 @@ pub returns-in-Ok-clause-wrong : goal.returns-in-Ok-clause-wrong
 returns-in-Ok-clause-wrong g c = λ one. (cmp_view c.in-Ok.words, c.in-Ok.ensures.taken, c.in-Ok.ensures.asked, c.done.ensures.wrong one)
 
 pub returns-in-Ok-clause-refused : goal.returns-in-Ok-clause-refused
-returns-in-Ok-clause-refused g c = λ two. inr (inr ((cmp_view c.in-Ok.words, c.in-Ok.ensures.taken, c.in-Ok.ensures.asked), c.done.ensures.fault two))
+returns-in-Ok-clause-refused g c = λ two. inr (inr (cmp_view c.in-Ok.words, c.in-Ok.ensures.taken, c.in-Ok.ensures.asked, c.done.ensures.fault two))
 
 pub returns-in-Ok-clause-begun : goal.returns-in-Ok-clause-begun
 returns-in-Ok-clause-begun g c = λ four. inr (elim (c.done.ensures.begun four) [
   | inl told ↦ inl (cmp_view c.in-Ok.words, c.in-Ok.ensures.taken, c.in-Ok.ensures.asked, told)
-  | inr same ↦ inr ((cmp_view c.in-Ok.words, c.in-Ok.ensures.taken, c.in-Ok.ensures.asked), same)
+  | inr same ↦ inr (cmp_view c.in-Ok.words, c.in-Ok.ensures.taken, c.in-Ok.ensures.asked, same)
 ])
 
 pub returns-in-Err-clause-right : goal.returns-in-Err-clause-right

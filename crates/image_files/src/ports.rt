@@ -1,7 +1,7 @@
 //! Where a port would meet no byte of an image.
 
 ghost use Rattle.std.specs.Prelude.{◌≡◌, false, true};
-ghost use Rattle.loading.specs.FreeBase.{IsFree, IsFreeBase};
+ghost use Rattle.image_files.specs.FreeBase.{IsFree, IsFreeBase};
 
 use memory_map::{Image, MapSpec};
 

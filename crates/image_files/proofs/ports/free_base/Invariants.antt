@@ -1,6 +1,6 @@
 use Rattle.std.proofs.Common.{ℕ, ◌<◌}
-use Rattle.loading.specs.FreeBase.{IsFree}
-use Rattle.loading.proofs.free_base.free_base.Given as goal
+use Rattle.image_files.specs.FreeBase.{IsFree}
+use Rattle.image_files.proofs.ports.free_base.Given as goal
 
 -- no base before this one is free
 abbrev pub invariant-loop-base : goal.invariant-loop-base

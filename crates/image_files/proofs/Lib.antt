@@ -1,0 +1,4 @@
+pub mod Images
+pub mod Ended
+pub mod Ranges
+mod Begun

@@ -1,0 +1,55 @@
+-- What is told of a file that is no image, and with which exit status. Source: mos65.
+use Rattle.std.specs.Prelude.{◌≡◌, ℕ, List, [], ◌++◌, codes, decimal, Option, Some, None}
+use Rattle.arguments.specs.FaultLines.{file_line, no_image_line}
+use Rattle.arguments.specs.Statuses.{status_of}
+use Rattle.arguments.specs.declared.load_fault.LoadFault.{LoadFault}
+use Rattle.arguments.specs.declared.load_fault.LoadFault.TheVariants as load_fault
+use Rattle.image_reader.specs.RecordFault.{record_fault_name, record_fault_number}
+use Rattle.image_reader.specs.declared.form.OtherText.TheVariants as other
+use Rattle.image_files.specs.declared.refusal.ImageRefusal.{ImageRefusal}
+use Rattle.image_files.specs.declared.refusal.ImageRefusal.TheVariants as why
+use Rattle.image_files.specs.declared.refusal.NoImage.{NoImage}
+use Rattle.image_files.specs.declared.refusal.NoImage.TheVariants.{Record, PastEnd, NoAddress, Looks, TooLong}
+use Rattle.image_files.specs.declared.wording.TheConstants.{LOOKS_EMPTY, LOOKS_PLAIN, LOOKS_RAW, NO_ADDRESS, PAST_END, TOO_LONG}
+
+-- Where a fault of a text of records is.
+unfoldable pub place_of : NoImage → List ℕ
+place_of (Record f) = codes "IMAGE line " ++ decimal f.line ++ codes " column "
+    ++ decimal f.column ++ codes " "
+place_of no_image = []
+
+-- What is wrong.
+abbrev pub what_of : NoImage → List ℕ
+what_of (Record f) = record_fault_name f.kind
+what_of PastEnd = PAST_END.now
+what_of NoAddress = NO_ADDRESS.now
+what_of (Looks other.Nothing) = LOOKS_EMPTY.now
+what_of (Looks other.Bytes) = LOOKS_RAW.now
+what_of (Looks other.Plain) = LOOKS_PLAIN.now
+what_of TooLong = TOO_LONG.now
+
+abbrev pub number_of : NoImage → Option ℕ
+number_of (Record f) = Some (record_fault_number f.kind)
+number_of no_image = None
+
+abbrev pub no_image_text : List ℕ → NoImage → List ℕ
+no_image_text file no_image = no_image_line file (place_of no_image) (what_of no_image)
+    (number_of no_image)
+
+-- The line that says why a file is no image.
+unfoldable pub refusal_text : ImageRefusal → List ℕ → List ℕ
+refusal_text (why.NoImage no_image) file = no_image_text file no_image
+refusal_text (why.Refused refusal) file = file_line file refusal
+
+-- 1 for what is no image; otherwise that of the refusal.
+abbrev pub status_of_image : ImageRefusal → ℕ
+status_of_image (why.NoImage no_image) = 1
+status_of_image (why.Refused refusal) = status_of refusal
+
+-- The same as why a file is not loaded.
+abbrev pub IsUnloaded : ImageRefusal → LoadFault → Type 0
+IsUnloaded (why.NoImage no_image) (load_fault.NoImage place what number) =
+    (place.items ≡ place_of no_image) × (what.now ≡ what_of no_image)
+    × (number ≡ number_of no_image)
+IsUnloaded (why.Refused refusal) fault = fault ≡ load_fault.Refused refusal
+IsUnloaded refusal fault = ⊥

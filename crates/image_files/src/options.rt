@@ -1,0 +1,82 @@
+//! The options that say in which form a file is.
+
+ghost use Rattle.std.specs.Prelude.{◌≡◌, IfErr, IfOk, false, option_map};
+ghost use Rattle.image_files.specs.Options.{fill_asked, form_said, said_of, with_image};
+ghost use Rattle.clap.specs.Words.{app_of, first_value, found_of, kind_of};
+ghost use Rattle.clap.specs.declared.builder.command.Command.TheViews.{out-Command};
+ghost use Rattle.model.specs.Commands.{byte_of};
+
+use arguments::{FileForm, flag, form_asked, is_given, option};
+use clap::error::ErrorKind;
+use clap::{ArgMatches, Command, Error};
+use formatting::hex_value;
+use image_reader::Form;
+use std::alloc::Global;
+
+/// Returns a command with the options added that say the form of an image: `--bin HHHH` and
+/// `--prg`. `raw` and `prg` are their help.
+///
+/// The only error is that an allocation failed.
+pub fn with_image_options<'a>(
+    alloc: Global,
+    command: Command<'a>,
+    raw: &'a str,
+    prg: &'a str,
+) -> Result<Command<'a>, Error>
+    ensures shape { IfOk result (λ c. app_of c ≡ with_image (app_of command.entry)) }
+    ensures local { IfOk result (λ c. (out-Command command.entry).has_globals ≡ false
+        → (out-Command c).has_globals ≡ false) }
+    ensures memory { IfErr result (λ e. kind_of e ≡ ErrorKind.OutOfMemory) }
+{
+    let command = command
+        .arg(option(alloc, "bin", "HHHH", raw))?
+        .arg(flag(alloc, "prg", prg))?;
+    Ok(command)
+}
+
+/// Returns the form that is said of an image; `None` where its first record tells it.
+pub fn said_of(form: FileForm) -> Option<Form>
+    ensures { result ≡ said_of form }
+{
+    match form {
+        FileForm::Source | FileForm::Records => None,
+        FileForm::Raw(address) => Some(Form::Raw(address)),
+        FileForm::Prg => Some(Form::Prg),
+    }
+}
+
+/// Returns the form that the values say of an image, if they say one. Returns `None` where they say
+/// two, or where the word after `--bin` is no address.
+pub fn form_said(matches: &ArgMatches<'_>) -> Option<Option<Form>>
+    ensures { result ≡ form_said (first_value (found_of matches.now)) }
+{
+    match form_asked(false, matches.get_str("bin"), is_given(matches, "prg")) {
+        None => None,
+        Some(form) => Some(said_of(form)),
+    }
+}
+
+/// Returns the byte that exactly two hex digits write; otherwise `None`.
+fn byte_of(word: &[u8]) -> Option<u8>
+    ensures { result ≡ byte_of word.now }
+{
+    let [high, low] = word else {
+        return None;
+    };
+    let high = hex_value(*high)?;
+    let low = hex_value(*low)?;
+    Some(high * 16 + low)
+}
+
+/// Returns the byte that gaps are filled with, by the word after `--fill`.
+pub fn fill_asked(word: Option<&str>) -> Option<Option<u8>>
+    ensures { result ≡ fill_asked (option_map (λ w. w.now) word.entry) }
+{
+    match word {
+        None => Some(None),
+        Some(word) => match byte_of(word.as_bytes()) {
+            None => None,
+            Some(byte) => Some(Some(byte)),
+        },
+    }
+}

@@ -1,0 +1,68 @@
+-- What the form of some bytes says of what is told of them.
+use Rattle.std.proofs.Common.{◌≡◌, ◌⊎◌, ℕ, Bool, true, false, List, Option, Some, None, Result, Ok, Err, inl, inr, refl, sym, ap, subst, ◌∙◌}
+use Rattle.arguments.specs.declared.refusal.Refusal.TheVariants.{OutOfMemory}
+use Rattle.image_files.specs.Bytes.{IsImage, IsNoImage, form_by}
+use Rattle.image_files.specs.declared.refusal.ImageRefusal.TheVariants as why
+use Rattle.image_files.specs.declared.refusal.NoImage.{NoImage}
+use Rattle.image_reader.specs.declared.form.Form.{Form}
+use Rattle.image_reader.specs.declared.form.Form.TheVariants.{Tape, Text, Raw, Prg}
+use Rattle.image_reader.specs.declared.form.OtherText.{OtherText}
+use Rattle.model.specs.Tape.{TapeDenotes}
+use Rattle.tape_info.specs.Facts.{data_records}
+use Rattle.tape_info.specs.Told.{AreRows, IsRightImage, is_tape, records_in}
+use Rattle.tape_words.specs.Asked.{InfoAsked}
+
+the_form : (told : Result Form OtherText) → is_tape told ≡ true → told ≡ Ok Tape
+the_form (Ok Tape) is = refl
+the_form (Ok (Text form)) is = absurd (no is)
+  where
+    no : false ≡ true → ⊥
+    no e = cc
+the_form (Ok (Raw address)) is = absurd (no is)
+  where
+    no : false ≡ true → ⊥
+    no e = cc
+the_form (Ok Prg) is = absurd (no is)
+  where
+    no : false ≡ true → ⊥
+    no e = cc
+the_form (Err like) is = absurd (no is)
+  where
+    no : false ≡ true → ⊥
+    no e = cc
+
+-- a tape, which has data records
+pub tape_image : (said : Option Form) (bytes : List ℕ) (cells : List (Option ℕ)) → is_tape (form_by said bytes) ≡ true → TapeDenotes bytes cells → IsImage said bytes cells
+tape_image said bytes cells is denotes = (Tape, the_form (form_by said bytes) is, denotes)
+
+pub tape_records : (said : Option Form) (bytes : List ℕ) (count : ℕ) → is_tape (form_by said bytes) ≡ true → count ≡ data_records bytes → Some count ≡ records_in (form_by said bytes) bytes
+tape_records said bytes count is e = ap Some e ∙ sym (ap (λ (t : Result Form OtherText). records_in t bytes) (the_form (form_by said bytes) is))
+
+-- another form
+pub no_records : (told : Result Form OtherText) (bytes : List ℕ) → is_tape told ≡ false → None ≡ records_in told bytes
+no_records (Ok Tape) bytes is = absurd (no is)
+  where
+    no : true ≡ false → ⊥
+    no e = cc
+no_records (Ok (Text form)) bytes is = refl
+no_records (Ok (Raw address)) bytes is = refl
+no_records (Ok Prg) bytes is = refl
+no_records (Err like) bytes is = refl
+
+-- what is said of an image
+pub right_image : (asked : InfoAsked) (bytes : List ℕ) (image : List (Option ℕ)) (port : ℕ) (records : Option ℕ) (said : List ℕ) → port ≡ asked.port → IsImage asked.form bytes image
+    → records ≡ records_in (form_by asked.form bytes) bytes → AreRows asked.profile image port records said → IsRightImage asked said
+right_image asked bytes image port records said at is counts rows = record {
+  bytes = bytes;
+  image = image;
+  denotes = is;
+  rows = subst (λ (n : Option ℕ). AreRows asked.profile image asked.port n said) counts (subst (λ (k : ℕ). AreRows asked.profile image k records said) at rows);
+}
+
+-- bytes that are no image are refused for that, where it is not memory that ran out
+pub other_image : (said : Option Form) (bytes : List ℕ) (no_image : NoImage) → (why.NoImage no_image ≡ why.Refused OutOfMemory) ⊎ IsNoImage said bytes (why.NoImage no_image) → IsNoImage said bytes (why.NoImage no_image)
+other_image said bytes no_image (inl memory) = absurd (apart memory)
+  where
+    apart : why.NoImage no_image ≡ why.Refused OutOfMemory → ⊥
+    apart e = cc
+other_image said bytes no_image (inr is) = is

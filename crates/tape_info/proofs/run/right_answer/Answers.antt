@@ -1,0 +1,7 @@
+use Rattle.tape_words.specs.Asked.{info_view}
+use Rattle.tape_info.proofs.Forms.{right_image}
+use Rattle.tape_info.proofs.run.right_answer.Goals as goal
+
+pub returns : goal.returns
+returns c =
+    right_image (info_view c.args.words.now) c.args.bytes.now c.args.image.now c.args.map.now.port c.args.records _ c.requires.port c.requires.denotes c.requires.records c.in_ok-text.ensures
