@@ -4,3 +4,5 @@ pub mod Words
 pub mod Parts
 pub mod NamesRefused
 pub mod Read
+pub mod Ended
+pub mod Images

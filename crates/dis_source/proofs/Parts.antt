@@ -1,40 +1,35 @@
 -- A source of a part is one of what an image has between two addresses, with marks and names.
-use Rattle.std.proofs.Common.{◌≡◌, ℕ, ◌<◌, List, [], ◌∷◌, length, Option, Result, Ok, Err, false, refl, subst, sym, arith, ◌∙◌}
-use Rattle.std.specs.Prelude.{IfOk, MatchResult}
-use Rattle.std.specs.Result.{IsErrAnd}
+use Rattle.std.proofs.Common.{◌≡◌, ℕ, ◌<◌, List, Bool, Option, Result, Ok, Err, true, false, refl, subst, sym, ◌∙◌}
+use Rattle.std.specs.Prelude.{IfOk}
 use Rattle.assembler.specs.Assembly.{AssemblyView, IsAssembled}
 use Rattle.model.specs.Image.{cell_at}
 use Rattle.model.specs.Names.{Definitions}
 use Rattle.model.specs.Source.{Denotes}
 use Rattle.model.specs.State.{Map, has_port_byte}
 use Rattle.model.specs.declared.instruction.Profile.{Profile}
-use Rattle.reached.specs.Reached.{AreFollowed, vectors}
 use Rattle.source_forms.specs.declared.mark.Mark.{Mark}
+use Rattle.dis_source.specs.Advice.{is_at_port}
 use Rattle.dis_source.specs.Asked.{SourceAsked}
 use Rattle.dis_source.specs.Marks.{cell_between}
 use Rattle.dis_source.specs.Word.{AreNames, names_map}
-use Rattle.dis_source.specs.Written.{AreMarkedBy, IsSourceOfPart, IsText, starts_of}
+use Rattle.reached.specs.Reached.{AreFollowed}
+use Rattle.dis_source.specs.Written.{AreFollowedBy, AreMarked, AreMarkedBy, IsText, IsWritten, is_followed, starts_of}
 
-pub source_is : {X E : Type 0} (items : X → List ℕ) (asked : SourceAsked) (image : List (Option ℕ)) (names : Option Definitions) (part : List (Option ℕ)) (marks : List Mark) (r : Result X E) → ((a : ℕ) → a < 65536 → cell_at part a ≡ cell_between image asked.first asked.last a)
-    → AreMarkedBy asked.follow asked part marks
-    → IfOk r (λ x. IsText asked part marks names (items x))
-    → IfOk r (λ x. (bus_map : Map) → bus_map.profile ≡ asked.profile → has_port_byte bus_map part ≡ false → Denotes bus_map (items x) part) → IfOk r (λ x. IsSourceOfPart asked image names (items x))
-source_is items asked image names part marks (Ok x) cells marked says means = record { part = part; cells = cells; marks = marks; marked = marked; says = says; denotes = means }
-source_is items asked image names part marks (Err e) cells marked says means = tt
+-- the source of a part with its marks and names, and where it may be
+pub source_is : (asked : SourceAsked) (image : List (Option ℕ)) (names : Option Definitions) (part : List (Option ℕ)) (marks : List Mark) (text : List ℕ) (at_port : Bool) → ((a : ℕ) → a < 65536 → cell_at part a ≡ cell_between image asked.first asked.last a)
+    → AreMarkedBy asked part marks → IsText asked part marks names text
+    → ((bus_map : Map) → bus_map.profile ≡ asked.profile → has_port_byte bus_map part ≡ false → Denotes bus_map text part) → at_port ≡ is_at_port part → IsWritten asked image names text at_port
+source_is asked image names part marks text at_port cells marked says means same =
+    record { source = record { part = part; cells = cells; marks = marks; marked = marked; says = says; denotes = means }; same = same }
 
--- where no address is said control is followed from the vectors
-pub from_vectors : (profile : Profile) (part : List (Option ℕ)) (marks : List Mark) (starts : List ℕ) (now : List Mark) → length starts ≡ 0 → AreFollowed profile part marks (vectors part) now → AreFollowed profile part marks (starts_of part starts) now
-from_vectors profile part marks [] now none f = f
-from_vectors profile part marks (start ∷ starts) now none f = absurd (omega (arith, none))
+-- marks where control is not followed, and where it is
+pub unfollowed : (asked : SourceAsked) (part : List (Option ℕ)) (marks : List Mark) → AreMarked asked marks → is_followed asked.following ≡ false → AreMarkedBy asked part marks
+unfollowed asked part marks marked none = record { plain = marks; marked = marked; followed = subst (λ (t : Bool). AreFollowedBy t asked part marks marks) (sym none) refl }
 
-pub from_starts : (profile : Profile) (part : List (Option ℕ)) (marks : List Mark) (starts : List ℕ) (now : List Mark) → 0 < length starts → AreFollowed profile part marks starts now → AreFollowed profile part marks (starts_of part starts) now
-from_starts profile part marks [] now some f = absurd (omega (arith, some))
-from_starts profile part marks (start ∷ starts) now some f = f
-
--- what is known of a value stays known where only the error is mapped
-pub kept : {T E D : Type 0} (r : Result T E) (s : Result T D) (x : T) (P : T → Type 0) (R : E → D → Type 0) → MatchResult r (λ y. s ≡ Ok y) (λ e. IsErrAnd s (R e)) → IfOk r P → s ≡ Ok x → P x
-kept (Ok y) s x P R same holds is = let e : Ok y ≡ Ok x = sym same ∙ is in let v : y ≡ x = cc in subst P v holds
-kept (Err e) s x P R failed holds is = absurd (subst (λ t. IsErrAnd t (R e)) is failed)
+pub followed : {X E : Type 0} (items : X → List Mark) (asked : SourceAsked) (part : List (Option ℕ)) (plain : List Mark) (r : Result X E) → AreMarked asked plain → is_followed asked.following ≡ true
+    → IfOk r (λ x. AreFollowed asked.profile part plain asked.following.routines (starts_of part asked.following) (items x)) → IfOk r (λ x. AreMarkedBy asked part (items x))
+followed items asked part plain (Ok x) marked some f = record { plain = plain; marked = marked; followed = subst (λ (t : Bool). AreFollowedBy t asked part plain (items x)) (sym some) f }
+followed items asked part plain (Err e) marked some f = tt
 
 -- the names of an assembly on the map of names
 pub are_named : (profile : Profile) (bus_map : Map) (a : AssemblyView) → bus_map ≡ names_map profile → IsAssembled bus_map a → AreNames profile a.names

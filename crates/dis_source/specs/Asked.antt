@@ -4,16 +4,36 @@ use Rattle.std.specs.Prelude.{ℕ, Bool, List, [], ◌∷◌, Option, Some, None
 use Rattle.arguments.specs.Asked.{is_flag}
 use Rattle.arguments.specs.Values.{profile_asked}
 use Rattle.clap.specs.Words.{Text}
-use Rattle.model.specs.Commands.{address_of}
+use Rattle.image_files.specs.Options.{form_said}
+use Rattle.image_reader.specs.declared.form.Form.{Form}
+use Rattle.model.specs.Commands.{address_of, from_1_to}
+use Rattle.model.specs.Digits.{decimal_number}
 use Rattle.model.specs.declared.instruction.Profile.{Profile}
+use Rattle.reached.specs.declared.inline.Inline.{Inline}
+use Rattle.reached.specs.declared.inline.Tail.{Tail}
+use Rattle.reached.specs.declared.inline.Tail.TheVariants.{String, Bytes}
+
+-- The ranges of numbers, of letters, of addresses, and of addresses less 1 to which RTS goes.
+pub record Ranges : Type 0 where
+  pub numbers : List (ℕ × ℕ)
+  pub letters : List (ℕ × ℕ)
+  pub addresses : List (ℕ × ℕ)
+  pub returns : List (ℕ × ℕ)
+
+-- Where control comes in: from some addresses in place of the vectors, from more addresses; and the
+-- routines whose calls are followed by data.
+pub record Following : Type 0 where
+  pub only : Option (List ℕ)
+  pub more : Option (List ℕ)
+  pub routines : List Inline
 
 pub record SourceAsked : Type 0 where
   pub tape : Text
+  pub form : Option Form
   pub first : ℕ
   pub last : ℕ
-  pub numbers : List (ℕ × ℕ)
-  pub letters : List (ℕ × ℕ)
-  pub follow : Option (List ℕ)
+  pub ranges : Ranges
+  pub following : Following
   pub labels : Bool
   pub symbols : Option Text
   pub profile : Profile
@@ -44,11 +64,33 @@ abbrev pub ranges_asked : Option (List (List ℕ)) → Option (List (ℕ × ℕ)
 ranges_asked None = Some []
 ranges_asked (Some words) = all_of range_of words
 
--- The addresses from which control is followed: it is followed where the option is there, and then
--- from the vectors where no address is said.
-abbrev pub follow_asked : Option (List (List ℕ)) → Option (Option (List ℕ))
-follow_asked None = Some None
-follow_asked (Some words) = option_map Some (all_of address_of words)
+-- The addresses that an option asks for, if it is there.
+abbrev pub addresses_asked : Option (List (List ℕ)) → Option (Option (List ℕ))
+addresses_asked None = Some None
+addresses_asked (Some words) = option_map Some (all_of address_of words)
+
+-- `z`, or a count from 1 to 65535.
+abbrev pub tail_of : List ℕ → Option Tail
+tail_of word =
+    if (length word == 1) && (get_or word 0 0 == 122) then Some String
+    else if nat_le (length word) 5 then option_map Bytes (from_1_to 65535 (decimal_number word))
+    else None
+
+abbrev pub routine_from : Option ℕ → Option Tail → Option Inline
+routine_from (Some address) (Some tail) = Some (record { address = address; tail = tail })
+routine_from address tail = None
+
+-- ADDRESS=z or ADDRESS=N.
+abbrev pub routine_of : List ℕ → Option Inline
+routine_of word =
+    if nat_le 6 (length word) && (get_or word 4 0 == 61)
+    then routine_from (address_of (take 4 word)) (tail_of (drop 5 word))
+    else None
+
+-- The routines that an option asks for: none where it is not there.
+abbrev pub routines_asked : Option (List (List ℕ)) → Option (List Inline)
+routines_asked None = Some []
+routines_asked (Some words) = all_of routine_of words
 
 -- The addresses to write: all where neither is said.
 abbrev pub bounds_asked : Option (List ℕ) → Option (List ℕ) → Option (ℕ × ℕ)
@@ -56,30 +98,56 @@ bounds_asked None None = Some (0, 65535)
 bounds_asked (Some low) (Some high) = addresses_of (address_of low) (address_of high)
 bounds_asked low high = None
 
-abbrev pub source_of_values : Option Text → Option (ℕ × ℕ) → Option (List (ℕ × ℕ))
-    → Option (List (ℕ × ℕ)) → Option (Option (List ℕ)) → Bool → Option Text → Option Profile
-    → Option SourceAsked
-source_of_values (Some tape) (Some bounds) (Some numbers) (Some letters) (Some follow) labels
-    symbols (Some profile) =
+abbrev pub ranges_of_values : Option (List (ℕ × ℕ)) → Option (List (ℕ × ℕ))
+    → Option (List (ℕ × ℕ)) → Option (List (ℕ × ℕ)) → Option Ranges
+ranges_of_values (Some numbers) (Some letters) (Some addresses) (Some returns) =
     Some (record {
-      tape = tape;
-      first = bounds.0;
-      last = bounds.1;
       numbers = numbers;
       letters = letters;
-      follow = follow;
+      addresses = addresses;
+      returns = returns;
+    })
+ranges_of_values numbers letters addresses returns = None
+
+-- The ranges that all values of the names ask for.
+abbrev pub all_ranges_asked : (Text → Option (List Text)) → Option Ranges
+all_ranges_asked values = ranges_of_values (ranges_asked (values (codes "data")))
+    (ranges_asked (values (codes "text"))) (ranges_asked (values (codes "words")))
+    (ranges_asked (values (codes "rts-words")))
+
+abbrev pub following_of_values : Option (Option (List ℕ)) → Option (Option (List ℕ))
+    → Option (List Inline) → Option Following
+following_of_values (Some only) (Some more) (Some routines) =
+    Some (record { only = only; more = more; routines = routines })
+following_of_values only more routines = None
+
+-- Where the values of the names say that control comes in.
+abbrev pub following_asked : (Text → Option (List Text)) → Option Following
+following_asked values = following_of_values (addresses_asked (values (codes "follow-only")))
+    (addresses_asked (values (codes "follow"))) (routines_asked (values (codes "inline")))
+
+abbrev pub source_of_values : Option Text → Option (Option Form) → Option (ℕ × ℕ) → Option Ranges
+    → Option Following → Bool → Option Text → Option Profile → Option SourceAsked
+source_of_values (Some tape) (Some form) (Some bounds) (Some ranges) (Some following) labels symbols
+    (Some profile) =
+    Some (record {
+      tape = tape;
+      form = form;
+      first = bounds.0;
+      last = bounds.1;
+      ranges = ranges;
+      following = following;
       labels = labels;
       symbols = symbols;
       profile = profile;
     })
-source_of_values tape bounds numbers letters follow labels symbols profile = None
+source_of_values tape form bounds ranges following labels symbols profile = None
 
 -- What the first values and all values of the names ask for, where each is one that its name can
 -- have.
 abbrev pub source_asked : (Text → Option Text) → (Text → Option (List Text)) → Option SourceAsked
-source_asked value values = source_of_values (value (codes "TAPE"))
+source_asked value values = source_of_values (value (codes "TAPE")) (form_said value)
     (bounds_asked (value (codes "LO")) (value (codes "HI")))
-    (ranges_asked (values (codes "data"))) (ranges_asked (values (codes "text")))
-    (follow_asked (values (codes "follow")))
+    (all_ranges_asked values) (following_asked values)
     (is_flag (value (codes "labels"))) (value (codes "symbols"))
     (profile_asked (value (codes "profile")))

@@ -2,5 +2,6 @@ pub mod Asked
 pub mod CommandLine
 pub mod Marks
 pub mod Views
+pub mod Advice
 pub mod Written
 pub mod Word

@@ -1,8 +1,9 @@
 -- What is marked, and the part of an image that is written. Source: mos65.
-use Rattle.std.specs.Prelude.{ℕ, nat_le, ◌&&◌, ◌||◌, Bool, false, if◌then◌else◌, List, [], ◌∷◌, Option, Some, None, slice_set}
+use Rattle.std.specs.Prelude.{ℕ, nat_le, nat_lt, ◌&&◌, ◌||◌, Bool, false, is_some, if◌then◌else◌, List, [], ◌∷◌, length, Option, Some, None, slice_set}
 use Rattle.model.specs.Image.{cell_at}
 use Rattle.source_forms.specs.declared.mark.Mark.{Mark}
-use Rattle.source_forms.specs.declared.mark.Mark.TheVariants.{Code, Data, Text}
+use Rattle.source_forms.specs.declared.mark.Mark.TheVariants.{Code, Data, Text, Address, Return}
+use Rattle.dis_source.specs.Asked.{Ranges, SourceAsked}
 
 abbrev pub lies_in : ℕ × ℕ → ℕ → Bool
 lies_in range address = nat_le range.0 address && nat_le address range.1
@@ -12,10 +13,19 @@ abbrev pub lies_in_one : List (ℕ × ℕ) → ℕ → Bool
 lies_in_one [] address = false
 lies_in_one (range ∷ ranges) address = lies_in range address || lies_in_one ranges address
 
--- Text comes before data, and that before code. With labels the vectors, from $FFFA on, are data.
-abbrev pub mark_of : Bool → List (ℕ × ℕ) → List (ℕ × ℕ) → ℕ → Mark
-mark_of labels numbers letters address = if lies_in_one letters address then Text
-    else if lies_in_one numbers address || (labels && nat_le 65530 address) then Data else Code
+-- Text comes before numbers, these before words of RTS, these before words, and these before code.
+-- With labels the vectors, from $FFFA on, are data.
+abbrev pub mark_of : Bool → Ranges → ℕ → Mark
+mark_of labels ranges address = if lies_in_one ranges.letters address then Text
+    else if lies_in_one ranges.numbers address then Data
+    else if lies_in_one ranges.returns address then Return
+    else if lies_in_one ranges.addresses address then Address
+    else if labels && nat_le 65530 address then Data else Code
+
+-- There are labels where they are asked for, and where words or names are.
+abbrev pub has_labels : SourceAsked → Bool
+has_labels asked = asked.labels || is_some asked.symbols || nat_lt 0 (length asked.ranges.addresses)
+    || nat_lt 0 (length asked.ranges.returns)
 
 -- A cell between two addresses, and nothing elsewhere.
 abbrev pub cell_between : List (Option ℕ) → ℕ → ℕ → ℕ → Option ℕ

@@ -2,18 +2,22 @@
 use Rattle.std.specs.Prelude.{◌≡◌, ◌⊎◌, ⊤, ℕ, Bool, List, Option, Some, None}
 use Rattle.arguments.specs.declared.file_refusal.FileRefusal.{FileRefusal}
 use Rattle.arguments.specs.declared.refusal.Refusal.{Refusal}
-use Rattle.arguments.specs.declared.refusal.Refusal.TheVariants.{Source, Tape, OutOfMemory, Read}
+use Rattle.arguments.specs.declared.refusal.Refusal.TheVariants.{Source, OutOfMemory, Read}
 use Rattle.assembler.specs.Assembly.{AssemblyView, IsAssembled}
 use Rattle.clap.specs.Words.{Text}
+use Rattle.image_files.specs.Files.{EndsImage, IsOfFile}
+use Rattle.image_files.specs.declared.refusal.ImageFileRefusal.{ImageFileRefusal}
+use Rattle.image_files.specs.declared.refusal.ImageRefusal.TheVariants.{Refused}
 use Rattle.dis_source.specs.Asked.{SourceAsked}
+use Rattle.std.specs.Io.KnownBytes.{Appends}
+use Rattle.model.specs.Writers.{AppendsFront}
+use Rattle.dis_source.specs.Advice.{advice, is_at_port}
 use Rattle.dis_source.specs.Written.{IsSourceOfPart}
 use Rattle.model.specs.Names.{Definitions}
 use Rattle.model.specs.Source.{HasFault}
 use Rattle.model.specs.State.{Map}
-use Rattle.model.specs.TapePieces.{IsReadInPieces, IsRefusedInPieces}
 use Rattle.model.specs.declared.instruction.Profile.{Profile}
 use Rattle.model.specs.declared.source_fault.AsmFault.{AsmFault}
-use Rattle.model.specs.declared.tape.TapeFault.{TapeFault}
 
 -- The map by which a source of names is read: no ROM, and a port at $F000.
 abbrev pub names_map : Profile → Map
@@ -29,22 +33,30 @@ AreGiven None profile names = names ≡ None
 AreGiven (Some path) profile None = ⊥
 AreGiven (Some path) profile (Some names) = AreNames profile names
 
--- A text is the source that is asked for, of what some tape has, with the names of some source if
+-- A text is the source that is asked for, of the image of some file, with the names of some source if
 -- names are asked for.
 pub record IsSource (asked : SourceAsked) (text : List ℕ) : Type 0 where
-  pub tape : List ℕ
   pub image : List (Option ℕ)
-  pub read : IsReadInPieces tape image
+  pub read : IsOfFile asked.form image
   pub names : Option Definitions
   pub given : AreGiven asked.symbols asked.profile names
   pub written : IsSourceOfPart asked image names text
 
+-- The same, and whether its part has bytes where the port is if nothing is said.
+pub record IsSourceWith (asked : SourceAsked) (text : List ℕ) (at_port : Bool) : Type 0 where
+  pub source : IsSource asked text
+  pub same : at_port ≡ is_at_port source.written.part
+
 abbrev pub IsSaid : SourceAsked → Bool → List ℕ → Type 0
 IsSaid asked is_right text = IsSource asked text
 
--- Some tape has a fault.
-abbrev pub HasTapeFault : Type 0
-HasTapeFault = (fault : TapeFault) × ((text : List ℕ) × IsRefusedInPieces text fault)
+-- A source was written, and on the error stream a beginning of what `asm` has to be told of it, if
+-- it has to be told something.
+pub record IsDone (asked : SourceAsked) (held now errors told : Option (List ℕ)) : Type 0 where
+  pub text : List ℕ
+  pub source : IsSource asked text
+  pub written : Appends held now text
+  pub advised : AppendsFront errors told (advice (is_at_port source.written.part) asked.profile)
 
 -- Why a source of names is refused: it has this fault. Memory may run out at any source.
 abbrev pub EndsNames : Profile → List ℕ → Refusal → Type 0
@@ -67,15 +79,17 @@ EndsDefined profile OutOfMemory = ⊤
 EndsDefined profile (Read why) = ⊤
 EndsDefined profile refusal = ⊥
 
--- Why there is no source, by the file that this is of: some tape has this fault, or some source of
--- names has, or the file cannot be read. No clause can say whether memory is there.
-abbrev pub EndsAt : SourceAsked → Text → Refusal → Type 0
-EndsAt asked file (Tape fault) = (file ≡ asked.tape)
-    × ((text : List ℕ) × IsRefusedInPieces text fault)
-EndsAt asked file (Source fault) = (asked.symbols ≡ Some file) × IsNamesFault asked.profile fault
-EndsAt asked file OutOfMemory = ⊤
-EndsAt asked file (Read why) = (file ≡ asked.tape) ⊎ (asked.symbols ≡ Some file)
-EndsAt asked file refusal = ⊥
+-- Why there are no names where a file of them is asked for.
+abbrev pub EndsNamed : SourceAsked → FileRefusal → Type 0
+EndsNamed asked why = (asked.symbols ≡ Some why.file.now) × EndsDefined asked.profile why.refusal
 
-abbrev pub EndsSource : SourceAsked → FileRefusal → Type 0
-EndsSource asked why = EndsAt asked why.file.now why.refusal
+-- The same as why there is no source.
+abbrev pub EndsAtNames : SourceAsked → ImageFileRefusal → Type 0
+EndsAtNames asked why = (asked.symbols ≡ Some why.file.now)
+    × ((refusal : Refusal) × (why.why ≡ Refused refusal) × EndsDefined asked.profile refusal)
+
+-- Why there is no source, by the file that this is of: it is no image, or not read; or there are no
+-- names. No clause can say whether memory is there.
+abbrev pub EndsSource : SourceAsked → ImageFileRefusal → Type 0
+EndsSource asked why = ((why.file.now ≡ asked.tape) × EndsImage asked.form why.why)
+    ⊎ EndsAtNames asked why

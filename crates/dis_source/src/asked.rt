@@ -1,18 +1,18 @@
 //! What the words ask for.
-ghost use Rattle.std.specs.Prelude.{◌≡◌, IfErr, IfOk, None, Some, map, option_map};
+ghost use Rattle.std.specs.Prelude.{◌≡◌, IfErr, IfOk, None, Some, option_map};
 ghost use Rattle.arguments.specs.Words.{Fits, IsRefusalOf, all_values, texts};
 ghost use Rattle.clap.specs.Words.{first_value, found_of};
-ghost use Rattle.dis_source.specs.Asked.{addresses_of, all_of, bounds_asked};
-ghost use Rattle.dis_source.specs.Asked.{follow_asked, range_of, ranges_asked};
-ghost use Rattle.dis_source.specs.Asked.{source_asked};
+ghost use Rattle.dis_source.specs.Asked.{bounds_asked, source_asked};
 ghost use Rattle.dis_source.specs.CommandLine.{dis, words_asked};
 ghost use Rattle.dis_source.specs.Views.{source_view};
-ghost use Rattle.model.specs.Commands.{address_of};
 
 use crate::command::dis_source_command;
+use crate::following::{FollowWords, following_asked};
+use crate::ranges::{RangeWords, addresses, all_ranges_asked};
 use arguments::{WordsFault, is_given, matched, profile_asked, wrong_value};
 use clap::ArgMatches;
-use commands::address_of;
+use image_files::form_said;
+use image_reader::Form;
 use model::Profile;
 use std::alloc::{AllocError, Global};
 
@@ -21,109 +21,22 @@ use std::alloc::{AllocError, Global};
 pub struct SourceWords<'a> {
     /// The file to read.
     pub tape: &'a str,
+    /// Its form, if one is said.
+    pub form: Option<Form>,
     /// The first address to write.
     pub first: u16,
     /// The last address to write.
     pub last: u16,
-    /// The ranges of numbers.
-    pub numbers: Vec<(u16, u16)>,
-    /// The ranges of letters.
-    pub letters: Vec<(u16, u16)>,
-    /// Where control is followed from, if it is: from the vectors where the list is empty.
-    pub follow: Option<Vec<u16>>,
+    /// The ranges of what is no code.
+    pub ranges: RangeWords,
+    /// Where control comes in.
+    pub following: FollowWords,
     /// Whether the source has labels.
     pub labels: bool,
     /// The file with names for addresses, if there is one.
     pub symbols: Option<&'a str>,
     /// The processor whose instructions are written.
     pub profile: Profile,
-}
-
-/// Two addresses, the first at most the last, or `None` where a word writes none.
-fn addresses(low: &[u8], high: &[u8]) -> Option<(u16, u16)>
-    ensures { result ≡ addresses_of (address_of low.now) (address_of high.now) }
-{
-    match (address_of(low), address_of(high)) {
-        (Some(first), Some(last)) => {
-            if first <= last {
-                Some((first, last))
-            } else {
-                None
-            }
-        }
-        _ => None,
-    }
-}
-
-/// The addresses of `LO-HI`, or `None` for any other word.
-fn range(word: &[u8]) -> Option<(u16, u16)>
-    ensures { result ≡ range_of word.now }
-{
-    if word.len() != 9 || word[4] != b'-' {
-        return None;
-    }
-    addresses(&word[..4], &word[5..])
-}
-
-/// The ranges that words write, or `None` where one is wrong.
-fn ranges(alloc: Global, words: &[&str]) -> Result<Option<Vec<(u16, u16)>>, AllocError>
-    ensures { IfOk result (λ r. option_map (λ v. v.items) r
-        ≡ all_of range_of (map (λ w. w.now) words.now)) }
-{
-    let mut ranges = Vec::new(alloc);
-    for word in words {
-        match range(word.as_bytes()) {
-            Some(range) => ranges.push(range)?,
-            None => return Ok(None),
-        }
-    }
-    Ok(Some(ranges))
-}
-
-/// The ranges that an option asks for, none where it is not there, or `None` where one is wrong.
-fn ranges_asked(
-    alloc: Global,
-    words: Option<&[&str]>,
-) -> Result<Option<Vec<(u16, u16)>>, AllocError>
-    ensures { IfOk result (λ r. option_map (λ v. v.items) r
-        ≡ ranges_asked (option_map (λ s. map (λ w. w.now) s.now) words.entry)) }
-{
-    match words {
-        None => Ok(Some(Vec::new(alloc))),
-        Some(words) => ranges(alloc, words),
-    }
-}
-
-/// The addresses that words write, or `None` where one is wrong.
-fn address_list(alloc: Global, words: &[&str]) -> Result<Option<Vec<u16>>, AllocError>
-    ensures { IfOk result (λ r. option_map (λ v. v.items) r
-        ≡ all_of address_of (map (λ w. w.now) words.now)) }
-{
-    let mut addresses = Vec::new(alloc);
-    for word in words {
-        match address_of(word.as_bytes()) {
-            Some(address) => addresses.push(address)?,
-            None => return Ok(None),
-        }
-    }
-    Ok(Some(addresses))
-}
-
-/// Where control is followed from, if an option asks for it, or `None` where an address is wrong.
-fn follow_asked(
-    alloc: Global,
-    words: Option<&[&str]>,
-) -> Result<Option<Option<Vec<u16>>>, AllocError>
-    ensures { IfOk result (λ r. option_map (option_map (λ v. v.items)) r
-        ≡ follow_asked (option_map (λ s. map (λ w. w.now) s.now) words.entry)) }
-{
-    match words {
-        None => Ok(Some(None)),
-        Some(words) => match address_list(alloc, words)? {
-            None => Ok(None),
-            Some(addresses) => Ok(Some(Some(addresses))),
-        },
-    }
 }
 
 /// The addresses that LO and HI ask for, all where neither is there, or `None` where they are
@@ -155,16 +68,16 @@ fn source_words<'a>(
     let Some(tape) = matches.get_str("TAPE") else {
         return Ok(None);
     };
+    let Some(form) = form_said(matches) else {
+        return Ok(None);
+    };
     let Some(bounds) = bounds_asked(matches.get_str("LO"), matches.get_str("HI")) else {
         return Ok(None);
     };
-    let Some(numbers) = ranges_asked(alloc, matches.get_strs("data"))? else {
+    let Some(ranges) = all_ranges_asked(alloc, matches)? else {
         return Ok(None);
     };
-    let Some(letters) = ranges_asked(alloc, matches.get_strs("text"))? else {
-        return Ok(None);
-    };
-    let Some(follow) = follow_asked(alloc, matches.get_strs("follow"))? else {
+    let Some(following) = following_asked(alloc, matches)? else {
         return Ok(None);
     };
     let Some(profile) = profile_asked(matches.get_str("profile")) else {
@@ -172,11 +85,11 @@ fn source_words<'a>(
     };
     Ok(Some(SourceWords {
         tape,
+        form,
         first: bounds.0,
         last: bounds.1,
-        numbers,
-        letters,
-        follow,
+        ranges,
+        following,
         labels: is_given(matches, "labels"),
         symbols: matches.get_str("symbols"),
         profile,
@@ -188,7 +101,7 @@ fn wrong_word(matches: &ArgMatches<'_>) -> &'static str {
     if bounds_asked(matches.get_str("LO"), matches.get_str("HI")).is_none() {
         "LO and HI take four hex digits each, the lower first"
     } else {
-        let lists = "--data and --text take ranges as 0200-02FF, --follow takes four hex digits";
+        let lists = "ranges are 0200-02FF, addresses 0200, routines 0200=z or 0200=12";
         wrong_value(matches).unwrap_or(lists)
     }
 }
@@ -199,8 +112,8 @@ fn wrong_word(matches: &ArgMatches<'_>) -> &'static str {
 ///
 /// - `Help` if they ask for help, and `Usage` if they do not fit the command line, with `clap`'s
 ///   text.
-/// - `Wrong`: they fit, and a value is wrong: an address or a range that is none, LO without HI, or
-///   a first address above the last.
+/// - `Wrong`: they fit, and a value is wrong: an address, a range or a routine that is none, LO
+///   without HI, or a first address above the last.
 /// - `OutOfMemory`: an allocation failed.
 pub fn read_source_words<'a>(
     alloc: Global,

@@ -1,15 +1,18 @@
 //! `dis TAPE [LO HI] --source` with its options: a tape written as a source that `asm` takes.
 //!
-//! `dis_source` is the one call. It reads its words (`command`, `asked`), marks what is data and
-//! what is text (`marks`), and writes the source of the tape's image as it is asked for
-//! (`written`). The contract of `written` says that this source denotes the part of the image that
-//! is asked for, whatever is marked and named: `round_trips` and `named_source` have the theorem,
-//! and `reached` finds what control reaches.
+//! `dis_source` is the one call. It reads its words (`command`, `asked`, `ranges`, `following`),
+//! marks what is no code (`marks`), and writes the source of the tape's image as it is asked for
+//! (`written`), and what `asm` has to be told of it (`advice`). The contract of `written` says that
+//! this source denotes the part of the image that is asked for, whatever is marked and named:
+//! `round_trips` and `named_source` have the theorem, and `reached` finds what control reaches.
 #![tactic(auto)]
 
+mod advice;
 mod asked;
 mod command;
+mod following;
 mod marks;
+mod ranges;
 mod run;
 mod written;
 

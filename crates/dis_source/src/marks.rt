@@ -3,7 +3,9 @@ ghost use Rattle.std.specs.Prelude.{◌≡◌, ℕ, ◌<◌, IfOk, slice_index_o
 ghost use Rattle.model.specs.Image.{cell_at};
 ghost use Rattle.dis_source.specs.Marks.{cell_between, lies_in, lies_in_one, mark_of};
 ghost use Rattle.dis_source.specs.Marks.{with_cell};
+ghost use Rattle.dis_source.specs.Views.{ranges_view};
 
+use crate::ranges::RangeWords;
 use bus::Image;
 use round_trips::Mark;
 use std::alloc::{AllocError, Global};
@@ -28,12 +30,18 @@ fn lies_in_one(ranges: &[(u16, u16)], address: u16) -> bool
 }
 
 /// What an address is marked as.
-fn mark_of(labels: bool, numbers: &[(u16, u16)], letters: &[(u16, u16)], address: u16) -> Mark
-    ensures { result ≡ mark_of labels numbers.now letters.now address }
+fn mark_of(labels: bool, ranges: &RangeWords, address: u16) -> Mark
+    ensures { result ≡ mark_of labels (ranges_view ranges.now) address }
 {
-    if lies_in_one(letters, address) {
+    if lies_in_one(ranges.letters.as_slice(), address) {
         Mark::Text
-    } else if lies_in_one(numbers, address) | (labels & (0xfffa <= address)) {
+    } else if lies_in_one(ranges.numbers.as_slice(), address) {
+        Mark::Data
+    } else if lies_in_one(ranges.returns.as_slice(), address) {
+        Mark::Return
+    } else if lies_in_one(ranges.addresses.as_slice(), address) {
+        Mark::Address
+    } else if labels & (0xfffa <= address) {
         Mark::Data
     } else {
         Mark::Code
@@ -42,19 +50,14 @@ fn mark_of(labels: bool, numbers: &[(u16, u16)], letters: &[(u16, u16)], address
 
 /// Returns the marks of all addresses: with labels the vectors are data. The only error is that a
 /// request for memory was refused.
-pub fn marks_of(
-    alloc: Global,
-    labels: bool,
-    numbers: &[(u16, u16)],
-    letters: &[(u16, u16)],
-) -> Result<Vec<Mark>, AllocError>
+pub fn marks_of(alloc: Global, labels: bool, ranges: &RangeWords) -> Result<Vec<Mark>, AllocError>
     ensures len { IfOk result (λ marks. vec_len marks ≡ 65536) }
     ensures each { IfOk result (λ marks. (a : ℕ) → a < 65536
-        → slice_index_or marks.items a Mark.Code ≡ mark_of labels numbers.now letters.now a) }
+        → slice_index_or marks.items a Mark.Code ≡ mark_of labels (ranges_view ranges.now) a) }
 {
     let mut marks = Vec::new(alloc);
     for address in 0..65536u32 {
-        marks.push(mark_of(labels, numbers, letters, address as u16))?;
+        marks.push(mark_of(labels, ranges, address as u16))?;
     }
     Ok(marks)
 }

@@ -1,18 +1,19 @@
 //! The source of a tape, written.
-ghost use Rattle.std.specs.Prelude.{◌≡◌, ◌≢◌, ◌≤◌, ◌⊎◌, IfErr, IfOk, None, option_map, true};
-ghost use Rattle.arguments.specs.Streams.{Tells, TellsFront};
+ghost use Rattle.std.specs.Prelude.{◌≡◌, ◌≢◌, ◌≤◌, ◌⊎◌, IfErr, IfOk, None, option_map};
+ghost use Rattle.arguments.specs.Streams.{TellsFront};
 ghost use Rattle.arguments.specs.Words.{AsksForHelp, Fits, Misfits, texts};
 ghost use Rattle.dis_source.specs.CommandLine.{Asks, dis, words_asked};
 ghost use Rattle.dis_source.specs.Views.{source_view};
-ghost use Rattle.dis_source.specs.Word.{AreGiven, AreNames, EndsDefined, EndsSource, HasNamesFault};
-ghost use Rattle.dis_source.specs.Word.{HasTapeFault, IsSaid, IsSource};
+ghost use Rattle.dis_source.specs.Word.{AreGiven, AreNames, EndsDefined, EndsNamed, EndsSource};
+ghost use Rattle.dis_source.specs.Word.{HasNamesFault, IsDone, IsSaid, IsSourceWith};
+ghost use Rattle.image_files.specs.Files.{HasNoImage};
 
+use crate::advice::put_advice;
 use crate::asked::{SourceWords, read_source_words};
-use crate::written::{defined, written};
-use arguments::{
-    FileRefusal, Refusal, image_of_tape, read_source, refuse, refused_words, write_text,
-};
+use crate::written::{SourceText, defined, written};
+use arguments::{FileRefusal, Refusal, read_source, refuse, refused_words, write_text};
 use assembler::Assembly;
+use image_files::{ImageFileRefusal, ImageRefusal, image_of_file};
 use model::Profile;
 use std::io::Write;
 use std::rt::Files;
@@ -37,7 +38,7 @@ fn names_of<'a, H: Files + AllocGlobal>(
 ) -> Result<Option<Assembly>, FileRefusal<'a>>
     ensures given { IfOk result (λ names. AreGiven (source_view words.now).symbols
         words.now.profile (option_map (λ a. a.names) names)) }
-    ensures refused { IfErr result (EndsSource (source_view words.now)) }
+    ensures refused { IfErr result (EndsNamed (source_view words.now)) }
 {
     let Some(file) = words.symbols else {
         return Ok(None);
@@ -48,28 +49,35 @@ fn names_of<'a, H: Files + AllocGlobal>(
     }
 }
 
-/// Returns the source of what a tape's file has between the addresses of the words, with the words'
-/// marks.
+/// Returns the source of what an image's file has between the addresses of the words, with the
+/// words' marks.
+#[tactic(auto, using(crate::proofs::Ended::names_end))]
 fn text_of<'a, H: Files + AllocGlobal>(
     rt: &H,
     words: &SourceWords<'a>,
-) -> Result<Vec<u8>, FileRefusal<'a>>
-    ensures source { IfOk result (λ text. IsSource (source_view words.now) text.items) }
+) -> Result<SourceText, ImageFileRefusal<'a>>
+    ensures source { IfOk result
+        (λ w. IsSourceWith (source_view words.now) w.text.items w.at_port) }
     ensures refused { IfErr result (EndsSource (source_view words.now)) }
 {
     let file = words.tape;
-    let image = image_of_tape(rt, file).map_err(|refusal| FileRefusal { file, refusal })?;
+    let image = match image_of_file(rt, file, words.form) {
+        Ok(image) => image,
+        Err(why) => return Err(ImageFileRefusal { file, why }),
+    };
     let names = names_of(rt, words)?;
     match written(rt.alloc(), words, &image, names.as_ref()) {
-        Ok(text) => Ok(text),
-        Err(_) => Err(FileRefusal {
+        Ok(source) => Ok(source),
+        Err(_) => Err(ImageFileRefusal {
             file,
-            refusal: Refusal::OutOfMemory,
+            why: ImageRefusal::Refused(Refusal::OutOfMemory),
         }),
     }
 }
 
-/// Writes the source that the words ask for, or why there is none, and returns the exit status.
+/// Writes the source that the words ask for, and what `asm` has to be told of it, or why there is
+/// none, and returns the exit status.
+#[tactic(auto, using(crate::proofs::Ended::not_written, crate::proofs::Images::is_done, crate::proofs::Images::is_begun))]
 fn done<H: Files + AllocGlobal, O: Write, E: Write>(
     rt: &H,
     words: &SourceWords<'_>,
@@ -78,17 +86,19 @@ fn done<H: Files + AllocGlobal, O: Write, E: Write>(
 ) -> u8
     ensures status { result ≤ 4 }
     ensures untouched { 1 ≤ result → result ≤ 3 → output.new ≡ output.old }
-    ensures quiet { result ≡ 0 → errors.new ≡ errors.old }
-    ensures done { result ≡ 0 → Tells (IsSaid (source_view words.now)) true
-        (O.contents output.old) (O.contents output.new) }
-    ensures wrong { result ≡ 1 → HasTapeFault ⊎ HasNamesFault words.now.profile }
+    ensures done { result ≡ 0 → IsDone (source_view words.now) (O.contents output.old)
+        (O.contents output.new) (E.contents errors.old) (E.contents errors.new) }
+    ensures wrong { result ≡ 1 → HasNoImage words.now.form ⊎ HasNamesFault words.now.profile }
     ensures never { result ≢ 2 }
     ensures begun { result ≡ 4 → TellsFront (IsSaid (source_view words.now))
         (O.contents output.old) (O.contents output.new) ⊎ (output.new ≡ output.old) }
 {
     match text_of(rt, words) {
-        Ok(text) => match write_text(output, text.as_slice()) {
-            Ok(()) => 0,
+        Ok(source) => match write_text(output, source.text.as_slice()) {
+            Ok(()) => {
+                put_advice(source.at_port, words.profile, errors);
+                0
+            }
             Err(_) => refuse(Refusal::Write, errors),
         },
         Err(why) => why.tell(errors),
@@ -98,11 +108,12 @@ fn done<H: Files + AllocGlobal, O: Write, E: Write>(
 /// Does what the words after `dis` ask for if `--source` is among them, and returns the exit
 /// status.
 ///
-/// It is 0 if the source was written, 1 if the tape or the source of names has a fault, 2 if the
-/// words are wrong, 3 if memory ran out, 4 if reading or writing failed. For each but 0 a line on
-/// `errors` says why, with the name of the file that has the fault or cannot be read; the status
-/// is the same if it cannot be written. The text is whole, and each file closed, before any of it
-/// is written.
+/// It is 0 if the source was written, 1 if the file is no image or the source of names has a fault,
+/// 2 if the words are wrong, 3 if memory ran out, 4 if reading or writing failed. For each but 0 a
+/// line on `errors` says why, with the name of the file that has the fault or cannot be read. For 0
+/// a line there says which options `asm` needs for the source, if it needs some. The status is the
+/// same if the line cannot be written. The text is whole, and each file closed, before any of it is
+/// written.
 pub fn dis_source<H: Files + AllocGlobal, O: Write, E: Write>(
     rt: &H,
     words: &[&str],
@@ -110,19 +121,18 @@ pub fn dis_source<H: Files + AllocGlobal, O: Write, E: Write>(
     errors: &mut E,
 ) -> u8
     ensures status { result ≤ 4 }
-    // Where it is done nothing is said on the error stream.
-    ensures quiet { result ≡ 0 → errors.new ≡ errors.old }
-    // A tape or words that are refused leave the output as it was, and so it is where memory ran
+    // A file or words that are refused leave the output as it was, and so it is where memory ran
     // out.
     ensures untouched { 1 ≤ result → result ≤ 3 → output.new ≡ output.old }
-    // 0 means that a source was written of what some tape has between the addresses of the words,
-    // or that it is help that is asked for.
+    // 0 means that a source was written of what the image of some file has between the addresses of
+    // the words, and on the error stream what `asm` has to be told; or that help is asked for.
     ensures done { result ≡ 0 → AsksForHelp dis (texts words.entry.now)
-        ⊎ Asks (texts words.entry.now) (λ asked. Tells (IsSaid asked) true
-        (O.contents output.old) (O.contents output.new)) }
-    // 1 means that some tape has a fault, or some source of names for the words' processor.
+        ⊎ Asks (texts words.entry.now) (λ asked. IsDone asked (O.contents output.old)
+        (O.contents output.new) (E.contents errors.old) (E.contents errors.new)) }
+    // 1 means that some file is no image, or that some source of names has a fault for the words'
+    // processor.
     ensures wrong { result ≡ 1 → Asks (texts words.entry.now)
-        (λ asked. HasTapeFault ⊎ HasNamesFault asked.profile) }
+        (λ asked. HasNoImage asked.form ⊎ HasNamesFault asked.profile) }
     // 2 means that the words do not fit, or that a value is wrong.
     ensures refused { result ≡ 2 → Misfits dis (texts words.entry.now)
         ⊎ (Fits dis (texts words.entry.now)

@@ -1,14 +1,19 @@
 //! The source that the words ask for.
 
-ghost use Rattle.std.specs.Prelude.{◌≡◌, IfErr, IfOk, false, option_map};
+ghost use Rattle.std.specs.Prelude.{◌≡◌, ◌++◌, IfErr, IfOk, OnOk, false, option_map};
 ghost use Rattle.dis_source.specs.Views.{source_view};
 ghost use Rattle.dis_source.specs.Word.{AreNames, EndsNames, names_map};
-ghost use Rattle.dis_source.specs.Written.{AreMarkedBy, IsSourceOfPart, IsText, starts_of};
+ghost use Rattle.dis_source.specs.Marks.{has_labels};
+ghost use Rattle.dis_source.specs.Views.{following_view};
+ghost use Rattle.dis_source.specs.Written.{AreMarked, AreMarkedBy, IsText, IsWritten, entries};
+ghost use Rattle.dis_source.specs.Written.{is_followed, listed, starts_of};
+ghost use Rattle.reached.specs.Reached.{AreFollowed};
 ghost use Rattle.model.specs.Source.{Denotes};
 ghost use Rattle.model.specs.State.{Map, has_port_byte};
-ghost use Rattle.reached.specs.Reached.{AreFollowed};
 
+use crate::advice::is_at_port;
 use crate::asked::SourceWords;
+use crate::following::FollowWords;
 use crate::marks::{between, marks_of};
 use arguments::{Refusal, map_of};
 use assembler::{Assembly, assemble};
@@ -16,7 +21,7 @@ use bus::{Image, Port};
 use model::Profile;
 use named_source::named_text;
 use reached::{followed_marks, vectors};
-use round_trips::{Mark, labelled_text, source_text};
+use round_trips::{Mark, flagged_text, labelled_text};
 use std::alloc::{AllocError, Global};
 
 /// Returns what a source with names for addresses defines.
@@ -34,46 +39,100 @@ pub fn defined(alloc: Global, profile: Profile, source: &[u8]) -> Result<Assembl
     Ok(names)
 }
 
-/// Follows control from these addresses, or from the vectors where there is none, and returns the
-/// marks after that.
-fn followed(
-    alloc: Global,
-    profile: Profile,
-    part: &Image,
-    marks: &[Mark],
-    starts: &[u16],
-) -> Result<Vec<Mark>, AllocError>
-    ensures { IfOk result (λ followed. AreFollowed profile part.now marks.now
-        (starts_of part.now starts.now) followed.items) }
+/// Whether control is followed.
+fn is_followed(following: &FollowWords) -> bool
+    ensures { result ≡ is_followed (following_view following.now) }
 {
-    if starts.is_empty() {
-        let entries = vectors(part);
-        followed_marks(alloc, profile, part, marks, entries.as_slice())
-    } else {
-        followed_marks(alloc, profile, part, marks, starts)
+    following.only.is_some() || following.more.is_some() || following.routines.len() > 0
+}
+
+/// Appends addresses, if there are some.
+fn push_listed(starts: &mut Vec<u16>, more: &Option<Vec<u16>>) -> Result<(), AllocError>
+    ensures { OnOk result (starts.new.items
+        ≡ starts.old.items ++ listed (option_map (λ v. v.items) more.now)) }
+{
+    if let Some(more) = more {
+        starts.extend_from_slice(more.as_slice())?;
+    }
+    Ok(())
+}
+
+/// Appends the vectors, or the addresses in place of them.
+fn push_entries(
+    starts: &mut Vec<u16>,
+    part: &Image,
+    only: &Option<Vec<u16>>,
+) -> Result<(), AllocError>
+    ensures { OnOk result (starts.new.items
+        ≡ starts.old.items ++ entries part.now (option_map (λ v. v.items) only.now)) }
+{
+    match only {
+        None => starts.extend_from_slice(vectors(part).as_slice()),
+        Some(only) => starts.extend_from_slice(only.as_slice()),
     }
 }
 
-/// The marks that the words ask for.
-fn marked(alloc: Global, words: &SourceWords<'_>, part: &Image) -> Result<Vec<Mark>, AllocError>
-    ensures { IfOk result (λ marks. AreMarkedBy (source_view words.now).follow
-        (source_view words.now) part.now marks.items) }
+/// Where control comes in.
+fn starts_of(alloc: Global, part: &Image, following: &FollowWords) -> Result<Vec<u16>, AllocError>
+    ensures { IfOk result (λ starts. starts.items
+        ≡ starts_of part.now (following_view following.now)) }
 {
-    let marks = marks_of(
+    let mut starts = Vec::new(alloc);
+    push_entries(&mut starts, part, &following.only)?;
+    push_listed(&mut starts, &following.more)?;
+    Ok(starts)
+}
+
+/// Whether there are labels.
+fn has_labels(words: &SourceWords<'_>) -> bool
+    ensures { result ≡ has_labels (source_view words.now) }
+{
+    words.labels
+        || words.symbols.is_some()
+        || words.ranges.addresses.len() > 0
+        || words.ranges.returns.len() > 0
+}
+
+/// The marks of the ranges.
+fn plain_marks(alloc: Global, words: &SourceWords<'_>) -> Result<Vec<Mark>, AllocError>
+    ensures { IfOk result (λ marks. AreMarked (source_view words.now) marks.items) }
+{
+    marks_of(alloc, has_labels(words), &words.ranges)
+}
+
+/// The marks after control was followed.
+fn followed(
+    alloc: Global,
+    words: &SourceWords<'_>,
+    part: &Image,
+    plain: &[Mark],
+) -> Result<Vec<Mark>, AllocError>
+    ensures { IfOk result (λ marks. AreFollowed words.now.profile part.now plain.now
+        (following_view words.now.following).routines
+        (starts_of part.now (following_view words.now.following)) marks.items) }
+{
+    let starts = starts_of(alloc, part, &words.following)?;
+    let routines = words.following.routines.as_slice();
+    followed_marks(
         alloc,
-        words.labels | words.symbols.is_some(),
-        words.numbers.as_slice(),
-        words.letters.as_slice(),
-    )?;
-    match &words.follow {
-        None => Ok(marks),
-        Some(starts) => followed(
-            alloc,
-            words.profile,
-            part,
-            marks.as_slice(),
-            starts.as_slice(),
-        ),
+        words.profile,
+        part,
+        plain,
+        routines,
+        starts.as_slice(),
+    )
+}
+
+/// The marks that the words ask for.
+#[tactic(auto, using(crate::proofs::Parts::unfollowed, crate::proofs::Parts::followed))]
+fn marked(alloc: Global, words: &SourceWords<'_>, part: &Image) -> Result<Vec<Mark>, AllocError>
+    ensures { IfOk result (λ marks. AreMarkedBy (source_view words.now) part.now marks.items) }
+{
+    let plain = plain_marks(alloc, words)?;
+    if is_followed(&words.following) {
+        followed(alloc, words, part, plain.as_slice())
+    } else {
+        Ok(plain)
     }
 }
 
@@ -93,30 +152,43 @@ fn source_of(
     match names {
         Some(names) => named_text(alloc, words.profile, image, marks, names),
         None => {
-            if words.labels {
+            if has_labels(words) {
                 labelled_text(alloc, words.profile, image, marks)
             } else {
-                source_text(alloc, words.profile, image, marks)
+                flagged_text(alloc, words.profile, image, marks, &[])
             }
         }
     }
 }
 
+/// What is written, and what `asm` has to be told of it.
+#[derive(Drop)]
+pub struct SourceText {
+    /// The source.
+    pub text: Vec<u8>,
+    /// Whether the image has bytes at the port.
+    pub at_port: bool,
+}
+
 /// Returns the source of what an image has between the addresses of the words, as the words ask for
-/// it: whatever they mark and name, it denotes exactly this. The only error is that a request for
-/// memory was refused.
+/// it: whatever they mark and name, it denotes exactly this. With it comes whether this has bytes
+/// at the port. The only error is that a request for memory was refused.
 pub fn written(
     alloc: Global,
     words: &SourceWords<'_>,
     image: &Image,
     names: Option<&Assembly>,
-) -> Result<Vec<u8>, AllocError>
-    ensures { IfOk result (λ text. IsSourceOfPart (source_view words.now) image.now
-        (option_map (λ a. a.now.names) names.entry) text.items) }
+) -> Result<SourceText, AllocError>
+    ensures { IfOk result (λ w. IsWritten (source_view words.now) image.now
+        (option_map (λ a. a.now.names) names.entry) w.text.items w.at_port) }
 {
     let Ok(part) = between(alloc, image, words.first, words.last) else {
         return Err(AllocError);
     };
     let marks = marked(alloc, words, &part)?;
-    source_of(alloc, words, &part, marks.as_slice(), names)
+    let text = source_of(alloc, words, &part, marks.as_slice(), names)?;
+    Ok(SourceText {
+        text,
+        at_port: is_at_port(&part),
+    })
 }

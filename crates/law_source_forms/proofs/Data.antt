@@ -20,7 +20,7 @@ use Rattle.law_texts.proofs.Said.{written}
 use Rattle.law_texts.proofs.Forms.{of_number}
 use Rattle.law_texts.proofs.InstructionIsRead.{byte_number, high, low}
 use Rattle.law_texts.proofs.Alone.{byte_again}
-use Rattle.source_forms.specs.Rows.{more_bytes, data_row, string_row}
+use Rattle.source_forms.specs.Rows.{more_bytes, data_text, string_text}
 use Rattle.law_source_forms.proofs.Cut.{IsPlain}
 use Rattle.law_source_forms.proofs.Stands.{Stands, fixed_at, placed_at}
 
@@ -34,35 +34,43 @@ abbrev more_tokens : ℕ → List ℕ → List Lexeme
 more_tokens p [] = []
 more_tokens p (b ∷ bs) = symbol p 44 ∷ number (p + 1) (byte_text b) ∷ more_tokens (p + 1 + 1 + 1 + 1) bs
 
-no_digit : (bs : List ℕ) → run_of is_hex_byte (more_bytes bs) ≡ []
-no_digit [] = refl
-no_digit (b ∷ bs) = refl
+-- what may stand behind numbers, and says nothing
+pub record IsNote (note : List ℕ) : Type 0 where
+  pub none : (p : ℕ) → tokens_from p 0 note ≡ Some []
+  pub no_digit : run_of is_hex_byte note ≡ []
+  pub no_word : begins is_word_byte note ≡ false
+  pub plain : IsPlain note
+  pub few : length note ≤ 32
 
-no_word : (bs : List ℕ) → begins is_word_byte (more_bytes bs) ≡ false
-no_word [] = refl
-no_word (b ∷ bs) = refl
+pub no_note : IsNote []
+unfolding tokens_from
+no_note = record { none = λ p. refl; no_digit = refl; no_word = refl; plain = refl; few = omega arith }
+
+no_digit : (bs note : List ℕ) → IsNote note → run_of is_hex_byte (more_bytes bs ++ note) ≡ []
+no_digit [] note is = is.no_digit
+no_digit (b ∷ bs) note is = refl
+
+no_word : (bs note : List ℕ) → IsNote note → begins is_word_byte (more_bytes bs ++ note) ≡ false
+no_word [] note is = is.no_word
+no_word (b ∷ bs) note is = refl
 
 comma_first : (p : ℕ) (rest : List ℕ) → tokens_from p 0 (44 ∷ rest) ≡ before (symbol p 44)
     (tokens_from (p + 1) 0 rest)
 unfolding tokens_from token_at
 comma_first p rest = refl
 
-at_end : (p : ℕ) → tokens_from p 0 [] ≡ Some []
-unfolding tokens_from
-at_end p = refl
+number_first : (p b : ℕ) (bs note : List ℕ) → b < 256 → IsNote note
+    → tokens_from p 0 (byte_text b ++ (more_bytes bs ++ note)) ≡ before (number p (byte_text b))
+    (tokens_from (p + 1 + 1 + 1) 0 (more_bytes bs ++ note))
+number_first p b bs note below is = byte_first p _ _ _ _ (more_bytes bs ++ note) (high b below) (low b) (no_digit bs note is) (no_word bs note is)
 
-number_first : (p b : ℕ) (bs : List ℕ) → b < 256
-    → tokens_from p 0 (byte_text b ++ more_bytes bs) ≡ before (number p (byte_text b))
-    (tokens_from (p + 1 + 1 + 1) 0 (more_bytes bs))
-number_first p b bs below = byte_first p _ _ _ _ (more_bytes bs) (high b below) (low b) (no_digit bs) (no_word bs)
-
-more_found : (p : ℕ) (bs : List ℕ) → AreSmall bs
-    → tokens_from p 0 (more_bytes bs) ≡ Some (more_tokens p bs)
-more_found p [] small = at_end p
-more_found p (b ∷ bs) small =
-    comma_first p (byte_text b ++ more_bytes bs)
-    ∙ ap (before (symbol p 44)) (number_first (p + 1) b bs small.0)
-    ∙ ap (λ (t : Tokens). before (symbol p 44) (before (number (p + 1) (byte_text b)) t)) (more_found (p + 1 + 1 + 1 + 1) bs small.1)
+more_found : (p : ℕ) (bs note : List ℕ) → AreSmall bs → IsNote note
+    → tokens_from p 0 (more_bytes bs ++ note) ≡ Some (more_tokens p bs)
+more_found p [] note small is = is.none p
+more_found p (b ∷ bs) note small is =
+    comma_first p (byte_text b ++ (more_bytes bs ++ note))
+    ∙ ap (before (symbol p 44)) (number_first (p + 1) b bs note small.0 is)
+    ∙ ap (λ (t : Tokens). before (symbol p 44) (before (number (p + 1) (byte_text b)) t)) (more_found (p + 1 + 1 + 1 + 1) bs note small.1 is)
 
 abbrev directive : Lexeme
 directive = record { kind = Directive; start = 0; text = codes ".BYTE" }
@@ -105,38 +113,41 @@ line_found profile b bs = rw (items_found bs (suc (length (more_tokens 9 bs))) 6
 
 -- ---- numbers: the line
 
-length_more : (bs : List ℕ) → length (more_bytes bs) ≡ 4 * length bs
-length_more [] = refl
-length_more (b ∷ bs) = omega (arith, length_more bs)
+length_more : (bs note : List ℕ) → length (more_bytes bs ++ note) ≡ 4 * length bs + length note
+length_more [] note = omega arith
+length_more (b ∷ bs) note = omega (arith, length_more bs note)
 
-more_plain : (bs : List ℕ) → AreSmall bs → IsPlain (more_bytes bs)
-more_plain [] small = refl
-more_plain (b ∷ bs) small = rw ((high b small.0).source, (low b).source) (more_plain bs small.1)
+more_plain : (bs note : List ℕ) → AreSmall bs → IsNote note → IsPlain (more_bytes bs ++ note)
+more_plain [] note small is = is.plain
+more_plain (b ∷ bs) note small is = rw ((high b small.0).source, (low b).source) (more_plain bs note small.1 is)
 
 none_reserved : (profile : Profile) (bs : List ℕ) → list_any (item_reserves profile)
     (values bs) ≡ false
 none_reserved profile [] = refl
 none_reserved profile (b ∷ bs) = none_reserved profile bs
 
-line_plain : (b : ℕ) (bs : List ℕ) → b < 256 → AreSmall bs → IsPlain (data_row (b ∷ bs)).text
-line_plain b bs below small = rw ((high b below).source, (low b).source) (more_plain bs small)
+line_plain : (b : ℕ) (bs note : List ℕ) → b < 256 → AreSmall bs → IsNote note
+    → IsPlain (data_text (b ∷ bs) note)
+line_plain b bs note below small is = rw ((high b below).source, (low b).source) (more_plain bs note small is)
 
-data_tokens : (b : ℕ) (bs : List ℕ) → b < 256 → AreSmall bs
-    → tokens_from 0 0 (data_row (b ∷ bs)).text
+data_tokens : (b : ℕ) (bs note : List ℕ) → b < 256 → AreSmall bs → IsNote note
+    → tokens_from 0 0 (data_text (b ∷ bs) note)
     ≡ Some (directive ∷ number 6 (byte_text b) ∷ more_tokens 9 bs)
-data_tokens b bs below small =
-    directive_first (byte_text b ++ more_bytes bs) ∙ ap (before directive) (number_first 6 b bs below)
-    ∙ ap (λ (t : Tokens). before directive (before (number 6 (byte_text b)) t)) (more_found 9 bs small)
+data_tokens b bs note below small is =
+    directive_first (byte_text b ++ (more_bytes bs ++ note)) ∙ ap (before directive) (number_first 6 b bs note below is)
+    ∙ ap (λ (t : Tokens). before directive (before (number 6 (byte_text b)) t)) (more_found 9 bs note small is)
 
-pub length_data : (b : ℕ) (bs : List ℕ) → length (data_row (b ∷ bs)).text ≡ 9 + 4 * length bs
-length_data b bs = omega (arith, length_more bs)
+pub length_data : (b : ℕ) (bs note : List ℕ)
+    → length (data_text (b ∷ bs) note) ≡ 9 + 4 * length bs + length note
+length_data b bs note = omega (arith, length_more bs note)
 
-data_said : (profile : Profile) (b : ℕ) (bs : List ℕ) → b < 256 → AreSmall bs → length bs < 8
-    → read_line profile (data_row (b ∷ bs)).text ≡ Ok (labelled None (bytes (numbered (b ∷ bs))))
+data_said : (profile : Profile) (b : ℕ) (bs note : List ℕ) → b < 256 → AreSmall bs → length bs < 8
+    → IsNote note
+    → read_line profile (data_text (b ∷ bs) note) ≡ Ok (labelled None (bytes (numbered (b ∷ bs))))
 unfolding read_line tokens_of
-data_said profile b bs below small few =
-    let fits : length (data_row (b ∷ bs)).text ≤ 255 = omega (arith, length_data b bs) in
-    rw (le-ltb 255 (length (data_row (b ∷ bs)).text) fits, line_plain b bs below small, data_tokens b bs below small, line_found profile b bs, none_reserved profile (b ∷ bs), values_are (b ∷ bs) (below, small)) refl
+data_said profile b bs note below small few is =
+    let fits : length (data_text (b ∷ bs) note) ≤ 255 = omega (arith, length_data b bs note, is.few) in
+    rw (le-ltb 255 (length (data_text (b ∷ bs) note)) fits, line_plain b bs note below small is, data_tokens b bs note below small is, line_found profile b bs, none_reserved profile (b ∷ bs), values_are (b ∷ bs) (below, small)) refl
 
 -- ---- numbers: their bytes
 
@@ -186,14 +197,14 @@ unfolding line_bytes pieces_of
 pieces_bytes numbers a items bs is = is
 
 module _ (Near : Definitions → Type 0) (Final : Numbers → Type 0) (profile : Profile) (a : ℕ) where
-  pub data_stands : (b : ℕ) (bs : List ℕ) → b < 256 → AreSmall bs → length bs < 8 → Stands Near Final profile (data_row (b ∷ bs)).text a (b ∷ bs)
-  data_stands b bs below small few =
-      let read = data_said profile b bs below small few in
+  pub data_stands : (b : ℕ) (bs note : List ℕ) → b < 256 → AreSmall bs → length bs < 8 → IsNote note → Stands Near Final profile (data_text (b ∷ bs) note) a (b ∷ bs)
+  data_stands b bs note below small few is =
+      let read = data_said profile b bs note below small few is in
       record {
         content = byte_list (numbered (b ∷ bs));
-        plain = line_plain b bs below small;
+        plain = line_plain b bs note below small is;
         goes_on = rw read refl;
-        laid = λ names near. bytes_laid profile (data_row (b ∷ bs)).text (numbered (b ∷ bs)) a (length (b ∷ bs)) names read (size_numbered (b ∷ bs));
+        laid = λ names near. bytes_laid profile (data_text (b ∷ bs) note) (numbered (b ∷ bs)) a (length (b ∷ bs)) names read (size_numbered (b ∷ bs));
         size = size_is (numbered (b ∷ bs)) ∙ size_numbered (b ∷ bs);
         right = λ numbers final more. pieces_are_right numbers a (numbered (b ∷ bs)) more (numbered_right numbers a (b ∷ bs) (below, small) more);
         bytes_are = λ numbers final. pieces_bytes numbers a (numbered (b ∷ bs)) (b ∷ bs) (numbered_bytes numbers a (b ∷ bs) (below, small));
@@ -240,7 +251,7 @@ string_first b bs letters =
     rw (string_found b bs letters, rest, covered 7 ((b ∷ bs) ++ 34 ∷ [])) refl
 
 string_tokens : (b : ℕ) (bs : List ℕ) → AreLetters (b ∷ bs)
-    → tokens_from 0 0 (string_row (b ∷ bs)).text ≡ Some (directive ∷ string_token (b ∷ bs) ∷ [])
+    → tokens_from 0 0 (string_text (b ∷ bs)) ≡ Some (directive ∷ string_token (b ∷ bs) ∷ [])
 string_tokens b bs letters = directive_first (quoted (b ∷ bs)) ∙ ap (before directive) (string_first b bs letters)
 
 inside : (bs : List ℕ) → take (length bs) (bs ++ 34 ∷ []) ≡ bs
@@ -270,16 +281,16 @@ letters_plain : (bs : List ℕ) → AreLetters bs → IsPlain (bs ++ 34 ∷ [])
 letters_plain [] letters = refl
 letters_plain (b ∷ bs) letters = rw (letter_plain b letters.0) (letters_plain bs letters.1)
 
-pub length_string : (bs : List ℕ) → length (string_row bs).text ≡ 8 + length bs
+pub length_string : (bs : List ℕ) → length (string_text bs) ≡ 8 + length bs
 length_string bs = omega (arith, length_quoted bs)
 
 string_said : (profile : Profile) (b : ℕ) (bs : List ℕ) → AreLetters (b ∷ bs) → length bs < 32
-    → read_line profile (string_row (b ∷ bs)).text
+    → read_line profile (string_text (b ∷ bs))
     ≡ Ok (labelled None (bytes (string (b ∷ bs) ∷ [])))
 unfolding read_line tokens_of
 string_said profile b bs letters few =
-    let fits : length (string_row (b ∷ bs)).text ≤ 255 = omega (arith, length_string (b ∷ bs)) in
-    rw (le-ltb 255 (length (string_row (b ∷ bs)).text) fits, letters_plain (b ∷ bs) letters, string_tokens b bs letters, string_line_found profile (b ∷ bs)) refl
+    let fits : length (string_text (b ∷ bs)) ≤ 255 = omega (arith, length_string (b ∷ bs)) in
+    rw (le-ltb 255 (length (string_text (b ∷ bs))) fits, letters_plain (b ∷ bs) letters, string_tokens b bs letters, string_line_found profile (b ∷ bs)) refl
 
 string_right : (numbers : Numbers) (a : ℕ) (bs : List ℕ) (more : List (Option AsmFaultKind))
     → lowest (kinds_in (map (λ i. item_piece numbers a i) (string bs ∷ [])) ++ more) ≡ lowest more
@@ -294,14 +305,14 @@ string_size : (bs : List ℕ) → items_size (string bs ∷ []) ≡ length bs
 string_size bs = omega arith
 
 module _ (Near : Definitions → Type 0) (Final : Numbers → Type 0) (profile : Profile) (a : ℕ) where
-  pub string_stands : (b : ℕ) (bs : List ℕ) → AreLetters (b ∷ bs) → length bs < 32 → Stands Near Final profile (string_row (b ∷ bs)).text a (b ∷ bs)
+  pub string_stands : (b : ℕ) (bs : List ℕ) → AreLetters (b ∷ bs) → length bs < 32 → Stands Near Final profile (string_text (b ∷ bs)) a (b ∷ bs)
   string_stands b bs letters few =
       let read = string_said profile b bs letters few in
       record {
         content = byte_list (string (b ∷ bs) ∷ []);
         plain = letters_plain (b ∷ bs) letters;
         goes_on = rw read refl;
-        laid = λ names near. bytes_laid profile (string_row (b ∷ bs)).text (string (b ∷ bs) ∷ []) a (length (b ∷ bs)) names read (string_size (b ∷ bs));
+        laid = λ names near. bytes_laid profile (string_text (b ∷ bs)) (string (b ∷ bs) ∷ []) a (length (b ∷ bs)) names read (string_size (b ∷ bs));
         size = size_is (string (b ∷ bs) ∷ []) ∙ string_size (b ∷ bs);
         right = λ numbers final more. pieces_are_right numbers a (string (b ∷ bs) ∷ []) more (string_right numbers a (b ∷ bs) more);
         bytes_are = λ numbers final. pieces_bytes numbers a (string (b ∷ bs) ∷ []) (b ∷ bs) (string_bytes numbers a (b ∷ bs));

@@ -267,34 +267,34 @@ module _ (m : Map) (cells : List (Option ℕ)) (marks : List Mark) (flags : List
   opening_sized a false lines room h = omega (arith, h)
 
   row_sized : (n left a b : ℕ) (ends : Bool) → cell_at cells a ≡ Some b
-      → ((l k : ℕ) → length (flat_map ended (Lines n l k true)) ≤ 13 * (65536 - k) + 8 * l + 0) → (named : Bool) → is_named flags left a (piece a b) ≡ named
-      → length (flat_map ended (opened ends a ++ (labelled_lines_of named a ++ text_of m.profile table a (piece a b) ∷ Lines n (left_after named left) (a + len_of (piece a b)) true))) ≤ 13 * (65536 - a) + 8 * left + extra ends
+      → ((l k : ℕ) → length (flat_map ended (Lines n l k true)) ≤ 14 * (65536 - k) + 8 * l + 0) → (named : Bool) → is_named flags left a (piece a b) ≡ named
+      → length (flat_map ended (opened ends a ++ (labelled_lines_of named a ++ text_of m.profile table a (piece a b) ∷ Lines n (left_after named left) (a + len_of (piece a b)) true))) ≤ 14 * (65536 - a) + 8 * left + extra ends
   row_sized n left a b ends e next named is =
       let r = has a b e in
       let after = a + len_of (piece a b) in
       let line = text_of m.profile table a (piece a b) in
       let lines = Lines n (left_after named left) after true in
       let fits : a + len_of (piece a b) ≤ 65536 = omega (arith, shown_within cells a r.bytes (omega (arith, r.size, r.some)) r.shows, r.size, image.size) in
-      let these : length (flat_map ended (line ∷ lines)) ≤ 13 * (65536 - a) + 8 * left_after named left = omega (arith, line_size line (flat_map ended lines), next (left_after named left) after, r.short, fits) in
-      opening_sized a ends (labelled_lines_of named a ++ line ∷ lines) (13 * (65536 - a) + 8 * left) (label_sized left a b (line ∷ lines) named is (13 * (65536 - a)) these)
+      let these : length (flat_map ended (line ∷ lines)) ≤ 14 * (65536 - a) + 8 * left_after named left = omega (arith, line_size line (flat_map ended lines), next (left_after named left) after, r.short, fits) in
+      opening_sized a ends (labelled_lines_of named a ++ line ∷ lines) (14 * (65536 - a) + 8 * left) (label_sized left a b (line ∷ lines) named is (14 * (65536 - a)) these)
 
-  gap_sized : (n left a : ℕ) (ends : Bool) → length (flat_map ended (Lines n left (a + 1) false)) ≤ 13 * (65536 - (a + 1)) + 8 * left + 8
-      → length (flat_map ended (Lines n left (a + 1) false)) ≤ 13 * (65536 - a) + 8 * left + extra ends
+  gap_sized : (n left a : ℕ) (ends : Bool) → length (flat_map ended (Lines n left (a + 1) false)) ≤ 14 * (65536 - (a + 1)) + 8 * left + 8
+      → length (flat_map ended (Lines n left (a + 1) false)) ≤ 14 * (65536 - a) + 8 * left + extra ends
   gap_sized n left a ends rest = elim (cases_Bool (nat_lt a 65536)) [
     | inl t ↦ let small : a < 65536 = ltb-true a 65536 t in omega (arith, rest)
     | inr f ↦ let past : 65536 ≤ a = ltb-false a 65536 f in rw (behind n left (a + 1) false (omega (arith, past))) (omega arith)
   ]
 
-  size : (n left a : ℕ) (ends : Bool) → length (flat_map ended (Lines n left a ends)) ≤ 13 * (65536 - a) + 8 * left + extra ends
+  size : (n left a : ℕ) (ends : Bool) → length (flat_map ended (Lines n left a ends)) ≤ 14 * (65536 - a) + 8 * left + extra ends
   unfolding labelled_lines
   size zero left a ends = omega arith
   size (suc n) left a ends = on (cell_at cells a) refl (size n left (a + 1) false) (λ l k. size n l k true)
     where
-      on : (c : Option ℕ) → cell_at cells a ≡ c → length (flat_map ended (Lines n left (a + 1) false)) ≤ 13 * (65536 - (a + 1)) + 8 * left + 8
-          → ((l k : ℕ) → length (flat_map ended (Lines n l k true)) ≤ 13 * (65536 - k) + 8 * l + 0)
+      on : (c : Option ℕ) → cell_at cells a ≡ c → length (flat_map ended (Lines n left (a + 1) false)) ≤ 14 * (65536 - (a + 1)) + 8 * left + 8
+          → ((l k : ℕ) → length (flat_map ended (Lines n l k true)) ≤ 14 * (65536 - k) + 8 * l + 0)
           → length (flat_map ended (by_cell c (Lines n left (a + 1) false)
           (λ b. let p = piece_at m.profile cells marks flags a b in let named = is_named flags left a p in
-          opened ends a ++ (labelled_lines_of named a ++ text_of m.profile table a p ∷ Lines n (left_after named left) (a + len_of p) true)))) ≤ 13 * (65536 - a) + 8 * left + extra ends
+          opened ends a ++ (labelled_lines_of named a ++ text_of m.profile table a p ∷ Lines n (left_after named left) (a + len_of p) true)))) ≤ 14 * (65536 - a) + 8 * left + extra ends
       on None e gap next = gap_sized n left a ends gap
       on (Some b) e gap next = row_sized n left a b ends e next (is_named flags left a (piece a b)) refl
 

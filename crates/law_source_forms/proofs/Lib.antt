@@ -4,6 +4,7 @@ pub mod Stands
 pub mod Data
 pub mod Instructions
 pub mod Listed
+pub mod Noted
 pub mod Filling
 pub mod Places
 pub mod Referring

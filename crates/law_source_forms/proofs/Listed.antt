@@ -1,4 +1,4 @@
--- The rows of a listing, each with its bytes.
+-- The instructions of a listing, each with its bytes.
 use Rattle.std.proofs.Common.{◌≡◌, ℕ, zero, suc, ◌+◌, ◌*◌, ◌/◌, ◌%◌, ◌≤◌, ◌<◌, pos, List, [], ◌∷◌, ◌++◌, length, take, Bool, true, false, Option, Some, None, Ok, refl, sym, ap, ◌∙◌, subst, arith, append-nil, length-append}
 use Rattle.std.specs.Prelude.{nat_le, nat_lt, ◌&&◌, slice_index}
 use Rattle.std.proofs.lemmas.Bool.{leb-true, ltb-false}
@@ -176,15 +176,6 @@ module _ (Near : Definitions → Type 0) (Final : Numbers → Type 0) (profile :
       near_pointer_stands Near Final profile m a op (of_number b) b _
       (with_number profile _ m pointer _ _ (byte_number b l) (texts.zero_page_pointer_said profile m (named_of_code profile m IndZ op code) _ _ _ _ (high b l) (low b))) code (last_number b) l
 
--- ---- rows
-
--- a row of some bytes: its text stands for its part of them, and it is short enough for its length
-pub record IsRow (Near : Definitions → Type 0) (Final : Numbers → Type 0) (profile : Profile) (a : ℕ) (bs : List ℕ) (row : TextRow) : Type 0 where
-  pub stands : Stands Near Final profile row.text a (take row.len bs)
-  pub some : 0 < row.len
-  pub within : row.len ≤ length bs
-  pub short : length row.text + 1 ≤ 13 * row.len
-
 abbrev front_of : List ℕ → List ℕ
 front_of bs = slice_index bs 0 ∷ slice_index bs 1 ∷ slice_index bs 2 ∷ []
 
@@ -226,41 +217,3 @@ length_some IndY = omega arith
 length_some Ind = omega arith
 length_some Rel = omega arith
 length_some IndZ = omega arith
-
-module _ (Near : Definitions → Type 0) (Final : Numbers → Type 0) (profile : Profile) (a : ℕ) (here : a < 65536) where
-  byte_row_is : (bs : List ℕ) → 0 < length bs → AreSmall bs → IsRow Near Final profile a bs (byte_row (slice_index bs 0))
-  byte_row_is [] some small = absurd (omega (arith, some))
-  byte_row_is (b ∷ bs) some small = record {
-    stands = data_stands Near Final profile a b [] small.0 tt (omega arith);
-    some = omega arith;
-    within = omega arith;
-    short = omega arith;
-  }
-
-  pub row_is : (bs : List ℕ) → 0 < length bs → AreSmall bs → IsRow Near Final profile a bs (row_of profile bs a)
-  unfolding row_of
-  row_is bs some small = on (row_at profile (slice_index bs 0)) refl
-    where
-      each : (i : ℕ) → slice_index bs i < 256
-      each = small_at bs small
-
-      of_row : (row : Row) → row_at profile (slice_index bs 0) ≡ Some row → (t : Bool) → (nat_le row.len (length bs) && nat_le (a + row.len) 65536) ≡ t
-          → IsRow Near Final profile a bs (row_by profile a (slice_index bs 0) bs (Some row))
-      of_row row e true t =
-          let len : row.len ≡ length_in row.mode = len_is profile (slice_index bs 0) row (each 0) e in
-          let long : row.len ≤ length bs = leb-true _ _ (and_both _ _ t).0 in
-          let is : IsRowOf row.mnemonic row.mode (row_at profile (slice_index bs 0)) = rw e (refl, refl) in
-          let code : opcode_of profile row.mnemonic row.mode ≡ Some (slice_index bs 0) = encoded_of_row profile row.mnemonic row.mode (slice_index bs 0) (each 0) is in
-          let bytes : take (length_in row.mode) (front_of bs) ≡ take row.len bs = take_front row.mode bs (rw len at long) ∙ ap (λ (n : ℕ). take n bs) (sym len) in
-          let s = instruction_stands Near Final profile row.mnemonic a (slice_index bs 0) here row.mode (slice_index bs 1) (slice_index bs 2) code (each 1) (each 2) in
-          rw t (record {
-            stands = subst (λ (x : List ℕ). Stands Near Final profile (instruction_text profile row a (slice_index bs 1) (slice_index bs 2)) a x) bytes s;
-            some = omega (arith, length_some row.mode, len);
-            within = long;
-            short = omega (arith, text_size profile row.mnemonic row.mode a (slice_index bs 1) (slice_index bs 2), length_some row.mode, len);
-          })
-      of_row row e false t = rw t (byte_row_is bs some small)
-
-      on : (r : Option Row) → row_at profile (slice_index bs 0) ≡ r → IsRow Near Final profile a bs (row_by profile a (slice_index bs 0) bs r)
-      on None e = byte_row_is bs some small
-      on (Some row) e = of_row row e _ refl

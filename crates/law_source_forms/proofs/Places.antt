@@ -64,18 +64,21 @@ pub data Ending : Type 0 where
   by_x : Ending
   by_y : Ending
   closes : Ending
+  less_one : Ending
 
 abbrev pub ending_text : Ending → List ℕ
 ending_text ends = []
 ending_text by_x = 44 ∷ 88 ∷ []
 ending_text by_y = 44 ∷ 89 ∷ []
 ending_text closes = 41 ∷ []
+ending_text less_one = 45 ∷ 49 ∷ []
 
 abbrev pub ending_tokens : ℕ → Ending → List Lexeme
 ending_tokens p ends = []
 ending_tokens p by_x = symbol p 44 ∷ word (p + 1) (88 ∷ []) ∷ []
 ending_tokens p by_y = symbol p 44 ∷ word (p + 1) (89 ∷ []) ∷ []
 ending_tokens p closes = symbol p 41 ∷ []
+ending_tokens p less_one = symbol p 45 ∷ number (p + 1) (49 ∷ []) ∷ []
 
 -- ---- tokens
 
@@ -109,6 +112,7 @@ no_word none ends = refl
 no_word none by_x = refl
 no_word none by_y = refl
 no_word none closes = refl
+no_word none less_one = refl
 no_word one u = refl
 no_word two u = refl
 
@@ -119,14 +123,17 @@ after_found p none ends = refl
 after_found p none by_x = refl
 after_found p none by_y = refl
 after_found p none closes = refl
+after_found p none less_one = refl
 after_found p one ends = refl
 after_found p one by_x = refl
 after_found p one by_y = refl
 after_found p one closes = refl
+after_found p one less_one = refl
 after_found p two ends = refl
 after_found p two by_x = refl
 after_found p two by_y = refl
 after_found p two closes = refl
+after_found p two less_one = refl
 
 abbrev pub place_tokens : ℕ → ℕ → Tail → Ending → List Lexeme
 place_tokens p s t u = word p (label_text s) ∷ after_tokens (behind_label p) t u
@@ -145,14 +152,17 @@ after_plain none ends = refl
 after_plain none by_x = refl
 after_plain none by_y = refl
 after_plain none closes = refl
+after_plain none less_one = refl
 after_plain one ends = refl
 after_plain one by_x = refl
 after_plain one by_y = refl
 after_plain one closes = refl
+after_plain one less_one = refl
 after_plain two ends = refl
 after_plain two by_x = refl
 after_plain two by_y = refl
 after_plain two closes = refl
+after_plain two less_one = refl
 
 -- ---- a label is no reserved word
 

@@ -1,8 +1,8 @@
--- Instructions and vectors whose address is a label.
-use Rattle.std.proofs.Common.{◌≡◌, ℕ, ◌+◌, ◌-◌, ◌*◌, ◌/◌, ◌%◌, ◌≤◌, ◌<◌, pos, List, [], ◌∷◌, ◌++◌, length, take, Bool, true, false, Option, Some, None, Ok, Err, refl, sym, ap, ◌∙◌, subst, arith, inl, inr, append-nil, length-append}
+-- Instructions and words whose address is a label.
+use Rattle.std.proofs.Common.{◌≡◌, ℕ, ◌+◌, ◌-◌, ◌*◌, ◌/◌, ◌%◌, ◌≤◌, ◌<◌, ◌^◌, pos, List, [], ◌∷◌, ◌++◌, length, take, Bool, true, false, Option, Some, None, Ok, Err, refl, sym, ap, ◌∙◌, subst, arith, inl, inr, append-nil, length-append}
 use Rattle.std.specs.Prelude.{◌&&◌, nat_le, nat_lt, if◌then◌else◌, codes}
 use Rattle.std.specs.List.{list_all}
-use Rattle.std.proofs.lemmas.Bool.{le-ltb, ltb-true, leb-true}
+use Rattle.std.proofs.lemmas.Bool.{le-ltb, lt-ltb, ltb-true, leb-true}
 use Rattle.model.specs.declared.instruction.Profile.{Profile}
 use Rattle.model.specs.declared.instruction.Mnemonic.{Mnemonic}
 use Rattle.model.specs.declared.instruction.Mode.{Mode}
@@ -16,8 +16,9 @@ use Rattle.model.specs.Token.{Lexeme, Tokens, is_source_byte, tokens_of, tokens_
 use Rattle.model.specs.OpcodeTable.{opcode_of}
 use Rattle.model.specs.Mnemonics.{mnemonic_text}
 use Rattle.model.specs.Reading.{expression_of}
-use Rattle.model.specs.Expression.{Term}
-use Rattle.model.specs.Value.{Numbers, eval_of}
+use Rattle.model.specs.Expression.{Term, literal, binary}
+use Rattle.model.specs.declared.expression.Operator.TheVariants.{Subtract}
+use Rattle.model.specs.Value.{Numbers, eval_of, value_of, knows}
 use Rattle.model.specs.Names.{Definitions, number_in}
 use Rattle.model.specs.SourceLine.{direct, pointer, operand_of, operand_reserves, line_reserves, words, labelled, read_line, line_of, statement_of, directive_of, list_within}
 use Rattle.model.specs.Layout.{word_list, code_for, form_of, length_in, zero_page_mode, absolute_mode, size_of, layout_of, named_line_at, statement_at}
@@ -34,7 +35,7 @@ use Rattle.law_source_forms.proofs.Stands.{Stands, fixed_at, placed_at, read_pla
 use Rattle.law_source_forms.proofs.Instructions.{of_number_is, same_coded, far_coded, same_form, long_stands, branch_stands, far_pointer_stands}
 use Rattle.law_source_forms.proofs.Listed.{word_number, word_below, large_if, and_both, instruction_stands, text_size}
 use Rattle.source_forms.specs.Pieces.{label_text, reach_at, place_text, direct_front, direct_text, labelled_text}
-use Rattle.law_source_forms.proofs.Places.{Tail, none, one, two, tail_text, added, place_term, Ending, ends, by_x, by_y, closes, ending_text, after_label, after_tokens, behind_label, place_tokens, place_found, label_plain, after_plain, free_label, Near, place_known, place_unknown}
+use Rattle.law_source_forms.proofs.Places.{Tail, none, one, two, tail_text, added, place_term, Ending, ends, by_x, by_y, closes, less_one, ending_text, after_label, after_tokens, behind_label, place_tokens, place_found, label_plain, after_plain, free_label, Near, place_known, place_unknown}
 
 -- ---- what an operand by label says
 
@@ -84,14 +85,17 @@ after_size none ends = omega arith
 after_size none by_x = omega arith
 after_size none by_y = omega arith
 after_size none closes = omega arith
+after_size none less_one = omega arith
 after_size one ends = omega arith
 after_size one by_x = omega arith
 after_size one by_y = omega arith
 after_size one closes = omega arith
+after_size one less_one = omega arith
 after_size two ends = omega arith
 after_size two by_x = omega arith
 after_size two by_y = omega arith
 after_size two closes = omega arith
+after_size two less_one = omega arith
 
 plain_place : (s : ℕ) (t : Tail) (u : Ending) → s < 65536
     → list_all is_source_byte (label_text s ++ after_label t u) ≡ true
@@ -367,7 +371,7 @@ labelled_size profile table m a Rel b c =
     omega (arith, length-append (mnemonic_text m) (codes " " ++ place_text table (target_of a b)), length-mnemonic_text m, place_size table (target_of a b))
 labelled_size profile table m a IndZ b c = omega (arith, text_size profile m IndZ a b c)
 
--- ---- a vector
+-- ---- a word
 
 abbrev directive : Lexeme
 directive = record { kind = Directive; start = 0; text = codes ".WORD" }
@@ -380,6 +384,9 @@ directive_first rest = refl
 at_end : (p : ℕ) → tokens_from p 0 [] ≡ Some []
 unfolding tokens_from
 at_end p = refl
+
+in_range_word : (w : ℕ) → w < 65535 → nat_lt w (2 ^ 31) ≡ true
+in_range_word w below = lt-ltb w (2 ^ 31) (omega (arith, below))
 
 word_again : (b c : ℕ) → b < 256 → c < 256 → word_piece (Ok (pos (b + 256 * c))) ≡ Ok (b ∷ c ∷ [])
 unfolding word_piece
@@ -446,28 +453,98 @@ free_words profile s none = rw (free_label profile s) refl
 free_words profile s one = rw (free_label profile s) refl
 free_words profile s two = rw (free_label profile s) refl
 
-vector_label_said : (profile : Profile) (s : ℕ) (t : Tail) → s < 65536
+word_label_said : (profile : Profile) (s : ℕ) (t : Tail) → s < 65536
     → read_line profile (codes ".WORD " ++ (label_text s ++ after_label t ends))
     ≡ Ok (labelled None (words (place_term s t ∷ [])))
 unfolding read_line tokens_of
-vector_label_said profile s t below =
+word_label_said profile s t below =
     let few : length (codes ".WORD " ++ (label_text s ++ after_label t ends)) ≤ 255 = omega (arith, after_size t ends) in
     rw (le-ltb 255 (length (codes ".WORD " ++ (label_text s ++ after_label t ends))) few, plain_place s t ends below, directive_first (label_text s ++ after_label t ends), place_found 6 s t ends below, label_words profile s t, free_words profile s t) refl
 
-vector_number_said : (profile : Profile) (w : ℕ) → w < 65536
+word_number_said : (profile : Profile) (w : ℕ) → w < 65536
     → read_line profile (codes ".WORD " ++ word_text w) ≡ Ok (labelled None (words (of_number w ∷ [])))
 unfolding read_line tokens_of
-vector_number_said profile w below =
+word_number_said profile w below =
     let found : tokens_from 6 0 (word_text w) ≡ before (number 6 (word_text w)) (Some []) =
     address_first 6 _ _ _ _ _ _ _ _ [] (high (w / 256) (first_half w below)) (low (w / 256)) (high (w % 256) (last_half w)) (low (w % 256)) refl refl ∙ ap (before (number 6 (word_text w))) (at_end 11) in
     rw ((high (w / 256) (first_half w below)).source, (low (w / 256)).source, (high (w % 256) (last_half w)).source, (low (w % 256)).source, directive_first (word_text w), found, number_words profile (word_text w), word_number w below) refl
 
-pub vector_stands : (table : List ℕ) (profile : Profile) (a b c : ℕ) → b < 256 → c < 256
+pub word_stands : (table : List ℕ) (profile : Profile) (a b c : ℕ) → b < 256 → c < 256
     → Stands Near (Final table) profile (codes ".WORD " ++ place_text table (b + 256 * c)) a (b ∷ c ∷ [])
-vector_stands table profile a b c l h =
+word_stands table profile a b c l h =
     by_place table (b + 256 * c) (λ x. Stands Near (Final table) profile (codes ".WORD " ++ x) a (b ∷ c ∷ []))
-    (words_stand table profile a b c (of_number (b + 256 * c)) _ (vector_number_said profile (b + 256 * c) (word_below b c l h)) (λ numbers final. of_number_is numbers a (b + 256 * c)) l h)
+    (words_stand table profile a b c (of_number (b + 256 * c)) _ (word_number_said profile (b + 256 * c) (word_below b c l h)) (λ numbers final. of_number_is numbers a (b + 256 * c)) l h)
     (λ s t adds reaches.
     let below : s < 65536 = omega (arith, adds, word_below b c l h) in
-    words_stand table profile a b c (place_term s t) _ (rw (append-nil (tail_text t)) at (vector_label_said profile s t below))
+    words_stand table profile a b c (place_term s t) _ (rw (append-nil (tail_text t)) at (word_label_said profile s t below))
     (λ numbers final. place_known numbers a s t below (final s below reaches) ∙ ap (λ (n : ℕ). Ok (pos n)) adds) l h)
+
+-- ---- the word before an address
+
+abbrev less : Term → Term
+less e = binary Subtract e (literal (Some (pos 1)))
+
+less_known : (numbers : Numbers) (a w : ℕ) (e : Term) → w < 65535
+    → eval_of numbers (pos a) e ≡ Ok (pos (w + 1)) → eval_of numbers (pos a) (less e) ≡ Ok (pos w)
+unfolding eval_of
+less_known numbers a w e below known = on (knows numbers e) refl
+  where
+    on : (x : Bool) → knows numbers e ≡ x → eval_of numbers (pos a) (less e) ≡ Ok (pos w)
+    on true k = let value : value_of numbers (pos a) e ≡ Ok (pos (w + 1)) = rw k at known in let first : nat_lt (w + 1) 1 ≡ false = le-ltb (w + 1) 1 (omega arith) in let one_less : (w + 1) - 1 ≡ w = omega arith in rw (k, value, first, one_less, in_range_word w below) refl
+    on false k = let never : Err expression.UnknownName ≡ Ok (pos (w + 1)) = rw k at known in absurd cc
+
+label_less : (profile : Profile) (s : ℕ) (t : Tail)
+    → line_of profile (directive ∷ place_tokens 6 s t less_one)
+    ≡ Some (labelled None (words (less (place_term s t) ∷ [])))
+unfolding line_of statement_of directive_of list_within expression_of
+label_less profile s none = refl
+label_less profile s one = refl
+label_less profile s two = refl
+
+abbrev number_tokens : List ℕ → List Lexeme
+number_tokens t = number 6 t ∷ symbol 11 45 ∷ number 12 (49 ∷ []) ∷ []
+
+number_less : (profile : Profile) (t : List ℕ) → line_of profile (directive ∷ number_tokens t)
+    ≡ Some (labelled None (words (less (written t) ∷ [])))
+unfolding line_of statement_of directive_of list_within expression_of
+number_less profile t = refl
+
+free_less : (profile : Profile) (s : ℕ) (t : Tail)
+    → line_reserves profile (labelled None (words (less (place_term s t) ∷ []))) ≡ false
+free_less profile s none = rw (free_label profile s) refl
+free_less profile s one = rw (free_label profile s) refl
+free_less profile s two = rw (free_label profile s) refl
+
+return_label_said : (profile : Profile) (s : ℕ) (t : Tail) → s < 65536
+    → read_line profile (codes ".WORD " ++ (label_text s ++ after_label t less_one))
+    ≡ Ok (labelled None (words (less (place_term s t) ∷ [])))
+unfolding read_line tokens_of
+return_label_said profile s t below =
+    let few : length (codes ".WORD " ++ (label_text s ++ after_label t less_one)) ≤ 255 = omega (arith, after_size t less_one) in
+    rw (le-ltb 255 (length (codes ".WORD " ++ (label_text s ++ after_label t less_one))) few, plain_place s t less_one below, directive_first (label_text s ++ after_label t less_one), place_found 6 s t less_one below, label_less profile s t, free_less profile s t) refl
+
+minus_one : (p : ℕ) → tokens_from p 0 (codes "-1") ≡ Some (symbol p 45 ∷ number (p + 1) (49 ∷ []) ∷ [])
+unfolding tokens_from token_at
+minus_one p = refl
+
+return_number_said : (profile : Profile) (w : ℕ) → w < 65536
+    → read_line profile (codes ".WORD " ++ (word_text w ++ codes "-1"))
+    ≡ Ok (labelled None (words (less (of_number w) ∷ [])))
+unfolding read_line tokens_of
+return_number_said profile w below =
+    let found : tokens_from 6 0 (word_text w ++ codes "-1") ≡ Some (number_tokens (word_text w)) =
+    address_first 6 _ _ _ _ _ _ _ _ (codes "-1") (high (w / 256) (first_half w below)) (low (w / 256)) (high (w % 256) (last_half w)) (low (w % 256)) refl refl ∙ ap (before (number 6 (word_text w))) (minus_one 11) in
+    rw ((high (w / 256) (first_half w below)).source, (low (w / 256)).source, (high (w % 256) (last_half w)).source, (low (w % 256)).source, directive_first (word_text w ++ codes "-1"), found, number_less profile (word_text w), word_number w below) refl
+
+-- where the address is in memory, its word stands for the bytes of the address before it
+pub return_stands : (table : List ℕ) (profile : Profile) (a b c : ℕ) → b < 256 → c < 256
+    → b + 256 * c < 65535
+    → Stands Near (Final table) profile (codes ".WORD " ++ (place_text table (b + 256 * c + 1) ++ codes "-1")) a (b ∷ c ∷ [])
+return_stands table profile a b c l h small =
+    by_place table (b + 256 * c + 1) (λ x. Stands Near (Final table) profile (codes ".WORD " ++ (x ++ codes "-1")) a (b ∷ c ∷ []))
+    (words_stand table profile a b c (less (of_number (b + 256 * c + 1))) _ (return_number_said profile (b + 256 * c + 1) (omega (arith, small)))
+    (λ numbers final. less_known numbers a (b + 256 * c) (of_number (b + 256 * c + 1)) small (of_number_is numbers a (b + 256 * c + 1))) l h)
+    (λ s t adds reaches.
+    let below : s < 65536 = omega (arith, adds, small) in
+    words_stand table profile a b c (less (place_term s t)) _ (return_label_said profile s t below)
+    (λ numbers final. less_known numbers a (b + 256 * c) (place_term s t) small (place_known numbers a s t below (final s below reaches) ∙ ap (λ (n : ℕ). Ok (pos n)) adds)) l h)

@@ -1,2 +1,1 @@
-pub mod RowsLaw
 pub mod LabelsLaw

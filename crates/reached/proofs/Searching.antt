@@ -6,6 +6,7 @@ use Rattle.std.proofs.Math.Seq.{get_or-append_seam}
 use Rattle.std.proofs.lemmas.Bool.Decides.{eqb_tells}
 use Rattle.model.specs.declared.instruction.Profile.{Profile}
 use Rattle.source_forms.specs.declared.mark.Mark.{Mark}
+use Rattle.reached.specs.declared.inline.Inline.{Inline}
 use Rattle.reached.specs.Reached.{IsAmong, IsReached, LeadTo, Reaches, is_reached, ways_at}
 use Rattle.reached.specs.declared.ways.Ways.{Ways}
 use Rattle.reached.specs.Search.{AreUnset, IsSearch, Seen, unset, with_address}
@@ -51,12 +52,12 @@ set_keeps flags a b below h = elim (eqb_tells b a) [
 
 -- ---- one address more
 
-module _ (profile : Profile) (cells : List (Option ℕ)) (marks : List Mark) (starts : List ℕ) where
+module _ (profile : Profile) (cells : List (Option ℕ)) (marks : List Mark) (routines : List Inline) (starts : List ℕ) where
   abbrev pub Is : ℕ → ℕ → Seen → Type 0
-  Is begun done s = IsSearch profile cells marks starts begun done s
+  Is begun done s = IsSearch profile cells marks routines starts begun done s
 
   abbrev pub CanReach : ℕ → Type 0
-  CanReach a = (n : ℕ) × Reaches profile cells marks starts n a
+  CanReach a = (n : ℕ) × Reaches profile cells marks routines starts n a
 
   abbrev Added : Seen → ℕ → Bool → Seen
   Added s a x = if x then s else record { flags = slice_set s.flags a true; found = s.found ++ a ∷ [] }
@@ -92,7 +93,7 @@ module _ (profile : Profile) (cells : List (Option ℕ)) (marks : List Mark) (st
         starts_in = λ i lt. set_keeps s.flags a (slice_index starts i) inside (h.starts_in i lt);
         closed = λ i b lt lead.
             let before : i < length s.found = omega (arith, lt, h.within) in
-            set_keeps s.flags a b inside (h.closed i b lt (subst (λ (k : ℕ). LeadTo (ways_at profile cells marks k) b) (front i before) lead));
+            set_keeps s.flags a b inside (h.closed i b lt (subst (λ (k : ℕ). LeadTo (ways_at profile cells marks routines k) b) (front i before) lead));
       }
 
   pub found_one : (begun done : ℕ) (s : Seen) (a : ℕ) → Is begun done s → a < 65536 → CanReach a → Is begun done (with_address s (Some a))
@@ -164,7 +165,7 @@ module _ (profile : Profile) (cells : List (Option ℕ)) (marks : List Mark) (st
 
   -- ---- where control goes from an address
 
-  pub went : (begun done address : ℕ) (ways : Ways) (s t new : Seen) → Is begun done s → done < length s.found → address ≡ slice_index s.found done → ways ≡ ways_at profile cells marks address
+  pub went : (begun done address : ℕ) (ways : Ways) (s t new : Seen) → Is begun done s → done < length s.found → address ≡ slice_index s.found done → ways ≡ ways_at profile cells marks routines address
       → IfSome ways.target (λ a. a < 65536) → IfSome ways.next (λ a. a < 65536) → t ≡ with_address s ways.target → new ≡ with_address t ways.next → Is begun (done + 1) new
   unfolding Reaches
   went begun done address ways s t new h within is leads first second to on =
@@ -185,7 +186,7 @@ module _ (profile : Profile) (cells : List (Option ℕ)) (marks : List Mark) (st
         closed = λ i b lt lead. elim (eqb_tells i done) [
           | inl same ↦
               let there : slice_index (with_address (with_address s ways.target) ways.next).found i ≡ address = ap (λ (k : ℕ). slice_index (with_address (with_address s ways.target) ways.next).found k) same.1 ∙ g.1 ∙ f.1 ∙ sym is in
-              let from : LeadTo (ways_at profile cells marks address) b = subst (λ (k : ℕ). LeadTo (ways_at profile cells marks k) b) there lead in
+              let from : LeadTo (ways_at profile cells marks routines address) b = subst (λ (k : ℕ). LeadTo (ways_at profile cells marks routines k) b) there lead in
               elim (subst (λ (w : Ways). LeadTo w b) (sym leads) from) [
                 | inl e ↦ keeps (with_address s ways.target) ways.next b one.size second (here s ways.target b h.size first e)
                 | inr e ↦ here (with_address s ways.target) ways.next b one.size second e
@@ -196,12 +197,12 @@ module _ (profile : Profile) (cells : List (Option ℕ)) (marks : List Mark) (st
 
   -- ---- at the end
 
-  all_reached : (s : Seen) → Is (length starts) (length s.found) s → (n a : ℕ) → Reaches profile cells marks starts n a → is_reached s.flags a ≡ true
+  all_reached : (s : Seen) → Is (length starts) (length s.found) s → (n a : ℕ) → Reaches profile cells marks routines starts n a → is_reached s.flags a ≡ true
   unfolding Reaches
   all_reached s h zero a way = rw (sym way.2) (h.starts_in way.0 way.1)
   all_reached s h (suc n) a way =
       let among : IsAmong s.found way.0 = h.among way.0 (all_reached s h n way.0 way.1) in
-      h.closed among.0 a among.1 (subst (λ (k : ℕ). LeadTo (ways_at profile cells marks k) a) (sym among.2) way.2)
+      h.closed among.0 a among.1 (subst (λ (k : ℕ). LeadTo (ways_at profile cells marks routines k) a) (sym among.2) way.2)
 
-  pub finished : (s : Seen) → Is (length starts) (length s.found) s → IsReached profile cells marks starts s.flags
+  pub finished : (s : Seen) → Is (length starts) (length s.found) s → IsReached profile cells marks routines starts s.flags
   finished s h = record { size = h.size; only = h.reaches; all = all_reached s h }

@@ -1,6 +1,6 @@
 -- What control can reach in an image by branches, jumps and calls. Source: MCS6500 manual, chapters
--- 4 and 8; mos65 for where the search ends.
-use Rattle.std.specs.Prelude.{◌≡◌, ℕ, zero, suc, ◌+◌, ◌-◌, ◌*◌, ◌%◌, ◌<◌, ◌⊎◌, Bool, true, false, ◌||◌, ◌&&◌, nat_lt, nat_le, if◌then◌else◌, List, [], ◌∷◌, ◌++◌, length, Option, Some, None, slice_index, slice_index_or}
+-- 4 and 8; mos65 for where the search ends, and for what stands behind calls.
+use Rattle.std.specs.Prelude.{◌≡◌, ℕ, zero, suc, ◌+◌, ◌-◌, ◌*◌, ◌%◌, ◌<◌, ◌⊎◌, ◌==◌, Bool, true, false, not, ◌||◌, ◌&&◌, nat_lt, nat_le, if◌then◌else◌, List, [], ◌∷◌, ◌++◌, length, Option, Some, None, slice_index, slice_index_or}
 use Rattle.model.specs.declared.instruction.Profile.{Profile}
 use Rattle.model.specs.declared.instruction.Mnemonic.{Mnemonic}
 use Rattle.model.specs.declared.instruction.Mnemonic.TheVariants.{Jmp, Jsr, Bra, Brk, Rti, Rts}
@@ -11,8 +11,13 @@ use Rattle.model.specs.OpcodeTable.{row_at}
 use Rattle.model.specs.InstructionText.{target_of}
 use Rattle.model.specs.Image.{cell_at}
 use Rattle.source_forms.specs.declared.mark.Mark.{Mark}
-use Rattle.source_forms.specs.declared.mark.Mark.TheVariants.{Code, Data, Text}
-use Rattle.source_forms.specs.Rows.{mark_at, stretch}
+use Rattle.source_forms.specs.declared.mark.Mark.TheVariants.{Code, Data, Text, Address, Return}
+use Rattle.source_forms.specs.declared.undocumented.Undocumented.{Undocumented}
+use Rattle.source_forms.specs.Undocumented.{undocumented_at}
+use Rattle.source_forms.specs.Rows.{by_cell, mark_at, stretch}
+use Rattle.reached.specs.declared.inline.Inline.{Inline}
+use Rattle.reached.specs.declared.inline.Tail.{Tail}
+use Rattle.reached.specs.declared.inline.Tail.TheVariants.{String, Bytes}
 use Rattle.reached.specs.declared.ways.Ways.{Ways}
 
 -- ---- where control goes from an instruction
@@ -50,11 +55,45 @@ target_by m Ind address b c = None
 target_by m Rel address b c = Some (target_of address b)
 target_by m IndZ address b c = None
 
+-- ---- what stands behind a call
+
+-- The address behind the first 0 from an address on, by at most so many steps, if no byte before it
+-- is missing.
+unfoldable pub behind_zero : List (Option ℕ) → ℕ → ℕ → Option ℕ
+behind_zero image zero address = None
+behind_zero image (suc n) address = by_cell (cell_at image address) None
+    (λ b. if b == 0 then Some ((address + 1) % 65536) else behind_zero image n (address + 1))
+
+-- The address behind what stands at an address: a string that ends in 0, or so many bytes.
+abbrev pub behind : List (Option ℕ) → Tail → ℕ → Option ℕ
+behind image String address = behind_zero image 65536 address
+behind image (Bytes n) address = Some ((address + n) % 65536)
+
+-- What follows the calls of an address, if something does: by the first of some routines that is
+-- there.
+abbrev pub tail_at : List Inline → ℕ → Option Tail
+tail_at [] address = None
+tail_at (routine ∷ routines) address = if routine.address == address then Some routine.tail
+    else tail_at routines address
+
+abbrev pub called_tail : Mnemonic → List Inline → ℕ → Option Tail
+called_tail Jsr routines address = tail_at routines address
+called_tail m routines address = None
+
+-- Where control goes on behind an instruction that ends before an address.
+abbrev pub goes_on : List (Option ℕ) → Option Tail → ℕ → Option ℕ
+goes_on image None address = Some address
+goes_on image (Some tail) address = behind image tail address
+
+-- ---- the ways from an instruction
+
 -- The ways from an instruction at an address.
-abbrev pub ways_from : ℕ → Row → ℕ → ℕ → Ways
-ways_from address row b c = record {
+abbrev pub ways_from : List (Option ℕ) → List Inline → ℕ → Row → ℕ → ℕ → Ways
+ways_from image routines address row b c = record {
   target = target_by row.mnemonic row.mode address b c;
-  next = if comes_after row.mnemonic then Some ((address + row.len) % 65536) else None;
+  next = if comes_after row.mnemonic
+      then goes_on image (called_tail row.mnemonic routines (b + 256 * c))
+      ((address + row.len) % 65536) else None;
 }
 
 abbrev pub no_way : Ways
@@ -64,17 +103,25 @@ no_way = record { target = None; next = None }
 abbrev pub fits : ℕ → ℕ → ℕ → Bool
 fits address len count = nat_le len count && nat_le (address + len) 65536
 
-abbrev pub ways_by : ℕ → List ℕ → Option Row → Ways
-ways_by address bytes None = no_way
-ways_by address bytes (Some row) = if fits address row.len (length bytes)
-    then ways_from address row (slice_index bytes 1) (slice_index bytes 2) else no_way
+-- Control comes from an undocumented instruction to the next one, where the processor does not stop.
+abbrev pub odd_ways : ℕ → List ℕ → Option Undocumented → Ways
+odd_ways address bytes None = no_way
+odd_ways address bytes (Some u) = if fits address u.len (length bytes) && not u.stops
+    then record { target = None; next = Some ((address + u.len) % 65536) } else no_way
+
+abbrev pub ways_by : Profile → List (Option ℕ) → List Inline → ℕ → List ℕ → Option Row → Ways
+ways_by profile image routines address bytes None
+    = odd_ways address bytes (undocumented_at profile (slice_index bytes 0))
+ways_by profile image routines address bytes (Some row) = if fits address row.len (length bytes)
+    then ways_from image routines address row (slice_index bytes 1) (slice_index bytes 2)
+    else no_way
 
 -- The ways from an address: there are some where an instruction is whose bytes are all there and
 -- marked as code.
-unfoldable pub ways_at : Profile → List (Option ℕ) → List Mark → ℕ → Ways
-ways_at profile image marks address =
+unfoldable pub ways_at : Profile → List (Option ℕ) → List Mark → List Inline → ℕ → Ways
+ways_at profile image marks routines address =
     let bytes = stretch image marks Code 3 address in
-    ways_by address bytes (row_at profile (slice_index bytes 0))
+    ways_by profile image routines address bytes (row_at profile (slice_index bytes 0))
 
 abbrev pub LeadTo : Ways → ℕ → Type 0
 LeadTo ways address = (ways.target ≡ Some address) ⊎ (ways.next ≡ Some address)
@@ -86,10 +133,12 @@ IsAmong addresses address
     = (i : ℕ) × (i < length addresses) × (slice_index addresses i ≡ address)
 
 -- Control comes from one of the starts to an address by so many instructions.
-unfoldable pub Reaches : Profile → List (Option ℕ) → List Mark → List ℕ → ℕ → ℕ → Type 0
-Reaches profile image marks starts zero address = IsAmong starts address
-Reaches profile image marks starts (suc n) address = (before : ℕ)
-    × Reaches profile image marks starts n before × LeadTo (ways_at profile image marks before) address
+unfoldable pub Reaches : Profile → List (Option ℕ) → List Mark → List Inline → List ℕ → ℕ → ℕ
+    → Type 0
+Reaches profile image marks routines starts zero address = IsAmong starts address
+Reaches profile image marks routines starts (suc n) address = (before : ℕ)
+    × Reaches profile image marks routines starts n before
+    × LeadTo (ways_at profile image marks routines before) address
 
 -- Whether an address is flagged as reached.
 abbrev pub is_reached : List Bool → ℕ → Bool
@@ -97,11 +146,11 @@ is_reached reached address = slice_index_or reached address false
 
 -- The flags say exactly which addresses control reaches from the starts.
 pub record IsReached (profile : Profile) (image : List (Option ℕ)) (marks : List Mark)
-    (starts : List ℕ) (reached : List Bool) : Type 0 where
+    (routines : List Inline) (starts : List ℕ) (reached : List Bool) : Type 0 where
   pub size : length reached ≡ 65536
   pub only : (a : ℕ) → is_reached reached a ≡ true
-      → (n : ℕ) × Reaches profile image marks starts n a
-  pub all : (n a : ℕ) → Reaches profile image marks starts n a → is_reached reached a ≡ true
+      → (n : ℕ) × Reaches profile image marks routines starts n a
+  pub all : (n a : ℕ) → Reaches profile image marks routines starts n a → is_reached reached a ≡ true
 
 -- ---- where control comes in
 
@@ -119,15 +168,21 @@ vectors image = word_of (cell_at image 65530) (cell_at image 65531)
 
 -- ---- marks
 
-abbrev pub len_by : ℕ → List ℕ → Option Row → ℕ
-len_by address bytes None = 1
-len_by address bytes (Some row) = if fits address row.len (length bytes) then row.len else 1
+abbrev pub odd_len : ℕ → List ℕ → Option Undocumented → ℕ
+odd_len address bytes None = 1
+odd_len address bytes (Some u) = if fits address u.len (length bytes) then u.len else 1
+
+abbrev pub len_by : Profile → ℕ → List ℕ → Option Row → ℕ
+len_by profile address bytes None
+    = odd_len address bytes (undocumented_at profile (slice_index bytes 0))
+len_by profile address bytes (Some row) = if fits address row.len (length bytes) then row.len
+    else 1
 
 -- How many bytes the instruction at an address has, 1 where no instruction is.
 unfoldable pub instruction_len : Profile → List (Option ℕ) → List Mark → ℕ → ℕ
 instruction_len profile image marks address =
     let bytes = stretch image marks Code 3 address in
-    len_by address bytes (row_at profile (slice_index bytes 0))
+    len_by profile address bytes (row_at profile (slice_index bytes 0))
 
 -- Whether an address belongs to an instruction that is reached so many bytes before it.
 abbrev pub covers : Profile → List (Option ℕ) → List Mark → List Bool → ℕ → ℕ → Bool
@@ -147,12 +202,14 @@ followed_mark Code true = Code
 followed_mark Code false = Data
 followed_mark Data followed = Data
 followed_mark Text followed = Text
+followed_mark Address followed = Address
+followed_mark Return followed = Return
 
 -- The marks of all addresses after control was followed from the starts.
 pub record AreFollowed (profile : Profile) (image : List (Option ℕ)) (marks : List Mark)
-    (starts : List ℕ) (followed : List Mark) : Type 0 where
+    (routines : List Inline) (starts : List ℕ) (followed : List Mark) : Type 0 where
   pub reached : List Bool
-  pub exact : IsReached profile image marks starts reached
+  pub exact : IsReached profile image marks routines starts reached
   pub size : length followed ≡ 65536
   pub each : (a : ℕ) → a < 65536 → mark_at followed a
       ≡ followed_mark (mark_at marks a) (is_followed profile image marks reached a)

@@ -3,6 +3,7 @@ use Rattle.std.specs.Prelude.{◌≡◌, ℕ, suc, ◌+◌, ◌<◌, ◌≤◌, 
 use Rattle.model.specs.declared.instruction.Profile.{Profile}
 use Rattle.source_forms.specs.declared.mark.Mark.{Mark}
 use Rattle.reached.specs.Reached.{is_reached, IsAmong, LeadTo, Reaches, ways_at}
+use Rattle.reached.specs.declared.inline.Inline.{Inline}
 use Rattle.reached.specs.declared.search.Search.{Search}
 
 pub record Seen : Type 0 where
@@ -34,15 +35,15 @@ pub record AreUnset (n : ℕ) (flags : List Bool) : Type 0 where
 -- of the addresses that were found: each flagged address is among these and is reached, and each of
 -- these is flagged.
 pub record IsSearch (profile : Profile) (image : List (Option ℕ)) (marks : List Mark)
-    (starts : List ℕ) (begun done : ℕ) (s : Seen) : Type 0 where
+    (routines : List Inline) (starts : List ℕ) (begun done : ℕ) (s : Seen) : Type 0 where
   pub size : length s.flags ≡ 65536
   pub count : unset s.flags + length s.found ≡ 65536
   pub within : done ≤ length s.found
   pub reaches : (a : ℕ) → is_reached s.flags a ≡ true
-      → (n : ℕ) × Reaches profile image marks starts n a
+      → (n : ℕ) × Reaches profile image marks routines starts n a
   pub among : (a : ℕ) → is_reached s.flags a ≡ true → IsAmong s.found a
   pub flagged : (i : ℕ) → i < length s.found → is_reached s.flags (slice_index s.found i) ≡ true
   pub starts_in : (i : ℕ) → i < begun → is_reached s.flags (slice_index starts i) ≡ true
   pub closed : (i a : ℕ) → i < done
-      → LeadTo (ways_at profile image marks (slice_index s.found i)) a
+      → LeadTo (ways_at profile image marks routines (slice_index s.found i)) a
       → is_reached s.flags a ≡ true

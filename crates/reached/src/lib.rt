@@ -2,16 +2,18 @@
 //!
 //! `reached` is the search, whose contract says that it finds exactly what control can reach.
 //! `followed_marks` marks what was found as code and the rest as data. `specs/Reached.antt` has the
-//! definition: `ways` says where control goes from an instruction, `search` goes along, `marking`
-//! marks, `entries` says where control comes in.
+//! definition: `ways` says where control goes from an instruction, `inline` what stands behind
+//! calls, `search` goes along, `marking` marks, `entries` says where control comes in.
 #![tactic(auto)]
 
 mod entries;
+mod inline;
 mod marking;
 mod search;
 mod ways;
 
 pub use entries::vectors;
+pub use inline::{Inline, Tail};
 pub use marking::followed_marks;
 pub use search::reached;
 pub use source_forms::Mark;

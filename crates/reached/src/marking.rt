@@ -3,6 +3,7 @@
 ghost use Rattle.std.specs.Prelude.{◌≡◌, length, IfOk};
 ghost use Rattle.reached.specs.Reached.{AreFollowed, covers, followed_mark, is_followed};
 
+use crate::inline::Inline;
 use crate::search::{is_reached, reached};
 use crate::ways::instruction_len;
 use bus::Image;
@@ -54,23 +55,27 @@ fn followed_mark(mark: Mark, followed: bool) -> Mark
         Mark::Code => { if followed { Mark::Code } else { Mark::Data } }
         Mark::Data => Mark::Data,
         Mark::Text => Mark::Text,
+        Mark::Address => Mark::Address,
+        Mark::Return => Mark::Return,
     }
 }
 
 /// Returns marks by which what was marked as code is so only where control comes from the starts:
-/// the bytes of each instruction that is reached. The rest of it is data. The only error is that a
-/// request for memory was refused. Source: mos65.
+/// the bytes of each instruction that is reached. The rest of it is data, and so is what follows
+/// the calls of routines that have data behind them. The only error is that a request for memory
+/// was refused. Source: mos65.
 pub fn followed_marks(
     alloc: Global,
     profile: Profile,
     image: &Image,
     marks: &[Mark],
+    routines: &[Inline],
     starts: &[u16],
 ) -> Result<Vec<Mark>, AllocError>
-    ensures { IfOk result
-        (λ followed. AreFollowed profile image.now marks.now starts.now followed.items) }
+    ensures { IfOk result (λ followed. AreFollowed profile image.now marks.now routines.now
+        starts.now followed.items) }
 {
-    let flags = reached(alloc, profile, image, marks, starts)?;
+    let flags = reached(alloc, profile, image, marks, routines, starts)?;
     let cells = image.cells();
     let mut followed = Vec::with_capacity(alloc, 65536)?;
     for address in 0..65536u32 {

@@ -4,6 +4,7 @@ ghost use Rattle.std.specs.Prelude.{◌≡◌, ◌<◌, [], length, IfOk, IfSome
 ghost use Rattle.reached.specs.Reached.{IsReached, is_reached};
 ghost use Rattle.reached.specs.Search.{AreUnset, IsSearch, seen_of, with_address};
 
+use crate::inline::Inline;
 use crate::ways::ways_at;
 use bus::Image;
 use model::Profile;
@@ -75,20 +76,21 @@ impl Search {
         profile: Profile,
         cells: &[Option<u8>],
         marks: &[Mark],
+        routines: &[Inline],
         starts: &[u16],
     ) -> Result<(), AllocError>
         requires size { length cells.now ≡ 65536 }
         requires flags { AreUnset 65536 self.old.flags.items }
         requires found { self.old.found.items ≡ [] }
-        ensures { OnOk result (IsSearch profile cells.now marks.now starts.now (length starts.now)
-            (length self.new.found.items) (seen_of self.new)) }
+        ensures { OnOk result (IsSearch profile cells.now marks.now routines.now starts.now
+            (length starts.now) (length self.new.found.items) (seen_of self.new)) }
     {
         for start in starts {
             self.find(Some(*start))?;
         }
         let mut at = 0usize;
         while at < self.found.len() {
-            let ways = ways_at(profile, cells, marks, self.found[at]);
+            let ways = ways_at(profile, cells, marks, routines, self.found[at]);
             self.find(ways.target)?;
             self.find(ways.next)?;
             at += 1;
@@ -99,20 +101,22 @@ impl Search {
 
 /// Returns a flag for each address: whether control reaches it from the starts by branches, jumps
 /// and calls, as far as instructions stand whole in the image and are marked as code. A call comes
-/// back; an indirect jump, BRK, RTI and RTS lead nowhere. The only error is that a request for
-/// memory was refused. Source: mos65.
+/// back, behind its data where its routine is among those that have some; an indirect jump, BRK,
+/// RTI and RTS lead nowhere. The only error is that a request for memory was refused. Source:
+/// mos65.
 pub fn reached(
     alloc: Global,
     profile: Profile,
     image: &Image,
     marks: &[Mark],
+    routines: &[Inline],
     starts: &[u16],
 ) -> Result<Vec<bool>, AllocError>
     ensures { IfOk result
-        (λ flags. IsReached profile image.now marks.now starts.now flags.items) }
+        (λ flags. IsReached profile image.now marks.now routines.now starts.now flags.items) }
 {
     let cells = image.cells();
     let mut search = Search::new(alloc)?;
-    search.explore(profile, cells, marks, starts)?;
+    search.explore(profile, cells, marks, routines, starts)?;
     Ok(search.flags)
 }

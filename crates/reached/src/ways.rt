@@ -1,14 +1,16 @@
 //! Where control goes from an instruction.
 
-ghost use Rattle.std.specs.Prelude.{◌≡◌, length, slice_index};
+ghost use Rattle.std.specs.Prelude.{◌≡◌, ◌+◌, ◌%◌, length, slice_index};
 ghost use Rattle.model.specs.InstructionText.{target_of};
 ghost use Rattle.source_forms.specs.Rows.{stretch};
-ghost use Rattle.reached.specs.Reached.{comes_after, fits, instruction_len, jumps};
-ghost use Rattle.reached.specs.Reached.{target_by, ways_at, ways_from};
+ghost use Rattle.reached.specs.Reached.{called_tail, comes_after, fits, goes_on, instruction_len};
+ghost use Rattle.reached.specs.Reached.{jumps, no_way, odd_len, odd_ways, target_by, ways_at};
+ghost use Rattle.reached.specs.Reached.{ways_from};
 
+use crate::inline::{Inline, Tail, behind, tail_at};
 use model::{Mnemonic, Mode, Profile, Row};
 use optable::decode_in;
-use source_forms::Mark;
+use source_forms::{Mark, Undocumented, undocumented_in};
 use source_writer::stretch::{Bytes, stretch};
 
 /// The addresses to which control can go from an instruction: that which it names, and the one
@@ -72,18 +74,64 @@ fn target_by(mnemonic: Mnemonic, mode: Mode, address: u16, second: u8, third: u8
     }
 }
 
-/// The ways from an instruction, by its second byte and its third.
-fn ways_from(address: u16, row: Row, second: u8, third: u8) -> Ways
-    ensures { result ≡ ways_from address row second third }
+/// What follows the calls of an address, where it is called and something does.
+fn called_tail(mnemonic: Mnemonic, routines: &[Inline], address: u16) -> Option<Tail>
+    ensures { result ≡ called_tail mnemonic routines.now address }
 {
-    let next = (address as u32 + row.len as u32) % 65536;
+    match mnemonic {
+        Mnemonic::Jsr => tail_at(routines, address),
+        _ => None,
+    }
+}
+
+/// Where control goes on behind an instruction that ends before an address.
+fn goes_on(cells: &[Option<u8>], tail: Option<Tail>, address: u16) -> Option<u16>
+    requires { length cells.now ≡ 65536 }
+    ensures { result ≡ goes_on cells.now tail address }
+{
+    match tail {
+        None => Some(address),
+        Some(tail) => behind(cells, tail, address),
+    }
+}
+
+/// The address after an instruction.
+fn after(address: u16, len: u8) -> u16
+    ensures { result ≡ (address + len) % 65536 }
+{
+    ((address as u32 + len as u32) % 65536) as u16
+}
+
+/// The ways from an instruction, by its second byte and its third.
+fn ways_from(
+    cells: &[Option<u8>],
+    routines: &[Inline],
+    address: u16,
+    row: Row,
+    second: u8,
+    third: u8,
+) -> Ways
+    requires { length cells.now ≡ 65536 }
+    ensures { result ≡ ways_from cells.now routines.now address row second third }
+{
+    let tail = called_tail(row.mnemonic, routines, second as u16 + 256 * third as u16);
     Ways {
         target: target_by(row.mnemonic, row.mode, address, second, third),
         next: if comes_after(row.mnemonic) {
-            Some(next as u16)
+            goes_on(cells, tail, after(address, row.len))
         } else {
             None
         },
+    }
+}
+
+/// No ways.
+fn no_way() -> Ways
+    ensures { result ≡ no_way }
+{
+    Ways {
+        target: None,
+        next: None,
     }
 }
 
@@ -112,21 +160,56 @@ fn code_bytes(cells: &[Option<u8>], marks: &[Mark], address: u16) -> Bytes
     stretch(cells, marks, Mark::Code, address as usize, 3)
 }
 
+/// The ways from an undocumented instruction at an address.
+fn odd_ways(address: u16, bytes: &[u8], odd: Option<Undocumented>) -> Ways
+    ensures { result ≡ odd_ways address bytes.now odd }
+{
+    match odd {
+        Some(odd) if fits(address, odd.len, bytes.len()) && !odd.stops => Ways {
+            target: None,
+            next: Some(after(address, odd.len)),
+        },
+        _ => no_way(),
+    }
+}
+
 /// Returns the ways from an address: none where no instruction is.
 #[tactic(auto, unfolding(crate::specs::Reached::ways_at))]
-pub fn ways_at(profile: Profile, cells: &[Option<u8>], marks: &[Mark], address: u16) -> Ways
+pub fn ways_at(
+    profile: Profile,
+    cells: &[Option<u8>],
+    marks: &[Mark],
+    routines: &[Inline],
+    address: u16,
+) -> Ways
     requires { length cells.now ≡ 65536 }
-    ensures { result ≡ ways_at profile cells.now marks.now address }
+    ensures { result ≡ ways_at profile cells.now marks.now routines.now address }
 {
     let bytes = code_bytes(cells, marks, address);
-    match decode_in(profile, byte_or_0(&bytes, 0)) {
-        Some(row) if fits(address, row.len, bytes.len()) => {
-            ways_from(address, row, byte_or_0(&bytes, 1), byte_or_0(&bytes, 2))
+    let (first, second, third) = (
+        byte_or_0(&bytes, 0),
+        byte_or_0(&bytes, 1),
+        byte_or_0(&bytes, 2),
+    );
+    match decode_in(profile, first) {
+        None => odd_ways(address, &bytes, undocumented_in(profile, first)),
+        Some(row) => {
+            if fits(address, row.len, bytes.len()) {
+                ways_from(cells, routines, address, row, second, third)
+            } else {
+                no_way()
+            }
         }
-        _ => Ways {
-            target: None,
-            next: None,
-        },
+    }
+}
+
+/// How many bytes an undocumented instruction at an address has, 1 where none is.
+fn odd_len(address: u16, bytes: &[u8], odd: Option<Undocumented>) -> u8
+    ensures { result ≡ odd_len address bytes.now odd }
+{
+    match odd {
+        Some(odd) if fits(address, odd.len, bytes.len()) => odd.len,
+        _ => 1,
     }
 }
 
@@ -137,8 +220,15 @@ pub fn instruction_len(profile: Profile, cells: &[Option<u8>], marks: &[Mark], a
     ensures { result ≡ instruction_len profile cells.now marks.now address }
 {
     let bytes = code_bytes(cells, marks, address);
-    match decode_in(profile, byte_or_0(&bytes, 0)) {
-        Some(row) if fits(address, row.len, bytes.len()) => row.len,
-        _ => 1,
+    let first = byte_or_0(&bytes, 0);
+    match decode_in(profile, first) {
+        None => odd_len(address, &bytes, undocumented_in(profile, first)),
+        Some(row) => {
+            if fits(address, row.len, bytes.len()) {
+                row.len
+            } else {
+                1
+            }
+        }
     }
 }

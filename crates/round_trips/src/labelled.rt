@@ -13,10 +13,13 @@ use model::Profile;
 use source_writer::{Mark, write_flagged_source, write_labelled_source};
 use std::alloc::{AllocError, Global};
 
-/// Writes the source of an image in a profile with labels: `L_` and an address where an operand of
-/// two bytes, a branch or a vector refers to a line, and operands by label. Otherwise the lines are
-/// those of `crate::source_text`, but a line of data ends before a label and before a vector,
-/// and a vector that is marked as data is `.WORD`. An address without a mark is code.
+/// Writes the source of an image in a profile: `*=` before each range, then a line for each
+/// instruction whose bytes are all marked as code, and `.BYTE` for what is none and for what is
+/// marked as data or as text. An address, or the address before one to which RTS goes, is `.WORD`,
+/// and so is a vector that is marked as data. An address without a mark is code.
+///
+/// A line that an operand of two bytes, a branch or a word refers to gets a label, `L_` and its
+/// address, and these are written by label. A line of data ends before a label and before a vector.
 ///
 /// The text is a source, and under each map of the profile at whose port the image has no byte it
 /// denotes exactly the image. The only error is that a request for memory was refused. Source:

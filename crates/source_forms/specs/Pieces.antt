@@ -1,6 +1,6 @@
 -- What each line of a source with labels stands for. Source: mos65; the instructions' forms are
 -- those of a listing.
-use Rattle.std.specs.Prelude.{ℕ, zero, suc, ◌+◌, ◌-◌, ◌*◌, Bool, false, ◌||◌, ◌&&◌, ◌==◌, nat_lt, nat_le, if◌then◌else◌, List, [], ◌∷◌, ◌++◌, length, codes, Option, Some, None, slice_index, slice_index_or}
+use Rattle.std.specs.Prelude.{ℕ, zero, suc, ◌+◌, ◌-◌, ◌*◌, Bool, false, ◌||◌, ◌&&◌, ◌==◌, nat_lt, nat_le, if◌then◌else◌, List, [], ◌∷◌, ◌++◌, length, take, codes, Option, Some, None, slice_index, slice_index_or}
 use Rattle.model.specs.declared.instruction.Profile.{Profile}
 use Rattle.model.specs.declared.instruction.Mnemonic.{Mnemonic}
 use Rattle.model.specs.declared.instruction.Mode.{Mode}
@@ -11,15 +11,21 @@ use Rattle.model.specs.Mnemonics.{mnemonic_text}
 use Rattle.model.specs.Text.{hex_address}
 use Rattle.model.specs.InstructionText.{has_row, word_text, target_of, operand_text}
 use Rattle.source_forms.specs.declared.mark.Mark.{Mark}
-use Rattle.source_forms.specs.declared.mark.Mark.TheVariants.{Code, Data, Text}
-use Rattle.source_forms.specs.Rows.{kind_of, mark_at, stretch, data_row, string_row}
+use Rattle.source_forms.specs.declared.mark.Mark.TheVariants.{Code, Data, Text, Address, Return}
+use Rattle.source_forms.specs.declared.undocumented.Undocumented.{Undocumented}
+use Rattle.source_forms.specs.Undocumented.{undocumented_at, instruction_note}
+use Rattle.source_forms.specs.Runs.{run_note}
+use Rattle.source_forms.specs.Rows.{kind_of, mark_at, stretch, data_text, string_text}
 
--- What stands in a line: an instruction with the two bytes after its opcode, the word of a vector,
--- numbers, or letters.
+-- What stands in a line: an instruction with the two bytes after its opcode, the word of an address,
+-- that of the address before one to which RTS goes, the bytes of an undocumented instruction or
+-- numbers with a note behind them, or letters.
 pub data Piece : Type 0 where
   instruction : Row → ℕ → ℕ → Piece
-  vector : ℕ → Piece
-  numbers : List ℕ → Piece
+  word : ℕ → Piece
+  return_word : ℕ → Piece
+  undocumented : List ℕ → List ℕ → Piece
+  numbers : List ℕ → List ℕ → Piece
   letters : List ℕ → Piece
 
 -- ---- the piece at an address
@@ -42,29 +48,57 @@ room flags zero address = 0
 room flags (suc n) address = suc (if begins_line flags (address + 1) then 0
     else room flags n (address + 1))
 
+-- An undocumented instruction with its note, if its bytes are there; otherwise its first byte.
+abbrev pub odd_piece : List ℕ → Option Undocumented → Piece
+odd_piece bytes None = numbers (slice_index bytes 0 ∷ []) []
+odd_piece bytes (Some u) = if nat_le u.len (length bytes)
+    then undocumented (take u.len bytes) (instruction_note u (slice_index bytes 1) (slice_index bytes 2))
+    else numbers (slice_index bytes 0 ∷ []) []
+
 -- An instruction, if the table has one and its bytes are there; otherwise its first byte.
-abbrev pub code_piece : ℕ → List ℕ → Option Row → Piece
-code_piece address bytes None = numbers (slice_index bytes 0 ∷ [])
-code_piece address bytes (Some row) =
+abbrev pub code_piece : Profile → ℕ → List ℕ → Option Row → Piece
+code_piece profile address bytes None =
+    odd_piece bytes (undocumented_at profile (slice_index bytes 0))
+code_piece profile address bytes (Some row) =
     if nat_le row.len (length bytes) && nat_le (address + row.len) 65536
     then instruction row (slice_index bytes 1) (slice_index bytes 2)
-    else numbers (slice_index bytes 0 ∷ [])
+    else numbers (slice_index bytes 0 ∷ []) []
 
--- A vector where both its bytes are data; otherwise up to 8 numbers.
-abbrev pub data_piece : ℕ → List ℕ → List ℕ → Piece
-data_piece address word bytes = if is_vector address && (length word == 2)
-    then vector (slice_index word 0 + 256 * slice_index word 1)
-    else numbers bytes
+-- The word that two bytes are, the low one first.
+abbrev pub word_of : List ℕ → ℕ
+word_of bytes = slice_index bytes 0 + 256 * slice_index bytes 1
+
+-- A vector where both its bytes are data; otherwise up to 8 numbers and a note.
+abbrev pub data_piece : ℕ → List ℕ → List ℕ → List ℕ → Piece
+data_piece address two bytes note = if is_vector address && (length two == 2)
+    then word (word_of two) else numbers bytes note
+
+-- An address where both its bytes are there; otherwise a number.
+abbrev pub address_piece : List ℕ → Piece
+address_piece bytes = if length bytes == 2 then word (word_of bytes) else numbers bytes []
+
+-- RTS goes to the address after the word that it pulls. After $FFFF there is none.
+abbrev pub return_of : ℕ → Piece
+return_of w = if w == 65535 then word w else return_word (w + 1)
+
+-- The address before one to which RTS goes, where both its bytes are there; otherwise a number.
+abbrev pub return_piece : List ℕ → Piece
+return_piece bytes = if length bytes == 2 then return_of (word_of bytes) else numbers bytes []
 
 abbrev pub piece_by : Mark → Profile → List (Option ℕ) → List Mark → List Bool → ℕ → Piece
 piece_by Code profile image marks flags address =
     let bytes = stretch image marks Code 3 address in
-    code_piece address bytes (row_at profile (slice_index bytes 0))
+    code_piece profile address bytes (row_at profile (slice_index bytes 0))
 piece_by Data profile image marks flags address =
-    data_piece address (stretch image marks Data 2 address)
-    (stretch image marks Data (room flags 8 address) address)
+    let bytes = stretch image marks Data (room flags 8 address) address in
+    data_piece address (stretch image marks Data 2 address) bytes
+    (run_note image marks address bytes)
 piece_by Text profile image marks flags address =
     letters (stretch image marks Text (room flags 32 address) address)
+piece_by Address profile image marks flags address =
+    address_piece (stretch image marks Address 2 address)
+piece_by Return profile image marks flags address =
+    return_piece (stretch image marks Return 2 address)
 
 -- The piece that begins at an address, where there is a byte.
 unfoldable pub piece_at : Profile → List (Option ℕ) → List Mark → List Bool → ℕ → ℕ → Piece
@@ -76,15 +110,19 @@ piece_at profile image marks flags address b
 -- How many bytes it has.
 unfoldable pub len_of : Piece → ℕ
 len_of (instruction row b c) = row.len
-len_of (vector w) = 2
-len_of (numbers bytes) = length bytes
+len_of (word w) = 2
+len_of (return_word w) = 2
+len_of (undocumented bytes note) = length bytes
+len_of (numbers bytes note) = length bytes
 len_of (letters bytes) = length bytes
 
--- How many addresses its label stands for: all of an instruction, or one datum.
+-- How many addresses its label stands for: all of an instruction or a word, or one datum.
 unfoldable pub reach_of : Piece → ℕ
 reach_of (instruction row b c) = row.len
-reach_of (vector w) = 1
-reach_of (numbers bytes) = 1
+reach_of (word w) = 2
+reach_of (return_word w) = 2
+reach_of (undocumented bytes note) = length bytes
+reach_of (numbers bytes note) = 1
 reach_of (letters bytes) = 1
 
 -- The address that an operand refers to: by three bytes, indirectly, or as a branch's target. An
@@ -108,8 +146,10 @@ operand_refers address IndZ b c = None
 -- The address that a piece at an address refers to.
 unfoldable pub refers : ℕ → Piece → Option ℕ
 refers address (instruction row b c) = operand_refers address row.mode b c
-refers address (vector w) = Some w
-refers address (numbers bytes) = None
+refers address (word w) = Some w
+refers address (return_word w) = Some w
+refers address (undocumented bytes note) = None
+refers address (numbers bytes note) = None
 refers address (letters bytes) = None
 
 -- ---- its text
@@ -163,6 +203,9 @@ labelled_text profile table m address IndZ b c = mnemonic_text m ++ operand_text
 unfoldable pub text_of : Profile → List ℕ → ℕ → Piece → List ℕ
 text_of profile table address (instruction row b c)
     = labelled_text profile table row.mnemonic address row.mode b c
-text_of profile table address (vector w) = codes ".WORD " ++ place_text table w
-text_of profile table address (numbers bytes) = (data_row bytes).text
-text_of profile table address (letters bytes) = (string_row bytes).text
+text_of profile table address (word w) = codes ".WORD " ++ place_text table w
+text_of profile table address (return_word w)
+    = codes ".WORD " ++ (place_text table w ++ codes "-1")
+text_of profile table address (undocumented bytes note) = data_text bytes note
+text_of profile table address (numbers bytes note) = data_text bytes note
+text_of profile table address (letters bytes) = string_text bytes

@@ -1,5 +1,5 @@
 pub mod Stretches
-pub mod Going
 pub mod Rooms
 pub mod Withins
 pub mod LabelledGoing
+pub mod Runs

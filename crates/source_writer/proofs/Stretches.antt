@@ -1,9 +1,8 @@
 -- A stretch, a byte at a time.
-use Rattle.std.proofs.Common.{◌≡◌, ℕ, zero, suc, ◌+◌, ◌-◌, ◌<◌, List, [], ◌∷◌, ◌++◌, length, Option, Some, sym, ap, ◌∙◌, arith, append_assoc, append-nil}
+use Rattle.std.proofs.Common.{◌≡◌, ℕ, zero, suc, ◌+◌, ◌-◌, ◌<◌, List, [], ◌∷◌, ◌++◌, length, Option, sym, ap, ◌∙◌, arith, append_assoc, append-nil}
 use Rattle.model.specs.Image.{cell_at}
 use Rattle.source_forms.specs.Rows.{stretch, byte_before, is_kind, kind_of, mark_at}
 use Rattle.source_forms.specs.declared.mark.Mark.{Mark}
-use Rattle.source_forms.specs.declared.mark.Mark.TheVariants.{Code}
 
 -- what a byte adds to a stretch
 abbrev pub Adds : List (Option ℕ) → List Mark → Mark → ℕ → (List ℕ → List ℕ) → Type 0
@@ -25,8 +24,3 @@ ended cells marks kind (suc n) at all bytes so_far some adds = sym (so_far ∙ a
 pub none : (cells : List (Option ℕ)) (marks : List Mark) (kind : Mark) (left at : ℕ) (all bytes : List ℕ) → all ≡ bytes ++ stretch cells marks kind left at → left ≡ 0 → bytes ≡ all
 unfolding stretch
 none cells marks kind left at all bytes so_far zero_left = sym (rw (zero_left, append-nil) at so_far)
-
--- an instruction's stretch begins with its first byte
-pub some_code : (cells : List (Option ℕ)) (marks : List Mark) (a b : ℕ) → cell_at cells a ≡ Some b → kind_of (mark_at marks a) b ≡ Code → 0 < length (stretch cells marks Code 3 a)
-unfolding stretch
-some_code cells marks a b here kind = rw (here, kind) (omega arith)

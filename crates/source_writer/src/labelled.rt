@@ -92,10 +92,13 @@ fn push_lines(
     Ok(())
 }
 
-/// Writes the source of an image in a profile with labels at the lines that are flagged: `L_` and
-/// an address, and operands of two bytes, branches and vectors by label. Otherwise the lines are
-/// those of `crate::write_source`, but a line of data ends before a label and before a
-/// vector, and a vector that is marked as data is `.WORD`. An address without a mark is code.
+/// Writes the source of an image in a profile: `*=` before each range, then a line for each
+/// instruction whose bytes are all marked as code, and `.BYTE` for what is none and for what is
+/// marked as data or as text. An address, or the address before one to which RTS goes, is `.WORD`,
+/// and so is a vector that is marked as data. An address without a mark is code.
+///
+/// The lines that are flagged get labels, `L_` and an address; operands of two bytes, branches and
+/// words are written by label. A line of data ends before a label and before a vector.
 ///
 /// The only error is that a request for memory was refused. Source: mos65.
 #[tactic(auto, unfolding(source_forms::specs::Labels::flagged_source))]

@@ -53,13 +53,21 @@ fn push_text(
         Piece::Instruction(row, second, third) => {
             push_instruction(out, profile, table, *row, address, *second, *third)
         }
-        Piece::Vector(word) => {
+        Piece::Word(word) => {
             out.extend_from_slice(b".WORD ")?;
             push_place(out, table, *word)
         }
-        Piece::Numbers(bytes) => {
+        Piece::ReturnWord(word) => {
+            out.extend_from_slice(b".WORD ")?;
+            push_place(out, table, *word)?;
+            out.extend_from_slice(b"-1")?;
+            Ok(())
+        }
+        Piece::Undocumented(bytes, note) | Piece::Numbers(bytes, note) => {
             out.extend_from_slice(b".BYTE ")?;
-            push_numbers(out, bytes)
+            push_numbers(out, bytes)?;
+            out.extend_from_slice(note)?;
+            Ok(())
         }
         Piece::Letters(bytes) => {
             out.extend_from_slice(b".BYTE \"")?;

@@ -1,27 +1,34 @@
 //! What stands in a line.
 
-ghost use Rattle.std.specs.Prelude.{◌≡◌, ℕ, ◌+◌, ◌*◌, ◌<◌, ◌≤◌, List, [], ◌∷◌, length, Some, slice_index, if◌then◌else◌};
+ghost use Rattle.std.specs.Prelude.{◌≡◌, ℕ, ◌+◌, ◌<◌, ◌≤◌, [], ◌∷◌, length, Some, slice_index};
 ghost use Rattle.model.specs.Image.{cell_at};
 ghost use Rattle.model.specs.InstructionText.{target_of};
 ghost use Rattle.model.specs.OpcodeTable.{row_at};
 ghost use Rattle.source_forms.specs.Rows.{kind_of, mark_at, stretch};
-ghost use Rattle.source_forms.specs.Pieces.{begins_line, code_piece, data_piece, is_flagged, is_vector};
-ghost use Rattle.source_forms.specs.Pieces.{len_of, numbers, operand_refers, piece_at, piece_by};
-ghost use Rattle.source_forms.specs.Pieces.{reach_of, refers, room};
+ghost use Rattle.source_forms.specs.Pieces.{address_piece, begins_line, code_piece, data_piece};
+ghost use Rattle.source_forms.specs.Pieces.{is_flagged, is_vector, len_of, numbers, odd_piece};
+ghost use Rattle.source_forms.specs.Pieces.{operand_refers, piece_at, piece_by, reach_of, refers};
+ghost use Rattle.source_forms.specs.Undocumented.{undocumented_at};
+ghost use Rattle.source_forms.specs.Pieces.{return_of, return_piece, room, word_of};
 ghost use Rattle.source_writer.specs.Views.{piece_view};
 
 use crate::Mark;
-use crate::stretch::{Bytes, kind_of, mark_at, stretch};
+use crate::note::{Note, instruction_note, run_note};
+use crate::stretch::{Bytes, first_bytes, kind_of, mark_at, stretch};
 use model::{Mode, Profile, Row};
 use optable::decode_in;
+use source_forms::undocumented_in;
 
-/// What stands in a line: an instruction with the two bytes after its opcode, the word of a vector,
-/// numbers, or letters.
+/// What stands in a line: an instruction with the two bytes after its opcode, the word of an
+/// address, that of the address before one, the bytes of an undocumented instruction or numbers
+/// with a note behind them, or letters.
 #[derive(Drop)]
 pub enum Piece {
     Instruction(Row, u8, u8),
-    Vector(u16),
-    Numbers(Bytes),
+    Word(u16),
+    ReturnWord(u16),
+    Undocumented(Bytes, Note),
+    Numbers(Bytes, Note),
     Letters(Bytes),
 }
 
@@ -81,25 +88,45 @@ fn byte_or_0(bytes: &[u8], place: usize) -> u8
 /// A byte as a number.
 #[tactic(auto, unfolding(source_forms::specs::Pieces::len_of))]
 fn one_number(byte: u8) -> Piece
-    ensures exact { piece_view result ≡ numbers (byte ∷ []) }
+    ensures exact { piece_view result ≡ numbers (byte ∷ []) [] }
     ensures len { len_of (piece_view result) ≡ 1 }
 {
     let mut bytes = Bytes::new();
     bytes.push(byte);
-    Piece::Numbers(bytes)
+    Piece::Numbers(bytes, Note::new())
 }
 
-/// An instruction, if its bytes are there; otherwise its first byte.
+/// An undocumented instruction with its note, if its bytes are there; otherwise its first byte.
+#[tactic(auto, unfolding(source_forms::specs::Pieces::len_of))]
+fn odd_piece(profile: Profile, bytes: &[u8]) -> Piece
+    requires { 0 < length bytes.now }
+    ensures exact { piece_view result
+        ≡ odd_piece bytes.now (undocumented_at profile (slice_index bytes.now 0)) }
+    ensures within { len_of (piece_view result) ≤ length bytes.now }
+{
+    let first = bytes[0];
+    let Some(odd) = undocumented_in(profile, first) else {
+        return one_number(first);
+    };
+    if odd.len as usize <= bytes.len() {
+        let note = instruction_note(odd, byte_or_0(bytes, 1), byte_or_0(bytes, 2));
+        Piece::Undocumented(first_bytes(bytes, odd.len as usize), note)
+    } else {
+        one_number(first)
+    }
+}
+
+/// An instruction, if its bytes are there; otherwise what its first byte is.
 #[tactic(auto, unfolding(source_forms::specs::Pieces::len_of))]
 fn code_piece(profile: Profile, bytes: &[u8], address: u16) -> Piece
     requires { 0 < length bytes.now }
     ensures exact { piece_view result
-        ≡ code_piece address bytes.now (row_at profile (slice_index bytes.now 0)) }
+        ≡ code_piece profile address bytes.now (row_at profile (slice_index bytes.now 0)) }
     ensures within { len_of (piece_view result) ≤ length bytes.now }
 {
     let first = bytes[0];
     let Some(row) = decode_in(profile, first) else {
-        return one_number(first);
+        return odd_piece(profile, bytes);
     };
     let fits = (row.len as usize <= bytes.len()) & (address as u32 + row.len as u32 <= 65536);
     if fits {
@@ -109,17 +136,63 @@ fn code_piece(profile: Profile, bytes: &[u8], address: u16) -> Piece
     }
 }
 
-/// A vector, if both its bytes are data; otherwise numbers.
+/// The word that two bytes are, the low one first.
+fn word_of(bytes: &[u8]) -> u16
+    ensures { result ≡ word_of bytes.now }
+{
+    byte_or_0(bytes, 0) as u16 + 256 * byte_or_0(bytes, 1) as u16
+}
+
+/// A vector, if both its bytes are data; otherwise numbers and a note.
 #[tactic(auto, unfolding(source_forms::specs::Pieces::len_of))]
-fn data_piece(address: u16, word: &[u8], bytes: Bytes) -> Piece
-    ensures exact { piece_view result ≡ data_piece address word.now bytes.items }
-    ensures within { (room : ℕ) → length word.now ≤ room → length bytes.items ≤ room
+fn data_piece(address: u16, two: &[u8], bytes: Bytes, note: Note) -> Piece
+    ensures exact { piece_view result ≡ data_piece address two.now bytes.items note.items }
+    ensures within { (room : ℕ) → length two.now ≤ room → length bytes.items ≤ room
         → len_of (piece_view result) ≤ room }
 {
-    if is_vector(address as usize) & (word.len() == 2) {
-        Piece::Vector(byte_or_0(word, 0) as u16 + 256 * byte_or_0(word, 1) as u16)
+    if is_vector(address as usize) & (two.len() == 2) {
+        Piece::Word(word_of(two))
     } else {
-        Piece::Numbers(bytes)
+        Piece::Numbers(bytes, note)
+    }
+}
+
+/// An address, if both its bytes are there; otherwise a number.
+#[tactic(auto, unfolding(source_forms::specs::Pieces::len_of))]
+fn address_piece(bytes: Bytes) -> Piece
+    ensures exact { piece_view result ≡ address_piece bytes.items }
+    ensures within { len_of (piece_view result) ≤ length bytes.items }
+{
+    if bytes.len() == 2 {
+        Piece::Word(word_of(&bytes))
+    } else {
+        Piece::Numbers(bytes, Note::new())
+    }
+}
+
+/// The word of the address before one to which RTS goes.
+#[tactic(auto, unfolding(source_forms::specs::Pieces::len_of))]
+fn return_of(word: u16) -> Piece
+    ensures exact { piece_view result ≡ return_of word }
+    ensures len { len_of (piece_view result) ≡ 2 }
+{
+    if word == 0xffff {
+        Piece::Word(word)
+    } else {
+        Piece::ReturnWord(word + 1)
+    }
+}
+
+/// The address before one to which RTS goes, if both its bytes are there; otherwise a number.
+#[tactic(auto, unfolding(source_forms::specs::Pieces::len_of))]
+fn return_piece(bytes: Bytes) -> Piece
+    ensures exact { piece_view result ≡ return_piece bytes.items }
+    ensures within { len_of (piece_view result) ≤ length bytes.items }
+{
+    if bytes.len() == 2 {
+        return_of(word_of(&bytes))
+    } else {
+        Piece::Numbers(bytes, Note::new())
     }
 }
 
@@ -156,10 +229,11 @@ fn data_at(
         ≡ piece_by Mark.Data profile cells.now marks.now flags.now address }
     ensures within { address + len_of (piece_view result) ≤ 65536 }
 {
-    let word = stretch(cells, marks, Mark::Data, address as usize, 2);
+    let two = stretch(cells, marks, Mark::Data, address as usize, 2);
     let most = room(flags, address as usize, 8);
     let bytes = stretch(cells, marks, Mark::Data, address as usize, most);
-    data_piece(address, &word, bytes)
+    let note = run_note(cells, marks, address, &bytes);
+    data_piece(address, &two, bytes, note)
 }
 
 /// What stands at an address that is marked as text.
@@ -178,6 +252,38 @@ fn text_at(
 {
     let most = room(flags, address as usize, 32);
     Piece::Letters(stretch(cells, marks, Mark::Text, address as usize, most))
+}
+
+/// What stands at an address that is marked as half of an address.
+fn address_at(
+    profile: Profile,
+    cells: &[Option<u8>],
+    marks: &[Mark],
+    flags: &[bool],
+    address: u16,
+) -> Piece
+    requires size { length cells.now ≡ 65536 }
+    ensures exact { piece_view result
+        ≡ piece_by Mark.Address profile cells.now marks.now flags.now address }
+    ensures within { address + len_of (piece_view result) ≤ 65536 }
+{
+    address_piece(stretch(cells, marks, Mark::Address, address as usize, 2))
+}
+
+/// What stands at an address that is marked as half of the address before one to which RTS goes.
+fn return_at(
+    profile: Profile,
+    cells: &[Option<u8>],
+    marks: &[Mark],
+    flags: &[bool],
+    address: u16,
+) -> Piece
+    requires size { length cells.now ≡ 65536 }
+    ensures exact { piece_view result
+        ≡ piece_by Mark.Return profile cells.now marks.now flags.now address }
+    ensures within { address + len_of (piece_view result) ≤ 65536 }
+{
+    return_piece(stretch(cells, marks, Mark::Return, address as usize, 2))
 }
 
 /// Returns what stands at an address, where there is a byte.
@@ -200,6 +306,8 @@ pub fn piece_at(
         Mark::Code => code_at(profile, cells, marks, flags, address, byte),
         Mark::Data => data_at(profile, cells, marks, flags, address),
         Mark::Text => text_at(profile, cells, marks, flags, address),
+        Mark::Address => address_at(profile, cells, marks, flags, address),
+        Mark::Return => return_at(profile, cells, marks, flags, address),
     }
 }
 
@@ -238,8 +346,10 @@ impl Piece {
     {
         match self {
             Piece::Instruction(row, _, _) => row.len as usize,
-            Piece::Vector(_) => 2,
-            Piece::Numbers(bytes) => bytes.len(),
+            Piece::Word(_) => 2,
+            Piece::ReturnWord(_) => 2,
+            Piece::Undocumented(bytes, _) => bytes.len(),
+            Piece::Numbers(bytes, _) => bytes.len(),
             Piece::Letters(bytes) => bytes.len(),
         }
     }
@@ -251,8 +361,10 @@ impl Piece {
     {
         match self {
             Piece::Instruction(row, _, _) => row.len,
-            Piece::Vector(_) => 1,
-            Piece::Numbers(_) => 1,
+            Piece::Word(_) => 2,
+            Piece::ReturnWord(_) => 2,
+            Piece::Undocumented(bytes, _) => bytes.len() as u8,
+            Piece::Numbers(_, _) => 1,
             Piece::Letters(_) => 1,
         }
     }
@@ -266,8 +378,10 @@ impl Piece {
             Piece::Instruction(row, second, third) => {
                 operand_refers(address, row.mode, *second, *third)
             }
-            Piece::Vector(word) => Some(*word),
-            Piece::Numbers(_) => None,
+            Piece::Word(word) => Some(*word),
+            Piece::ReturnWord(word) => Some(*word),
+            Piece::Undocumented(_, _) => None,
+            Piece::Numbers(_, _) => None,
             Piece::Letters(_) => None,
         }
     }

@@ -1,7 +1,7 @@
 //! The bytes that a row is made of.
 
 ghost use Rattle.std.specs.Prelude.{◌≡◌, ℕ, ◌+◌, ◌<◌, ◌≤◌, List, [], ◌∷◌, length, MatchOption};
-ghost use Rattle.std.specs.Prelude.{IfSome};
+ghost use Rattle.std.specs.Prelude.{IfSome, take};
 ghost use Rattle.model.specs.Image.{cell_at};
 ghost use Rattle.model.specs.Token.{is_string_byte};
 ghost use Rattle.source_forms.specs.Rows.{byte_before, is_kind, kind_of, mark_at, stretch};
@@ -33,6 +33,8 @@ pub fn kind_of(mark: Mark, byte: u8) -> Mark
                 Mark::Data
             }
         }
+        Mark::Address => Mark::Address,
+        Mark::Return => Mark::Return,
     }
 }
 
@@ -46,23 +48,17 @@ pub fn mark_at(marks: &[Mark], address: usize) -> Mark
     }
 }
 
-/// Whether two kinds are one.
-fn is_kind(kind: Mark, other: Mark) -> bool
+/// Returns whether two kinds are one.
+pub fn is_kind(kind: Mark, other: Mark) -> bool
     ensures { result ≡ is_kind kind other }
 {
-    match kind {
-        Mark::Code => match other {
-            Mark::Code => true,
-            Mark::Data | Mark::Text => false,
-        },
-        Mark::Data => match other {
-            Mark::Data => true,
-            Mark::Code | Mark::Text => false,
-        },
-        Mark::Text => match other {
-            Mark::Text => true,
-            Mark::Code | Mark::Data => false,
-        },
+    match (kind, other) {
+        (Mark::Code, Mark::Code) => true,
+        (Mark::Data, Mark::Data) => true,
+        (Mark::Text, Mark::Text) => true,
+        (Mark::Address, Mark::Address) => true,
+        (Mark::Return, Mark::Return) => true,
+        _ => false,
     }
 }
 
@@ -120,4 +116,15 @@ pub fn stretch(
         left -= 1;
     }
     bytes
+}
+
+/// Returns the first bytes of some.
+pub fn first_bytes(bytes: &[u8], count: usize) -> Bytes
+    requires within { count ≤ length bytes.now }
+    requires few { count ≤ 32 }
+    ensures { result.items ≡ take count bytes.now }
+{
+    let mut first = Bytes::new();
+    let _ = first.try_extend_from_slice(&bytes[..count]);
+    first
 }

@@ -1,16 +1,11 @@
-use Rattle.std.proofs.Common.{rules, ℕ, List, option_map}
-use Rattle.dis_source.proofs.Parts.{kept}
-use Rattle.model.specs.TapePieces.{IsReadInPieces}
+use Rattle.std.proofs.Common.{option_map, subst}
+use Rattle.dis_source.specs.Views.{source_view}
+use Rattle.dis_source.specs.Written.{IsWritten}
+use Rattle.dis_source.proofs.Images.{with_image, with_names}
 use Rattle.dis_source.proofs.run.text_of.Goals as goal
 
-pub returns-in-Ok-clause-source : goal.returns-in-Ok-clause-source
-returns-in-Ok-clause-source g c =
-    let read = kept c.image_of_tape.result c.map_err.result c.in_ok-image.image (λ image. (tape : List ℕ) × IsReadInPieces tape image) _ c.map_err.ensures.cases c.image_of_tape.ensures.denoted c.in_ok-image.was in
-    record {
-      tape = read.0;
-      image = c.in_ok-image.image;
-      read = read.1;
-      names = option_map (λ a. a.names) c.in_ok-names.names;
-      given = c.in_ok-names.ensures.given;
-      written = search rules;
-    }
+pub returns-in-Ok-written-clause-source : goal.returns-in-Ok-written-clause-source
+returns-in-Ok-written-clause-source g c =
+    let same = with_names (λ b. b.now) (λ a. a.names) c.as_ref.result c.in_ok-names.names c.as_ref.ensures.value in
+    let made = subst (λ n. IsWritten (source_view c.args.words.now) c.in-Ok.image n c.in-Ok-written.source.text.items c.in-Ok-written.source.at_port) same c.in-Ok-written.ensures in
+    with_image (source_view c.args.words.now) c.in-Ok.image (option_map (λ a. a.names) c.in_ok-names.names) _ _ c.in-Ok.ensures.found c.in_ok-names.ensures.given made

@@ -5,4 +5,4 @@ use Rattle.dis_source.proofs.written.written.Goals as goal
 
 pub returns : goal.returns
 returns c =
-    source_is (λ v. v.items) (source_view c.args.words.now) c.args.image.now (option_map (λ a. a.now.names) c.args.names) c.in-Ok.part c.in_ok-marks.marks.items c.source_of.result c.in-Ok.ensures c.in_ok-marks.ensures (rw c.as_slice.ensures.value at c.source_of.ensures.says) c.source_of.ensures.denotes
+    source_is (source_view c.args.words.now) c.args.image.now (option_map (λ a. a.now.names) c.args.names) c.in-Ok.part c.in_ok-marks.marks.items c.in_ok-text.text.items c.is_at_port.result c.in-Ok.ensures c.in_ok-marks.ensures (rw c.as_slice.ensures.value at c.in_ok-text.ensures.says) c.in_ok-text.ensures.denotes c.is_at_port.ensures

@@ -1,0 +1,35 @@
+-- A source of a part is one of the image of a file.
+use Rattle.std.proofs.Common.{◌≡◌, ℕ, List, Bool, true, Option, Some, None, ap, subst}
+use Rattle.std.specs.Prelude.{option_map}
+use Rattle.std.specs.Io.KnownBytes.{Appends}
+use Rattle.arguments.specs.Streams.{TellsFront}
+use Rattle.image_files.specs.Files.{IsOfFile}
+use Rattle.model.specs.Names.{Definitions}
+use Rattle.model.specs.Writers.{AppendsFront}
+use Rattle.dis_source.specs.Advice.{advice}
+use Rattle.dis_source.specs.Asked.{SourceAsked}
+use Rattle.dis_source.specs.Word.{AreGiven, IsDone, IsSaid, IsSourceWith}
+use Rattle.dis_source.specs.Written.{IsWritten}
+
+pub with_image : (asked : SourceAsked) (image : List (Option ℕ)) (names : Option Definitions) (text : List ℕ) (at_port : Bool) → IsOfFile asked.form image → AreGiven asked.symbols asked.profile names
+    → IsWritten asked image names text at_port → IsSourceWith asked text at_port
+with_image asked image names text at_port read given written = record { source = record { image = image; read = read; names = names; given = given; written = written.source }; same = written.same }
+
+-- the source and the advice were written
+pub is_done : (asked : SourceAsked) (text : List ℕ) (at_port : Bool) (held now errors told : Option (List ℕ)) → IsSourceWith asked text at_port → Appends held now text
+    → AppendsFront errors told (advice at_port asked.profile) → IsDone asked held now errors told
+is_done asked text at_port held now errors told w written advised = record {
+  text = text;
+  source = w.source;
+  written = written;
+  advised = subst (λ (t : Bool). AppendsFront errors told (advice t asked.profile)) w.same advised;
+}
+
+-- a beginning of the source was written
+pub is_begun : (asked : SourceAsked) (text : List ℕ) (at_port : Bool) (held now : Option (List ℕ)) → IsSourceWith asked text at_port → AppendsFront held now text → TellsFront (IsSaid asked) held now
+is_begun asked text at_port held now w written = record { is_right = true; said = text; about = w.source; written = written }
+
+-- the names of what a reference leads to
+pub with_names : {R A D : Type 0} (now : R → A) (f : A → D) (r : Option R) (names : Option A) → option_map now r ≡ names → option_map (λ x. f (now x)) r ≡ option_map f names
+with_names now f None names is = ap (option_map f) is
+with_names now f (Some x) names is = ap (option_map f) is

@@ -1,0 +1,50 @@
+//! What `asm` has to be told of a source.
+
+ghost use Rattle.std.specs.Prelude.{◌≡◌};
+ghost use Rattle.model.specs.Image.{has_byte};
+ghost use Rattle.model.specs.Writers.{AppendsFront};
+ghost use Rattle.dis_source.specs.Advice.{advice, is_at_port};
+
+use arguments::put_all;
+use bus::Image;
+use model::Profile;
+use std::io::Write;
+
+/// Whether an image has a byte at an address.
+#[tactic(auto, unfolding(model::specs::Image::has_byte))]
+fn has_byte(part: &Image, address: u16) -> bool
+    ensures { result ≡ has_byte part.now address }
+{
+    part.get(address).is_some()
+}
+
+/// Returns whether an image has a byte where the port is if nothing is said.
+pub fn is_at_port(part: &Image) -> bool
+    ensures { result ≡ is_at_port part.now }
+{
+    has_byte(part, 0xf000)
+        || has_byte(part, 0xf001)
+        || has_byte(part, 0xf002)
+        || has_byte(part, 0xf003)
+}
+
+/// The line that says what `asm` has to be told, or nothing.
+fn advice(at_port: bool, profile: Profile) -> &'static [u8]
+    ensures { result.now ≡ advice at_port profile }
+{
+    match (at_port, profile) {
+        (false, Profile::N) => b"",
+        (true, Profile::N) => b"mos65: this is a source for asm --port none\n",
+        (false, Profile::C) => b"mos65: this is a source for asm --profile C\n",
+        (true, Profile::C) => b"mos65: this is a source for asm --port none --profile C\n",
+    }
+}
+
+/// Writes what `asm` has to be told of a source, if it has to be told something, or a beginning of
+/// it if a write fails.
+pub fn put_advice<E: Write>(at_port: bool, profile: Profile, errors: &mut E)
+    ensures { AppendsFront (E.contents errors.old) (E.contents errors.new)
+        (advice at_port profile) }
+{
+    put_all(&[advice(at_port, profile)], errors);
+}
