@@ -8,7 +8,8 @@ use Rattle.arguments.specs.declared.refusal.Refusal.{Refusal}
 use Rattle.arguments.specs.declared.refusal.Refusal.TheVariants.{OutOfMemory}
 use Rattle.loading.proofs.Ends.{memory_ends}
 use Rattle.loading.specs.Told.{Heard, IsUnloaded, Tells}
-use Rattle.mon.specs.Done.{EndsNamed, IsUnnamed}
+use Rattle.mon.specs.Done.{IsUnnamed}
+use Rattle.mon.specs.Starts.{EndsNamed}
 
 -- Memory ran out: the line names no file.
 memory_unloads : (file : FileAsked) (heard : Heard) (path : List ℕ) (fault : Refusal) (status : ℕ) (Alone : Type 0) → fault ≡ OutOfMemory

@@ -1,3 +1,6 @@
+pub mod Again
+pub mod Cells
+pub mod Filed
 pub mod LinesServed
 pub mod Pieces
 mod Ends

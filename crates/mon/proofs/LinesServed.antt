@@ -1,21 +1,20 @@
 -- Lines that are served one after another.
-use Rattle.std.proofs.Common.{◌≡◌, ◌≤◌, ◌<◌, ◌∙◌, ℕ, ◌-◌, ◌+◌, Bool, true, false, cond, List, [], ◌∷◌, ◌++◌, append_assoc, append-nil, Option, None, Some, Result, Ok, Err, inl, inr, refl, sym, ap, subst, length, take, arith, length-take, true≢false}
+use Rattle.std.proofs.Common.{◌≡◌, ◌≤◌, ◌<◌, ◌∙◌, ℕ, ◌-◌, ◌+◌, Bool, true, false, cond, List, [], ◌∷◌, ◌++◌, append_assoc, append-nil, Option, None, Some, inl, inr, refl, sym, ap, subst, length, take, arith, length-take, true≢false}
 use Rattle.std.proofs.lemmas.Bool.{cases_lt, lt-ltb}
 use Rattle.std.proofs.lemmas.List.{take_all}
 use Rattle.std.specs.Io.BufRead.{ends_with_byte, strip_last}
 use Rattle.model.specs.TextLines.{ended_lines_of}
-use Rattle.mon.specs.Attended.{AnswersLine, IsAttended, prompt_of, IsAttendedSoFar, ServesLine, ServesLines}
+use Rattle.mon.specs.Attended.{AnswersLine, IsAttended, IsNoted, prompt_of, IsAttendedSoFar, ServesLine, ServesLines}
+use Rattle.mon.specs.Files.{SeenFiling, ServesFiles, filing_at, filing_in, no_file}
+use Rattle.mon.specs.Notes.{notes_after, placed_at, placed_in}
+use Rattle.mon.specs.declared.notes.Placed.{Placed}
+use Rattle.mon.proofs.Filed.{files_view}
 use Rattle.mon.specs.Seats.{Rests, answer_text, drawn, stretch_after, stretch_by, view_after, without_screen}
 use Rattle.mon.specs.declared.seat.Seat.{Seat}
 use Rattle.mon_lines.specs.declared.command.Stretch.{Stretch}
 use Rattle.mon_screen.specs.View.{view_text}
 use Rattle.mon_screen.specs.declared.view.View.{View}
-use Rattle.mon_dispatch.specs.Lines.{Follows, Says, read_at}
-use Rattle.mon_dispatch.specs.LineTexts.{behind_text, line_text, slip_line, too_long}
-use Rattle.mon_dispatch.specs.declared.lines.Outcome.{Outcome}
-use Rattle.mon_lines.specs.Lines.{SeenCommand}
-use Rattle.mon_line_parts.specs.declared.topic.Topic.{Topic}
-use Rattle.mon_line_parts.specs.Reading.{SeenWhy}
+use Rattle.mon_dispatch.specs.Lines.{read_at}
 use Rattle.mon_session.specs.Course.{ShowsOnly}
 use Rattle.mon_session.specs.declared.desk.Desk.{Desk}
 
@@ -26,10 +25,11 @@ pub shows_same : (a : Desk) → ShowsOnly a a
 shows_same a = (refl, refl, refl, refl, refl)
 
 pub rests_then : (a b c : Seat) → Rests a b → Rests b c → Rests a c
-rests_then a b c p q = (shows_then a.desk b.desk c.desk p.0 q.0, q.1 ∙ p.1)
+rests_then a b c p q =
+    (shows_then a.desk b.desk c.desk p.0 q.0, q.1 ∙ p.1, q.2 ∙ p.2, q.3 ∙ p.3, q.4 ∙ p.4)
 
 pub rests_same : (a : Seat) → Rests a a
-rests_same a = (shows_same a.desk, refl)
+rests_same a = (shows_same a.desk, refl, refl, refl, refl)
 
 -- a screen is the same where only the text has changed
 drawn_by : (view : Option View) (a b : Desk) (text : List ℕ) → ShowsOnly a b
@@ -59,30 +59,22 @@ pub plain_answer : (is_over : Bool) (seat : Seat) (said : List ℕ) → seat.vie
 plain_answer true seat said none = refl
 plain_answer false seat said none = ap (λ v. drawn v seat.desk said ++ []) none ∙ append-nil said
 
--- something is said of each line
-says_of : (read : Result SeenCommand (Option Topic × SeenWhy)) (outcome : Outcome) (a b : Desk)
-    → Follows read outcome a b → (said : List ℕ) × Says said a b
-says_of (Ok seen) outcome a b p = (line_text p.0 a, p.4)
-says_of (Err slip) outcome a b p = (slip_line slip, p.2)
+-- where no screen is drawn, no line draws one
+plain_view : (line : List ℕ) (is_over : Bool) (a b : Seat) (said : List ℕ) → a.view ≡ None
+    → ServesLine line is_over a b said → b.view ≡ None
+plain_view line is_over a b said none p = p.6.1
+    ∙ files_view (filing_at p.0.desk line) p.0 p.3 p.4 ∙ p.2.view ∙ ap (view_after a.desk line) none
 
-pub answer_says : (line : List ℕ) (is_over : Bool) (a b : Desk) → AnswersLine line is_over a b
-    → (said : List ℕ) × Says said a b
-answer_says line is_over a b p = elim (cases_lt 255 (length line)) [
-  | inl long ↦ (too_long, (p.1 long).2)
-  | inr short ↦
-      let s = p.0 short in
-      let f = says_of (read_at a line) s.1 a s.0 s.2 in
-      let behind = behind_text s.1 line s.0 in (
-        f.0 ++ behind,
-        s.5 ∙ ap (λ t. t ++ behind) f.1 ∙ append_assoc a.text.items f.0 behind,
-      )
-]
+pub plain_line : (line : List ℕ) (is_over : Bool) (a b : Seat) (said text : List ℕ) → a.view ≡ None
+    → ServesLine line is_over a b said → answer_text is_over [] b text ≡ text
+plain_line line is_over a b said text none p =
+    plain_answer is_over b text (plain_view line is_over a b said none p)
 
 -- only the text changes after a line
 pub line_then : (line : List ℕ) (is_over : Bool) (a b c : Seat) (said : List ℕ)
     → ServesLine line is_over a b said → Rests b c → ServesLine line is_over a c said
 line_then line is_over a b c said p q =
-    (p.0, p.1, p.2, shows_then p.0 b.desk c.desk p.3 q.0, q.1 ∙ p.4)
+    (p.0, p.1, p.2, p.3, p.4, p.5, rests_then p.3 b c p.6 q)
 
 pub lines_then : (prompt : List ℕ) (lines : List (List ℕ)) (is_over : Bool) (a b c : Seat)
     (w : List ℕ) → ServesLines prompt lines is_over a b w → Rests b c
@@ -190,7 +182,8 @@ pub line_alone : (line : List ℕ) (is_over : Bool) (a b : Seat) (said : List �
     → ServesLines [] (line ∷ []) is_over (without_screen a) b said
 line_alone line true a b said p = line_over [] line [] (without_screen a) b said p
 line_alone line false a b said p =
-    subst (λ x. ServesLines [] (line ∷ []) false (without_screen a) b x) (plain_answer false b said p.4)
+    subst (λ x. ServesLines [] (line ∷ []) false (without_screen a) b x)
+    (plain_line line false (without_screen a) b said said refl p)
     (line_on [] line (without_screen a) b said p)
 
 -- ---- the beginning that is kept of a line
@@ -222,20 +215,49 @@ long_view desk kept line (Some view) h i = ap (λ (stretch : Stretch). Some (rec
   cycles = Some desk.session.current.cycles;
 })) (too_long_asks desk kept view.stretch h ∙ sym (too_long_asks desk line view.stretch i))
 
+-- a line that is too long places nothing, and asks for no file
+placed_long : (desk : Desk) (line : List ℕ) → 255 < length line → placed_at desk line ≡ None
+placed_long desk line h =
+    ap (λ t. cond t None (placed_in (read_at desk line))) (lt-ltb 255 (length line) h)
+
+filing_long : (desk : Desk) (line : List ℕ) → 255 < length line → filing_at desk line ≡ no_file
+filing_long desk line h =
+    ap (λ t. cond t no_file (filing_in (read_at desk line))) (lt-ltb 255 (length line) h)
+
+noted_long : (kept line : List ℕ) (a b : Seat) → 255 < length kept → 255 < length line
+    → IsNoted kept a b → IsNoted line a b
+noted_long kept line a b h i n = record {
+  view = n.view ∙ long_view a.desk kept line a.view h i;
+  notes = n.notes
+      ∙ ap (λ (placed : Option Placed). notes_after b.desk placed a.desk.session.current.regs.pc kept a.notes.items) (placed_long a.desk kept h)
+      ∙ sym (ap (λ (placed : Option Placed). notes_after b.desk placed a.desk.session.current.regs.pc line a.notes.items) (placed_long a.desk line i));
+  loaded = n.loaded;
+  words = n.words;
+}
+
+files_long : (desk : Desk) (kept line : List ℕ) (a b : Seat) → 255 < length kept → 255 < length line
+    → ServesFiles (filing_at desk kept) a b → ServesFiles (filing_at desk line) a b
+files_long desk kept line a b h i p =
+    subst (λ (filing : SeenFiling). ServesFiles filing a b) (filing_long desk kept h ∙ sym (filing_long desk line i)) p
+
 -- what is kept is all of the line, or too long as the line is
 pub line_kept : (begun : List ℕ) (is_over : Bool) (a b : Seat) (said : List ℕ)
     → ServesLine (strip_last 13 (take 257 begun)) is_over a b said
     → ServesLine (strip_last 13 begun) is_over a b said
 line_kept begun is_over a b said p = elim (cases_lt 257 (length begun)) [
   | inl more ↦
+      let kept = strip_last 13 (take 257 begun) in
+      let line = strip_last 13 begun in
       let long : 255 < length (strip_last 13 (take 257 begun))
       = omega (arith, length-take 257 begun, length-strip 13 (take 257 begun)) in
       let also : 255 < length (strip_last 13 begun) = omega (arith, length-strip 13 begun) in (
         p.0,
-        both_long (strip_last 13 (take 257 begun)) (strip_last 13 begun) is_over a.desk p.0 long also p.1,
-        p.2,
+        both_long kept line is_over a.desk p.0.desk long also p.1,
+        noted_long kept line a p.0 long also p.2,
         p.3,
-        p.4 ∙ long_view a.desk (strip_last 13 (take 257 begun)) (strip_last 13 begun) a.view long also,
+        files_long p.0.desk kept line p.0 p.3 long also p.4,
+        p.5,
+        p.6,
       )
   | inr less ↦ subst (λ l. ServesLine (strip_last 13 l) is_over a b said) (take_all 257 begun less) p
 ]

@@ -6,8 +6,9 @@ use Rattle.std.specs.Io.KnownBytes.{Consumes, IsAtEnd}
 use Rattle.model.specs.TextLines.{ended_lines_of, lines_from}
 use Rattle.mon.specs.declared.wording.TheConstants.{PROMPT}
 use Rattle.mon_dispatch.specs.Lines.{IsTooLong, Says, Serves}
-use Rattle.mon_session.specs.Course.{ShowsOnly}
 use Rattle.mon_session.specs.declared.desk.Desk.{Desk}
+use Rattle.mon.specs.Files.{ServesFiles, filing_at}
+use Rattle.mon.specs.Notes.{notes_after, placed_at}
 use Rattle.mon.specs.Seats.{Rests, answer_text, view_after, without_screen}
 use Rattle.mon.specs.declared.seat.Seat.{Seat}
 
@@ -30,12 +31,22 @@ abbrev pub AnswersLine : List ℕ → Bool → Desk → Desk → Type 0
 AnswersLine line is_over old new = (length line ≤ 255 → Serves line is_over old new)
     × (255 < length line → IsTooLong is_over old new)
 
--- A line is answered, and so much is said. Then only the text changes, which is written. A screen
--- shows what it shows after the line.
+-- What a line leaves at a seat besides its desk: a screen shows what it shows after the line, and the
+-- line is noted if it has placed something.
+pub record IsNoted (line : List ℕ) (old new : Seat) : Type 0 where
+  pub view : new.view ≡ view_after old.desk line old.view
+  pub notes : new.notes.items ≡ notes_after new.desk (placed_at old.desk line)
+      old.desk.session.current.regs.pc line old.notes.items
+  pub loaded : new.loaded ≡ old.loaded
+  pub words : new.words ≡ old.words
+
+-- A line is answered and noted, then it saves or reloads if it asks for that, and so much is said.
+-- Then only the text changes, which is written.
 abbrev pub ServesLine : List ℕ → Bool → Seat → Seat → List ℕ → Type 0
-ServesLine line is_over old new said = (answered : Desk)
-    × AnswersLine line is_over old.desk answered × Says said old.desk answered
-    × ShowsOnly answered new.desk × (new.view ≡ view_after old.desk line old.view)
+ServesLine line is_over old new said = (served : Seat)
+    × AnswersLine line is_over old.desk served.desk × IsNoted line old served
+    × (filed : Seat) × ServesFiles (filing_at served.desk line) served filed
+    × Says said old.desk filed.desk × Rests filed new
 
 -- ---- lines one after another
 

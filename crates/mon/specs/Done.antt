@@ -1,22 +1,20 @@
 -- What the word `mon` did, by its exit status. Source: mos65.
 use Rattle.std.specs.Prelude.{◌≡◌, ◌⊎◌, ⊤, ℕ, Bool, true, List, [], ◌++◌, Option, Some, None}
 use Rattle.std.specs.Io.KnownBytes.{Appends}
-use Rattle.assembler.specs.Assembly.{AssemblyView, IsAssembled}
-use Rattle.arguments.specs.Asked.{FileAsked, map_of}
+use Rattle.arguments.specs.Asked.{FileAsked}
 use Rattle.arguments.specs.FaultLines.{file_line}
 use Rattle.arguments.specs.Statuses.{status_of}
 use Rattle.arguments.specs.declared.refusal.ReadFault.TheVariants.{Other}
 use Rattle.arguments.specs.declared.refusal.Refusal.{Refusal}
 use Rattle.arguments.specs.declared.refusal.Refusal.TheVariants.{OutOfMemory, Read, Write}
-use Rattle.arguments_play.specs.Mon.{MonAsked}
+use Rattle.arguments_play.specs.Mon.{MonAsked, mon_view}
 use Rattle.clap.specs.Words.{Text}
-use Rattle.loading.specs.Loads.{EndsNames, IsLoaded}
+use Rattle.loading.specs.Loads.{EndsNames}
 use Rattle.loading.specs.Told.{Heard, IsUnloaded, Tells}
-use Rattle.model.specs.Event.{start}
-use Rattle.model.specs.Session.{Session, new_session}
 use Rattle.mon.specs.Attended.{IsAttended}
 use Rattle.mon.specs.Greeting.{greeting_of}
 use Rattle.mon.specs.Seats.{drawn}
+use Rattle.mon.specs.Starts.{StartsMon}
 use Rattle.mon.specs.declared.seat.Seat.{Seat}
 use Rattle.mon_lines.specs.declared.command.Stretch.{Stretch}
 use Rattle.mon_screen.specs.Limits.{limited}
@@ -24,13 +22,6 @@ use Rattle.mon_screen.specs.declared.size.Size.{Size}
 use Rattle.mon_screen.specs.declared.view.View.{View}
 use Rattle.mon_session.specs.EventTexts.{shown_text}
 use Rattle.mon_session.specs.declared.desk.Desk.{Desk}
-use Rattle.source_map.specs.Lines.{PlacesView, places_of}
-use Rattle.source_map.specs.Names.{names_in}
-
--- Why a file of names is not assembled, if one is named.
-abbrev pub EndsNamed : Option Text → FileAsked → Refusal → Type 0
-EndsNamed None file fault = ⊥
-EndsNamed (Some path) file fault = EndsNames file fault
 
 -- The file of names was not assembled, the error stream got why, and the others were left alone,
 -- `Alone`.
@@ -56,44 +47,6 @@ EndsAnswer fault = ⊥
 -- stream failed.
 abbrev pub IsEnded : ℕ → Type 0
 IsEnded status = (status ≡ 0) ⊎ ((status ≡ 3) ⊎ (status ≡ 4))
-
--- The names and the lines of a file: of a source those of its assembly, of a tape none.
-abbrev pub places_in : Text → Option AssemblyView → PlacesView
-places_in file None = record { names = []; lines = []; texts = []; file = [] }
-places_in file (Some assembly) = places_of file assembly
-
--- With the names of a file of names, if there is one.
-abbrev pub with_names : Option AssemblyView → PlacesView → PlacesView
-with_names None places = places
-with_names (Some names) places
-    = record places { names = places.names ++ names_in names }
-
--- A file of names is assembled if one is named.
-abbrev pub AreNamed : Option Text → FileAsked → Option AssemblyView → Type 0
-AreNamed None file names = names ≡ None
-AreNamed (Some path) file None = ⊥
-AreNamed (Some path) file (Some names) = IsAssembled (map_of file) names
-
--- A desk at which no line was served: no event has happened, and no break and no watch is set.
-pub record IsNewDesk (begun : Session) (history : ℕ) (known : PlacesView) (desk : Desk)
-    : Type 0 where
-  pub session : desk.session ≡ begun
-  pub events : desk.events ≡ record { made = []; undone = []; room = history }
-  pub breaks : desk.stops.breaks.items ≡ []
-  pub watches : desk.stops.watches.items ≡ []
-  pub changes : desk.stops.changes.items ≡ []
-  pub displays : desk.displays.items ≡ []
-  pub places : desk.places ≡ known
-  pub text : desk.text.items ≡ []
-
--- A desk with a session at the start of an image that the file can have, with the names and lines
--- of its source and the names of a file of names.
-abbrev pub StartsMon : MonAsked → Desk → Type 0
-StartsMon asked desk = (image : List (Option ℕ)) × (assembly : Option AssemblyView)
-    × IsLoaded asked.file image assembly
-    × (names : Option AssemblyView) × AreNamed asked.symbols asked.file names
-    × IsNewDesk (new_session asked.history (start (map_of asked.file) image)) asked.history
-    (with_names names (places_in asked.file.file assembly)) desk
 
 -- The size of a screen: the one that is asked for, otherwise any that a screen can have.
 abbrev pub IsSizeFor : Option (ℕ × ℕ) → Size → Type 0
@@ -134,6 +87,7 @@ abbrev pub IsDone : MonAsked → Option (List ℕ) → Option (List ℕ) → Opt
     → Option (List ℕ) → Heard → ℕ → Type 0 → Type 0
 IsDone asked given left old new heard status Alone = IsUnloaded asked.file heard status Alone
     ⊎ (IsUnnamed asked.symbols asked.file heard status Alone
-    ⊎ ((seat : Seat) × StartsMon asked seat.desk × StartsView asked seat.desk seat.view
+    ⊎ ((seat : Seat) × StartsMon asked seat.desk seat.loaded × (seat.notes.items ≡ [])
+    × (mon_view seat.words.now ≡ asked) × StartsView asked seat.desk seat.view
     × (prompts : Bool) × (asked.prompts ≡ true → prompts ≡ true)
     × EndsAt prompts seat given left old new status))

@@ -11,7 +11,8 @@ use Rattle.mon_session.specs.declared.desk.Desk.{Desk}
 
 -- Only the text has changed.
 abbrev pub Rests : Seat → Seat → Type 0
-Rests old new = ShowsOnly old.desk new.desk × (new.view ≡ old.view)
+Rests old new = ShowsOnly old.desk new.desk × (new.view ≡ old.view) × (new.notes ≡ old.notes)
+    × (new.loaded ≡ old.loaded) × (new.words ≡ old.words)
 
 -- ---- what a screen shows
 

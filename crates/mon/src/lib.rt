@@ -1,16 +1,24 @@
 //! The word `mon`: a session with a person at a terminal.
 //!
-//! `serving` loads a file and serves a session on it, `screens` says whether a screen is drawn.
-//! `lines` reads the input and cuts it into lines, `seat` passes a line to `mon_dispatch`, and
-//! writes the answer, or a screen with it, before the next line is read. What the word does stands
-//! in `specs/Done.antt`, which lines are served and what is written in `specs/Attended.antt`.
+//! `serving` loads a file and serves a session on it, which `starting` begins; `screens` says
+//! whether a screen is drawn. `lines` reads the input and cuts it into lines, `seat` passes a line
+//! to `mon_dispatch`, and writes the answer, or a screen with it, before the next line is read.
+//! `notes` keeps the lines that have placed what stands. `files` serves the lines that read or
+//! write a file: `saving` writes a tape, `reloading` loads the session's file again. What the word
+//! does stands in `specs/Done.antt`, which lines are served and what is written in
+//! `specs/Attended.antt`.
 #![tactic(auto)]
 
+mod files;
 mod greeting;
 mod lines;
+mod notes;
+mod reloading;
+mod saving;
 mod screens;
 mod seat;
 mod serving;
+mod starting;
 pub mod wording;
 
 pub use serving::mon;

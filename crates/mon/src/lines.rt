@@ -14,8 +14,8 @@ use crate::seat::{Seat, answer, put_text, say_if, serve_line};
 use crate::wording::PROMPT;
 use arguments::{ReadFault, Refusal};
 use arrayvec::ArrayVec;
-use std::alloc::Global;
 use std::io::{Read, Write};
+use std::rt::Files;
 
 /// The beginning of a line that has not ended yet: no more than its first 257 bytes.
 ///
@@ -33,9 +33,9 @@ fn line_of(begun: &Begun) -> &[u8]
 }
 
 /// Serves a line that has ended, and begins the next one. Returns whether the session is to end.
-fn serve_begun<W: Write>(
-    alloc: Global,
-    seat: &mut Seat,
+fn serve_begun<H: Files + AllocGlobal, W: Write>(
+    rt: &H,
+    seat: &mut Seat<'_>,
     prompts: bool,
     begun: &mut Begun,
     writer: &mut W,
@@ -48,17 +48,17 @@ fn serve_begun<W: Write>(
     ensures written { IfOk result (λ _. seat.new.desk.text.items ≡ []) }
     ensures refused { IfErr result EndsAnswer }
 {
-    let is_over = serve_line(alloc, seat, line_of(begun))?;
+    let is_over = serve_line(rt, seat, line_of(begun))?;
     begun.clear();
-    answer(alloc, seat, prompts, is_over)?;
+    answer(rt.alloc(), seat, prompts, is_over)?;
     put_text(seat, writer)?;
     Ok(is_over)
 }
 
 /// Serves one byte of the input. Returns whether the session is to end.
-fn serve_byte<W: Write>(
-    alloc: Global,
-    seat: &mut Seat,
+fn serve_byte<H: Files + AllocGlobal, W: Write>(
+    rt: &H,
+    seat: &mut Seat<'_>,
     prompts: bool,
     begun: &mut Begun,
     byte: u8,
@@ -81,7 +81,7 @@ fn serve_byte<W: Write>(
     ensures refused { IfErr result EndsAnswer }
 {
     if byte == b'\n' {
-        return serve_begun(alloc, seat, prompts, begun, writer);
+        return serve_begun(rt, seat, prompts, begun, writer);
     }
     if begun.len() < 257 {
         begun.push(byte);
@@ -90,9 +90,9 @@ fn serve_byte<W: Write>(
 }
 
 /// Serves some bytes of the input. Returns whether the session is to end.
-fn serve_bytes<W: Write>(
-    alloc: Global,
-    seat: &mut Seat,
+fn serve_bytes<H: Files + AllocGlobal, W: Write>(
+    rt: &H,
+    seat: &mut Seat<'_>,
     prompts: bool,
     begun: &mut Begun,
     bytes: &[u8],
@@ -115,7 +115,7 @@ fn serve_bytes<W: Write>(
     ensures refused { IfErr result EndsAnswer }
 {
     for byte in bytes {
-        if serve_byte(alloc, seat, prompts, begun, *byte, writer)? {
+        if serve_byte(rt, seat, prompts, begun, *byte, writer)? {
             return Ok(true);
         }
     }
@@ -123,9 +123,9 @@ fn serve_bytes<W: Write>(
 }
 
 /// Serves what is left at the end of the input. No screen is drawn any more.
-fn serve_last<W: Write>(
-    alloc: Global,
-    seat: &mut Seat,
+fn serve_last<H: Files + AllocGlobal, W: Write>(
+    rt: &H,
+    seat: &mut Seat<'_>,
     prompts: bool,
     begun: &mut Begun,
     writer: &mut W,
@@ -145,7 +145,7 @@ fn serve_last<W: Write>(
     if begun.is_empty() {
         return put_text(seat, writer);
     }
-    serve_begun(alloc, seat, false, begun, writer)?;
+    serve_begun(rt, seat, false, begun, writer)?;
     Ok(())
 }
 
@@ -157,9 +157,9 @@ fn serve_last<W: Write>(
 /// - `Read`: a read failed. The complete lines read so far have been served.
 /// - `Write`: a write or a flush failed.
 /// - `OutOfMemory`: an allocation failed.
-pub fn attend<R: Read, W: Write>(
-    alloc: Global,
-    seat: &mut Seat,
+pub fn attend<H: Files + AllocGlobal, R: Read, W: Write>(
+    rt: &H,
+    seat: &mut Seat<'_>,
     prompts: bool,
     reader: &mut R,
     writer: &mut W,
@@ -183,9 +183,9 @@ pub fn attend<R: Read, W: Write>(
     let mut chunk = [0u8; 512];
     for _ in 0..u64::MAX {
         match reader.read(&mut chunk) {
-            Ok(0) => return serve_last(alloc, seat, prompts, &mut begun, writer),
+            Ok(0) => return serve_last(rt, seat, prompts, &mut begun, writer),
             Ok(n) => {
-                if serve_bytes(alloc, seat, prompts, &mut begun, &chunk[..n], writer)? {
+                if serve_bytes(rt, seat, prompts, &mut begun, &chunk[..n], writer)? {
                     return Ok(());
                 }
             }

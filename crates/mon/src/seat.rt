@@ -1,25 +1,38 @@
 //! A desk with the screen that is drawn of it.
 
-ghost use Rattle.std.specs.Prelude.{◌≡◌, ◌++◌, [], IfErr, IfOk, Ok, OnOk, if◌then◌else◌};
+ghost use Rattle.std.specs.Prelude.{◌≡◌, ◌++◌, [], ℕ, IfErr, IfOk, List, Ok, OnOk};
+ghost use Rattle.std.specs.Prelude.{if◌then◌else◌};
 ghost use Rattle.std.specs.Io.KnownBytes.{Appends};
-ghost use Rattle.mon.specs.Attended.{AnswersLine, prompt_of};
+ghost use Rattle.mon.specs.Attended.{AnswersLine, IsNoted, ServesLine, prompt_of};
 ghost use Rattle.mon.specs.Done.{EndsAnswer};
 ghost use Rattle.mon.specs.Seats.{Rests, answer_text, drawn, stretch_after, view_after};
+ghost use Rattle.mon_dispatch.specs.Lines.{Says};
 
+use crate::files::serve_files;
+use crate::notes::{Note, note_line, placed_at};
 use crate::wording::PROMPT;
+use accesses::Written;
 use arguments::Refusal;
+use arguments_play::MonWords;
 use mon_dispatch::serve;
 use mon_lines::{Command, Stretch, read_line};
 use mon_screen::{View, push_view};
 use mon_session::Desk;
 use std::alloc::{AllocError, Global};
 use std::io::Write;
+use std::rt::Files;
 
-/// A desk, and what a screen shows of it if one is drawn.
+/// A desk, with the words that its session was begun by.
 #[derive(Drop)]
-pub struct Seat {
+pub struct Seat<'a> {
+    pub words: &'a MonWords<'a>,
     pub desk: Desk,
+    /// What a screen shows of the desk, if one is drawn.
     pub view: Option<View>,
+    /// The lines that have placed what stands.
+    pub notes: Vec<Note>,
+    /// The addresses at which the session's file has a byte.
+    pub loaded: Written,
 }
 
 /// Returns what was made, or that an allocation failed.
@@ -31,7 +44,7 @@ pub fn of_memory<T>(made: Result<T, AllocError>) -> Result<T, Refusal>
 }
 
 /// Says something if it is asked for.
-pub fn say_if(seat: &mut Seat, is_asked: bool, words: &str) -> Result<(), Refusal>
+pub fn say_if(seat: &mut Seat<'_>, is_asked: bool, words: &str) -> Result<(), Refusal>
     ensures rests { Rests seat.old seat.new }
     ensures said { OnOk result (seat.new.desk.text.items
         ≡ seat.old.desk.text.items ++ (if is_asked then words.now else [])) }
@@ -44,7 +57,7 @@ pub fn say_if(seat: &mut Seat, is_asked: bool, words: &str) -> Result<(), Refusa
 }
 
 /// Writes and flushes the text of the desk, which has none afterwards.
-pub fn put_text<W: Write>(seat: &mut Seat, writer: &mut W) -> Result<(), Refusal>
+pub fn put_text<W: Write>(seat: &mut Seat<'_>, writer: &mut W) -> Result<(), Refusal>
     ensures rests { Rests seat.old seat.new }
     ensures written { IfOk result (λ _. Appends (W.contents writer.old) (W.contents writer.new)
         seat.old.desk.text.items) }
@@ -84,7 +97,12 @@ pub fn draw(alloc: Global, seat: &mut Seat) -> Result<(), Refusal>
 
 /// Draws the screen, and says that the next line may come if prompts are asked for. Does neither if
 /// the session is over.
-pub fn answer(alloc: Global, seat: &mut Seat, prompts: bool, is_over: bool) -> Result<(), Refusal>
+pub fn answer(
+    alloc: Global,
+    seat: &mut Seat<'_>,
+    prompts: bool,
+    is_over: bool,
+) -> Result<(), Refusal>
     ensures rests { Rests seat.old seat.new }
     ensures said { OnOk result (seat.new.desk.text.items
         ≡ answer_text is_over (prompt_of prompts) seat.old seat.old.desk.text.items) }
@@ -123,13 +141,33 @@ fn view_after(desk: &Desk, line: &[u8], view: Option<View>) -> Option<View>
     })
 }
 
-/// Does what a line asks for, and returns whether the session is to end.
-pub fn serve_line(alloc: Global, seat: &mut Seat, line: &[u8]) -> Result<bool, Refusal>
+/// Does what a line asks for at a desk, notes it if it has placed something, and returns whether
+/// the session is to end.
+fn serve_noted(alloc: Global, seat: &mut Seat<'_>, line: &[u8]) -> Result<bool, AllocError>
     ensures served { IfOk result
         (λ is_over. AnswersLine line.now is_over seat.old.desk seat.new.desk) }
-    ensures view { seat.new.view ≡ view_after seat.old.desk line.now seat.old.view }
-    ensures refused { IfErr result EndsAnswer }
+    ensures noted { OnOk result (IsNoted line.now seat.old seat.new) }
 {
     seat.view = view_after(&seat.desk, line, seat.view);
-    of_memory(serve(&mut seat.desk, alloc, line))
+    let pc = seat.desk.session.regs().pc;
+    let placed = placed_at(&seat.desk, line);
+    let is_over = serve(&mut seat.desk, alloc, line)?;
+    note_line(alloc, &mut seat.notes, &seat.desk, placed, pc, line)?;
+    Ok(is_over)
+}
+
+/// Does what a line asks for, also with files, and returns whether the session is to end.
+pub fn serve_line<H: Files + AllocGlobal>(
+    rt: &H,
+    seat: &mut Seat<'_>,
+    line: &[u8],
+) -> Result<bool, Refusal>
+    ensures served { IfOk result (λ is_over. (said : List ℕ)
+        × ServesLine line.now is_over seat.old seat.new said
+        × Says said seat.old.desk seat.new.desk) }
+    ensures refused { IfErr result EndsAnswer }
+{
+    let is_over = of_memory(serve_noted(rt.alloc(), seat, line))?;
+    serve_files(rt, seat, line)?;
+    Ok(is_over)
 }

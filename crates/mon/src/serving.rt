@@ -1,87 +1,35 @@
 //! What the word `mon` does.
 
-ghost use Rattle.std.specs.Prelude.{◌≡◌, ◌⊎◌, ◌++◌, [], ℕ, List, Option, None, Some, Err, IfErr};
+ghost use Rattle.std.specs.Prelude.{◌≡◌, ◌⊎◌, ◌++◌, [], ℕ, List, Option, Some, None, Err, IfErr};
 ghost use Rattle.std.specs.Prelude.{IfOk, OnOk, false, true};
 ghost use Rattle.std.specs.Io.KnownBytes.{Appends};
+ghost use Rattle.accesses.specs.Writing.{bytes_in};
 ghost use Rattle.arguments.specs.Asked.{file_view, map_of};
 ghost use Rattle.arguments.specs.Words.{Fits, Refuses, texts};
 ghost use Rattle.arguments.specs.declared.refusal.ReadFault.TheVariants.{Other};
 ghost use Rattle.arguments_play.specs.Mon.{MonAsked, asked, mon, mon_view};
-ghost use Rattle.assembler.specs.Assembly.{AssemblyView};
 ghost use Rattle.loading.specs.Loads.{IsLoaded};
 ghost use Rattle.model.specs.Event.{start};
 ghost use Rattle.model.specs.Session.{new_session};
 ghost use Rattle.model.specs.State.{is_map};
 ghost use Rattle.mon.specs.Attended.{IsAttended, IsAttendedSoFar};
-ghost use Rattle.mon.specs.Done.{AreNamed, EndsAnswer, EndsAt, EndsNamed, EndsSession, IsDone};
-ghost use Rattle.mon.specs.Done.{IsNewDesk, opening, places_in, with_names};
+ghost use Rattle.mon.specs.Done.{EndsAnswer, EndsAt, EndsSession, IsDone, opening};
 ghost use Rattle.mon.specs.Seats.{Rests};
 
 use crate::greeting::greet;
 use crate::lines::attend;
 use crate::screens::first_view;
 use crate::seat::{Seat, draw, of_memory};
+use crate::starting::{Started, start};
 use arguments::{Refusal, refuse, refuse_file, refused_words};
 use arguments_play::{MonWords, read_mon_words};
-use loading::{Loaded, load_names, load_with_history};
-use mon_session::Desk;
-use source_map::Places;
+use loading::{Loaded, load_with_history};
 use std::alloc::Global;
 use std::io::{IsTerminal, Read, Write};
 use std::rt::{Env, Files};
 
-/// Returns the places of what was loaded.
-fn places_of(alloc: Global, file: &str, loaded: &Loaded) -> Result<Places, Refusal>
-    ensures places { IfOk result (λ p. p ≡ places_in file.now loaded.now.assembly) }
-    ensures refused { IfErr result (λ fault. fault ≡ Refusal.OutOfMemory) }
-{
-    match &loaded.assembly {
-        Some(assembly) => of_memory(Places::of_source(alloc, file.as_bytes(), assembly)),
-        None => Ok(Places::new(alloc)),
-    }
-}
-
-/// Adds the names of a file of names, if one is named.
-fn add_names<H: Files + AllocGlobal>(
-    rt: &H,
-    words: &MonWords<'_>,
-    places: &mut Places,
-) -> Result<(), Refusal>
-    ensures named { OnOk result ((names : Option AssemblyView)
-        × AreNamed (mon_view words.now).symbols (file_view words.now.file) names
-        × (places.new ≡ with_names names places.old)) }
-    ensures refused { IfErr result (λ fault. (fault ≡ Refusal.OutOfMemory)
-        ⊎ EndsNamed (mon_view words.now).symbols (file_view words.now.file) fault) }
-{
-    let Some(path) = words.symbols else {
-        return Ok(());
-    };
-    let names = load_names(rt, &words.file, path)?;
-    of_memory(places.add_names(rt.alloc(), &names))?;
-    Ok(())
-}
-
-/// Returns the desk of what was loaded, with the names of a file of names, if one is named.
-fn named_desk<H: Files + AllocGlobal>(
-    rt: &H,
-    words: &MonWords<'_>,
-    loaded: Loaded,
-) -> Result<Desk, Refusal>
-    ensures made { IfOk result (λ desk. (names : Option AssemblyView)
-        × AreNamed (mon_view words.now).symbols (file_view words.now.file) names
-        × IsNewDesk loaded.session words.now.history
-        (with_names names (places_in words.now.file.file.now loaded.assembly)) desk) }
-    ensures refused { IfErr result (λ fault. (fault ≡ Refusal.OutOfMemory)
-        ⊎ EndsNamed (mon_view words.now).symbols (file_view words.now.file) fault) }
-{
-    let mut places = places_of(rt.alloc(), words.file.file, &loaded)?;
-    add_names(rt, words, &mut places)?;
-    let desk = of_memory(Desk::new(rt.alloc(), loaded.session, places, words.history))?;
-    Ok(desk)
-}
-
 /// Says what a session begins with, or draws a screen with it.
-fn say_opening(alloc: Global, seat: &mut Seat, prompts: bool) -> Result<(), Refusal>
+fn say_opening(alloc: Global, seat: &mut Seat<'_>, prompts: bool) -> Result<(), Refusal>
     ensures rests { OnOk result (Rests seat.old seat.new) }
     ensures said { OnOk result (seat.new.desk.text.items ≡ opening prompts seat.old) }
     ensures refused { IfErr result EndsAnswer }
@@ -93,9 +41,9 @@ fn say_opening(alloc: Global, seat: &mut Seat, prompts: bool) -> Result<(), Refu
 }
 
 /// Serves a session.
-fn serve<R: Read, O: Write>(
-    alloc: Global,
-    seat: &mut Seat,
+fn serve<H: Files + AllocGlobal, R: Read, O: Write>(
+    rt: &H,
+    seat: &mut Seat<'_>,
     prompts: bool,
     input: &mut R,
     output: &mut O,
@@ -113,14 +61,14 @@ fn serve<R: Read, O: Write>(
     ensures written { IfOk result (λ _. seat.new.desk.text.items ≡ []) }
     ensures refused { IfErr result EndsSession }
 {
-    say_opening(alloc, seat, prompts)?;
-    attend(alloc, seat, prompts, input, output)
+    say_opening(rt.alloc(), seat, prompts)?;
+    attend(rt, seat, prompts, input, output)
 }
 
 /// Serves a session, says why it ended before its input did, and returns the exit status.
-fn served<R: Read, O: Write, E: Write>(
-    alloc: Global,
-    seat: &mut Seat,
+fn served<H: Files + AllocGlobal, R: Read, O: Write, E: Write>(
+    rt: &H,
+    seat: &mut Seat<'_>,
     prompts: bool,
     input: &mut R,
     output: &mut O,
@@ -130,7 +78,7 @@ fn served<R: Read, O: Write, E: Write>(
         (O.contents output.old) (O.contents output.new) result }
     ensures quiet { result ≡ 0 → errors.new ≡ errors.old }
 {
-    match serve(alloc, seat, prompts, input, output) {
+    match serve(rt, seat, prompts, input, output) {
         Ok(()) => 0,
         Err(refusal) => refuse(refusal, errors),
     }
@@ -144,9 +92,9 @@ fn wants_prompts<R: IsTerminal>(is_asked: bool, input: &R) -> bool
 }
 
 /// Serves a session on what was loaded, and returns the exit status.
-fn mon_loaded<H: Env + Files + AllocGlobal, R: Read + IsTerminal, O: Write, E: Write>(
+fn mon_loaded<'a, H: Env + Files + AllocGlobal, R: Read + IsTerminal, O: Write, E: Write>(
     rt: &H,
-    words: &MonWords<'_>,
+    words: &'a MonWords<'a>,
     loaded: Loaded,
     input: &mut R,
     output: &mut O,
@@ -155,7 +103,8 @@ fn mon_loaded<H: Env + Files + AllocGlobal, R: Read + IsTerminal, O: Write, E: W
     requires { (image : List (Option ℕ))
         × IsLoaded (file_view words.now.file) image loaded.assembly
         × (loaded.session
-        ≡ new_session words.now.history (start (map_of (file_view words.now.file)) image)) }
+        ≡ new_session words.now.history (start (map_of (file_view words.now.file)) image))
+        × (loaded.written ≡ bytes_in image) }
     ensures done { IsDone (mon_view words.now) (R.remaining input.old) (R.remaining input.new)
         (O.contents output.old) (O.contents output.new) (record {
           held = E.contents errors.old;
@@ -164,11 +113,19 @@ fn mon_loaded<H: Env + Files + AllocGlobal, R: Read + IsTerminal, O: Write, E: W
     ensures quiet { result ≡ 0 → errors.new ≡ errors.old }
 {
     let prompts = wants_prompts(words.prompts, input);
-    match named_desk(rt, words, loaded) {
-        Ok(desk) => {
+    match start(rt, words, loaded) {
+        Ok(started) => {
+            let Started { desk, loaded } = started;
             let view = first_view(rt, words, input, &desk);
-            let mut seat = Seat { desk, view };
-            served(rt.alloc(), &mut seat, prompts, input, output, errors)
+            let notes = Vec::new(rt.alloc());
+            let mut seat = Seat {
+                words,
+                desk,
+                view,
+                notes,
+                loaded,
+            };
+            served(rt, &mut seat, prompts, input, output, errors)
         }
         Err(refusal) => {
             let file = words.symbols.unwrap_or(words.file.file);
@@ -178,9 +135,9 @@ fn mon_loaded<H: Env + Files + AllocGlobal, R: Read + IsTerminal, O: Write, E: W
 }
 
 /// Does what words that fit the command line ask for, and returns the exit status.
-fn mon_words<H: Env + Files + AllocGlobal, R: Read + IsTerminal, O: Write, E: Write>(
+fn mon_words<'a, H: Env + Files + AllocGlobal, R: Read + IsTerminal, O: Write, E: Write>(
     rt: &H,
-    words: &MonWords<'_>,
+    words: &'a MonWords<'a>,
     input: &mut R,
     output: &mut O,
     errors: &mut E,

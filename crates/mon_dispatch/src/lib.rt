@@ -13,5 +13,5 @@ mod lines;
 mod looks;
 pub mod wording;
 
-pub use lines::serve;
+pub use lines::{Outcome, follow, serve};
 pub use looks::look;

@@ -5,6 +5,7 @@ ghost use Rattle.mon_dispatch.specs.Lines.{Does, Follows, IsTooLong, Says, Serve
 ghost use Rattle.mon_dispatch.specs.Lines.{outcome_of, read_at};
 ghost use Rattle.mon_dispatch.specs.LineTexts.{behind_text, decimal_text, if_decimal, line_text};
 ghost use Rattle.mon_dispatch.specs.LineTexts.{moved_text};
+ghost use Rattle.mon_lines.specs.Lines.{line_of};
 ghost use Rattle.mon_session.specs.Course.{ShowsOnly};
 
 use crate::look;
@@ -110,12 +111,14 @@ fn execute(desk: &mut Desk, alloc: Global, command: Command<'_>) -> Result<Outco
     Ok(outcome)
 }
 
-/// Does what a line asks for, or says what is wrong in it. Returns what it has made of the session.
-fn follow(desk: &mut Desk, alloc: Global, line: &[u8]) -> Result<Outcome, AllocError>
-    ensures { IfOk result
-        (λ outcome. Follows (read_at desk.old line.now) outcome desk.old desk.new) }
+/// Does what a line asks for, or says what is wrong in it. `PC` in the line is `pc`. Returns what
+/// the line has made of the session.
+///
+/// Errors: `AllocError` if an allocation fails.
+pub fn follow(desk: &mut Desk, alloc: Global, pc: u16, line: &[u8]) -> Result<Outcome, AllocError>
+    ensures { IfOk result (λ outcome. Follows (line_of desk.old.places.names pc line.now) outcome
+        desk.old desk.new) }
 {
-    let pc = desk.session.regs().pc;
     match read_line(line, &desk.places, pc) {
         Ok(command) => execute(desk, alloc, command),
         Err(slip) => {
@@ -204,7 +207,8 @@ pub fn serve(desk: &mut Desk, alloc: Global, line: &[u8]) -> Result<bool, AllocE
         desk.say(LINE_TOO_LONG)?;
         return Ok(false);
     }
-    let outcome = follow(desk, alloc, line)?;
+    let pc = desk.session.regs().pc;
+    let outcome = follow(desk, alloc, pc, line)?;
     tell_behind(desk, outcome, line)?;
     Ok(is_over(outcome))
 }

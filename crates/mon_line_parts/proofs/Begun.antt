@@ -40,3 +40,5 @@ place_is topic.Quit = refl
 place_is topic.Trace = refl
 place_is topic.Display = refl
 place_is topic.Undisplay = refl
+place_is topic.Save = refl
+place_is topic.Reload = refl

@@ -113,6 +113,27 @@ quoted_next (b ∷ c ∷ text) =
     else if b == 92 then Some (with_escape (escaped c) (c ∷ text))
     else Some (b, c ∷ text)
 
+-- ---- names of files
+
+abbrev pub is_no_quote : ℕ → Bool
+is_no_quote b = not (b == 34)
+
+abbrev pub is_no_blank : ℕ → Bool
+is_no_blank b = not (is_blank b)
+
+abbrev pub up_to : (ℕ → Bool) → List ℕ → List ℕ
+up_to is_part text = take (prefix_len is_part text) text
+
+abbrev pub behind_part : (ℕ → Bool) → List ℕ → List ℕ
+behind_part is_part text = drop (prefix_len is_part text) text
+
+-- A file's name and the text after it: what stands between two `"`, of which the second may be
+-- missing, otherwise what stands before the first blank.
+abbrev pub file_of : List ℕ → List ℕ × List ℕ
+file_of text = if is_next 34 text
+    then (up_to is_no_quote (drop 1 text), after 1 (behind_part is_no_quote (drop 1 text)))
+    else (up_to is_no_blank text, after 0 (behind_part is_no_blank text))
+
 -- ---- numbers
 
 abbrev pub if_below : ℕ → ℕ → Option ℕ

@@ -12,7 +12,7 @@ pub struct Help {
 }
 
 /// The form, the effect and the example of each topic, in the order of `Topic`.
-pub const HELP: [(&str, &str, &str); 33] = [
+pub const HELP: [(&str, &str, &str); 35] = [
     ("step [N]", "makes N steps, or 1", "step 3"),
     ("over", "makes a JSR as one step", "over"),
     ("out", "steps until this subroutine has returned", "out"),
@@ -113,5 +113,15 @@ pub const HELP: [(&str, &str, &str); 33] = [
         "undisplay WHERE",
         "shows the byte there no more",
         "undisplay $0010",
+    ),
+    (
+        "save FILE [FROM TO]",
+        "writes a tape of memory as it is now",
+        "save new.tape, save part.tape $0200 $02FF",
+    ),
+    (
+        "reload",
+        "loads the file again, keeps breaks, watches and displays",
+        "reload",
     ),
 ];

@@ -4,7 +4,9 @@ ghost use Rattle.std.specs.Prelude.{◌≡◌, ◌≤◌, ◌==◌, drop, length
 ghost use Rattle.std.specs.List.{prefix_len};
 ghost use Rattle.std.specs.Option.{option_map};
 ghost use Rattle.model.specs.Token.{is_blank, is_word_byte};
-ghost use Rattle.mon_line_parts.specs.Reading.{after, after_word, character_of, escaped, is_empty};
+ghost use Rattle.mon_line_parts.specs.Reading.{after, after_word, behind_part, character_of};
+ghost use Rattle.mon_line_parts.specs.Reading.{escaped, file_of, is_empty, is_no_blank, is_no_quote};
+ghost use Rattle.mon_line_parts.specs.Reading.{up_to};
 ghost use Rattle.mon_line_parts.specs.Reading.{is_next, is_word, past, quoted_next, skip};
 ghost use Rattle.mon_line_parts.specs.Reading.{with_escape, without_comment, without_quote, word_of};
 
@@ -177,4 +179,37 @@ pub fn quoted_next(text: &[u8]) -> Option<(u8, &[u8])>
         [b'\\', second, ..] => Some(with_escape(escaped(*second), &text[1..])),
         [first, rest @ ..] => Some((*first, rest)),
     }
+}
+
+/// Counts the bytes before the first `"`.
+fn unquoted_bytes(text: &[u8]) -> usize
+    ensures counted { result ≡ prefix_len is_no_quote text.now }
+    ensures inside { result ≤ length text.now }
+{
+    text.iter().take_while(|byte| **byte != b'"').count()
+}
+
+/// Counts the bytes before the first blank.
+fn unblank_bytes(text: &[u8]) -> usize
+    ensures counted { result ≡ prefix_len is_no_blank text.now }
+    ensures inside { result ≤ length text.now }
+{
+    text.iter()
+        .take_while(|byte| !matches!(**byte, b' ' | b'\t'))
+        .count()
+}
+
+/// Returns the name of a file and the text after it: what stands between two `"`, of which the
+/// second may be missing, otherwise what stands before the first blank. The name has no byte if
+/// nothing is left.
+pub fn file_of(text: &[u8]) -> (&[u8], &[u8])
+    ensures { (result.0.now, result.1.now) ≡ file_of text.now }
+{
+    if is_next(b'"', text) {
+        let text = without_first(text);
+        let (name, rest) = text.split_at(unquoted_bytes(text));
+        return (name, after(1, rest));
+    }
+    let (name, rest) = text.split_at(unblank_bytes(text));
+    (name, after(0, rest))
 }

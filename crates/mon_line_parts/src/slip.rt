@@ -26,6 +26,8 @@ pub enum Lack {
     /// The level of the interrupt line.
     Level,
     Instruction,
+    /// The name of a file.
+    File,
 }
 
 /// Why a line asks for nothing that can be done.

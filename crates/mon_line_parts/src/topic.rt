@@ -1,7 +1,7 @@
 //! The words that a line begins with.
 
 ghost use Rattle.std.specs.Prelude.{◌≡◌, ◌≤◌, map};
-ghost use Rattle.mon_line_parts.specs.Help.{effect_of, example_of, form_of};
+ghost use Rattle.mon_line_parts.specs.Help.{effect_of, example_of, form_of, help_rows, help_view};
 ghost use Rattle.mon_line_parts.specs.Topics.{begins_with, begun, by_words, common, is_same, row_view};
 ghost use Rattle.mon_line_parts.specs.Topics.{topic_of, whole, words};
 
@@ -44,11 +44,13 @@ pub enum Topic {
     Trace,
     Display,
     Undisplay,
+    Save,
+    Reload,
 }
 
 /// The first words, each with its topic, but for `exit`, which is not to be shortened. A word of
 /// one letter or two is an abbreviation that two words would have in common.
-pub const WORDS: [(&[u8], Topic); 52] = [
+pub const WORDS: [(&[u8], Topic); 54] = [
     (b"step", Topic::Step),
     (b"s", Topic::Step),
     (b"over", Topic::Over),
@@ -96,6 +98,8 @@ pub const WORDS: [(&[u8], Topic); 52] = [
     (b"irq", Topic::Irq),
     (b"nmi", Topic::Nmi),
     (b"reset", Topic::Reset),
+    (b"save", Topic::Save),
+    (b"reload", Topic::Reload),
     (b"help", Topic::Help),
     (b"h", Topic::Help),
     (b"quit", Topic::Quit),
@@ -104,7 +108,7 @@ pub const WORDS: [(&[u8], Topic); 52] = [
 ];
 
 /// The topics, in the order in which help lists them.
-pub const TOPICS: [Topic; 32] = [
+pub const TOPICS: [Topic; 34] = [
     Topic::Step,
     Topic::Over,
     Topic::Out,
@@ -135,23 +139,38 @@ pub const TOPICS: [Topic; 32] = [
     Topic::Irq,
     Topic::Nmi,
     Topic::Reset,
+    Topic::Save,
+    Topic::Reload,
     Topic::Help,
     Topic::Quit,
 ];
 
+/// Returns what help says of each topic, in the order of `Topic`.
+#[tactic(auto, unfolding(crate::specs::Help::help_rows))]
+fn all_help() -> &'static [(&'static str, &'static str, &'static str)]
+    ensures { map help_view result.now ≡ help_rows }
+{
+    &HELP
+}
+
 impl Topic {
     /// Returns what help says of it.
-    #[tactic(auto, using(crate::proofs::Begun::place_is))]
     pub fn help(self) -> Help
         ensures form { result.form.now ≡ form_of self }
         ensures effect { result.effect.now ≡ effect_of self }
         ensures example { result.example.now ≡ example_of self }
     {
-        let (form, effect, example) = HELP[self as usize];
-        Help {
-            form,
-            effect,
-            example,
+        match all_help().get(self as usize) {
+            Some(row) => Help {
+                form: row.0,
+                effect: row.1,
+                example: row.2,
+            },
+            None => Help {
+                form: "",
+                effect: "",
+                example: "",
+            },
         }
     }
 }

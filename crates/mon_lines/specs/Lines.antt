@@ -6,9 +6,9 @@ use Rattle.model.specs.declared.event.Setting.{Setting}
 use Rattle.model.specs.declared.instruction.Mnemonic.{Mnemonic}
 use Rattle.model.specs.declared.instruction.Profile.TheVariants.{C}
 use Rattle.source_map.specs.Names.{Named}
-use Rattle.mon_line_parts.specs.Reading.{Reads, SeenWhy, unknown, several, missing, behind, after, after_word, and_then, is_empty, is_next, is_word, number_in, past, skip, word_of}
+use Rattle.mon_line_parts.specs.Reading.{Reads, SeenWhy, unknown, several, missing, behind, after, after_word, and_then, file_of, is_empty, is_next, is_word, number_in, past, skip, word_of}
 use Rattle.mon_line_parts.specs.Values.{bit_of, bytes_of, count_of}
-use Rattle.mon_lines.specs.Parts.{address_at, flag_of, kind_of, level_of, setting_of, shown_of, stretch_of, tests_of, times_of, undoing_of, watched_register}
+use Rattle.mon_lines.specs.Parts.{address_at, ends_of, flag_of, kind_of, level_of, setting_of, shown_of, stretch_of, tests_of, times_of, undoing_of, watched_register}
 use Rattle.mon_line_parts.specs.Topics.{topic_of}
 use Rattle.mon_lines.specs.declared.command.Command.{Command}
 use Rattle.mon_lines.specs.declared.command.Command.TheVariants as command
@@ -59,6 +59,8 @@ pub data SeenCommand : Type 0 where
   irq : Bool → SeenCommand
   nmi : SeenCommand
   reset : SeenCommand
+  save : List ℕ → Option Stretch → SeenCommand
+  reload : SeenCommand
   help : Option Topic → SeenCommand
   forms : Mnemonic → SeenCommand
   quit : SeenCommand
@@ -99,6 +101,8 @@ command_view command.Screen = screen
 command_view (command.Irq level) = irq level
 command_view command.Nmi = nmi
 command_view command.Reset = reset
+command_view (command.Save file stretch) = save file.now stretch
+command_view command.Reload = reload
 command_view (command.Help about) = help about
 command_view (command.Forms mnemonic) = forms mnemonic
 command_view command.Quit = quit
@@ -190,6 +194,15 @@ put_from names pc text =
     and_then (bytes_of names rest) (λ bytes rest.
     Ok (put address bytes, rest)))
 
+-- The name of a file, and two addresses if something is left.
+abbrev pub saved_in : List Named → ℕ → List ℕ → List ℕ → Reads SeenCommand
+saved_in names pc file text = if is_empty text then Ok (save file None, text)
+    else and_then (ends_of names pc text) (λ stretch rest. Ok (save file (Some stretch), rest))
+
+abbrev pub saved_from : List Named → ℕ → List ℕ → Reads SeenCommand
+saved_from names pc text = if is_empty (file_of text).0 then Err (missing lacking.File)
+    else saved_in names pc (file_of text).0 (file_of text).1
+
 -- What `help` asks for by a word. What stands behind the word does not count.
 abbrev pub helped_by : List ℕ → Option Topic × Bool → Reads SeenCommand
 helped_by word (Some about, many) = Ok (help (Some about), [])
@@ -212,6 +225,8 @@ putting names pc text topic.Put = put_from names pc text
 putting names pc text topic.Asm = assembled_from names pc text
 putting names pc text topic.«Type» =
     and_then (bytes_of names text) (λ bytes rest. Ok (type_in bytes, rest))
+putting names pc text topic.Save = saved_from names pc text
+putting names pc text topic.Reload = Ok (reload, text)
 putting names pc text topic.Help = helped_from text
 putting names pc text topic.Trace = Ok (help (Some topic.Trace), text)
 putting names pc text _ = Ok (quit, text)

@@ -139,6 +139,15 @@ stretch_of names pc text = and_then (address_at names pc text) (λ first rest.
     else Err (missing lacking.Points))
     else Ok (from_to first first, rest))
 
+-- Two points may stand between two addresses.
+abbrev pub past_points : List ℕ → List ℕ
+past_points text = if is_next (byte ".") text then past (byte ".") (after 1 text) else text
+
+-- Two addresses, the second of which is not below the first.
+unfoldable pub ends_of : List Named → ℕ → List ℕ → Reads Stretch
+ends_of names pc text = and_then (address_at names pc text) (λ first rest.
+    and_then (address_at names pc (past_points rest)) (last_of first))
+
 -- The register whose changes are watched where its name, a capital or not, stands in the place of an
 -- address.
 unfoldable pub watched_register : List ℕ → Option Register

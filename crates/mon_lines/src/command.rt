@@ -152,6 +152,13 @@ pub enum Command<'a> {
     Irq(bool),
     Nmi,
     Reset,
+    /// A tape of memory is written to a file: of a stretch, or of all that is there.
+    Save {
+        file: &'a [u8],
+        stretch: Option<Stretch>,
+    },
+    /// The file of the session is loaded again.
+    Reload,
     Help(Option<Topic>),
     /// The forms of an instruction.
     Forms(Mnemonic),

@@ -9,17 +9,18 @@ ghost use Rattle.mon_lines.specs.Lines.{command_view, decimal_address, deleted_f
 ghost use Rattle.mon_lines.specs.Lines.{going_from, helped_from, helped_on, instructions_from};
 ghost use Rattle.mon_lines.specs.Lines.{is_back, line_of, set_from, undisplayed_from};
 ghost use Rattle.mon_lines.specs.Lines.{has_address, is_short_decimal, line_by, put_from, putting};
-ghost use Rattle.mon_lines.specs.Lines.{moving, seeing, until_from, watched_from, whole_line};
+ghost use Rattle.mon_lines.specs.Lines.{moving, saved_from, saved_in, seeing, until_from};
+ghost use Rattle.mon_lines.specs.Lines.{watched_from, whole_line};
 ghost use Rattle.mon_line_parts.specs.Topics.{topic_of};
 
 use crate::command::{Command, Register, Undoing};
 use crate::slip::Slip;
-use crate::stretches::{kind_of, shown_of, stretch_of, watched_register};
+use crate::stretches::{ends_of, kind_of, shown_of, stretch_of, watched_register};
 use crate::tests::{flag_of, register_of, tests_of, times_of};
 use debugger::Setting;
 use mon_line_parts::{
-    Lack, Topic, Why, address_of, after, after_word, bit_of, byte_of, bytes_of, count_of, is_empty,
-    is_next, is_word, number_in, past, skip, topic_of, word_of,
+    Lack, Topic, Why, address_of, after, after_word, bit_of, byte_of, bytes_of, count_of, file_of,
+    is_empty, is_next, is_word, number_in, past, skip, topic_of, word_of,
 };
 use optable::{Mnemonic, Profile, mnemonic_in};
 use source_map::{Names, Places};
@@ -266,6 +267,40 @@ fn put<'a>(names: &Names, pc: u16, text: &'a [u8]) -> Result<(Command<'a>, &'a [
     Ok((Command::Put { address, bytes }, rest))
 }
 
+/// Reads what is saved in a file: all, or what lies between two addresses.
+fn saved_in<'a>(
+    names: &Names,
+    pc: u16,
+    file: &'a [u8],
+    text: &'a [u8],
+) -> Result<(Command<'a>, &'a [u8]), Why<'a>>
+    ensures ok { IfOk result (λ p. saved_in names.now pc file.now text.now
+        ≡ Ok (command_view p.0, p.1.now)) }
+    ensures err { IfErr result
+        (λ why. saved_in names.now pc file.now text.now ≡ Err (why_view why)) }
+{
+    if is_empty(text) {
+        let stretch = None;
+        return Ok((Command::Save { file, stretch }, text));
+    }
+    let (stretch, rest) = ends_of(names, pc, text)?;
+    let stretch = Some(stretch);
+    Ok((Command::Save { file, stretch }, rest))
+}
+
+/// Reads `FILE [WHERE WHERE]`.
+fn saved<'a>(names: &Names, pc: u16, text: &'a [u8]) -> Result<(Command<'a>, &'a [u8]), Why<'a>>
+    ensures ok { IfOk result (λ p. saved_from names.now pc text.now
+        ≡ Ok (command_view p.0, p.1.now)) }
+    ensures err { IfErr result (λ why. saved_from names.now pc text.now ≡ Err (why_view why)) }
+{
+    let (file, rest) = file_of(text);
+    if is_empty(file) {
+        return Err(Why::Missing(Lack::File));
+    }
+    saved_in(names, pc, file, rest)
+}
+
 /// Reads the word behind `help`: a mnemonic if it is one. `rest` is what is left, which is nothing.
 fn helped_on<'a>(
     word: &'a [u8],
@@ -397,6 +432,8 @@ fn putting<'a>(
             let (bytes, rest) = bytes_of(names, text)?;
             Ok((Command::Type(bytes), rest))
         }
+        Topic::Save => saved(names, pc, text),
+        Topic::Reload => Ok((Command::Reload, text)),
         Topic::Help => helped(text),
         Topic::Trace => Ok((Command::Help(Some(Topic::Trace)), text)),
         _ => Ok((Command::Quit, text)),

@@ -2,12 +2,13 @@
 
 ghost use Rattle.std.specs.Prelude.{◌≡◌, ◌≤◌, IfErr, IfOk};
 ghost use Rattle.mon_line_parts.specs.Reading.{and_then, why_view};
-ghost use Rattle.mon_lines.specs.Parts.{by_count, counted_from, from_to, kind_of, last_of, second_of};
-ghost use Rattle.mon_lines.specs.Parts.{shown_of, so_many_from, stretch_of, watched_register};
+ghost use Rattle.mon_lines.specs.Parts.{by_count, counted_from, ends_of, from_to, kind_of, last_of};
+ghost use Rattle.mon_lines.specs.Parts.{past_points, second_of, shown_of, so_many_from, stretch_of};
+ghost use Rattle.mon_lines.specs.Parts.{watched_register};
 
 use crate::command::{Register, Stretch, WatchKind};
 use mon_line_parts::{
-    Lack, Why, address_of, after, after_word, count_of, is_empty, is_next, is_word, word_of,
+    Lack, Why, address_of, after, after_word, count_of, is_empty, is_next, is_word, past, word_of,
 };
 use source_map::{Names, is_same_word};
 
@@ -51,6 +52,28 @@ pub fn stretch_of<'a>(
         return Err(Why::Missing(Lack::Points));
     }
     let (last, rest) = address_of(names, pc, after(1, after(1, rest)))?;
+    last_of(first, last, rest)
+}
+
+/// Returns a text without the two points with which it may begin.
+fn past_points(text: &[u8]) -> &[u8]
+    ensures { result.now ≡ past_points text.now }
+{
+    if is_next(b'.', text) {
+        past(b'.', after(1, text))
+    } else {
+        text
+    }
+}
+
+/// Reads `WHERE WHERE` or `WHERE..WHERE`.
+#[tactic(auto, unfolding(crate::specs::Parts::ends_of))]
+pub fn ends_of<'a>(names: &Names, pc: u16, text: &'a [u8]) -> Result<(Stretch, &'a [u8]), Why<'a>>
+    ensures ok { IfOk result (λ p. ends_of names.now pc text.now ≡ Ok (p.0, p.1.now)) }
+    ensures err { IfErr result (λ why. ends_of names.now pc text.now ≡ Err (why_view why)) }
+{
+    let (first, rest) = address_of(names, pc, text)?;
+    let (last, rest) = address_of(names, pc, past_points(rest))?;
     last_of(first, last, rest)
 }
 

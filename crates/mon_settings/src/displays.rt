@@ -21,7 +21,7 @@ use std::alloc::AllocError;
 const MOST_DISPLAYED: usize = 16;
 
 /// Returns whether an address is one of those shown.
-fn is_displayed(displays: &[u16], address: u16) -> bool
+pub fn is_displayed(displays: &[u16], address: u16) -> bool
     ensures { result ≡ is_displayed address displays.now }
 {
     displays.iter().any(|at| address == *at)

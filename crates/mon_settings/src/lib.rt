@@ -24,6 +24,6 @@ pub use asm::assemble;
 pub use breaks::set_break;
 pub use bytes::{hand_in, put};
 pub use deleting::{delete, delete_register, list};
-pub use displays::{display, list_displays, show_displays, undisplay};
+pub use displays::{display, is_displayed, list_displays, show_displays, undisplay};
 pub use events::{ask_nmi, reset, set, set_flag, set_irq};
 pub use watches::{Unwatched, set_watch};

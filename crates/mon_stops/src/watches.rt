@@ -89,7 +89,7 @@ impl Watch {
     }
 
     /// Returns whether a register is what is watched.
-    pub(crate) fn is_of(&self, register: Register) -> bool
+    pub fn is_of(&self, register: Register) -> bool
         ensures { result ≡ is_of register self.now }
     {
         match self {

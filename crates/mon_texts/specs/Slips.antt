@@ -7,7 +7,7 @@ use Rattle.mon_line_parts.specs.Reading.{SeenWhy, unknown, several, missing, unr
 use Rattle.mon_line_parts.specs.Topics.{TopicWord, begins_with, words}
 use Rattle.mon_line_parts.specs.declared.slip.Lack.{Lack}
 use Rattle.mon_line_parts.specs.declared.slip.Lack.TheVariants as lacking
-use Rattle.mon_texts.specs.declared.wording.TheConstants.{ADDEND, AND, AN_ADDRESS, AN_INSTRUCTION, A_NUMBER, A_REGISTER, A_VALUE, BINARY_DIGITS, COMPARISON, HEX_DIGITS, LAST_ADDRESS, LEFT_OVER, LEVEL, MISSING, NOT_BETWEEN, NO_NAME, NO_WORD, POINTS, QUOTED_TEXT, SEVERAL_WORDS, SUBTRAHEND, TIMES_NUMBER, TOO_MANY, UNREADABLE}
+use Rattle.mon_texts.specs.declared.wording.TheConstants.{ADDEND, AND, AN_ADDRESS, AN_INSTRUCTION, A_FILE, A_NUMBER, A_REGISTER, A_VALUE, BINARY_DIGITS, COMPARISON, HEX_DIGITS, LAST_ADDRESS, LEFT_OVER, LEVEL, MISSING, NOT_BETWEEN, NO_NAME, NO_WORD, POINTS, QUOTED_TEXT, SEVERAL_WORDS, SUBTRAHEND, TIMES_NUMBER, TOO_MANY, UNREADABLE}
 
 -- A byte between quotes: `?` is put for one that is no character.
 abbrev pub quoted_byte : ℕ → List ℕ
@@ -37,6 +37,7 @@ lack_text lacking.LastAddress = LAST_ADDRESS.now
 lack_text lacking.Register = A_REGISTER.now
 lack_text lacking.Level = LEVEL.now
 lack_text lacking.Instruction = AN_INSTRUCTION.now
+lack_text lacking.File = A_FILE.now
 
 abbrev pub range_text : ℕ → ℕ → List ℕ
 range_text least most

@@ -11,7 +11,7 @@ ghost use Rattle.mon_texts.specs.Slips.{slip_text};
 
 use crate::help::push_example;
 use crate::wording::{
-    A_NUMBER, A_REGISTER, A_VALUE, ADDEND, AN_ADDRESS, AN_INSTRUCTION, AND, BINARY_DIGITS,
+    A_FILE, A_NUMBER, A_REGISTER, A_VALUE, ADDEND, AN_ADDRESS, AN_INSTRUCTION, AND, BINARY_DIGITS,
     COMPARISON, HEX_DIGITS, LAST_ADDRESS, LEFT_OVER, LEVEL, MISSING, NO_NAME, NO_WORD, NOT_BETWEEN,
     POINTS, QUOTED_TEXT, SEVERAL_WORDS, SUBTRAHEND, TIMES_NUMBER, TOO_MANY, UNREADABLE,
 };
@@ -115,6 +115,7 @@ fn words_of(lack: Lack) -> &'static str
         Lack::Register => A_REGISTER,
         Lack::Level => LEVEL,
         Lack::Instruction => AN_INSTRUCTION,
+        Lack::File => A_FILE,
     }
 }
 

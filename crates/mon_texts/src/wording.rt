@@ -42,6 +42,8 @@ pub const LEVEL: &str = "on or off";
 
 pub const AN_INSTRUCTION: &str = "an instruction";
 
+pub const A_FILE: &str = "the name of a file";
+
 // What is wrong in a line.
 pub const NO_WORD: &str = " is no word of mon; help lists them";
 

@@ -1,11 +1,13 @@
-use Rattle.std.proofs.Common.{◌∙◌, ◌++◌, [], ap, append_assoc, append-nil, false, sym, subst, ◌<◌, length}
+use Rattle.std.proofs.Common.{◌∙◌, ◌++◌, [], ap, append_assoc, append-nil, false, refl, sym, subst, ◌<◌, length}
 use Rattle.std.proofs.lemmas.Bool.{eqb-false, eqb-true}
 use Rattle.std.proofs.lemmas.Result.{IfOk-weaker}
 use Rattle.std.specs.Io.KnownBytes.{Appends}
 use Rattle.mon.specs.Attended.{line_end_of, prompt_of}
 use Rattle.mon.proofs.Pieces.{ends_line, ends_none, length_some, length_zero, shown_on}
 use Rattle.mon.proofs.lines.serve_last.Goals as goal
-use Rattle.mon.proofs.LinesServed.{plain_answer}
+use Rattle.mon.proofs.LinesServed.{plain_line}
+use Rattle.mon.specs.Seats.{without_screen}
+use Rattle.std.specs.Io.BufRead.{strip_last}
 
 pub returns-then-is_empty-clause-served : goal.returns-then-is_empty-clause-served
 returns-then-is_empty-clause-served g c =
@@ -37,7 +39,7 @@ returns-clause-served g c =
     let some : 0 < length kept = length_some kept (eqb-false _ _ (sym c.if-is_empty.ensures)) in (
       said,
       subst (Appends (g.W.Write.contents c.args.writer.now) (g.W.Write.contents c.serve_begun.new.writer))
-          (plain_answer is_over last (between.desk.text.items ++ said) served.1.4
+          (plain_line (strip_last 13 kept) is_over (without_screen between) last said (between.desk.text.items ++ said) refl served.1
           ∙ ap (λ t. t ++ said) c.in_ok-say_if.ensures.said ∙ append_assoc first.desk.text.items line_end said)
           served.2,
       λ told begun before s. (

@@ -7,8 +7,16 @@ use Rattle.mon.proofs.serving.mon_loaded.Goals as goal
 
 pub returns-in-Ok-clause-done : goal.returns-in-Ok-clause-done
 returns-in-Ok-clause-done g c = inr (inr (
-  record { desk = c.in-Ok.desk; view = c.first_view-view.result },
-  named_starts (mon_view c.args.words.now) c.args.loaded.session c.args.loaded.assembly c.in-Ok.desk c.requires c.in-Ok.ensures.made,
+  record {
+    words = c.args.words;
+    desk = c.in-Ok.started.desk;
+    view = c.first_view-view.result;
+    notes = c.new-notes.result;
+    loaded = c.in-Ok.started.loaded;
+  },
+  named_starts (mon_view c.args.words.now) c.args.loaded.session c.args.loaded.assembly c.args.loaded.written c.in-Ok.started.loaded c.in-Ok.started.desk c.requires c.in-Ok.ensures.made c.in-Ok.ensures.loaded,
+  c.new-notes.ensures.items,
+  refl,
   c.first_view-view.ensures,
   c.wants_prompts-prompts.result,
   c.wants_prompts-prompts.ensures,

@@ -8,7 +8,8 @@ pub returns-clause-rests : goal.returns-clause-rests
 returns-clause-rests c =
     let first = c.args.seat.now in
     let shown = shows_then first.desk c.greet.new.desk c.show.new.self c.greet.ensures.shows c.show.ensures.shows in
-    (shows_then first.desk c.show.new.self c.draw.new.seat.desk shown c.draw.ensures.rests.0, c.draw.ensures.rests.1)
+    let rests = c.draw.ensures.rests in
+    (shows_then first.desk c.show.new.self c.draw.new.seat.desk shown rests.0, rests.1, rests.2, rests.3, rests.4)
 
 pub returns-clause-said : goal.returns-clause-said
 returns-clause-said c =

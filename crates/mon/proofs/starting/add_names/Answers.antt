@@ -1,7 +1,7 @@
 use Rattle.std.proofs.Common.{Some}
 use Rattle.arguments.specs.Asked.{file_view}
 use Rattle.mon.proofs.Starts.{named_with}
-use Rattle.mon.proofs.serving.add_names.Goals as goal
+use Rattle.mon.proofs.starting.add_names.Goals as goal
 
 pub returns-clause-named : goal.returns-clause-named
 returns-clause-named g c = (

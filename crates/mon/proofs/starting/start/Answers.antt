@@ -1,6 +1,6 @@
 use Rattle.std.proofs.Common.{◌∙◌, ap}
-use Rattle.mon.specs.Done.{with_names}
-use Rattle.mon.proofs.serving.named_desk.Goals as goal
+use Rattle.mon.specs.Starts.{with_names}
+use Rattle.mon.proofs.starting.start.Goals as goal
 
 pub returns-clause-made : goal.returns-clause-made
 returns-clause-made g c =

@@ -1,0 +1,140 @@
+-- The tape that `save` writes, and the file that `reload` loads again. Source: mos65.
+use Rattle.std.specs.Prelude.{◌≡◌, ◌<◌, ◌⊎◌, ℕ, ◌==◌, ◌&&◌, ◌||◌, nat_lt, not, Bool, true, false, if◌then◌else◌, List, [], ◌∷◌, ◌++◌, length, slice_index, slice_set, Option, Some, None, Result, Ok, Err}
+use Rattle.accesses.specs.Writing.{is_written}
+use Rattle.arguments.specs.FaultLines.{load_text}
+use Rattle.arguments.specs.declared.load_fault.LoadFault.{LoadFault}
+use Rattle.arguments.specs.declared.load_fault.LoadFault.TheVariants.{Refused}
+use Rattle.arguments.specs.declared.refusal.Refusal.{Refusal}
+use Rattle.arguments.specs.declared.refusal.Refusal.TheVariants.{OutOfMemory}
+use Rattle.arguments_play.specs.Mon.{MonAsked, mon_view}
+use Rattle.loading.specs.Loads.{EndsLoad, EndsNames}
+use Rattle.model.specs.Image.{cell_at}
+use Rattle.model.specs.State.{Bus, is_port}
+use Rattle.model.specs.Writers.{AppendsFront}
+use Rattle.mon.specs.Notes.{SeenNote, notes_after, placed_in}
+use Rattle.mon.specs.Seats.{Rests}
+use Rattle.mon.specs.Starts.{StartsMon}
+use Rattle.mon.specs.declared.files.Filing.{Filing}
+use Rattle.mon.specs.declared.files.Filing.TheVariants as filing
+use Rattle.mon.specs.declared.seat.Seat.{Seat}
+use Rattle.mon_dispatch.specs.Lines.{Follows, Says, read_at}
+use Rattle.mon_dispatch.specs.declared.lines.Outcome.{Outcome}
+use Rattle.mon_lines.specs.Lines.{SeenCommand, SeenSlip, command_view, line_of, reload, save}
+use Rattle.mon_lines.specs.declared.command.Command.{Command}
+use Rattle.mon_lines.specs.declared.command.Stretch.{Stretch}
+use Rattle.mon_session.specs.Course.{ShowsOnly}
+use Rattle.mon_session.specs.EventTexts.{shown_text}
+use Rattle.mon_session.specs.declared.desk.Desk.{Desk}
+use Rattle.mon_stops.specs.Stops.{is_within}
+
+-- ---- what a line asks for
+
+-- To save a file, of a stretch of memory if one is given; to reload; or neither.
+pub data SeenFiling : Type 0 where
+  to_save : List ℕ → Option Stretch → SeenFiling
+  to_reload : SeenFiling
+  no_file : SeenFiling
+
+-- The same without where the file's name lies in memory.
+abbrev pub filing_view : Filing → SeenFiling
+filing_view (filing.Save file stretch) = to_save file.now stretch
+filing_view filing.Reload = to_reload
+filing_view filing.Nothing = no_file
+
+abbrev pub filing_seen : SeenCommand → SeenFiling
+filing_seen (save file stretch) = to_save file stretch
+filing_seen reload = to_reload
+filing_seen command = no_file
+
+abbrev pub filing_by : Command → SeenFiling
+filing_by command = filing_seen (command_view command)
+
+abbrev pub filing_in : Result SeenCommand SeenSlip → SeenFiling
+filing_in (Ok command) = filing_seen command
+filing_in (Err slip) = no_file
+
+-- At a desk. A line of more than 255 bytes asks for nothing.
+abbrev pub filing_at : Desk → List ℕ → SeenFiling
+filing_at desk line = if nat_lt 255 (length line) then no_file else filing_in (read_at desk line)
+
+-- ---- what is saved
+
+-- Without addresses, each byte that the file has, and each other that is not 0.
+abbrev pub is_asked : List Bool → List ℕ → Option Stretch → ℕ → Bool
+is_asked loaded memory None address
+    = is_written loaded address || not (slice_index memory address == 0)
+is_asked loaded memory (Some stretch) address = is_within stretch address
+
+-- No byte of the console's port is saved.
+abbrev pub is_saved : Bus → List Bool → Option Stretch → ℕ → Bool
+is_saved bus loaded stretch address
+    = is_asked loaded bus.memory stretch address && not (is_port bus.map address)
+
+abbrev pub saved_at : Bus → List Bool → Option Stretch → ℕ → Option ℕ
+saved_at bus loaded stretch address = if is_saved bus loaded stretch address
+    then Some (slice_index bus.memory address) else None
+
+abbrev pub with_saved : Bus → List Bool → Option Stretch → ℕ → List (Option ℕ) → List (Option ℕ)
+with_saved bus loaded stretch address image = if is_saved bus loaded stretch address
+    then slice_set image address (Some (slice_index bus.memory address)) else image
+
+-- An image has these bytes and no others.
+abbrev pub IsSaved : Bus → List Bool → Option Stretch → List (Option ℕ) → Type 0
+IsSaved bus loaded stretch image = (length image ≡ 65536)
+    × ((address : ℕ) → address < 65536 → cell_at image address ≡ saved_at bus loaded stretch address)
+
+-- ---- what is loaded again
+
+-- Lines that were noted do at a desk what they ask for, one after another, and are noted anew if
+-- they have placed something there. `PC` in each is what it was.
+unfoldable pub Repeats : List SeenNote → Desk → List SeenNote → Desk → List SeenNote → Type 0
+Repeats [] old noted new left = (new ≡ old) × (left ≡ noted)
+Repeats (note ∷ notes) old noted new left =
+    let read = line_of old.places.names note.pc note.line in
+    (between : Desk) × (outcome : Outcome) × Follows read outcome old between
+    × Repeats notes between
+    (notes_after between (placed_in read) note.pc note.line noted) new left
+
+-- A session begins on the file as it is now, the lines that were noted are served again, and the
+-- state is shown. No event can be undone then.
+abbrev pub IsReloaded : Seat → Seat → Type 0
+IsReloaded old new = (fresh : Desk) × StartsMon (mon_view old.words.now) fresh new.loaded
+    × (begun : Desk) × ShowsOnly fresh begun
+    × (first : List ℕ) × (begun.text.items ≡ old.desk.text.items ++ first)
+    × (ready : Desk) × Repeats old.notes.items begun [] ready new.notes.items
+    × ShowsOnly ready new.desk
+    × Says (shown_text ready.session.current ready.places.names None) ready new.desk
+    × (new.view ≡ old.view) × (new.words ≡ old.words)
+
+-- Why a file of a session is not loaded: its own file, or that of its names.
+abbrev pub EndsReload : MonAsked → List ℕ → LoadFault → Type 0
+EndsReload asked path fault = ((path ≡ asked.file.file) × EndsLoad asked.file fault)
+    ⊎ ((refusal : Refusal) × (fault ≡ Refused refusal) × (asked.symbols ≡ Some path)
+    × EndsNames asked.file refusal)
+
+abbrev pub is_memory : LoadFault → Bool
+is_memory (Refused OutOfMemory) = true
+is_memory fault = false
+
+-- A beginning of a text was said: all of it, as far as memory does not run out.
+abbrev pub SaysFront : List ℕ → Desk → Desk → Type 0
+SaysFront text old new = AppendsFront (Some old.text.items) (Some new.text.items) text
+
+-- The file has a fault or cannot be read: that is said, and the session stays as it is.
+abbrev pub KeepsSession : Seat → Seat → Type 0
+KeepsSession old new = Rests old new
+    × (path : List ℕ) × (fault : LoadFault) × EndsReload (mon_view old.words.now) path fault
+    × SaysFront (load_text fault path) old.desk new.desk
+
+abbrev pub Reloads : Seat → Seat → Type 0
+Reloads old new = IsReloaded old new ⊎ KeepsSession old new
+
+-- ---- the whole
+
+-- A line that saves says something and changes nothing else. Which bytes a file gets, no clause can
+-- say: those of the tape of the image that is saved.
+abbrev pub ServesFiles : SeenFiling → Seat → Seat → Type 0
+ServesFiles (to_save file stretch) old new
+    = Rests old new × (said : List ℕ) × Says said old.desk new.desk
+ServesFiles to_reload old new = Reloads old new
+ServesFiles no_file old new = new ≡ old

@@ -1,0 +1,239 @@
+//! The lines that have placed what stands: breaks, watches, and bytes that are shown at each stop.
+
+ghost use Rattle.std.specs.Prelude.{◌≡◌, ◌++◌, ◌∷◌, [], OnOk, filter, not};
+ghost use Rattle.mon.specs.Notes.{note_of, notes_after, placed_at, placed_by, placed_in};
+ghost use Rattle.mon.specs.Notes.{placed_seen, placed_shown, replaces, stands, with_note};
+ghost use Rattle.mon_lines.specs.Lines.{line_of};
+ghost use Rattle.mon_stops.specs.Stops.{has, is_at, is_of};
+ghost use Rattle.std.specs.List.{list_any};
+
+use mon_lines::{Command, Register, read_line};
+use mon_session::Desk;
+use mon_settings::is_displayed;
+use mon_stops::{Break, Watch};
+use std::alloc::{AllocError, Global};
+use std::marker::Model;
+
+/// What a line has placed, and where.
+#[derive(Clone, Copy)]
+pub enum Placed {
+    Break(u16),
+    /// A watch, by its first address.
+    Watch(u16),
+    /// A watch of a register.
+    Register(Register),
+    Display(u16),
+}
+
+/// A line that has placed something, and what `PC` was in it.
+#[derive(Drop)]
+pub struct Note {
+    line: Vec<u8>,
+    pc: u16,
+    placed: Placed,
+}
+
+impl Model for Note {
+    ghost use Rattle.mon.specs.Notes.{SeenNote};
+
+    ghost Value = { SeenNote };
+
+    ghost view = { λ n. record {
+      line = n.line.items;
+      pc = n.pc;
+      placed = n.placed;
+    } };
+}
+
+impl Note {
+    /// Returns the line.
+    pub fn line(&self) -> &[u8]
+        ensures { result.now ≡ self.now.line }
+    {
+        self.line.as_slice()
+    }
+
+    /// Returns what `PC` was in the line.
+    pub fn pc(&self) -> u16
+        ensures { result ≡ self.now.pc }
+    {
+        self.pc
+    }
+
+    /// Returns whether what the line has placed still stands.
+    fn stands(&self, desk: &Desk) -> bool
+        ensures { result ≡ stands desk.now self.now.placed }
+    {
+        stands(desk, self.placed)
+    }
+
+    /// Returns whether something stands in place of what the line has placed.
+    fn is_replaced(&self, placed: Placed) -> bool
+        ensures { result ≡ replaces placed self.now.placed }
+    {
+        replaces(placed, self.placed)
+    }
+}
+
+/// Returns whether a break stands at an address.
+fn has_break(breaks: &[Break], address: u16) -> bool
+    ensures { result ≡ list_any (is_at address) breaks.now }
+{
+    breaks.iter().any(|stop| stop.address == address)
+}
+
+/// Returns whether the byte at an address is watched.
+fn has_watch(watches: &[Watch], address: u16) -> bool
+    ensures { result ≡ list_any (λ w. has w address) watches.now }
+{
+    watches.iter().any(|watch| watch.has(address))
+}
+
+/// Returns whether a register is watched.
+fn is_watched(watches: &[Watch], register: Register) -> bool
+    ensures { result ≡ list_any (is_of register) watches.now }
+{
+    watches.iter().any(|watch| watch.is_of(register))
+}
+
+/// Returns whether something stands at a desk.
+fn stands(desk: &Desk, placed: Placed) -> bool
+    ensures { result ≡ stands desk.now placed }
+{
+    match placed {
+        Placed::Break(at) => has_break(desk.stops.breaks.as_slice(), at),
+        Placed::Watch(at) => has_watch(desk.stops.watches.as_slice(), at),
+        Placed::Register(register) => is_watched(desk.stops.watches.as_slice(), register),
+        Placed::Display(at) => is_displayed(desk.displays.as_slice(), at),
+    }
+}
+
+/// Returns whether a break at an address was placed.
+fn is_break_at(placed: Placed, at: u16) -> bool
+    ensures { result ≡ replaces (Placed.Break at) placed }
+{
+    match placed {
+        Placed::Break(there) => at == there,
+        Placed::Watch(_) | Placed::Register(_) | Placed::Display(_) => false,
+    }
+}
+
+/// Returns whether a display of an address was placed.
+fn is_display_of(placed: Placed, at: u16) -> bool
+    ensures { result ≡ replaces (Placed.Display at) placed }
+{
+    match placed {
+        Placed::Display(there) => at == there,
+        Placed::Watch(_) | Placed::Register(_) | Placed::Break(_) => false,
+    }
+}
+
+/// Returns whether what a line places stands in place of something else: a break and a display do,
+/// where one is already.
+fn replaces(placed: Placed, other: Placed) -> bool
+    ensures { result ≡ replaces placed other }
+{
+    match placed {
+        Placed::Break(at) => is_break_at(other, at),
+        Placed::Display(at) => is_display_of(other, at),
+        Placed::Watch(_) | Placed::Register(_) => false,
+    }
+}
+
+/// Returns the display of an address, if there is one.
+fn placed_shown(place: Option<u16>) -> Option<Placed>
+    ensures { result ≡ placed_shown place }
+{
+    match place {
+        Some(at) => Some(Placed::Display(at)),
+        None => None,
+    }
+}
+
+/// Returns what a line places that asks for this, if it places something.
+fn placed_by(command: &Command<'_>) -> Option<Placed>
+    ensures { result ≡ placed_by command.now }
+{
+    match command {
+        Command::Break { address, .. } => Some(Placed::Break(*address)),
+        Command::Watch { stretch, .. } => Some(Placed::Watch(stretch.first)),
+        Command::WatchRegister(register) => Some(Placed::Register(*register)),
+        Command::Display(place) => placed_shown(*place),
+        _ => None,
+    }
+}
+
+/// Returns what a line places at a desk where `PC` is this, if it places something.
+pub fn placed_in(desk: &Desk, pc: u16, line: &[u8]) -> Option<Placed>
+    ensures { result ≡ placed_in (line_of desk.now.places.names pc line.now) }
+{
+    match read_line(line, &desk.places, pc) {
+        Ok(command) => placed_by(&command),
+        Err(_) => None,
+    }
+}
+
+/// Returns what a line places at a desk, if it places something. A line of more than 255 bytes
+/// places nothing.
+pub fn placed_at(desk: &Desk, line: &[u8]) -> Option<Placed>
+    ensures { result ≡ placed_at desk.now line.now }
+{
+    if line.len() > 255 {
+        return None;
+    }
+    placed_in(desk, desk.session.regs().pc, line)
+}
+
+/// Forgets the lines whose place something takes.
+fn forget_replaced(notes: &mut Vec<Note>, placed: Placed)
+    ensures { notes.new.items ≡ filter (λ n. not (replaces placed n.placed)) notes.old.items }
+{
+    notes.retain(|note| !note.is_replaced(placed));
+}
+
+/// Appends a line to notes, in place of those whose place it takes.
+fn push_note(
+    alloc: Global,
+    notes: &mut Vec<Note>,
+    placed: Placed,
+    pc: u16,
+    line: &[u8],
+) -> Result<(), AllocError>
+    ensures { OnOk result (notes.new.items
+        ≡ filter (λ n. not (replaces placed n.placed)) notes.old.items
+        ++ note_of placed pc line.now ∷ []) }
+{
+    forget_replaced(notes, placed);
+    let line = Vec::from_slice(alloc, line)?;
+    notes.push(Note { line, pc, placed })?;
+    Ok(())
+}
+
+/// Forgets the lines of which nothing stands any more.
+fn keep_standing(notes: &mut Vec<Note>, desk: &Desk)
+    ensures { notes.new.items ≡ filter (λ n. stands desk.now n.placed) notes.old.items }
+{
+    notes.retain(|note| note.stands(desk));
+}
+
+/// Notes a line that was served, if it has placed something, and forgets those of which nothing
+/// stands any more.
+///
+/// Errors: `AllocError` if an allocation fails.
+pub fn note_line(
+    alloc: Global,
+    notes: &mut Vec<Note>,
+    desk: &Desk,
+    placed: Option<Placed>,
+    pc: u16,
+    line: &[u8],
+) -> Result<(), AllocError>
+    ensures { OnOk result (notes.new.items
+        ≡ notes_after desk.now placed pc line.now notes.old.items) }
+{
+    if let Some(placed) = placed {
+        push_note(alloc, notes, placed, pc, line)?;
+    }
+    keep_standing(notes, desk);
+    Ok(())
+}

@@ -1,0 +1,88 @@
+//! How a session begins on what was loaded.
+
+ghost use Rattle.std.specs.Prelude.{◌≡◌, ◌⊎◌, IfErr, IfOk, Option, OnOk};
+ghost use Rattle.arguments.specs.Asked.{file_view};
+ghost use Rattle.arguments_play.specs.Mon.{mon_view};
+ghost use Rattle.assembler.specs.Assembly.{AssemblyView};
+ghost use Rattle.mon.specs.Starts.{AreNamed, EndsNamed, IsNewDesk, places_in, with_names};
+
+use crate::seat::of_memory;
+use accesses::Written;
+use arguments::Refusal;
+use arguments_play::MonWords;
+use assembler::Assembly;
+use loading::{Loaded, load_names};
+use mon_session::Desk;
+use source_map::Places;
+use std::alloc::Global;
+use std::rt::Files;
+
+/// A desk at which no line was served, and the addresses at which the file has a byte.
+#[derive(Drop)]
+pub struct Started {
+    pub desk: Desk,
+    pub loaded: Written,
+}
+
+/// Returns the places of what was loaded.
+fn places_of(alloc: Global, file: &str, assembly: &Option<Assembly>) -> Result<Places, Refusal>
+    ensures places { IfOk result (λ p. p ≡ places_in file.now assembly.now) }
+    ensures refused { IfErr result (λ fault. fault ≡ Refusal.OutOfMemory) }
+{
+    match assembly {
+        Some(assembly) => of_memory(Places::of_source(alloc, file.as_bytes(), assembly)),
+        None => Ok(Places::new(alloc)),
+    }
+}
+
+/// Adds the names of a file of names, if one is named.
+fn add_names<H: Files + AllocGlobal>(
+    rt: &H,
+    words: &MonWords<'_>,
+    places: &mut Places,
+) -> Result<(), Refusal>
+    ensures named { OnOk result ((names : Option AssemblyView)
+        × AreNamed (mon_view words.now).symbols (file_view words.now.file) names
+        × (places.new ≡ with_names names places.old)) }
+    ensures refused { IfErr result (λ fault. (fault ≡ Refusal.OutOfMemory)
+        ⊎ EndsNamed (mon_view words.now).symbols (file_view words.now.file) fault) }
+{
+    let Some(path) = words.symbols else {
+        return Ok(());
+    };
+    let names = load_names(rt, &words.file, path)?;
+    of_memory(places.add_names(rt.alloc(), &names))?;
+    Ok(())
+}
+
+/// Returns the desk of what was loaded, with the names of a file of names, if one is named.
+///
+/// # Errors
+///
+/// Those of `loading::load_names`; `OutOfMemory` if an allocation fails.
+pub fn start<H: Files + AllocGlobal>(
+    rt: &H,
+    words: &MonWords<'_>,
+    loaded: Loaded,
+) -> Result<Started, Refusal>
+    ensures made { IfOk result (λ started. (names : Option AssemblyView)
+        × AreNamed (mon_view words.now).symbols (file_view words.now.file) names
+        × IsNewDesk loaded.session words.now.history
+        (with_names names (places_in words.now.file.file.now loaded.assembly)) started.desk) }
+    ensures loaded { IfOk result (λ started. started.loaded ≡ loaded.written) }
+    ensures refused { IfErr result (λ fault. (fault ≡ Refusal.OutOfMemory)
+        ⊎ EndsNamed (mon_view words.now).symbols (file_view words.now.file) fault) }
+{
+    let Loaded {
+        session,
+        assembly,
+        written,
+    } = loaded;
+    let mut places = places_of(rt.alloc(), words.file.file, &assembly)?;
+    add_names(rt, words, &mut places)?;
+    let desk = of_memory(Desk::new(rt.alloc(), session, places, words.history))?;
+    Ok(Started {
+        desk,
+        loaded: written,
+    })
+}
