@@ -3,6 +3,7 @@
 from __future__ import annotations
 
 import os
+import re
 import tempfile
 import weakref
 from contextlib import contextmanager
@@ -26,6 +27,8 @@ _MOST = 0xFFFF_FFFF
 _REGISTERS = ("A", "X", "Y", "S", "P", "PC")
 _RETURN = 0xFFFF
 _BREAK_BIT = 0x10
+# A directive behind the labels of a line.
+_DIRECTIVE = re.compile(r"\s*(?:\w+\s*:\s*)?\.")
 
 
 def _check_map(
@@ -173,12 +176,7 @@ class Machine:
         Raises Refused, TooMany, where this machine has made more than 100,000 calls, writes and
         signals that were not gone back over; and what a new machine raises.
         """
-        self._way.registers()
-        self._needs_rest()
-        if not self._events.is_whole:
-            raise Refused("TooMany", text="the first events are no longer known")
-        source, options = self._opening
-        other = Machine(source, **options)
+        other = self._reopened()
         try:
             events.make_all(other._way, self._events.runs)
             other._events.take(self._events)
@@ -190,6 +188,15 @@ class Machine:
             other.close()
             raise
         return other
+
+    def _reopened(self) -> "Machine":
+        """A second machine at the start, for the events of this one."""
+        self._way.registers()
+        self._needs_rest()
+        if not self._events.is_whole:
+            raise Refused("TooMany", text="the first events are no longer known")
+        source, options = self._opening
+        return Machine(source, **options)
 
     # ---- places
 
@@ -611,6 +618,37 @@ class Machine:
             while rest:
                 events.make(self._way, rest.pop())
         return found
+
+    def coverage(self) -> Dict[int, int]:
+        """How often a step began at the instruction of each line of the source: the numbers of the
+        lines that have one, counted from 1, with their counts.
+
+        All steps since the start count that were not gone back over, those of calls too, and no
+        interrupt's entry. The events are made again on a machine of its own, a step at a time, so
+        it takes longer than they took. Raises what `copy` raises.
+        """
+        counts = {self.lines[it]: 0 for it in self.lines if not self._is_data(self.lines[it])}
+        with self._reopened() as other:
+            for run in self._events.runs:
+                for it in events.parts(run):
+                    if it[0] != "step":
+                        events.make(other._way, it)
+                        continue
+                    for _ in range(it[2]):
+                        other._count_step(counts)
+        return counts
+
+    def _is_data(self, line: int) -> bool:
+        """Whether a line of the source with bytes is a directive."""
+        return _DIRECTIVE.match(self._texts[line - 1]) is not None
+
+    def _count_step(self, counts: Dict[int, int]) -> None:
+        """Makes a step, and counts it if it begins at the instruction of a line."""
+        before = self._way.registers()
+        events.make(self._way, ("step", None, 1))
+        line = self.lines.get(before.pc)
+        if line in counts and not self._has_entered(before, "BRK"):
+            counts[line] += 1
 
     def _shown_step(self, rest: List[events.Run]) -> Step:
         """Makes the first step of what is left, and shows it."""

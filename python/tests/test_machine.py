@@ -236,6 +236,28 @@ class Calls(Ways):
         m.run(3)
         self.assertEqual([it.text for it in m.last_steps()], ["interrupt", "BRK", "LDA #$01"])
 
+    def test_coverage(self):
+        m = self.machine()
+        for a in (7, 8):
+            m.call("times10", a=a)
+        undone = m.call("hello")
+        m.back(undone.events)
+        m.write(0x10, bytes([0x05, 9]))
+        m.call("multiply")
+        counts = m.coverage()
+        # Of the eight bits of 5 two are 1.
+        looped = {5: 8, 6: 8, 7: 2, 8: 2, 9: 8, 10: 8, 11: 8, 12: 8}
+        wanted = {3: 1, 4: 1, **looped, 13: 1, 14: 1, **dict.fromkeys(range(15, 22), 2)}
+        self.assertEqual(counts, {**wanted, **dict.fromkeys(range(22, 28), 0)})
+        self.assertEqual(counts, m.copy().coverage())
+
+    def test_coverage_has_no_data_and_no_entry(self):
+        m = self.machine(b"*=$0200\nstart: NOP\nBRK\ndata: .BYTE $EA\n*=$FFFC\n.WORD $0200,$0200\n")
+        m.nmi()
+        m.run(4)
+        # The NMI's vector is 0, where a BRK leads to $0200: NOP and BRK come once.
+        self.assertEqual(m.coverage(), {2: 1, 3: 1})
+
     def test_a_missing_file(self):
         with self.assertRaises(FileNotFoundError):
             self.machine("there is no such file.a65")

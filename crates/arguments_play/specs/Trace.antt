@@ -1,6 +1,6 @@
 -- The command line of `trace`, and what its words ask for, by the values that clap's definition of
 -- a parse finds among them. Source: mos65.
-use Rattle.std.specs.Prelude.{ℕ, Bool, List, Option, Some, None, codes, option_map}
+use Rattle.std.specs.Prelude.{ℕ, Bool, ◌||◌, is_some, List, Option, Some, None, codes, option_map}
 use Rattle.arguments.specs.Asked.{FileAsked, file_asked, file_view, is_flag}
 use Rattle.arguments.specs.CommandLine.{flag_rule, option_rule, unnamed, with_file}
 use Rattle.arguments.specs.Values.{steps_asked}
@@ -9,12 +9,13 @@ use Rattle.arguments_play.specs.declared.trace.TraceWords.{TraceWords}
 use Rattle.clap.specs.Words.{App, Text, with_rule}
 
 -- `FILE` with its map, `[--from WHERE] [--to WHERE] [--steps N] [--stores] [--count]
--- [--unwritten] [--free]`.
+-- [--lcov FILE] [--unwritten] [--free]`.
 abbrev pub trace : App
-trace = with_rule (with_rule (with_rule (with_rule (with_rule (with_rule (with_rule
+trace = with_rule (with_rule (with_rule (with_rule (with_rule (with_rule (with_rule (with_rule
     (with_file (unnamed (codes "trace"))) (option_rule (codes "from")))
     (option_rule (codes "to"))) (option_rule (codes "steps"))) (flag_rule (codes "stores")))
-    (flag_rule (codes "count"))) (flag_rule (codes "unwritten"))) (flag_rule (codes "free"))
+    (flag_rule (codes "count"))) (option_rule (codes "lcov"))) (flag_rule (codes "unwritten")))
+    (flag_rule (codes "free"))
 
 pub record TraceAsked : Type 0 where
   pub file : FileAsked
@@ -23,29 +24,32 @@ pub record TraceAsked : Type 0 where
   pub steps : ℕ
   pub shows_stores : Bool
   pub counts : Bool
+  pub lcov : Option Text
   pub finds_unwritten : Bool
   pub is_free : Bool
 
-abbrev pub trace_of : Option FileAsked → Option Text → Option Text → Option ℕ → Bool → Bool → Bool
-    → Bool → Option TraceAsked
-trace_of (Some file) from to (Some steps) shows_stores counts finds_unwritten is_free
+-- Where a file for lcov is asked for, so are counts.
+abbrev pub trace_of : Option FileAsked → Option Text → Option Text → Option ℕ → Bool → Bool
+    → Option Text → Bool → Bool → Option TraceAsked
+trace_of (Some file) from to (Some steps) shows_stores counts lcov finds_unwritten is_free
     = Some (record {
       file = file;
       from = from;
       to = to;
       steps = steps;
       shows_stores = shows_stores;
-      counts = counts;
+      counts = counts || is_some lcov;
+      lcov = lcov;
       finds_unwritten = finds_unwritten;
       is_free = is_free;
     })
-trace_of file from to steps shows_stores counts finds_unwritten is_free = None
+trace_of file from to steps shows_stores counts lcov finds_unwritten is_free = None
 
 -- What the values of the names ask for, where each is one that its name can have.
 abbrev pub trace_asked : (Text → Option Text) → Option TraceAsked
 trace_asked value = trace_of (file_asked value) (value (codes "from")) (value (codes "to"))
     (steps_asked (value (codes "steps"))) (is_flag (value (codes "stores")))
-    (is_flag (value (codes "count"))) (is_flag (value (codes "unwritten")))
+    (is_flag (value (codes "count"))) (value (codes "lcov")) (is_flag (value (codes "unwritten")))
     (is_flag (value (codes "free")))
 
 -- What the words ask for, where the values that clap finds are right.
@@ -61,6 +65,7 @@ trace_view w = record {
   steps = w.steps;
   shows_stores = w.shows_stores;
   counts = w.counts;
+  lcov = option_map (λ s. s.now) w.lcov;
   finds_unwritten = w.finds_unwritten;
   is_free = w.is_free;
 }

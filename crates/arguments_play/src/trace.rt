@@ -29,6 +29,9 @@ pub struct TraceWords<'a> {
     pub shows_stores: bool,
     /// Whether visits and cycles are shown in place of rows.
     pub counts: bool,
+    /// The file that gets how often each line was run, if one is named. Visits and cycles are shown
+    /// then.
+    pub lcov: Option<&'a str>,
     /// Whether reads of memory that was never written are shown in place of rows.
     pub finds_unwritten: bool,
     /// Whether a run goes on where nothing stands that could be run.
@@ -44,7 +47,8 @@ Exit status: 0 the program came to its end, 10 the limit of steps,
 
 Examples:
   mos65 trace sort.a65 --from sort --steps 20 --stores
-  mos65 trace sort.a65 --count";
+  mos65 trace sort.a65 --count
+  mos65 trace sort.a65 --lcov sort.info";
 
 /// Returns the command line of `trace`.
 ///
@@ -60,6 +64,7 @@ pub fn trace_command<'a>(alloc: Global) -> Result<Command<'a>, Error>
     let steps = "The most steps from where the trace begins [default: no limit]";
     let stores = "Shows what each step stored, and where";
     let count = "Shows no rows, but the visits and cycles of labels and lines";
+    let lcov = "As --count, and the file to write for lcov: how often each line was run";
     let unwritten = "Shows no rows, but reads of memory that nobody ever wrote";
     let free = "Runs on where nothing was written, and at a BRK without a vector";
     let command = begin(alloc, "trace", "mos65 trace", about, STATUSES)?;
@@ -69,6 +74,7 @@ pub fn trace_command<'a>(alloc: Global) -> Result<Command<'a>, Error>
         .arg(option(alloc, "steps", "N", steps))?
         .arg(flag(alloc, "stores", stores))?
         .arg(flag(alloc, "count", count))?
+        .arg(option(alloc, "lcov", "FILE", lcov))?
         .arg(flag(alloc, "unwritten", unwritten))?
         .arg(flag(alloc, "free", free))?;
     Ok(command)
@@ -87,7 +93,8 @@ fn asked<'a>(matches: &ArgMatches<'a>) -> Option<TraceWords<'a>>
         to: matches.get_str("to"),
         steps: steps_asked(matches.get_str("steps"))?,
         shows_stores: is_given(matches, "stores"),
-        counts: is_given(matches, "count"),
+        counts: is_given(matches, "count") || matches.get_str("lcov").is_some(),
+        lcov: matches.get_str("lcov"),
         finds_unwritten: is_given(matches, "unwritten"),
         is_free: is_given(matches, "free"),
     })

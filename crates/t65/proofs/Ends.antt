@@ -1,19 +1,22 @@
 -- Why a suite cannot be tested, by what its parts say.
-use Rattle.std.proofs.Common.{◌≡◌, ℕ, List, Ok, Err, false, inl, inr, refl, sym, subst}
+use Rattle.std.proofs.Common.{◌≡◌, ℕ, List, [], Ok, Err, false, inl, inr, refl, sym, subst}
 use Rattle.std.specs.Prelude.{String, Result, IfErr, IsErrAnd, string_bytes}
 use Rattle.std.specs.declared.alloc.Global.{Global}
 use Rattle.arguments.specs.Values.{base_of}
 use Rattle.arguments.specs.declared.load_fault.LoadFault.{LoadFault}
 use Rattle.arguments.specs.declared.refusal.Refusal.TheVariants.{Map as NoMap}
 use Rattle.assembler.specs.Assembly.{AssemblyView, IsAssembled}
-use Rattle.loading.specs.Loads.{EndsSourceFile}
+use Rattle.loading.specs.Loads.{EndsAsSource}
 use Rattle.model.specs.State.{Map, is_map}
 use Rattle.model.specs.TextLines.{lines_of}
 use Rattle.model.specs.declared.bus_fault.BusFault.TheVariants.{BadMap}
+use Rattle.model.specs.Names.{Definitions}
 use Rattle.t65_reader.specs.HeadText.{SeenHead, head_from}
+use Rattle.t65_reader.specs.RowText.{SeenRow, rows_from}
+use Rattle.t65_reader.specs.declared.row.Part.TheVariants.{Test}
 use Rattle.t65_reader.specs.declared.fault.TextFault.{TextFault}
 use Rattle.t65.specs.Ends.{AreRead, EndsFile, EndsRows, EndsTest, HeadedFile}
-use Rattle.t65.specs.Tested.{map_of}
+use Rattle.t65.specs.Tested.{map_of, rows_of}
 use Rattle.t65.specs.declared.fault.FileFault.{FileFault}
 use Rattle.t65.specs.declared.fault.FileFault.TheVariants.{InRows, InSource}
 use Rattle.t65.specs.declared.fault.TestFault.{TestFault}
@@ -21,6 +24,10 @@ use Rattle.t65.specs.declared.fault.TestFault.TheVariants.{Rows, TooLarge, NoRow
 
 pub head_ends : (text : List ℕ) (fault : TextFault) → head_from 1 (lines_of text) ≡ Err fault → EndsTest (Rows fault)
 head_ends text fault refused = inl (text, refused)
+
+pub no_test : (steps : ℕ) (names : Definitions) (next : ℕ) (lines : List (List ℕ)) (rows : List (ℕ × SeenRow)) → rows_from steps names next lines ≡ Ok rows → rows_of Test rows ≡ []
+    → EndsRows steps names next lines NoRow
+no_test steps names next lines rows read none = (rows, read, none)
 
 abbrev headed_file : (text : List ℕ) (head : SeenHead) (next : ℕ) (lines : List (List ℕ)) → head_from 1 (lines_of text) ≡ Ok (head, next, lines) → HeadedFile
 headed_file text head next lines headed = record { text = text; head = head; next = next; lines = lines; headed = headed }
@@ -31,10 +38,10 @@ map_ends text head next lines fault headed is none =
     subst EndsTest (sym is) (headed_file text head next lines headed, refl, none)
 
 pub source_ends : (text : List ℕ) (head : SeenHead) (next : ℕ) (lines : List (List ℕ)) (bus_map : Map) (path : String Global) (name : List ℕ) (fault : LoadFault)
-    → head_from 1 (lines_of text) ≡ Ok (head, next, lines) → bus_map ≡ map_of head → name ≡ string_bytes path → EndsSourceFile bus_map name fault → EndsFile (InSource path fault)
+    → head_from 1 (lines_of text) ≡ Ok (head, next, lines) → bus_map ≡ map_of head → name ≡ string_bytes path → EndsAsSource bus_map name fault → EndsFile (InSource path fault)
 source_ends text head next lines bus_map path name fault headed is named ends =
-    let on_its_map = subst (λ m. EndsSourceFile m name fault) is ends in
-    (headed_file text head next lines headed, subst (λ n. EndsSourceFile (map_of head) n fault) named on_its_map)
+    let on_its_map = subst (λ m. EndsAsSource m name fault) is ends in
+    (headed_file text head next lines headed, subst (λ n. EndsAsSource (map_of head) n fault) named on_its_map)
 
 abbrev rows_read : (text : List ℕ) (head : SeenHead) (next : ℕ) (lines : List (List ℕ)) (bus_map : Map) (assembly : AssemblyView)
     → head_from 1 (lines_of text) ≡ Ok (head, next, lines) → bus_map ≡ map_of head → IsAssembled bus_map assembly → IsAssembled (map_of head) assembly
@@ -51,13 +58,17 @@ rows_end text head next lines bus_map assembly steps (Rows fault) headed is a en
       read = ends;
     })
 rows_end text head next lines bus_map assembly steps TooLarge headed is a ends = tt
-rows_end text head next lines bus_map assembly steps NoRow headed is a ends = record {
-  file = headed_file text head next lines headed;
-  assembly = assembly;
-  assembled = rows_read text head next lines bus_map assembly headed is a;
-  steps = steps;
-  read = ends;
-}
+rows_end text head next lines bus_map assembly steps NoRow headed is a ends = (
+  ends.0,
+  record {
+    file = headed_file text head next lines headed;
+    assembly = assembly;
+    assembled = rows_read text head next lines bus_map assembly headed is a;
+    steps = steps;
+    read = ends.1;
+  },
+  ends.2,
+)
 rows_end text head next lines bus_map assembly steps (Refused refusal) headed is a ends = subst EndsTest (sym ends) tt
 
 -- The fault of rows that are not read, passed on.

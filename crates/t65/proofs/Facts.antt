@@ -10,12 +10,13 @@ use Rattle.model.specs.TextLines.{lines_of}
 use Rattle.source_map.specs.Lines.{PlacesView, places_of}
 use Rattle.t65_reader.specs.HeadText.{SeenHead, head_from}
 use Rattle.t65_reader.specs.RowText.{SeenRow, numbered_view, rows_from}
+use Rattle.t65_reader.specs.declared.row.Part.TheVariants.{Test, Setup, Teardown}
 use Rattle.t65_reports.specs.Reports.{plan_text, tap_fault}
 use Rattle.t65_reports.specs.declared.wording.TheConstants.{TAP_BEGIN}
 use Rattle.t65.specs.Asked.{TestAsked}
 use Rattle.t65.specs.Ends.{EndsFile}
 use Rattle.t65.specs.Suites.{SuiteAsked, name_of, suite_view, suites_of}
-use Rattle.t65.specs.Tested.{Ground, IsPrepared, fresh_tally, ground_in, ground_of, map_of, path_of, rows_text, summary_if, tally_after, tally_rows}
+use Rattle.t65.specs.Tested.{Ground, IsPrepared, fresh_tally, ground_in, ground_of, map_of, path_of, rows_of, rows_text, summary_if, tally_after, tally_rows, tests_in}
 use Rattle.t65.specs.Told.{AreOutcomes, AreRun, AreTested, IsOutcome, IsRun, Outcome, manner_of, outcome_by}
 use Rattle.t65.specs.declared.fault.FileFault.{FileFault}
 use Rattle.t65.specs.declared.files.Manner.{Manner}
@@ -24,8 +25,14 @@ use Rattle.t65.specs.declared.stop.Stop.{Stop}
 use Rattle.t65.specs.declared.suites.Suite.{Suite}
 use Rattle.t65.specs.declared.tally.Tally.{Tally}
 
-abbrev ground_at : Map → List (Option ℕ) → PlacesView → Ground
-ground_at bus_map image places = record { bus_map = bus_map; image = image; places = places }
+abbrev ground_at : Map → List (Option ℕ) → PlacesView → List (ℕ × SeenRow) → Ground
+ground_at bus_map image places rows = record {
+  bus_map = bus_map;
+  image = image;
+  places = places;
+  before = rows_of Setup rows;
+  after = rows_of Teardown rows;
+}
 
 pub ready : (prepared : Prepared) (steps : ℕ) (suite : SuiteAsked) (text : List ℕ) (head : SeenHead) (next : ℕ) (lines : List (List ℕ)) (path : List ℕ)
     → head_from 1 (lines_of text) ≡ Ok (head, next, lines) → text ≡ prepared.text.items
@@ -48,8 +55,8 @@ ready prepared steps suite text head next lines path headed same mapped named as
     read = read;
   };
   text_is = same;
-  ground_is = ap (λ (m : Map). ground_at m prepared.assembly.image (places_of path prepared.assembly)) (sym mapped)
-      ∙ ap (λ (p : PlacesView). ground_at prepared.map prepared.assembly.image p) (sym placed);
+  ground_is = ap (λ (m : Map). ground_at m prepared.assembly.image (places_of path prepared.assembly) (map numbered_view prepared.rows.items)) (sym mapped)
+      ∙ ap (λ (p : PlacesView). ground_at prepared.map prepared.assembly.image p (map numbered_view prepared.rows.items)) (sym placed);
   rows_are = refl;
 }
 
@@ -128,13 +135,13 @@ all_run manner suites n old now count passes past before =
 
 pub tested_run : (manner : Manner) (suite : SuiteAsked) (count : ℕ) (old new : Option (List ℕ)) (prepared : Prepared) (tally : Tally)
     → IsPrepared manner.steps suite prepared
-    → tally ≡ tally_rows (ground_in prepared) (fresh_tally count) (map numbered_view prepared.rows.items)
-    → Appends old new (rows_text (ground_in prepared) (name_of suite) count 1 (lines_of prepared.text.items) (map numbered_view prepared.rows.items) ++ summary_if manner.is_summary (name_of suite) tally.score)
+    → tally ≡ tally_rows (ground_in prepared) (fresh_tally count) (tests_in prepared)
+    → Appends old new (rows_text (ground_in prepared) (name_of suite) count 1 (lines_of prepared.text.items) (tests_in prepared) ++ summary_if manner.is_summary (name_of suite) tally.score)
     → IsRun manner suite count old new tally
 tested_run manner suite count old new prepared tally p is written =
-    let text : List ℕ = rows_text (ground_in prepared) (name_of suite) count 1 (lines_of prepared.text.items) (map numbered_view prepared.rows.items) in
+    let text : List ℕ = rows_text (ground_in prepared) (name_of suite) count 1 (lines_of prepared.text.items) (tests_in prepared) in
     let rows_are : List (ℕ × SeenRow) → List ℕ → Ground → Outcome = λ rows lines bench. outcome_by manner.is_summary (name_of suite)
-    (rows_text bench (name_of suite) count 1 (lines_of lines) rows) (tally_rows bench (fresh_tally count) rows) in
+    (rows_text bench (name_of suite) count 1 (lines_of lines) (rows_of Test rows)) (tally_rows bench (fresh_tally count) (rows_of Test rows)) in
     record {
       outcome = outcome_by manner.is_summary (name_of suite) text tally;
       is = inl (record {
@@ -181,12 +188,12 @@ all_told asked suites old begun run new count passes are first ran last =
 
 pub tested_result : (manner : Manner) (suite : SuiteAsked) (count : ℕ) (old new : Option (List ℕ)) (prepared : Prepared) (name : List ℕ) (result : Result Tally Stop)
     → IsPrepared manner.steps suite prepared → name ≡ name_of suite
-    → IfOk result (λ tally. tally ≡ tally_rows (ground_in prepared) (fresh_tally count) (map numbered_view prepared.rows.items))
-    → IfOk result (λ tally. Appends old new (rows_text (ground_in prepared) name count 1 (lines_of prepared.text.items) (map numbered_view prepared.rows.items) ++ summary_if manner.is_summary name tally.score))
+    → IfOk result (λ tally. tally ≡ tally_rows (ground_in prepared) (fresh_tally count) (tests_in prepared))
+    → IfOk result (λ tally. Appends old new (rows_text (ground_in prepared) name count 1 (lines_of prepared.text.items) (tests_in prepared) ++ summary_if manner.is_summary name tally.score))
     → IfOk result (IsRun manner suite count old new)
 tested_result manner suite count old new prepared name (Err stop) p named is written = tt
 tested_result manner suite count old new prepared name (Ok tally) p named is written = tested_run manner suite count old new prepared tally p is
-    (subst (λ (n : List ℕ). Appends old new (rows_text (ground_in prepared) n count 1 (lines_of prepared.text.items) (map numbered_view prepared.rows.items) ++ summary_if manner.is_summary n tally.score)) named written)
+    (subst (λ (n : List ℕ). Appends old new (rows_text (ground_in prepared) n count 1 (lines_of prepared.text.items) (tests_in prepared) ++ summary_if manner.is_summary n tally.score)) named written)
 
 pub untested_result : (manner : Manner) (suite : SuiteAsked) (count : ℕ) (old new : Option (List ℕ)) (fault : FileFault) (result : Result Tally Stop)
     → EndsFile fault → IfOk result (λ tally. tally ≡ tally_after false 0 (fresh_tally count))

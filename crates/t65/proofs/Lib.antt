@@ -1,3 +1,4 @@
+mod Parts
 mod Ends
 mod Facts
 mod Paths

@@ -4,12 +4,14 @@ use Rattle.std.specs.Prelude.{Bool, is_none}
 use Rattle.std.specs.Io.KnownBytes.{Appends}
 use Rattle.std.proofs.KnownBytes.{Appends-nil, Appends-trans}
 use Rattle.std.proofs.lemmas.List.{drop_all, drop_more, get_or_default}
-use Rattle.t65_reader.specs.RowText.{numbered_view, row_view}
+use Rattle.std.specs.Borrow.{Bor}
+use Rattle.t65_reader.specs.RowText.{numbered_view, row_seen}
 use Rattle.t65_reader.specs.declared.row.Row.{Row}
 use Rattle.t65_reports.specs.Lines.{line_at, lines_after, next_after}
 use Rattle.t65_reports.specs.Reports.{tap_case}
 use Rattle.t65.specs.Tested.{Ground, failure_of, plus, rows_text, tally_after, tally_rows, why}
 use Rattle.t65.specs.declared.tally.Tally.{Tally}
+use Rattle.t65_runner.specs.Passes.{rows_seen}
 
 -- A stream got the beginning of a text, and this is left of it.
 pub record TextLeft (old new : Option (List ℕ)) (left whole : List ℕ) : Type 0 where
@@ -31,47 +33,47 @@ pub none_left : (old new : Option (List ℕ)) (left whole : List ℕ) → TextLe
 none_left old new left whole t none =
     subst (Appends old new) (sym (append-nil t.text) ∙ (ap (λ (x : List ℕ). t.text ++ x) (sym none) ∙ t.left_is)) t.written
 
-module _ (bench : Ground) (name : List ℕ) (rows : List (ℕ × Row)) (i : ℕ) where
+module _ (bench : Ground) (name : List ℕ) (rows : List (Bor (ℕ × Row))) (i : ℕ) where
   abbrev left : ℕ → ℕ → ℕ → List (List ℕ) → List ℕ
-  left j count next lines = rows_text bench name count next lines (map numbered_view (drop j rows))
+  left j count next lines = rows_text bench name count next lines (rows_seen (drop j rows))
 
-  text-more : (count next : ℕ) (lines : List (List ℕ)) (row : ℕ × Row) → i < length rows → left i count next lines
-      ≡ tap_case (plus count 1) name (get_or rows i row).0 (line_at (get_or rows i row).0 next lines) (why bench (row_view (get_or rows i row).1))
-      ++ left (i + 1) (plus count 1) (next_after (get_or rows i row).0 next lines) (lines_after (get_or rows i row).0 next lines)
+  text-more : (count next : ℕ) (lines : List (List ℕ)) (row : Bor (ℕ × Row)) → i < length rows → left i count next lines
+      ≡ tap_case (plus count 1) name (get_or rows i row).now.0 (line_at (get_or rows i row).now.0 next lines) (why bench (row_seen (get_or rows i row)))
+      ++ left (i + 1) (plus count 1) (next_after (get_or rows i row).now.0 next lines) (lines_after (get_or rows i row).now.0 next lines)
   unfolding rows_text
   text-more count next lines row h = rw (drop_more rows i row h) refl
 
   -- The next row was told of.
-  pub row_told : (old now new : Option (List ℕ)) (count count_then number next next_then : ℕ) (lines lines_then : List (List ℕ)) (row other : ℕ × Row) (line tap whole : List ℕ)
+  pub row_told : (old now new : Option (List ℕ)) (count count_then number next next_then : ℕ) (lines lines_then : List (List ℕ)) (row ran other : Bor (ℕ × Row)) (line tap whole : List ℕ)
       → i < length rows → TextLeft old now (left i count next lines) whole → Appends now new tap
-      → tap ≡ tap_case number name (get_or rows i row).0 line (why bench (row_view (get_or rows i other).1))
-      → number ≡ plus count 1 → line ≡ line_at (get_or rows i row).0 next lines
-      → lines_then ≡ lines_after (get_or rows i row).0 next lines → next_then ≡ next_after (get_or rows i row).0 next lines
+      → tap ≡ tap_case number name (get_or rows i row).now.0 line (why bench (row_seen ran)) → ran ≡ get_or rows i other
+      → number ≡ plus count 1 → line ≡ line_at (get_or rows i row).now.0 next lines
+      → lines_then ≡ lines_after (get_or rows i row).now.0 next lines → next_then ≡ next_after (get_or rows i row).now.0 next lines
       → count_then ≡ plus count 1
       → TextLeft old new (left (i + 1) count_then next_then lines_then) whole
-  row_told old now new count count_then number next next_then lines lines_then row other line tap whole h so_far written tap_is number_is line_is lines_are next_is count_is =
+  row_told old now new count count_then number next next_then lines lines_then row ran other line tap whole h so_far written tap_is ran_is number_is line_is lines_are next_is count_is =
       less_left old now new (left i count next lines) (left (i + 1) count_then next_then lines_then) whole tap so_far written
-      (rw (tap_is, get_or_default rows i other row h, number_is, line_is, lines_are, next_is, count_is) (text-more count next lines row h))
+      (rw (tap_is, ran_is, get_or_default rows i other row h, number_is, line_is, lines_are, next_is, count_is) (text-more count next lines row h))
 
   pub no_row_left : (count next : ℕ) (lines : List (List ℕ)) → length rows ≤ i → left i count next lines ≡ []
   unfolding rows_text
   no_row_left count next lines h = rw (drop_all i rows h) refl
 
   abbrev tally_left : ℕ → Tally → Tally
-  tally_left j tally = tally_rows bench tally (map numbered_view (drop j rows))
+  tally_left j tally = tally_rows bench tally (rows_seen (drop j rows))
 
   -- The next row was counted.
-  pub one_counted : (tally whole : Tally) (passes : Bool) (row other : ℕ × Row) → i < length rows
-      → passes ≡ is_none (failure_of bench (row_view (get_or rows i other).1))
+  pub one_counted : (tally whole : Tally) (passes : Bool) (row ran other : Bor (ℕ × Row)) → i < length rows
+      → passes ≡ is_none (failure_of bench (row_seen ran)) → ran ≡ get_or rows i other
       → tally_left i tally ≡ whole
-      → tally_left (i + 1) (tally_after passes (get_or rows i row).1.points tally) ≡ whole
+      → tally_left (i + 1) (tally_after passes (get_or rows i row).now.1.points tally) ≡ whole
   unfolding tally_rows
-  one_counted tally whole passes row other h is left_is =
-      ap (λ (p : Bool). tally_left (i + 1) (tally_after p (get_or rows i row).1.points tally)) (is ∙ ap (λ (r : ℕ × Row). is_none (failure_of bench (row_view r.1))) (get_or_default rows i other row h))
-      ∙ (ap (λ (r : List (ℕ × Row)). tally_rows bench tally (map numbered_view r)) (sym (drop_more rows i row h)) ∙ left_is)
+  one_counted tally whole passes row ran other h is ran_is left_is =
+      ap (λ (p : Bool). tally_left (i + 1) (tally_after p (get_or rows i row).now.1.points tally)) (is ∙ ap (λ (r : Bor (ℕ × Row)). is_none (failure_of bench (row_seen r))) (ran_is ∙ get_or_default rows i other row h))
+      ∙ (ap (λ (r : List (Bor (ℕ × Row))). tally_rows bench tally (rows_seen r)) (sym (drop_more rows i row h)) ∙ left_is)
 
   -- All rows were counted.
   pub all_counted : (tally whole : Tally) → length rows ≤ i → tally_left i tally ≡ whole → tally ≡ whole
   unfolding tally_rows
   all_counted tally whole h left_is =
-      ap (λ (r : List (ℕ × Row)). tally_rows bench tally (map numbered_view r)) (sym (drop_all i rows h)) ∙ left_is
+      ap (λ (r : List (Bor (ℕ × Row))). tally_rows bench tally (rows_seen r)) (sym (drop_all i rows h)) ∙ left_is

@@ -9,22 +9,34 @@ use Rattle.clap.specs.Words.{Text}
 use Rattle.t65_reader.specs.RowText.{most_steps}
 
 -- The files of rows, one at least, and the sources that they are run on, where those are not the
--- files' own; the file that a report goes to, which has another name than these; the most steps of a
--- call; and whether a line is written of each file.
+-- files' own; the files that a report for JUnit and one for lcov go to, which have other names than
+-- these and each other; the most steps of a call; and whether a line is written of each file.
 pub record TestAsked : Type 0 where
   pub files : List Text
   pub sources : List Text
   pub junit : Option Text
+  pub coverage : Option Text
   pub steps : ℕ
   pub is_summary : Bool
 
 abbrev pub has_name : Text → Text → Bool
 has_name name file = bytes_eq file name
 
--- The report has the name of one of some files, which it would replace.
+-- A report has the name of one of some files, which it would replace.
 abbrev pub replaces : Option Text → List Text → Bool
 replaces None files = false
 replaces (Some report) files = list_any (has_name report) files
+
+-- Two reports have one name.
+abbrev pub are_one : Option Text → Option Text → Bool
+are_one (Some report) (Some other) = bytes_eq report other
+are_one report other = false
+
+-- A report has the name of a file that is read, or of the other report.
+abbrev pub clash : Option Text → Option Text → List Text → List Text → Bool
+clash junit coverage sources files
+    = replaces junit files || replaces junit sources || replaces coverage files
+    || replaces coverage sources || are_one junit coverage
 
 -- At most 4,294,967,295.
 abbrev pub limit_of : Option ℕ → Option ℕ
@@ -39,26 +51,28 @@ abbrev pub sources_asked : Option (List Text) → List Text
 sources_asked None = []
 sources_asked (Some sources) = sources
 
-abbrev pub test_of : Option Text → Option ℕ → Bool → List Text → List Text → Option TestAsked
-test_of junit None is_summary sources files = None
-test_of junit (Some steps) is_summary sources [] = None
-test_of junit (Some steps) is_summary sources (file ∷ files)
-    = if replaces junit (file ∷ files) || replaces junit sources then None else Some (record {
+abbrev pub test_of : Option Text → Option Text → Option ℕ → Bool → List Text → List Text
+    → Option TestAsked
+test_of junit coverage None is_summary sources files = None
+test_of junit coverage (Some steps) is_summary sources [] = None
+test_of junit coverage (Some steps) is_summary sources (file ∷ files)
+    = if clash junit coverage sources (file ∷ files) then None else Some (record {
       files = file ∷ files;
       sources = sources;
       junit = junit;
+      coverage = coverage;
       steps = steps;
       is_summary = is_summary;
     })
 
-abbrev pub test_by : Option Text → Option ℕ → Bool → List Text → Option (List Text)
+abbrev pub test_by : Option Text → Option Text → Option ℕ → Bool → List Text → Option (List Text)
     → Option TestAsked
-test_by junit steps is_summary sources None = None
-test_by junit steps is_summary sources (Some files)
-    = test_of junit steps is_summary sources files
+test_by junit coverage steps is_summary sources None = None
+test_by junit coverage steps is_summary sources (Some files)
+    = test_of junit coverage steps is_summary sources files
 
 -- What the first values and all values of the names ask for.
 abbrev pub test_asked : (Text → Option Text) → (Text → Option (List Text)) → Option TestAsked
-test_asked value values = test_by (value (codes "junit")) (limit_asked (value (codes "steps")))
-    (is_flag (value (codes "summary"))) (sources_asked (values (codes "source")))
-    (values (codes "FILE"))
+test_asked value values = test_by (value (codes "junit")) (value (codes "coverage"))
+    (limit_asked (value (codes "steps"))) (is_flag (value (codes "summary")))
+    (sources_asked (values (codes "source"))) (values (codes "FILE"))

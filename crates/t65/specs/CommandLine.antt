@@ -1,5 +1,5 @@
--- The command line of `test FILE .. [--source FILE ..] [--junit FILE] [--steps N] [--summary]`, as
--- clap's definitions describe one. How words are matched with it is clap's to say. Source: mos65.
+-- The command line of `test FILE .. [--source FILE ..] [--junit FILE] [--coverage FILE] [--steps N]
+-- [--summary]`, as clap's definitions describe one. How words are matched with it is clap's to say. Source: mos65.
 use Rattle.std.specs.Prelude.{◌≡◌, List, Option, Some, codes}
 use Rattle.arguments.specs.CommandLine.{files_rule, flag_rule, list_rule, option_rule, unnamed}
 use Rattle.arguments.specs.Words.{Fits, value_in, values_in}
@@ -7,9 +7,9 @@ use Rattle.clap.specs.Words.{App, Text, with_rule}
 use Rattle.t65.specs.Asked.{TestAsked, test_asked}
 
 abbrev pub test : App
-test = with_rule (with_rule (with_rule (with_rule (with_rule (unnamed (codes "test"))
+test = with_rule (with_rule (with_rule (with_rule (with_rule (with_rule (unnamed (codes "test"))
     (files_rule (codes "FILE"))) (list_rule 1 (codes "source"))) (option_rule (codes "junit")))
-    (option_rule (codes "steps"))) (flag_rule (codes "summary"))
+    (option_rule (codes "coverage"))) (option_rule (codes "steps"))) (flag_rule (codes "summary"))
 
 -- What words ask for, where the values that clap finds are right.
 abbrev pub words_asked : List Text → Option TestAsked

@@ -5,15 +5,16 @@ use Rattle.arguments.specs.Values.{base_of}
 use Rattle.arguments.specs.declared.refusal.Refusal.{Refusal}
 use Rattle.arguments.specs.declared.refusal.Refusal.TheVariants.{Map as NoMap, OutOfMemory, Read}
 use Rattle.assembler.specs.Assembly.{AssemblyView, IsAssembled}
-use Rattle.loading.specs.Loads.{EndsSourceFile}
+use Rattle.loading.specs.Loads.{EndsAsSource}
 use Rattle.model.specs.Names.{Definitions}
 use Rattle.model.specs.State.{Map, is_map}
 use Rattle.model.specs.TextLines.{lines_of}
 use Rattle.model.specs.declared.bus_fault.BusFault.TheVariants.{BadMap}
 use Rattle.t65_reader.specs.HeadText.{SeenHead, head_from}
-use Rattle.t65_reader.specs.RowText.{Rows, rows_from}
+use Rattle.t65_reader.specs.RowText.{Rows, SeenRow, rows_from}
+use Rattle.t65_reader.specs.declared.row.Part.TheVariants.{Test}
 use Rattle.t65_reader.specs.declared.fault.TextFault.{TextFault}
-use Rattle.t65.specs.Tested.{map_of}
+use Rattle.t65.specs.Tested.{map_of, rows_of}
 use Rattle.t65.specs.declared.fault.FileFault.{FileFault}
 use Rattle.t65.specs.declared.fault.FileFault.TheVariants.{InRows, InSource}
 use Rattle.t65.specs.declared.fault.TestFault.{TestFault}
@@ -44,13 +45,13 @@ EndsRefused OutOfMemory = ⊤
 EndsRefused (Read why) = ⊤
 EndsRefused refusal = ⊥
 
--- Why a file of rows cannot be tested: its head or a row has this fault, it has no row, or it is
+-- Why a file of rows cannot be tested: its head or a row has this fault, no row is a test, or it is
 -- refused.
 abbrev pub EndsTest : TestFault → Type 0
 EndsTest (NotRows fault) = ((text : List ℕ) × (head_from 1 (lines_of text) ≡ Err fault))
     ⊎ AreRead (Err fault)
 EndsTest TooLarge = ⊤
-EndsTest NoRow = AreRead (Ok [])
+EndsTest NoRow = (rows : List (ℕ × SeenRow)) × AreRead (Ok rows) × (rows_of Test rows ≡ [])
 EndsTest (Refused refusal) = EndsRefused refusal
 
 -- Why a suite cannot be tested: its file of rows cannot, or the source is not assembled on the map
@@ -58,10 +59,11 @@ EndsTest (Refused refusal) = EndsRefused refusal
 abbrev pub EndsFile : FileFault → Type 0
 EndsFile (InRows fault) = EndsTest fault
 EndsFile (InSource path fault) = (file : HeadedFile)
-    × EndsSourceFile (map_of file.head) (string_bytes path) fault
+    × EndsAsSource (map_of file.head) (string_bytes path) fault
 
 -- Why rows are not read under some names.
 abbrev pub EndsRows : ℕ → Definitions → ℕ → List (List ℕ) → TestFault → Type 0
 EndsRows steps names next lines (NotRows fault) = rows_from steps names next lines ≡ Err fault
-EndsRows steps names next lines NoRow = rows_from steps names next lines ≡ Ok []
+EndsRows steps names next lines NoRow = (rows : List (ℕ × SeenRow))
+    × (rows_from steps names next lines ≡ Ok rows) × (rows_of Test rows ≡ [])
 EndsRows steps names next lines fault = fault ≡ Refused OutOfMemory

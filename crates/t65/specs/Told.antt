@@ -2,12 +2,13 @@
 use Rattle.std.specs.Prelude.{◌≡◌, ◌⊎◌, ℕ, ◌&&◌, Bool, true, false, List, [], ◌∷◌, ◌++◌, Option}
 use Rattle.std.specs.Io.KnownBytes.{Appends}
 use Rattle.model.specs.TextLines.{lines_of}
+use Rattle.t65_reader.specs.declared.row.Part.TheVariants.{Test}
 use Rattle.t65_reports.specs.Reports.{plan_text, tap_fault}
 use Rattle.t65_reports.specs.declared.wording.TheConstants.{TAP_BEGIN}
 use Rattle.t65.specs.Asked.{TestAsked}
 use Rattle.t65.specs.Ends.{EndsFile}
 use Rattle.t65.specs.Suites.{SuiteAsked, name_of, suites_of}
-use Rattle.t65.specs.Tested.{TestedFile, fresh_tally, ground_of, rows_text, summary_if, tally_after, tally_rows}
+use Rattle.t65.specs.Tested.{TestedFile, fresh_tally, ground_of, rows_of, rows_text, summary_if, tally_after, tally_rows}
 use Rattle.t65.specs.declared.fault.FileFault.{FileFault}
 use Rattle.t65.specs.declared.files.Manner.{Manner}
 use Rattle.t65.specs.declared.tally.Tally.{Tally}
@@ -29,14 +30,14 @@ outcome_by is_summary name text tally = record {
   passes = tally.all_pass;
 }
 
--- A suite was tested: its rows are told of in their order, from the first line of the file on.
+-- A suite was tested: its tests are told of in their order, from the first line of the file on.
 pub record IsTested (manner : Manner) (suite : SuiteAsked) (count : ℕ) (outcome : Outcome)
     : Type 0 where
   pub file : TestedFile manner.steps suite
   pub is : outcome ≡ outcome_by manner.is_summary (name_of suite)
       (rows_text (ground_of manner.steps suite file) (name_of suite) count 1 (lines_of file.text)
-      file.rows)
-      (tally_rows (ground_of manner.steps suite file) (fresh_tally count) file.rows)
+      (rows_of Test file.rows))
+      (tally_rows (ground_of manner.steps suite file) (fresh_tally count) (rows_of Test file.rows))
 
 -- A suite cannot be tested, which is a test of its own that fails: why, in a few words, and remarks.
 pub record IsUntested (manner : Manner) (suite : SuiteAsked) (count : ℕ) (outcome : Outcome)

@@ -8,6 +8,7 @@ test_view w = record {
   files = map (λ f. f.now) w.files.items;
   sources = map (λ f. f.now) w.sources.items;
   junit = option_map (λ f. f.now) w.junit;
+  coverage = option_map (λ f. f.now) w.coverage;
   steps = w.steps;
   is_summary = w.is_summary;
 }

@@ -14,7 +14,7 @@ pub enum TestFault {
     Rows(TextFault),
     /// The file has more than 1,048,576 bytes.
     TooLarge,
-    /// No row is in the file.
+    /// No row of the file is a test.
     NoRow,
     /// What other words are refused for too: the map, reading, memory.
     Refused(Refusal),

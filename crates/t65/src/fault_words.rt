@@ -106,7 +106,13 @@ fn tell_rows<E: Write>(path: &str, fault: TestFault, text: &mut E) {
     }
 }
 
-/// Writes why a source is not assembled: all of its faults, or why it is not read.
+/// Writes what a file looks like that is named as a source.
+fn tell_like<E: Write>(path: &str, like: &str, text: &mut E) {
+    let _ = writeln!(text, "mos65: {path} looks like {like}, and is no source");
+}
+
+/// Writes why a source is not assembled: all of its faults, what it looks like, or why it is not
+/// read.
 fn tell_source<E: Write>(path: &str, fault: &LoadFault, text: &mut E) {
     match fault {
         LoadFault::Faults { text: told, .. } => {
@@ -115,6 +121,9 @@ fn tell_source<E: Write>(path: &str, fault: &LoadFault, text: &mut E) {
         LoadFault::Refused(refusal) => {
             let _ = refuse_file(*refusal, path, text);
         }
+        LoadFault::LooksLikeTape => tell_like(path, "a tape", text),
+        LoadFault::LooksLikeHex => tell_like(path, "Intel HEX", text),
+        LoadFault::LooksLikeSRecords => tell_like(path, "S-records", text),
         _ => {}
     }
 }

@@ -4,17 +4,17 @@ ghost use Rattle.std.specs.Prelude.{◌≡◌, ◌++◌, ◌&&◌, ℕ, List, If
 ghost use Rattle.std.specs.Prelude.{string_bytes};
 ghost use Rattle.std.specs.Io.KnownBytes.{Appends};
 ghost use Rattle.model.specs.TextLines.{lines_of};
-ghost use Rattle.t65_reader.specs.RowText.{numbered_view};
 ghost use Rattle.t65_reports.specs.Reports.{tap_fault};
 ghost use Rattle.t65.specs.Suites.{name_of, suite_view};
 ghost use Rattle.t65.specs.Tested.{fresh_tally, ground_in, rows_text, summary_if, tally_after};
-ghost use Rattle.t65.specs.Tested.{tally_rows};
+ghost use Rattle.t65.specs.Tested.{tally_rows, tests_in};
 ghost use Rattle.t65.specs.Told.{AreRun, IsRun};
 
+use crate::around::rows_of;
 use crate::fault::{FileFault, is_memory};
 use crate::fault_words::{remarks_of, title_of};
 use crate::prepared::{Prepared, prepare};
-use crate::report::Report;
+use crate::report::Reports;
 use crate::rows::{Told, run_rows, write_told};
 use crate::stop::Stop;
 use crate::suites::Suite;
@@ -23,6 +23,7 @@ use arguments::write_text;
 use std::alloc::{AllocError, Global};
 use std::io::{Seek, Write};
 use std::rt::Files;
+use t65_reader::Part;
 use t65_reports::{Score, junit_fault, summary, tap_fault};
 
 /// How rows are run and told of.
@@ -61,18 +62,22 @@ fn run_tested<O: Write, F: Write + Seek + Drop>(
     name: &str,
     count: u64,
     output: &mut O,
-    report: &mut Report<F>,
+    reports: &mut Reports<F>,
 ) -> Result<Tally, Stop>
     ensures tally { IfOk result (λ tally. tally ≡ tally_rows (ground_in prepared.now)
-        (fresh_tally count) (map numbered_view prepared.now.rows.items)) }
+        (fresh_tally count) (tests_in prepared.now)) }
     ensures written { IfOk result (λ tally. Appends (O.contents output.old) (O.contents output.new)
         (rows_text (ground_in prepared.now) name.now count 1
-        (lines_of prepared.now.text.items) (map numbered_view prepared.now.rows.items)
+        (lines_of prepared.now.text.items) (tests_in prepared.now)
         ++ summary_if is_summary name.now tally.score)) }
 {
-    report.begin_suite(alloc, name, prepared.rows.len())?;
-    let tally = run_rows(alloc, prepared, name, fresh_tally(count), output, report)?;
-    report.end_suite();
+    let tests = rows_of(alloc, &prepared.rows, Part::Test)?;
+    reports.junit.begin_suite(alloc, name, tests.len())?;
+    reports.coverage.begin_suite(alloc)?;
+    let first = fresh_tally(count);
+    let tally = run_rows(alloc, prepared, &tests, name, first, output, reports)?;
+    reports.coverage.end_suite(alloc, prepared)?;
+    reports.junit.end_suite();
     write_summary(alloc, is_summary, name, tally.score, output)?;
     Ok(tally)
 }
@@ -105,7 +110,7 @@ fn run_untested<O: Write, F: Write + Seek + Drop>(
     count: u64,
     fault: &FileFault,
     output: &mut O,
-    report: &mut Report<F>,
+    reports: &mut Reports<F>,
 ) -> Result<Tally, Stop>
     ensures tally { IfOk result (λ tally. tally ≡ tally_after false 0 (fresh_tally count)) }
     ensures written { IfOk result (λ tally. (title : List ℕ) × (remarks : List ℕ)
@@ -115,9 +120,9 @@ fn run_untested<O: Write, F: Write + Seek + Drop>(
 {
     let tally = tally_after(false, 0, fresh_tally(count));
     let told = untested(alloc, tally.count, suite, fault)?;
-    report.begin_suite(alloc, suite.name(), 1)?;
-    write_told(alloc, suite.name(), &told, output, report)?;
-    report.end_suite();
+    reports.junit.begin_suite(alloc, suite.name(), 1)?;
+    write_told(alloc, suite.name(), &told, output, reports)?;
+    reports.junit.end_suite();
     write_summary(alloc, is_summary, suite.name(), tally.score, output)?;
     Ok(tally)
 }
@@ -130,7 +135,7 @@ fn run_suite<H: Files + AllocGlobal, O: Write>(
     manner: Manner,
     count: u64,
     output: &mut O,
-    report: &mut Report<H::File>,
+    reports: &mut Reports<H::File>,
 ) -> Result<Tally, Stop>
     ensures { IfOk result (IsRun manner (suite_view suite.entry) count (O.contents output.old)
         (O.contents output.new)) }
@@ -146,14 +151,14 @@ fn run_suite<H: Files + AllocGlobal, O: Write>(
                 suite.name(),
                 count,
                 output,
-                report,
+                reports,
             )
         }
         Err(fault) => {
             if is_memory(&fault) {
                 return Err(Stop::OutOfMemory);
             }
-            run_untested(alloc, suite, is_summary, count, &fault, output, report)
+            run_untested(alloc, suite, is_summary, count, &fault, output, reports)
         }
     }
 }
@@ -163,14 +168,14 @@ fn run_suite<H: Files + AllocGlobal, O: Write>(
 ///
 /// # Errors
 ///
-/// `OutOfMemory` if an allocation fails, `Output` and `Report` if these cannot be written. What
-/// cannot be read or assembled is a test that fails, and the other suites are run.
+/// `OutOfMemory` if an allocation fails, `Output`, `Report` and `Coverage` if these cannot be
+/// written. What cannot be read or assembled is a test that fails, and the other suites are run.
 pub fn run_suites<H: Files + AllocGlobal, O: Write>(
     rt: &H,
     suites: &[Suite<'_>],
     manner: Manner,
     output: &mut O,
-    report: &mut Report<H::File>,
+    reports: &mut Reports<H::File>,
 ) -> Result<(u64, bool), Stop>
     ensures { IfOk result (λ end. AreRun manner (map suite_view suites.now)
         (O.contents output.old) (O.contents output.new) end.0 end.1) }
@@ -178,7 +183,7 @@ pub fn run_suites<H: Files + AllocGlobal, O: Write>(
     let mut count = 0u64;
     let mut all_pass = true;
     for index in 0..suites.len() {
-        match run_suite(rt, suites[index], manner, count, output, report) {
+        match run_suite(rt, suites[index], manner, count, output, reports) {
             Ok(tally) => {
                 count = tally.count;
                 all_pass = both(all_pass, tally.all_pass);

@@ -6,6 +6,8 @@
 //! say.
 #![tactic(auto)]
 
+mod around;
+mod coverage;
 mod fault;
 mod fault_words;
 mod files;

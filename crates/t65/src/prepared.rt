@@ -4,7 +4,7 @@ ghost use Rattle.std.specs.Prelude.{◌≡◌, ◌≤◌, ◌<◌, ◌+◌, [], 
 ghost use Rattle.std.specs.Prelude.{map, string_bytes};
 ghost use Rattle.arguments.specs.Values.{base_of};
 ghost use Rattle.assembler.specs.Assembly.{IsAssembled};
-ghost use Rattle.loading.specs.Loads.{EndsSourceFile};
+ghost use Rattle.loading.specs.Loads.{EndsAsSource};
 ghost use Rattle.model.specs.State.{is_map};
 ghost use Rattle.model.specs.TextLines.{lines_of};
 ghost use Rattle.source_map.specs.Lines.{places_of};
@@ -14,12 +14,13 @@ ghost use Rattle.t65.specs.Ends.{EndsFile, EndsRows, EndsTest};
 ghost use Rattle.t65.specs.Suites.{suite_view};
 ghost use Rattle.t65.specs.Tested.{IsPrepared, map_of};
 
+use crate::around::has_test;
 use crate::fault::{FileFault, TestFault};
 use crate::names::{path_of, read_rows_text};
 use crate::suites::Suite;
 use arguments::{LoadFault, Refusal, read_source};
-use assembler::{Assembly, assemble};
-use loading::faults_of;
+use assembler::Assembly;
+use loading::assembled_source;
 use memory_map::{MapSpec, Port};
 use model::BusFault;
 use source_map::Places;
@@ -27,7 +28,7 @@ use std::alloc::Global;
 use std::rt::Files;
 use t65_reader::{Head, Opened, Row, RowFaultKind, read_head, read_rows};
 
-/// A file of rows, the source assembled, and the rows, one at least.
+/// A file of rows, the source assembled, and the rows, one of them a test at least.
 #[derive(Drop)]
 pub struct Prepared {
     pub text: Vec<u8>,
@@ -60,21 +61,17 @@ fn map_of(head: Head<'_>) -> Result<MapSpec, TestFault>
 
 /// Returns the source of a file, assembled.
 ///
-/// Errors: `Read` if the file cannot be read; `Faults` with all faults of the source; `OutOfMemory`
-/// if an allocation fails.
+/// Errors: `Read` if the file cannot be read; those of `assembled_source`.
 fn assembled_file<H: Files + AllocGlobal>(
     rt: &H,
     path: &str,
     map: &MapSpec,
 ) -> Result<Assembly, LoadFault>
     ensures assembled { IfOk result (IsAssembled map.now) }
-    ensures refused { IfErr result (EndsSourceFile map.now path.now) }
+    ensures refused { IfErr result (EndsAsSource map.now path.now) }
 {
     let source = read_source(rt, path)?;
-    match assemble(rt.alloc(), &source, map) {
-        Ok(assembly) => Ok(assembly),
-        Err(fault) => Err(faults_of(rt.alloc(), path, &source, map, fault)),
-    }
+    assembled_source(rt.alloc(), path, &source, map)
 }
 
 /// Returns the source of a file, assembled, and its places.
@@ -87,7 +84,7 @@ fn assembled<H: Files + AllocGlobal>(
 ) -> Result<(Assembly, Places), LoadFault>
     ensures assembled { IfOk result (λ found. IsAssembled map.now found.0) }
     ensures places { IfOk result (λ found. found.1 ≡ places_of path.now found.0) }
-    ensures refused { IfErr result (EndsSourceFile map.now path.now) }
+    ensures refused { IfErr result (EndsAsSource map.now path.now) }
 {
     let assembly = assembled_file(rt, path, map)?;
     match Places::of_source(rt.alloc(), path.as_bytes(), &assembly) {
@@ -109,7 +106,8 @@ fn opened_in(text: &[u8]) -> Result<Opened<'_>, TestFault>
     read_head(text).map_err(TestFault::Rows)
 }
 
-/// Returns the rows of a text, one at least, under the names of a source.
+/// Returns the rows of a text, one of them a test at least, under the names of a source.
+#[tactic(auto, using(crate::proofs::Ends::no_test))]
 fn rows_in(
     alloc: Global,
     names: &Assembly,
@@ -123,13 +121,11 @@ fn rows_in(
     ensures refused { IfErr result (EndsRows steps names.now.names first (lines_of text.now)) }
 {
     match read_rows(alloc, names, first, steps, text) {
-        Ok(rows) => {
-            if rows.is_empty() {
-                Err(TestFault::NoRow)
-            } else {
-                Ok(rows)
-            }
-        }
+        Ok(rows) => match has_test(alloc, &rows) {
+            Ok(true) => Ok(rows),
+            Ok(false) => Err(TestFault::NoRow),
+            Err(_) => Err(TestFault::Refused(Refusal::OutOfMemory)),
+        },
         Err(fault) => match fault.kind {
             RowFaultKind::OutOfMemory => Err(TestFault::Refused(Refusal::OutOfMemory)),
             _ => Err(TestFault::Rows(fault)),

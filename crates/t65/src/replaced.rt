@@ -51,15 +51,16 @@ fn replaced_in<H: Files + AllocGlobal>(
     }
 }
 
-/// Returns the path of the first file that is read and that the report would replace, if there is
+/// Returns the path of the first file that is read and that a report would replace, if there is
 /// one.
 ///
 /// Errors: `OutOfMemory` if an allocation fails.
-pub fn replaced_file<H: Files + AllocGlobal>(
+fn replaced_by<H: Files + AllocGlobal>(
     rt: &H,
     words: &TestWords<'_>,
+    report: Option<&str>,
 ) -> Result<Option<String>, TestFault> {
-    let Some(report) = words.junit else {
+    let Some(report) = report else {
         return Ok(None);
     };
     let Ok(suites) = suites_of(rt.alloc(), &words.files, &words.sources) else {
@@ -72,4 +73,19 @@ pub fn replaced_file<H: Files + AllocGlobal>(
         }
     }
     Ok(None)
+}
+
+/// Returns the path of the first file that is read and that the report for JUnit or the file for
+/// lcov would replace, if there is one.
+///
+/// Errors: `OutOfMemory` if an allocation fails.
+pub fn replaced_file<H: Files + AllocGlobal>(
+    rt: &H,
+    words: &TestWords<'_>,
+) -> Result<Option<String>, TestFault> {
+    let replaced = replaced_by(rt, words, words.junit)?;
+    if replaced.is_some() {
+        return Ok(replaced);
+    }
+    replaced_by(rt, words, words.coverage)
 }

@@ -4,24 +4,27 @@ ghost use Rattle.std.specs.Prelude.{◌≡◌, ◌+◌, IfOk, OnOk, is_none, is_
 ghost use Rattle.std.specs.Io.KnownBytes.{Appends};
 ghost use Rattle.std.specs.Option.{option_map};
 ghost use Rattle.model.specs.TextLines.{lines_of};
-ghost use Rattle.t65_reader.specs.RowText.{numbered_view, row_view};
+ghost use Rattle.t65_reader.specs.RowText.{numbered_view};
 ghost use Rattle.t65_reports.specs.Failures.{detail_text};
 ghost use Rattle.t65_reports.specs.Reports.{tap_case};
-ghost use Rattle.t65_runner.specs.Passes.{pair_of};
 ghost use Rattle.t65_runner.specs.Start.{fresh};
-ghost use Rattle.t65.specs.Tested.{failure_of, ground_in, plus, rows_text, tally_rows, why};
+ghost use Rattle.t65.specs.Tested.{IsAround, failure_of, ground_in, plus, rows_text, run_of};
+ghost use Rattle.t65.specs.Tested.{tally_rows, why};
+ghost use Rattle.t65_runner.specs.Passes.{rows_seen};
 
+use crate::around::Around;
+use crate::coverage::Coverage;
 use crate::prepared::Prepared;
-use crate::report::Report;
+use crate::report::Reports;
 use crate::stop::Stop;
 use crate::tally::{Tally, tally_after};
 use arguments::write_text;
 use debugger::Session;
 use std::alloc::{AllocError, Global};
 use std::io::{Seek, Write};
-use t65_reader::Row;
+use t65_reader::{Ranges, Row};
 use t65_reports::{Bench, Case, RowLines, detail_of, junit_case, tap_case};
-use t65_runner::{HISTORY, Pair, first_failed};
+use t65_runner::{HISTORY, Values, first_failed};
 
 /// The texts of a test that has ended, and whether it passes.
 #[derive(Drop)]
@@ -31,23 +34,24 @@ pub struct Told {
     pub passes: bool,
 }
 
-/// Returns why a row fails for these values of its ranges.
+/// Returns why a test fails for these values of its ranges, where some rows are run for it.
 fn detail_in(
     alloc: Global,
     prepared: &Prepared,
-    row: &Row,
-    pair: Pair,
+    ranges: Ranges,
+    rows: &[&(u32, Row)],
+    values: Values,
 ) -> Result<String, AllocError>
     ensures { IfOk result (λ text. string_bytes text
         ≡ detail_text prepared.now.map prepared.now.assembly.image prepared.now.places
-        (row_view row.now) (pair_of pair)) }
+        ranges (rows_seen rows.now) values) }
 {
     let bench = Bench {
         map: prepared.map,
         image: prepared.assembly.image(),
         places: &prepared.places,
     };
-    detail_of(alloc, bench, row, pair)
+    detail_of(alloc, bench, ranges, rows, values)
 }
 
 /// Returns the texts of a row by its number among all tests, which fails for the reason that is
@@ -70,29 +74,50 @@ fn texts_of(
     })
 }
 
-/// Runs a row from the start of the machine, goes back there, and returns the row's texts.
-fn run_row(
+/// Returns what is run for a test of a suite, one row after another.
+fn run_for<'a>(
+    alloc: Global,
+    prepared: &Prepared,
+    around: &Around<'a>,
+    row: &'a (u32, Row),
+) -> Result<Vec<&'a (u32, Row)>, AllocError>
+    requires { IsAround prepared.now around.now }
+    ensures { IfOk result (λ run. rows_seen run.items
+        ≡ run_of (ground_in prepared.now) (numbered_view row.now)) }
+{
+    let run = around.run_of(alloc, row)?;
+    Ok(run)
+}
+
+/// Runs a test from the start of the machine, goes back there, and returns the row's texts.
+fn run_row<F: Write + Drop>(
     alloc: Global,
     session: &mut Session,
     prepared: &Prepared,
+    around: &Around<'_>,
     number: u64,
     case: Case<'_>,
-    row: &Row,
+    row: &(u32, Row),
+    coverage: &mut Coverage<F>,
 ) -> Result<Told, AllocError>
-    requires { session.old ≡ fresh prepared.now.map prepared.now.assembly.image }
+    requires start { session.old ≡ fresh prepared.now.map prepared.now.assembly.image }
+    requires around { IsAround prepared.now around.now }
     ensures back { OnOk result
         (session.new ≡ fresh prepared.now.map prepared.now.assembly.image) }
     ensures tap { IfOk result (λ told. string_bytes told.tap
         ≡ tap_case number case.entry.file.now case.entry.line case.entry.text.now
-        (why (ground_in prepared.now) (row_view row.now))) }
+        (why (ground_in prepared.now) (numbered_view row.now))) }
     ensures passes { IfOk result (λ told. told.passes
-        ≡ is_none (failure_of (ground_in prepared.now) (row_view row.now))) }
+        ≡ is_none (failure_of (ground_in prepared.now) (numbered_view row.now))) }
 {
-    let failed = first_failed(alloc, session, prepared.map, prepared.assembly.image(), row)?;
+    let rows = run_for(alloc, prepared, around, row)?;
+    let image = prepared.assembly.image();
+    let failed = first_failed(alloc, session, prepared.map, image, &row.1, &rows)?;
+    coverage.count(alloc, session, prepared, &row.1, &rows, failed)?;
     match failed {
         None => texts_of(alloc, number, case, None),
-        Some(pair) => {
-            let detail = detail_in(alloc, prepared, row, pair)?;
+        Some(values) => {
+            let detail = detail_in(alloc, prepared, row.1.ranges, &rows, values)?;
             texts_of(alloc, number, case, Some(detail.as_str()))
         }
     }
@@ -104,39 +129,42 @@ pub fn write_told<O: Write, F: Write + Seek + Drop>(
     name: &str,
     told: &Told,
     output: &mut O,
-    report: &mut Report<F>,
+    reports: &mut Reports<F>,
 ) -> Result<(), Stop>
     ensures { OnOk result (Appends (O.contents output.old) (O.contents output.new)
         (string_bytes told.now.tap)) }
 {
-    report.push_test(alloc, name, told.junit.as_str(), told.passes)?;
+    let junit = told.junit.as_str();
+    reports.junit.push_test(alloc, name, junit, told.passes)?;
     write_text(output, told.tap.as_bytes())?;
     Ok(())
 }
 
-/// Runs rows, each from the start of the machine. The texts of a row are written, and the output is
-/// flushed, before the next row runs.
+/// Runs tests, each from the start of the machine. The texts of a row are written, and the output
+/// is flushed, before the next row runs.
 fn run_each<O: Write, F: Write + Seek + Drop>(
     alloc: Global,
     session: &mut Session,
     prepared: &Prepared,
-    rows: &[(u32, Row)],
+    around: &Around<'_>,
+    tests: &[&(u32, Row)],
     name: &str,
     tally: Tally,
     output: &mut O,
-    report: &mut Report<F>,
+    reports: &mut Reports<F>,
 ) -> Result<Tally, Stop>
-    requires { session.old ≡ fresh prepared.now.map prepared.now.assembly.image }
+    requires start { session.old ≡ fresh prepared.now.map prepared.now.assembly.image }
+    requires around { IsAround prepared.now around.now }
     ensures written { OnOk result (Appends (O.contents output.old) (O.contents output.new)
         (rows_text (ground_in prepared.now) name.now tally.count 1
-        (lines_of prepared.now.text.items) (map numbered_view rows.now))) }
+        (lines_of prepared.now.text.items) (rows_seen tests.now))) }
     ensures tally { IfOk result (λ all. all
-        ≡ tally_rows (ground_in prepared.now) tally (map numbered_view rows.now)) }
+        ≡ tally_rows (ground_in prepared.now) tally (rows_seen tests.now)) }
 {
     let mut lines = RowLines::new(&prepared.text, 1);
     let mut so_far = tally;
-    for index in 0..rows.len() {
-        let line = rows[index].0;
+    for index in 0..tests.len() {
+        let line = tests[index].0;
         let text = lines.walk_to(line);
         let case = Case {
             file: name,
@@ -144,45 +172,52 @@ fn run_each<O: Write, F: Write + Seek + Drop>(
             text,
         };
         let number = so_far.count.saturating_add(1);
-        let told = run_row(alloc, session, prepared, number, case, &rows[index].1)?;
-        write_told(alloc, name, &told, output, report)?;
-        so_far = tally_after(told.passes, rows[index].1.points, so_far);
+        let row = tests[index];
+        let coverage = &mut reports.coverage;
+        let told = run_row(
+            alloc, session, prepared, around, number, case, row, coverage,
+        )?;
+        write_told(alloc, name, &told, output, reports)?;
+        so_far = tally_after(told.passes, tests[index].1.points, so_far);
     }
     Ok(so_far)
 }
 
-/// Runs the rows of a suite, each from the start of its machine. The texts of a row are written,
+/// Runs the tests of a suite, each from the start of its machine. The texts of a row are written,
 /// and the output is flushed, before the next row runs.
 ///
 /// # Errors
 ///
-/// `OutOfMemory` if an allocation fails, `Output` and `Report` if these cannot be written.
+/// `OutOfMemory` if an allocation fails, `Output`, `Report` and `Coverage` if these cannot be
+/// written.
 pub fn run_rows<O: Write, F: Write + Seek + Drop>(
     alloc: Global,
     prepared: &Prepared,
+    tests: &[&(u32, Row)],
     name: &str,
     tally: Tally,
     output: &mut O,
-    report: &mut Report<F>,
+    reports: &mut Reports<F>,
 ) -> Result<Tally, Stop>
     ensures written { OnOk result (Appends (O.contents output.old) (O.contents output.new)
         (rows_text (ground_in prepared.now) name.now tally.count 1
-        (lines_of prepared.now.text.items) (map numbered_view prepared.now.rows.items))) }
+        (lines_of prepared.now.text.items) (rows_seen tests.now))) }
     ensures tally { IfOk result (λ all. all ≡ tally_rows (ground_in prepared.now) tally
-        (map numbered_view prepared.now.rows.items)) }
+        (rows_seen tests.now)) }
 {
+    let around = Around::new(alloc, &prepared.rows)?;
     match Session::new(alloc, prepared.map, prepared.assembly.image(), HISTORY) {
         Ok(mut session) => {
-            let rows = prepared.rows.as_slice();
             run_each(
                 alloc,
                 &mut session,
                 prepared,
-                rows,
+                &around,
+                tests,
                 name,
                 tally,
                 output,
-                report,
+                reports,
             )
         }
         Err(_) => Err(Stop::OutOfMemory),

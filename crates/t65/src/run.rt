@@ -6,9 +6,10 @@ ghost use Rattle.t65.specs.CommandLine.{Asks, test, words_asked};
 ghost use Rattle.t65.specs.Told.{AreTested};
 ghost use Rattle.t65.specs.Views.{test_view};
 
+use crate::coverage::begin_coverage;
 use crate::files::{Manner, run_suites};
 use crate::replaced::replaced_file;
-use crate::report::{Report, begin_report};
+use crate::report::{Reports, begin_report};
 use crate::stop::Stop;
 use crate::suites::suites_of;
 use crate::words::{TestWords, read_words};
@@ -22,7 +23,7 @@ fn run_told<H: Files + AllocGlobal, O: Write>(
     rt: &H,
     words: &TestWords<'_>,
     output: &mut O,
-    report: &mut Report<H::File>,
+    reports: &mut Reports<H::File>,
 ) -> Result<bool, Stop>
     ensures { IfOk result (AreTested (test_view words.now) (O.contents output.old)
         (O.contents output.new)) }
@@ -33,21 +34,32 @@ fn run_told<H: Files + AllocGlobal, O: Write>(
         is_summary: words.is_summary,
     };
     write_text(output, TAP_BEGIN.as_bytes())?;
-    let (count, all_pass) = run_suites(rt, &suites, manner, output, report)?;
+    let (count, all_pass) = run_suites(rt, &suites, manner, output, reports)?;
     let plan = plan(rt.alloc(), count)?;
     write_text(output, plan.as_bytes())?;
     Ok(all_pass)
 }
 
+/// Writes that a file cannot be written, and returns the exit status.
+fn refuse_written<E: Write>(file: Option<&str>, errors: &mut E) -> u8
+    ensures { result ≡ 4 }
+{
+    match file {
+        Some(file) => refuse_file(Refusal::Write, file, errors),
+        None => refuse(Refusal::Write, errors),
+    }
+}
+
 /// Writes why no more tests are run, and returns the exit status.
-fn refuse_stop<E: Write>(stop: Stop, junit: Option<&str>, errors: &mut E) -> u8
+fn refuse_stop<E: Write>(stop: Stop, words: &TestWords<'_>, errors: &mut E) -> u8
     ensures low { 3 ≤ result }
     ensures high { result ≤ 4 }
 {
-    match (stop, junit) {
-        (Stop::OutOfMemory, _) => refuse(Refusal::OutOfMemory, errors),
-        (Stop::Report, Some(file)) => refuse_file(Refusal::Write, file, errors),
-        (_, _) => refuse(Refusal::Write, errors),
+    match stop {
+        Stop::OutOfMemory => refuse(Refusal::OutOfMemory, errors),
+        Stop::Output => refuse(Refusal::Write, errors),
+        Stop::Report => refuse_written(words.junit, errors),
+        Stop::Coverage => refuse_written(words.coverage, errors),
     }
 }
 
@@ -59,7 +71,20 @@ fn refuse_replaced<E: Write>(file: &str, errors: &mut E) -> u8
     4
 }
 
-/// Begins the report, runs the suites, and returns the exit status.
+/// Begins what is written in files.
+///
+/// Errors: `Report` and `Coverage` if these cannot be written.
+fn begin_reports<H: Files>(rt: &H, words: &TestWords<'_>) -> Result<Reports<H::File>, Stop> {
+    let Ok(junit) = begin_report(rt, words.junit) else {
+        return Err(Stop::Report);
+    };
+    match begin_coverage(rt, words.coverage) {
+        Ok(coverage) => Ok(Reports { junit, coverage }),
+        Err(_) => Err(Stop::Coverage),
+    }
+}
+
+/// Begins what is written in files, runs the suites, and returns the exit status.
 fn run_reported<H: Files + AllocGlobal, O: Write, E: Write>(
     rt: &H,
     words: &TestWords<'_>,
@@ -74,18 +99,18 @@ fn run_reported<H: Files + AllocGlobal, O: Write, E: Write>(
     ensures never { result ≢ 2 }
     ensures quiet { result ≤ 1 → errors.new ≡ errors.old }
 {
-    let mut report = match begin_report(rt, words.junit) {
-        Ok(report) => report,
-        Err(_) => return refuse_stop(Stop::Report, words.junit, errors),
+    let mut reports = match begin_reports(rt, words) {
+        Ok(reports) => reports,
+        Err(stop) => return refuse_stop(stop, words, errors),
     };
-    match run_told(rt, words, output, &mut report) {
+    match run_told(rt, words, output, &mut reports) {
         Ok(true) => 0,
         Ok(false) => 1,
-        Err(stop) => refuse_stop(stop, words.junit, errors),
+        Err(stop) => refuse_stop(stop, words, errors),
     }
 }
 
-/// Runs the suites of the words, unless the report would replace a file that is read, and returns
+/// Runs the suites of the words, unless a report would replace a file that is read, and returns
 /// the exit status.
 fn run_words<H: Files + AllocGlobal, O: Write, E: Write>(
     rt: &H,
@@ -114,9 +139,10 @@ fn run_words<H: Files + AllocGlobal, O: Write, E: Write>(
 /// - 2: the words are wrong. 3: memory ran out. 4: reading or writing failed.
 ///
 /// TAP goes to `output`, which is flushed after each test, and before that the report for JUnit to
-/// its file, if one is asked for, which is whole after each test. It replaces no file that is read:
-/// where its name is that of a file of rows or of a source of the words, these are wrong, and where
-/// it is another name for one, or is the source that a file names, the status is 4. What cannot be
+/// its file, if one is asked for, which is whole after each test. The file for lcov gets a record
+/// after each suite. Neither replaces a file that is read: where its name is that of a file of rows
+/// or of a source of the words, or both have one name, the words are wrong, and where it is another
+/// name for one, or is the source that a file names, the status is 4. What cannot be
 /// read or assembled is a test that fails, and other files are tested. That `errors` cannot be
 /// written changes no status.
 pub fn test<H: Files + AllocGlobal, O: Write, E: Write>(

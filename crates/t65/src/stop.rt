@@ -15,6 +15,8 @@ pub enum Stop {
     Output,
     /// The report cannot be written.
     Report,
+    /// The file for lcov cannot be written.
+    Coverage,
 }
 
 impl From<AllocError> for Stop {

@@ -5,8 +5,8 @@ ghost use Rattle.std.specs.List.{list_any};
 ghost use Rattle.arguments.specs.Words.{Fits, IsRefusalOf, all_values, texts};
 ghost use Rattle.clap.specs.Words.{app_of, first_value, found_of, kind_of};
 ghost use Rattle.clap.specs.declared.builder.command.Command.TheViews.{out-Command};
-ghost use Rattle.t65.specs.Asked.{has_name, limit_asked, replaces, sources_asked, test_asked};
-ghost use Rattle.t65.specs.Asked.{test_of};
+ghost use Rattle.t65.specs.Asked.{are_one, clash, has_name, limit_asked, replaces, sources_asked};
+ghost use Rattle.t65.specs.Asked.{test_asked, test_of};
 ghost use Rattle.t65.specs.CommandLine.{test, words_asked};
 ghost use Rattle.t65.specs.Views.{test_view};
 
@@ -28,6 +28,9 @@ pub struct TestWords<'a> {
     /// The file to write the report for JUnit to, if one is asked for; its name is that of no file
     /// of rows and of no source.
     pub junit: Option<&'a str>,
+    /// The file to write which lines were run to, if that is asked for; its name is that of none of
+    /// these.
+    pub coverage: Option<&'a str>,
     /// The most steps of a call.
     pub steps: u32,
     /// Whether a line is written of each file.
@@ -52,12 +55,14 @@ pub fn test_command<'a>(alloc: Global) -> Result<Command<'a>, Error>
     let rows = "Files of rows, each of which names its source";
     let source = "Sources that the rows are run on, each, in place of the one that a file names";
     let junit = "The file to write a report for JUnit to [default: none]";
+    let coverage = "The file to write for lcov: how often each line was run [default: none]";
     let steps = "The most steps of a call [default: 10000000]";
     let summary = "Prints a line after each file: rows that pass and fail, and points";
     let command = begin(alloc, "test", "mos65 test", about, STATUSES)?
         .arg(file_list(alloc, "FILE", rows))?
         .arg(list(alloc, "source", "FILE", 1, source))?
         .arg(option(alloc, "junit", "FILE", junit))?
+        .arg(option(alloc, "coverage", "FILE", coverage))?
         .arg(option(alloc, "steps", "N", steps))?
         .arg(flag(alloc, "summary", summary))?;
     Ok(command)
@@ -86,6 +91,30 @@ fn replaces(report: Option<&str>, files: &[&str]) -> bool
     }
 }
 
+/// Returns whether two reports have one name.
+fn are_one(report: Option<&str>, other: Option<&str>) -> bool
+    ensures { result ≡ are_one (option_map (λ f. f.now) report.entry)
+        (option_map (λ f. f.now) other.entry) }
+{
+    match (report, other) {
+        (Some(report), Some(other)) => report == other,
+        _ => false,
+    }
+}
+
+/// Returns whether a report has the name of a file of rows, of a source, or of the other report.
+fn clash(junit: Option<&str>, coverage: Option<&str>, sources: &[&str], files: &[&str]) -> bool
+    ensures { result ≡ clash (option_map (λ f. f.now) junit.entry)
+        (option_map (λ f. f.now) coverage.entry)
+        (map (λ f. f.now) sources.now) (map (λ f. f.now) files.now) }
+{
+    replaces(junit, files)
+        || replaces(junit, sources)
+        || replaces(coverage, files)
+        || replaces(coverage, sources)
+        || are_one(junit, coverage)
+}
+
 /// Returns how many steps the word after `--steps` asks for at most, or `None` if it is wrong.
 fn limit_asked(word: Option<&str>) -> Option<u32>
     ensures { result ≡ limit_asked (option_map (λ w. w.now) word.entry) }
@@ -110,37 +139,39 @@ fn sources_asked<'a, 'b>(sources: Option<&'b [&'a str]>) -> &'b [&'a str]
     }
 }
 
-/// Returns what files and options ask for, or `None` if there is no file, a value is wrong, or the
+/// Returns what files and options ask for, or `None` if there is no file, a value is wrong, or a
 /// report would replace a file.
 fn test_of<'a>(
     alloc: Global,
     junit: Option<&'a str>,
+    coverage: Option<&'a str>,
     steps: Option<u32>,
     is_summary: bool,
     sources: &[&'a str],
     files: &[&'a str],
 ) -> Result<Option<TestWords<'a>>, AllocError>
     ensures { IfOk result (λ w. option_map test_view w
-        ≡ test_of (option_map (λ f. f.now) junit.entry) steps is_summary
-        (map (λ f. f.now) sources.now) (map (λ f. f.now) files.now)) }
+        ≡ test_of (option_map (λ f. f.now) junit.entry) (option_map (λ f. f.now) coverage.entry)
+        steps is_summary (map (λ f. f.now) sources.now) (map (λ f. f.now) files.now)) }
 {
     let Some(steps) = steps else {
         return Ok(None);
     };
-    if files.is_empty() || replaces(junit, files) || replaces(junit, sources) {
+    if files.is_empty() || clash(junit, coverage, sources, files) {
         return Ok(None);
     }
     Ok(Some(TestWords {
         files: Vec::from_slice(alloc, files)?,
         sources: Vec::from_slice(alloc, sources)?,
         junit,
+        coverage,
         steps,
         is_summary,
     }))
 }
 
 /// Returns what the values that were found ask for, or `None` if no file is among them, one is
-/// wrong, or the report would replace a file.
+/// wrong, or a report would replace a file.
 fn asked<'a>(alloc: Global, matches: &ArgMatches<'a>) -> Result<Option<TestWords<'a>>, AllocError>
     ensures { IfOk result (λ w. option_map test_view w
         ≡ test_asked (first_value (found_of matches.now)) (all_values (found_of matches.now))) }
@@ -150,6 +181,7 @@ fn asked<'a>(alloc: Global, matches: &ArgMatches<'a>) -> Result<Option<TestWords
         Some(files) => test_of(
             alloc,
             matches.get_str("junit"),
+            matches.get_str("coverage"),
             limit_asked(matches.get_str("steps")),
             is_given(matches, "summary"),
             sources_asked(matches.get_strs("source")),
@@ -158,12 +190,30 @@ fn asked<'a>(alloc: Global, matches: &ArgMatches<'a>) -> Result<Option<TestWords
     }
 }
 
+/// Returns the values of an option that were found.
+fn given<'a, 'b>(matches: &'b ArgMatches<'a>, name: &str) -> &'b [&'a str] {
+    sources_asked(matches.get_strs(name))
+}
+
 /// Returns a sentence that says why the values that were found ask for nothing.
 fn wrong_words(matches: &ArgMatches<'_>) -> &'static str {
     if limit_asked(matches.get_str("steps")).is_none() {
         return "--steps takes a decimal number up to 4294967295";
     }
-    wrong_value(matches).unwrap_or("--junit names a file that is read")
+    let junit = matches.get_str("junit");
+    let sentence = if are_one(junit, matches.get_str("coverage")) {
+        "--junit and --coverage name one file"
+    } else if clash(
+        junit,
+        None,
+        given(matches, "source"),
+        given(matches, "FILE"),
+    ) {
+        "--junit names a file that is read"
+    } else {
+        "--coverage names a file that is read"
+    };
+    wrong_value(matches).unwrap_or(sentence)
 }
 
 /// Reads the words of `test`, its own name left out.
@@ -172,8 +222,8 @@ fn wrong_words(matches: &ArgMatches<'_>) -> &'static str {
 ///
 /// - `Help` if they ask for help, and `Usage` if they do not fit the command line, with `clap`'s
 ///   text.
-/// - `Wrong` if they name no file, a number of steps is wrong, or the report has the name of a file
-///   of rows or of a source.
+/// - `Wrong` if they name no file, a number of steps is wrong, or a report has the name of a file
+///   of rows, of a source or of the other report.
 /// - `OutOfMemory` if an allocation failed.
 pub fn read_words<'a>(alloc: Global, words: &'a [&'a str]) -> Result<TestWords<'a>, WordsFault>
     ensures asked { IfOk result

@@ -1,5 +1,6 @@
 -- What a line of a test file says. Source: mos65.
 use Rattle.std.specs.Prelude.{ℕ, zero, suc, ℤ, pos, negsuc, ◌+◌, ◌-◌, ◌==◌, ◌/◌, ◌%◌, ◌&&◌, ◌||◌, nat_le, nat_lt, Bool, true, false, is_some, if◌then◌else◌, List, [], ◌∷◌, ◌++◌, length, take, drop, codes, Option, Some, None, Result, Ok, Err}
+use Rattle.std.specs.Borrow.{Bor}
 use Rattle.std.specs.Str.{byte, bytes_eq}
 use Rattle.std.specs.List.{list_all, prefix_len}
 use Rattle.model.specs.Digits.{hex_number, decimal_number, is_hex_byte}
@@ -17,15 +18,23 @@ use Rattle.t65_reader.specs.declared.fault.Base.{Base}
 use Rattle.t65_reader.specs.declared.fault.Base.TheVariants.{Hex, Decimal}
 use Rattle.t65_reader.specs.declared.value.Letters.{Letters}
 use Rattle.t65_reader.specs.declared.row.Atom.{Atom}
-use Rattle.t65_reader.specs.declared.row.Atom.TheVariants.{Number, First, Second}
+use Rattle.t65_reader.specs.declared.row.Atom.TheVariants.{Number, First, Second, Third, Fourth}
+use Rattle.t65_reader.specs.declared.row.Call.{Call}
+use Rattle.t65_reader.specs.declared.row.Choice.{Choice}
+use Rattle.t65_reader.specs.declared.row.Choice.TheVariants.{All, Random}
+use Rattle.t65_reader.specs.declared.row.Entry.{Entry}
+use Rattle.t65_reader.specs.declared.row.Entry.TheVariants.{Subroutine, Interrupt}
 use Rattle.t65_reader.specs.declared.row.Flag.TheVariants as flag
 use Rattle.t65_reader.specs.declared.row.Item.{Item}
 use Rattle.t65_reader.specs.declared.row.Operation.{Operation}
 use Rattle.t65_reader.specs.declared.row.Operation.TheVariants.{Add, Subtract, Multiply, Divide, Remainder, And, Or, ExclusiveOr}
 use Rattle.t65_reader.specs.declared.row.Operator.{Operator}
+use Rattle.t65_reader.specs.declared.row.Part.{Part}
+use Rattle.t65_reader.specs.declared.row.Part.TheVariants.{Test, Setup, Teardown}
 use Rattle.t65_reader.specs.declared.row.Place.{Place}
 use Rattle.t65_reader.specs.declared.row.Place.TheVariants as place
 use Rattle.t65_reader.specs.declared.row.Range.{Range}
+use Rattle.t65_reader.specs.declared.row.Ranges.{Ranges}
 use Rattle.t65_reader.specs.declared.row.Register.TheVariants as register
 use Rattle.t65_reader.specs.declared.row.Relation.{Relation}
 use Rattle.t65_reader.specs.declared.row.Relation.TheVariants.{Equal, Below, Above}
@@ -150,6 +159,8 @@ unfoldable pub letter_in : Letters → List ℕ → Option Atom
 letter_in letters word =
     if is_letter_of letters.first word then Some First
     else if is_letter_of letters.second word then Some Second
+    else if is_letter_of letters.third word then Some Third
+    else if is_letter_of letters.fourth word then Some Fourth
     else None
 
 abbrev pub as_number : ℕ → List ℕ → Reads Atom
@@ -408,14 +419,20 @@ items_within (suc n) names letters side text =
 abbrev pub items_of : Definitions → Letters → Side → List ℕ → Items
 items_of names letters side text = items_within (length text) names letters side text
 
--- What a row says.
-pub record SeenRow : Type 0 where
-  pub first : Option Range
-  pub second : Option Range
+-- A routine that is called, what is given before, and what is wanted after it.
+pub record SeenCall : Type 0 where
+  pub entry : Entry
   pub address : ℕ
   pub given : List Item
   pub wanted : List Item
   pub steps : ℕ
+
+-- What a row says.
+pub record SeenRow : Type 0 where
+  pub part : Part
+  pub ranges : Ranges
+  pub choice : Choice
+  pub call : SeenCall
   pub points : ℕ
 
 -- The most steps of a call, where nothing else is asked for. Source: mos65.
@@ -426,36 +443,56 @@ abbrev pub letter_of : Option Range → Option ℕ
 letter_of None = None
 letter_of (Some range) = Some range.letter
 
-abbrev pub letters_of : Option Range → Option Range → Letters
-letters_of first second = record { first = letter_of first; second = letter_of second }
+abbrev pub letters_of : Ranges → Letters
+letters_of ranges = record {
+  first = letter_of ranges.first;
+  second = letter_of ranges.second;
+  third = letter_of ranges.third;
+  fourth = letter_of ranges.fourth;
+}
 
-abbrev pub without_rest : Reads SeenRow → Result SeenRow RowFault
+abbrev pub no_ranges : Ranges
+no_ranges = record { first = None; second = None; third = None; fourth = None }
+
+abbrev pub without_rest : {X : Type 0} → Reads X → Result X RowFault
 without_rest (Ok read) = Ok read.0
 without_rest (Err fault) = Err fault
 
--- The row of a call: its address, what is given, `->`, and what is wanted.
-unfoldable pub call_of : Definitions → Option Range → Option Range → List ℕ → Result SeenRow RowFault
-call_of names first second text = without_rest (
+-- A call: its address, what is given, `->`, and what is wanted.
+unfoldable pub call_of : Definitions → Letters → Entry → List ℕ → Result SeenCall RowFault
+call_of names letters entry text = without_rest (
     and_then (address_of names text) (λ address rest.
-    and_then (items_of names (letters_of first second) Given rest) (λ given rest.
-    and_then (items_of names (letters_of first second) Wanted (skip_blanks (drop 2 rest)))
-    (λ wanted rest.
+    and_then (items_of names letters Given rest) (λ given rest.
+    and_then (items_of names letters Wanted (skip_blanks (drop 2 rest))) (λ wanted rest.
     Ok (
       record {
-        first = first;
-        second = second;
+        entry = entry;
         address = address;
         given = given;
         wanted = wanted;
         steps = most_steps;
-        points = 1;
       },
       rest,
     )))))
 
-abbrev pub called_of : Definitions → Option Range → Option Range → List ℕ → Result SeenRow RowFault
-called_of names first second text = if bytes_eq (word_of text) (codes "call")
-    then call_of names first second (after_word text) else Err (fault_at Syntax text)
+-- `call` with a subroutine, or `interrupt` with a handler.
+unfoldable pub called_of : Definitions → Letters → List ℕ → Result SeenCall RowFault
+called_of names letters text =
+    if bytes_eq (word_of text) (codes "call")
+    then call_of names letters Subroutine (after_word text)
+    else if bytes_eq (word_of text) (codes "interrupt")
+    then call_of names letters Interrupt (after_word text)
+    else Err (fault_at Syntax text)
+
+abbrev pub row_with : Part → Ranges → Choice → Result SeenCall RowFault → Result SeenRow RowFault
+row_with part ranges choice (Ok call) = Ok (record {
+  part = part;
+  ranges = ranges;
+  choice = choice;
+  call = call;
+  points = 1;
+})
+row_with part ranges choice (Err fault) = Err fault
 
 -- The letter of a range: one capital letter.
 abbrev pub range_letter : List ℕ → Option ℕ
@@ -491,29 +528,65 @@ range_by text (Some letter) = values_of letter (after_word text)
 unfoldable pub range_of : List ℕ → Reads Range
 range_of text = range_by text (range_letter (word_of text))
 
-abbrev pub second_range : Range → List ℕ → Reads (Range × Option Range)
-second_range first text =
+-- A further range, if a comma comes next.
+unfoldable pub next_range : List ℕ → Reads (Option Range)
+next_range text =
     if is_next (byte ",") text
-    then and_then (range_of (skip_blanks (drop 1 text))) (λ second rest. Ok ((first, Some second), rest))
-    else Ok ((first, None), text)
+    then and_then (range_of (skip_blanks (drop 1 text))) (λ range rest. Ok (Some range, rest))
+    else Ok (None, text)
 
--- One range, or two with a comma between them.
-unfoldable pub ranges_of : List ℕ → Reads (Range × Option Range)
-ranges_of text = and_then (range_of text) second_range
+-- One range to four, with commas between them.
+unfoldable pub ranges_of : List ℕ → Reads Ranges
+ranges_of text =
+    and_then (range_of text) (λ first rest.
+    and_then (next_range rest) (λ second rest.
+    and_then (next_range rest) (λ third rest.
+    and_then (next_range rest) (λ fourth rest.
+    Ok (record { first = Some first; second = second; third = third; fourth = fourth }, rest)))))
 
-abbrev pub all_by : Definitions → Range → Option Range → Result (List ℕ) RowFault
+abbrev pub chosen_by : Definitions → Choice → Ranges → Result (List ℕ) RowFault
     → Result SeenRow RowFault
-all_by names first second (Ok rest) = called_of names (Some first) second rest
-all_by names first second (Err fault) = Err fault
+chosen_by names choice ranges (Ok rest)
+    = row_with Test ranges choice (called_of names (letters_of ranges) rest)
+chosen_by names choice ranges (Err fault) = Err fault
 
-abbrev pub all_of : Definitions → Reads (Range × Option Range) → Result SeenRow RowFault
-all_of names (Ok read) = all_by names read.0.0 read.0.1 (after_sign (byte ":") read.1)
-all_of names (Err fault) = Err fault
+abbrev pub chosen_in : Definitions → Choice → Reads Ranges → Result SeenRow RowFault
+chosen_in names choice (Ok read) = chosen_by names choice read.0 (after_sign (byte ":") read.1)
+chosen_in names choice (Err fault) = Err fault
 
--- A call for all values of ranges, or a call alone.
+-- Ranges, `:` and a call for values of them.
+unfoldable pub chosen_of : Definitions → Choice → List ℕ → Result SeenRow RowFault
+chosen_of names choice text = chosen_in names choice (ranges_of text)
+
+-- How often a call is made: once at least.
+unfoldable pub count_of : List ℕ → Reads ℕ
+count_of text = and_then (number_of Decimal text) (λ count rest.
+    if count == 0 then Err (fault_at Syntax text) else Ok (count, rest))
+
+-- Where the numbers begin.
+unfoldable pub seed_of : List ℕ → Reads ℕ
+seed_of text = if bytes_eq (word_of text) (codes "seed") then number_of Decimal (after_word text)
+    else Err (fault_at Syntax text)
+
+abbrev pub random_by : Definitions → ℕ → ℕ → Result (List ℕ) RowFault → Result SeenRow RowFault
+random_by names count seed (Ok rest) = chosen_of names (Random count seed) rest
+random_by names count seed (Err fault) = Err fault
+
+abbrev pub random_in : Definitions → Reads (ℕ × ℕ) → Result SeenRow RowFault
+random_in names (Ok read) = random_by names read.0.0 read.0.1 (after_sign (byte ":") read.1)
+random_in names (Err fault) = Err fault
+
+-- How many times, `seed`, where the numbers begin, `:`, and a call for values of ranges.
+unfoldable pub random_of : Definitions → List ℕ → Result SeenRow RowFault
+random_of names text = random_in names (and_then (count_of text) (λ count rest.
+    and_then (seed_of rest) (λ seed rest. Ok ((count, seed), rest))))
+
+-- A call for all values of ranges or for some, or a call alone.
 unfoldable pub row_of : Definitions → List ℕ → Result SeenRow RowFault
-row_of names text = if bytes_eq (word_of text) (codes "all")
-    then all_of names (ranges_of (after_word text)) else called_of names None None text
+row_of names text =
+    if bytes_eq (word_of text) (codes "all") then chosen_of names All (after_word text)
+    else if bytes_eq (word_of text) (codes "random") then random_of names (after_word text)
+    else row_with Test no_ranges All (called_of names (letters_of no_ranges) text)
 
 -- A row that is worth so many points.
 abbrev pub worth : ℕ → Result SeenRow RowFault → Result SeenRow RowFault
@@ -534,16 +607,36 @@ pointed_row_of names text = if bytes_eq (word_of text) (codes "points")
     then worth_by names (decimal_after (after_sign (byte "=") (after_word text)))
     else row_of names text
 
+abbrev pub around_by : Definitions → Part → Result (List ℕ) RowFault → Result SeenRow RowFault
+around_by names part (Ok rest)
+    = row_with part no_ranges All (called_of names (letters_of no_ranges) rest)
+around_by names part (Err fault) = Err fault
+
+-- `:` and a call that is made before each row, or after it.
+unfoldable pub around_of : Definitions → Part → List ℕ → Result SeenRow RowFault
+around_of names part text = around_by names part (after_sign (byte ":") text)
+
+-- A call before each row, one after each, or a row.
+unfoldable pub part_of : Definitions → List ℕ → Result SeenRow RowFault
+part_of names text =
+    if bytes_eq (word_of text) (codes "setup") then around_of names Setup (after_word text)
+    else if bytes_eq (word_of text) (codes "teardown")
+    then around_of names Teardown (after_word text)
+    else pointed_row_of names text
+
 -- A row whose calls have so many steps at most.
+abbrev pub limited : ℕ → SeenRow → SeenRow
+limited steps row = record row { call = record row.call { steps = steps } }
+
 abbrev pub some_row : ℕ → Result SeenRow RowFault → Result (Option SeenRow) RowFault
-some_row steps (Ok row) = Ok (Some (record row { steps = steps }))
+some_row steps (Ok row) = Ok (Some (limited steps row))
 some_row steps (Err fault) = Err fault
 
 abbrev pub line_at : ℕ → Definitions → List ℕ → Result (Option SeenRow) RowFault
 line_at steps names text =
     if ends text then Ok None
     else if bytes_eq (word_of text) (codes "source") then Err (fault_at SecondSource text)
-    else some_row steps (pointed_row_of names text)
+    else some_row steps (part_of names text)
 
 -- What a line says after the one that names the source: nothing, or a row, whose calls have so many
 -- steps at most.
@@ -575,20 +668,31 @@ rows_from steps names number [] = Ok []
 rows_from steps names number (line ∷ lines) = line_before number line (line_of steps names line)
     (rows_from steps names (number + 1) lines)
 
--- A row as the code keeps it.
+-- A call and a row as the code keeps them.
+abbrev pub call_view : Call → SeenCall
+call_view call = record {
+  entry = call.entry;
+  address = call.address;
+  given = call.given.items;
+  wanted = call.wanted.items;
+  steps = call.steps;
+}
+
 abbrev pub row_view : Row → SeenRow
 row_view row = record {
-  first = row.first;
-  second = row.second;
-  address = row.address;
-  given = row.given.items;
-  wanted = row.wanted.items;
-  steps = row.steps;
+  part = row.part;
+  ranges = row.ranges;
+  choice = row.choice;
+  call = call_view row.call;
   points = row.points;
 }
 
 abbrev pub numbered_view : ℕ × Row → ℕ × SeenRow
 numbered_view numbered = (numbered.0, row_view numbered.1)
+
+-- A row with its line, without where it lies in memory.
+abbrev pub row_seen : Bor (ℕ × Row) → ℕ × SeenRow
+row_seen row = numbered_view row.now
 
 -- Rows that were read, before those of the lines behind them.
 unfoldable pub rows_after : List (ℕ × SeenRow) → Rows → Rows

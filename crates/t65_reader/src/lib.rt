@@ -19,6 +19,7 @@ pub use fault::{Base, RowFault, RowFaultKind, TextFault};
 pub use head::{Head, Opened, read_head};
 pub use line::read_row;
 pub use row::{
-    Atom, Flag, Item, MOST_STEPS, Operation, Operator, Place, Range, Register, Relation, Row, Value,
+    Atom, Call, Choice, Entry, Flag, Item, MOST_STEPS, Operation, Operator, Part, Place, Range,
+    Ranges, Register, Relation, Row, Value,
 };
 pub use text::read_rows;

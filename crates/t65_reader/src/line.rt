@@ -2,14 +2,16 @@
 
 ghost use Rattle.std.specs.Prelude.{◌≤◌, ◌≡◌, ◌≢◌, IfErr, IfOk, None, Option, Some, MatchOption};
 ghost use Rattle.std.specs.Option.{option_map};
-ghost use Rattle.t65_reader.specs.RowText.{after_dots, after_word, call_of, called_of, letter_of};
-ghost use Rattle.t65_reader.specs.RowText.{line_at, line_of, range_between, range_letter, range_of};
-ghost use Rattle.t65_reader.specs.RowText.{pointed_row_of, ranges_of, row_of, row_view, values_of};
-ghost use Rattle.t65_reader.specs.RowText.{word_of};
+ghost use Rattle.t65_reader.specs.RowText.{after_dots, after_word, around_of, call_of, called_of};
+ghost use Rattle.t65_reader.specs.RowText.{chosen_of, count_of, letter_of, letters_of, line_at};
+ghost use Rattle.t65_reader.specs.RowText.{call_view, line_of, next_range, no_ranges, part_of};
+ghost use Rattle.t65_reader.specs.RowText.{pointed_row_of, random_of, range_between, range_letter};
+ghost use Rattle.t65_reader.specs.RowText.{range_of, ranges_of, row_of, row_view, row_with, seed_of};
+ghost use Rattle.t65_reader.specs.RowText.{values_of, word_of};
 
 use crate::fault::{Base, RowFault, RowFaultKind};
 use crate::item::{Side, items_of};
-use crate::row::{MOST_STEPS, Range, Row};
+use crate::row::{Call, Choice, Entry, MOST_STEPS, Part, Range, Ranges, Row};
 use crate::scan::{
     address_of, after, after_sign, after_word, ends, fault_at, hex_of, is_next, is_text, number_of,
     skip_blanks, word_of,
@@ -27,55 +29,99 @@ fn letter_of(range: Option<Range>) -> Option<u8>
     }
 }
 
+fn letters_of(ranges: Ranges) -> Letters
+    ensures { result ≡ letters_of ranges }
+{
+    Letters {
+        first: letter_of(ranges.first),
+        second: letter_of(ranges.second),
+        third: letter_of(ranges.third),
+        fourth: letter_of(ranges.fourth),
+    }
+}
+
+fn no_ranges() -> Ranges
+    ensures { result ≡ no_ranges }
+{
+    Ranges {
+        first: None,
+        second: None,
+        third: None,
+        fourth: None,
+    }
+}
+
 /// Reads the address of a call, what is given and what is wanted.
 #[tactic(auto, unfolding(crate::specs::RowText::call_of))]
 fn call_of(
     alloc: Global,
     names: &Assembly,
-    first: Option<Range>,
-    second: Option<Range>,
+    letters: Letters,
+    entry: Entry,
     text: &[u8],
-) -> Result<Row, RowFault>
+) -> Result<Call, RowFault>
     ensures ok { IfOk result
-        (λ row. call_of names.now.names first second text.now ≡ Ok (row_view row)) }
+        (λ call. call_of names.now.names letters entry text.now ≡ Ok (call_view call)) }
     ensures err { IfErr result (λ fault. fault.kind ≢ RowFaultKind.OutOfMemory
-        → call_of names.now.names first second text.now ≡ Err fault) }
+        → call_of names.now.names letters entry text.now ≡ Err fault) }
 {
-    let letters = Letters {
-        first: letter_of(first),
-        second: letter_of(second),
-    };
     let (address, rest) = address_of(names, text)?;
     let (given, rest) = items_of(alloc, names, letters, Side::Given, rest)?;
     let (wanted, _) = items_of(alloc, names, letters, Side::Wanted, after(2, rest))?;
-    Ok(Row {
-        first,
-        second,
+    Ok(Call {
+        entry,
         address,
         given,
         wanted,
         steps: MOST_STEPS,
-        points: 1,
     })
 }
 
+/// Reads `call` with a subroutine, or `interrupt` with a handler.
+#[tactic(auto, unfolding(crate::specs::RowText::called_of))]
 fn called_of(
     alloc: Global,
     names: &Assembly,
-    first: Option<Range>,
-    second: Option<Range>,
+    letters: Letters,
     text: &[u8],
-) -> Result<Row, RowFault>
+) -> Result<Call, RowFault>
     ensures ok { IfOk result
-        (λ row. called_of names.now.names first second text.now ≡ Ok (row_view row)) }
+        (λ call. called_of names.now.names letters text.now ≡ Ok (call_view call)) }
     ensures err { IfErr result (λ fault. fault.kind ≢ RowFaultKind.OutOfMemory
-        → called_of names.now.names first second text.now ≡ Err fault) }
+        → called_of names.now.names letters text.now ≡ Err fault) }
 {
     if is_text(word_of(text), b"call") {
-        call_of(alloc, names, first, second, after_word(text))
+        call_of(alloc, names, letters, Entry::Subroutine, after_word(text))
+    } else if is_text(word_of(text), b"interrupt") {
+        call_of(alloc, names, letters, Entry::Interrupt, after_word(text))
     } else {
         Err(fault_at(RowFaultKind::Syntax, text))
     }
+}
+
+/// Reads the call of a row.
+fn row_with(
+    alloc: Global,
+    names: &Assembly,
+    part: Part,
+    ranges: Ranges,
+    choice: Choice,
+    text: &[u8],
+) -> Result<Row, RowFault>
+    ensures ok { IfOk result (λ row. row_with part ranges choice
+        (called_of names.now.names (letters_of ranges) text.now) ≡ Ok (row_view row)) }
+    ensures err { IfErr result (λ fault. fault.kind ≢ RowFaultKind.OutOfMemory
+        → row_with part ranges choice (called_of names.now.names (letters_of ranges) text.now)
+        ≡ Err fault) }
+{
+    let call = called_of(alloc, names, letters_of(ranges), text)?;
+    Ok(Row {
+        part,
+        ranges,
+        choice,
+        call,
+        points: 1,
+    })
 }
 
 fn range_letter(word: &[u8]) -> Option<u8>
@@ -150,22 +196,92 @@ fn range_of(text: &[u8]) -> Result<(Range, &[u8]), RowFault>
     }
 }
 
-/// Reads one range, or two with a comma between them.
+/// Reads a further range, if a comma comes next.
+#[tactic(auto, unfolding(crate::specs::RowText::next_range))]
+fn next_range(text: &[u8]) -> Result<(Option<Range>, &[u8]), RowFault>
+    ensures ok { IfOk result (λ p. next_range text.now ≡ Ok (p.0, p.1.now)) }
+    ensures err { IfErr result (λ fault. next_range text.now ≡ Err fault) }
+{
+    if is_next(b',', text) {
+        let (range, rest) = range_of(after(1, text))?;
+        Ok((Some(range), rest))
+    } else {
+        Ok((None, text))
+    }
+}
+
+/// Reads one range to four, with commas between them.
 #[tactic(auto, unfolding(crate::specs::RowText::ranges_of))]
-fn ranges_of(text: &[u8]) -> Result<((Range, Option<Range>), &[u8]), RowFault>
+fn ranges_of(text: &[u8]) -> Result<(Ranges, &[u8]), RowFault>
     ensures ok { IfOk result (λ p. ranges_of text.now ≡ Ok (p.0, p.1.now)) }
     ensures err { IfErr result (λ fault. ranges_of text.now ≡ Err fault) }
 {
     let (first, rest) = range_of(text)?;
-    if is_next(b',', rest) {
-        let (second, rest) = range_of(after(1, rest))?;
-        Ok(((first, Some(second)), rest))
+    let (second, rest) = next_range(rest)?;
+    let (third, rest) = next_range(rest)?;
+    let (fourth, rest) = next_range(rest)?;
+    let ranges = Ranges {
+        first: Some(first),
+        second,
+        third,
+        fourth,
+    };
+    Ok((ranges, rest))
+}
+
+/// Reads ranges, `:` and a call for values of them.
+#[tactic(auto, unfolding(crate::specs::RowText::chosen_of))]
+fn chosen_of(alloc: Global, names: &Assembly, choice: Choice, text: &[u8]) -> Result<Row, RowFault>
+    ensures ok { IfOk result
+        (λ row. chosen_of names.now.names choice text.now ≡ Ok (row_view row)) }
+    ensures err { IfErr result (λ fault. fault.kind ≢ RowFaultKind.OutOfMemory
+        → chosen_of names.now.names choice text.now ≡ Err fault) }
+{
+    let (ranges, rest) = ranges_of(text)?;
+    let rest = after_sign(b':', rest)?;
+    row_with(alloc, names, Part::Test, ranges, choice, rest)
+}
+
+/// Reads how often a call is made: once at least.
+#[tactic(auto, unfolding(crate::specs::RowText::count_of))]
+fn count_of(text: &[u8]) -> Result<(u32, &[u8]), RowFault>
+    ensures ok { IfOk result (λ p. count_of text.now ≡ Ok (p.0, p.1.now)) }
+    ensures err { IfErr result (λ fault. count_of text.now ≡ Err fault) }
+{
+    let (count, rest) = number_of(Base::Decimal, text)?;
+    if count == 0 {
+        return Err(fault_at(RowFaultKind::Syntax, text));
+    }
+    Ok((count, rest))
+}
+
+/// Reads `seed` and where the numbers begin.
+#[tactic(auto, unfolding(crate::specs::RowText::seed_of))]
+fn seed_of(text: &[u8]) -> Result<(u32, &[u8]), RowFault>
+    ensures ok { IfOk result (λ p. seed_of text.now ≡ Ok (p.0, p.1.now)) }
+    ensures err { IfErr result (λ fault. seed_of text.now ≡ Err fault) }
+{
+    if is_text(word_of(text), b"seed") {
+        number_of(Base::Decimal, after_word(text))
     } else {
-        Ok(((first, None), rest))
+        Err(fault_at(RowFaultKind::Syntax, text))
     }
 }
 
-/// Reads a call for all values of ranges, or a call alone.
+/// Reads how many times, `seed`, where the numbers begin, and a call for values of ranges.
+#[tactic(auto, unfolding(crate::specs::RowText::random_of))]
+fn random_of(alloc: Global, names: &Assembly, text: &[u8]) -> Result<Row, RowFault>
+    ensures ok { IfOk result (λ row. random_of names.now.names text.now ≡ Ok (row_view row)) }
+    ensures err { IfErr result (λ fault. fault.kind ≢ RowFaultKind.OutOfMemory
+        → random_of names.now.names text.now ≡ Err fault) }
+{
+    let (count, rest) = count_of(text)?;
+    let (seed, rest) = seed_of(rest)?;
+    let rest = after_sign(b':', rest)?;
+    chosen_of(alloc, names, Choice::Random { count, seed }, rest)
+}
+
+/// Reads a call for all values of ranges or for some, or a call alone.
 #[tactic(auto, unfolding(crate::specs::RowText::row_of))]
 fn row_of(alloc: Global, names: &Assembly, text: &[u8]) -> Result<Row, RowFault>
     ensures ok { IfOk result (λ row. row_of names.now.names text.now ≡ Ok (row_view row)) }
@@ -173,11 +289,11 @@ fn row_of(alloc: Global, names: &Assembly, text: &[u8]) -> Result<Row, RowFault>
         → row_of names.now.names text.now ≡ Err fault) }
 {
     if is_text(word_of(text), b"all") {
-        let ((first, second), rest) = ranges_of(after_word(text))?;
-        let rest = after_sign(b':', rest)?;
-        called_of(alloc, names, Some(first), second, rest)
+        chosen_of(alloc, names, Choice::All, after_word(text))
+    } else if is_text(word_of(text), b"random") {
+        random_of(alloc, names, after_word(text))
     } else {
-        called_of(alloc, names, None, None, text)
+        row_with(alloc, names, Part::Test, no_ranges(), Choice::All, text)
     }
 }
 
@@ -196,6 +312,34 @@ fn pointed_row_of(alloc: Global, names: &Assembly, text: &[u8]) -> Result<Row, R
         Ok(row)
     } else {
         row_of(alloc, names, text)
+    }
+}
+
+/// Reads `:` and a call that is made before each row, or after it.
+#[tactic(auto, unfolding(crate::specs::RowText::around_of))]
+fn around_of(alloc: Global, names: &Assembly, part: Part, text: &[u8]) -> Result<Row, RowFault>
+    ensures ok { IfOk result
+        (λ row. around_of names.now.names part text.now ≡ Ok (row_view row)) }
+    ensures err { IfErr result (λ fault. fault.kind ≢ RowFaultKind.OutOfMemory
+        → around_of names.now.names part text.now ≡ Err fault) }
+{
+    let rest = after_sign(b':', text)?;
+    row_with(alloc, names, part, no_ranges(), Choice::All, rest)
+}
+
+/// Reads a call before each row, one after each, or a row.
+#[tactic(auto, unfolding(crate::specs::RowText::part_of))]
+fn part_of(alloc: Global, names: &Assembly, text: &[u8]) -> Result<Row, RowFault>
+    ensures ok { IfOk result (λ row. part_of names.now.names text.now ≡ Ok (row_view row)) }
+    ensures err { IfErr result (λ fault. fault.kind ≢ RowFaultKind.OutOfMemory
+        → part_of names.now.names text.now ≡ Err fault) }
+{
+    if is_text(word_of(text), b"setup") {
+        around_of(alloc, names, Part::Setup, after_word(text))
+    } else if is_text(word_of(text), b"teardown") {
+        around_of(alloc, names, Part::Teardown, after_word(text))
+    } else {
+        pointed_row_of(alloc, names, text)
     }
 }
 
@@ -230,8 +374,8 @@ pub fn read_row(
     } else if is_text(word_of(text), b"source") {
         Err(fault_at(RowFaultKind::SecondSource, text))
     } else {
-        let mut row = pointed_row_of(alloc, names, text)?;
-        row.steps = steps;
+        let mut row = part_of(alloc, names, text)?;
+        row.call.steps = steps;
         Ok(Some(row))
     }
 }

@@ -67,12 +67,14 @@ pub enum Operation {
     ExclusiveOr,
 }
 
-/// A number, or the value of a row's first or second range.
+/// A number, or the value of one of a row's ranges.
 #[derive(Clone, Copy)]
 pub enum Atom {
     Number(u32),
     First,
     Second,
+    Third,
+    Fourth,
 }
 
 /// An operation and its right side.
@@ -106,17 +108,62 @@ pub struct Range {
     pub last: u16,
 }
 
-/// A row: a subroutine called for each value of its ranges, what is given before each call, and
-/// what is expected after it.
-#[derive(Drop)]
-pub struct Row {
+/// The ranges of a row, from the first on; each letter has one.
+#[derive(Clone, Copy)]
+pub struct Ranges {
     pub first: Option<Range>,
     pub second: Option<Range>,
+    pub third: Option<Range>,
+    pub fourth: Option<Range>,
+}
+
+/// Which values of its ranges a row is run for.
+#[derive(Clone, Copy)]
+pub enum Choice {
+    /// All, those of the last range in the inner loop.
+    All,
+    /// So many, which a generator of random numbers gives from a seed on.
+    Random { count: u32, seed: u32 },
+}
+
+/// How a routine is entered, and by which instruction it returns.
+#[derive(Clone, Copy)]
+pub enum Entry {
+    /// As by a `JSR`; it returns by `RTS`.
+    Subroutine,
+    /// As by an IRQ or an NMI; it returns by `RTI`.
+    Interrupt,
+}
+
+/// A routine that is called, what is given before, and what is wanted after it.
+#[derive(Drop)]
+pub struct Call {
+    pub entry: Entry,
     pub address: u16,
     pub given: Vec<Item>,
     pub wanted: Vec<Item>,
-    /// The most steps of a call.
+    /// The most steps.
     pub steps: u32,
+}
+
+/// What a row is for.
+#[derive(Clone, Copy)]
+pub enum Part {
+    /// A test.
+    Test,
+    /// It is run before each test, on its machine.
+    Setup,
+    /// It is run after each test, on its machine.
+    Teardown,
+}
+
+/// A row: a routine called for values of its ranges.
+#[derive(Drop)]
+pub struct Row {
+    pub part: Part,
+    pub ranges: Ranges,
+    pub choice: Choice,
+    pub call: Call,
     /// How many points it is worth.
     pub points: u32,
 }

@@ -16,6 +16,8 @@ use assembler::Assembly;
 pub struct Letters {
     pub first: Option<u8>,
     pub second: Option<u8>,
+    pub third: Option<u8>,
+    pub fourth: Option<u8>,
 }
 
 fn is_letter_of(letter: Option<u8>, word: &[u8]) -> bool
@@ -36,6 +38,10 @@ pub fn letter_in(letters: Letters, word: &[u8]) -> Option<Atom>
         Some(Atom::First)
     } else if is_letter_of(letters.second, word) {
         Some(Atom::Second)
+    } else if is_letter_of(letters.third, word) {
+        Some(Atom::Third)
+    } else if is_letter_of(letters.fourth, word) {
+        Some(Atom::Fourth)
     } else {
         None
     }

@@ -11,39 +11,60 @@ use Rattle.model.specs.declared.run_end.Why.{Why}
 use Rattle.model.specs.declared.run_end.Why.TheVariants.{Break, Refused}
 use Rattle.model.specs.declared.session_fault.SessionFault.{SessionFault}
 use Rattle.source_map.specs.Lines.{PlacesView}
-use Rattle.rig.specs.Subroutine.{call_of, return_address}
-use Rattle.t65_reader.specs.RowText.{SeenRow}
+use Rattle.rig.specs.Subroutine.{return_address}
+use Rattle.t65_reader.specs.RowText.{SeenCall, SeenRow}
 use Rattle.t65_reader.specs.declared.row.Item.{Item}
+use Rattle.t65_reader.specs.declared.row.Part.{Part}
+use Rattle.t65_reader.specs.declared.row.Part.TheVariants.{Test, Setup, Teardown}
 use Rattle.t65_reader.specs.declared.row.Place.{Place}
 use Rattle.t65_reader.specs.declared.row.Range.{Range}
-use Rattle.t65_runner.specs.Passes.{Pair, came, given_one, if_came, is_return, number_of}
+use Rattle.t65_reader.specs.declared.row.Ranges.{Ranges}
+use Rattle.t65_runner.specs.Passes.{came, given_all, given_one, if_came, is_return, number_of, passed, ran}
 use Rattle.t65_runner.specs.Start.{fresh}
+use Rattle.t65_runner.specs.declared.range_values.Values.{Values}
 use Rattle.t65_reports.specs.Steps.{last_steps_text}
-use Rattle.t65_reports.specs.declared.wording.TheConstants.{CALLED_WITH, CAME, CANNOT_BE_GIVEN, EXPECTED, FOR, HEX_HINT, NOTHING_CAME, NO_RETURN, RETURNED_WITH, STOPPED, THEN_AT}
-use Rattle.t65_reports.specs.Texts.{named_address, named_byte, named_count, number_text, place_text, relation_sign, value_text}
+use Rattle.t65_reports.specs.declared.wording.TheConstants.{CALLED_WITH, CAME, CANNOT_BE_GIVEN, DECIMAL_HINT, EXPECTED, FOR, HEX_HINT, IN_SETUP, IN_TEARDOWN, NOTHING_CAME, NO_RETURN, RETURNED_WITH, STOPPED, THEN_AT}
+use Rattle.t65_reports.specs.Texts.{hex_of, named_address, named_byte, named_count, number_text, place_text, relation_sign, value_text}
 
--- ---- the ranges
+-- ---- which row, and for which values
 
-abbrev pub second_value_text : Option Range → ℕ → List ℕ
-second_value_text None value = []
-second_value_text (Some range) value = codes " " ++ value_text range value
+abbrev pub further_text : Option Range → ℕ → List ℕ
+further_text None value = []
+further_text (Some range) value = codes " " ++ value_text range value
+
+abbrev pub values_by : Option Range → Ranges → Values → List ℕ
+values_by None ranges values = []
+values_by (Some first) ranges values = FOR.now ++ value_text first values.first
+    ++ further_text ranges.second values.second ++ further_text ranges.third values.third
+    ++ further_text ranges.fourth values.fourth ++ codes "\n"
 
 -- The values of a row's ranges, if it has any.
-abbrev pub values_text : Option Range → Option Range → Pair → List ℕ
-values_text None second pair = []
-values_text (Some first) second pair = FOR.now ++ value_text first pair.0
-    ++ second_value_text second pair.1 ++ codes "\n"
+abbrev pub values_text : Ranges → Values → List ℕ
+values_text ranges values = values_by ranges.first ranges values
+
+-- The line of a row that is run before or after the test.
+abbrev pub part_text : Part → ℕ → List ℕ
+part_text Test line = []
+part_text Setup line = named_count IN_SETUP.now line ++ codes "\n"
+part_text Teardown line = named_count IN_TEARDOWN.now line ++ codes "\n"
+
+-- What is said of a row that fails for values of the test's ranges.
+abbrev pub about_text : Ranges → Values → ℕ × SeenRow → List ℕ
+about_text ranges values row = part_text row.1.part row.0 ++ values_text ranges values
 
 -- ---- what cannot be given
 
 -- Where a number is larger than a byte, it may have been meant as decimal.
-abbrev pub hint_text : ℕ → List ℕ
-hint_text number = if nat_lt 255 number then HEX_HINT.now else []
+unfoldable pub hint_of : ℕ → List ℕ
+hint_of number = codes " (" ++ hex_of 2 number ++ HEX_HINT.now ++ decimal number ++ DECIMAL_HINT.now
 
-abbrev pub untaken_text : Pair → Item → List ℕ
-untaken_text pair item = place_text item.place ++ CANNOT_BE_GIVEN.now
-    ++ number_text item.place (number_of pair item.value)
-    ++ hint_text (number_of pair item.value) ++ codes "\n"
+abbrev pub hint_text : ℕ → List ℕ
+hint_text number = if nat_lt 255 number then hint_of number else []
+
+abbrev pub untaken_text : Values → Item → List ℕ
+untaken_text values item = place_text item.place ++ CANNOT_BE_GIVEN.now
+    ++ number_text item.place (number_of values item.value)
+    ++ hint_text (number_of values item.value) ++ codes "\n"
 
 -- ---- how the call has ended
 
@@ -94,45 +115,57 @@ unlike_text item wanted found = if if_came item.relation found wanted then []
     else expected_text item wanted found
 
 -- What a call from one state to another has left in a place, if it is not what was expected.
-abbrev pub miss_text : Pair → State → State → Item → List ℕ
-miss_text pair before after item
-    = unlike_text item (number_of pair item.value) (came before after item.place)
+abbrev pub miss_text : Values → State → State → Item → List ℕ
+miss_text values before after item
+    = unlike_text item (number_of values item.value) (came before after item.place)
 
 -- The same of all items, if the call is back.
-abbrev pub misses_text : Bool → Pair → State → State → List Item → List ℕ
-misses_text back pair before after items
-    = if back then flat_map (miss_text pair before after) items else []
+abbrev pub misses_text : Bool → Values → State → State → List Item → List ℕ
+misses_text back values before after items
+    = if back then flat_map (miss_text values before after) items else []
 
 -- ---- all of it
 
 -- How a call has ended and what it has left.
-unfoldable pub end_text : Pair → List Item → State → RunEnd → State → List ℕ
-end_text pair wanted before end after
+unfoldable pub end_text : Values → List Item → State → RunEnd → State → List ℕ
+end_text values wanted before end after
     = ending_by before.regs.s end.did after.regs end.why
-    ++ misses_text (is_back before.regs.s end.why after.regs) pair before after wanted
+    ++ misses_text (is_back before.regs.s end.why after.regs) values before after wanted
 
--- What is told of a call: its end, the values of the ranges, and its last steps.
-abbrev pub called_text : PlacesView → SeenRow → Pair → Session
+-- What is told of a call: its end, what is said of its row, and its last steps.
+abbrev pub called_text : PlacesView → List ℕ → Values → List Item → Session
     → Result (RunEnd × Session) SessionFault → List ℕ
-called_text places row pair s (Ok called)
-    = end_text pair row.wanted s.current called.0 called.1.current
-    ++ values_text row.first row.second pair ++ last_steps_text places called.0.did called.1
-called_text places row pair s (Err fault) = []
+called_text places about values wanted s (Ok called)
+    = end_text values wanted s.current called.0 called.1.current
+    ++ about ++ last_steps_text places called.0.did called.1
+called_text places about values wanted s (Err fault) = []
 
-abbrev pub if_taken : List ℕ → (Session → List ℕ) → Option Session → List ℕ
-if_taken untaken next None = untaken
-if_taken untaken next (Some s) = next s
+abbrev pub if_done : List ℕ → (Session → List ℕ) → Option Session → List ℕ
+if_done undone next None = undone
+if_done undone next (Some s) = next s
 
--- What is told of a row once some items are still to be given: the first that cannot be given, or
--- the call.
-unfoldable pub told_from : PlacesView → SeenRow → Pair → List Item → Session → List ℕ
-told_from places row pair [] s
-    = called_text places row pair s (call_of row.address row.steps s)
-told_from places row pair (item ∷ items) s =
-    if_taken (untaken_text pair item ++ values_text row.first row.second pair)
-    (told_from places row pair items) (given_one pair item s)
+-- The first of some items that cannot be given.
+unfoldable pub refusal_text : List ℕ → Values → List Item → Session → List ℕ
+refusal_text about values [] s = []
+refusal_text about values (item ∷ items) s = if_done (untaken_text values item ++ about)
+    (refusal_text about values items) (given_one values item s)
 
--- Why a row fails for the values of its ranges, on a machine at its start.
-abbrev pub detail_text : Map → List (Option ℕ) → PlacesView → SeenRow → Pair → List ℕ
-detail_text map image places row pair
-    = told_from places row pair row.given (fresh map image)
+-- What is told of a call that fails: what cannot be given, or how it has ended.
+unfoldable pub told_text : PlacesView → List ℕ → Values → SeenCall → Session → List ℕ
+told_text places about values call s = if_done (refusal_text about values call.given s)
+    (λ t. called_text places about values call.wanted t
+    (ran call.entry call.address call.steps t)) (given_all values call.given s)
+
+-- What is told of the first of some rows that fails, which are run one after another.
+unfoldable pub told_in : PlacesView → Ranges → Values → List (ℕ × SeenRow) → Session → List ℕ
+told_in places ranges values [] s = []
+told_in places ranges values (row ∷ rows) s =
+    if_done (told_text places (about_text ranges values row) values row.1.call s)
+    (told_in places ranges values rows) (passed values row.1.call s)
+
+-- Why a test fails for values of its ranges, on a machine at its start: what is told of the first of
+-- the rows that fails.
+abbrev pub detail_text : Map → List (Option ℕ) → PlacesView → Ranges → List (ℕ × SeenRow) → Values
+    → List ℕ
+detail_text map image places ranges rows values
+    = told_in places ranges values rows (fresh map image)

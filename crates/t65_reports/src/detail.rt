@@ -1,16 +1,18 @@
 //! Why a row has failed.
 
-ghost use Rattle.std.specs.Prelude.{◌≡◌, ◌≤◌, ◌++◌, IfOk, OnOk, length, string_bytes};
-ghost use Rattle.std.specs.List.{flat_map};
+ghost use Rattle.std.specs.Prelude.{◌≡◌, ◌≤◌, ◌++◌, ◌&&◌, [], IfOk, None, OnOk, Some, codes};
+ghost use Rattle.std.specs.Prelude.{false, length, map, string_bytes, true};
+ghost use Rattle.std.specs.List.{flat_map, list_all};
 ghost use Rattle.model.specs.State.{State};
-ghost use Rattle.rig.specs.Subroutine.{call_of};
-ghost use Rattle.t65_reader.specs.RowText.{row_view};
-ghost use Rattle.t65_runner.specs.Passes.{pair_of};
-ghost use Rattle.t65_reports.specs.Failures.{called_text, came_text, detail_text, end_text};
-ghost use Rattle.t65_reports.specs.Failures.{ending_by, expected_text, fault_text, hint_text, is_back, miss_text};
-ghost use Rattle.t65_reports.specs.Failures.{no_return_text, other_stack_text, refused_text};
-ghost use Rattle.t65_reports.specs.Failures.{second_value_text, told_from, unlike_text};
-ghost use Rattle.t65_reports.specs.Failures.{untaken_text, values_text};
+ghost use Rattle.t65_reader.specs.RowText.{call_view};
+ghost use Rattle.t65_runner.specs.Passes.{given_all, item_holds, passed, passed_given, ran, rows_seen};
+ghost use Rattle.t65_reports.specs.Failures.{about_text, called_text, came_text, detail_text};
+ghost use Rattle.t65_reports.specs.Failures.{end_text, ending_by, expected_text, fault_text};
+ghost use Rattle.t65_reports.specs.Failures.{further_text, hint_of, hint_text, is_back, miss_text};
+ghost use Rattle.t65_reports.specs.Failures.{no_return_text, other_stack_text, part_text};
+ghost use Rattle.t65_reports.specs.Failures.{refusal_text, refused_text, told_in, told_text};
+ghost use Rattle.t65_reports.specs.Failures.{unlike_text, untaken_text, values_text};
+ghost use Rattle.t65_reports.specs.Texts.{named_count};
 
 use crate::steps::push_steps;
 use crate::texts::{
@@ -18,16 +20,18 @@ use crate::texts::{
     push_value,
 };
 use crate::wording::{
-    CALLED_WITH, CAME, CANNOT_BE_GIVEN, EXPECTED, FOR, HEX_HINT, NO_RETURN, NOTHING_CAME,
-    RETURNED_WITH, STOPPED, THEN_AT,
+    CALLED_WITH, CAME, CANNOT_BE_GIVEN, DECIMAL_HINT, EXPECTED, FOR, HEX_HINT, IN_SETUP,
+    IN_TEARDOWN, NO_RETURN, NOTHING_CAME, RETURNED_WITH, STOPPED, THEN_AT,
 };
 use bus::{Image, MapSpec};
 use debugger::{EventFault, Regs, RunEnd, Session, Why};
-use rig::call;
 use source_map::Places;
 use std::alloc::{AllocError, Global};
-use t65_reader::{Item, Place, Range, Row};
-use t65_runner::{CallStart, HISTORY, Pair, call_start, came, compares, given_one, number_of};
+use t65_reader::{Call, Item, Part, Place, Range, Ranges, Row};
+use t65_runner::{
+    CallStart, HISTORY, Values, all_hold, call_start, came, compares, given_one, number_of,
+    run_entered,
+};
 
 /// The machine that rows run on, and the places of its source.
 #[derive(Clone, Copy)]
@@ -37,15 +41,15 @@ pub struct Bench<'a> {
     pub places: &'a Places,
 }
 
-/// Where a called subroutine returns to.
+/// Where a called routine returns to.
 const RETURN_ADDRESS: u16 = 0xffff;
 
-/// Appends the value of the second range, if there is one.
-fn push_second_value(text: &mut String, second: Option<Range>, value: u32) -> Result<(), AllocError>
+/// Appends the value of a further range, if there is one.
+fn push_further(text: &mut String, range: Option<Range>, value: u32) -> Result<(), AllocError>
     ensures { OnOk result (string_bytes text.new
-        ≡ string_bytes text.old ++ second_value_text second value) }
+        ≡ string_bytes text.old ++ further_text range value) }
 {
-    match second {
+    match range {
         Some(range) => {
             text.push(' ')?;
             push_value(text, range, value)
@@ -54,18 +58,66 @@ fn push_second_value(text: &mut String, second: Option<Range>, value: u32) -> Re
     }
 }
 
-/// Appends the values of the ranges for which a row has failed.
-fn push_values(text: &mut String, row: &Row, pair: Pair) -> Result<(), AllocError>
-    ensures { OnOk result (string_bytes text.new ≡ string_bytes text.old
-        ++ values_text row.now.first row.now.second (pair_of pair)) }
+/// Appends the values of the ranges for which a test has failed.
+fn push_values(text: &mut String, ranges: Ranges, values: Values) -> Result<(), AllocError>
+    ensures { OnOk result (string_bytes text.new
+        ≡ string_bytes text.old ++ values_text ranges values) }
 {
-    let Some(first) = row.first else {
+    let Some(first) = ranges.first else {
         return Ok(());
     };
     text.push_str(FOR)?;
-    push_value(text, first, pair.first)?;
-    push_second_value(text, row.second, pair.second)?;
+    push_value(text, first, values.first)?;
+    push_further(text, ranges.second, values.second)?;
+    push_further(text, ranges.third, values.third)?;
+    push_further(text, ranges.fourth, values.fourth)?;
     text.push('\n')
+}
+
+/// Appends a line's number behind words, and a line's end.
+fn push_numbered(text: &mut String, words: &str, line: u32) -> Result<(), AllocError>
+    ensures { OnOk result (string_bytes text.new
+        ≡ string_bytes text.old ++ (named_count words.now line ++ codes "\n")) }
+{
+    push_named_count(text, words, line)?;
+    text.push('\n')
+}
+
+/// Appends the line of a row that is run before or after a test.
+fn push_part(text: &mut String, part: Part, line: u32) -> Result<(), AllocError>
+    ensures { OnOk result (string_bytes text.new
+        ≡ string_bytes text.old ++ part_text part line) }
+{
+    match part {
+        Part::Test => Ok(()),
+        Part::Setup => push_numbered(text, IN_SETUP, line),
+        Part::Teardown => push_numbered(text, IN_TEARDOWN, line),
+    }
+}
+
+/// Returns what is said of a row that fails for values of the test's ranges.
+fn about_of(
+    alloc: Global,
+    ranges: Ranges,
+    values: Values,
+    line: u32,
+    part: Part,
+) -> Result<String, AllocError>
+    ensures { IfOk result (λ text. string_bytes text
+        ≡ part_text part line ++ values_text ranges values) }
+{
+    let mut text = String::new(alloc);
+    push_part(&mut text, part, line)?;
+    push_values(&mut text, ranges, values)?;
+    Ok(text)
+}
+
+/// Appends a number as hex and as decimal.
+#[tactic(auto, unfolding(crate::specs::Failures::hint_of))]
+fn push_both(text: &mut String, number: u32) -> Result<(), AllocError>
+    ensures { OnOk result (string_bytes text.new ≡ string_bytes text.old ++ hint_of number) }
+{
+    write!(text, " ({number:02X}{}{number}{}", HEX_HINT, DECIMAL_HINT)
 }
 
 /// Appends a hint, where a number is larger than a byte.
@@ -73,33 +125,37 @@ fn push_hint(text: &mut String, number: u32) -> Result<(), AllocError>
     ensures { OnOk result (string_bytes text.new ≡ string_bytes text.old ++ hint_text number) }
 {
     if number > 255 {
-        text.push_str(HEX_HINT)
+        push_both(text, number)
     } else {
         Ok(())
     }
 }
 
 /// Appends what was to be given and cannot be.
-fn push_untaken(text: &mut String, pair: Pair, item: Item) -> Result<(), AllocError>
+fn push_untaken(text: &mut String, values: Values, item: Item) -> Result<(), AllocError>
     ensures { OnOk result (string_bytes text.new
-        ≡ string_bytes text.old ++ untaken_text (pair_of pair) item) }
+        ≡ string_bytes text.old ++ untaken_text values item) }
 {
     push_place(text, item.place)?;
     text.push_str(CANNOT_BE_GIVEN)?;
-    let number = number_of(pair, item.value);
+    let number = number_of(values, item.value);
     push_number(text, item.place, number as u64)?;
     push_hint(text, number)?;
     text.push('\n')
 }
 
-/// Appends what was to be given and cannot be, and the values of the ranges.
-fn push_refusal(text: &mut String, row: &Row, pair: Pair, item: Item) -> Result<(), AllocError>
+/// Appends what was to be given and cannot be, and what is said of its row.
+fn push_refusal(
+    text: &mut String,
+    about: &str,
+    values: Values,
+    item: Item,
+) -> Result<(), AllocError>
     ensures { OnOk result (string_bytes text.new ≡ string_bytes text.old
-        ++ (untaken_text (pair_of pair) item
-        ++ values_text row.now.first row.now.second (pair_of pair))) }
+        ++ (untaken_text values item ++ about.now)) }
 {
-    push_untaken(text, pair, item)?;
-    push_values(text, row, pair)
+    push_untaken(text, values, item)?;
+    text.push_str(about)
 }
 
 /// Returns whether a call has returned with the stack pointer that it was called with.
@@ -235,16 +291,16 @@ fn push_miss(
     text: &mut String,
     session: &Session,
     before: CallStart,
-    pair: Pair,
+    values: Values,
     item: Item,
 ) -> Result<(), AllocError>
     requires { before.output_count ≤ 65536 }
     ensures { (state : State) → before.output_count ≡ length state.bus.out
         → before.cycles ≡ state.cycles
         → OnOk result (string_bytes text.new ≡ string_bytes text.old
-        ++ miss_text (pair_of pair) state session.now.current item) }
+        ++ miss_text values state session.now.current item) }
 {
-    let wanted = number_of(pair, item.value);
+    let wanted = number_of(values, item.value);
     let found = came(session, before, item.place);
     push_unlike(text, item, wanted, found)
 }
@@ -254,17 +310,17 @@ fn push_misses(
     text: &mut String,
     session: &Session,
     before: CallStart,
-    pair: Pair,
+    values: Values,
     items: &[Item],
 ) -> Result<(), AllocError>
     requires { before.output_count ≤ 65536 }
     ensures { (state : State) → before.output_count ≡ length state.bus.out
         → before.cycles ≡ state.cycles
         → OnOk result (string_bytes text.new ≡ string_bytes text.old
-        ++ flat_map (miss_text (pair_of pair) state session.now.current) items.now) }
+        ++ flat_map (miss_text values state session.now.current) items.now) }
 {
     for item in items {
-        push_miss(text, session, before, pair, *item)?;
+        push_miss(text, session, before, values, *item)?;
     }
     Ok(())
 }
@@ -275,7 +331,7 @@ fn push_end(
     text: &mut String,
     session: &Session,
     before: CallStart,
-    pair: Pair,
+    values: Values,
     wanted: &[Item],
     end: RunEnd,
 ) -> Result<(), AllocError>
@@ -283,78 +339,172 @@ fn push_end(
     ensures { (state : State) → before.output_count ≡ length state.bus.out
         → before.cycles ≡ state.cycles → before.stack ≡ state.regs.s
         → OnOk result (string_bytes text.new ≡ string_bytes text.old
-        ++ end_text (pair_of pair) wanted.now state end session.now.current) }
+        ++ end_text values wanted.now state end session.now.current) }
 {
     let regs = session.regs();
     push_ending(text, before.stack, end, regs)?;
     if is_back(before.stack, end.why, regs) {
-        push_misses(text, session, before, pair, wanted)
+        push_misses(text, session, before, values, wanted)
     } else {
         Ok(())
     }
 }
 
-/// Appends what a row's call has left, the values of its ranges, and the call's last steps.
+/// Returns whether a call is back, and all that is wanted holds.
+fn passes(
+    session: &Session,
+    before: CallStart,
+    values: Values,
+    wanted: &[Item],
+    end: RunEnd,
+) -> bool
+    requires { before.output_count ≤ 65536 }
+    ensures { (state : State) → before.output_count ≡ length state.bus.out
+        → before.cycles ≡ state.cycles → before.stack ≡ state.regs.s
+        → result ≡ (is_back state.regs.s end.why session.now.current.regs
+        && list_all (item_holds values state session.now.current) wanted.now) }
+{
+    is_back(before.stack, end.why, session.regs()) && all_hold(session, before, values, wanted)
+}
+
+/// Makes a call, and returns whether it passes. Where it fails, appends what it has left, what is
+/// said of its row, and its last steps.
 fn push_called(
     text: &mut String,
     session: &mut Session,
     places: &Places,
-    row: &Row,
-    pair: Pair,
-) -> Result<(), AllocError>
-    ensures { OnOk result (string_bytes text.new ≡ string_bytes text.old
-        ++ called_text places.now (row_view row.now) (pair_of pair) session.old
-        (call_of row.now.address row.now.steps session.old)) }
+    about: &str,
+    values: Values,
+    call: &Call,
+) -> Result<bool, AllocError>
+    requires { session.old.breaks ≡ [] }
+    ensures same { IfOk result (λ passes. passes ≡ true → text.new ≡ text.old) }
+    ensures passes { IfOk result (λ passes. passes ≡ true
+        → passed_given values (call_view call.now) session.old ≡ Some session.new) }
+    ensures fails { IfOk result (λ passes. passes ≡ false
+        → passed_given values (call_view call.now) session.old ≡ None) }
+    ensures told { IfOk result (λ passes. passes ≡ false → string_bytes text.new
+        ≡ string_bytes text.old ++ called_text places.now about.now values call.now.wanted.items
+        session.old (ran call.now.entry call.now.address call.now.steps session.old)) }
+    ensures stops { IfOk result (λ passes. passes ≡ true → session.new.breaks ≡ []) }
 {
     let before = call_start(session);
-    let Ok(end) = call(session, row.address, row.steps) else {
-        return Err(AllocError);
-    };
-    push_end(text, session, before, pair, &row.wanted, end)?;
-    push_values(text, row, pair)?;
+    let end = run_entered(session, call.entry, call.address, call.steps)?;
+    if passes(session, before, values, &call.wanted, end) {
+        return Ok(true);
+    }
+    push_end(text, session, before, values, &call.wanted, end)?;
+    text.push_str(about)?;
     push_steps(text, session, places, end.did)?;
-    Ok(())
+    Ok(false)
 }
 
-/// Gives items, and appends what a row's call has left then; or which item cannot be given.
+/// Gives items one after another, and returns whether all are taken. Where one is not, appends
+/// which, and what is said of its row.
+fn push_given(
+    text: &mut String,
+    session: &mut Session,
+    about: &str,
+    values: Values,
+    items: &[Item],
+) -> Result<bool, AllocError>
+    ensures same { IfOk result (λ taken. taken ≡ true → text.new ≡ text.old) }
+    ensures taken { IfOk result (λ taken. taken ≡ true
+        → given_all values items.now session.old ≡ Some session.new) }
+    ensures refused { IfOk result (λ taken. taken ≡ false
+        → given_all values items.now session.old ≡ None) }
+    ensures told { IfOk result (λ taken. taken ≡ false → string_bytes text.new
+        ≡ string_bytes text.old ++ refusal_text about.now values items.now session.old) }
+    ensures stops { session.new.breaks ≡ session.old.breaks }
+{
+    for item in items {
+        if !given_one(session, values, *item) {
+            push_refusal(text, about, values, *item)?;
+            return Ok(false);
+        }
+    }
+    Ok(true)
+}
+
+/// Makes the call of a row, and returns whether it passes. Where it fails, appends why.
+#[tactic(auto, unfolding(t65_runner::specs::Passes::passed, crate::specs::Failures::told_text))]
 fn push_call(
     text: &mut String,
     session: &mut Session,
     places: &Places,
-    row: &Row,
-    pair: Pair,
-    items: &[Item],
-) -> Result<(), AllocError>
-    ensures { OnOk result (string_bytes text.new ≡ string_bytes text.old
-        ++ told_from places.now (row_view row.now) (pair_of pair) items.now session.old) }
+    about: &str,
+    values: Values,
+    call: &Call,
+) -> Result<bool, AllocError>
+    requires { session.old.breaks ≡ [] }
+    ensures same { IfOk result (λ passes. passes ≡ true → text.new ≡ text.old) }
+    ensures passes { IfOk result (λ passes. passes ≡ true
+        → passed values (call_view call.now) session.old ≡ Some session.new) }
+    ensures fails { IfOk result (λ passes. passes ≡ false
+        → passed values (call_view call.now) session.old ≡ None) }
+    ensures told { IfOk result (λ passes. passes ≡ false → string_bytes text.new
+        ≡ string_bytes text.old
+        ++ told_text places.now about.now values (call_view call.now) session.old) }
+    ensures stops { IfOk result (λ passes. passes ≡ true → session.new.breaks ≡ []) }
 {
-    for item in items {
-        if !given_one(session, pair, *item) {
-            push_refusal(text, row, pair, *item)?;
+    if !push_given(text, session, about, values, &call.given)? {
+        return Ok(false);
+    }
+    push_called(text, session, places, about, values, call)
+}
+
+/// Makes the calls of rows up to the first that fails, and appends why that fails.
+fn push_calls(
+    alloc: Global,
+    text: &mut String,
+    session: &mut Session,
+    places: &Places,
+    ranges: Ranges,
+    values: Values,
+    rows: &[&(u32, Row)],
+) -> Result<(), AllocError>
+    requires { session.old.breaks ≡ [] }
+    ensures { OnOk result (string_bytes text.new ≡ string_bytes text.old
+        ++ told_in places.now ranges values (rows_seen rows.now)
+        session.old) }
+{
+    for row in rows {
+        let about = about_of(alloc, ranges, values, row.0, row.1.part)?;
+        if !push_call(text, session, places, &about, values, &row.1.call)? {
             return Ok(());
         }
     }
-    push_called(text, session, places, row, pair)?;
     Ok(())
 }
 
-/// Returns why a row fails for these values of its ranges: what was expected and what came, or how
-/// the call has ended, and its last steps. The row runs again on a machine of its own.
+/// Returns why a test fails for values of its ranges, the rows before and after it among those
+/// that are run: of the first that fails, what was expected and what came, or how its call has
+/// ended, and its last steps. They run again on a machine of their own.
 ///
 /// Errors: `AllocError` if an allocation fails.
 pub fn detail_of(
     alloc: Global,
     bench: Bench<'_>,
-    row: &Row,
-    pair: Pair,
+    ranges: Ranges,
+    rows: &[&(u32, Row)],
+    values: Values,
 ) -> Result<String, AllocError>
     ensures { IfOk result (λ text. string_bytes text ≡ detail_text bench.entry.map
-        bench.entry.image.now bench.entry.places.now (row_view row.now) (pair_of pair)) }
+        bench.entry.image.now bench.entry.places.now ranges
+        (rows_seen rows.now) values) }
 {
     let Ok(mut session) = Session::new(alloc, bench.map, bench.image, HISTORY) else {
         return Err(AllocError);
     };
     let mut text = String::new(alloc);
-    push_call(&mut text, &mut session, bench.places, row, pair, &row.given)?;
+    push_calls(
+        alloc,
+        &mut text,
+        &mut session,
+        bench.places,
+        ranges,
+        values,
+        rows,
+    )?;
     Ok(text)
 }

@@ -5,11 +5,20 @@
 /// What stands before the values of the ranges.
 pub const FOR: &str = "for ";
 
+/// What stands before the line of a row that is run before each test.
+pub const IN_SETUP: &str = "in the setup of line ";
+
+/// What stands before the line of a row that is run after each test.
+pub const IN_TEARDOWN: &str = "in the teardown of line ";
+
 /// Stands between a place and what was to be given there.
 pub const CANNOT_BE_GIVEN: &str = " cannot be given ";
 
 /// What stands behind a number that is too large to be given.
-pub const HEX_HINT: &str = " (numbers here are hexadecimal)";
+pub const HEX_HINT: &str = " is hex here: ";
+
+/// What stands behind the same number in decimal.
+pub const DECIMAL_HINT: &str = " in decimal)";
 
 /// What stands before the stack pointer after a call.
 pub const RETURNED_WITH: &str = "returned with S=";

@@ -1,2 +1,3 @@
-mod Firsts
+mod Counted
+pub mod Firsts
 mod Since

@@ -14,7 +14,8 @@ use Rattle.model.specs.declared.event.Event.{Event}
 use Rattle.model.specs.declared.event.EventFault.{EventFault}
 use Rattle.model.specs.declared.run_end.RunEnd.{RunEnd}
 use Rattle.model.specs.declared.session_fault.SessionFault.{SessionFault}
-use Rattle.rig.specs.Subroutine.{after_event, after_events, call_of, called, if_accepted, if_cleared, jsr_events, return_address, run_by, without_break}
+use Rattle.rig.specs.Subroutine.{after_event, after_events, call_of, called, if_accepted, if_cleared, jsr_events, return_address, run_by, run_to_of, without_break}
+use Rattle.t65_runner.specs.Interrupts.{entry_events, interrupted}
 use Rattle.t65_runner.specs.Start.{IsSince, first_of, fresh}
 
 -- ---- one more state
@@ -163,6 +164,39 @@ breaks_call address limit now t end none h =
     let ready = called address (record now { breaks = return_address ∷ [] }) in
     ap (λ (x : Session). x.breaks) (called_is address limit now t end none h)
     ∙ cleared_alone address (after_run limit ready) (breaks_steps step (run_end limit ready).did ready ∙ breaks_called address (record now { breaks = return_address ∷ [] }))
+
+-- ---- an interrupt
+
+pub since_interrupted : (s : State) (address : ℕ) (now : Session) → IsSince s now → IsSince s (interrupted address now)
+unfolding interrupted
+since_interrupted s address now since = since_events s now (entry_events now.current.bus.map.profile address now.current.regs) since
+
+pub breaks_interrupted : (address : ℕ) (now : Session) → (interrupted address now).breaks ≡ now.breaks
+unfolding interrupted
+breaks_interrupted address now = breaks_events now (entry_events now.current.bus.map.profile address now.current.regs)
+
+-- the session after a run to the return address that is made with no breakpoint set
+abbrev after_run_back : ℕ → Session → Session
+after_run_back limit s = without_break return_address (after_run limit (record s { breaks = return_address ∷ [] }))
+
+run_alone : (limit : ℕ) (s : Session) → s.breaks ≡ [] → run_to_of return_address limit s ≡ Ok (run_end limit (record s { breaks = return_address ∷ [] }), after_run_back limit s)
+unfolding run_to_of
+run_alone limit s none = ap (λ (x : Result Session SessionFault). run_by return_address limit (λ t. t) s x) (set_alone return_address s none)
+
+run_is : (limit : ℕ) (s t : Session) (end : RunEnd) → s.breaks ≡ [] → run_to_of return_address limit s ≡ Ok (end, t) → t ≡ after_run_back limit s
+run_is limit s t end none h = ap (λ (x : Result (RunEnd × Session) SessionFault). session_of x s) (sym h ∙ run_alone limit s none)
+
+pub since_run : (s : State) (limit : ℕ) (now t : Session) (end : RunEnd) → now.breaks ≡ [] → run_to_of return_address limit now ≡ Ok (end, t) → IsSince s now → IsSince s t
+since_run s limit now t end none h since =
+    let ready = record now { breaks = return_address ∷ [] } in
+    subst (IsSince s) (sym (run_is limit now t end none h))
+    (since_without s return_address (after_run limit ready) (since_steps s step (run_end limit ready).did ready (since_breaks s now (return_address ∷ []) since)))
+
+pub breaks_run : (limit : ℕ) (now t : Session) (end : RunEnd) → now.breaks ≡ [] → run_to_of return_address limit now ≡ Ok (end, t) → t.breaks ≡ []
+breaks_run limit now t end none h =
+    let ready = record now { breaks = return_address ∷ [] } in
+    ap (λ (x : Session). x.breaks) (run_is limit now t end none h)
+    ∙ cleared_alone return_address (after_run limit ready) (breaks_steps step (run_end limit ready).did ready)
 
 -- ---- back to the start
 

@@ -1,2 +1,5 @@
+pub mod Counting
+pub mod Interrupts
 pub mod Passes
+pub mod RangeValues
 pub mod Start

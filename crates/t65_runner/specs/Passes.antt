@@ -1,6 +1,7 @@
 -- When a row passes: what its values are, what is given before its call, and what is wanted after
 -- it. Source: mos65.
-use Rattle.std.specs.Prelude.{ℕ, zero, suc, ◌+◌, ◌-◌, ◌*◌, ◌/◌, ◌%◌, ◌==◌, ◌&&◌, nat_lt, Bool, false, if◌then◌else◌, bit_and, bit_or, bit_xor, List, [], ◌∷◌, length, slice_get, slice_index, Option, Some, None, Result, Ok, Err}
+use Rattle.std.specs.Prelude.{ℕ, zero, suc, ◌+◌, ◌-◌, ◌*◌, ◌/◌, ◌%◌, ◌==◌, ◌&&◌, nat_lt, Bool, false, if◌then◌else◌, bit_and, bit_or, bit_xor, is_some, List, [], ◌∷◌, length, map, slice_get, slice_index, Option, Some, None, Result, Ok, Err}
+use Rattle.std.specs.Borrow.{Bor}
 use Rattle.std.specs.List.{list_all}
 use Rattle.std.specs.Option.{option_or}
 use Rattle.model.specs.Arithmetic.{bit}
@@ -20,9 +21,11 @@ use Rattle.model.specs.declared.run_end.Why.{Why}
 use Rattle.model.specs.declared.run_end.Why.TheVariants.{Break}
 use Rattle.model.specs.declared.session_fault.SessionFault.{SessionFault}
 use Rattle.rig.specs.Subroutine.{byte_patched, call_of, return_address}
-use Rattle.t65_reader.specs.RowText.{SeenRow}
+use Rattle.t65_reader.specs.RowText.{SeenCall, SeenRow, row_seen}
 use Rattle.t65_reader.specs.declared.row.Atom.{Atom}
-use Rattle.t65_reader.specs.declared.row.Atom.TheVariants.{Number, First, Second}
+use Rattle.t65_reader.specs.declared.row.Atom.TheVariants.{Number, First, Second, Third, Fourth}
+use Rattle.t65_reader.specs.declared.row.Entry.{Entry}
+use Rattle.t65_reader.specs.declared.row.Entry.TheVariants.{Subroutine, Interrupt}
 use Rattle.t65_reader.specs.declared.row.Flag.{Flag}
 use Rattle.t65_reader.specs.declared.row.Flag.TheVariants.{N, V, D, I, Z, C}
 use Rattle.t65_reader.specs.declared.row.Item.{Item}
@@ -31,24 +34,28 @@ use Rattle.t65_reader.specs.declared.row.Operation.TheVariants.{Add, Subtract, M
 use Rattle.t65_reader.specs.declared.row.Operator.{Operator}
 use Rattle.t65_reader.specs.declared.row.Place.{Place}
 use Rattle.t65_reader.specs.declared.row.Place.TheVariants.{Register as InRegister, Flag as InFlag, Byte, Word, Input, Output, OutputCount, Cycles}
-use Rattle.t65_reader.specs.declared.row.Range.{Range}
 use Rattle.t65_reader.specs.declared.row.Register.{Register}
 use Rattle.t65_reader.specs.declared.row.Register.TheVariants.{A, X, Y, S, P}
 use Rattle.t65_reader.specs.declared.row.Relation.{Relation}
+use Rattle.t65_reader.specs.declared.row.Row.{Row}
 use Rattle.t65_reader.specs.declared.row.Relation.TheVariants.{Equal, Below, Above}
 use Rattle.t65_reader.specs.declared.row.Value.{Value}
-use Rattle.t65_runner.specs.declared.passes.Pair.{Pair as KeptPair}
+use Rattle.t65_runner.specs.Interrupts.{interrupt_of}
+use Rattle.t65_runner.specs.RangeValues.{count_of, values_at}
+use Rattle.t65_runner.specs.declared.range_values.Values.{Values}
 
--- The values of a row's two ranges; 0 for one that it does not have.
-abbrev pub Pair : Type 0
-Pair = ℕ × ℕ
+-- Rows with their lines, without where they lie in memory.
+abbrev pub rows_seen : List (Bor (ℕ × Row)) → List (ℕ × SeenRow)
+rows_seen rows = map row_seen rows
 
 -- ---- values
 
-abbrev pub atom_number : Pair → Atom → ℕ
-atom_number pair (Number number) = number
-atom_number pair First = pair.0
-atom_number pair Second = pair.1
+abbrev pub atom_number : Values → Atom → ℕ
+atom_number values (Number number) = number
+atom_number values First = values.first
+atom_number values Second = values.second
+atom_number values Third = values.third
+atom_number values Fourth = values.fourth
 
 -- Modulo 2^32; a quotient and its rest by 0 are 0.
 abbrev pub operate : Operation → ℕ → ℕ → ℕ
@@ -61,12 +68,13 @@ operate And a b = bit_and a b
 operate Or a b = bit_or a b
 operate ExclusiveOr a b = bit_xor a b
 
-abbrev pub joined : Pair → ℕ → Option Operator → ℕ
-joined pair number None = number
-joined pair number (Some by) = operate by.operation number (atom_number pair by.right)
+abbrev pub joined : Values → ℕ → Option Operator → ℕ
+joined values number None = number
+joined values number (Some by) = operate by.operation number (atom_number values by.right)
 
-unfoldable pub number_of : Pair → Value → ℕ
-number_of pair value = joined pair (joined pair (atom_number pair value.first) value.second) value.third
+unfoldable pub number_of : Values → Value → ℕ
+number_of values value
+    = joined values (joined values (atom_number values value.first) value.second) value.third
 
 -- ---- what is given
 
@@ -120,16 +128,16 @@ given_event s None = None
 given_event s (Some event) = accepted s (event_of s.current event)
 
 -- The session after one item is given; none if the value is too large or the event is rejected.
-unfoldable pub given_one : Pair → Item → Session → Option Session
-given_one pair item s = given_event s (giving s.current.regs item.place (number_of pair item.value))
+unfoldable pub given_one : Values → Item → Session → Option Session
+given_one values item s = given_event s (giving s.current.regs item.place (number_of values item.value))
 
 abbrev pub if_given : Option Session → (Session → Option Session) → Option Session
 if_given None next = None
 if_given (Some s) next = next s
 
-unfoldable pub given_all : Pair → List Item → Session → Option Session
-given_all pair [] s = Some s
-given_all pair (item ∷ items) s = if_given (given_one pair item s) (given_all pair items)
+unfoldable pub given_all : Values → List Item → Session → Option Session
+given_all values [] s = Some s
+given_all values (item ∷ items) s = if_given (given_one values item s) (given_all values items)
 
 -- ---- what came
 
@@ -173,9 +181,9 @@ abbrev pub if_came : Relation → Option ℕ → ℕ → Bool
 if_came relation None wanted = false
 if_came relation (Some number) wanted = compares relation number wanted
 
-unfoldable pub item_holds : Pair → State → State → Item → Bool
-item_holds pair before after item
-    = if_came item.relation (came before after item.place) (number_of pair item.value)
+unfoldable pub item_holds : Values → State → State → Item → Bool
+item_holds values before after item
+    = if_came item.relation (came before after item.place) (number_of values item.value)
 
 -- ---- rows
 
@@ -183,37 +191,43 @@ abbrev pub is_return : Why → Bool
 is_return (Break address) = address == return_address
 is_return why = false
 
--- A call has returned, the stack pointer is what it was, and each item holds.
-abbrev pub passes_after : Pair → List Item → Session → Result (RunEnd × Session) SessionFault → Bool
-passes_after pair wanted s (Ok called) = is_return called.0.why
+-- How the run of a call ends that is entered as a row says, and the session after it.
+abbrev pub ran : Entry → ℕ → ℕ → Session → Result (RunEnd × Session) SessionFault
+ran Subroutine address steps s = call_of address steps s
+ran Interrupt address steps s = interrupt_of address steps s
+
+-- The session after a call that has returned, with the stack pointer as it was, and after which each
+-- item holds.
+abbrev pub passed_after : Values → List Item → Session → Result (RunEnd × Session) SessionFault
+    → Option Session
+passed_after values wanted s (Ok called) = if is_return called.0.why
     && (called.1.current.regs.s == s.current.regs.s)
-    && list_all (item_holds pair s.current called.1.current) wanted
-passes_after pair wanted s (Err fault) = false
+    && list_all (item_holds values s.current called.1.current) wanted then Some called.1 else None
+passed_after values wanted s (Err fault) = None
 
-abbrev pub passes_given : Pair → SeenRow → Option Session → Bool
-passes_given pair row None = false
-passes_given pair row (Some s) = passes_after pair row.wanted s (call_of row.address row.steps s)
+abbrev pub passed_given : Values → SeenCall → Session → Option Session
+passed_given values call s
+    = passed_after values call.wanted s (ran call.entry call.address call.steps s)
 
--- Whether a row passes for one value of each range, from a session on.
-unfoldable pub pair_passes : SeenRow → Session → Pair → Bool
-pair_passes row s pair = passes_given pair row (given_all pair row.given s)
+-- The session after a call that passes for values of ranges; none where it fails.
+unfoldable pub passed : Values → SeenCall → Session → Option Session
+passed values call s = if_given (given_all values call.given s) (passed_given values call)
+
+-- The session after calls of rows, one after another, all of which pass.
+unfoldable pub all_passed : Values → List (ℕ × SeenRow) → Session → Option Session
+all_passed values [] s = Some s
+all_passed values (row ∷ rows) s
+    = if_given (passed values row.1.call s) (all_passed values rows)
 
 -- The first of so many numbers for which there is something.
-unfoldable pub first_from : ℕ → ℕ → (ℕ → Option Pair) → Option Pair
+unfoldable pub first_from : ℕ → ℕ → (ℕ → Option Values) → Option Values
 first_from zero number test = None
 first_from (suc n) number test = option_or (test number) (first_from n (number + 1) test)
 
-abbrev pub first_in : Option Range → (ℕ → Option Pair) → Option Pair
-first_in None test = test 0
-first_in (Some range) test = first_from (range.last + 1 - range.first) range.first test
+abbrev pub failed_values : List (ℕ × SeenRow) → Session → Values → Option Values
+failed_values calls s values = if is_some (all_passed values calls s) then None else Some values
 
-abbrev pub failed_pair : SeenRow → Session → Pair → Option Pair
-failed_pair row s pair = if pair_passes row s pair then None else Some pair
-
--- The first values of the ranges for which the row fails; the second range is the inner one.
-unfoldable pub first_failed : SeenRow → Session → Option Pair
-first_failed row s = first_in row.first (λ a. first_in row.second (λ b. failed_pair row s (a, b)))
-
--- The values of the ranges as the code keeps them.
-abbrev pub pair_of : KeptPair → Pair
-pair_of pair = (pair.first, pair.second)
+-- The first values of a row's ranges for which one of some calls fails, each time from a session on.
+unfoldable pub first_failed : SeenRow → List (ℕ × SeenRow) → Session → Option Values
+first_failed row calls s = first_from (count_of row.ranges row.choice) 0
+    (λ n. failed_values calls s (values_at row.ranges row.choice n))

@@ -1,23 +1,26 @@
 //! Rows run from the start of a machine.
 
 ghost use Rattle.std.specs.Prelude.{◌≡◌, ◌≢◌, ◌+◌, ◌-◌, [], ◌≤◌, IfErr, IfOk, false, None, Ok, OnOk, Option, true};
-ghost use Rattle.std.specs.Option.{option_map};
+ghost use Rattle.std.specs.Prelude.{is_some, map, Some};
 ghost use Rattle.model.specs.State.{State};
-ghost use Rattle.t65_reader.specs.RowText.{row_view};
 ghost use Rattle.rig.specs.Subroutine.{call_of};
-ghost use Rattle.t65_runner.specs.Passes.{failed_pair, first_failed, first_from, first_in, pair_of};
-ghost use Rattle.t65_runner.specs.Passes.{pair_passes};
+ghost use Rattle.t65_reader.specs.RowText.{call_view, row_view};
+ghost use Rattle.t65_runner.specs.Passes.{all_passed, failed_values, first_failed, first_from, rows_seen};
+ghost use Rattle.t65_runner.specs.Passes.{passed, ran};
+ghost use Rattle.t65_runner.specs.RangeValues.{values_at};
 ghost use Rattle.t65_runner.specs.Start.{fresh, IsSince};
 
 use crate::going_back::restore;
-use crate::passes::{Pair, all_hold, call_start, given_all};
+use crate::interrupts::interrupt;
+use crate::passes::{all_hold, call_start, given_all};
+use crate::range_values::{Values, count_of, four_later, seed_of, values_by};
 use bus::{Image, MapSpec};
 use debugger::{RunEnd, Session, Why};
 use rig::call;
 use std::alloc::{AllocError, Global};
-use t65_reader::{Range, Row};
+use t65_reader::{Call, Entry, Row};
 
-/// Where a called subroutine returns to, as `rig` calls it.
+/// Where a called routine returns to.
 const RETURN_ADDRESS: u16 = 0xffff;
 
 /// Calls a subroutine, for so many steps at most, in a session with no breakpoint.
@@ -34,80 +37,106 @@ fn called(session: &mut Session, address: u16, steps: u32) -> Result<RunEnd, All
     }
 }
 
-/// Runs a row for one value of each range, and returns whether it passes. The session is then where
+/// Calls a routine as its row enters it, for so many steps at most, in a session with no
+/// breakpoint.
+///
+/// # Errors
+///
+/// `AllocError` if an allocation failed.
+pub fn run_entered(
+    session: &mut Session,
+    entry: Entry,
+    address: u16,
+    steps: u32,
+) -> Result<RunEnd, AllocError>
+    requires stops { session.old.breaks ≡ [] }
+    ensures ok { IfOk result (λ end. ran entry address steps session.old ≡ Ok (end, session.new)) }
+    ensures since { (s : State) → IsSince s session.old → IsSince s session.new }
+    ensures stops { session.new.breaks ≡ [] }
+{
+    match entry {
+        Entry::Subroutine => called(session, address, steps),
+        Entry::Interrupt => interrupt(session, address, steps),
+    }
+}
+
+/// Calls a routine for values of ranges, and returns whether that passes. The session is then where
 /// the call has ended.
 ///
 /// # Errors
 ///
 /// `AllocError` if an allocation failed.
-#[tactic(auto, unfolding(crate::specs::Passes::pair_passes))]
-pub fn run_pair(session: &mut Session, row: &Row, pair: Pair) -> Result<bool, AllocError>
+#[tactic(auto, unfolding(crate::specs::Passes::passed))]
+fn run_call(session: &mut Session, call: &Call, values: Values) -> Result<bool, AllocError>
     requires stops { session.old.breaks ≡ [] }
-    ensures passes { IfOk result
-        (λ passes. passes ≡ pair_passes (row_view row.now) session.old (pair_of pair)) }
+    ensures passes { IfOk result (λ passes. passes ≡ true
+        → passed values (call_view call.now) session.old ≡ Some session.new) }
+    ensures fails { IfOk result (λ passes. passes ≡ false
+        → passed values (call_view call.now) session.old ≡ None) }
     ensures since { (s : State) → IsSince s session.old → IsSince s session.new }
     ensures stops { session.new.breaks ≡ [] }
 {
-    if !given_all(session, pair, &row.given) {
+    if !given_all(session, values, &call.given) {
         return Ok(false);
     }
     let before = call_start(session);
-    let end = called(session, row.address, row.steps)?;
+    let end = run_entered(session, call.entry, call.address, call.steps)?;
     let has_returned = end.why == Why::Break(RETURN_ADDRESS);
     Ok(
         has_returned
             && session.regs().s == before.stack
-            && all_hold(session, before, pair, &row.wanted),
+            && all_hold(session, before, values, &call.wanted),
     )
 }
 
-/// Runs a row for one value of each range from the machine's start, and goes back there.
-fn failed_pair(
-    alloc: Global,
+/// Makes the calls of rows one after another, up to the first that fails, and returns whether all
+/// pass.
+///
+/// # Errors
+///
+/// `AllocError` if an allocation failed.
+fn run_calls(
     session: &mut Session,
-    map: MapSpec,
-    image: &Image,
-    row: &Row,
-    pair: Pair,
-) -> Result<Option<Pair>, AllocError>
-    requires { session.old ≡ fresh map image.now }
-    ensures failed { IfOk result (λ failed. option_map pair_of failed
-        ≡ failed_pair (row_view row.now) (fresh map image.now) (pair_of pair)) }
-    ensures back { OnOk result (session.new ≡ fresh map image.now) }
+    rows: &[&(u32, Row)],
+    values: Values,
+) -> Result<bool, AllocError>
+    requires stops { session.old.breaks ≡ [] }
+    ensures passes { IfOk result (λ passes. passes
+        ≡ is_some (all_passed values (rows_seen rows.now) session.old)) }
+    ensures since { (s : State) → IsSince s session.old → IsSince s session.new }
+    ensures stops { session.new.breaks ≡ [] }
 {
-    let passes = run_pair(session, row, pair)?;
-    restore(alloc, session, map, image)?;
-    if passes { Ok(None) } else { Ok(Some(pair)) }
-}
-
-/// The first value of the second range for which a row fails, under a value of the first.
-fn first_failed_under(
-    alloc: Global,
-    session: &mut Session,
-    map: MapSpec,
-    image: &Image,
-    row: &Row,
-    first: u32,
-) -> Result<Option<Pair>, AllocError>
-    requires { session.old ≡ fresh map image.now }
-    ensures failed { IfOk result (λ failed. option_map pair_of failed ≡ first_in row.now.second
-        (λ b. failed_pair (row_view row.now) (fresh map image.now) (first, b))) }
-    ensures back { OnOk result (session.new ≡ fresh map image.now) }
-{
-    let Some(range) = row.second else {
-        return failed_pair(alloc, session, map, image, row, Pair { first, second: 0 });
-    };
-    for second in range.first as u32..range.last as u32 + 1 {
-        let failed = failed_pair(alloc, session, map, image, row, Pair { first, second })?;
-        if let Some(pair) = failed {
-            return Ok(Some(pair));
+    for row in rows {
+        if !run_call(session, &row.1.call, values)? {
+            return Ok(false);
         }
     }
-    Ok(None)
+    Ok(true)
 }
 
-/// Runs a row from the machine's start, for each value of its ranges, and goes back there after
-/// each. Returns the first values for which it fails, or `None` where it passes.
+/// Makes the calls of rows for values of ranges from the machine's start, and goes back there.
+fn failed_values(
+    alloc: Global,
+    session: &mut Session,
+    map: MapSpec,
+    image: &Image,
+    rows: &[&(u32, Row)],
+    values: Values,
+) -> Result<Option<Values>, AllocError>
+    requires { session.old ≡ fresh map image.now }
+    ensures failed { IfOk result (λ failed. failed
+        ≡ failed_values (rows_seen rows.now) (fresh map image.now)
+        values) }
+    ensures back { OnOk result (session.new ≡ fresh map image.now) }
+{
+    let passes = run_calls(session, rows, values)?;
+    restore(alloc, session, map, image)?;
+    if passes { Ok(None) } else { Ok(Some(values)) }
+}
+
+/// Makes the calls of rows one after another from the machine's start, for values of the ranges of
+/// a row, and goes back there after each time. Returns the first values for which a call fails, or
+/// `None` where all pass.
 ///
 /// # Errors
 ///
@@ -119,20 +148,21 @@ pub fn first_failed(
     map: MapSpec,
     image: &Image,
     row: &Row,
-) -> Result<Option<Pair>, AllocError>
+    rows: &[&(u32, Row)],
+) -> Result<Option<Values>, AllocError>
     requires { session.old ≡ fresh map image.now }
-    ensures failed { IfOk result (λ failed. option_map pair_of failed
-        ≡ first_failed (row_view row.now) (fresh map image.now)) }
+    ensures failed { IfOk result (λ failed. failed ≡ first_failed (row_view row.now)
+        (rows_seen rows.now) (fresh map image.now)) }
     ensures back { OnOk result (session.new ≡ fresh map image.now) }
 {
-    let Some(range) = row.first else {
-        return first_failed_under(alloc, session, map, image, row, 0);
-    };
-    for first in range.first as u32..range.last as u32 + 1 {
-        let failed = first_failed_under(alloc, session, map, image, row, first)?;
-        if let Some(pair) = failed {
-            return Ok(Some(pair));
+    let mut number = seed_of(row.choice);
+    for n in 0..count_of(row.ranges, row.choice) {
+        let values = values_by(row.ranges, row.choice, n, number);
+        let failed = failed_values(alloc, session, map, image, rows, values)?;
+        if let Some(found) = failed {
+            return Ok(Some(found));
         }
+        number = four_later(number);
     }
     Ok(None)
 }

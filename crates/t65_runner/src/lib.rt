@@ -1,17 +1,26 @@
 //! Rows of test files run on a machine, and which of them pass.
 //!
-//! `first_failed` runs a row from a machine's start for each value of its ranges, and goes back
-//! after each.
+//! `first_failed` runs a row from a machine's start for values of its ranges, with the rows that go
+//! before and after it, and goes back after each.
 //!
-//! `specs/Passes.antt` says when a row passes, and `specs/Start.antt` how a session stands to its
-//! start.
+//! `specs/Passes.antt` says when a row passes, `specs/RangeValues.antt` for which values it is run,
+//! `specs/Interrupts.antt` how a handler is entered, `specs/Counting.antt` how often steps begin
+//! where, and `specs/Start.antt` how a session stands to
+//! its start.
 #![tactic(auto)]
 
 mod bench;
+mod counting;
 mod going_back;
+mod interrupts;
 mod passes;
+mod range_values;
 
-pub use bench::{first_failed, run_pair};
+pub use bench::{first_failed, run_entered};
+pub use counting::count_test;
 pub use going_back::{HISTORY, restore};
-pub use passes::{CallStart, Pair, call_start, came, compares, given_all, given_one, number_of};
+pub use passes::{
+    CallStart, all_hold, call_start, came, compares, given_all, given_one, number_of,
+};
+pub use range_values::Values;
 pub use t65_reader::Row;

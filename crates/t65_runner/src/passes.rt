@@ -10,17 +10,11 @@ ghost use Rattle.t65_runner.specs.Start.{IsSince};
 ghost use Rattle.t65_runner.specs.Passes.{atom_number, came, compares, flag_of, given_all, given_one};
 ghost use Rattle.t65_runner.specs.Passes.{giving, giving_byte, giving_word, if_byte, item_holds, joined};
 ghost use Rattle.t65_runner.specs.Passes.{number_of, operate, word_at};
-ghost use Rattle.t65_runner.specs.Passes.{pair_of, register_of, setting_of, with_flag};
+ghost use Rattle.t65_runner.specs.Passes.{register_of, setting_of, with_flag};
 
+use crate::range_values::Values;
 use debugger::{Event, Flags, Regs, Session, Setting};
 use t65_reader::{Atom, Flag, Item, Operation, Operator, Place, Register, Relation, Value};
-
-/// The values of a row's two ranges.
-#[derive(Clone, Copy)]
-pub struct Pair {
-    pub first: u32,
-    pub second: u32,
-}
 
 /// What a call is compared with: the state in which it began.
 #[derive(Clone, Copy)]
@@ -30,13 +24,15 @@ pub struct CallStart {
     pub stack: u8,
 }
 
-fn atom_number(pair: Pair, atom: Atom) -> u32
-    ensures { result ≡ atom_number (pair_of pair) atom }
+fn atom_number(values: Values, atom: Atom) -> u32
+    ensures { result ≡ atom_number values atom }
 {
     match atom {
         Atom::Number(number) => number,
-        Atom::First => pair.first,
-        Atom::Second => pair.second,
+        Atom::First => values.first,
+        Atom::Second => values.second,
+        Atom::Third => values.third,
+        Atom::Fourth => values.fourth,
     }
 }
 
@@ -55,22 +51,22 @@ fn operate(operation: Operation, a: u32, b: u32) -> u32
     }
 }
 
-fn joined(pair: Pair, number: u32, by: Option<Operator>) -> u32
-    ensures { result ≡ joined (pair_of pair) number by }
+fn joined(values: Values, number: u32, by: Option<Operator>) -> u32
+    ensures { result ≡ joined values number by }
 {
     match by {
         None => number,
-        Some(by) => operate(by.operation, number, atom_number(pair, by.right)),
+        Some(by) => operate(by.operation, number, atom_number(values, by.right)),
     }
 }
 
 /// Returns the number that a value is for values of the ranges.
 #[tactic(auto, unfolding(crate::specs::Passes::number_of))]
-pub fn number_of(pair: Pair, value: Value) -> u32
-    ensures { result ≡ number_of (pair_of pair) value }
+pub fn number_of(values: Values, value: Value) -> u32
+    ensures { result ≡ number_of values value }
 {
-    let first = atom_number(pair, value.first);
-    joined(pair, joined(pair, first, value.second), value.third)
+    let first = atom_number(values, value.first);
+    joined(values, joined(values, first, value.second), value.third)
 }
 
 fn with_flag(flag: Flag, value: bool, flags: Flags) -> Flags
@@ -155,14 +151,14 @@ pub fn giving(regs: Regs, place: Place, number: u32) -> Option<Event>
 
 /// Gives one item, and returns whether it was taken.
 #[tactic(auto, using(crate::proofs::Since::since_state), unfolding(crate::specs::Passes::given_one))]
-pub fn given_one(session: &mut Session, pair: Pair, item: Item) -> bool
-    ensures taken { result ≡ true → given_one (pair_of pair) item session.old ≡ Some session.new }
-    ensures refused { result ≡ false → given_one (pair_of pair) item session.old ≡ None }
+pub fn given_one(session: &mut Session, values: Values, item: Item) -> bool
+    ensures taken { result ≡ true → given_one values item session.old ≡ Some session.new }
+    ensures refused { result ≡ false → given_one values item session.old ≡ None }
     ensures same { result ≡ false → session.new ≡ session.old }
     ensures since { (s : State) → IsSince s session.old → IsSince s session.new }
     ensures stops { session.new.breaks ≡ session.old.breaks }
 {
-    match giving(session.regs(), item.place, number_of(pair, item.value)) {
+    match giving(session.regs(), item.place, number_of(values, item.value)) {
         Some(event) => session.event(event).is_ok(),
         None => false,
     }
@@ -255,15 +251,15 @@ pub fn compares(relation: Relation, came: u64, wanted: u32) -> bool
 
 /// Gives all items in order, and returns whether all were taken; it ends with the first that is
 /// not.
-pub fn given_all(session: &mut Session, pair: Pair, items: &[Item]) -> bool
+pub fn given_all(session: &mut Session, values: Values, items: &[Item]) -> bool
     ensures taken { result ≡ true
-        → given_all (pair_of pair) items.now session.old ≡ Some session.new }
-    ensures refused { result ≡ false → given_all (pair_of pair) items.now session.old ≡ None }
+        → given_all values items.now session.old ≡ Some session.new }
+    ensures refused { result ≡ false → given_all values items.now session.old ≡ None }
     ensures since { (s : State) → IsSince s session.old → IsSince s session.new }
     ensures stops { session.new.breaks ≡ session.old.breaks }
 {
     for item in items {
-        if !given_one(session, pair, *item) {
+        if !given_one(session, values, *item) {
             return false;
         }
     }
@@ -272,27 +268,27 @@ pub fn given_all(session: &mut Session, pair: Pair, items: &[Item]) -> bool
 
 /// Returns whether an item holds after a call.
 #[tactic(auto, unfolding(crate::specs::Passes::item_holds))]
-fn item_holds(session: &Session, before: CallStart, pair: Pair, item: &Item) -> bool
+fn item_holds(session: &Session, before: CallStart, values: Values, item: &Item) -> bool
     requires { before.output_count ≤ 65536 }
     ensures { (state : State) → before.output_count ≡ length state.bus.out
         → before.cycles ≡ state.cycles
-        → result ≡ item_holds (pair_of pair) state session.now.current item.now }
+        → result ≡ item_holds values state session.now.current item.now }
 {
     match came(session, before, item.place) {
-        Some(came) => compares(item.relation, came, number_of(pair, item.value)),
+        Some(came) => compares(item.relation, came, number_of(values, item.value)),
         None => false,
     }
 }
 
 /// Returns whether all items hold after a call.
-pub fn all_hold(session: &Session, before: CallStart, pair: Pair, items: &[Item]) -> bool
+pub fn all_hold(session: &Session, before: CallStart, values: Values, items: &[Item]) -> bool
     requires { before.output_count ≤ 65536 }
     ensures { (state : State) → before.output_count ≡ length state.bus.out
         → before.cycles ≡ state.cycles
-        → result ≡ list_all (item_holds (pair_of pair) state session.now.current) items.now }
+        → result ≡ list_all (item_holds values state session.now.current) items.now }
 {
     for item in items {
-        if !item_holds(session, before, pair, item) {
+        if !item_holds(session, before, values, item) {
             return false;
         }
     }

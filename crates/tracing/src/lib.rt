@@ -6,6 +6,7 @@
 //! says what a step is about to touch and keeps what was counted.
 #![tactic(auto)]
 
+mod lines;
 mod notes;
 mod sheet;
 mod trace;

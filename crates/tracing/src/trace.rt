@@ -20,6 +20,7 @@ ghost use Rattle.tracing.specs.Traces.{EndsAt, IsDone, IsOfStreams, TracedIfFoun
 ghost use Rattle.tracing.specs.Traces.{WentOn, WroteNotes, begin_view, gathered_at, is_begun};
 ghost use Rattle.tracing.specs.Traces.{play_of, reached, trace_noted, traced};
 
+use crate::lines::{check_lines, write_lines};
 use crate::tracer::Tracer;
 use crate::turns::{noted_turn, passed_turn};
 use accesses::Written;
@@ -305,9 +306,9 @@ fn trace_between<R: Read, O: Write, E: Write>(
     }
 }
 
-/// Traces what was loaded.
-fn trace_span<R: Read, O: Write, E: Write>(
-    alloc: Global,
+/// Traces what was loaded, and writes how often each line was run, if that is asked for.
+fn trace_span<H: Files + AllocGlobal, R: Read, O: Write, E: Write>(
+    rt: &H,
     words: &TraceWords<'_>,
     loaded: &mut Loaded,
     span: Span,
@@ -326,10 +327,12 @@ fn trace_span<R: Read, O: Write, E: Write>(
         (O.contents output.old) (O.contents output.new)) }
     ensures fault { IfErr result IsOfStreams }
 {
+    let alloc = rt.alloc();
+    check_lines(rt, words)?;
     let mut tracer = make_tracer(alloc, words, loaded)?;
     let written = copied(alloc, &loaded.written)?.or_everywhere(words.is_free);
     let session = &mut loaded.session;
-    trace_between(
+    let played = trace_between(
         alloc,
         &mut tracer,
         session,
@@ -338,12 +341,14 @@ fn trace_span<R: Read, O: Write, E: Write>(
         input,
         output,
         errors,
-    )
+    )?;
+    write_lines(rt, words, loaded.assembly.as_ref(), tracer.tally())?;
+    Ok(played)
 }
 
 /// Traces what was loaded, tells how that ended, and returns the exit status.
-fn trace_told<R: Read, O: Write, E: Write>(
-    alloc: Global,
+fn trace_told<H: Files + AllocGlobal, R: Read, O: Write, E: Write>(
+    rt: &H,
     words: &TraceWords<'_>,
     loaded: &mut Loaded,
     span: Span,
@@ -360,8 +365,9 @@ fn trace_told<R: Read, O: Write, E: Write>(
       now = O.contents output.new;
     }) result }
 {
-    match trace_span(alloc, words, loaded, span, input, output, errors) {
+    match trace_span(rt, words, loaded, span, input, output, errors) {
         Ok(played) => {
+            let alloc = rt.alloc();
             let pc = loaded.session.regs().pc;
             let assembly = loaded.assembly.as_ref();
             tell_ending(alloc, words.file.file, assembly, played, pc, errors);
@@ -372,8 +378,8 @@ fn trace_told<R: Read, O: Write, E: Write>(
 }
 
 /// Traces what was loaded between the places of the words, and returns the exit status.
-fn trace_loaded<R: Read, O: Write, E: Write>(
-    alloc: Global,
+fn trace_loaded<H: Files + AllocGlobal, R: Read, O: Write, E: Write>(
+    rt: &H,
     words: &TraceWords<'_>,
     loaded: &mut Loaded,
     input: &mut R,
@@ -407,7 +413,7 @@ fn trace_loaded<R: Read, O: Write, E: Write>(
         to,
         limit: words.steps,
     };
-    trace_told(alloc, words, loaded, span, input, output, errors)
+    trace_told(rt, words, loaded, span, input, output, errors)
 }
 
 /// Loads the file of the words and traces it, and returns the exit status.
@@ -430,7 +436,7 @@ fn trace_words<H: Files + AllocGlobal, R: Read, O: Write, E: Write>(
     ensures bad_map { is_map words.now.file.rom words.now.file.port ≡ false → result ≡ 2 }
 {
     match load(rt, &words.file) {
-        Ok(mut loaded) => { trace_loaded(rt.alloc(), words, &mut loaded, input, output, errors) }
+        Ok(mut loaded) => trace_loaded(rt, words, &mut loaded, input, output, errors),
         Err(fault) => fault.tell(words.file.file, errors),
     }
 }
@@ -438,7 +444,9 @@ fn trace_words<H: Files + AllocGlobal, R: Read, O: Write, E: Write>(
 /// Does what the words of `trace` ask for, its own name left out, and returns the exit status.
 ///
 /// The statuses are those of `run`, and 10 if `--steps` ended the trace. Rows, or what was counted
-/// or found, go to `output`, and the program's own output to `errors`.
+/// or found, go to `output`, and the program's own output to `errors`. How often each line was run
+/// goes to its file when the trace has ended; the status is 4 where that cannot be written, or is
+/// the file to run.
 pub fn trace_program<H: Files + AllocGlobal, R: Read, O: Write, E: Write>(
     rt: &H,
     words: &[&str],

@@ -100,6 +100,11 @@ impl<'a> Tracer<'a> {
         }
     }
 
+    /// Returns what was counted by address, if that is asked for.
+    pub fn tally(&self) -> Option<&Tally> {
+        self.tally.as_ref()
+    }
+
     /// Returns whether no row is asked for: counts or unwritten memory are, in its place.
     pub fn has_no_rows(&self) -> bool
         ensures { result ≡ has_no_rows (trace_view self.now.words.now) }

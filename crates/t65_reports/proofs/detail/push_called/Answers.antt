@@ -1,15 +1,31 @@
 use Rattle.std.proofs.Common.{◌++◌, ◌∙◌, sym, ap}
 use Rattle.std.specs.Prelude.{string_bytes}
-use Rattle.t65_reports.specs.Failures.{called_text, end_text}
-use Rattle.t65_reader.specs.RowText.{row_view}
-use Rattle.t65_runner.specs.Passes.{pair_of}
+use Rattle.std.specs.List.{list_all}
+use Rattle.std.specs.Prelude.{◌&&◌}
+use Rattle.t65_runner.specs.Passes.{item_holds}
+use Rattle.t65_reports.specs.Failures.{called_text, end_text, is_back}
 use Rattle.t65_reports.proofs.RowText.{three}
+use Rattle.t65_reports.proofs.Told.{call_fails, call_passes}
 use Rattle.t65_reports.proofs.detail.push_called.Goals as goal
 
-pub returns : goal.returns
-returns c =
+pub returns-then-passes-clause-passes : goal.returns-then-passes-clause-passes
+returns-then-passes-clause-passes c = λ _.
+    let s = c.args.session.now in
+    let told = c.passes.ensures s.current c.call_start-before.ensures.count c.call_start-before.ensures.cycles c.call_start-before.ensures.stack in
+    call_passes c.args.values c.args.call.now.wanted.items s c.run_entered.new.session c.in_ok-end.end _ c.passes.result c.in_ok-end.ensures.ok
+    (told ∙ ap (λ items. is_back s.current.regs.s c.in_ok-end.end.why c.run_entered.new.session.current.regs && list_all (item_holds c.args.values s.current c.run_entered.new.session.current) items) c.deref.ensures.value) c.if-passes.true
+
+pub returns-clause-fails : goal.returns-clause-fails
+returns-clause-fails c = λ _.
+    let s = c.args.session.now in
+    let told = c.passes.ensures s.current c.call_start-before.ensures.count c.call_start-before.ensures.cycles c.call_start-before.ensures.stack in
+    call_fails c.args.values c.args.call.now.wanted.items s c.run_entered.new.session c.in_ok-end.end _ c.passes.result c.in_ok-end.ensures.ok
+    (told ∙ ap (λ items. is_back s.current.regs.s c.in_ok-end.end.why c.run_entered.new.session.current.regs && list_all (item_holds c.args.values s.current c.run_entered.new.session.current) items) c.deref.ensures.value) c.if-passes.false
+
+pub returns-clause-told : goal.returns-clause-told
+returns-clause-told c = λ _.
     let s = c.args.session.now in
     let end = c.in_ok-push_end.ensures s.current c.call_start-before.ensures.count c.call_start-before.ensures.cycles c.call_start-before.ensures.stack in
-    let wanted = ap (λ items. string_bytes c.args.text.now ++ end_text (pair_of c.args.pair) items s.current c.in-Ok.end c.call.new.session.current) c.deref.ensures.value in
-    three _ _ _ _ _ _ _ (end ∙ wanted) c.in_ok-push_values.ensures c.in_ok-push_steps.ensures.text
-    ∙ ap (λ r. string_bytes c.args.text.now ++ called_text c.args.places.now (row_view c.args.row.now) (pair_of c.args.pair) s r) (sym c.in-Ok.ensures.ok)
+    let wanted = ap (λ items. string_bytes c.args.text.now ++ end_text c.args.values items s.current c.in_ok-end.end c.run_entered.new.session.current) c.deref-2.ensures.value in
+    three _ _ _ _ _ _ _ (end ∙ wanted) c.in_ok-push_str.ensures.bytes c.in_ok-push_steps.ensures.text
+    ∙ ap (λ r. string_bytes c.args.text.now ++ called_text c.args.places.now c.args.about.now c.args.values c.args.call.now.wanted.items s r) (sym c.in_ok-end.ensures.ok)

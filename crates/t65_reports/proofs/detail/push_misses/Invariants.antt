@@ -3,10 +3,9 @@ use Rattle.std.specs.Prelude.{string_bytes}
 use Rattle.std.specs.List.{flat_map}
 use Rattle.model.specs.State.{State}
 use Rattle.t65_reports.specs.Failures.{miss_text}
-use Rattle.t65_runner.specs.Passes.{pair_of}
 use Rattle.t65_reports.proofs.detail.push_misses.Given as goal
 
 abbrev pub invariant-loop-item : goal.invariant-loop-item
 invariant-loop-item l = (state : State) → l.before.output_count ≡ length state.bus.out → l.before.cycles ≡ state.cycles
-    → string_bytes l.text ++ flat_map (miss_text (pair_of l.pair) state l.session.current) (drop l.item-index l.items)
-    ≡ string_bytes l.initial.text ++ flat_map (miss_text (pair_of l.pair) state l.session.current) l.items
+    → string_bytes l.text ++ flat_map (miss_text l.values state l.session.current) (drop l.item-index l.items)
+    ≡ string_bytes l.initial.text ++ flat_map (miss_text l.values state l.session.current) l.items

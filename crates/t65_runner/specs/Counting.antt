@@ -1,0 +1,104 @@
+-- How often steps begin at each address in the calls of a row. Source: mos65.
+use Rattle.std.specs.Prelude.{ℕ, zero, suc, ◌+◌, ◌==◌, ◌&&◌, Bool, false, if◌then◌else◌, List, [], ◌∷◌, Option, Some, None, Result, Ok, Err}
+use Rattle.accesses.specs.Moments.{entered, moment_of}
+use Rattle.accesses.specs.Tallies.{Counts, noted}
+use Rattle.model.specs.Session.{Session, with_state}
+use Rattle.model.specs.State.{State}
+use Rattle.model.specs.Step.{step}
+use Rattle.model.specs.declared.event.EventFault.{EventFault}
+use Rattle.model.specs.declared.run_end.RunEnd.{RunEnd}
+use Rattle.model.specs.declared.session_fault.SessionFault.{SessionFault}
+use Rattle.rig.specs.Subroutine.{return_address}
+use Rattle.t65_reader.specs.RowText.{SeenCall, SeenRow}
+use Rattle.t65_runner.specs.Passes.{given_all, ran}
+use Rattle.t65_runner.specs.RangeValues.{count_of, values_at}
+use Rattle.t65_runner.specs.declared.range_values.Values.{Values}
+
+-- A session, and how often steps began at each address.
+pub record Counted : Type 0 where
+  pub session : Session
+  pub counts : Counts
+
+abbrev pub counted_at : Session → Counts → Counted
+counted_at s counts = record { session = s; counts = counts }
+
+-- A step counts where it began, unless an interrupt came in place of the instruction.
+abbrev pub counts_with : State → State → Counts → Counts
+counts_with before after counts = if entered (moment_of before) after then counts
+    else noted counts before.regs.pc 0
+
+abbrev pub one_counted : Counted → State → Counted
+one_counted c after = record {
+  session = with_state c.session after;
+  counts = counts_with c.session.current after c.counts;
+}
+
+-- The steps of a call go on until one is rejected, or leads back.
+abbrev pub counted_on : Counted → (Counted → Counted) → Result State EventFault → Counted
+counted_on c next (Err fault) = c
+counted_on c next (Ok after) = if after.regs.pc == return_address then one_counted c after
+    else next (one_counted c after)
+
+-- So many steps at most are made and counted.
+unfoldable pub steps_counted : ℕ → Counted → Counted
+steps_counted zero c = c
+steps_counted (suc n) c = counted_on c (steps_counted n) (step c.session.current)
+
+abbrev pub counted_from : ℕ → Counts → Result (RunEnd × Session) SessionFault → Option Counted
+counted_from steps counts (Ok entered)
+    = Some (steps_counted steps (counted_at entered.1 counts))
+counted_from steps counts (Err fault) = None
+
+abbrev pub counted_given : SeenCall → Counts → Option Session → Option Counted
+counted_given call counts None = None
+counted_given call counts (Some s)
+    = counted_from call.steps counts (ran call.entry call.address 0 s)
+
+-- A call whose items can be given is made and counted; otherwise it is not made.
+unfoldable pub call_counted : Values → SeenCall → Counted → Option Counted
+call_counted values call c = counted_given call c.counts (given_all values call.given c.session)
+
+abbrev pub has_returned : Counted → Bool
+has_returned c = c.session.current.regs.pc == return_address
+
+abbrev pub if_returned : Counts → (Counted → Counts) → Option Counted → Counts
+if_returned counts next None = counts
+if_returned counts next (Some c) = if has_returned c then next c else c.counts
+
+-- The calls of rows are counted one after another, up to the first that is not made or does not
+-- return.
+unfoldable pub rows_counted : Values → List (ℕ × SeenRow) → Counted → Counts
+rows_counted values [] c = c.counts
+rows_counted values (row ∷ rows) c
+    = if_returned c.counts (rows_counted values rows) (call_counted values row.1.call c)
+
+-- ---- all values of a test
+
+abbrev pub are_same : Values → Values → Bool
+are_same one other = (one.first == other.first) && (one.second == other.second)
+    && (one.third == other.third) && (one.fourth == other.fourth)
+
+-- The values for which a test fails are its last.
+abbrev pub is_last : Option Values → Values → Bool
+is_last None values = false
+is_last (Some failed) values = are_same failed values
+
+-- So many calls of a test from a number on, each from a session.
+unfoldable pub counted_in : (ℕ → Values) → (Values → Counts → Counts) → Option Values → ℕ → ℕ
+    → Counts → Counts
+counted_in at one failed zero number counts = counts
+counted_in at one failed (suc n) number counts = if is_last failed (at number)
+    then one (at number) counts
+    else counted_in at one failed n (number + 1) (one (at number) counts)
+
+abbrev pub counted_by : List (ℕ × SeenRow) → Session → Values → Counts → Counts
+counted_by rows s values counts
+    = rows_counted values rows (counted_at s counts)
+
+-- The counts after the rows of a test have been run for its values, up to those for which it fails,
+-- each time from a session on.
+unfoldable pub test_counted : SeenRow → List (ℕ × SeenRow) → Session → Option Values → Counts
+    → Counts
+test_counted row rows s failed counts
+    = counted_in (values_at row.ranges row.choice) (counted_by rows s) failed
+    (count_of row.ranges row.choice) 0 counts

@@ -1,0 +1,205 @@
+//! How often steps begin at each address in the calls of a row.
+
+ghost use Rattle.std.specs.Prelude.{◌≡◌, ◌==◌, [], ℕ, IfOk, None, OnOk, Some, false, if◌then◌else◌};
+ghost use Rattle.std.specs.Prelude.{map, suc, true};
+ghost use Rattle.accesses.specs.Moments.{entered};
+ghost use Rattle.accesses.specs.Tallies.{noted};
+ghost use Rattle.model.specs.State.{State};
+ghost use Rattle.t65_reader.specs.RowText.{call_view, row_view};
+ghost use Rattle.t65_runner.specs.Counting.{are_same, call_counted, counted_at, counted_by};
+ghost use Rattle.t65_runner.specs.Counting.{is_last};
+ghost use Rattle.t65_runner.specs.Counting.{rows_counted, steps_counted, test_counted};
+ghost use Rattle.t65_runner.specs.Start.{IsSince, fresh};
+ghost use Rattle.t65_runner.specs.Passes.{rows_seen};
+
+use crate::bench::run_entered;
+use crate::going_back::restore;
+use crate::passes::given_all;
+use crate::range_values::{Values, count_of, four_later, seed_of, values_by};
+use accesses::{Moment, Tally, moment_of};
+use bus::{Image, MapSpec};
+use debugger::{Event, Session};
+use std::alloc::{AllocError, Global};
+use t65_reader::{Call, Row};
+
+/// Where a called routine returns to.
+const RETURN_ADDRESS: u16 = 0xffff;
+
+/// Counts a step that was made from a moment on, unless an interrupt came in place of the
+/// instruction.
+fn note(session: &Session, before: Moment, tally: &mut Tally)
+    ensures { tally.new ≡ (if entered before session.now.current then tally.old
+        else noted tally.old before.regs.pc 0) }
+{
+    if !before.was_entered(session) {
+        tally.note(before.regs.pc, 0);
+    }
+}
+
+/// Returns whether a call has come back.
+fn is_back(session: &Session) -> bool
+    ensures { result ≡ (session.now.current.regs.pc == 65535) }
+{
+    session.regs().pc == RETURN_ADDRESS
+}
+
+/// Makes a step and counts it, and returns whether the call goes on: the step was not rejected, and
+/// does not lead back.
+fn count_step(session: &mut Session, tally: &mut Tally) -> bool
+    ensures on { result ≡ true → (n : ℕ)
+        → steps_counted (suc n) (counted_at session.old tally.old)
+        ≡ steps_counted n (counted_at session.new tally.new) }
+    ensures end { result ≡ false → (n : ℕ)
+        → steps_counted (suc n) (counted_at session.old tally.old)
+        ≡ counted_at session.new tally.new }
+    ensures since { (s : State) → IsSince s session.old → IsSince s session.new }
+    ensures stops { session.new.breaks ≡ session.old.breaks }
+{
+    let before = moment_of(session);
+    match session.event(Event::Step) {
+        Ok(()) => {
+            note(session, before, tally);
+            !is_back(session)
+        }
+        Err(_) => false,
+    }
+}
+
+/// Makes so many steps at most, and counts them.
+fn count_steps(session: &mut Session, limit: u32, tally: &mut Tally)
+    ensures counted { counted_at session.new tally.new
+        ≡ steps_counted limit (counted_at session.old tally.old) }
+    ensures since { (s : State) → IsSince s session.old → IsSince s session.new }
+    ensures stops { session.new.breaks ≡ session.old.breaks }
+{
+    for _ in 0..limit {
+        if !count_step(session, tally) {
+            return;
+        }
+    }
+}
+
+/// Makes a call whose items can be given, and counts its steps. Returns whether it was made.
+#[tactic(auto, unfolding(crate::specs::Counting::call_counted))]
+fn count_call(
+    session: &mut Session,
+    call: &Call,
+    values: Values,
+    tally: &mut Tally,
+) -> Result<bool, AllocError>
+    requires stops { session.old.breaks ≡ [] }
+    ensures made { IfOk result (λ made. made ≡ true
+        → call_counted values (call_view call.now) (counted_at session.old tally.old)
+        ≡ Some (counted_at session.new tally.new)) }
+    ensures unmade { IfOk result (λ made. made ≡ false
+        → call_counted values (call_view call.now) (counted_at session.old tally.old) ≡ None) }
+    ensures same { IfOk result (λ made. made ≡ false → tally.new ≡ tally.old) }
+    ensures since { (s : State) → IsSince s session.old → IsSince s session.new }
+    ensures stops { session.new.breaks ≡ [] }
+{
+    if !given_all(session, values, &call.given) {
+        return Ok(false);
+    }
+    run_entered(session, call.entry, call.address, 0)?;
+    count_steps(session, call.steps, tally);
+    Ok(true)
+}
+
+/// Makes the calls of rows, up to the first that is not made or does not return, and counts their
+/// steps.
+fn count_rows(
+    session: &mut Session,
+    rows: &[&(u32, Row)],
+    values: Values,
+    tally: &mut Tally,
+) -> Result<(), AllocError>
+    requires stops { session.old.breaks ≡ [] }
+    ensures counted { OnOk result (tally.new
+        ≡ rows_counted values (rows_seen rows.now) (counted_at session.old tally.old)) }
+    ensures since { (s : State) → IsSince s session.old → IsSince s session.new }
+    ensures stops { session.new.breaks ≡ [] }
+{
+    for row in rows {
+        if !count_call(session, &row.1.call, values, tally)? {
+            return Ok(());
+        }
+        if !is_back(session) {
+            return Ok(());
+        }
+    }
+    Ok(())
+}
+
+/// Makes the calls of rows for values of ranges from the machine's start, counts their steps, and
+/// goes back there.
+fn count_values(
+    alloc: Global,
+    session: &mut Session,
+    map: MapSpec,
+    image: &Image,
+    rows: &[&(u32, Row)],
+    values: Values,
+    tally: &mut Tally,
+) -> Result<(), AllocError>
+    requires { session.old ≡ fresh map image.now }
+    ensures counted { OnOk result (tally.new
+        ≡ counted_by (rows_seen rows.now) (fresh map image.now) values tally.old) }
+    ensures back { OnOk result (session.new ≡ fresh map image.now) }
+{
+    count_rows(session, rows, values, tally)?;
+    restore(alloc, session, map, image)
+}
+
+fn are_same(one: Values, other: Values) -> bool
+    ensures { result ≡ are_same one other }
+{
+    one.first == other.first
+        && one.second == other.second
+        && one.third == other.third
+        && one.fourth == other.fourth
+}
+
+/// Returns whether values are those for which a test fails.
+fn is_last(failed: Option<Values>, values: Values) -> bool
+    ensures { result ≡ is_last failed values }
+{
+    match failed {
+        None => false,
+        Some(failed) => are_same(failed, values),
+    }
+}
+
+/// Makes the calls of rows once more from the machine's start, for the values of the ranges of a
+/// row up to those for which it fails, and counts at which addresses steps begin. It goes back to
+/// the start after each time. The rows after one that is not made or does not return are not run.
+///
+/// # Errors
+///
+/// `AllocError` if an allocation failed.
+#[tactic(auto, unfolding(crate::specs::Counting::test_counted))]
+pub fn count_test(
+    alloc: Global,
+    session: &mut Session,
+    map: MapSpec,
+    image: &Image,
+    row: &Row,
+    rows: &[&(u32, Row)],
+    failed: Option<Values>,
+    tally: &mut Tally,
+) -> Result<(), AllocError>
+    requires { session.old ≡ fresh map image.now }
+    ensures counted { OnOk result (tally.new ≡ test_counted (row_view row.now)
+        (rows_seen rows.now) (fresh map image.now) failed tally.old) }
+    ensures back { OnOk result (session.new ≡ fresh map image.now) }
+{
+    let mut number = seed_of(row.choice);
+    for n in 0..count_of(row.ranges, row.choice) {
+        let values = values_by(row.ranges, row.choice, n, number);
+        count_values(alloc, session, map, image, rows, values, tally)?;
+        if is_last(failed, values) {
+            return Ok(());
+        }
+        number = four_later(number);
+    }
+    Ok(())
+}

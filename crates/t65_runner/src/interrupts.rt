@@ -1,0 +1,93 @@
+//! Handlers called as an interrupt enters them.
+
+ghost use Rattle.std.specs.Prelude.{◌≡◌, ◌≢◌, IfErr, IfOk, [], false};
+ghost use Rattle.model.specs.Effect.{decimal_after_entry};
+ghost use Rattle.model.specs.State.{State};
+ghost use Rattle.rig.specs.Subroutine.{after_event, byte_patched};
+ghost use Rattle.t65_runner.specs.Interrupts.{entered_flags, interrupt_of, interrupted};
+ghost use Rattle.t65_runner.specs.Start.{IsSince};
+
+use debugger::{Event, Flags, Profile, RunEnd, Session, Setting};
+use rig::run_to;
+use std::alloc::AllocError;
+
+/// Where a handler returns to.
+const RETURN_ADDRESS: u16 = 0xffff;
+
+/// Makes an event; one that is refused changes nothing.
+#[tactic(auto, unfolding(rig::specs::Subroutine::after_event))]
+fn happen(session: &mut Session, event: Event)
+    ensures { session.new ≡ after_event session.old event }
+{
+    let _ = session.event(event);
+}
+
+fn patch_byte(session: &mut Session, address: u16, byte: u8)
+    ensures { session.new ≡ after_event session.old (byte_patched address byte) }
+{
+    happen(
+        session,
+        Event::Patch {
+            address,
+            bytes: [byte, 0, 0],
+            count: 1,
+        },
+    );
+}
+
+/// Returns the flags after an interrupt's entry.
+fn entered_flags(profile: Profile, flags: Flags) -> Flags
+    ensures { result ≡ entered_flags profile flags }
+{
+    let d = match profile {
+        Profile::N => flags.d,
+        Profile::C => false,
+    };
+    Flags {
+        d,
+        i: true,
+        ..flags
+    }
+}
+
+/// Enters a handler as an interrupt at $FFFF does.
+#[tactic(auto, unfolding(crate::specs::Interrupts::interrupted))]
+fn enter(session: &mut Session, address: u16)
+    ensures { session.new ≡ interrupted address session.old }
+{
+    let regs = session.regs();
+    let flags = entered_flags(session.profile(), regs.flags);
+    patch_byte(session, 0x0100 + regs.s as u16, 0xff);
+    patch_byte(session, 0x0100 + regs.s.wrapping_add(255) as u16, 0xff);
+    patch_byte(
+        session,
+        0x0100 + regs.s.wrapping_add(254) as u16,
+        regs.flags.to_byte(false),
+    );
+    happen(session, Event::Set(Setting::S(regs.s.wrapping_add(253))));
+    happen(session, Event::Set(Setting::P(flags.to_byte(false))));
+    happen(session, Event::Set(Setting::Pc(address)));
+}
+
+/// Calls a handler as an interrupt at $FFFF enters it, and runs up to `limit` steps until its RTI
+/// has taken it back there: the stack pointer and the flags are then what they were. The six events
+/// of the entry and then each step are held. The entry is no step, so its 7 cycles are not counted.
+/// (MCS6500 manual, chapter 9, for what an interrupt pushes.)
+///
+/// # Errors
+///
+/// `AllocError` if an allocation failed. The handler is entered then, and does not run.
+#[tactic(auto, unfolding(crate::specs::Interrupts::interrupt_of))]
+pub fn interrupt(session: &mut Session, address: u16, limit: u32) -> Result<RunEnd, AllocError>
+    requires stops { session.old.breaks ≡ [] }
+    ensures ok { IfOk result
+        (λ end. interrupt_of address limit session.old ≡ Ok (end, session.new)) }
+    ensures since { (s : State) → IsSince s session.old → IsSince s session.new }
+    ensures stops { session.new.breaks ≡ [] }
+{
+    enter(session, address);
+    match run_to(session, RETURN_ADDRESS, limit) {
+        Ok(end) => Ok(end),
+        Err(_) => Err(AllocError),
+    }
+}
