@@ -20,7 +20,8 @@ function facts(lines) {
   }
   return f;
 }
-const info = facts(part("facts").split("\n"));
+// (how the run ended is told behind it)
+const info = facts((part("facts") + part("end")).split("\n"));
 if (part("source")) info.source = text(part("source")).replace(/\n$/, "").split("\n");
 const esc = t => t.replace(/[&<>]/g, c => ({"&": "&amp;", "<": "&lt;", ">": "&gt;"})[c]);
 
@@ -118,7 +119,7 @@ const labelAt = new Int16Array(65536).fill(-1);
 labels.forEach((l, j) => labelAt.fill(j, l[1]));
 // a name is an address where an operand without `#` has it
 const meant = new Set((info.source || []).flatMap(t => /^\s*(?:[\w.]+:)?\s*[A-Za-z]{3}\s+([^#;][^;]*)/.exec(t)?.[1].match(/[A-Za-z_][\w.]*/g) || []));
-for (const [t, a] of info.names || []) if (meant.has(t)) named.set(a, t);
+for (const [t, a] of info.names || []) if (!info.source || meant.has(t)) named.set(a, t);
 for (const [t, a] of info.labels || []) named.set(a, t);
 function nameOf(a) {
   for (let k = 0; k < (a < 256 ? 16 : 256) && k <= a; k++) if (named.has(a - k)) return named.get(a - k) + (k ? "+" + k : "");

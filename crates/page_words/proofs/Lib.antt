@@ -1,0 +1,4 @@
+pub mod Cells
+pub mod LoadedBytes
+pub mod Running
+pub mod Ends

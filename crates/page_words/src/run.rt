@@ -1,0 +1,361 @@
+//! What the word `page` does.
+
+ghost use Rattle.std.specs.Prelude.{◌≡◌, ◌⊎◌, ℕ, List, Option, IfErr, IfOk, None, Some, false};
+ghost use Rattle.accesses.specs.Writing.{or_everywhere};
+ghost use Rattle.arguments.specs.Words.{Fits, Refuses, texts};
+ghost use Rattle.loading.specs.Place.{names_of};
+ghost use Rattle.model.specs.Event.{start};
+ghost use Rattle.model.specs.Session.{new_session};
+ghost use Rattle.model.specs.State.{Map, is_map};
+ghost use Rattle.page_words.specs.Asked.{PageAsked, asked, page_view};
+ghost use Rattle.page_words.specs.CommandLine.{page};
+ghost use Rattle.page_words.specs.Done.{EndsFile, IsDone, IsInput, IsShown, Ran};
+ghost use Rattle.page_words.specs.Done.{ShownIfFound, start_in};
+ghost use Rattle.page_writer.specs.Data.{IsQuiet};
+ghost use Rattle.running.specs.Places.{place_asked};
+
+use crate::facts::{Program, facts_of, source_of};
+use crate::words::{PageWords, read_page_words};
+use accesses::Written;
+use arguments::{FileRefusal, Refusal, is_one_file, read_most, refused_words};
+use assembler::Assembly;
+use console::Played;
+use loading::{Loaded, load, load_names};
+use page_viewer::{BEFORE_END, BEFORE_RUN, BEFORE_SOURCE, HEAD, TAIL};
+use page_writer::{SendFault, Template, Texts, write_page};
+use running::{place_named, status_of_ending, tell_ending};
+use std::alloc::{AllocError, Global};
+use std::fs::File;
+use std::io::Write;
+use std::rt::Files;
+
+/// The most bytes of input that a program can be given.
+const MOST_INPUT: u64 = 65_536;
+
+/// Returns the viewer.
+fn viewer() -> Template<'static> {
+    Template {
+        head: HEAD,
+        before_source: BEFORE_SOURCE,
+        before_run: BEFORE_RUN,
+        before_end: BEFORE_END,
+        tail: TAIL,
+    }
+}
+
+/// What a page says of a program besides its run.
+#[derive(Drop)]
+struct Said {
+    facts: Vec<u8>,
+    source: Vec<u8>,
+}
+
+/// Returns the names of the file of names, if one is named.
+fn names_asked<H: Files + AllocGlobal>(
+    rt: &H,
+    words: &PageWords<'_>,
+) -> Result<Option<Assembly>, Refusal>
+    ensures { IfErr result EndsFile }
+{
+    match words.symbols {
+        None => Ok(None),
+        Some(path) => match load_names(rt, &words.file, path) {
+            Ok(names) => Ok(Some(names)),
+            Err(refusal) => Err(refusal),
+        },
+    }
+}
+
+/// Returns the input: that of the file that is named, as much as a program can be given, or none.
+fn input_asked<H: Files + AllocGlobal>(rt: &H, words: &PageWords<'_>) -> Result<Vec<u8>, Refusal>
+    ensures input { IfOk result (λ input. IsInput (page_view words.now).input input.items) }
+    ensures refused { IfErr result EndsFile }
+{
+    match words.input {
+        None => Ok(Vec::new(rt.alloc())),
+        Some(path) => read_most(rt, path, MOST_INPUT),
+    }
+}
+
+/// Returns what the page says of a program.
+fn said_of(
+    alloc: Global,
+    words: &PageWords<'_>,
+    loaded: &Loaded,
+    names: Option<&Assembly>,
+) -> Result<Said, AllocError> {
+    let program = Program {
+        title: words.title.unwrap_or(words.file.file),
+        port: words.file.port,
+        profile: words.file.profile,
+        written: &loaded.written,
+        assembly: loaded.assembly.as_ref(),
+        names,
+    };
+    Ok(Said {
+        facts: facts_of(alloc, &program)?,
+        source: source_of(alloc, program.assembly)?,
+    })
+}
+
+/// Returns whether the page is a file that was read, under another name.
+fn replaces<H: Files>(rt: &H, words: &PageWords<'_>) -> bool {
+    is_one_file(rt, words.file.file, words.out)
+        || match words.symbols {
+            None => false,
+            Some(path) => is_one_file(rt, path, words.out),
+        }
+        || match words.input {
+            None => false,
+            Some(path) => is_one_file(rt, path, words.out),
+        }
+}
+
+/// Makes the file of the page, unless it is one that was read.
+///
+/// Errors: `Write` if it is, or cannot be made; `OutOfMemory` if an allocation fails.
+fn made_file<H: Files>(rt: &H, words: &PageWords<'_>) -> Result<H::File, Refusal>
+    ensures { IfErr result EndsFile }
+{
+    if replaces(rt, words) {
+        return Err(Refusal::Write);
+    }
+    File::create(rt, words.out).map_err(|error| Refusal::unwritable(&error))
+}
+
+/// Returns the addresses that count as written when the run begins.
+fn first_written(
+    alloc: Global,
+    words: &PageWords<'_>,
+    loaded: &Loaded,
+) -> Result<Written, AllocError>
+    ensures { IfOk result
+        (λ written. written ≡ or_everywhere words.now.is_free loaded.now.written) }
+{
+    let written = loaded.written.copied(alloc)?;
+    Ok(written.or_everywhere(words.is_free))
+}
+
+/// Returns what the failure of a page means for the program.
+fn refusal_of(fault: SendFault) -> Refusal
+    ensures { EndsFile result }
+{
+    match fault {
+        SendFault::OutOfMemory => Refusal::OutOfMemory,
+        SendFault::Write => Refusal::Write,
+    }
+}
+
+/// Runs what was loaded over an input, and writes the page to a file.
+fn write_run<W: Write>(
+    alloc: Global,
+    words: &PageWords<'_>,
+    loaded: &mut Loaded,
+    said: &Said,
+    until: Option<u16>,
+    input: &[u8],
+    file: &mut W,
+) -> Result<Played, Refusal>
+    requires { IsQuiet loaded.old.session.current }
+    ensures ran { IfOk result (λ end. Ran until words.now.steps
+        (start_in words.now.is_free loaded.old.session loaded.old.written)
+        input.now end loaded.new.session) }
+    ensures assembly { loaded.new.assembly ≡ loaded.old.assembly }
+    ensures refused { IfErr result EndsFile }
+{
+    let Ok(written) = first_written(alloc, words, loaded) else {
+        return Err(Refusal::OutOfMemory);
+    };
+    let texts = Texts {
+        facts: said.facts.as_slice(),
+        source: said.source.as_slice(),
+    };
+    let viewer = viewer();
+    let session = &mut loaded.session;
+    let steps = words.steps;
+    match write_page(
+        alloc, &viewer, &texts, session, written, until, steps, input, file,
+    ) {
+        Ok(played) => Ok(played),
+        Err(fault) => Err(refusal_of(fault)),
+    }
+}
+
+/// Makes the file of the page, and writes the run of what was loaded over an input.
+fn make_page<H: Files + AllocGlobal>(
+    rt: &H,
+    words: &PageWords<'_>,
+    loaded: &mut Loaded,
+    names: Option<&Assembly>,
+    until: Option<u16>,
+    input: &[u8],
+) -> Result<Played, Refusal>
+    requires { IsQuiet loaded.old.session.current }
+    ensures ran { IfOk result (λ end. Ran until words.now.steps
+        (start_in words.now.is_free loaded.old.session loaded.old.written)
+        input.now end loaded.new.session) }
+    ensures assembly { loaded.new.assembly ≡ loaded.old.assembly }
+    ensures refused { IfErr result EndsFile }
+{
+    let Ok(said) = said_of(rt.alloc(), words, loaded, names) else {
+        return Err(Refusal::OutOfMemory);
+    };
+    match made_file(rt, words) {
+        Ok(mut file) => write_run(rt.alloc(), words, loaded, &said, until, input, &mut file),
+        Err(refusal) => Err(refusal),
+    }
+}
+
+/// Reads the names and the input that are asked for, and writes the page of what was loaded.
+fn show_run<'a, H: Files + AllocGlobal>(
+    rt: &H,
+    words: &PageWords<'a>,
+    loaded: &mut Loaded,
+    until: Option<u16>,
+) -> Result<Played, FileRefusal<'a>>
+    requires { IsQuiet loaded.old.session.current }
+    ensures ran { IfOk result (λ end. (input : List ℕ) × IsInput (page_view words.now).input input
+        × Ran until words.now.steps
+        (start_in words.now.is_free loaded.old.session loaded.old.written)
+        input end loaded.new.session) }
+    ensures assembly { loaded.new.assembly ≡ loaded.old.assembly }
+    ensures refused { IfErr result (λ why. EndsFile why.refusal) }
+{
+    let names = match names_asked(rt, words) {
+        Ok(names) => names,
+        Err(refusal) => {
+            let file = words.symbols.unwrap_or(words.out);
+            return Err(FileRefusal { file, refusal });
+        }
+    };
+    let input = match input_asked(rt, words) {
+        Ok(input) => input,
+        Err(refusal) => {
+            let file = words.input.unwrap_or(words.out);
+            return Err(FileRefusal { file, refusal });
+        }
+    };
+    match make_page(rt, words, loaded, names.as_ref(), until, input.as_slice()) {
+        Ok(played) => Ok(played),
+        Err(refusal) => Err(FileRefusal {
+            file: words.out,
+            refusal,
+        }),
+    }
+}
+
+/// Writes the page of what was loaded up to a place, tells how that ended, and returns the exit
+/// status.
+fn show_to<H: Files + AllocGlobal, E: Write>(
+    rt: &H,
+    words: &PageWords<'_>,
+    loaded: &mut Loaded,
+    until: Option<u16>,
+    errors: &mut E,
+) -> u8
+    requires { IsQuiet loaded.old.session.current }
+    ensures { IsShown (page_view words.now) loaded.old.assembly until
+        (start_in words.now.is_free loaded.old.session loaded.old.written) (record {
+          held = E.contents errors.old;
+          now = E.contents errors.new;
+        }) result }
+{
+    match show_run(rt, words, loaded, until) {
+        Ok(played) => {
+            let pc = loaded.session.regs().pc;
+            let assembly = loaded.assembly.as_ref();
+            tell_ending(rt.alloc(), words.file.file, assembly, played, pc, errors);
+            status_of_ending(played.ending, 0)
+        }
+        Err(why) => why.tell(errors),
+    }
+}
+
+/// Writes the page of what was loaded up to the place of the words, and returns the exit status.
+fn show_loaded<H: Files + AllocGlobal, E: Write>(
+    rt: &H,
+    words: &PageWords<'_>,
+    loaded: &mut Loaded,
+    errors: &mut E,
+) -> u8
+    requires { IsQuiet loaded.old.session.current }
+    ensures { ShownIfFound (page_view words.now) loaded.old.assembly
+        (place_asked (names_of loaded.old.assembly) (page_view words.now).until)
+        (start_in words.now.is_free loaded.old.session loaded.old.written) (record {
+          held = E.contents errors.old;
+          now = E.contents errors.new;
+        }) result }
+{
+    match place_named(loaded, words.until, errors) {
+        Ok(until) => show_to(rt, words, loaded, until, errors),
+        Err(status) => status,
+    }
+}
+
+/// For the proof: a session at a start asks for no interrupt, and no input was handed in.
+fn is_quiet(loaded: &Loaded)
+    ensures { (map : Map) (image : List (Option ℕ))
+        → loaded.now.session ≡ new_session 0 (start map image)
+        → IsQuiet loaded.now.session.current }
+{}
+
+/// Loads the file of the words and writes the page of its run, and returns the exit status.
+fn show_words<H: Files + AllocGlobal, E: Write>(rt: &H, words: &PageWords<'_>, errors: &mut E) -> u8
+    ensures done { IsDone (page_view words.now) (record {
+      held = E.contents errors.old;
+      now = E.contents errors.new;
+    }) result }
+    ensures bad_map { is_map words.now.file.rom words.now.file.port ≡ false → result ≡ 2 }
+{
+    match load(rt, &words.file) {
+        Ok(mut loaded) => {
+            is_quiet(&loaded);
+            show_loaded(rt, words, &mut loaded, errors)
+        }
+        Err(fault) => fault.tell(words.file.file, errors),
+    }
+}
+
+/// Does what the words of `page` ask for, its own name left out, and returns the exit status.
+///
+/// The run is that of `run` with the input of a file, or with none. In a page it has 100,000 steps
+/// at most, or as many as `--steps` says.
+///
+/// - 0: the run came to its end, at `--until`, at a jump to itself, or waiting for input that has
+///   ended. 10: the limit of steps. 11: a fault of the program. 12: the console is full. 13:
+///   nothing stands where the program runs, or at the vector of its BRK. In each of these cases the
+///   page was written.
+/// - 1: the source, the tape or the file of names is rejected. 2: the words, the place or the map
+///   are wrong. 3: memory ran out. 4: reading or writing failed, or the page is a file that is read
+///   under another name.
+///
+/// For each status but 0 a line on `errors` says why; that it cannot be written changes no status.
+/// A file that was at the name of the page is replaced.
+pub fn page<H: Files + AllocGlobal, O: Write, E: Write>(
+    rt: &H,
+    words: &[&str],
+    output: &mut O,
+    errors: &mut E,
+) -> u8
+    // Words that fit the command line, with right values: their file was loaded and ran by the
+    // definition of a run, or it was not, or a file could not be read or written, as the status
+    // says. The error stream gets why, or how the run ended. What the page got, no clause can say
+    // of a file: `write_page` says it of a writer.
+    ensures done { (a : PageAsked) → asked (texts words.entry.now) ≡ Some a
+        → Fits page (texts words.entry.now) → (output.new ≡ output.old) × IsDone a (record {
+          held = E.contents errors.old;
+          now = E.contents errors.new;
+        }) result }
+    // Other words write nothing on the output but help.
+    ensures refused { Refuses page (texts words.entry.now) (asked (texts words.entry.now) ≡ None)
+        result (Unit {0}) (output.new ≡ output.old) }
+    // A port and a ROM that make no map have the status 2, unless memory runs out.
+    ensures bad_map { (a : PageAsked) → asked (texts words.entry.now) ≡ Some a
+        → Fits page (texts words.entry.now)
+        → is_map a.file.rom a.file.port ≡ false → (result ≡ 2) ⊎ (result ≡ 3) }
+{
+    match read_page_words(rt.alloc(), words) {
+        Ok(words) => show_words(rt, &words, errors),
+        Err(fault) => refused_words(fault, output, errors),
+    }
+}

@@ -1,0 +1,5 @@
+pub mod Turning
+pub mod Stepping
+pub mod Recording
+pub mod Sending
+pub mod Whole

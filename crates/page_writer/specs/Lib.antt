@@ -1,0 +1,4 @@
+pub mod Steps
+pub mod Data
+pub mod Turns
+pub mod Page
