@@ -7,13 +7,14 @@ use Rattle.std.proofs.KnownBytes.{Appends-nil, Appends-trans}
 use Rattle.arguments.specs.Statuses.{status_of_load}
 use Rattle.arguments.specs.Words.{texts}
 use Rattle.arguments.specs.declared.load_fault.LoadFault.{LoadFault}
-use Rattle.arguments.specs.declared.load_fault.LoadFault.TheVariants.{AtPort, Faults, LooksLikeTape, Refused}
+use Rattle.arguments.specs.declared.load_fault.LoadFault.TheVariants.{AtPort, Faults, LooksLikeHex, LooksLikeSRecords, LooksLikeTape, NoImage, Refused}
 use Rattle.arguments.specs.declared.refusal.Refusal.TheVariants.{Words, Map as NoMap, Source, Tape, Session as NoSession, OutOfMemory, Read, Write}
 use Rattle.checking.specs.CommandLine.{CheckAsked}
 use Rattle.checking.specs.Files.{AreBegun, AreKeptBack, AreOutcomes, AreTried, IsBegun, IsOutcome, IsTried, Outcome, said_of, worst_of}
 use Rattle.checking.specs.Found.{EndsFile, IsFound, has_slips}
 use Rattle.checking.specs.declared.text.CheckedText.{CheckedText}
 use Rattle.clap.specs.Words.{Text}
+use Rattle.image_files.specs.Looks.{EndsLooks}
 use Rattle.model.specs.Writers.{AppendsFront}
 
 -- ---- one file
@@ -59,6 +60,9 @@ kept_back asked file why held now U status ends is same unwritten = record {
 -- which status it then has
 pub kept_status : (why : LoadFault) → EndsFile why → (2 ≤ status_of_load why) × (status_of_load why ≤ 4)
 kept_status LooksLikeTape ends = (omega arith, omega arith)
+kept_status LooksLikeHex ends = (omega arith, omega arith)
+kept_status LooksLikeSRecords ends = (omega arith, omega arith)
+kept_status (NoImage place what number) ends = absurd ends
 kept_status (Faults fault text) ends = absurd ends
 kept_status (AtPort first last free) ends = absurd ends
 kept_status (Refused Words) ends = absurd ends
@@ -69,6 +73,23 @@ kept_status (Refused (NoSession fault)) ends = absurd ends
 kept_status (Refused OutOfMemory) ends = (omega arith, omega arith)
 kept_status (Refused (Read why)) ends = (omega arith, omega arith)
 kept_status (Refused Write) ends = absurd ends
+
+-- why a text is no source
+pub looks_end : (text : List ℕ) (why : LoadFault) → EndsLooks text why → EndsFile why
+looks_end text LooksLikeTape ends = (text, ends)
+looks_end text LooksLikeHex ends = (text, ends)
+looks_end text LooksLikeSRecords ends = (text, ends)
+looks_end text (NoImage place what number) ends = absurd ends
+looks_end text (Faults fault told) ends = absurd ends
+looks_end text (AtPort first last free) ends = absurd ends
+looks_end text (Refused OutOfMemory) ends = tt
+looks_end text (Refused Words) ends = absurd ends
+looks_end text (Refused (NoMap fault)) ends = absurd ends
+looks_end text (Refused (Source fault)) ends = absurd ends
+looks_end text (Refused (Tape fault)) ends = absurd ends
+looks_end text (Refused (NoSession fault)) ends = absurd ends
+looks_end text (Refused (Read why)) ends = absurd ends
+looks_end text (Refused Write) ends = absurd ends
 
 -- ---- lists of outcomes
 

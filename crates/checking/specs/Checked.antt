@@ -3,7 +3,7 @@ use Rattle.std.specs.Prelude.{ℕ, List, [], ◌∷◌}
 use Rattle.fault_notes.specs.Blocks.{IsTold}
 use Rattle.model.specs.declared.instruction.Profile.{Profile}
 use Rattle.model.specs.declared.source_fault.AsmFault.{AsmFault}
-use Rattle.checking.specs.Blocks.{IsWarnedText}
+use Rattle.warning_notes.specs.Blocks.{IsWarnedText}
 use Rattle.warnings.specs.declared.kinds.Warning.{Warning}
 
 -- The faults of a source are written, or the warnings if there is no fault.

@@ -1,15 +1,15 @@
 -- What `check` finds of a source, and what it writes of it. Source: mos65.
 use Rattle.std.specs.Prelude.{◌≡◌, ⊤, ℕ, ◌==◌, ◌&&◌, ◌||◌, Bool, not, true, false, List, None, length}
 use Rattle.arguments.specs.declared.load_fault.LoadFault.{LoadFault}
-use Rattle.arguments.specs.declared.load_fault.LoadFault.TheVariants.{AtPort, Faults, LooksLikeTape, Refused}
+use Rattle.arguments.specs.declared.load_fault.LoadFault.TheVariants.{LooksLikeHex, LooksLikeSRecords, LooksLikeTape, Refused}
 use Rattle.arguments.specs.declared.refusal.Refusal.TheVariants.{OutOfMemory, Read}
 use Rattle.checking.specs.Checked.{IsCheckedText}
 use Rattle.checking.specs.CommandLine.{CheckAsked, map_asked}
 use Rattle.checking.specs.declared.text.CheckedText.{CheckedText}
 use Rattle.clap.specs.Words.{Text}
+use Rattle.image_files.specs.Looks.{EndsLooks}
 use Rattle.model.specs.AllFaults.{faults_of}
 use Rattle.model.specs.State.{is_map}
-use Rattle.papertape.specs.Hint.{BeginsTape}
 use Rattle.warnings.specs.Warnings.{warnings_of}
 
 -- The port that is asked for makes a map.
@@ -30,16 +30,16 @@ pub record IsFound (asked : CheckAsked) (file : Text) (found : CheckedText) : Ty
 abbrev pub has_slips : Bool → CheckedText → Bool
 has_slips strict found = found.is_faulty || (strict && found.is_warned)
 
--- A text begins with a record of a tape. No clause can say which text a file has.
-abbrev pub HasTape : Type 0
-HasTape = (text : List ℕ) × BeginsTape text
+-- Some text is refused so as a source. No clause can say which text a file has.
+abbrev pub HasImage : LoadFault → Type 0
+HasImage fault = (text : List ℕ) × EndsLooks text fault
 
--- Why the source of a file was not checked: the file begins with a record of a tape or cannot be
+-- Why the source of a file was not checked: the file begins with a record of an image or cannot be
 -- read. Memory may run out at any file.
 abbrev pub EndsFile : LoadFault → Type 0
-EndsFile LooksLikeTape = HasTape
-EndsFile (Faults fault text) = ⊥
-EndsFile (AtPort first last free) = ⊥
+EndsFile LooksLikeTape = HasImage LooksLikeTape
+EndsFile LooksLikeHex = HasImage LooksLikeHex
+EndsFile LooksLikeSRecords = HasImage LooksLikeSRecords
 EndsFile (Refused OutOfMemory) = ⊤
 EndsFile (Refused (Read why)) = ⊤
-EndsFile (Refused refusal) = ⊥
+EndsFile fault = ⊥

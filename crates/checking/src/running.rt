@@ -13,10 +13,38 @@ use arguments::{
     LoadFault, NotWritten, Refusal, map_of, read_source, refuse, refused_words, write_text,
 };
 use bus::MapSpec;
-use papertape::looks_like_tape;
+use image_files::refuse_image;
 use std::alloc::Global;
 use std::io::Write;
 use std::rt::Files;
+
+/// Refuses a text that is given as a source, and begins with a record of an image.
+#[tactic(auto, using(crate::proofs::OneMore::looks_end))]
+fn refused_image(alloc: Global, source: &[u8]) -> Result<(), LoadFault>
+    ensures { IfErr result EndsFile }
+{
+    match refuse_image(alloc, source) {
+        Ok(()) => Ok(()),
+        Err(fault) => Err(fault),
+    }
+}
+
+/// Returns what is to be written of a source. The only error is that memory ran out.
+fn found_of(
+    alloc: Global,
+    words: &CheckWords<'_>,
+    map: &MapSpec,
+    file: &str,
+    source: &[u8],
+) -> Result<CheckedText, LoadFault>
+    requires { map.now ≡ map_asked (check_view words.now) }
+    ensures found { IfOk result (IsFound (check_view words.now) file.now) }
+    ensures refused { IfErr result EndsFile }
+{
+    checked_text(alloc, file.as_bytes(), source, map).map_err(|_| LoadFault::Refused(
+        Refusal::OutOfMemory,
+    ))
+}
 
 /// Returns what is to be written of a file's source, or why nothing is.
 fn found_in(
@@ -30,14 +58,10 @@ fn found_in(
     ensures found { IfOk result (IsFound (check_view words.now) file.now) }
     ensures refused { IfErr result EndsFile }
 {
-    match looks_like_tape(alloc, source) {
-        Ok(true) => return Err(LoadFault::LooksLikeTape),
-        Ok(false) => {}
-        Err(_) => return Err(LoadFault::Refused(Refusal::OutOfMemory)),
+    match refused_image(alloc, source) {
+        Ok(()) => found_of(alloc, words, map, file, source),
+        Err(fault) => Err(fault),
     }
-    checked_text(alloc, file.as_bytes(), source, map).map_err(|_| LoadFault::Refused(
-        Refusal::OutOfMemory,
-    ))
 }
 
 /// Returns what is to be written of a file, or why nothing is.
@@ -172,7 +196,7 @@ fn done<H: Files + AllocGlobal, O: Write, E: Write>(
 /// Does what the words of `check` ask for, its own name left out, and returns the exit status.
 ///
 /// Each file has a status of its own: 0 if its source has no fault, 1 if it has one, 2 if it looks
-/// like a tape, 3 if memory ran out, 4 if it cannot be read. With `--strict` it is also 1 if the
+/// like an image, 3 if memory ran out, 4 if it cannot be read. With `--strict` it is also 1 if the
 /// source has a warning. The exit status is the highest of them; it is 2 if the words or the map
 /// are wrong, and 4 if the output fails, and then no further file is read.
 ///
@@ -197,8 +221,8 @@ pub fn check<H: Files + AllocGlobal, O: Write, E: Write>(
     ensures told { result ≡ 1 → Asks (texts words.entry.now) (λ asked. IsDone asked
         (O.contents output.old) (O.contents output.new) (output.new ≡ output.old) 1) }
     // 2 means that the words do not fit, that a value is wrong, or that the port makes no map, and
-    // then the output is unchanged; or that one of the files at least begins with a record of a
-    // tape, and the others were tried. No clause can say which text a file has.
+    // then the output is unchanged; or that one of the files at least begins with a record of an
+    // image, and the others were tried. No clause can say which text a file has.
     ensures refused { result ≡ 2 → Misfits check (texts words.entry.now)
         ⊎ ((Fits check (texts words.entry.now)
         × (check_asked (texts words.entry.now) ≡ None))

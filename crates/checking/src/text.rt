@@ -6,11 +6,11 @@ ghost use Rattle.model.specs.AllFaults.{faults_of};
 ghost use Rattle.model.specs.Source.{Denotes};
 ghost use Rattle.warnings.specs.Warnings.{warnings_of};
 
-use crate::block::warnings_text;
 use bus::MapSpec;
 use fault_notes::faults_text;
 use source_faults::source_faults;
 use std::alloc::{AllocError, Global};
+use warning_notes::warnings_text;
 use warnings::source_warnings;
 
 /// What `check` writes of a source, and whether it is of faults or of warnings.

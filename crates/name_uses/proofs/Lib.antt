@@ -1,0 +1,4 @@
+pub mod Reserved
+pub mod Steps
+pub mod Named
+pub mod PickedSteps

@@ -1,0 +1,6 @@
+pub mod Uses
+pub mod Grammar
+pub mod Registers
+pub mod Views
+pub mod Picked
+pub mod Places

@@ -1,0 +1,21 @@
+//! The names of a source where they stand: each definition and each use, by the source's tokens.
+//!
+//! `name_uses` is the call, `picked` has those of one name, `name_at` the one at a place, and
+//! `is_name` says whether a text may be a name. `Uses.antt`, `Picked.antt` and `Places.antt` define
+//! them. A law (`law`) says that the names found in a line are exactly those that the grammar reads
+//! in it, in their order.
+#![tactic(auto)]
+
+mod law;
+mod lines;
+mod name_use;
+mod picks;
+mod place;
+mod words;
+
+pub use law::names_are_the_grammars;
+pub use lines::name_uses;
+pub use name_use::NameUse;
+pub use picks::{Part, picked};
+pub use place::name_at;
+pub use words::is_name;

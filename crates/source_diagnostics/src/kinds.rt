@@ -1,0 +1,43 @@
+//! A fault or a warning.
+
+use model::AsmFaultKind;
+use source_notes::Note;
+use warning_notes::kind_name;
+use warnings::WarningKind;
+
+/// What kind of fault or warning it is.
+#[derive(Clone, Copy, Debug, PartialEq, Eq)]
+pub enum DiagnosticKind {
+    /// A fault of the source.
+    Fault(AsmFaultKind),
+    /// What may be meant otherwise, in a source without a fault.
+    Warning(WarningKind),
+}
+
+impl DiagnosticKind {
+    /// Returns its name, as `check` writes it.
+    pub fn name(self) -> &'static str {
+        match self {
+            DiagnosticKind::Fault(kind) => kind.name(),
+            DiagnosticKind::Warning(kind) => kind_name(kind),
+        }
+    }
+
+    /// Returns whether it is a fault.
+    pub fn is_fault(self) -> bool {
+        match self {
+            DiagnosticKind::Fault(_) => true,
+            DiagnosticKind::Warning(_) => false,
+        }
+    }
+}
+
+/// A fault or a warning of a source.
+#[derive(Drop)]
+pub struct Diagnostic {
+    /// The number of its line, counted from 1; 0 if it is of no line.
+    pub line: u32,
+    pub kind: DiagnosticKind,
+    /// The bytes of the line that are meant, and what is said.
+    pub note: Note,
+}

@@ -1,0 +1,20 @@
+use Rattle.std.proofs.Common.{◌-◌, arith, drop, length, slice_index_or, take}
+use Rattle.source_renaming.proofs.Bytes.{column_near, line_near, met_within, slice_is, step_done, text_done}
+use Rattle.source_renaming.proofs.text.replaced.Goals as goal
+
+pub loop-byte-preserved : goal.loop-byte-preserved
+loop-byte-preserved c =
+    let uses = c.args.uses.now in
+    let next = c.loop-byte.next in
+    let given = take (length uses - next) (drop next uses) in
+    let b = slice_index_or c.args.source.now c.loop-byte.byte-index 0 in
+    record {
+      written = step_done c.args.word.now c.args.source.now c.loop-byte.byte-index uses given next c.in_ok-more.met c.loop-byte.place.line c.loop-byte.place.column c.loop-byte.left _ _ _ c.loop-byte.text.items _ _
+          (omega (arith, c.loop-byte-test.true)) (slice_is uses next) c.after-place.ensures.line c.after-place.ensures.column c.in_ok-more.ensures.text c.in_ok-more.ensures.rest c.in_ok-more.ensures.left c.loop-byte.invariant.written;
+      lines = omega (arith, c.after-place.ensures.line, line_near b c.loop-byte.place.line, c.loop-byte.invariant.lines);
+      columns = omega (arith, c.after-place.ensures.column, column_near b c.loop-byte.place.column, c.loop-byte.invariant.columns);
+      within = met_within uses given next c.in_ok-more.met c.loop-byte.invariant.within (slice_is uses next) c.in_ok-more.ensures.within;
+    }
+
+pub returns : goal.returns
+returns c = text_done c.args.word.now c.args.source.now c.loop-byte.byte-index _ _ _ _ _ _ (omega (arith, c.loop-byte-test.false)) c.loop-byte.invariant.written

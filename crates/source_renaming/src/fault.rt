@@ -1,0 +1,26 @@
+//! Why a name is not changed.
+
+/// Why a name is not changed to another one.
+#[derive(Clone, Copy, Debug, PartialEq, Eq)]
+pub enum RenameFault {
+    /// The new name is no name in the profile.
+    NoName,
+    /// The new name stands in the source already.
+    Taken,
+    /// The source denotes an image, and with the new name it would not denote the same one, since a
+    /// line or the source would have too many bytes.
+    Changed,
+    /// An allocation failed.
+    OutOfMemory,
+}
+
+impl From<std::alloc::AllocError> for RenameFault {
+    ghost use Rattle.std.specs.Prelude.{◌≡◌};
+    ghost use Rattle.source_renaming.specs.declared.fault.RenameFault.TheVariants.{OutOfMemory};
+
+    ghost from_gives = { λ _ e. e ≡ OutOfMemory };
+
+    fn from(_error: std::alloc::AllocError) -> RenameFault {
+        RenameFault::OutOfMemory
+    }
+}
