@@ -1,0 +1,83 @@
+//! The values of answers.
+
+ghost use Rattle.std.specs.Prelude.{◌≡◌, IfOk};
+ghost use Rattle.lsp.specs.Replies.{notice_data, result_data};
+ghost use Rattle.serde_json.specs.View.{view};
+
+use serde_json::{Value, json};
+use std::alloc::{AllocError, Global};
+
+/// Why a request is refused, with the number of the protocol.
+#[derive(Clone, Copy, Debug, PartialEq, Eq)]
+pub enum Failure {
+    /// The body of a message is no JSON.
+    NotJson,
+    /// A message is no request.
+    NoRequest,
+    /// A method that is not served.
+    UnknownMethod,
+    /// A method without what it needs.
+    WrongParameters,
+    /// A request before `initialize`.
+    NotInitialized,
+    /// A request that cannot be done, as a name that is taken.
+    Refused,
+}
+
+impl Failure {
+    /// Returns its number. Source: JSON-RPC 2.0, "Error object"; Language Server Protocol 3.17,
+    /// "ErrorCodes".
+    fn number(self) -> i64 {
+        match self {
+            Failure::NotJson => -32700,
+            Failure::NoRequest => -32600,
+            Failure::UnknownMethod => -32601,
+            Failure::WrongParameters => -32602,
+            Failure::NotInitialized => -32002,
+            Failure::Refused => -32803,
+        }
+    }
+}
+
+/// Returns the answer to a request: its number, and a result.
+pub fn result_reply(alloc: Global, id: &Value, given: Value) -> Result<Value, AllocError>
+    ensures { IfOk result (λ v. view v ≡ result_data (view id.now) (view given)) }
+{
+    json!(in alloc; {"id": id, "jsonrpc": "2.0", "result": given})
+}
+
+/// Returns the answer to a request that fails: its number, why, and words.
+pub fn failure_reply(
+    alloc: Global,
+    id: &Value,
+    failure: Failure,
+    words: &str,
+) -> Result<Value, AllocError> {
+    json!(in alloc; {
+        "error": {"code": failure.number(), "message": words}, "id": id, "jsonrpc": "2.0"
+    })
+}
+
+/// Returns a notice of the server.
+pub fn notice(alloc: Global, method: &str, params: Value) -> Result<Value, AllocError>
+    ensures { IfOk result (λ v. view v ≡ notice_data method.now (view params)) }
+{
+    json!(in alloc; {"jsonrpc": "2.0", "method": method, "params": params})
+}
+
+/// Returns what the server can do.
+pub fn capabilities(alloc: Global) -> Result<Value, AllocError> {
+    json!(in alloc; {
+        "capabilities": {
+            "completionProvider": {},
+            "definitionProvider": true,
+            "documentSymbolProvider": true,
+            "hoverProvider": true,
+            "positionEncoding": "utf-16",
+            "referencesProvider": true,
+            "renameProvider": true,
+            "textDocumentSync": {"change": 1, "openClose": true}
+        },
+        "serverInfo": {"name": "mos65"}
+    })
+}

@@ -1,0 +1,162 @@
+//! Messages taken from the input, one after another, and answered.
+
+ghost use Rattle.std.specs.Prelude.{◌≡◌, ◌≤◌, IfOk, IfSome};
+
+use crate::server::{Phase, Server, asks_for_end, not_json, serve};
+use crate::words::{LspWords, read_words};
+use arguments::{Refusal, map_of, put_all, refuse, refused_words};
+use bus::MapSpec;
+use message_stream::{Incoming, StreamFault, write_message};
+use serde_json::Value;
+use std::alloc::{AllocError, Global};
+use std::io::{Read, Write};
+
+/// Writes values as messages, and flushes the output behind each.
+///
+/// Errors: `Write` if the output fails; `OutOfMemory` if an allocation fails.
+fn tell<O: Write>(alloc: Global, values: &[Value], output: &mut O) -> Result<(), StreamFault> {
+    for value in values {
+        match value.to_string(alloc) {
+            Ok(text) => write_message(alloc, output, text.as_bytes())?,
+            Err(_) => return Err(StreamFault::OutOfMemory),
+        }
+    }
+    Ok(())
+}
+
+/// Returns the value of a body, or nothing if it is no JSON. The only error is that a request for
+/// memory was refused.
+fn value_of(alloc: Global, body: &[u8]) -> Result<Option<Value>, AllocError> {
+    match Value::from_slice(alloc, body) {
+        Ok(value) => Ok(Some(value)),
+        Err(error) if error.is_memory() => Err(AllocError),
+        Err(_) => Ok(None),
+    }
+}
+
+/// Returns what is told after a message, and the exit status if it asks for the end.
+fn served(
+    alloc: Global,
+    map: &MapSpec,
+    server: &mut Server,
+    body: &[u8],
+) -> Result<(Vec<Value>, Option<u8>), AllocError>
+    ensures { IfOk result (λ p. IfSome p.1 (λ status. status ≤ 1)) }
+{
+    let Some(message) = value_of(alloc, body)? else {
+        return Ok((not_json(alloc)?, None));
+    };
+    match asks_for_end(server, &message) {
+        Some(status) => Ok((Vec::new(alloc), Some(status))),
+        None => Ok((serve(alloc, map, server, &message)?, None)),
+    }
+}
+
+/// Serves messages up to one that asks for the end, and returns the exit status: each is answered,
+/// and the answer flushed, before the next is read. Without such a message the end of the input is
+/// an end with 0 after `shutdown`, and cut off otherwise.
+///
+/// Errors: those of `Incoming::next`; `Cut` if the input ends before `shutdown`; `Write` if the
+/// output fails; `OutOfMemory` if an allocation fails.
+fn attend<R: Read, O: Write>(
+    alloc: Global,
+    map: &MapSpec,
+    input: &mut R,
+    output: &mut O,
+) -> Result<u8, StreamFault>
+    ensures { IfOk result (λ status. status ≤ 1) }
+{
+    let mut incoming = Incoming::new(alloc);
+    let mut server = Server::new(alloc);
+    for _ in 0..u64::MAX {
+        let Some(body) = incoming.next(alloc, input)? else {
+            if server.phase == Phase::ShutDown {
+                return Ok(0);
+            }
+            return Err(StreamFault::Cut);
+        };
+        let Ok((values, end)) = served(alloc, map, &mut server, &body) else {
+            return Err(StreamFault::OutOfMemory);
+        };
+        tell(alloc, &values, output)?;
+        if let Some(status) = end {
+            return Ok(status);
+        }
+    }
+    Err(StreamFault::Read)
+}
+
+/// Returns why a session ends before its end is asked for, in words.
+fn reason(fault: StreamFault) -> &'static str {
+    match fault {
+        StreamFault::NoLength => "a header of the input gives no length of a message",
+        StreamFault::LongHeader => "a header of the input has more than 4096 bytes",
+        StreamFault::Cut => "the input ends before exit",
+        StreamFault::Read => "the input cannot be read",
+        StreamFault::Write => "the output cannot be written",
+        StreamFault::OutOfMemory => "memory ran out",
+    }
+}
+
+/// Tells why a session ends before its end is asked for, and returns the exit status.
+fn cut_off<E: Write>(fault: StreamFault, errors: &mut E) -> u8
+    ensures least { 3 ≤ result }
+    ensures most { result ≤ 4 }
+{
+    match fault {
+        StreamFault::OutOfMemory => refuse(Refusal::OutOfMemory, errors),
+        fault => {
+            put_all(&[b"mos65: ", reason(fault).as_bytes(), b"\n"], errors);
+            4
+        }
+    }
+}
+
+/// Serves a session on the map of the words, and returns the exit status.
+fn done<R: Read, O: Write, E: Write>(
+    alloc: Global,
+    words: &LspWords,
+    input: &mut R,
+    output: &mut O,
+    errors: &mut E,
+) -> u8
+    ensures status { result ≤ 4 }
+    ensures quiet { result ≤ 1 → errors.new ≡ errors.old }
+    ensures unread { result ≡ 2 → input.new ≡ input.old }
+    ensures untouched { result ≡ 2 → output.new ≡ output.old }
+{
+    let map = match map_of(words.profile, None, words.port) {
+        Ok(map) => map,
+        Err(fault) => return refuse(Refusal::from(fault), errors),
+    };
+    match attend(alloc, &map, input, output) {
+        Ok(status) => status,
+        Err(fault) => cut_off(fault, errors),
+    }
+}
+
+/// Does what the words of `lsp` ask for, its own name left out, and returns the exit status: serves
+/// the messages of `input`, and writes what is answered on `output`.
+///
+/// The status is 0 after `shutdown` and `exit`, 1 after `exit` alone, 2 if the words or the map are
+/// wrong, 3 if memory ran out, and 4 if the input ends or has a header that gives no length, or a
+/// stream fails; a line on `errors` says why.
+pub fn lsp<H: AllocGlobal, R: Read, O: Write, E: Write>(
+    rt: &H,
+    words: &[&str],
+    input: &mut R,
+    output: &mut O,
+    errors: &mut E,
+) -> u8
+    ensures status { result ≤ 4 }
+    // After `exit` nothing is written on the error stream.
+    ensures quiet { result ≤ 1 → errors.new ≡ errors.old }
+    // If the words or the map are wrong, nothing is read and nothing is answered.
+    ensures unread { result ≡ 2 → input.new ≡ input.old }
+    ensures untouched { result ≡ 2 → output.new ≡ output.old }
+{
+    match read_words(rt.alloc(), words) {
+        Ok(words) => done(rt.alloc(), &words, input, output, errors),
+        Err(fault) => refused_words(fault, output, errors),
+    }
+}

@@ -1,0 +1,89 @@
+//! A source with its lines and names.
+
+use crate::columns::{character_of, column_of};
+use crate::values::range;
+use model::Profile;
+use name_uses::{NameUse, name_at, name_uses};
+use serde_json::Value;
+use source_notes::{every_line, line_of, line_or_none};
+use std::alloc::{AllocError, Global};
+
+/// The most bytes that a source has (mos65).
+const SOURCE_SIZE: usize = 1_048_576;
+
+/// A source with its lines and its names. One of too many bytes has none of either.
+#[derive(Drop)]
+pub struct Text<'a> {
+    pub profile: Profile,
+    pub source: &'a [u8],
+    pub lines: Vec<&'a [u8]>,
+    /// Where its names stand, in their order.
+    pub uses: Vec<NameUse<'a>>,
+}
+
+impl<'a> Text<'a> {
+    /// Finds the lines and the names of a source in a profile. The only error is that a request for
+    /// memory was refused.
+    pub fn read(alloc: Global, profile: Profile, source: &'a [u8]) -> Result<Text<'a>, AllocError> {
+        if source.len() > SOURCE_SIZE {
+            return Ok(Text {
+                profile,
+                source,
+                lines: Vec::new(alloc),
+                uses: Vec::new(alloc),
+            });
+        }
+        let lines = every_line(alloc, source)?;
+        let uses = name_uses(alloc, profile, source)?;
+        Ok(Text {
+            profile,
+            source,
+            lines,
+            uses,
+        })
+    }
+
+    /// Returns the line of this number, counted from 1; empty where there is none.
+    pub fn line(&self, number: u32) -> &'a [u8] {
+        line_or_none(line_of(&self.lines, number))
+    }
+
+    /// Returns the number of a line that the protocol counts from 0, if there is such a line.
+    pub fn number(&self, line: u64) -> Option<u32> {
+        if line < self.lines.len() as u64 && line < 4294967295 {
+            Some(line as u32 + 1)
+        } else {
+            None
+        }
+    }
+
+    /// Returns the name at a place as the protocol counts it, if one stands there.
+    pub fn name_at(&self, line: u64, character: u64) -> Option<NameUse<'a>> {
+        let number = self.number(line)?;
+        let text = self.line(number);
+        let column = column_of(text, character);
+        name_at(&self.uses, number, column)
+    }
+
+    /// Returns the range of so many bytes from a column of a line on. The only error is that a
+    /// request for memory was refused.
+    pub fn range(
+        &self,
+        alloc: Global,
+        number: u32,
+        start: usize,
+        width: usize,
+    ) -> Result<Value, AllocError> {
+        let line = self.line(number);
+        let end = start.saturating_add(width);
+        let row = (number as u64).saturating_sub(1);
+        let from = character_of(line, start);
+        let to = character_of(line, end);
+        range(alloc, row, from, to)
+    }
+
+    /// Returns the range of a name. The only error is that a request for memory was refused.
+    pub fn range_of(&self, alloc: Global, one: &NameUse<'_>) -> Result<Value, AllocError> {
+        self.range(alloc, one.line, one.start, one.text.len())
+    }
+}

@@ -1,0 +1,161 @@
+//! A message read.
+
+ghost use Rattle.std.specs.Prelude.{◌≡◌};
+ghost use Rattle.std.specs.Option.{option_map};
+ghost use Rattle.serde_json.specs.View.{view};
+ghost use Rattle.lsp_requests.specs.Requests.{by_method, by_method_of_text, change_of, close_of};
+ghost use Rattle.lsp_requests.specs.Requests.{completion_of, definition_of, hover_of, open_of};
+ghost use Rattle.lsp_requests.specs.Requests.{references_of, rename_at, rename_of, request_of, symbols_of};
+ghost use Rattle.lsp_requests.specs.Views.{place_view, request_view};
+
+use crate::asked::{Place, Request};
+use crate::fields::{changed_text, flag_at, place_of, text_at, uri_of};
+use serde_json::Value;
+
+/// Reads `textDocument/didOpen`.
+fn open_of(message: &Value) -> Request<'_>
+    ensures { request_view result ≡ open_of (view message.now) }
+{
+    match (
+        uri_of(message),
+        text_at(message, "/params/textDocument/text"),
+    ) {
+        (Some(uri), Some(text)) => Request::Open { uri, text },
+        _ => Request::Invalid,
+    }
+}
+
+/// Reads `textDocument/didChange`.
+fn change_of(message: &Value) -> Request<'_>
+    ensures { request_view result ≡ change_of (view message.now) }
+{
+    match (uri_of(message), changed_text(message)) {
+        (Some(uri), Some(text)) => Request::Change { uri, text },
+        _ => Request::Invalid,
+    }
+}
+
+/// Reads `textDocument/didClose`.
+fn close_of(message: &Value) -> Request<'_>
+    ensures { request_view result ≡ close_of (view message.now) }
+{
+    match uri_of(message) {
+        Some(uri) => Request::Close { uri },
+        None => Request::Invalid,
+    }
+}
+
+/// Reads `textDocument/documentSymbol`.
+fn symbols_of(message: &Value) -> Request<'_>
+    ensures { request_view result ≡ symbols_of (view message.now) }
+{
+    match uri_of(message) {
+        Some(uri) => Request::Symbols { uri },
+        None => Request::Invalid,
+    }
+}
+
+/// Reads `textDocument/completion`.
+fn completion_of(message: &Value) -> Request<'_>
+    ensures { request_view result ≡ completion_of (view message.now) }
+{
+    match uri_of(message) {
+        Some(uri) => Request::Completion { uri },
+        None => Request::Invalid,
+    }
+}
+
+/// Reads `textDocument/hover`.
+fn hover_of(message: &Value) -> Request<'_>
+    ensures { request_view result ≡ hover_of (view message.now) }
+{
+    match place_of(message) {
+        Some(place) => Request::Hover(place),
+        None => Request::Invalid,
+    }
+}
+
+/// Reads `textDocument/definition`.
+fn definition_of(message: &Value) -> Request<'_>
+    ensures { request_view result ≡ definition_of (view message.now) }
+{
+    match place_of(message) {
+        Some(place) => Request::Definition(place),
+        None => Request::Invalid,
+    }
+}
+
+/// Reads `textDocument/references`.
+fn references_of(message: &Value) -> Request<'_>
+    ensures { request_view result ≡ references_of (view message.now) }
+{
+    match place_of(message) {
+        Some(place) => Request::References {
+            place,
+            declares: flag_at(message, "/params/context/includeDeclaration"),
+        },
+        None => Request::Invalid,
+    }
+}
+
+/// Returns the request for another name for the name at a place, if one is given.
+fn rename_at<'a>(place: Place<'a>, name: Option<&'a str>) -> Request<'a>
+    ensures { request_view result
+        ≡ rename_at (place_view place.entry) (option_map (λ s. s.now) name.entry) }
+{
+    match name {
+        Some(name) => Request::Rename { place, name },
+        None => Request::Invalid,
+    }
+}
+
+/// Reads `textDocument/rename`.
+fn rename_of(message: &Value) -> Request<'_>
+    ensures { request_view result ≡ rename_of (view message.now) }
+{
+    match place_of(message) {
+        Some(place) => rename_at(place, text_at(message, "/params/newName")),
+        None => Request::Invalid,
+    }
+}
+
+/// Reads a message that is about a document.
+fn by_method_of_text<'a>(method: &str, message: &'a Value) -> Request<'a>
+    ensures { request_view result ≡ by_method_of_text method.now (view message.now) }
+{
+    match method {
+        "textDocument/didOpen" => open_of(message),
+        "textDocument/didChange" => change_of(message),
+        "textDocument/didClose" => close_of(message),
+        "textDocument/hover" => hover_of(message),
+        "textDocument/definition" => definition_of(message),
+        "textDocument/references" => references_of(message),
+        "textDocument/rename" => rename_of(message),
+        "textDocument/documentSymbol" => symbols_of(message),
+        "textDocument/completion" => completion_of(message),
+        _ => Request::Unknown,
+    }
+}
+
+/// Reads a message of a method.
+fn by_method<'a>(method: &str, message: &'a Value) -> Request<'a>
+    ensures { request_view result ≡ by_method method.now (view message.now) }
+{
+    match method {
+        "initialize" => Request::Initialize,
+        "shutdown" => Request::Shutdown,
+        "exit" => Request::Exit,
+        method => by_method_of_text(method, message),
+    }
+}
+
+/// Returns what a message asks for, by its method, and by what stands in it. Source: Language
+/// Server Protocol 3.17.
+pub fn read_request(message: &Value) -> Request<'_>
+    ensures { request_view result ≡ request_of (view message.now) }
+{
+    match text_at(message, "/method") {
+        Some(method) => by_method(method, message),
+        None => Request::NoMethod,
+    }
+}

@@ -1,0 +1,4 @@
+pub mod Fronts
+pub mod Taking
+pub mod ReadAgain
+pub mod Stays

@@ -1,0 +1,115 @@
+//! Messages taken from a reader.
+
+ghost use Rattle.std.specs.Prelude.{◌≡◌, ◌++◌, [], ℕ, IfErr, IfOk, List, MatchOption, MatchResult};
+ghost use Rattle.std.specs.Prelude.{OnErr, OnOk, drop, false, take};
+ghost use Rattle.std.specs.Io.KnownBytes.{Consumes, IsAtEnd, Keeps};
+ghost use Rattle.message_stream.specs.Messages.{IsFront, front_of};
+ghost use Rattle.message_stream.specs.Taken.{IsOver, IsUnread, IsUntaken};
+ghost use Rattle.message_stream.specs.declared.front.Front.TheVariants.{Message};
+
+use crate::fault::StreamFault;
+use crate::front::{Front, front_of};
+use std::alloc::{AllocError, Global};
+use std::io::Read;
+use std::marker::Model;
+
+/// The bytes that were read from a stream and belong to no message that was taken.
+#[derive(Drop)]
+pub struct Incoming {
+    held: Vec<u8>,
+}
+
+impl Model for Incoming {
+    ghost use Rattle.std.specs.Prelude.{ℕ, List};
+
+    ghost Value = { List ℕ };
+
+    ghost view = { λ incoming. incoming.held.items };
+}
+
+impl Incoming {
+    /// Makes a stream of which nothing was read.
+    pub fn new(alloc: Global) -> Incoming
+        ensures { result ≡ [] }
+    {
+        Incoming {
+            held: Vec::new(alloc),
+        }
+    }
+
+    /// Takes the message in front, whose body has the bytes from `start` up to `end`. Nothing is
+    /// changed if memory ran out.
+    fn take(&mut self, alloc: Global, start: usize, end: usize) -> Result<Vec<u8>, AllocError>
+        requires { front_of self.old ≡ Message start end }
+        ensures taken { IfOk result (λ body. IsFront self.old body.items self.new) }
+        ensures memory { OnErr result (self.new ≡ self.old) }
+    {
+        let body = Vec::from_slice(alloc, &self.held[start..end])?;
+        self.held = Vec::from_slice(alloc, &self.held[end..])?;
+        Ok(body)
+    }
+
+    /// Reads some bytes, and returns whether there were any.
+    fn fill<R: Read>(&mut self, reader: &mut R) -> Result<bool, StreamFault>
+        ensures read { (told : List ℕ)
+            × Consumes (R.remaining reader.old) (R.remaining reader.new) told
+            × (OnOk result (self.new ≡ self.old ++ told)) }
+        ensures end { IfOk result (λ is_more. is_more ≡ false
+            → (self.new ≡ self.old) × IsAtEnd (R.remaining reader.new)) }
+        ensures kept { OnErr result (self.new ≡ self.old) }
+        ensures fault { IfErr result IsUnread }
+    {
+        let mut chunk = [0u8; 4096];
+        match reader.read(&mut chunk) {
+            Ok(0) => Ok(false),
+            Ok(n) => match self.held.extend_from_slice(&chunk[..n]) {
+                Ok(()) => Ok(true),
+                Err(_) => Err(StreamFault::OutOfMemory),
+            },
+            Err(_) => Err(StreamFault::Read),
+        }
+    }
+
+    /// Takes the next message and returns its body, or nothing if the stream has ended behind a
+    /// message. Reads only as long as no whole message stands in front.
+    ///
+    /// # Errors
+    ///
+    /// - `NoLength`: the header in front gives no length, or one of more than 16,777,216 bytes.
+    /// - `LongHeader`: the header in front has more than 4,096 bytes.
+    /// - `Cut`: the stream ends within a message.
+    /// - `Read`: a read failed. `OutOfMemory`: an allocation failed.
+    pub fn next<R: Read>(
+        &mut self,
+        alloc: Global,
+        reader: &mut R,
+    ) -> Result<Option<Vec<u8>>, StreamFault>
+        ensures taken { (told : List ℕ)
+            × Consumes (R.remaining reader.old) (R.remaining reader.new) told
+            × MatchResult result
+            (λ found. MatchOption found (IsOver (self.old ++ told) (R.remaining reader.new))
+            (λ body. IsFront (self.old ++ told) body.items self.new))
+            (IsUntaken (self.old ++ told) (R.remaining reader.new)) }
+    {
+        for _ in 0..u64::MAX {
+            match front_of(self.held.as_slice()) {
+                Front::Message { start, end } => {
+                    return match self.take(alloc, start, end) {
+                        Ok(body) => Ok(Some(body)),
+                        Err(_) => Err(StreamFault::OutOfMemory),
+                    };
+                }
+                Front::NoLength => return Err(StreamFault::NoLength),
+                Front::LongHeader => return Err(StreamFault::LongHeader),
+                Front::Open => {}
+            }
+            match self.fill(reader) {
+                Ok(true) => {}
+                Ok(false) if self.held.is_empty() => return Ok(None),
+                Ok(false) => return Err(StreamFault::Cut),
+                Err(fault) => return Err(fault),
+            }
+        }
+        Err(StreamFault::Read)
+    }
+}

@@ -1,0 +1,18 @@
+;;; mos65.el --- Sources of mos65, with its language server -*- lexical-binding: t -*-
+
+;; In the init file: (load "…/editors/emacs/mos65.el"). `M-x eglot' in such a buffer starts the server.
+
+(define-derived-mode mos65-mode prog-mode "mos65"
+  "A mode for sources of mos65."
+  (setq-local comment-start "; ")
+  (setq-local comment-start-skip ";+ *")
+  (modify-syntax-entry ?\; "<" mos65-mode-syntax-table)
+  (modify-syntax-entry ?\n ">" mos65-mode-syntax-table)
+  (modify-syntax-entry ?_ "w" mos65-mode-syntax-table))
+
+(add-to-list 'auto-mode-alist '("\\.a65\\'" . mos65-mode))
+
+(with-eval-after-load 'eglot
+  (add-to-list 'eglot-server-programs '(mos65-mode . ("mos65" "lsp"))))
+
+(provide 'mos65)
