@@ -1,0 +1,57 @@
+//! Requests.
+
+/// A move of the machine.
+#[derive(Clone, Copy, Debug, PartialEq, Eq)]
+pub enum Move {
+    /// One instruction, or a subroutine as one: `next`.
+    Over,
+    /// One instruction: `stepIn`, and `next` by instructions.
+    Step,
+    /// To the end of the subroutine: `stepOut`.
+    Out,
+    /// To a stop: `continue`.
+    Go,
+    /// Back over one instruction, or a subroutine as one: `stepBack`.
+    BackOver,
+    /// Back by one event: `stepBack` by instructions.
+    Back,
+    /// Back to a stop: `reverseContinue`.
+    BackToStop,
+}
+
+/// What a message asks for.
+#[derive(Clone, Copy, Debug, PartialEq, Eq)]
+pub enum Request {
+    /// What the adapter can do.
+    Initialize,
+    /// A session on a program.
+    Launch,
+    /// The breakpoints of a source, in place of those it had.
+    SetBreakpoints,
+    /// The end of what is set before the program runs.
+    ConfigurationDone,
+    /// The threads of the program.
+    Threads,
+    /// The frames of its stack.
+    StackTrace,
+    /// What a frame has variables of.
+    Scopes,
+    /// Variables with their values.
+    Variables,
+    /// Another value of a variable.
+    SetVariable,
+    /// A line of the console, or what a name stands for.
+    Evaluate,
+    /// A move of the machine.
+    Moves(Move),
+    /// A stop.
+    Pause,
+    /// The end of the program.
+    Terminate,
+    /// The end of the session.
+    Disconnect,
+    /// Another request.
+    Other,
+    /// No request.
+    NoRequest,
+}
