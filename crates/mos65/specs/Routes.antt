@@ -17,10 +17,11 @@ asks_for_help (word ∷ []) = bytes_eq word (codes "--help") || bytes_eq word (c
 asks_for_help words = false
 
 -- The words that one call each serves, by their names.
-abbrev pub added : List (Text × Route)
+unfoldable pub added : List (Text × Route)
 added = (codes "check", to.Check) ∷ (codes "info", to.Info) ∷ (codes "cmp", to.Cmp)
     ∷ (codes "mend", to.Mend) ∷ (codes "convert", to.Convert) ∷ (codes "test", to.Test)
-    ∷ (codes "mon", to.Mon) ∷ (codes "run", to.Run) ∷ (codes "trace", to.Trace) ∷ []
+    ∷ (codes "mon", to.Mon) ∷ (codes "run", to.Run) ∷ (codes "trace", to.Trace)
+    ∷ (codes "page", to.Page) ∷ (codes "lsp", to.Lsp) ∷ []
 
 -- The first of these of a name; the whole command line has all others.
 abbrev pub find : Text → List (Text × Route) → Route

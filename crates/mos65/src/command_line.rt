@@ -10,6 +10,8 @@ use clap::error::ErrorKind;
 use clap::{Command, Error};
 use dis_source::dis_source_command;
 use image_words::convert_command;
+use lsp::lsp_command;
+use page_words::page_command;
 use std::alloc::Global;
 use std::io::Write;
 use strict_debug::strict_debug_command;
@@ -51,8 +53,14 @@ fn with_runs<'a>(alloc: Global, command: Command<'a>) -> Result<Command<'a>, Err
     let command = with(command, run_command(alloc))?;
     let command = with(command, mon_command(alloc))?;
     let command = with(command, trace_command(alloc))?;
+    let command = with(command, page_command(alloc))?;
     let command = with(command, test_command(alloc))?;
     with(command, strict_debug_command(alloc))
+}
+
+/// Adds the words that serve an editor.
+fn with_editors<'a>(alloc: Global, command: Command<'a>) -> Result<Command<'a>, Error> {
+    with(command, lsp_command(alloc))
 }
 
 /// Returns the whole command line. The only error is that an allocation failed.
@@ -64,7 +72,7 @@ pub fn command_line<'a>(alloc: Global) -> Result<Command<'a>, Error> {
         .no_binary_name(true)
         .subcommand_required(true)
         .bin_name("mos65")?;
-    with_runs(alloc, with_files(alloc, command)?)
+    with_editors(alloc, with_runs(alloc, with_files(alloc, command)?)?)
 }
 
 /// Returns why words are refused that no word of the program serves. Help and the version are

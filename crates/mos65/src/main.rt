@@ -11,7 +11,9 @@ use asm_files::asm_files;
 use checking::check;
 use dis_source::dis_source;
 use image_words::convert;
+use lsp::lsp;
 use mon::mon;
+use page_words::page;
 use program::{process_words, program, unreadable_words, words_of};
 use running::run_program;
 use std::io;
@@ -61,6 +63,17 @@ fn play(rt: &HostRuntime, route: Route, words: &[&str]) -> u8 {
     }
 }
 
+/// Serves an editor over the standard streams, and returns the exit status.
+fn serve_editor(rt: &HostRuntime, words: &[&str]) -> u8 {
+    lsp(
+        rt,
+        words,
+        &mut rt.reader(),
+        &mut io::writer(rt),
+        &mut rt.stderr(),
+    )
+}
+
 /// Serves `asm`, `dis` and `debug` as promised, and returns the exit status.
 fn serve_promised(rt: &HostRuntime, words: &[&str]) -> u8 {
     program(
@@ -89,7 +102,9 @@ fn serve(rt: &HostRuntime, words: &[&str]) -> u8 {
         Route::DisSource => dis_source(rt, rest, &mut io::writer(rt), &mut rt.stderr()),
         Route::AsmFiles => asm_files(rt, rest, &mut io::writer(rt), &mut rt.stderr()),
         Route::StrictDebug => debug_strictly(rt, rest),
+        Route::Page => page(rt, rest, &mut io::writer(rt), &mut rt.stderr()),
         route @ (Route::Mon | Route::Run | Route::Trace) => play(rt, route, rest),
+        Route::Lsp => serve_editor(rt, rest),
         Route::Program => serve_promised(rt, words),
         Route::Whole => tell_whole(rt.alloc(), words, &mut io::writer(rt), &mut rt.stderr()),
     }

@@ -29,6 +29,10 @@ pub enum Route {
     Run,
     /// `trace`.
     Trace,
+    /// `page`.
+    Page,
+    /// `lsp`.
+    Lsp,
     /// `dis` with `--source`.
     DisSource,
     /// `asm` with files for other programs.
@@ -42,6 +46,7 @@ pub enum Route {
 }
 
 /// Returns the call for a name among those that are added to the promised words.
+#[tactic(auto, unfolding(crate::specs::Routes::added))]
 fn added(name: &str) -> Route
     ensures { result ≡ find name.now added }
 {
@@ -55,6 +60,8 @@ fn added(name: &str) -> Route
         "mon" => Route::Mon,
         "run" => Route::Run,
         "trace" => Route::Trace,
+        "page" => Route::Page,
+        "lsp" => Route::Lsp,
         _ => Route::Whole,
     }
 }
