@@ -1,7 +1,7 @@
 //! A source assembled.
 
 ghost use Rattle.std.specs.Prelude.{◌≡◌, ◌<◌, ◌≤◌, ◌⊎◌, ℕ, List, Option, Err, IfOk, IfErr, false, length};
-ghost use Rattle.std.specs.Prelude.{slice_get, take};
+ghost use Rattle.std.specs.Prelude.{[], slice_get, take};
 ghost use Rattle.std.specs.Option.{option_map};
 ghost use Rattle.assembler.specs.Assembly.{AnswersSource, AreRead, IsAssembled, IsImageOrMemory};
 ghost use Rattle.assembler.specs.Assembly.{listing_of, out_of_memory, source_lines, verdict_view};
@@ -136,6 +136,34 @@ impl Assembly {
             text: text.of(&self.source),
             is_instruction: text.is_instruction,
         })
+    }
+
+    /// Returns the names with the bytes of an image in the place of the source's own, and without
+    /// its lines: what a file of names says of an image that has no source.
+    pub fn with_image(self, alloc: Global, image: Image) -> Assembly
+        ensures { result ≡ record self {
+          image = image;
+          source = [];
+          places = [];
+          instructions = [];
+        } }
+    {
+        let Assembly {
+            image: _own_image,
+            source: _source,
+            spans: _spans,
+            texts: _texts,
+            symbols,
+            labels,
+        } = self;
+        Assembly {
+            image,
+            source: Vec::new(alloc),
+            spans: Vec::new(alloc),
+            texts: Vec::new(alloc),
+            symbols,
+            labels,
+        }
     }
 
     /// Returns the listing: each line that was read with its address and bytes, then the names.
