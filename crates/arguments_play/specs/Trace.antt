@@ -8,17 +8,18 @@ use Rattle.arguments.specs.Words.{value_in}
 use Rattle.arguments_play.specs.declared.trace.TraceWords.{TraceWords}
 use Rattle.clap.specs.Words.{App, Text, with_rule}
 
--- `FILE` with its map, `[--from WHERE] [--to WHERE] [--steps N] [--stores] [--count]
--- [--lcov FILE] [--unwritten] [--free]`.
+-- `FILE` with its map, `[--symbols FILE] [--from WHERE] [--to WHERE] [--steps N] [--stores]
+-- [--count] [--lcov FILE] [--unwritten] [--free]`.
 abbrev pub trace : App
 trace = with_rule (with_rule (with_rule (with_rule (with_rule (with_rule (with_rule (with_rule
-    (with_file (unnamed (codes "trace"))) (option_rule (codes "from")))
-    (option_rule (codes "to"))) (option_rule (codes "steps"))) (flag_rule (codes "stores")))
-    (flag_rule (codes "count"))) (option_rule (codes "lcov"))) (flag_rule (codes "unwritten")))
-    (flag_rule (codes "free"))
+    (with_rule (with_file (unnamed (codes "trace"))) (option_rule (codes "symbols")))
+    (option_rule (codes "from"))) (option_rule (codes "to"))) (option_rule (codes "steps")))
+    (flag_rule (codes "stores"))) (flag_rule (codes "count"))) (option_rule (codes "lcov")))
+    (flag_rule (codes "unwritten"))) (flag_rule (codes "free"))
 
 pub record TraceAsked : Type 0 where
   pub file : FileAsked
+  pub symbols : Option Text
   pub from : Option Text
   pub to : Option Text
   pub steps : ℕ
@@ -29,11 +30,12 @@ pub record TraceAsked : Type 0 where
   pub is_free : Bool
 
 -- Where a file for lcov is asked for, so are counts.
-abbrev pub trace_of : Option FileAsked → Option Text → Option Text → Option ℕ → Bool → Bool
-    → Option Text → Bool → Bool → Option TraceAsked
-trace_of (Some file) from to (Some steps) shows_stores counts lcov finds_unwritten is_free
+abbrev pub trace_of : Option FileAsked → Option Text → Option Text → Option Text → Option ℕ
+    → Bool → Bool → Option Text → Bool → Bool → Option TraceAsked
+trace_of (Some file) symbols from to (Some steps) shows_stores counts lcov finds_unwritten is_free
     = Some (record {
       file = file;
+      symbols = symbols;
       from = from;
       to = to;
       steps = steps;
@@ -43,14 +45,14 @@ trace_of (Some file) from to (Some steps) shows_stores counts lcov finds_unwritt
       finds_unwritten = finds_unwritten;
       is_free = is_free;
     })
-trace_of file from to steps shows_stores counts lcov finds_unwritten is_free = None
+trace_of file symbols from to steps shows_stores counts lcov finds_unwritten is_free = None
 
 -- What the values of the names ask for, where each is one that its name can have.
 abbrev pub trace_asked : (Text → Option Text) → Option TraceAsked
-trace_asked value = trace_of (file_asked value) (value (codes "from")) (value (codes "to"))
-    (steps_asked (value (codes "steps"))) (is_flag (value (codes "stores")))
-    (is_flag (value (codes "count"))) (value (codes "lcov")) (is_flag (value (codes "unwritten")))
-    (is_flag (value (codes "free")))
+trace_asked value = trace_of (file_asked value) (value (codes "symbols"))
+    (value (codes "from")) (value (codes "to")) (steps_asked (value (codes "steps")))
+    (is_flag (value (codes "stores"))) (is_flag (value (codes "count"))) (value (codes "lcov"))
+    (is_flag (value (codes "unwritten"))) (is_flag (value (codes "free")))
 
 -- What the words ask for, where the values that clap finds are right.
 abbrev pub asked : List Text → Option TraceAsked
@@ -60,6 +62,7 @@ asked words = trace_asked (value_in trace words)
 abbrev pub trace_view : TraceWords → TraceAsked
 trace_view w = record {
   file = file_view w.file;
+  symbols = option_map (λ s. s.now) w.symbols;
   from = option_map (λ s. s.now) w.from;
   to = option_map (λ s. s.now) w.to;
   steps = w.steps;

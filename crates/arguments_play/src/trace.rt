@@ -19,6 +19,8 @@ use std::alloc::Global;
 pub struct TraceWords<'a> {
     /// The file to run, and its map.
     pub file: FileWords<'a>,
+    /// The file of names, if one is named.
+    pub symbols: Option<&'a str>,
     /// The place where the trace begins, if one is named.
     pub from: Option<&'a str>,
     /// The place where the trace ends, if one is named.
@@ -59,6 +61,7 @@ pub fn trace_command<'a>(alloc: Global) -> Result<Command<'a>, Error>
     ensures memory { IfErr result (λ e. kind_of e ≡ ErrorKind.OutOfMemory) }
 {
     let about = "Shows what a program does, a row for each step";
+    let symbols = "A file of names for an image, as asm --symbols writes it [default: none]";
     let from = "Where the trace begins: a name, an address, or a sum of both [default: the start]";
     let to = "Where the trace ends, likewise [default: where the program ends]";
     let steps = "The most steps from where the trace begins [default: no limit]";
@@ -69,6 +72,7 @@ pub fn trace_command<'a>(alloc: Global) -> Result<Command<'a>, Error>
     let free = "Runs on where nothing was written, and at a BRK without a vector";
     let command = begin(alloc, "trace", "mos65 trace", about, STATUSES)?;
     let command = with_file_options(alloc, command)?
+        .arg(option(alloc, "symbols", "FILE", symbols))?
         .arg(option(alloc, "from", "WHERE", from))?
         .arg(option(alloc, "to", "WHERE", to))?
         .arg(option(alloc, "steps", "N", steps))?
@@ -89,6 +93,7 @@ fn asked<'a>(matches: &ArgMatches<'a>) -> Option<TraceWords<'a>>
     };
     Some(TraceWords {
         file,
+        symbols: matches.get_str("symbols"),
         from: matches.get_str("from"),
         to: matches.get_str("to"),
         steps: steps_asked(matches.get_str("steps"))?,

@@ -1,6 +1,6 @@
 -- A source of a part is one of what an image has between two addresses, with marks and names.
-use Rattle.std.proofs.Common.{◌≡◌, ℕ, ◌<◌, List, Bool, Option, Result, Ok, Err, true, false, refl, subst, sym, ◌∙◌}
-use Rattle.std.specs.Prelude.{IfOk}
+use Rattle.std.proofs.Common.{◌≡◌, ℕ, ◌<◌, List, Bool, Option, Some, Result, Ok, Err, true, false, refl, subst, sym, ◌∙◌}
+use Rattle.std.specs.Prelude.{IfOk, option_map}
 use Rattle.assembler.specs.Assembly.{AssemblyView, IsAssembled}
 use Rattle.model.specs.Image.{cell_at}
 use Rattle.model.specs.Names.{Definitions}
@@ -11,7 +11,10 @@ use Rattle.source_forms.specs.declared.mark.Mark.{Mark}
 use Rattle.dis_source.specs.Advice.{is_at_port}
 use Rattle.dis_source.specs.Asked.{SourceAsked}
 use Rattle.dis_source.specs.Marks.{cell_between}
-use Rattle.dis_source.specs.Word.{AreNames, names_map}
+use Rattle.names_files.specs.NamesFile.{names_file}
+use Rattle.clap.specs.Words.{Text}
+use Rattle.dis_source.specs.Word.{AreFileNames, AreGiven, AreNames, names_map}
+use Rattle.dis_source.specs.declared.run.Names.{Names}
 use Rattle.reached.specs.Reached.{AreFollowed}
 use Rattle.dis_source.specs.Written.{AreFollowedBy, AreMarked, AreMarkedBy, IsText, IsWritten, is_followed, starts_of}
 
@@ -32,7 +35,21 @@ followed items asked part plain (Ok x) marked some f = record { plain = plain; m
 followed items asked part plain (Err e) marked some f = tt
 
 -- the names of an assembly on the map of names
-pub are_named : (profile : Profile) (bus_map : Map) (a : AssemblyView) → bus_map ≡ names_map profile → IsAssembled bus_map a → AreNames profile a.names
-are_named profile bus_map a is assembled =
+pub are_named : (profile : Profile) (bus_map : Map) (source : List ℕ) (a : AssemblyView) → bus_map ≡ names_map profile → IsAssembled bus_map a → a.source ≡ source → AreNames profile source a.names
+are_named profile bus_map source a is assembled kept =
     let A : Map → Type 0 = λ m. IsAssembled m a in
-    (a, subst A is assembled, refl)
+    (a, subst A is assembled, refl, kept)
+
+-- the names of a file, and how many of its lines are left out
+pub of_file : {X E : Type 0} (held : X → Option AssemblyView) (left_out : X → ℕ) (profile : Profile) (file source : List ℕ) (count : ℕ) (r : Result X E) → source ≡ (names_file profile file).source → count ≡ (names_file profile file).left_out
+    → IfOk r (λ x. (a : AssemblyView) × (held x ≡ Some a) × AreNames profile source a.names) → IfOk r (λ x. left_out x ≡ count)
+    → IfOk r (λ x. (a : AssemblyView) × (held x ≡ Some a) × AreFileNames profile a.names (left_out x))
+of_file held left_out profile file source count (Ok x) same counted named out =
+    (named.0, named.1, (file, out ∙ counted, subst (λ (s : List ℕ). AreNames profile s named.0.names) same named.2))
+of_file held left_out profile file source count (Err e) same counted named out = tt
+
+pub given_path : (asked : Option Text) (path : Text) (profile : Profile) (n : Names) → asked ≡ Some path
+    → ((a : AssemblyView) × (n.assembly ≡ Some a) × AreFileNames profile a.names n.left_out) → AreGiven asked profile (option_map (λ a. a.names) n.assembly) n.left_out
+given_path asked path profile n is given =
+    let A : Option AssemblyView → Type 0 = λ h. AreGiven (Some path) profile (option_map (λ a. a.names) h) n.left_out in
+    subst (λ (o : Option Text). AreGiven o profile (option_map (λ a. a.names) n.assembly) n.left_out) (sym is) (subst A (sym given.1) given.2)

@@ -1,5 +1,5 @@
 -- What `asm` has to be told of a source. Source: mos65.
-use Rattle.std.specs.Prelude.{ℕ, Bool, true, false, List, [], ◌∷◌, ◌++◌, ◌||◌, codes, Option, if◌then◌else◌}
+use Rattle.std.specs.Prelude.{ℕ, Bool, true, false, List, [], ◌∷◌, ◌++◌, ◌||◌, ◌==◌, codes, decimal, Option, if◌then◌else◌}
 use Rattle.model.specs.Image.{has_byte}
 use Rattle.model.specs.declared.instruction.Profile.{Profile}
 use Rattle.model.specs.declared.instruction.Profile.TheVariants.{N, C}
@@ -25,3 +25,14 @@ is_needed port C = true
 abbrev pub advice : Bool → Profile → List ℕ
 advice port profile = if is_needed port profile then codes "mos65: this is a source for asm"
     ++ (port_words port ++ (profile_words profile ++ 10 ∷ [])) else []
+
+-- ---- what is told of a file of names
+
+-- The line that says how many lines of it were left out, if some were.
+unfoldable pub left_out_text : ℕ → List ℕ
+left_out_text count = if count == 0 then []
+    else codes "mos65: names left out: " ++ decimal count ++ codes "\n"
+
+-- The same in front of another line.
+abbrev pub remark : ℕ → List ℕ → List ℕ
+remark count line = left_out_text count ++ line

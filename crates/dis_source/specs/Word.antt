@@ -11,8 +11,9 @@ use Rattle.image_files.specs.declared.refusal.ImageRefusal.TheVariants.{Refused}
 use Rattle.dis_source.specs.Asked.{SourceAsked}
 use Rattle.std.specs.Io.KnownBytes.{Appends}
 use Rattle.model.specs.Writers.{AppendsFront}
-use Rattle.dis_source.specs.Advice.{advice, is_at_port}
+use Rattle.dis_source.specs.Advice.{advice, is_at_port, remark}
 use Rattle.dis_source.specs.Written.{IsSourceOfPart}
+use Rattle.names_files.specs.NamesFile.{names_file}
 use Rattle.model.specs.Names.{Definitions}
 use Rattle.model.specs.Source.{HasFault}
 use Rattle.model.specs.State.{Map}
@@ -23,15 +24,22 @@ use Rattle.model.specs.declared.source_fault.AsmFault.{AsmFault}
 abbrev pub names_map : Profile → Map
 names_map profile = record { profile = profile; rom = None; port = 61440 }
 
--- Names that some source defines.
-abbrev pub AreNames : Profile → Definitions → Type 0
-AreNames profile names = (a : AssemblyView) × IsAssembled (names_map profile) a × (names ≡ a.names)
+-- Names that a source defines.
+abbrev pub AreNames : Profile → List ℕ → Definitions → Type 0
+AreNames profile source names = (a : AssemblyView) × IsAssembled (names_map profile) a
+    × (names ≡ a.names) × (a.source ≡ source)
 
--- There are names where a source of names is asked for.
-abbrev pub AreGiven : Option Text → Profile → Option Definitions → Type 0
-AreGiven None profile names = names ≡ None
-AreGiven (Some path) profile None = ⊥
-AreGiven (Some path) profile (Some names) = AreNames profile names
+-- Names that a file of names gives, and how many of its lines are left out.
+abbrev pub AreFileNames : Profile → Definitions → ℕ → Type 0
+AreFileNames profile names left_out = (file : List ℕ)
+    × (left_out ≡ (names_file profile file).left_out)
+    × AreNames profile (names_file profile file).source names
+
+-- There are names where a file of names is asked for.
+abbrev pub AreGiven : Option Text → Profile → Option Definitions → ℕ → Type 0
+AreGiven None profile names left_out = (names ≡ None) × (left_out ≡ 0)
+AreGiven (Some path) profile None left_out = ⊥
+AreGiven (Some path) profile (Some names) left_out = AreFileNames profile names left_out
 
 -- A text is the source that is asked for, of the image of some file, with the names of some source if
 -- names are asked for.
@@ -39,24 +47,29 @@ pub record IsSource (asked : SourceAsked) (text : List ℕ) : Type 0 where
   pub image : List (Option ℕ)
   pub read : IsOfFile asked.form image
   pub names : Option Definitions
-  pub given : AreGiven asked.symbols asked.profile names
+  pub left_out : ℕ
+  pub given : AreGiven asked.symbols asked.profile names left_out
   pub written : IsSourceOfPart asked image names text
 
--- The same, and whether its part has bytes where the port is if nothing is said.
-pub record IsSourceWith (asked : SourceAsked) (text : List ℕ) (at_port : Bool) : Type 0 where
+-- The same, whether its part has bytes where the port is if nothing is said, and how many lines of
+-- the file of names are left out.
+pub record IsSourceWith (asked : SourceAsked) (text : List ℕ) (at_port : Bool) (left_out : ℕ)
+    : Type 0 where
   pub source : IsSource asked text
   pub same : at_port ≡ is_at_port source.written.part
+  pub counted : left_out ≡ source.left_out
 
 abbrev pub IsSaid : SourceAsked → Bool → List ℕ → Type 0
 IsSaid asked is_right text = IsSource asked text
 
--- A source was written, and on the error stream a beginning of what `asm` has to be told of it, if
--- it has to be told something.
+-- A source was written, and on the error stream a beginning of how many lines of the file of names
+-- were left out, if some were, and of what `asm` has to be told, if it has to be told something.
 pub record IsDone (asked : SourceAsked) (held now errors told : Option (List ℕ)) : Type 0 where
   pub text : List ℕ
   pub source : IsSource asked text
   pub written : Appends held now text
-  pub advised : AppendsFront errors told (advice (is_at_port source.written.part) asked.profile)
+  pub advised : AppendsFront errors told (remark source.left_out
+      (advice (is_at_port source.written.part) asked.profile))
 
 -- Why a source of names is refused: it has this fault. Memory may run out at any source.
 abbrev pub EndsNames : Profile → List ℕ → Refusal → Type 0

@@ -3,10 +3,11 @@
 ghost use Rattle.std.specs.Prelude.{◌≡◌};
 ghost use Rattle.model.specs.Image.{has_byte};
 ghost use Rattle.model.specs.Writers.{AppendsFront};
-ghost use Rattle.dis_source.specs.Advice.{advice, is_at_port};
+ghost use Rattle.dis_source.specs.Advice.{advice, is_at_port, left_out_text, remark};
 
-use arguments::put_all;
+use arguments::put_two;
 use bus::Image;
+use formatting::{Text, push_bytes, push_decimal};
 use model::Profile;
 use std::io::Write;
 
@@ -40,11 +41,26 @@ fn advice(at_port: bool, profile: Profile) -> &'static [u8]
     }
 }
 
-/// Writes what `asm` has to be told of a source, if it has to be told something, or a beginning of
-/// it if a write fails.
-pub fn put_advice<E: Write>(at_port: bool, profile: Profile, errors: &mut E)
-    ensures { AppendsFront (E.contents errors.old) (E.contents errors.new)
-        (advice at_port profile) }
+/// The line that says how many lines of a file of names were left out, or nothing.
+#[tactic(auto, unfolding(crate::specs::Advice::left_out_text))]
+fn left_out_text(count: usize) -> Text
+    ensures { result.items ≡ left_out_text count }
 {
-    put_all(&[advice(at_port, profile)], errors);
+    let mut text = Text::new();
+    if count != 0 {
+        push_bytes(&mut text, b"mos65: names left out: ");
+        push_decimal(&mut text, count as u64);
+        push_bytes(&mut text, b"\n");
+    }
+    text
+}
+
+/// Writes how many lines of a file of names were left out, if some were, and what `asm` has to be
+/// told of a source, if it has to be told something; or a beginning of that if a write fails.
+pub fn put_remarks<E: Write>(left_out: usize, at_port: bool, profile: Profile, errors: &mut E)
+    ensures { AppendsFront (E.contents errors.old) (E.contents errors.new)
+        (remark left_out (advice at_port profile)) }
+{
+    let first = left_out_text(left_out);
+    put_two(first.as_slice(), advice(at_port, profile), errors);
 }

@@ -1,52 +1,112 @@
 //! The source of a tape, written.
-ghost use Rattle.std.specs.Prelude.{◌≡◌, ◌≢◌, ◌≤◌, ◌⊎◌, IfErr, IfOk, None, option_map};
+ghost use Rattle.std.specs.Prelude.{◌≡◌, ◌≢◌, ◌≤◌, ◌⊎◌, IfErr, IfOk, None, Some, option_map};
 ghost use Rattle.arguments.specs.Streams.{TellsFront};
 ghost use Rattle.arguments.specs.Words.{AsksForHelp, Fits, Misfits, texts};
 ghost use Rattle.dis_source.specs.CommandLine.{Asks, dis, words_asked};
 ghost use Rattle.dis_source.specs.Views.{source_view};
-ghost use Rattle.dis_source.specs.Word.{AreGiven, AreNames, EndsDefined, EndsNamed, EndsSource};
+ghost use Rattle.assembler.specs.Assembly.{AssemblyView};
+ghost use Rattle.dis_source.specs.Word.{AreFileNames, AreGiven, AreNames, EndsDefined, EndsNamed};
+ghost use Rattle.dis_source.specs.Word.{EndsSource};
+ghost use Rattle.names_files.specs.NamesFile.{names_file};
 ghost use Rattle.dis_source.specs.Word.{HasNamesFault, IsDone, IsSaid, IsSourceWith};
 ghost use Rattle.image_files.specs.Files.{HasNoImage};
 
-use crate::advice::put_advice;
+use crate::advice::put_remarks;
 use crate::asked::{SourceWords, read_source_words};
 use crate::written::{SourceText, defined, written};
 use arguments::{FileRefusal, Refusal, read_source, refuse, refused_words, write_text};
 use assembler::Assembly;
 use image_files::{ImageFileRefusal, ImageRefusal, image_of_file};
 use model::Profile;
+use names_files::{NamesFile, names_of_file};
+use std::alloc::Global;
 use std::io::Write;
 use std::rt::Files;
 
-/// Returns what the source of names in a file defines.
-fn names_in<H: Files + AllocGlobal>(
+/// The names for addresses, if there are some, and how many lines of their file were left out.
+#[derive(Drop)]
+struct Names {
+    assembly: Option<Assembly>,
+    left_out: usize,
+}
+
+/// Returns what a file of names says.
+///
+/// Errors: `OutOfMemory` if an allocation fails.
+fn file_of_names(alloc: Global, profile: Profile, file: &[u8]) -> Result<NamesFile, Refusal>
+    ensures source { IfOk result
+        (λ names. names.source.items ≡ (names_file profile file.now).source) }
+    ensures left_out { IfOk result
+        (λ names. names.left_out ≡ (names_file profile file.now).left_out) }
+    ensures refused { IfErr result (λ fault. fault ≡ Refusal.OutOfMemory) }
+{
+    names_of_file(alloc, profile, file).map_err(|_| Refusal::OutOfMemory)
+}
+
+/// Returns what the source of a file of names defines.
+fn assembled(alloc: Global, profile: Profile, source: &[u8]) -> Result<Assembly, Refusal>
+    ensures given { IfOk result (λ a. AreNames profile source.now a.names) }
+    ensures refused { IfErr result (EndsDefined profile) }
+{
+    defined(alloc, profile, source)
+}
+
+/// Returns the names of a file of names, whose source is made.
+fn names_in(alloc: Global, profile: Profile, file: &NamesFile) -> Result<Names, Refusal>
+    ensures given { IfOk result (λ names. (a : AssemblyView) × (names.assembly ≡ Some a)
+        × AreNames profile file.now.source.items a.names) }
+    ensures left_out { IfOk result (λ names. names.left_out ≡ file.now.left_out) }
+    ensures refused { IfErr result (EndsDefined profile) }
+{
+    let assembly = assembled(alloc, profile, file.source.as_slice())?;
+    Ok(Names {
+        assembly: Some(assembly),
+        left_out: file.left_out,
+    })
+}
+
+/// Returns the names of a file.
+fn names_of_path<H: Files + AllocGlobal>(
     rt: &H,
     profile: Profile,
     path: &str,
-) -> Result<Assembly, Refusal>
-    ensures given { IfOk result (λ a. AreNames profile a.names) }
+) -> Result<Names, Refusal>
+    ensures given { IfOk result (λ names. (a : AssemblyView) × (names.assembly ≡ Some a)
+        × AreFileNames profile a.names names.left_out) }
     ensures refused { IfErr result (EndsDefined profile) }
 {
-    let source = read_source(rt, path)?;
-    defined(rt.alloc(), profile, source.as_slice())
+    let file = read_source(rt, path)?;
+    let names = file_of_names(rt.alloc(), profile, file.as_slice())?;
+    names_in(rt.alloc(), profile, &names)
 }
 
-/// Returns what the source that has the names for addresses defines, if there is one.
+/// Returns the names for addresses, if a file of them is asked for.
+#[tactic(auto, using(crate::proofs::Parts::given_path))]
 fn names_of<'a, H: Files + AllocGlobal>(
     rt: &H,
     words: &SourceWords<'a>,
-) -> Result<Option<Assembly>, FileRefusal<'a>>
+) -> Result<Names, FileRefusal<'a>>
     ensures given { IfOk result (λ names. AreGiven (source_view words.now).symbols
-        words.now.profile (option_map (λ a. a.names) names)) }
+        words.now.profile (option_map (λ a. a.names) names.assembly) names.left_out) }
     ensures refused { IfErr result (EndsNamed (source_view words.now)) }
 {
     let Some(file) = words.symbols else {
-        return Ok(None);
+        return Ok(Names {
+            assembly: None,
+            left_out: 0,
+        });
     };
-    match names_in(rt, words.profile, file) {
-        Ok(names) => Ok(Some(names)),
+    match names_of_path(rt, words.profile, file) {
+        Ok(names) => Ok(names),
         Err(refusal) => Err(FileRefusal { file, refusal }),
     }
+}
+
+/// A source, and how many lines of the file of names were left out.
+#[derive(Drop)]
+struct ReadSource {
+    source: SourceText,
+    left_out: usize,
 }
 
 /// Returns the source of what an image's file has between the addresses of the words, with the
@@ -55,9 +115,9 @@ fn names_of<'a, H: Files + AllocGlobal>(
 fn text_of<'a, H: Files + AllocGlobal>(
     rt: &H,
     words: &SourceWords<'a>,
-) -> Result<SourceText, ImageFileRefusal<'a>>
-    ensures source { IfOk result
-        (λ w. IsSourceWith (source_view words.now) w.text.items w.at_port) }
+) -> Result<ReadSource, ImageFileRefusal<'a>>
+    ensures source { IfOk result (λ r. IsSourceWith (source_view words.now) r.source.text.items
+        r.source.at_port r.left_out) }
     ensures refused { IfErr result (EndsSource (source_view words.now)) }
 {
     let file = words.tape;
@@ -66,8 +126,11 @@ fn text_of<'a, H: Files + AllocGlobal>(
         Err(why) => return Err(ImageFileRefusal { file, why }),
     };
     let names = names_of(rt, words)?;
-    match written(rt.alloc(), words, &image, names.as_ref()) {
-        Ok(source) => Ok(source),
+    match written(rt.alloc(), words, &image, names.assembly.as_ref()) {
+        Ok(source) => Ok(ReadSource {
+            source,
+            left_out: names.left_out,
+        }),
         Err(_) => Err(ImageFileRefusal {
             file,
             why: ImageRefusal::Refused(Refusal::OutOfMemory),
@@ -94,9 +157,9 @@ fn done<H: Files + AllocGlobal, O: Write, E: Write>(
         (O.contents output.old) (O.contents output.new) ⊎ (output.new ≡ output.old) }
 {
     match text_of(rt, words) {
-        Ok(source) => match write_text(output, source.text.as_slice()) {
+        Ok(read) => match write_text(output, read.source.text.as_slice()) {
             Ok(()) => {
-                put_advice(source.at_port, words.profile, errors);
+                put_remarks(read.left_out, read.source.at_port, words.profile, errors);
                 0
             }
             Err(_) => refuse(Refusal::Write, errors),
@@ -111,9 +174,9 @@ fn done<H: Files + AllocGlobal, O: Write, E: Write>(
 /// It is 0 if the source was written, 1 if the file is no image or the source of names has a fault,
 /// 2 if the words are wrong, 3 if memory ran out, 4 if reading or writing failed. For each but 0 a
 /// line on `errors` says why, with the name of the file that has the fault or cannot be read. For 0
-/// a line there says which options `asm` needs for the source, if it needs some. The status is the
-/// same if the line cannot be written. The text is whole, and each file closed, before any of it is
-/// written.
+/// a line there says how many names of the file of names were left out, if some were, and one says
+/// which options `asm` needs for the source, if it needs some. The status is the same if they
+/// cannot be written. The text is whole, and each file closed, before any of it is written.
 pub fn dis_source<H: Files + AllocGlobal, O: Write, E: Write>(
     rt: &H,
     words: &[&str],

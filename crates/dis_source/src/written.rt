@@ -30,7 +30,7 @@ use std::alloc::{AllocError, Global};
 #[tactic(auto, unfolding(model::specs::State::is_map))]
 pub fn defined(alloc: Global, profile: Profile, source: &[u8]) -> Result<Assembly, Refusal>
     ensures denoted { IfOk result (λ a. Denotes (names_map profile) source.now a.image) }
-    ensures named { IfOk result (λ a. AreNames profile a.names) }
+    ensures named { IfOk result (λ a. AreNames profile source.now a.names) }
     ensures kept { IfOk result (λ a. a.source ≡ source.now) }
     ensures refused { IfErr result (EndsNames profile source.now) }
 {

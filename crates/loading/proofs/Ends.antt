@@ -1,5 +1,5 @@
 -- Why a file is not loaded.
-use Rattle.std.proofs.Common.{◌≡◌, ◌∙◌, ℕ, List, Option, Some, None, ◌⊎◌, inl, inr, Result, Ok, Err, IfErr, IfOk, refl, sym, ap, subst}
+use Rattle.std.proofs.Common.{◌≡◌, ◌∙◌, ℕ, true, List, Option, Some, None, ◌⊎◌, inl, inr, Result, Ok, Err, IfErr, IfOk, refl, sym, ap, subst}
 use Rattle.std.specs.Result.{IsErrAnd}
 use Rattle.std.specs.declared.alloc.Global.{Global}
 use Rattle.std.specs.declared.vec.Vec.{Vec}
@@ -18,10 +18,10 @@ use Rattle.image_files.specs.Files.{EndsImage, IsOfFile}
 use Rattle.image_files.specs.Looks.{EndsLooks}
 use Rattle.image_files.specs.Options.{said_of}
 use Rattle.image_reader.specs.declared.form.Form.{Form}
-use Rattle.loading.specs.Loads.{EndsAsImage, EndsFile, EndsImageFile, EndsLoad, EndsSource, EndsSourceFile, IsImageOf}
+use Rattle.loading.specs.Loads.{EndsAsImage, EndsFile, EndsImageFile, EndsLoad, EndsSource, EndsSourceFile, IsImageOf, IsLoaded}
 use Rattle.model.specs.AllFaults.{faults_of}
 use Rattle.model.specs.Source.{HasFault}
-use Rattle.model.specs.State.{Map}
+use Rattle.model.specs.State.{Map, is_map}
 use Rattle.model.specs.declared.source_fault.AsmFault.{AsmFault}
 use Rattle.model.specs.declared.source_fault.AsmFaultKind.{AsmFaultKind}
 use Rattle.model.specs.declared.source_fault.AsmFaultKind.TheVariants as source_fault
@@ -129,3 +129,15 @@ memory_by form.Prg bus_map file = (why.Refused OutOfMemory, tt, refl)
 
 pub memory_ends : (asked : FileAsked) → EndsLoad asked (Refused OutOfMemory)
 memory_ends asked = inr (memory_by asked.form (map_of asked) asked.file)
+
+-- ---- an image with the names of a file
+
+pub image_loaded : (asked : FileAsked) (image : List (Option ℕ)) → is_map asked.rom asked.port ≡ true → (asked.form ≡ form.Source → ⊥) → IsOfFile (said_of asked.form) image → IsLoaded asked image None
+image_loaded asked image map apart of_file = (map, image_as asked.form (map_of asked) image None apart refl of_file)
+
+pub image_ends : (asked : FileAsked) (fault : LoadFault) → (asked.form ≡ form.Source → ⊥) → EndsAsImage (said_of asked.form) (map_of asked) fault → EndsLoad asked fault
+image_ends asked fault apart ends = inr (as_image asked.form (map_of asked) asked.file fault apart ends)
+
+pub memory_residual : {X : Type 0} (asked : FileAsked) (refusal : Refusal) (result : Result X LoadFault) → refusal ≡ OutOfMemory → IsErrAnd result (λ f. f ≡ Refused refusal) → IfErr result (EndsLoad asked)
+memory_residual asked refusal (Ok x) memory is = absurd is
+memory_residual asked refusal (Err fault) memory is = subst (EndsLoad asked) (sym (is ∙ ap Refused memory)) (memory_ends asked)

@@ -3,3 +3,4 @@ pub mod DigitLemmas
 pub mod Ends
 mod Starts
 pub mod Unloaded
+pub mod Unnamed

@@ -1,3 +1,4 @@
 pub mod Loads
+pub mod Named
 pub mod Place
 pub mod Told

@@ -3,13 +3,16 @@
 //! `load` returns a session at the start of an image that some such file denotes on the map of the
 //! words, with the assembly of a source and the addresses at which the image has a byte, or says
 //! why not (`specs/Loads.antt`): of a source with faults it tells all of them, as `faults_of` does
-//! for every word. Which file it is, no clause can say. `place_of` finds the address of a name, of
+//! for every word. Which file it is, no clause can say. `load_named` gives an image that has no
+//! source the names of a file (`specs/Named.antt`). `place_of` finds the address of a name, of
 //! hex digits or of a sum (`specs/Place.antt`).
 #![tactic(auto)]
 
 mod digits;
 mod loaded;
+mod named;
 mod place;
 
 pub use loaded::{Loaded, assembled_source, faults_of, load, load_names, load_with_history};
+pub use named::{NamedFault, load_named};
 pub use place::place_of;

@@ -15,6 +15,7 @@ ghost use Rattle.model.specs.Event.{start};
 ghost use Rattle.model.specs.Session.{new_session};
 ghost use Rattle.model.specs.Source.{HasFault};
 ghost use Rattle.model.specs.State.{has_port_byte, input_waits, is_map};
+ghost use Rattle.names_files.specs.NamesFile.{names_file};
 ghost use Rattle.model.specs.declared.bus_fault.BusFault.TheVariants.{BadMap};
 
 use accesses::Written;
@@ -25,7 +26,8 @@ use fault_notes::told_faults;
 use image_files::{free_base, image_of_file, refuse_image, said_of};
 use image_reader::Form;
 use memory_map::{Image, MapSpec};
-use model::AsmFault;
+use model::{AsmFault, Profile};
+use names_files::{NamesFile, names_of_file};
 use std::alloc::Global;
 use std::rt::Files;
 
@@ -41,7 +43,7 @@ pub struct Loaded {
 /// Returns the map of the words.
 ///
 /// Errors: `Map` if the port and the ROM do not make a map.
-fn map_of_words(words: &FileWords<'_>) -> Result<MapSpec, Refusal>
+pub fn map_of_words(words: &FileWords<'_>) -> Result<MapSpec, Refusal>
     ensures map { IfOk result (λ map. map ≡ map_of (file_view words.now)) }
     ensures is_map { IfOk result (λ _. is_map words.now.rom words.now.port ≡ true) }
     ensures bad { IfErr result (IsBadMap (map_of (file_view words.now))) }
@@ -159,7 +161,12 @@ fn load_source<H: Files + AllocGlobal>(
 }
 
 /// Returns a session that holds at most `history` earlier states, on an image.
-fn start_image(alloc: Global, map: MapSpec, image: &Image, history: u32) -> Result<Loaded, Refusal>
+pub fn start_image(
+    alloc: Global,
+    map: MapSpec,
+    image: &Image,
+    history: u32,
+) -> Result<Loaded, Refusal>
     requires history { history ≤ 65536 }
     requires spared { has_port_byte map image.now ≡ false }
     ensures started { IfOk result
@@ -208,7 +215,7 @@ fn at_port(map: &MapSpec, rom: Option<(u16, u16)>, said: Option<Form>, image: &I
 
 /// Returns the image of a file that is no source, if it has no byte at the port of a map.
 #[tactic(auto, using(crate::proofs::Ends::as_ends))]
-fn image_on<H: Files + AllocGlobal>(
+pub fn image_on<H: Files + AllocGlobal>(
     rt: &H,
     path: &str,
     said: Option<Form>,
@@ -327,8 +334,19 @@ pub fn load_with_history<H: Files + AllocGlobal>(
     }
 }
 
-/// Assembles a file of names, as `asm --symbols` writes it, on the map of the words. Bytes that it
-/// has are loaded nowhere.
+/// Returns what a file of names says as a source.
+///
+/// Errors: `OutOfMemory` if an allocation fails.
+fn names_in(alloc: Global, profile: Profile, file: &[u8]) -> Result<NamesFile, Refusal>
+    ensures source { IfOk result
+        (λ names. names.source.items ≡ (names_file profile file.now).source) }
+    ensures refused { IfErr result (λ fault. fault ≡ Refusal.OutOfMemory) }
+{
+    names_of_file(alloc, profile, file).map_err(|_| Refusal::OutOfMemory)
+}
+
+/// Assembles a file of names, as `asm --symbols` or another tool writes it, on the map of the
+/// words. Names that cannot stand in a source are left out. Bytes that it has are loaded nowhere.
 ///
 /// # Errors
 ///
@@ -339,9 +357,12 @@ pub fn load_names<H: Files + AllocGlobal>(
     path: &str,
 ) -> Result<Assembly, Refusal>
     ensures assembled { IfOk result (IsAssembled (map_of (file_view words.now))) }
+    ensures named { IfOk result (λ names. (file : List ℕ)
+        × (names.source ≡ (names_file words.now.profile file).source)) }
     ensures refused { IfErr result (EndsNames (file_view words.now)) }
 {
     let map = map_of_words(words)?;
-    let source = read_source(rt, path)?;
-    assembled(rt.alloc(), source.as_slice(), &map)
+    let file = read_source(rt, path)?;
+    let names = names_in(rt.alloc(), words.profile, file.as_slice())?;
+    assembled(rt.alloc(), names.source.as_slice(), &map)
 }

@@ -12,7 +12,7 @@ use Rattle.console.specs.declared.ending.Ending.TheVariants.{Until}
 use Rattle.console.specs.declared.ending.Played.{Played}
 use Rattle.console.specs.declared.turn.Player.{Player}
 use Rattle.arguments.specs.Asked.{map_of}
-use Rattle.loading.specs.Loads.{IsLoaded}
+use Rattle.loading.specs.Named.{IsNamed, IsUnnamed}
 use Rattle.loading.specs.Place.{names_of}
 use Rattle.loading.specs.declared.loaded.Loaded.{Loaded}
 use Rattle.model.specs.Event.{start}
@@ -23,7 +23,7 @@ use Rattle.arguments.specs.declared.refusal.ReadFault.TheVariants.{Other}
 use Rattle.arguments.specs.declared.refusal.Refusal.{Refusal}
 use Rattle.arguments.specs.declared.refusal.Refusal.TheVariants.{OutOfMemory, Read, Write}
 use Rattle.running.specs.Places.{place_asked}
-use Rattle.loading.specs.Told.{Heard, IsUnloaded, Tells}
+use Rattle.loading.specs.Told.{Heard, Tells}
 use Rattle.running.specs.Runs.{Streams}
 use Rattle.running.specs.Statuses.{status_of_ending}
 use Rattle.running.specs.Told.{unplaced_line}
@@ -189,7 +189,7 @@ TracedIfFound a b (Ok from) (Err refused) streams heard status Alone
 TracedIfFound a b (Err refused) to streams heard status Alone
     = (status ≡ refused) × Tells heard (unplaced_line a.from) × Alone
 
--- The session at the start of an image, with the names of the image's source.
+-- The session at the start of an image, with the names of its source, or of a file of names.
 abbrev pub begin_of : TraceAsked → List (Option ℕ) → Option AssemblyView → Begin
 begin_of a image assembly = record {
   assembly = assembly;
@@ -197,12 +197,12 @@ begin_of a image assembly = record {
   written = bytes_in image;
 }
 
--- What was done for words: a file was not loaded, the error stream got why, and the others were
--- left alone; or from the start of an image that it can have, on the map of the words and with the
--- names of the image's source, a session was traced.
+-- What was done for words: nothing was loaded, the error stream got why, and the others were left
+-- alone; or from the start of an image that the file can have, on the map of the words and with the
+-- names of the image's source, or of the file of names, a session was traced.
 abbrev pub IsDone : TraceAsked → Streams → Heard → ℕ → Type 0 → Type 0
-IsDone a streams heard status Alone = IsUnloaded a.file heard status Alone
+IsDone a streams heard status Alone = IsUnnamed a.file a.symbols heard status Alone
     ⊎ ((image : List (Option ℕ)) × (assembly : Option AssemblyView)
-    × IsLoaded a.file image assembly × TracedIfFound a (begin_of a image assembly)
+    × IsNamed a.file a.symbols image assembly × TracedIfFound a (begin_of a image assembly)
     (place_asked (names_of assembly) a.from) (place_asked (names_of assembly) a.to)
     streams heard status Alone)

@@ -28,7 +28,7 @@ use arguments::{Refusal, refuse, refused_words};
 use arguments_play::{TraceWords, read_trace_words};
 use console::{Ending, Played, Player, begin, ending_after};
 use debugger::Session;
-use loading::{Loaded, load};
+use loading::{Loaded, load_named};
 use running::{place_named, status_of_ending, tell_ending};
 use std::alloc::Global;
 use std::io::{Read, Write};
@@ -435,9 +435,9 @@ fn trace_words<H: Files + AllocGlobal, R: Read, O: Write, E: Write>(
     }) result ((input.new ≡ input.old) × (output.new ≡ output.old)) }
     ensures bad_map { is_map words.now.file.rom words.now.file.port ≡ false → result ≡ 2 }
 {
-    match load(rt, &words.file) {
+    match load_named(rt, &words.file, words.symbols) {
         Ok(mut loaded) => trace_loaded(rt, words, &mut loaded, input, output, errors),
-        Err(fault) => fault.tell(words.file.file, errors),
+        Err(fault) => fault.tell(words.file.file, words.symbols, errors),
     }
 }
 

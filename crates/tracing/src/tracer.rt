@@ -1,6 +1,7 @@
 //! What a trace gathers while its program runs.
 
 ghost use Rattle.std.specs.Prelude.{◌≡◌, ◌⊎◌, [], ◌∷◌, Err, IfErr, IfOk, OnErr, OnOk, true};
+ghost use Rattle.std.specs.Prelude.{option_map};
 ghost use Rattle.std.specs.Io.KnownBytes.{Appends};
 ghost use Rattle.arguments.specs.declared.refusal.Refusal.{Refusal};
 ghost use Rattle.arguments_play.specs.Trace.{trace_view};
@@ -101,7 +102,9 @@ impl<'a> Tracer<'a> {
     }
 
     /// Returns what was counted by address, if that is asked for.
-    pub fn tally(&self) -> Option<&Tally> {
+    pub fn tally(&self) -> Option<&Tally>
+        ensures { option_map (λ tally. tally.now) result ≡ self.now.tally }
+    {
         self.tally.as_ref()
     }
 

@@ -12,4 +12,4 @@ returns-in_err-names-clause-refused c =
 pub returns-clause-named : goal.returns-clause-named
 returns-clause-named c =
     let same : c.in_ok-map.map ≡ names_map c.args.profile = rw c.based.ensures at c.in_ok-map.ensures.map in
-    are_named c.args.profile c.in_ok-map.map c.in_ok-names.names same c.in_ok-names.ensures.assembled
+    are_named c.args.profile c.in_ok-map.map c.args.source.now c.in_ok-names.names same c.in_ok-names.ensures.assembled c.in_ok-names.ensures.kept

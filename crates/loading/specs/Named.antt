@@ -1,0 +1,55 @@
+-- What is loaded where a file of names may be named, and why nothing is. Source: mos65.
+use Rattle.std.specs.Prelude.{◌≡◌, ℕ, List, [], Option, None, Some}
+use Rattle.assembler.specs.Assembly.{AssemblyView, IsAssembled}
+use Rattle.arguments.specs.Asked.{FileAsked, map_of}
+use Rattle.arguments.specs.FaultLines.{file_line, load_text}
+use Rattle.arguments.specs.Statuses.{status_of, status_of_load}
+use Rattle.arguments.specs.declared.file_options.FileForm.TheVariants.{Source}
+use Rattle.loading.specs.Loads.{EndsLoad, EndsNames, IsLoaded}
+use Rattle.loading.specs.Told.{Heard, Tells}
+use Rattle.loading.specs.declared.named.NamedFault.{NamedFault}
+use Rattle.loading.specs.declared.named.NamedFault.TheVariants.{HasSource, OfFile, OfNames}
+use Rattle.loading.specs.declared.named.TheConstants.{HAS_NAMES}
+
+-- Names stand for an image that has no source: there are no lines.
+abbrev pub named_image : List (Option ℕ) → AssemblyView → AssemblyView
+named_image image names
+    = record names { image = image; source = []; places = []; instructions = [] }
+
+-- Without a file of names, what is loaded is that of the file. With one, the file is an image
+-- without a source, and the names are those of some source: the file of names.
+abbrev pub IsNamed : FileAsked → Option (List ℕ) → List (Option ℕ) → Option AssemblyView → Type 0
+IsNamed asked None image assembly = IsLoaded asked image assembly
+IsNamed asked (Some path) image None = ⊥
+IsNamed asked (Some path) image (Some a) = IsLoaded asked image None
+    × ((names : AssemblyView) × IsAssembled (map_of asked) names × (a ≡ named_image image names))
+
+-- Why nothing is loaded: the file is not, the file of names is not read, or the file is a source,
+-- which has its own names.
+abbrev pub EndsNamed : FileAsked → Option (List ℕ) → NamedFault → Type 0
+EndsNamed asked symbols (OfFile fault) = EndsLoad asked fault
+EndsNamed asked (Some path) (OfNames fault) = EndsNames asked fault
+EndsNamed asked None (OfNames fault) = ⊥
+EndsNamed asked (Some path) HasSource = asked.form ≡ Source
+EndsNamed asked None HasSource = ⊥
+
+-- ---- what is told of it
+
+abbrev pub status_of_named : NamedFault → ℕ
+status_of_named (OfFile fault) = status_of_load fault
+status_of_named (OfNames fault) = status_of fault
+status_of_named HasSource = 2
+
+abbrev pub names_text : NamedFault → List ℕ → List ℕ → List ℕ
+names_text (OfFile fault) file names = load_text fault file
+names_text (OfNames fault) file names = file_line names fault
+names_text HasSource file names = HAS_NAMES.now
+
+abbrev pub named_text : NamedFault → List ℕ → Option (List ℕ) → List ℕ
+named_text fault file None = names_text fault file []
+named_text fault file (Some names) = names_text fault file names
+
+-- Nothing was loaded, the error stream got why, and the other streams were left alone, `Alone`.
+abbrev pub IsUnnamed : FileAsked → Option (List ℕ) → Heard → ℕ → Type 0 → Type 0
+IsUnnamed asked symbols heard status Alone = (fault : NamedFault) × EndsNamed asked symbols fault
+    × (status ≡ status_of_named fault) × Tells heard (named_text fault asked.file symbols) × Alone

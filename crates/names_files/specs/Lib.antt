@@ -1,0 +1,2 @@
+pub mod NamesFile
+pub mod Views
