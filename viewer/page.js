@@ -26,6 +26,9 @@ if (part("source")) info.source = text(part("source")).replace(/\n$/, "").split(
 const esc = t => t.replace(/[&<>]/g, c => ({"&": "&amp;", "<": "&lt;", ">": "&gt;"})[c]);
 
 // ---- the run: columns, one entry for each state or step (crates/page_data/specs/Format.antt)
+// An event that is no step has a record too (Events.antt there): it has no cycles, or, a reset, is an
+// entry that stores nothing. In `head`, bit 3 says that no instruction ran, bit 2 that it is such an event,
+// bits 0 and 1 that it turns the IRQ line and the pending NMI.
 const long = (d, at) => d[at] + d[at + 1] * 256 + d[at + 2] * 65536 + d[at + 3] * 16777216 + (d[at + 4] + d[at + 5] * 256 + (d[at + 6] + d[at + 7] * 256) * 65536) * 4294967296;
 const ones = [...Array(256)].map((_, m) => { let k = 0; for (; m; m >>= 1) k += m & 1; return k; });
 // where the record after one begins
@@ -62,16 +65,16 @@ function decode(d) {
     if (g & 16) f ^= d[at++];
     if (g & 32) pc ^= d[at++];
     if (g & 64) pc ^= d[at++] << 8;
-    const e = g & 128 ? d[at++] : 0, entry = e & 64;
-    head[k] = h & 240 | entry >> 3;
-    if (entry) entries.push(k); else cycAt[was] += h & 15;
+    const e = g & 128 ? d[at++] : 0, event = !(h & 15) || (e & 64 && h < 64), entry = e & 64 && !event;
+    head[k] = h & 240 | (entry || event) << 3 | (event && 4 | e >> 3 & 3);
+    if (entry) entries.push(k); else if (!event) cycAt[was] += h & 15;
     for (let j = h >> 4 & 3; j--; m++, at += 2) step[m] = k, where[m] = d[at] | d[at + 1] << 8;
     for (let j = h >> 6; j--; m++, at += 3) step[m] = k, mem[where[m] = d[at] | d[at + 1] << 8] ^= xor[m] = d[at + 2];
     if (e & 1) out.push(d[at++]), outAt.push(k);
     if (e & 2) takenAt.push(k);
     if (e & 32) for (const b of some()) given.push(b), givenAt.push(k);
     if (s > top.s) { while (top.up && s > top.s) top.end = k + 1, top = top.up; if (s > top.s) top.s = s; }
-    if (entry || o == 32) calls.push(top = {start: k + 1, end: Infinity, up: top, depth: top.depth + 1, s, at: pc, irq: entry});
+    if (entry || o == 32 && !event) calls.push(top = {start: k + 1, end: Infinity, up: top, depth: top.depth + 1, s, at: pc, irq: entry});
   }
   for (let i = 0; i < m; i++) mem[where[i]] ^= xor[i];
   return {n, m, mem, image, cy0, A, X, Y, S, P, PC, C, op, head, took, first, where, xor, step, out, outAt, given, givenAt, takenAt, entries, cycAt, calls};
@@ -152,11 +155,13 @@ const near = (list, by) => { const j = by > 0 ? below(list, cur) : below(list, c
 function over(by) {
   if (by > 0) { const c = callAt(Math.min(cur + 1, n)); return c.start == cur + 1 ? Math.min(c.end, n) : cur + 1; }
   if (!cur) return 0;
-  let c = callAt(cur - 1), here = callAt(cur);
-  if (c.depth <= here.depth) return cur - 1;
-  while (c.up && c.depth > here.depth + 1) c = c.up;
+  let c = callAt(cur - 1);
+  if (c.end > cur) return cur - 1;
+  while (c.up.end <= cur) c = c.up;
   return c.start - 1;
 }
+// the line that was clicked, or the one that comes next
+const chosen = () => sel < 0 ? T.PC[cur] : sel;
 // to the visit of a place before or after this moment, round at the ends
 function toVisit(a, by) {
   const many = size(visits, a);
@@ -187,8 +192,8 @@ const moves = [
 const keys = {
   u: ["back to the call of this subroutine", () => go(callAt(cur).start - 1, 1)],
   r: ["on to where this subroutine has returned", () => go(callAt(cur).end, 1)],
-  v: ["next visit of this line", () => toVisit(T.PC[sel < 0 ? cur : sel], 1)],
-  V: ["the visit before", () => toVisit(T.PC[cur], -1)],
+  v: ["next visit of this line, or of the one that was clicked", () => toVisit(chosen(), 1)],
+  V: ["the visit before", () => toVisit(chosen(), -1)],
   w: ["back to the write of the chosen byte before this moment", () => cell >= 0 && toUse(cell, 1, -1)],
   W: ["on to its next write", () => cell >= 0 && toUse(cell, 1, 1)],
   a: ["back to the step that set A", () => toSet("A")], x: ["the same for X", () => toSet("X")], y: ["for Y", () => toSet("Y")], s: ["for S", () => toSet("S")],
@@ -349,7 +354,7 @@ function drawCode() {
     e.classList.toggle("now", now); e.classList.toggle("was", r.a == was && !now); e.classList.toggle("sel", r.a == sel);
     if (now) { e.setAttribute("aria-current", "step"); reveal(e); } else e.removeAttribute("aria-current");
   });
-  const a = sel < 0 ? pc : sel, many = short(a), at = before(visits, a, cur) + (pc == a && cur < n);
+  const a = chosen(), many = short(a), at = before(visits, a, cur) + (pc == a && cur < n);
   $("visit").innerHTML = `<span>${lineText(a) || "$" + H(a, 4)}: ${pc == a && cur < n ? "visit" : "visited"} ${N3(at)} of ${N3(many)}, ${N3(T.cycAt[a])} cycles in all</span><span><button data-v="-1">◂ visit</button><button data-v="1">visit ▸</button></span>`;
 }
 function reveal(e) {
@@ -374,14 +379,21 @@ function effects(k, done) {
     } else if (w) parts.push(`<span class="W">${at} ${x ? `${H(done ? now ^ x : now)} → ${H(done ? now : now ^ x)}` : `stays ${H(now)}`}</span>`);
     else parts.push(`<span class="R">${at} = ${H(now)}</span>`);
   }
-  if (T.head[k] >> 6 == 0 && (T.head[k] >> 4 & 3) == 0 && T.op[k] % 32 == 16) parts.push(T.PC[k + 1] == (T.PC[k] + 2 & 65535) ? "not taken" : "taken to " + esc(placeOf(T.PC[k + 1])));
-  if (done) for (const r of "AXYS") if (T[r][k] != T[r][k + 1]) parts.push(`${r} ${H(T[r][k])} → ${H(T[r][k + 1])}`);
+  if (!(T.head[k] & 248) && T.op[k] % 32 == 16) parts.push(T.PC[k + 1] == (T.PC[k] + 2 & 65535) ? "not taken" : "taken to " + esc(placeOf(T.PC[k + 1])));
+  if (done || T.head[k] & 4) for (const r of "AXYSP") if (T[r][k] != T[r][k + 1] && (r != "P" || T.head[k] & 4)) parts.push(`${r} ${H(T[r][k])} → ${H(T[r][k + 1])}`);
+  if (T.head[k] & 4) {
+    const j = T.givenAt.indexOf(k);
+    if (j >= 0) parts.push(`hands in ${H(T.given[j])} ${esc(glyph(T.given[j]))}`);
+    if (T.head[k] & 1) parts.push("the interrupt line changes");
+    if (T.head[k] & 2 && !T.took[k]) parts.push("asks for an NMI");
+  }
   return parts.join(" · ");
 }
 function act(k, word, done) {
-  if (k < 0 || k >= n) return `<em>${word}</em>${k < 0 ? "nothing yet: the machine was just reset" : "the run ends here"}<br><u>${k < 0 ? "" : esc(info.why || "")}</u>`;
+  if (k < 0 || k >= n) return `<em>${word}</em>${k < 0 ? "nothing yet: the run begins here" : "the run ends here"}<br><u>${k < 0 ? "" : esc(info.why || "")}</u>`;
   const a = T.PC[k], c = T.took[k];
-  const what = T.head[k] & 8 ? '<b class="I">interrupt</b>, to ' + esc(placeOf(T.PC[k + 1])) : `<b>${esc(dis(a)[0])}</b>`;
+  const to = T.PC[k + 1] == a ? "" : ", to " + esc(placeOf(T.PC[k + 1]));
+  const what = T.head[k] & 4 ? `<b class="I">${c ? "reset" : "by hand"}</b>${to}` : T.head[k] & 8 ? '<b class="I">interrupt</b>, to ' + esc(placeOf(T.PC[k + 1])) : `<b>${esc(dis(a)[0])}</b>`;
   return `<em>${word}</em>${what} <u>${c} cycles · ${esc(placeOf(a))}</u><br><em></em>${effects(k, done)}`;
 }
 function drawMachine() {
@@ -462,7 +474,7 @@ function drawMemory() {
   const a = cell;
   if (a < 0) { $("cell").innerHTML = "<span style='color:var(--dim)'>Click a byte to see who changed it; click it again to go there.<br><b class=W>▇</b> written, the fresher the stronger · <b class=R>▂</b> read · pale: never written</span>"; return; }
   const w = before(uses, a + 65536, f), r = before(uses, a, f), i = pick(uses, a + 65536, w - 1), nm = nameOf(a);
-  const who = i >= 0 ? `Last write: step ${N3(T.step[i] + 1)}, <code>${esc(T.head[T.step[i]] & 8 ? "interrupt" : dis(T.PC[T.step[i]])[0])}</code> ${lineText(T.PC[T.step[i]]) || "at $" + H(T.PC[T.step[i]], 4)}: <code>${H(M[a] ^ T.xor[i])} → ${H(M[a])}</code>` : T.image[a] ? "Not written so far: the byte is the program's own" : "Never written so far";
+  const who = i >= 0 ? `Last write: step ${N3(T.step[i] + 1)}, <code>${esc(T.head[T.step[i]] & 4 ? "by hand" : T.head[T.step[i]] & 8 ? "interrupt" : dis(T.PC[T.step[i]])[0])}</code> ${lineText(T.PC[T.step[i]]) || "at $" + H(T.PC[T.step[i]], 4)}: <code>${H(M[a] ^ T.xor[i])} → ${H(M[a])}</code>` : T.image[a] ? "Not written so far: the byte is the program's own" : "Never written so far";
   $("cell").innerHTML = `<code><b>$${H(a, 4)}</b> ${esc(nm)} = <b>${H(M[a])}</b></code> ${M[a]} ${esc(glyph(M[a]))} · written ${N3(w)} of ${N3(size(uses, a + 65536))}, read ${N3(r)} of ${N3(size(uses, a))} times<br>${who}<div>` +
     [["◂ write", 1, -1], ["write ▸", 1, 1], ["◂ read", 0, -1], ["read ▸", 0, 1]].map(([t, wr, by]) => `<button data-w="${wr}" data-by="${by}">${t}</button>`).join("") + "</div>";
 }
@@ -516,7 +528,7 @@ button("Page…", "any", () => { const p = parseInt(prompt("Page, two hex digits
 $("help").innerHTML = `<h2>Keys</h2><table>${moves.map(m => `<tr><td>${m.slice(3).map(k => `<kbd>${k == " " ? "Space" : k.replace("Arrow", "")}</kbd>`).join(" ")}<td>${m[0].replace(/ \(.*/, "")}`).join("")}${Object.entries(keys).map(([k, v]) => `<tr><td><kbd>${k}</kbd><td>${v[0]}`).join("")}</table><p>Click a line: its next visit, with Shift the one before. Click a byte: who changed it; again: go there. Click the console: the step that put the byte out. Drag in the picture of time; the wheel zooms.</p><form method="dialog"><button autofocus>Close</button></form>`;
 $("rows").onclick = e => { const r = rows[e.target.closest("tr")?.dataset.k]; if (r && r.a >= 0) sel = r.a, toVisit(r.a, e.shiftKey ? -1 : 1); };
 $("rows").onmousedown = e => e.shiftKey && e.preventDefault();                     // or Shift would select text
-$("visit").onclick = e => { const v = e.target.dataset.v; if (v) toVisit(sel < 0 ? T.PC[cur] : sel, +v); };
+$("visit").onclick = e => { const v = e.target.dataset.v; if (v) toVisit(chosen(), +v); };
 $("names").onclick = e => { const b = e.target.closest("button"); if (b) { cell = +b.dataset.a; show(cell >> 8); } };
 $("regs").onclick = e => { const r = e.target.closest(".reg")?.dataset.r; if (r) toSet(r); };
 $("calls").onclick = e => { const b = e.target.closest("button"); if (b) go(+b.dataset.go, 1); };

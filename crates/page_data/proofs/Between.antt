@@ -51,10 +51,10 @@ pub record Differs (handed : List ℕ) (at : List ℕ) (s t : State) : Type 0 wh
 
 -- ---- forwards and back
 
-flags_forth : (s t : State) → flags_of_byte (bit_xor (status false s.regs.flags) (bit_xor (status false s.regs.flags) (status false t.regs.flags))) ≡ t.regs.flags
+pub flags_forth : (s t : State) → flags_of_byte (bit_xor (status false s.regs.flags) (bit_xor (status false s.regs.flags) (status false t.regs.flags))) ≡ t.regs.flags
 flags_forth s t = ap flags_of_byte (xor_again (status false s.regs.flags) (status false t.regs.flags)) ∙ flags_again t.regs.flags
 
-flags_back : (s t : State) → flags_of_byte (bit_xor (status false t.regs.flags) (bit_xor (status false s.regs.flags) (status false t.regs.flags))) ≡ s.regs.flags
+pub flags_back : (s t : State) → flags_of_byte (bit_xor (status false t.regs.flags) (bit_xor (status false s.regs.flags) (status false t.regs.flags))) ≡ s.regs.flags
 flags_back s t = ap flags_of_byte (xor_back (status false s.regs.flags) (status false t.regs.flags)) ∙ flags_again s.regs.flags
 
 pending_gone : (b : Bool) → flipped b b ≡ false
@@ -65,7 +65,7 @@ pending_back : (b : Bool) → flipped b false ≡ b
 pending_back true = refl
 pending_back false = refl
 
-cut : (xs ys whole : List ℕ) → whole ≡ xs ++ ys → without_last (length ys) whole ≡ xs
+pub cut : (xs ys whole : List ℕ) → whole ≡ xs ++ ys → without_last (length ys) whole ≡ xs
 cut xs ys whole e =
     let n : length whole - length ys ≡ length xs = omega (arith, ap length e, length-append xs ys) in
     ap (λ k. take k whole) n ∙ ap (take (length xs)) e ∙ take_at xs ys (length xs) refl

@@ -10,3 +10,4 @@ pub mod Safe
 pub mod Starting
 pub mod Pages
 pub mod Recording
+pub mod Turning

@@ -5,3 +5,4 @@ pub mod Runs
 pub mod Start
 pub mod Safe
 pub mod Sent
+pub mod Events

@@ -34,7 +34,7 @@ pub struct Ahead {
 }
 
 /// Returns addresses with the bytes of memory there.
-fn cells_of(session: &Session, addresses: &Addresses) -> Cells
+pub fn cells_of(session: &Session, addresses: &Addresses) -> Cells
     ensures { result.items ≡ cells_of session.now.current.bus.memory addresses.now.items }
 {
     let mut cells = Cells::new();

@@ -42,7 +42,7 @@ fn push_cell(written: &mut Vec<u8>, address: u16, byte: u8) -> Result<(), AllocE
 }
 
 /// Appends addresses, each with its old byte XOR the byte that is there now.
-fn push_cells(
+pub fn push_cells(
     written: &mut Vec<u8>,
     cells: &[(u16, u8)],
     session: &Session,
@@ -58,7 +58,7 @@ fn push_cells(
 }
 
 /// Appends bytes with their count before them, if there are any.
-fn push_counted(written: &mut Vec<u8>, bytes: &[u8]) -> Result<(), AllocError>
+pub fn push_counted(written: &mut Vec<u8>, bytes: &[u8]) -> Result<(), AllocError>
     ensures { OnOk result (written.new.items ≡ written.old.items ++ counted bytes.now) }
 {
     if bytes.is_empty() {
@@ -80,7 +80,7 @@ fn push_out(written: &mut Vec<u8>, out: Option<u8>) -> Result<(), AllocError>
 }
 
 /// Returns the second of two truth values, flipped if the first is true.
-fn flipped(first: bool, second: bool) -> bool
+pub fn flipped(first: bool, second: bool) -> bool
     ensures { result ≡ flipped first second }
 {
     if first { !second } else { second }
@@ -105,7 +105,7 @@ pub fn signals(
 }
 
 /// Returns what changed of the registers, old XOR new, and the signals.
-fn eight(before: Regs, after: Regs, signals: u8) -> [u8; 8]
+pub fn eight(before: Regs, after: Regs, signals: u8) -> [u8; 8]
     ensures { result ≡ bit_xor before.a after.a ∷ bit_xor before.x after.x
         ∷ bit_xor before.y after.y ∷ bit_xor before.s after.s
         ∷ bit_xor (status false before.flags) (status false after.flags)
@@ -125,7 +125,7 @@ fn eight(before: Regs, after: Regs, signals: u8) -> [u8; 8]
 }
 
 /// Appends the marks of eight bytes, and those that are not 0.
-fn push_eight(written: &mut Vec<u8>, bytes: [u8; 8]) -> Result<(), AllocError>
+pub fn push_eight(written: &mut Vec<u8>, bytes: [u8; 8]) -> Result<(), AllocError>
     ensures { OnOk result (written.new.items ≡ written.old.items
         ++ marks bytes ∷ without_zeros bytes) }
 {

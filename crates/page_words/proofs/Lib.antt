@@ -1,4 +1,2 @@
-pub mod Cells
-pub mod LoadedBytes
 pub mod Running
 pub mod Ends

@@ -1,4 +1,3 @@
 pub mod CommandLine
 pub mod Asked
-pub mod Facts
 pub mod Done

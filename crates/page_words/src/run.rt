@@ -14,15 +14,14 @@ ghost use Rattle.page_words.specs.Done.{ShownIfFound, start_in};
 ghost use Rattle.page_writer.specs.Data.{IsQuiet};
 ghost use Rattle.running.specs.Places.{place_asked};
 
-use crate::facts::{Program, facts_of, source_of};
 use crate::words::{PageWords, read_page_words};
 use accesses::Written;
 use arguments::{FileRefusal, Refusal, is_one_file, read_most, refused_words};
 use assembler::Assembly;
 use console::Played;
 use loading::{Loaded, load, load_names};
-use page_viewer::{BEFORE_END, BEFORE_RUN, BEFORE_SOURCE, HEAD, TAIL};
-use page_writer::{SendFault, Template, Texts, write_page};
+use page_facts::{Program, facts_of, source_of, viewer};
+use page_writer::{SendFault, Texts, write_page};
 use running::{place_named, status_of_ending, tell_ending};
 use std::alloc::{AllocError, Global};
 use std::fs::File;
@@ -31,17 +30,6 @@ use std::rt::Files;
 
 /// The most bytes of input that a program can be given.
 const MOST_INPUT: u64 = 65_536;
-
-/// Returns the viewer.
-fn viewer() -> Template<'static> {
-    Template {
-        head: HEAD,
-        before_source: BEFORE_SOURCE,
-        before_run: BEFORE_RUN,
-        before_end: BEFORE_END,
-        tail: TAIL,
-    }
-}
 
 /// What a page says of a program besides its run.
 #[derive(Drop)]

@@ -28,8 +28,8 @@ why_words NoReset = NO_RESET.now
 why_words NoVector = NO_VECTOR.now
 why_words (Refused fault) = refused_words fault
 
-unfoldable pub why_fact : Ending → List ℕ
-why_fact ending = codes "why " ++ (why_words ending ++ codes "\n")
+unfoldable pub why_fact : List ℕ → List ℕ
+why_fact why = codes "why " ++ (why ++ codes "\n")
 
 -- ---- the parts
 
@@ -41,18 +41,18 @@ unfoldable pub front_text : Template → Texts → List ℕ
 front_text template texts = part_text template.head.now texts.facts.now
     ++ (part_text template.before_source.now texts.source.now ++ template.before_run.now)
 
-unfoldable pub end_text : Template → Ending → List ℕ
-end_text template ending = part_text template.before_end.now (why_fact ending)
+unfoldable pub end_text : Template → List ℕ → List ℕ
+end_text template why = part_text template.before_end.now (why_fact why)
     ++ template.tail.now
 
--- The whole text: the run's data stand in it in base64.
-abbrev pub page_text : Template → Texts → List ℕ → Ending → List ℕ
-page_text template texts bytes ending = front_text template texts
-    ++ (encode_of standard bytes ++ end_text template ending)
+-- The whole text: the run's data stand in it in base64, and then why it ended.
+abbrev pub page_text : Template → Texts → List ℕ → List ℕ → List ℕ
+page_text template texts bytes why = front_text template texts
+    ++ (encode_of standard bytes ++ end_text template why)
 
 -- What stands between the parts is of the alphabet in which nothing ends a script or begins markup.
-pub record AreSafe (texts : Texts) (bytes : List ℕ) (ending : Ending) : Type 0 where
+pub record AreSafe (texts : Texts) (bytes reason : List ℕ) : Type 0 where
   pub facts : is_safe_text (escaped texts.facts.now) ≡ true
   pub source : is_safe_text (escaped texts.source.now) ≡ true
   pub run : is_safe_text (encode_of standard bytes) ≡ true
-  pub why : is_safe_text (escaped (why_fact ending)) ≡ true
+  pub why : is_safe_text (escaped (why_fact reason)) ≡ true

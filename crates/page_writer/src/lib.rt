@@ -4,7 +4,8 @@
 //! facts, the source, the run, and how it ended. The run is that of `console`, and its data are
 //! those of `page_data`: read again, they give the state at the start and the state after each
 //! step, one after another (`specs/Data.antt`). The records go to the writer as they come, so
-//! memory does not grow with the steps. Nothing between the parts ends a script or begins markup.
+//! memory does not grow with the steps. `page_of` makes a page of data that were recorded before.
+//! Nothing between the parts ends a script or begins markup.
 #![tactic(auto)]
 
 mod page;
@@ -12,5 +13,5 @@ mod run;
 mod turn;
 mod wording;
 
-pub use page::{Template, Texts, write_page};
+pub use page::{Template, Texts, page_of, write_page};
 pub use page_data::SendFault;

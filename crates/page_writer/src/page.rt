@@ -22,7 +22,7 @@ use console::{Ending, Played};
 use debugger::Session;
 use formatting::push_text;
 use model::EventFault;
-use page_data::{SendFault, push_escaped};
+use page_data::{SendFault, push_base64, push_escaped};
 use std::alloc::{AllocError, Global};
 use std::io::Write;
 
@@ -70,12 +70,12 @@ fn why_words(ending: Ending) -> &'static str
 
 /// Returns the fact that says why a run ended.
 #[tactic(auto, unfolding(crate::specs::Page::why_fact))]
-fn why_fact(alloc: Global, ending: Ending) -> Result<Vec<u8>, AllocError>
-    ensures { IfOk result (λ fact. fact.items ≡ why_fact ending) }
+fn why_fact(alloc: Global, why: &str) -> Result<Vec<u8>, AllocError>
+    ensures { IfOk result (λ fact. fact.items ≡ why_fact why.now) }
 {
     let mut fact = Vec::new(alloc);
     push_text(&mut fact, "why ")?;
-    push_text(&mut fact, why_words(ending))?;
+    push_text(&mut fact, why)?;
     fact.push(b'\n')?;
     Ok(fact)
 }
@@ -111,11 +111,11 @@ fn front_of(
 
 /// Returns what a page has behind its run.
 #[tactic(auto, unfolding(crate::specs::Page::end_text))]
-fn end_of(alloc: Global, template: &Template<'_>, ending: Ending) -> Result<Vec<u8>, AllocError>
-    ensures text { IfOk result (λ text. text.items ≡ end_text template.now ending) }
-    ensures why { IfOk result (λ text. is_safe_text (escaped (why_fact ending)) ≡ true) }
+fn end_of(alloc: Global, template: &Template<'_>, why: &str) -> Result<Vec<u8>, AllocError>
+    ensures text { IfOk result (λ text. text.items ≡ end_text template.now why.now) }
+    ensures why { IfOk result (λ text. is_safe_text (escaped (why_fact why.now)) ≡ true) }
 {
-    let why = why_fact(alloc, ending)?;
+    let why = why_fact(alloc, why)?;
     let mut text = Vec::new(alloc);
     push_part(&mut text, template.before_end, why.as_slice())?;
     push_text(&mut text, template.tail)?;
@@ -151,14 +151,14 @@ fn put_front<W: Write>(
 fn put_end<W: Write>(
     alloc: Global,
     template: &Template<'_>,
-    ending: Ending,
+    why: &str,
     writer: &mut W,
 ) -> Result<(), SendFault>
     ensures text { OnOk result (Appends (W.contents writer.old) (W.contents writer.new)
-        (end_text template.now ending)) }
-    ensures why { OnOk result (is_safe_text (escaped (why_fact ending)) ≡ true) }
+        (end_text template.now why.now)) }
+    ensures why { OnOk result (is_safe_text (escaped (why_fact why.now)) ≡ true) }
 {
-    match end_of(alloc, template, ending) {
+    match end_of(alloc, template, why) {
         Ok(text) => put(text.as_slice(), writer),
         Err(_) => Err(SendFault::OutOfMemory),
     }
@@ -194,12 +194,37 @@ pub fn write_page<W: Write>(
         × RanAs (played until limit (begun session.old written input.now)) end session.new left
         × IsDataOf session.old.current
         (steps_of until limit (begun session.old written input.now)) bytes
-        × AreSafe texts.now bytes end.ending
+        × AreSafe texts.now bytes (why_words end.ending)
         × Appends (W.contents writer.old) (W.contents writer.new)
-        (page_text template.now texts.now bytes end.ending)) }
+        (page_text template.now texts.now bytes (why_words end.ending))) }
 {
     put_front(alloc, template, texts, writer)?;
     let played = write_run(alloc, session, written, until, limit, input, writer)?;
-    put_end(alloc, template, played.ending, writer)?;
+    put_end(alloc, template, why_words(played.ending), writer)?;
     Ok(played)
+}
+
+/// Returns a whole page whose data were recorded before, with the words for why they end.
+///
+/// Errors: `AllocError` if an allocation fails.
+///
+/// Source: mos65.
+pub fn page_of(
+    alloc: Global,
+    template: &Template<'_>,
+    texts: &Texts<'_>,
+    bytes: &[u8],
+    why: &str,
+) -> Result<Vec<u8>, AllocError>
+    // The parts of the template, and between them the facts, the source, the data and why they end.
+    ensures text { IfOk result (λ text. text.items
+        ≡ page_text template.now texts.now bytes.now why.now) }
+    // Nothing between the parts ends a script or begins markup.
+    ensures safe { IfOk result (λ text. AreSafe texts.now bytes.now why.now) }
+{
+    let mut text = front_of(alloc, template, texts)?;
+    push_base64(alloc, &mut text, bytes)?;
+    let end = end_of(alloc, template, why)?;
+    text.extend_from_slice(end.as_slice())?;
+    Ok(text)
 }

@@ -12,7 +12,7 @@ returns g c =
         facts = c.in_ok-put_front.ensures.facts;
         source = c.in_ok-put_front.ensures.source;
         run = run.4;
-        why = c.in_ok-put_end.ensures.why;
+        why = rw c.why_words.ensures at c.in_ok-put_end.ensures.why;
       },
-      three_parts _ _ _ _ _ _ _ c.in_ok-put_front.ensures.text run.5 c.in_ok-put_end.ensures.text,
+      three_parts _ _ _ _ _ _ _ c.in_ok-put_front.ensures.text run.5 (rw c.why_words.ensures at c.in_ok-put_end.ensures.text),
     )

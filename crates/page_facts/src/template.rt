@@ -1,0 +1,15 @@
+//! The viewer of a page.
+
+use crate::pieces::{BEFORE_END, BEFORE_RUN, BEFORE_SOURCE, HEAD, TAIL};
+use page_writer::Template;
+
+/// Returns the viewer, between whose parts a page has what it shows.
+pub fn viewer() -> Template<'static> {
+    Template {
+        head: HEAD,
+        before_source: BEFORE_SOURCE,
+        before_run: BEFORE_RUN,
+        before_end: BEFORE_END,
+        tail: TAIL,
+    }
+}
