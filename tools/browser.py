@@ -1,5 +1,6 @@
 """A headless Chromium, driven by the DevTools protocol over a pipe with the standard library alone."""
 
+import base64
 import json
 import os
 import shutil
@@ -39,7 +40,7 @@ class Browser:
         self.errors, self.requests, self.session = [], [], None
         target = self.call("Target.createTarget", url="about:blank")["targetId"]
         self.session = self.call("Target.attachToTarget", targetId=target, flatten=True)["sessionId"]
-        for domain in ("Page", "Runtime", "Log", "Network"):
+        for domain in ("Page", "Runtime", "Log", "Network", "Performance"):
             self.call(domain + ".enable")
         self.call("Emulation.setDeviceMetricsOverride", width=width, height=height,
                   deviceScaleFactor=scale, mobile=mobile)
@@ -101,6 +102,25 @@ class Browser:
         keys = dict(key=key, windowsVirtualKeyCode=code)
         self.call("Input.dispatchKeyEvent", type="keyDown", **keys, **({"text": text} if text else {}))
         self.call("Input.dispatchKeyEvent", type="keyUp", **keys)
+
+    def click(self, element, shift=False, dx=.5, dy=.5):
+        """Clicks on an element, a part of its width from the left and of its height from above."""
+        x, y = self.js(f"(e => {{ const r = e.getBoundingClientRect();"
+                       f" return [r.x + r.width * {dx}, r.y + r.height * {dy}]; }})({element})")
+        where = dict(x=x, y=y, button="left", clickCount=1, modifiers=8 if shift else 0)
+        self.call("Input.dispatchMouseEvent", type="mousePressed", buttons=1, **where)
+        self.call("Input.dispatchMouseEvent", type="mouseReleased", **where)
+
+    def screenshot(self, path):
+        time.sleep(.2)
+        data = self.call("Page.captureScreenshot", format="png")["data"]
+        with open(path, "wb") as it:
+            it.write(base64.b64decode(data))
+
+    def processor_seconds(self):
+        """The processor's time that the page's process has taken."""
+        found = self.call("Performance.getMetrics")["metrics"]
+        return next(it["value"] for it in found if it["name"] == "ProcessTime")
 
     def close(self):
         try:

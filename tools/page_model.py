@@ -87,7 +87,6 @@ def start_of(s):
 
 def change(spec, s, given):
     """The state after a step, to which some input was handed in before, and the change."""
-    before = s
     for byte in given:
         s, refused = machine.give(spec, s, byte)
         assert refused is None, refused
@@ -100,8 +99,34 @@ def change(spec, s, given):
         "stores": [(a, machine.peek(s, a) ^ machine.peek(t, a)) for a in stores],
         "out": machine.output(t)[-1] if t.out_len > s.out_len else None,
         "takes": t.taken > s.taken, "control": s.control != t.control, "nmi": s.nmi,
-        "given": bytes(given), "irq": before.irq,
+        "given": bytes(given), "irq": False,
     }
+
+
+def event_change(spec, s, event, *words):
+    """The state after an event that is no step, and the change: it has no cycles, but for a reset,
+    which is told as an interrupt entry that stores nothing."""
+    t, refused = event(spec, s, *words)
+    assert refused is None, refused
+    at = [words[0] + k for k in range(len(words[1]))] if event is machine.patch else []
+    return t, {
+        "cycles": t.cycles - s.cycles, "pc": s.pc ^ t.pc, "reads": [],
+        "entry": event is machine.reset,
+        "regs": [a ^ b for a, b in zip(regs_of(s), regs_of(t))],
+        "stores": [(a, machine.peek(s, a) ^ machine.peek(t, a)) for a in at],
+        "out": None, "takes": False, "control": s.control != t.control, "nmi": s.nmi != t.nmi,
+        "given": bytes(words) if event is machine.give else b"", "irq": s.irq != t.irq,
+    }
+
+
+def session_of(spec, image, events):
+    """The bytes of a session: its start, and a record for each event, where None is a step."""
+    s = machine.start(spec, image)
+    data = bytearray(start_of(s))
+    for event in events:
+        s, made = event_change(spec, s, *event) if event else change(spec, s, b"")
+        data += page_format.record(made)
+    return bytes(data)
 
 
 def data_of(spec, image, gives):

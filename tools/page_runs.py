@@ -1,0 +1,191 @@
+"""The runs whose pages tools/check-page looks at, and how these pages are made: by `mos65 page`, if it
+is built, and otherwise by tools/page_model.py."""
+
+import base64
+import os
+import re
+import subprocess
+
+import page_format
+import page_model
+import tape       # page_model has put tools/reference on the path
+
+TOP = os.path.dirname(os.path.dirname(os.path.realpath(__file__)))
+PROGRAM = os.environ.get("MOS65", f"{TOP}/crates/mos65/out/mos65")
+
+# A source, its words, its input, and the port, the ROM and the profile of its map.
+HOSTILE = "hostile.a65"
+MAP = (0xF000, None, "N")
+RUNS = [
+    ("hunt.a65", [], b"", MAP),
+    ("sieve.a65", ["--steps", "5000"], b"", MAP),
+    ("guess.a65", ["--steps", "2000"], b"Ada\n50\nsix\n6\n", MAP),
+    ("echo.a65", ["--steps", "2000"], b"Hello\n6502", MAP),
+    ("interrupt.a65", ["--steps", "1000"], b"ab\nc\n", MAP),
+    ("empty.a65", ["--free", "--steps", "300"], b"", MAP),
+    ("profile_c.a65", ["--profile", "C", "--steps", "2000"], b"", (0xF000, None, "C")),
+    ("rom.a65", ["--rom", "E000-EFFF", "--steps", "2000"], b"", (0xF000, (0xE000, 0xEFFF), "N")),
+    ("elsewhere.a65", ["--port", "C100", "--rom", "8000-BFFF", "--steps", "900"], b"port\n",
+     (0xC100, (0x8000, 0xBFFF), "N")),
+    ("entries.a65", [], b"ab\nc\n", MAP),
+    ("leave.a65", [], b"", MAP),
+    ("deep.a65", ["--steps", "700"], b"", MAP),
+    ("changes.a65", ["--steps", "300"], b"", MAP),
+    ("none.a65", [], b"", MAP),
+    ("hunt.tape", ["--tape"], b"", MAP),
+    (HOSTILE, ["--title", "</script><b>&%41\n%"], b"", MAP),
+]
+# Sources that are no examples: a ROM beside a port at another place, interrupts by the console,
+# subroutines of which two are left at once by TXS, calls without end, code that changes itself, and a
+# run of no step.
+START = "\n*=$FFFC\n.WORD start\n"
+SOURCES = {
+    "elsewhere.a65": """*=$8000
+start:  LDX #0
+        STX $8000       ; nothing happens
+wait:   LDA $C102
+        BEQ wait
+        LDA $C101
+        STA $0300,X
+        STA $C100
+        INX
+        JMP wait
+*=$FFFC
+.WORD start
+""",
+    "entries.a65": """*=$0200
+start:  LDA #1
+        STA $F003
+        CLI
+wait:   LDA $F002
+        JMP wait
+echo:   PHA
+        LDA $F001
+        STA $F000
+        PLA
+        RTI
+*=$FFFC
+.WORD start,echo
+""",
+    "leave.a65": """save    = $10
+count   = $11
+        *=$0200
+start:  TSX
+        STX save
+again:  JSR outer
+back:   INC count
+        LDA count
+        CMP #9
+        BNE again
+stop:   JMP stop
+outer:  JSR inner
+        RTS
+inner:  LDA count
+        LSR A
+        BCC plain
+        LDX save
+        TXS
+        JMP back
+plain:  RTS""" + START,
+    "deep.a65": "*=$0200\nstart: LDX #$FF\n TXS\nagain: JSR again" + START,
+    "changes.a65": "*=$0200\nstart: INC code\n"
+                   "code: LDA #0\n STA $F000\n JMP start" + START,
+    "none.a65": "*=$0200\nstart: .BYTE 2" + START,
+}
+
+
+def spec_of(row=MAP):
+    return page_model.machine.MapSpec(*row)
+
+
+def parts_of(text):
+    """The parts of a page by name: what stands in its elements of plain text."""
+    found = re.findall(rb'<script type="text/plain" id="(\w+)">(.*?)</script>', text, re.S)
+    return {name.decode(): part for name, part in found}
+
+
+def hostile():
+    """A source whose text would end a script, and whose lines and names are many and long."""
+    lines = ["*=$0200", "start: LDX #3 ; </script><script>alert(1)</script> <!-- /*RUN*/ /*END*/",
+             "loop: DEX ; &lt; %3C %", "      BNE loop ; ' \" `\\", "      JMP *",
+             "; " + "<" * 253, ""]
+    lines += [f"name_{n} = ${n:04X}" for n in range(2000)]
+    return "\r\n".join([*lines, "*=$FFFC", ".WORD start"]).encode()
+
+
+def said_in(part):
+    """What an escaped part says."""
+    part = part.removeprefix(b"\n")
+    return re.sub(rb"%(..)", lambda m: bytes((int(m[1], 16),)), part)
+
+
+def modelled(name, words, spec, page):
+    """The page of a run by tools/reference: with the input where the program's page has it, or with
+    none if there is no such page. Beside it the input."""
+    with open(name, "rb") as it:
+        text = it.read()
+    assembly = None if "--tape" in words else page_model.asm.assemble(text, spec)
+    image = assembly.image if assembly else tape.read_tape(text)
+    if page:
+        _, changes = page_format.decode(base64.b64decode(parts_of(page)["run"]))
+        gives = [change["given"] for change in changes]
+        why = said_in(parts_of(page)["end"])
+    else:
+        gives, why = [b""] * (0 if name == "none.a65" else 50), b"why nothing\n"
+    title = words[words.index("--title") + 1] if "--title" in words else name
+    facts = page_model.facts_of(title.replace("\n", " "), spec, image, assembly)
+    data = page_model.data_of(spec, image, gives)
+    page = page_model.page_of(facts, page_model.source_of(assembly), data, why)
+    return page, b"".join(gives)
+
+
+def run_program(words, typed):
+    """The steps that `run` makes of the same program."""
+    ran = subprocess.run([PROGRAM, "run", *words, "--cycles"], input=typed, capture_output=True,
+                         timeout=60)
+    return int(re.search(rb"(\d+) steps?\n$", ran.stderr)[1])
+
+
+def file_of(name):
+    """What a page is made of: an example, a source of this tool, or the tape of an example."""
+    if name == HOSTILE:
+        return hostile()
+    if name in SOURCES:
+        return SOURCES[name].encode()
+    with open(f"{TOP}/examples/{name.replace('.tape', '.a65')}", "rb") as it:
+        text = it.read()
+    if name.endswith(".tape"):
+        return tape.write_tape(page_model.asm.assemble(text, spec_of()).image)
+    return text
+
+
+def written(folder, name, words, typed):
+    """The page that the program writes of a file in a folder, or None where it is not built."""
+    if not os.access(PROGRAM, os.X_OK):
+        return None
+    with open(f"{folder}/typed", "wb") as it:
+        it.write(typed)
+    subprocess.run([PROGRAM, "page", name, f"{name}.html", "--input", "typed", *words], cwd=folder,
+                   capture_output=True, timeout=60)
+    with open(f"{folder}/{name}.html", "rb") as it:
+        return it.read()
+
+
+def make_page(compare, folder, name, words, typed, row):
+    """Makes a page in a folder, the current one, and returns its path. What the program writes is
+    compared with the page that is made by tools/reference."""
+    with open(name, "wb") as it:
+        it.write(file_of(name))
+    page = written(folder, name, words, typed)
+    wanted, given = modelled(name, words, spec_of(row), page)
+    if page:
+        compare(f"{name} page", page == wanted, True)
+        compare(f"{name} input", typed.startswith(given), True)
+        title = words.index("--title") if "--title" in words else len(words)
+        steps = len(page_format.decode(base64.b64decode(parts_of(page)["run"]))[1])
+        options = words[:title] + words[title + 2:]
+        compare(f"{name} steps", steps, run_program([name, *options], typed))
+    else:
+        with open(f"{name}.html", "wb") as it:
+            it.write(wanted)
+    return f"{folder}/{name}.html"
