@@ -1,64 +1,27 @@
--- What was prepared, and what suites come to.
+-- What suites come to.
 use Rattle.std.proofs.Common.{◌≡◌, ℕ, ◌+◌, ◌<◌, ◌≤◌, Bool, true, false, List, [], ◌∷◌, ◌++◌, Option, length, take, get_or, map, refl, sym, ap, ◌∙◌, subst, append-nil, append_assoc, inl, inr}
 use Rattle.std.specs.Prelude.{◌&&◌, IfOk, Result, Ok, Err}
 use Rattle.std.specs.Io.KnownBytes.{Appends}
 use Rattle.std.proofs.KnownBytes.{Appends-nil, Appends-trans}
 use Rattle.std.proofs.lemmas.List.{map_more, take_all}
-use Rattle.assembler.specs.Assembly.{IsAssembled}
-use Rattle.model.specs.State.{Map}
 use Rattle.model.specs.TextLines.{lines_of}
-use Rattle.source_map.specs.Lines.{PlacesView, places_of}
-use Rattle.t65_reader.specs.HeadText.{SeenHead, head_from}
-use Rattle.t65_reader.specs.RowText.{SeenRow, numbered_view, rows_from}
-use Rattle.t65_reader.specs.declared.row.Part.TheVariants.{Test, Setup, Teardown}
+use Rattle.t65_reader.specs.RowText.{SeenRow, numbered_view}
+use Rattle.t65_reader.specs.declared.row.Part.TheVariants.{Test}
 use Rattle.t65_reports.specs.Reports.{plan_text, tap_fault}
 use Rattle.t65_reports.specs.declared.wording.TheConstants.{TAP_BEGIN}
 use Rattle.t65.specs.Asked.{TestAsked}
-use Rattle.t65.specs.Ends.{EndsFile}
-use Rattle.t65.specs.Suites.{SuiteAsked, name_of, suite_view, suites_of}
-use Rattle.t65.specs.Tested.{Ground, IsPrepared, fresh_tally, ground_in, ground_of, map_of, path_of, rows_of, rows_text, summary_if, tally_after, tally_rows, tests_in}
-use Rattle.t65.specs.Told.{AreOutcomes, AreRun, AreTested, IsOutcome, IsRun, Outcome, manner_of, outcome_by}
-use Rattle.t65.specs.declared.fault.FileFault.{FileFault}
+use Rattle.t65_suites.specs.Ends.{EndsFile}
+use Rattle.t65_suites.specs.Suites.{SuiteAsked, name_of, suite_view, suites_of}
+use Rattle.t65.specs.Tested.{fresh_tally, rows_text, summary_if, tally_after, tally_rows}
+use Rattle.t65_runner.specs.Parts.{rows_of}
+use Rattle.t65_suites.specs.Prepared.{Ground, IsPrepared, ground_in, ground_of, tests_in}
+use Rattle.t65.specs.Told.{AreOutcomes, AreRun, AreTested, IsFaultText, IsOutcome, IsRun, Outcome, manner_of, outcome_by}
+use Rattle.t65_suites.specs.declared.fault.FileFault.{FileFault}
 use Rattle.t65.specs.declared.files.Manner.{Manner}
-use Rattle.t65.specs.declared.prepared.Prepared.{Prepared}
+use Rattle.t65_suites.specs.declared.prepared.Prepared.{Prepared}
 use Rattle.t65.specs.declared.stop.Stop.{Stop}
-use Rattle.t65.specs.declared.suites.Suite.{Suite}
+use Rattle.t65_suites.specs.declared.suites.Suite.{Suite}
 use Rattle.t65.specs.declared.tally.Tally.{Tally}
-
-abbrev ground_at : Map → List (Option ℕ) → PlacesView → List (ℕ × SeenRow) → Ground
-ground_at bus_map image places rows = record {
-  bus_map = bus_map;
-  image = image;
-  places = places;
-  before = rows_of Setup rows;
-  after = rows_of Teardown rows;
-}
-
-pub ready : (prepared : Prepared) (steps : ℕ) (suite : SuiteAsked) (text : List ℕ) (head : SeenHead) (next : ℕ) (lines : List (List ℕ)) (path : List ℕ)
-    → head_from 1 (lines_of text) ≡ Ok (head, next, lines) → text ≡ prepared.text.items
-    → prepared.map ≡ map_of head → path ≡ path_of suite head.source
-    → IsAssembled prepared.map prepared.assembly → prepared.places ≡ places_of path prepared.assembly
-    → rows_from steps prepared.assembly.names next lines ≡ Ok (map numbered_view prepared.rows.items)
-    → IsPrepared steps suite prepared
-ready prepared steps suite text head next lines path headed same mapped named assembled placed read = record {
-  file = record {
-    text = text;
-    head = head;
-    next = next;
-    lines = lines;
-    headed = headed;
-    path = path;
-    path_is = named;
-    assembly = prepared.assembly;
-    assembled = subst (λ (m : Map). IsAssembled m prepared.assembly) mapped assembled;
-    rows = map numbered_view prepared.rows.items;
-    read = read;
-  };
-  text_is = same;
-  ground_is = ap (λ (m : Map). ground_at m prepared.assembly.image (places_of path prepared.assembly) (map numbered_view prepared.rows.items)) (sym mapped)
-      ∙ ap (λ (p : PlacesView). ground_at prepared.map prepared.assembly.image p (map numbered_view prepared.rows.items)) (sym placed);
-  rows_are = refl;
-}
 
 -- ---- outcomes, one after another
 
@@ -158,7 +121,7 @@ tested_run manner suite count old new prepared tally p is written =
 
 pub untested_run : (manner : Manner) (suite : SuiteAsked) (count : ℕ) (old new : Option (List ℕ)) (fault : FileFault) (tally : Tally)
     → EndsFile fault → tally ≡ tally_after false 0 (fresh_tally count)
-    → ((title : List ℕ) × (remarks : List ℕ) × Appends old new (tap_fault tally.count (name_of suite) title remarks ++ summary_if manner.is_summary (name_of suite) tally.score))
+    → ((title : List ℕ) × (remarks : List ℕ) × Appends old new (tap_fault tally.count (name_of suite) title remarks ++ summary_if manner.is_summary (name_of suite) tally.score) × IsFaultText fault title remarks)
     → IsRun manner suite count old new tally
 untested_run manner suite count old new fault tally ends is told = record {
   outcome = outcome_by manner.is_summary (name_of suite) (tap_fault tally.count (name_of suite) told.0 told.1) tally;
@@ -167,6 +130,7 @@ untested_run manner suite count old new fault tally ends is told = record {
     ends = ends;
     title = told.0;
     remarks = told.1;
+    told = told.3;
     is = ap (λ (t : Tally). outcome_by manner.is_summary (name_of suite) (tap_fault t.count (name_of suite) told.0 told.1) t) is;
   });
   count_is = refl;
@@ -197,7 +161,7 @@ tested_result manner suite count old new prepared name (Ok tally) p named is wri
 
 pub untested_result : (manner : Manner) (suite : SuiteAsked) (count : ℕ) (old new : Option (List ℕ)) (fault : FileFault) (result : Result Tally Stop)
     → EndsFile fault → IfOk result (λ tally. tally ≡ tally_after false 0 (fresh_tally count))
-    → IfOk result (λ tally. (title : List ℕ) × (remarks : List ℕ) × Appends old new (tap_fault tally.count (name_of suite) title remarks ++ summary_if manner.is_summary (name_of suite) tally.score))
+    → IfOk result (λ tally. (title : List ℕ) × (remarks : List ℕ) × Appends old new (tap_fault tally.count (name_of suite) title remarks ++ summary_if manner.is_summary (name_of suite) tally.score) × IsFaultText fault title remarks)
     → IfOk result (IsRun manner suite count old new)
 untested_result manner suite count old new fault (Err stop) ends is told = tt
 untested_result manner suite count old new fault (Ok tally) ends is told = untested_run manner suite count old new fault tally ends is told

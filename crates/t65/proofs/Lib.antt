@@ -1,6 +1,3 @@
-mod Parts
-mod Ends
 mod Facts
-mod Paths
 mod Read
 mod Walk

@@ -9,7 +9,8 @@ use Rattle.t65_reader.specs.RowText.{numbered_view, row_seen}
 use Rattle.t65_reader.specs.declared.row.Row.{Row}
 use Rattle.t65_reports.specs.Lines.{line_at, lines_after, next_after}
 use Rattle.t65_reports.specs.Reports.{tap_case}
-use Rattle.t65.specs.Tested.{Ground, failure_of, plus, rows_text, tally_after, tally_rows, why}
+use Rattle.t65.specs.Tested.{failure_of, plus, rows_text, tally_after, tally_rows, why}
+use Rattle.t65_suites.specs.Prepared.{Ground}
 use Rattle.t65.specs.declared.tally.Tally.{Tally}
 use Rattle.t65_runner.specs.Passes.{rows_seen}
 

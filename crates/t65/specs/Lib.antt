@@ -1,8 +1,6 @@
 pub mod Asked
 pub mod CommandLine
-pub mod Ends
-pub mod Paths
-pub mod Suites
+pub mod Covered
 pub mod Tested
 pub mod Told
 pub mod Views

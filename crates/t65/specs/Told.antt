@@ -6,10 +6,14 @@ use Rattle.t65_reader.specs.declared.row.Part.TheVariants.{Test}
 use Rattle.t65_reports.specs.Reports.{plan_text, tap_fault}
 use Rattle.t65_reports.specs.declared.wording.TheConstants.{TAP_BEGIN}
 use Rattle.t65.specs.Asked.{TestAsked}
-use Rattle.t65.specs.Ends.{EndsFile}
-use Rattle.t65.specs.Suites.{SuiteAsked, name_of, suites_of}
-use Rattle.t65.specs.Tested.{TestedFile, fresh_tally, ground_of, rows_of, rows_text, summary_if, tally_after, tally_rows}
-use Rattle.t65.specs.declared.fault.FileFault.{FileFault}
+use Rattle.t65_suites.specs.Ends.{EndsFile}
+use Rattle.t65_suites.specs.FaultTexts.{IsShown, IsTitle}
+use Rattle.t65_suites.specs.Suites.{SuiteAsked, name_of, suites_of}
+use Rattle.t65.specs.Tested.{fresh_tally, rows_text, summary_if, tally_after, tally_rows}
+use Rattle.t65_runner.specs.Parts.{rows_of}
+use Rattle.t65_suites.specs.Prepared.{TestedFile, ground_of}
+use Rattle.t65_suites.specs.declared.fault.FileFault.{FileFault}
+use Rattle.t65_suites.specs.Replaced.{replaces_any}
 use Rattle.t65.specs.declared.files.Manner.{Manner}
 use Rattle.t65.specs.declared.tally.Tally.{Tally}
 
@@ -39,6 +43,11 @@ pub record IsTested (manner : Manner) (suite : SuiteAsked) (count : ℕ) (outcom
       (rows_of Test file.rows))
       (tally_rows (ground_of manner.steps suite file) (fresh_tally count) (rows_of Test file.rows))
 
+-- Why a suite cannot be tested, in a few words, and remarks.
+pub record IsFaultText (fault : FileFault) (title remarks : List ℕ) : Type 0 where
+  pub few_words : IsTitle fault title
+  pub seen : IsShown remarks
+
 -- A suite cannot be tested, which is a test of its own that fails: why, in a few words, and remarks.
 pub record IsUntested (manner : Manner) (suite : SuiteAsked) (count : ℕ) (outcome : Outcome)
     : Type 0 where
@@ -46,6 +55,7 @@ pub record IsUntested (manner : Manner) (suite : SuiteAsked) (count : ℕ) (outc
   pub ends : EndsFile fault
   pub title : List ℕ
   pub remarks : List ℕ
+  pub told : IsFaultText fault title remarks
   pub is : outcome ≡ outcome_by manner.is_summary (name_of suite)
       (tap_fault (tally_after false 0 (fresh_tally count)).count (name_of suite) title remarks)
       (tally_after false 0 (fresh_tally count))
@@ -95,3 +105,8 @@ abbrev pub AreTested : TestAsked → Option (List ℕ) → Option (List ℕ) →
 AreTested asked old new passes = (all : Outcome)
     × AreOutcomes (manner_of asked) 0 (suites_of asked.sources asked.files) all
     × (all.passes ≡ passes) × Tells old new all
+
+-- Neither report has the name of a file that is read: of a file of rows, or of a source of the words.
+pub record AreKept (asked : TestAsked) : Type 0 where
+  pub junit : replaces_any asked.junit (suites_of asked.sources asked.files) ≡ false
+  pub coverage : replaces_any asked.coverage (suites_of asked.sources asked.files) ≡ false

@@ -1,9 +1,14 @@
 //! Which lines of the sources were run, as lcov reads it.
 
-ghost use Rattle.std.specs.Prelude.{◌≡◌, OnOk};
+ghost use Rattle.std.specs.Prelude.{◌≡◌, IfOk, None, OnOk, is_some};
+ghost use Rattle.std.specs.Io.KnownBytes.{Appends};
+ghost use Rattle.std.specs.Option.{option_map};
+ghost use Rattle.t65.specs.Covered.{counts_begun, held, record_of};
+ghost use Rattle.t65_reader.specs.RowText.{row_view};
+ghost use Rattle.t65_runner.specs.Counting.{test_counted};
+ghost use Rattle.t65_runner.specs.Passes.{rows_seen};
 ghost use Rattle.t65_runner.specs.Start.{fresh};
 
-use crate::prepared::Prepared;
 use crate::stop::Stop;
 use accesses::Tally;
 use arguments::Refusal;
@@ -15,6 +20,7 @@ use std::io::Write;
 use std::rt::Files;
 use t65_reader::Row;
 use t65_runner::{Values, count_test};
+use t65_suites::Prepared;
 
 /// A file for lcov with a record for each suite that was tested; nothing is written and nothing
 /// counted where none is asked for.
@@ -28,7 +34,11 @@ pub struct Coverage<F: Write + Drop> {
 /// Begins a file for lcov of that name, if one is asked for. A file that is there is replaced.
 ///
 /// Errors: `Write` if the file cannot be written.
-pub fn begin_coverage<H: Files>(rt: &H, path: Option<&str>) -> Result<Coverage<H::File>, Refusal> {
+pub fn begin_coverage<H: Files>(rt: &H, path: Option<&str>) -> Result<Coverage<H::File>, Refusal>
+    // There is a file where one is asked for, and nothing is counted yet.
+    ensures file { IfOk result (λ coverage. is_some coverage.file ≡ is_some path.entry) }
+    ensures counts { IfOk result (λ coverage. coverage.counts ≡ None) }
+{
     let file = match path {
         None => None,
         Some(path) => match File::create(rt, path) {
@@ -39,15 +49,61 @@ pub fn begin_coverage<H: Files>(rt: &H, path: Option<&str>) -> Result<Coverage<H
     Ok(Coverage { file, counts: None })
 }
 
+/// Returns a count of nothing, if steps are to be counted.
+fn counts_begun(alloc: Global, is_asked: bool) -> Result<Option<Tally>, AllocError>
+    ensures { IfOk result (λ counts. counts ≡ counts_begun is_asked) }
+{
+    if !is_asked {
+        return Ok(None);
+    }
+    let tally = Tally::new(alloc)?;
+    Ok(Some(tally))
+}
+
+/// Returns the record of a suite whose steps were counted; no byte where they were not.
+fn record_of(
+    alloc: Global,
+    prepared: &Prepared,
+    counts: Option<&Tally>,
+) -> Result<Vec<u8>, AllocError>
+    ensures { IfOk result (λ text. text.items
+        ≡ record_of prepared.now (option_map (λ c. c.now) counts.entry)) }
+{
+    let mut text = Vec::new(alloc);
+    match counts {
+        None => Ok(text),
+        Some(counts) => {
+            let path = prepared.places.file();
+            push_record(&mut text, alloc, path, &prepared.assembly, counts)?;
+            Ok(text)
+        }
+    }
+}
+
+/// Writes a text at the end of a file, if there is one.
+fn append<F: Write + Drop>(file: &mut Option<F>, text: &[u8]) -> Result<(), Stop>
+    ensures { OnOk result
+        (Appends (held F.contents file.old) (held F.contents file.new) text.now) }
+{
+    match file {
+        None => Ok(()),
+        Some(file) => match file.write_all(text) {
+            Ok(()) => Ok(()),
+            Err(_) => Err(Stop::Coverage),
+        },
+    }
+}
+
 impl<F: Write + Drop> Coverage<F> {
     /// Begins a suite.
     ///
     /// Errors: `AllocError` if an allocation fails.
-    pub fn begin_suite(&mut self, alloc: Global) -> Result<(), AllocError> {
-        self.counts = match &self.file {
-            None => None,
-            Some(_) => Some(Tally::new(alloc)?),
-        };
+    pub fn begin_suite(&mut self, alloc: Global) -> Result<(), AllocError>
+        ensures file { self.new.file ≡ self.old.file }
+        ensures counts { OnOk result (self.new.counts ≡ counts_begun (is_some self.old.file)) }
+    {
+        let counts = counts_begun(alloc, self.file.is_some())?;
+        self.counts = counts;
         Ok(())
     }
 
@@ -67,34 +123,39 @@ impl<F: Write + Drop> Coverage<F> {
         requires { session.old ≡ fresh prepared.now.map prepared.now.assembly.image }
         ensures back { OnOk result
             (session.new ≡ fresh prepared.now.map prepared.now.assembly.image) }
+        ensures file { self.new.file ≡ self.old.file }
+        ensures counts { OnOk result (self.new.counts ≡ option_map (test_counted
+            (row_view row.now) (rows_seen rows.now)
+            (fresh prepared.now.map prepared.now.assembly.image) failed) self.old.counts) }
     {
         match &mut self.counts {
             None => Ok(()),
-            Some(counts) => count_test(
-                alloc,
-                session,
-                prepared.map,
-                prepared.assembly.image(),
-                row,
-                rows,
-                failed,
-                counts,
-            ),
+            Some(counts) => {
+                count_test(
+                    alloc,
+                    session,
+                    prepared.map,
+                    prepared.assembly.image(),
+                    row,
+                    rows,
+                    failed,
+                    counts,
+                )?;
+                Ok(())
+            }
         }
     }
 
     /// Ends a suite: writes the record of its source, if that is asked for.
     ///
     /// Errors: `OutOfMemory` if an allocation fails, `Coverage` if the file cannot be written.
-    pub fn end_suite(&mut self, alloc: Global, prepared: &Prepared) -> Result<(), Stop> {
-        let mut text = Vec::new(alloc);
-        if let Some(counts) = &self.counts {
-            let path = prepared.places.file();
-            push_record(&mut text, alloc, path, &prepared.assembly, counts)?;
-        }
-        if let Some(file) = &mut self.file {
-            file.write_all(&text).map_err(|_| Stop::Coverage)?;
-        }
-        Ok(())
+    pub fn end_suite(&mut self, alloc: Global, prepared: &Prepared) -> Result<(), Stop>
+        // The file gets the record of the suite behind those of the suites before it.
+        ensures written { OnOk result (Appends (held F.contents self.old.file)
+            (held F.contents self.new.file) (record_of prepared.now self.old.counts)) }
+        ensures counts { self.new.counts ≡ self.old.counts }
+    {
+        let text = record_of(alloc, prepared, self.counts.as_ref())?;
+        append(&mut self.file, &text)
     }
 }

@@ -5,19 +5,16 @@ ghost use Rattle.std.specs.Prelude.{string_bytes};
 ghost use Rattle.std.specs.Io.KnownBytes.{Appends};
 ghost use Rattle.model.specs.TextLines.{lines_of};
 ghost use Rattle.t65_reports.specs.Reports.{tap_fault};
-ghost use Rattle.t65.specs.Suites.{name_of, suite_view};
-ghost use Rattle.t65.specs.Tested.{fresh_tally, ground_in, rows_text, summary_if, tally_after};
-ghost use Rattle.t65.specs.Tested.{tally_rows, tests_in};
-ghost use Rattle.t65.specs.Told.{AreRun, IsRun};
+ghost use Rattle.t65_suites.specs.Suites.{name_of, suite_view};
+ghost use Rattle.t65.specs.Tested.{fresh_tally, rows_text, summary_if, tally_after};
+ghost use Rattle.t65_suites.specs.Prepared.{ground_in};
+ghost use Rattle.t65.specs.Tested.{tally_rows};
+ghost use Rattle.t65_suites.specs.Prepared.{tests_in};
+ghost use Rattle.t65.specs.Told.{AreRun, IsFaultText, IsRun};
 
-use crate::around::rows_of;
-use crate::fault::{FileFault, is_memory};
-use crate::fault_words::{remarks_of, title_of};
-use crate::prepared::{Prepared, prepare};
 use crate::report::Reports;
 use crate::rows::{Told, run_rows, write_told};
 use crate::stop::Stop;
-use crate::suites::Suite;
 use crate::tally::{Tally, fresh_tally, tally_after};
 use arguments::write_text;
 use std::alloc::{AllocError, Global};
@@ -25,6 +22,8 @@ use std::io::{Seek, Write};
 use std::rt::Files;
 use t65_reader::Part;
 use t65_reports::{Score, junit_fault, summary, tap_fault};
+use t65_runner::rows_of;
+use t65_suites::{FileFault, Prepared, Suite, is_memory, prepare, remarks_of, title_of};
 
 /// How rows are run and told of.
 #[derive(Clone, Copy)]
@@ -91,7 +90,8 @@ fn untested(
 ) -> Result<Told, AllocError>
     ensures tap { IfOk result (λ told. (title : List ℕ) × (remarks : List ℕ)
         × (string_bytes told.tap
-        ≡ tap_fault number (name_of (suite_view suite.entry)) title remarks)) }
+        ≡ tap_fault number (name_of (suite_view suite.entry)) title remarks)
+        × IsFaultText fault.now title remarks) }
 {
     let title = title_of(alloc, fault)?;
     let remarks = remarks_of(alloc, suite.rows, fault)?;
@@ -100,6 +100,13 @@ fn untested(
         junit: junit_fault(alloc, suite.name(), &title, &remarks)?,
         passes: false,
     })
+}
+
+/// Returns what a suite that cannot be tested comes to, after so many tests: one that fails.
+fn untested_tally(count: u64) -> Tally
+    ensures { result ≡ tally_after false 0 (fresh_tally count) }
+{
+    tally_after(false, 0, fresh_tally(count))
 }
 
 /// Tells of a suite that cannot be tested, after so many tests: as a test that fails.
@@ -116,9 +123,10 @@ fn run_untested<O: Write, F: Write + Seek + Drop>(
     ensures written { IfOk result (λ tally. (title : List ℕ) × (remarks : List ℕ)
         × Appends (O.contents output.old) (O.contents output.new)
         (tap_fault tally.count (name_of (suite_view suite.entry)) title remarks
-        ++ summary_if is_summary (name_of (suite_view suite.entry)) tally.score)) }
+        ++ summary_if is_summary (name_of (suite_view suite.entry)) tally.score)
+        × IsFaultText fault.now title remarks) }
 {
-    let tally = tally_after(false, 0, fresh_tally(count));
+    let tally = untested_tally(count);
     let told = untested(alloc, tally.count, suite, fault)?;
     reports.junit.begin_suite(alloc, suite.name(), 1)?;
     write_told(alloc, suite.name(), &told, output, reports)?;
@@ -198,5 +206,5 @@ pub fn run_suites<H: Files + AllocGlobal, O: Write>(
 fn both(first: bool, second: bool) -> bool
     ensures { result ≡ (first && second) }
 {
-    first && second
+    if first { second } else { false }
 }

@@ -6,22 +6,14 @@
 //! say.
 #![tactic(auto)]
 
-mod around;
 mod coverage;
-mod fault;
-mod fault_words;
 mod files;
-mod names;
-mod prepared;
-mod replaced;
 mod report;
 mod rows;
 mod run;
 mod stop;
-mod suites;
 mod tally;
 mod words;
 
-pub use fault::{FileFault, TestFault};
 pub use run::test;
 pub use words::test_command;

@@ -8,13 +8,12 @@ ghost use Rattle.t65_reader.specs.RowText.{numbered_view};
 ghost use Rattle.t65_reports.specs.Failures.{detail_text};
 ghost use Rattle.t65_reports.specs.Reports.{tap_case};
 ghost use Rattle.t65_runner.specs.Start.{fresh};
-ghost use Rattle.t65.specs.Tested.{IsAround, failure_of, ground_in, plus, rows_text, run_of};
+ghost use Rattle.t65.specs.Tested.{IsAround, failure_of, plus, rows_text, run_of};
+ghost use Rattle.t65_suites.specs.Prepared.{ground_in};
 ghost use Rattle.t65.specs.Tested.{tally_rows, why};
 ghost use Rattle.t65_runner.specs.Passes.{rows_seen};
 
-use crate::around::Around;
 use crate::coverage::Coverage;
-use crate::prepared::Prepared;
 use crate::report::Reports;
 use crate::stop::Stop;
 use crate::tally::{Tally, tally_after};
@@ -24,7 +23,8 @@ use std::alloc::{AllocError, Global};
 use std::io::{Seek, Write};
 use t65_reader::{Ranges, Row};
 use t65_reports::{Bench, Case, RowLines, detail_of, junit_case, tap_case};
-use t65_runner::{HISTORY, Values, first_failed};
+use t65_runner::{Around, HISTORY, Values, first_failed};
+use t65_suites::Prepared;
 
 /// The texts of a test that has ended, and whether it passes.
 #[derive(Drop)]

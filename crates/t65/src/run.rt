@@ -3,20 +3,19 @@
 ghost use Rattle.std.specs.Prelude.{◌≡◌, ◌≢◌, ◌⊎◌, ◌≤◌, IfErr, IfOk, None, false, true};
 ghost use Rattle.arguments.specs.Words.{AsksForHelp, Fits, Misfits, texts};
 ghost use Rattle.t65.specs.CommandLine.{Asks, test, words_asked};
-ghost use Rattle.t65.specs.Told.{AreTested};
+ghost use Rattle.t65.specs.Told.{AreKept, AreTested};
 ghost use Rattle.t65.specs.Views.{test_view};
 
 use crate::coverage::begin_coverage;
 use crate::files::{Manner, run_suites};
-use crate::replaced::replaced_file;
 use crate::report::{Reports, begin_report};
 use crate::stop::Stop;
-use crate::suites::suites_of;
 use crate::words::{TestWords, read_words};
 use arguments::{Refusal, refuse, refuse_file, refused_words, write_text};
 use std::io::Write;
 use std::rt::Files;
 use t65_reports::{TAP_BEGIN, plan};
+use t65_suites::{TestFault, replaced_by, suites_of};
 
 /// Runs the suites of the words, and tells of them. Returns whether all tests pass.
 fn run_told<H: Files + AllocGlobal, O: Write>(
@@ -60,6 +59,25 @@ fn refuse_stop<E: Write>(stop: Stop, words: &TestWords<'_>, errors: &mut E) -> u
         Stop::Output => refuse(Refusal::Write, errors),
         Stop::Report => refuse_written(words.junit, errors),
         Stop::Coverage => refuse_written(words.coverage, errors),
+    }
+}
+
+/// Returns the path of the first file that is read and that the report for JUnit or the file for
+/// lcov would replace, if there is one.
+///
+/// Errors: `OutOfMemory` if an allocation fails.
+fn replaced_file<H: Files + AllocGlobal>(
+    rt: &H,
+    words: &TestWords<'_>,
+) -> Result<Option<String>, TestFault>
+    ensures { IfOk result (λ found. found ≡ None → AreKept (test_view words.now)) }
+{
+    match replaced_by(rt, &words.files, &words.sources, words.junit)? {
+        Some(path) => Ok(Some(path)),
+        None => match replaced_by(rt, &words.files, &words.sources, words.coverage)? {
+            Some(path) => Ok(Some(path)),
+            None => Ok(None),
+        },
     }
 }
 

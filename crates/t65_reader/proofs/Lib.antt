@@ -1,4 +1,3 @@
-mod Heads
 mod Hex
 mod Items
 mod Rows

@@ -1,3 +1,2 @@
-pub mod HeadText
 pub mod RowText
 pub mod FaultWords

@@ -1,11 +1,10 @@
 //! The rows of a test file: what a line of it asks for and expects.
 //!
-//! `read_head` reads the line that names the source, `read_row` one line after it, and `read_rows`
-//! all of these. The definitions are `specs/HeadText.antt` and `specs/RowText.antt`.
+//! `read_row` reads a line, and `read_rows` all lines after the one that names the source. What
+//! reads that line takes words and signs from here too. The definitions are `specs/RowText.antt`.
 #![tactic(auto)]
 
 mod fault;
-mod head;
 mod item;
 mod line;
 mod row;
@@ -16,10 +15,13 @@ mod wording;
 
 pub use assembler::Assembly;
 pub use fault::{Base, RowFault, RowFaultKind, TextFault};
-pub use head::{Head, Opened, read_head};
+pub use item::string_of;
 pub use line::read_row;
 pub use row::{
     Atom, Call, Choice, Entry, Flag, Item, MOST_STEPS, Operation, Operator, Part, Place, Range,
     Ranges, Register, Relation, Row, Value,
 };
-pub use text::read_rows;
+pub use scan::{
+    after_sign, after_word, ends, fault_at, hex_of, is_next, is_text, skip_blanks, word_of,
+};
+pub use text::{fault_of, read_rows};

@@ -18,4 +18,5 @@ pub use reports::{
     Case, Score, junit_case, junit_fault, plan, suite_head, summary, tap_case, tap_fault,
 };
 pub use row_lines::RowLines;
+pub use texts::push_bytes;
 pub use wording::{JUNIT_BEGIN, JUNIT_END, SUITE_END, TAP_BEGIN};

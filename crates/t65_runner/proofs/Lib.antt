@@ -1,3 +1,4 @@
 mod Counted
 pub mod Firsts
+mod Parts
 mod Since

@@ -1,5 +1,6 @@
 pub mod Counting
 pub mod Interrupts
+pub mod Parts
 pub mod Passes
 pub mod RangeValues
 pub mod Start

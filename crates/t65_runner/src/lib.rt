@@ -1,14 +1,15 @@
 //! Rows of test files run on a machine, and which of them pass.
 //!
 //! `first_failed` runs a row from a machine's start for values of its ranges, with the rows that go
-//! before and after it, and goes back after each.
+//! before and after it, and goes back after each. `Around` has these rows of a file.
 //!
 //! `specs/Passes.antt` says when a row passes, `specs/RangeValues.antt` for which values it is run,
-//! `specs/Interrupts.antt` how a handler is entered, `specs/Counting.antt` how often steps begin
-//! where, and `specs/Start.antt` how a session stands to
-//! its start.
+//! `specs/Parts.antt` which rows are run around a test, `specs/Interrupts.antt` how a handler is
+//! entered, `specs/Counting.antt` how often steps begin where, and `specs/Start.antt` how a session
+//! stands to its start.
 #![tactic(auto)]
 
+mod around;
 mod bench;
 mod counting;
 mod going_back;
@@ -16,6 +17,7 @@ mod interrupts;
 mod passes;
 mod range_values;
 
+pub use around::{Around, has_test, rows_of};
 pub use bench::{first_failed, run_entered};
 pub use counting::count_test;
 pub use going_back::{HISTORY, restore};

@@ -1,4 +1,4 @@
-use Rattle.t65.specs.Suites.{suite_view}
+use Rattle.t65_suites.specs.Suites.{suite_view}
 use Rattle.t65.proofs.Facts.{tested_result, untested_result}
 use Rattle.t65.proofs.files.run_suite.Goals as goal
 

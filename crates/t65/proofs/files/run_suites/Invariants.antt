@@ -1,5 +1,5 @@
 use Rattle.std.proofs.Common.{map, take}
-use Rattle.t65.specs.Suites.{suite_view}
+use Rattle.t65_suites.specs.Suites.{suite_view}
 use Rattle.t65.specs.Told.{AreRun}
 use Rattle.t65.proofs.files.run_suites.Given as goal
 

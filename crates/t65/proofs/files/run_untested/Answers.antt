@@ -3,7 +3,7 @@ use Rattle.std.proofs.Common.{sym, subst, ◌≡◌, ◌++◌, List, ℕ}
 use Rattle.std.specs.Prelude.{string_bytes}
 use Rattle.std.specs.Io.KnownBytes.{Appends}
 use Rattle.t65_reports.specs.Reports.{tap_fault}
-use Rattle.t65.specs.Suites.{name_of, suite_view}
+use Rattle.t65_suites.specs.Suites.{name_of, suite_view}
 use Rattle.t65.specs.Tested.{summary_if}
 use Rattle.t65.proofs.files.run_untested.Goals as goal
 
@@ -14,5 +14,6 @@ returns-clause-written g c =
       told.1,
       Appends-trans (g.O.Write.contents c.args.output.now) (g.O.Write.contents c.write_told.new.output) (g.O.Write.contents c.write_summary.new.output) _ _
           (subst (Appends (g.O.Write.contents c.args.output.now) (g.O.Write.contents c.write_told.new.output)) told.2 c.in_ok-write_told.ensures)
-          (subst (λ (n : List ℕ). Appends (g.O.Write.contents c.write_told.new.output) (g.O.Write.contents c.write_summary.new.output) (summary_if c.args.is_summary n c.tally_after-tally.result.score)) c.name-3.ensures c.in_ok-write_summary.ensures),
+          (subst (λ (n : List ℕ). Appends (g.O.Write.contents c.write_told.new.output) (g.O.Write.contents c.write_summary.new.output) (summary_if c.args.is_summary n c.untested_tally-tally.result.score)) c.name-3.ensures c.in_ok-write_summary.ensures),
+      told.3,
     )

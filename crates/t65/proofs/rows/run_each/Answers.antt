@@ -1,7 +1,8 @@
 use Rattle.std.proofs.Common.{◌∙◌, ◌+◌, ℕ, List, ap, arith, drop, map, refl}
 use Rattle.model.specs.TextLines.{lines_of}
 use Rattle.t65_reports.specs.Lines.{lines_left}
-use Rattle.t65.specs.Tested.{ground_in, rows_text, tally_rows}
+use Rattle.t65.specs.Tested.{rows_text, tally_rows}
+use Rattle.t65_suites.specs.Prepared.{ground_in}
 use Rattle.t65.specs.declared.tally.Tally.{Tally}
 use Rattle.t65.proofs.Walk.{all_counted, all_left, no_row_left, none_left, one_counted, row_told}
 use Rattle.t65.proofs.rows.run_each.Goals as goal

@@ -2,7 +2,8 @@ use Rattle.std.proofs.Common.{◌≡◌, drop, map}
 use Rattle.model.specs.TextLines.{lines_of}
 use Rattle.t65_reports.specs.Lines.{lines_left}
 use Rattle.t65_runner.specs.Start.{fresh}
-use Rattle.t65.specs.Tested.{ground_in, rows_text, tally_rows}
+use Rattle.t65.specs.Tested.{rows_text, tally_rows}
+use Rattle.t65_suites.specs.Prepared.{ground_in}
 use Rattle.t65.proofs.Walk.{TextLeft}
 use Rattle.t65.proofs.rows.run_each.Given as goal
 use Rattle.t65_runner.specs.Passes.{rows_seen}

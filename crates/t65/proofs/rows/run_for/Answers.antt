@@ -1,7 +1,7 @@
 use Rattle.std.proofs.Common.{◌∙◌, ◌++◌, ◌∷◌, ℕ, List, ap}
 use Rattle.t65_reader.specs.RowText.{SeenRow, numbered_view}
 use Rattle.t65_runner.specs.Passes.{rows_seen}
-use Rattle.t65.specs.Tested.{ground_in}
+use Rattle.t65_suites.specs.Prepared.{ground_in}
 use Rattle.t65.proofs.rows.run_for.Goals as goal
 
 pub returns : goal.returns

@@ -1,9 +1,9 @@
 use Rattle.std.proofs.Common.{◌∙◌, ap, ap₂, ℕ, List, map, subst}
 use Rattle.std.specs.Borrow.{Bor}
 use Rattle.std.specs.Io.KnownBytes.{Appends}
-use Rattle.t65.specs.Suites.{suite_view, suites_of}
+use Rattle.t65_suites.specs.Suites.{suite_view, suites_of}
 use Rattle.t65.specs.Views.{test_view}
-use Rattle.t65.specs.declared.suites.Suite.{Suite}
+use Rattle.t65_suites.specs.declared.suites.Suite.{Suite}
 use Rattle.t65.proofs.Facts.{all_told}
 use Rattle.t65.proofs.run.run_told.Goals as goal
 

@@ -1,0 +1,5 @@
+mod Ends
+mod Heads
+mod Paths
+mod Ready
+mod Spared

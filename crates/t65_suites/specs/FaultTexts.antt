@@ -1,0 +1,62 @@
+-- Why a suite cannot be tested, in words. Source: mos65.
+use Rattle.std.specs.Prelude.{◌≡◌, ℕ, ◌==◌, Bool, true, false, if◌then◌else◌, List, ◌++◌, codes, decimal, map}
+use Rattle.arguments.specs.declared.load_fault.LoadFault.{LoadFault}
+use Rattle.arguments.specs.declared.load_fault.LoadFault.TheVariants as load
+use Rattle.arguments.specs.declared.refusal.Refusal.{Refusal}
+use Rattle.arguments.specs.declared.refusal.Refusal.TheVariants.{OutOfMemory}
+use Rattle.t65_reader.specs.FaultWords.{fault_words}
+use Rattle.t65_reader.specs.declared.fault.TextFault.{TextFault}
+use Rattle.model.specs.Token.{is_printable}
+use Rattle.t65_suites.specs.declared.fault.FileFault.{FileFault}
+use Rattle.t65_suites.specs.declared.fault.FileFault.TheVariants.{InRows, InSource}
+use Rattle.t65_suites.specs.declared.fault.TestFault.{TestFault}
+use Rattle.t65_suites.specs.declared.fault.TestFault.TheVariants.{Rows, TooLarge, NoRow, Refused}
+use Rattle.t65_suites.specs.declared.wording.TheConstants.{NO_ROW, TOO_LARGE}
+
+-- ---- memory
+
+abbrev pub is_out : Refusal → Bool
+is_out OutOfMemory = true
+is_out refusal = false
+
+abbrev pub is_out_of_rows : TestFault → Bool
+is_out_of_rows (Refused refusal) = is_out refusal
+is_out_of_rows fault = false
+
+abbrev pub is_out_of_source : LoadFault → Bool
+is_out_of_source (load.Refused refusal) = is_out refusal
+is_out_of_source fault = false
+
+-- Whether memory ran out.
+abbrev pub is_memory : FileFault → Bool
+is_memory (InRows fault) = is_out_of_rows fault
+is_memory (InSource path fault) = is_out_of_source fault
+
+-- ---- texts
+
+abbrev pub visible : ℕ → ℕ
+visible byte = if is_printable byte then byte else if byte == 9 then 32 else 63
+
+-- A tab is shown as a space, and what is no visible character of ASCII as `?`. Lines end where they
+-- do.
+abbrev pub shown : ℕ → ℕ
+shown b = if b == 10 then 10 else visible b
+
+-- A text is some bytes as they are shown.
+abbrev pub IsShown : List ℕ → Type 0
+IsShown text = (bytes : List ℕ) × (text ≡ map shown bytes)
+
+-- The line of a row, and what is wrong there.
+abbrev pub line_title : TextFault → List ℕ
+line_title fault = codes "line " ++ decimal fault.line ++ codes ": " ++ fault_words fault.kind
+
+abbrev pub IsRowsTitle : TestFault → List ℕ → Type 0
+IsRowsTitle (Rows fault) title = title ≡ line_title fault
+IsRowsTitle TooLarge title = title ≡ TOO_LARGE.now
+IsRowsTitle NoRow title = title ≡ NO_ROW.now
+IsRowsTitle (Refused refusal) title = IsShown title
+
+-- Why a suite cannot be tested, in a few words.
+abbrev pub IsTitle : FileFault → List ℕ → Type 0
+IsTitle (InRows fault) title = IsRowsTitle fault title
+IsTitle (InSource path fault) title = IsShown title

@@ -1,0 +1,7 @@
+pub mod Ends
+pub mod FaultTexts
+pub mod HeadText
+pub mod Paths
+pub mod Prepared
+pub mod Replaced
+pub mod Suites

@@ -1,0 +1,34 @@
+-- Files that are read, and that a report would replace. Which names are other names of a file, and
+-- which source a file of rows names, no clause can say. Source: mos65.
+use Rattle.std.specs.Prelude.{◌≡◌, ◌⊎◌, ◌||◌, Bool, false, List, Option, None, Some, Contains}
+use Rattle.std.specs.List.{list_any}
+use Rattle.std.specs.Str.{bytes_eq}
+use Rattle.clap.specs.Words.{Text}
+use Rattle.t65_suites.specs.Prepared.{path_of}
+use Rattle.t65_suites.specs.Suites.{SuiteAsked}
+
+-- A report has the name of a file, if there is one.
+abbrev pub replaces_one : Text → Option Text → Bool
+replaces_one report None = false
+replaces_one report (Some file) = bytes_eq file report
+
+-- A report has the name of a suite's file of rows, or of the source that the words name for it.
+abbrev pub is_read : Text → SuiteAsked → Bool
+is_read report suite = bytes_eq suite.rows report || replaces_one report suite.source
+
+-- A report, if there is one, has the name of a file that is read for some suites.
+abbrev pub replaces_any : Option Text → List SuiteAsked → Bool
+replaces_any None suites = false
+replaces_any (Some report) suites = list_any (is_read report) suites
+
+-- The path of a suite's source, by the name that its file of rows has for it.
+abbrev pub IsSourceOf : SuiteAsked → Text → Type 0
+IsSourceOf suite path = (name : Text) × (path ≡ path_of suite name)
+
+-- A file is read for a suite: its file of rows, or its source.
+abbrev pub IsReadForOne : SuiteAsked → Text → Type 0
+IsReadForOne suite path = (path ≡ suite.rows) ⊎ IsSourceOf suite path
+
+-- A file is read for one of some suites.
+abbrev pub IsReadFor : List SuiteAsked → Text → Type 0
+IsReadFor suites path = (suite : SuiteAsked) × Contains suites suite × IsReadForOne suite path

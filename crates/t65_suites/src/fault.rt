@@ -1,0 +1,85 @@
+//! Why a file of rows cannot be tested.
+
+ghost use Rattle.std.specs.Prelude.{◌≡◌};
+ghost use Rattle.t65_suites.specs.FaultTexts.{is_memory, is_out, is_out_of_rows};
+ghost use Rattle.t65_suites.specs.FaultTexts.{is_out_of_source};
+ghost use Rattle.t65_suites.specs.declared.fault.FileFault.TheVariants.{InRows};
+ghost use Rattle.t65_suites.specs.declared.fault.TestFault.TheVariants.{Refused};
+
+use arguments::{LoadFault, Refusal};
+use t65_reader::TextFault;
+
+/// Why a file of rows cannot be tested.
+#[derive(Clone, Copy)]
+pub enum TestFault {
+    /// A line of the file is no row.
+    Rows(TextFault),
+    /// The file has more than 1,048,576 bytes.
+    TooLarge,
+    /// No row of the file is a test.
+    NoRow,
+    /// What other words are refused for too: the map, reading, memory.
+    Refused(Refusal),
+}
+
+impl From<Refusal> for TestFault {
+    ghost from_gives = { λ refusal fault. fault ≡ Refused refusal };
+
+    fn from(refusal: Refusal) -> TestFault {
+        TestFault::Refused(refusal)
+    }
+}
+
+/// Where a fault is: in the file of rows, or in the source of that path.
+#[derive(Drop)]
+pub enum FileFault {
+    InRows(TestFault),
+    InSource(String, LoadFault),
+}
+
+impl From<TestFault> for FileFault {
+    ghost from_gives = { λ fault of_file. of_file ≡ InRows fault };
+
+    fn from(fault: TestFault) -> FileFault {
+        FileFault::InRows(fault)
+    }
+}
+
+fn is_out(refusal: Refusal) -> bool
+    ensures { result ≡ is_out refusal }
+{
+    matches!(refusal, Refusal::OutOfMemory)
+}
+
+fn is_out_of_rows(fault: TestFault) -> bool
+    ensures { result ≡ is_out_of_rows fault }
+{
+    match fault {
+        TestFault::Refused(refusal) => is_out(refusal),
+        TestFault::Rows(_) | TestFault::TooLarge | TestFault::NoRow => false,
+    }
+}
+
+fn is_out_of_source(fault: &LoadFault) -> bool
+    ensures { result ≡ is_out_of_source fault.now }
+{
+    match fault {
+        LoadFault::Refused(refusal) => is_out(*refusal),
+        LoadFault::LooksLikeTape
+        | LoadFault::LooksLikeHex
+        | LoadFault::LooksLikeSRecords
+        | LoadFault::NoImage { .. }
+        | LoadFault::Faults { .. }
+        | LoadFault::AtPort { .. } => false,
+    }
+}
+
+/// Returns whether memory ran out: then nothing more is told of the file.
+pub fn is_memory(fault: &FileFault) -> bool
+    ensures { result ≡ is_memory fault.now }
+{
+    match fault {
+        FileFault::InRows(fault) => is_out_of_rows(*fault),
+        FileFault::InSource(_, fault) => is_out_of_source(fault),
+    }
+}

@@ -1,0 +1,193 @@
+//! Why a suite cannot be tested, in words.
+
+ghost use Rattle.std.specs.Prelude.{◌≡◌, ◌++◌, ◌∷◌, [], IfOk, OnOk, map, string_bytes};
+ghost use Rattle.t65_suites.specs.FaultTexts.{IsRowsTitle, IsShown, IsTitle, line_title, shown, visible};
+
+use crate::fault::{FileFault, TestFault};
+use crate::names::text_of;
+use crate::wording::{NO_ROW, NO_SOURCE, TOO_LARGE};
+use arguments::{LoadFault, Refusal, put_fault_line, refuse_file};
+use std::alloc::{AllocError, Global};
+use std::io::Write;
+use t65_reader::{RowFaultKind, TextFault};
+
+/// Returns an example of what has to stand there, for the faults that a first file has.
+fn example_of(kind: RowFaultKind) -> &'static str {
+    match kind {
+        RowFaultKind::Syntax => ", as in: call NAME A=07 [10]=FF -> A=46 C=0 cycles<900",
+        RowFaultKind::NoSource => ", as in: source NAME.a65",
+        _ => "",
+    }
+}
+
+fn push_seen(text: &mut String, byte: u8) -> Result<(), AllocError>
+    ensures { OnOk result (string_bytes text.new ≡ string_bytes text.old ++ visible byte ∷ []) }
+{
+    match byte {
+        b' '..=b'~' => text.push(byte as char),
+        b'\t' => text.push(' '),
+        _ => text.push('?'),
+    }
+}
+
+/// Appends a byte as it is shown.
+fn push_shown(text: &mut String, byte: u8) -> Result<(), AllocError>
+    ensures { OnOk result (string_bytes text.new ≡ string_bytes text.old ++ shown byte ∷ []) }
+{
+    if byte == b'\n' {
+        text.push('\n')
+    } else {
+        push_seen(text, byte)
+    }
+}
+
+/// Appends bytes as they are shown.
+fn push_all_shown(text: &mut String, bytes: &[u8]) -> Result<(), AllocError>
+    ensures { OnOk result (string_bytes text.new
+        ≡ string_bytes text.old ++ map shown bytes.now) }
+{
+    for byte in bytes {
+        push_shown(text, *byte)?;
+    }
+    Ok(())
+}
+
+/// Returns bytes as they are shown.
+fn shown_text(alloc: Global, bytes: &[u8]) -> Result<String, AllocError>
+    ensures { IfOk result (λ text. IsShown (string_bytes text)) }
+{
+    let mut text = String::new(alloc);
+    push_all_shown(&mut text, bytes)?;
+    Ok(text)
+}
+
+/// Returns the words of a refusal, without the file that it is of.
+fn refusal_words(alloc: Global, refusal: Refusal) -> Result<String, AllocError>
+    ensures { IfOk result (λ title. IsShown (string_bytes title)) }
+{
+    let mut line = Vec::new(alloc);
+    let front = match refusal {
+        Refusal::Read(_) => {
+            let _ = refuse_file(refusal, "", &mut line);
+            "mos65: : ".len()
+        }
+        _ => {
+            put_fault_line(refusal, &mut line);
+            "mos65: ".len()
+        }
+    };
+    shown_text(alloc, line[front.min(line.len())..].trim_ascii())
+}
+
+/// Returns the line of a row, and what is wrong there.
+fn line_title(alloc: Global, fault: TextFault) -> Result<String, AllocError>
+    ensures { IfOk result (λ title. string_bytes title ≡ line_title fault) }
+{
+    let mut title = String::new(alloc);
+    write!(title, "line {}: {}", fault.line, fault.kind)?;
+    Ok(title)
+}
+
+/// Returns why a file of rows cannot be tested, in a few words.
+fn rows_title(alloc: Global, fault: TestFault) -> Result<String, AllocError>
+    ensures { IfOk result (λ title. IsRowsTitle fault (string_bytes title)) }
+{
+    match fault {
+        TestFault::Rows(fault) => line_title(alloc, fault),
+        TestFault::TooLarge => text_of(alloc, TOO_LARGE),
+        TestFault::NoRow => text_of(alloc, NO_ROW),
+        TestFault::Refused(refusal) => refusal_words(alloc, refusal),
+    }
+}
+
+/// Returns why a source cannot be tested, in a few words.
+fn source_title(alloc: Global, fault: &LoadFault) -> Result<String, AllocError>
+    ensures { IfOk result (λ title. IsShown (string_bytes title)) }
+{
+    match fault {
+        LoadFault::Faults { fault, .. } => refusal_words(alloc, Refusal::Source(*fault)),
+        LoadFault::Refused(refusal) => refusal_words(alloc, *refusal),
+        _ => shown_text(alloc, NO_SOURCE.as_bytes()),
+    }
+}
+
+/// Returns why a suite cannot be tested, in a few words.
+///
+/// Errors: `AllocError` if an allocation fails.
+pub fn title_of(alloc: Global, fault: &FileFault) -> Result<String, AllocError>
+    ensures { IfOk result (λ title. IsTitle fault.now (string_bytes title)) }
+{
+    match fault {
+        FileFault::InRows(fault) => rows_title(alloc, *fault),
+        FileFault::InSource(_, fault) => source_title(alloc, fault),
+    }
+}
+
+/// Writes which line of a file of rows is none, and why.
+fn tell_line<E: Write>(path: &str, fault: TextFault, text: &mut E) {
+    let _ = writeln!(
+        text,
+        "mos65: {path}:{}:{}: {}{}",
+        fault.line,
+        fault.column,
+        fault.kind,
+        example_of(fault.kind)
+    );
+}
+
+/// Writes why a file of rows cannot be tested.
+fn tell_rows<E: Write>(path: &str, fault: TestFault, text: &mut E) {
+    match fault {
+        TestFault::Rows(fault) => tell_line(path, fault, text),
+        TestFault::TooLarge => {
+            let _ = writeln!(text, "mos65: {path}: {}", TOO_LARGE);
+        }
+        TestFault::NoRow => {
+            let _ = writeln!(text, "mos65: {path}: {}", NO_ROW);
+        }
+        // The map is one that the file asks for.
+        TestFault::Refused(Refusal::Map(fault)) => {
+            let _ = writeln!(text, "mos65: {path}: MAP {fault}");
+        }
+        TestFault::Refused(refusal) => {
+            let _ = refuse_file(refusal, path, text);
+        }
+    }
+}
+
+/// Writes what a file looks like that is named as a source.
+fn tell_like<E: Write>(path: &str, like: &str, text: &mut E) {
+    let _ = writeln!(text, "mos65: {path} looks like {like}, and is no source");
+}
+
+/// Writes why a source is not assembled: all of its faults, what it looks like, or why it is not
+/// read.
+fn tell_source<E: Write>(path: &str, fault: &LoadFault, text: &mut E) {
+    match fault {
+        LoadFault::Faults { text: told, .. } => {
+            let _ = text.write_all(told);
+        }
+        LoadFault::Refused(refusal) => {
+            let _ = refuse_file(*refusal, path, text);
+        }
+        LoadFault::LooksLikeTape => tell_like(path, "a tape", text),
+        LoadFault::LooksLikeHex => tell_like(path, "Intel HEX", text),
+        LoadFault::LooksLikeSRecords => tell_like(path, "S-records", text),
+        _ => {}
+    }
+}
+
+/// Returns why a suite cannot be tested, with all faults of a source: what another word writes on
+/// the error stream.
+///
+/// Errors: `AllocError` if an allocation fails.
+pub fn remarks_of(alloc: Global, rows: &str, fault: &FileFault) -> Result<String, AllocError>
+    ensures { IfOk result (λ remarks. IsShown (string_bytes remarks)) }
+{
+    let mut told = Vec::new(alloc);
+    match fault {
+        FileFault::InRows(fault) => tell_rows(rows, *fault, &mut told),
+        FileFault::InSource(path, fault) => tell_source(path, fault, &mut told),
+    }
+    shown_text(alloc, &told)
+}

@@ -1,0 +1,24 @@
+//! Suites: files of rows, each with the source that its rows are run on.
+//!
+//! `suites_of` says which these are by the words of a command line, `read_head` reads the line of a
+//! file that names its source and the machine, and `prepare` reads the file and assembles the
+//! source, or says why it cannot be tested. `title_of` and `remarks_of` say that in words.
+//! `replaced_by` finds a file that is read and that a report would replace. Which bytes a file has,
+//! no clause can say.
+#![tactic(auto)]
+
+mod fault;
+mod fault_words;
+mod head;
+mod names;
+mod prepared;
+mod replaced;
+mod suites;
+mod wording;
+
+pub use fault::{FileFault, TestFault, is_memory};
+pub use fault_words::{remarks_of, title_of};
+pub use head::{Head, Opened, read_head};
+pub use prepared::{Prepared, prepare};
+pub use replaced::replaced_by;
+pub use suites::{Suite, suites_of};

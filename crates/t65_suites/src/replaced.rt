@@ -1,0 +1,186 @@
+//! Files that are read, and that a report would replace.
+
+ghost use Rattle.std.specs.List.{list_any};
+ghost use Rattle.std.specs.Prelude.{◌≡◌, None, IfOk, IfSome, false, map, option_map, string_bytes};
+ghost use Rattle.std.specs.Str.{bytes_eq};
+ghost use Rattle.t65_suites.specs.Replaced.{IsReadFor, IsReadForOne, IsSourceOf, is_read};
+ghost use Rattle.t65_suites.specs.Replaced.{replaces_any, replaces_one};
+ghost use Rattle.t65_suites.specs.Suites.{suite_view, suites_of};
+
+use crate::fault::TestFault;
+use crate::head::read_head;
+use crate::names::{copied, path_of, read_rows_text};
+use crate::suites::{Suite, suites_of};
+use arguments::{Refusal, is_one_file};
+use std::rt::Files;
+
+/// Returns the path of a suite's source.
+///
+/// Errors: why the head of the file of rows cannot be read; `OutOfMemory` if an allocation fails.
+fn path_in<H: Files + AllocGlobal>(rt: &H, suite: Suite<'_>) -> Result<String, TestFault>
+    ensures { IfOk result (λ path. IsSourceOf (suite_view suite.entry) (string_bytes path)) }
+{
+    let text = read_rows_text(rt, suite.rows)?;
+    match read_head(&text) {
+        Ok(opened) => {
+            let path = path_of(rt.alloc(), suite, opened.head.source)?;
+            Ok(path)
+        }
+        Err(fault) => Err(TestFault::Rows(fault)),
+    }
+}
+
+/// Returns the path of a suite's source, or `None` where the head of the file of rows cannot be
+/// read.
+///
+/// Errors: `OutOfMemory` if an allocation fails.
+fn source_of<H: Files + AllocGlobal>(rt: &H, suite: Suite<'_>) -> Result<Option<String>, TestFault>
+    ensures { IfOk result (λ found. IfSome found
+        (λ path. IsSourceOf (suite_view suite.entry) (string_bytes path))) }
+{
+    match path_in(rt, suite) {
+        Ok(path) => Ok(Some(path)),
+        Err(TestFault::Refused(Refusal::OutOfMemory)) => {
+            Err(TestFault::Refused(Refusal::OutOfMemory))
+        }
+        Err(_) => Ok(None),
+    }
+}
+
+/// Returns the path of a file, if a report would replace it.
+///
+/// Errors: `OutOfMemory` if an allocation fails.
+fn replaced_file<H: Files + AllocGlobal>(
+    rt: &H,
+    file: &str,
+    report: &str,
+) -> Result<Option<String>, TestFault>
+    ensures spared { IfOk result
+        (λ found. found ≡ None → bytes_eq file.now report.now ≡ false) }
+    ensures found { IfOk result (λ found. IfSome found (λ path. string_bytes path ≡ file.now)) }
+{
+    if is_one_file(rt, file, report) {
+        let path = copied(rt.alloc(), file)?;
+        Ok(Some(path))
+    } else {
+        Ok(None)
+    }
+}
+
+/// Returns the path of the source that a file of rows names, if a report would replace it.
+///
+/// Errors: `OutOfMemory` if an allocation fails.
+fn replaced_own<H: Files + AllocGlobal>(
+    rt: &H,
+    suite: Suite<'_>,
+    report: &str,
+) -> Result<Option<String>, TestFault>
+    ensures { IfOk result (λ found. IfSome found
+        (λ path. IsSourceOf (suite_view suite.entry) (string_bytes path))) }
+{
+    match source_of(rt, suite)? {
+        Some(path) => {
+            if is_one_file(rt, &path, report) {
+                Ok(Some(path))
+            } else {
+                Ok(None)
+            }
+        }
+        None => Ok(None),
+    }
+}
+
+/// Returns the path of a suite's source, if a report would replace it.
+///
+/// Errors: `OutOfMemory` if an allocation fails.
+fn replaced_source<H: Files + AllocGlobal>(
+    rt: &H,
+    suite: Suite<'_>,
+    report: &str,
+) -> Result<Option<String>, TestFault>
+    ensures spared { IfOk result (λ found. found ≡ None
+        → replaces_one report.now (option_map (λ s. s.now) suite.entry.source) ≡ false) }
+    ensures found { IfOk result (λ found. IfSome found
+        (λ path. IsSourceOf (suite_view suite.entry) (string_bytes path))) }
+{
+    match suite.source {
+        Some(source) => match replaced_file(rt, source, report)? {
+            Some(path) => Ok(Some(path)),
+            None => Ok(None),
+        },
+        None => replaced_own(rt, suite, report),
+    }
+}
+
+/// Returns which file of a suite the report would replace, if it would one.
+///
+/// Errors: `OutOfMemory` if an allocation fails.
+fn replaced_in<H: Files + AllocGlobal>(
+    rt: &H,
+    suite: Suite<'_>,
+    report: &str,
+) -> Result<Option<String>, TestFault>
+    ensures spared { IfOk result
+        (λ found. found ≡ None → is_read report.now (suite_view suite.entry) ≡ false) }
+    ensures found { IfOk result (λ found. IfSome found
+        (λ path. IsReadForOne (suite_view suite.entry) (string_bytes path))) }
+{
+    match replaced_file(rt, suite.rows, report)? {
+        Some(path) => Ok(Some(path)),
+        None => match replaced_source(rt, suite, report)? {
+            Some(path) => Ok(Some(path)),
+            None => Ok(None),
+        },
+    }
+}
+
+/// Returns the path of the first file that is read for some suites and that a report would replace,
+/// if there is one.
+///
+/// Errors: `OutOfMemory` if an allocation fails.
+fn first_replaced<H: Files + AllocGlobal>(
+    rt: &H,
+    suites: &[Suite<'_>],
+    report: &str,
+) -> Result<Option<String>, TestFault>
+    ensures spared { IfOk result (λ found. found ≡ None
+        → list_any (is_read report.now) (map suite_view suites.now) ≡ false) }
+    ensures found { IfOk result (λ found. IfSome found
+        (λ path. IsReadFor (map suite_view suites.now) (string_bytes path))) }
+{
+    for index in 0..suites.len() {
+        match replaced_in(rt, suites[index], report)? {
+            Some(path) => return Ok(Some(path)),
+            None => {}
+        }
+    }
+    Ok(None)
+}
+
+/// Returns the path of the first file that is read for the suites of some files of rows and sources
+/// and that a report would replace, if there are such a file and a report.
+///
+/// Errors: `OutOfMemory` if an allocation fails.
+pub fn replaced_by<H: Files + AllocGlobal>(
+    rt: &H,
+    files: &[&str],
+    sources: &[&str],
+    report: Option<&str>,
+) -> Result<Option<String>, TestFault>
+    // No file of rows and no source has the report's name.
+    ensures spared { IfOk result (λ found. found ≡ None
+        → replaces_any (option_map (λ r. r.now) report.entry)
+        (suites_of (map (λ s. s.now) sources.now) (map (λ f. f.now) files.now)) ≡ false) }
+    // The path is that of a file of rows, or of its source.
+    ensures found { IfOk result (λ found. IfSome found (λ path. IsReadFor
+        (suites_of (map (λ s. s.now) sources.now) (map (λ f. f.now) files.now))
+        (string_bytes path))) }
+{
+    let Some(report) = report else {
+        return Ok(None);
+    };
+    match suites_of(rt.alloc(), files, sources) {
+        Ok(suites) => first_replaced(rt, &suites, report),
+        Err(_) => Err(TestFault::Refused(Refusal::OutOfMemory)),
+    }
+}

@@ -1,0 +1,7 @@
+//! The words of faults of suites.
+
+pub const TOO_LARGE: &str = "more than 1048576 bytes";
+
+pub const NO_ROW: &str = "no row";
+
+pub const NO_SOURCE: &str = "no source";
