@@ -1,6 +1,9 @@
 ;;; mos65.el --- Sources of mos65, with its language server -*- lexical-binding: t -*-
 
-;; In the init file: (load "…/editors/emacs/mos65.el"). `M-x eglot' in such a buffer starts the server.
+;; In the init file: (load "…/editors/emacs/mos65.el"). `M-x eglot' or `M-x lsp' in such a buffer starts
+;; the server.
+
+(defvar mos65-program "mos65" "The program that serves.")
 
 (define-derived-mode mos65-mode prog-mode "mos65"
   "A mode for sources of mos65."
@@ -13,6 +16,13 @@
 (add-to-list 'auto-mode-alist '("\\.a65\\'" . mos65-mode))
 
 (with-eval-after-load 'eglot
-  (add-to-list 'eglot-server-programs '(mos65-mode . ("mos65" "lsp"))))
+  (add-to-list 'eglot-server-programs `(mos65-mode . (,mos65-program "lsp"))))
+
+(with-eval-after-load 'lsp-mode
+  (add-to-list 'lsp-language-id-configuration '(mos65-mode . "mos65"))
+  (lsp-register-client
+   (make-lsp-client :new-connection (lsp-stdio-connection (lambda () (list mos65-program "lsp")))
+                    :major-modes '(mos65-mode)
+                    :server-id 'mos65)))
 
 (provide 'mos65)

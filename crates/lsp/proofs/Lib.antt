@@ -1,0 +1,3 @@
+pub mod Filtered
+pub mod Nothing
+pub mod Written

@@ -1,2 +1,6 @@
+pub mod Answers
+pub mod Capabilities
 pub mod CommandLine
-pub mod Replies
+pub mod Messages
+pub mod State
+pub mod Writing

@@ -2,12 +2,17 @@
 //!
 //! `lsp` is the word, with its words (`words`). `serving` takes messages from the input and writes
 //! what is answered before it takes the next, `server` does what a message asks for, over the
-//! documents that are open (`documents`), and `replies` makes the values of answers. What a message
-//! asks for is read by `lsp_requests`, what is answered of a source is made by `lsp_answers`.
+//! documents that are open (`documents`) and how far the client has come (`phase`), `answers` has
+//! the answer to each request, and `capabilities` says what the server can do. What a message asks
+//! for is read by `lsp_requests`, what is answered of a source is made by `lsp_answers`, and
+//! `lsp_values` makes the values. `specs/Messages.antt` says what the server does with a message,
+//! `specs/Answers.antt` what it answers.
 #![tactic(auto)]
 
+mod answers;
+mod capabilities;
 mod documents;
-mod replies;
+mod phase;
 mod server;
 mod serving;
 mod words;

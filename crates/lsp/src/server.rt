@@ -1,25 +1,28 @@
 //! What the server does with a message.
 
-ghost use Rattle.std.specs.Prelude.{◌≤◌, IfSome};
+ghost use Rattle.std.specs.Prelude.{◌≡◌, ◌≤◌, ◌∷◌, [], IfOk, IfSome, None, OnOk, is_some, map as each};
+ghost use Rattle.lsp.specs.Messages.{AreAnswers, AreAnswersTo, AreNotices, AreRefused, AreReplies};
+ghost use Rattle.lsp.specs.Messages.{AreTold, AreToldIn, documents_after, documents_in, end_of};
+ghost use Rattle.lsp.specs.Messages.{is_answer, published, state_after};
+ghost use Rattle.lsp.specs.State.{documents_view, server_view, start};
+ghost use Rattle.lsp_answers.specs.Marks.{AreMarks};
+ghost use Rattle.lsp_answers.specs.Texts.{text_of, text_view};
+ghost use Rattle.lsp_requests.specs.Requests.{request_of};
+ghost use Rattle.lsp_requests.specs.Views.{request_view};
+ghost use Rattle.lsp_values.specs.Values.{list_of, marks_data};
+ghost use Rattle.serde_json.specs.Data.{Data};
+ghost use Rattle.serde_json.specs.Find.{get};
+ghost use Rattle.serde_json.specs.View.{view};
 
+use crate::answers::{failed, reply};
 use crate::documents::Documents;
-use crate::replies::{Failure, capabilities, failure_reply, notice, result_reply};
+use crate::phase::{Phase, is_exit};
 use bus::MapSpec;
-use lsp_answers::{Text, completion, definition, hover, published, references, rename, symbols};
-use lsp_requests::{Place, Request, read_request};
+use lsp_answers::{Text, published};
+use lsp_requests::{Request, read_request};
+use lsp_values::{Failure, notice};
 use serde_json::{Value, json};
 use std::alloc::{AllocError, Global};
-
-/// How far a client has come.
-#[derive(Clone, Copy, Debug, PartialEq, Eq)]
-pub enum Phase {
-    /// Nothing was asked for yet.
-    Fresh,
-    /// The server is in use.
-    Running,
-    /// `shutdown` was asked for.
-    ShutDown,
-}
 
 /// A server: how far its client has come, and the documents that are open.
 #[derive(Drop)]
@@ -30,7 +33,9 @@ pub struct Server {
 
 impl Server {
     /// Makes a server of which nothing was asked yet.
-    pub fn new(alloc: Global) -> Server {
+    pub fn new(alloc: Global) -> Server
+        ensures { server_view result ≡ start }
+    {
         Server {
             phase: Phase::Fresh,
             documents: Documents::new(alloc),
@@ -39,211 +44,56 @@ impl Server {
 }
 
 /// Returns one answer.
-fn one(alloc: Global, reply: Value) -> Result<Vec<Value>, AllocError> {
+fn one(alloc: Global, reply: Value) -> Result<Vec<Value>, AllocError>
+    ensures { IfOk result (λ vs. each view vs.items ≡ view reply ∷ []) }
+{
     let mut replies = Vec::new(alloc);
     replies.push(reply)?;
     Ok(replies)
 }
 
-/// Returns the text of a document; an empty one where it is not open.
-fn text_in<'a>(documents: &'a Documents, uri: &str) -> &'a [u8] {
-    match documents.text_of(uri) {
-        Some(text) => text.as_bytes(),
-        None => &[],
-    }
+/// Returns the notice of some marks.
+fn told_marks(alloc: Global, marks: Value) -> Result<Vec<Value>, AllocError>
+    ensures { IfOk result (λ vs. each view vs.items ≡ published (view marks) ∷ []) }
+{
+    let notice = notice(alloc, "textDocument/publishDiagnostics", marks)?;
+    one(alloc, notice)
 }
 
-/// Answers a request for another name.
-fn rename_reply(
-    alloc: Global,
-    map: &MapSpec,
-    documents: &Documents,
-    id: &Value,
-    place: Place<'_>,
-    name: &str,
-) -> Result<Value, AllocError> {
-    let text = Text::read(alloc, map.profile(), text_in(documents, place.uri))?;
-    match rename(
-        alloc,
-        map,
-        place.uri,
-        &text,
-        place.line,
-        place.character,
-        name,
-    )? {
-        Ok(changes) => result_reply(alloc, id, changes),
-        Err(words) => failure_reply(alloc, id, Failure::Refused, words),
-    }
+/// Finds the lines and the names of a text.
+fn read<'a>(alloc: Global, map: &MapSpec, text: &'a str) -> Result<Text<'a>, AllocError>
+    ensures { IfOk result (λ read. text_view read ≡ text_of map.now.profile text.now) }
+{
+    Text::read(alloc, map.profile(), text.as_bytes())
 }
 
-/// Returns what is answered of a place.
-fn of_place(
-    alloc: Global,
-    map: &MapSpec,
-    documents: &Documents,
-    request: Request<'_>,
-    place: Place<'_>,
-) -> Result<Value, AllocError> {
-    let text = Text::read(alloc, map.profile(), text_in(documents, place.uri))?;
-    let (line, character) = (place.line, place.character);
-    match request {
-        Request::Hover(_) => hover(alloc, &text, line, character),
-        Request::References { declares, .. } => {
-            references(alloc, place.uri, &text, line, character, declares)
-        }
-        _ => definition(alloc, place.uri, &text, line, character),
-    }
-}
-
-/// Answers a request of a running client.
-fn running_reply(
-    alloc: Global,
-    map: &MapSpec,
-    documents: &Documents,
-    id: &Value,
-    request: Request<'_>,
-) -> Result<Value, AllocError> {
-    match request {
-        Request::Hover(place) | Request::Definition(place) => {
-            let result = of_place(alloc, map, documents, request, place)?;
-            result_reply(alloc, id, result)
-        }
-        Request::References { place, .. } => {
-            let result = of_place(alloc, map, documents, request, place)?;
-            result_reply(alloc, id, result)
-        }
-        Request::Rename { place, name } => rename_reply(alloc, map, documents, id, place, name),
-        Request::Symbols { uri } => {
-            let text = Text::read(alloc, map.profile(), text_in(documents, uri))?;
-            result_reply(alloc, id, symbols(alloc, &text)?)
-        }
-        Request::Completion { uri } => {
-            let text = Text::read(alloc, map.profile(), text_in(documents, uri))?;
-            result_reply(alloc, id, completion(alloc, &text)?)
-        }
-        Request::Invalid => {
-            failure_reply(
-                alloc,
-                id,
-                Failure::WrongParameters,
-                "a parameter is missing",
-            )
-        }
-        Request::Unknown => {
-            failure_reply(
-                alloc,
-                id,
-                Failure::UnknownMethod,
-                "this method is not served",
-            )
-        }
-        _ => failure_reply(alloc, id, Failure::NoRequest, "this is no request here"),
-    }
-}
-
-/// Returns how far a client has come after a request, if nothing was asked before.
-fn begun(request: Request<'_>) -> Phase {
-    match request {
-        Request::Initialize => Phase::Running,
-        Request::Shutdown | Request::Exit | Request::Open { .. } | Request::Change { .. } => {
-            Phase::Fresh
-        }
-        Request::Close { .. } | Request::Hover(_) | Request::Definition(_) => Phase::Fresh,
-        Request::References { .. } | Request::Rename { .. } => Phase::Fresh,
-        Request::Symbols { .. } | Request::Completion { .. } => Phase::Fresh,
-        Request::Invalid | Request::Unknown | Request::NoMethod => Phase::Fresh,
-    }
-}
-
-/// Returns how far a running client has come after a request.
-fn ended(request: Request<'_>) -> Phase {
-    match request {
-        Request::Shutdown => Phase::ShutDown,
-        Request::Initialize | Request::Exit | Request::Open { .. } | Request::Change { .. } => {
-            Phase::Running
-        }
-        Request::Close { .. } | Request::Hover(_) | Request::Definition(_) => Phase::Running,
-        Request::References { .. } | Request::Rename { .. } => Phase::Running,
-        Request::Symbols { .. } | Request::Completion { .. } => Phase::Running,
-        Request::Invalid | Request::Unknown | Request::NoMethod => Phase::Running,
-    }
-}
-
-/// Returns how far a client has come after a request.
-fn phase_after(phase: Phase, request: Request<'_>) -> Phase {
-    match phase {
-        Phase::Fresh => begun(request),
-        Phase::Running => ended(request),
-        Phase::ShutDown => Phase::ShutDown,
-    }
-}
-
-/// Returns the answer to a request.
-fn reply(
-    alloc: Global,
-    map: &MapSpec,
-    server: &Server,
-    id: &Value,
-    request: Request<'_>,
-) -> Result<Value, AllocError> {
-    match (server.phase, request) {
-        (Phase::Fresh, Request::Initialize) => {
-            let result = capabilities(alloc)?;
-            result_reply(alloc, id, result)
-        }
-        (Phase::Fresh, _) => {
-            failure_reply(alloc, id, Failure::NotInitialized, "initialize comes first")
-        }
-        (Phase::Running, Request::Shutdown) => result_reply(alloc, id, Value::Null),
-        (Phase::Running, request) => running_reply(alloc, map, &server.documents, id, request),
-        (Phase::ShutDown, _) => {
-            failure_reply(alloc, id, Failure::NoRequest, "the server is shut down")
-        }
-    }
-}
-
-/// Answers a request, after which its client has come so far.
-fn answered(
-    alloc: Global,
-    map: &MapSpec,
-    server: &mut Server,
-    id: &Value,
-    request: Request<'_>,
-) -> Result<Vec<Value>, AllocError> {
-    let phase = phase_after(server.phase, request);
-    let replies = one(alloc, reply(alloc, map, server, id, request)?)?;
-    server.phase = phase;
-    Ok(replies)
-}
-
-/// Returns the notice of the marks of a document.
-fn marks(
-    alloc: Global,
-    map: &MapSpec,
-    documents: &Documents,
-    uri: &str,
-) -> Result<Vec<Value>, AllocError> {
-    let text = Text::read(alloc, map.profile(), text_in(documents, uri))?;
-    let params = published(alloc, map, uri, &text)?;
-    one(
-        alloc,
-        notice(alloc, "textDocument/publishDiagnostics", params)?,
-    )
+/// Returns the notice of the marks of a document with this text.
+fn marks_told(alloc: Global, map: &MapSpec, uri: &str, text: &str) -> Result<Vec<Value>, AllocError>
+    ensures { IfOk result (λ vs. (marks : Data)
+        × AreMarks map.now uri.now (text_of map.now.profile text.now) marks
+        × (each view vs.items ≡ published marks ∷ [])) }
+{
+    let text = read(alloc, map, text)?;
+    let marks = published(alloc, map, uri, &text)?;
+    let notices = told_marks(alloc, marks)?;
+    Ok(notices)
 }
 
 /// Returns the notice that a document has no marks.
-fn no_marks(alloc: Global, uri: &str) -> Result<Vec<Value>, AllocError> {
-    let params = json!(in alloc; {"diagnostics": [], "uri": uri})?;
-    one(
-        alloc,
-        notice(alloc, "textDocument/publishDiagnostics", params)?,
-    )
+fn no_marks_told(alloc: Global, uri: &str) -> Result<Vec<Value>, AllocError>
+    ensures { IfOk result
+        (λ vs. each view vs.items ≡ published (marks_data uri.now (list_of [])) ∷ []) }
+{
+    let marks = json!(in alloc; {"diagnostics": [], "uri": uri})?;
+    told_marks(alloc, marks)
 }
 
 /// Does what a notice about a document asks for. The only error is that a request for memory was
 /// refused.
-fn note(alloc: Global, documents: &mut Documents, request: Request<'_>) -> Result<(), AllocError> {
+fn note(alloc: Global, documents: &mut Documents, request: Request<'_>) -> Result<(), AllocError>
+    ensures { OnOk result (documents_view documents.new
+        ≡ documents_after (documents_view documents.old) (request_view request.entry)) }
+{
     match request {
         Request::Open { uri, text } => documents.open(alloc, uri, text),
         Request::Change { uri, text } => documents.open(alloc, uri, text),
@@ -259,42 +109,129 @@ fn note(alloc: Global, documents: &mut Documents, request: Request<'_>) -> Resul
     }
 }
 
-/// Returns what is told after a notice about a document.
-fn told(
-    alloc: Global,
-    map: &MapSpec,
-    documents: &Documents,
-    request: Request<'_>,
-) -> Result<Vec<Value>, AllocError> {
+/// Returns what is told after a notice.
+fn told(alloc: Global, map: &MapSpec, request: Request<'_>) -> Result<Vec<Value>, AllocError>
+    ensures { IfOk result
+        (λ vs. AreTold map.now (request_view request.entry) (each view vs.items)) }
+{
     match request {
-        Request::Open { uri, .. } | Request::Change { uri, .. } => {
-            marks(alloc, map, documents, uri)
-        }
-        Request::Close { uri } => no_marks(alloc, uri),
-        _ => Ok(Vec::new(alloc)),
+        Request::Open { uri, text } => marks_told(alloc, map, uri, text),
+        Request::Change { uri, text } => marks_told(alloc, map, uri, text),
+        Request::Close { uri } => no_marks_told(alloc, uri),
+        Request::Initialize | Request::Shutdown | Request::Exit => Ok(Vec::new(alloc)),
+        Request::Hover(_) | Request::Definition(_) => Ok(Vec::new(alloc)),
+        Request::References { .. } | Request::Rename { .. } => Ok(Vec::new(alloc)),
+        Request::Symbols { .. } | Request::Completion { .. } => Ok(Vec::new(alloc)),
+        Request::Invalid | Request::Unknown | Request::NoMethod => Ok(Vec::new(alloc)),
     }
 }
 
-/// Does what a notice asks for, and returns what is told then.
-fn noticed(
+/// Returns what is told after a notice in a phase.
+fn told_in(
     alloc: Global,
     map: &MapSpec,
-    server: &mut Server,
+    phase: Phase,
     request: Request<'_>,
-) -> Result<Vec<Value>, AllocError> {
-    match server.phase {
-        Phase::Running => {
-            note(alloc, &mut server.documents, request)?;
-            told(alloc, map, &server.documents, request)
-        }
-        Phase::Fresh | Phase::ShutDown => Ok(Vec::new(alloc)),
+) -> Result<Vec<Value>, AllocError>
+    ensures { IfOk result
+        (λ vs. AreToldIn map.now phase (request_view request.entry) (each view vs.items)) }
+{
+    match phase {
+        Phase::Running => told(alloc, map, request),
+        Phase::Fresh => Ok(Vec::new(alloc)),
+        Phase::ShutDown => Ok(Vec::new(alloc)),
+    }
+}
+
+/// Does what a notice asks for in a phase. The only error is that a request for memory was refused.
+fn note_in(
+    alloc: Global,
+    phase: Phase,
+    documents: &mut Documents,
+    request: Request<'_>,
+) -> Result<(), AllocError>
+    ensures { OnOk result (documents_view documents.new
+        ≡ documents_in phase (documents_view documents.old) (request_view request.entry)) }
+{
+    match phase {
+        Phase::Running => note(alloc, documents, request),
+        Phase::Fresh => Ok(()),
+        Phase::ShutDown => Ok(()),
+    }
+}
+
+/// Returns the answer to a message that is no request, no notice and no answer.
+fn refused(alloc: Global) -> Result<Vec<Value>, AllocError>
+    ensures { IfOk result (λ vs. AreRefused (each view vs.items)) }
+{
+    let reply = failed(alloc, &Value::Null, Failure::NoRequest)?;
+    let replies = one(alloc, reply)?;
+    Ok(replies)
+}
+
+/// Returns the answer to a body that is no JSON.
+pub fn not_json(alloc: Global, map: &MapSpec, server: &Server) -> Result<Vec<Value>, AllocError>
+    ensures { IfOk result
+        (λ vs. AreAnswersTo map.now (server_view server.now) None (each view vs.items)) }
+{
+    let reply = failed(alloc, &Value::Null, Failure::NotJson)?;
+    let replies = one(alloc, reply)?;
+    Ok(replies)
+}
+
+/// Returns whether a message has something of a name.
+fn has(message: &Value, name: &str) -> bool
+    ensures { result ≡ is_some (get name.now (view message.now)) }
+{
+    match message.get(name) {
+        Some(_) => true,
+        None => false,
     }
 }
 
 /// Returns whether a message is an answer, which is not answered.
-fn is_answer(message: &Value) -> bool {
-    message.get("method").is_none()
-        && (message.get("result").is_some() || message.get("error").is_some())
+fn is_answer(message: &Value) -> bool
+    ensures { result ≡ is_answer (view message.now) }
+{
+    !has(message, "method") && (has(message, "result") || has(message, "error"))
+}
+
+/// Returns the answers to a message with this number: one, and none if it is an answer itself.
+fn replies(
+    alloc: Global,
+    map: &MapSpec,
+    server: &Server,
+    id: &Value,
+    request: Request<'_>,
+    is_answer: bool,
+) -> Result<Vec<Value>, AllocError>
+    ensures { IfOk result (λ vs. AreReplies is_answer map.now (server_view server.now)
+        (view id.now) (request_view request.entry) (each view vs.items)) }
+{
+    if is_answer {
+        return Ok(Vec::new(alloc));
+    }
+    let answer = reply(alloc, map, server.phase, &server.documents, id, request)?;
+    let answers = one(alloc, answer)?;
+    Ok(answers)
+}
+
+/// Returns what is told after a message without a number, which has a method or has not.
+fn notices(
+    alloc: Global,
+    map: &MapSpec,
+    phase: Phase,
+    request: Request<'_>,
+    has_method: bool,
+) -> Result<Vec<Value>, AllocError>
+    ensures { IfOk result (λ vs. AreNotices has_method map.now phase
+        (request_view request.entry) (each view vs.items)) }
+{
+    if has_method {
+        told_in(alloc, map, phase, request)
+    } else {
+        refused(alloc)
+    }
 }
 
 /// Does what a message asks for, and returns what is to be told then: one answer to a request, and
@@ -305,58 +242,35 @@ pub fn serve(
     map: &MapSpec,
     server: &mut Server,
     message: &Value,
-) -> Result<Vec<Value>, AllocError> {
+) -> Result<Vec<Value>, AllocError>
+    ensures state { OnOk result
+        (server_view server.new ≡ state_after (server_view server.old) (view message.now)) }
+    ensures answers { IfOk result (λ vs. AreAnswers map.now (server_view server.old)
+        (view message.now) (each view vs.items)) }
+{
     let request = read_request(message);
     match message.get("id") {
         Some(id) => {
-            let replies = answered(alloc, map, server, id, request)?;
-            if is_answer(message) {
-                return Ok(Vec::new(alloc));
-            }
-            Ok(replies)
+            let answers = replies(alloc, map, server, id, request, is_answer(message))?;
+            server.phase = server.phase.after(request);
+            Ok(answers)
         }
         None => {
-            let told = noticed(alloc, map, server, request)?;
-            if message.get("method").is_none() {
-                return no_request(alloc);
-            }
-            Ok(told)
+            note_in(alloc, server.phase, &mut server.documents, request)?;
+            notices(alloc, map, server.phase, request, has(message, "method"))
         }
     }
-}
-
-/// Returns the answer to a message that is no request, no notice and no answer.
-fn no_request(alloc: Global) -> Result<Vec<Value>, AllocError> {
-    one(
-        alloc,
-        failure_reply(
-            alloc,
-            &Value::Null,
-            Failure::NoRequest,
-            "this is no request",
-        )?,
-    )
-}
-
-/// Returns the answer to a body that is no JSON.
-pub fn not_json(alloc: Global) -> Result<Vec<Value>, AllocError> {
-    one(
-        alloc,
-        failure_reply(alloc, &Value::Null, Failure::NotJson, "this is no JSON")?,
-    )
 }
 
 /// Returns the exit status that a message asks for, if it asks for the end: 0 after `shutdown`, and
 /// 1 without.
 pub fn asks_for_end(server: &Server, message: &Value) -> Option<u8>
-    ensures { IfSome result (λ status. status ≤ 1) }
+    ensures end { result ≡ end_of (server_view server.now) (view message.now) }
+    ensures small { IfSome result (λ status. status ≤ 1) }
 {
-    match read_request(message) {
-        Request::Exit => Some(if server.phase == Phase::ShutDown {
-            0
-        } else {
-            1
-        }),
-        _ => None,
+    if is_exit(read_request(message)) {
+        Some(server.phase.status())
+    } else {
+        None
     }
 }

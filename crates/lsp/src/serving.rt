@@ -1,8 +1,17 @@
 //! Messages taken from the input, one after another, and answered.
 
-ghost use Rattle.std.specs.Prelude.{◌≡◌, ◌≤◌, IfOk, IfSome};
+ghost use Rattle.std.specs.Prelude.{◌≡◌, ◌≤◌, ℕ, IfOk, IfSome, List, OnOk, Option, Some, map as each};
+ghost use Rattle.std.specs.Io.KnownBytes.{Appends};
+ghost use Rattle.std.specs.Option.{option_map};
+ghost use Rattle.lsp.specs.Messages.{Does, IsMessage};
+ghost use Rattle.lsp.specs.State.{server_view};
+ghost use Rattle.lsp.specs.Writing.{AreWritten, IsTextOf};
+ghost use Rattle.message_stream.specs.Messages.{framed};
+ghost use Rattle.serde_json.specs.Data.{Data};
+ghost use Rattle.serde_json.specs.View.{view};
 
-use crate::server::{Phase, Server, asks_for_end, not_json, serve};
+use crate::phase::Phase;
+use crate::server::{Server, asks_for_end, not_json, serve};
 use crate::words::{LspWords, read_words};
 use arguments::{Refusal, map_of, put_all, refuse, refused_words};
 use bus::MapSpec;
@@ -11,44 +20,90 @@ use serde_json::Value;
 use std::alloc::{AllocError, Global};
 use std::io::{Read, Write};
 
+/// Writes a value as a message, and flushes the output.
+///
+/// Errors: `Write` if the output fails; `OutOfMemory` if an allocation fails.
+fn tell_one<O: Write>(alloc: Global, value: &Value, output: &mut O) -> Result<(), StreamFault>
+    ensures { OnOk result ((text : List ℕ) × IsTextOf (view value.now) text
+        × Appends (O.contents output.old) (O.contents output.new) (framed text)) }
+{
+    let Ok(text) = value.to_string(alloc) else {
+        return Err(StreamFault::OutOfMemory);
+    };
+    write_message(alloc, output, text.as_bytes())?;
+    Ok(())
+}
+
 /// Writes values as messages, and flushes the output behind each.
 ///
 /// Errors: `Write` if the output fails; `OutOfMemory` if an allocation fails.
-fn tell<O: Write>(alloc: Global, values: &[Value], output: &mut O) -> Result<(), StreamFault> {
+fn tell<O: Write>(alloc: Global, values: &[Value], output: &mut O) -> Result<(), StreamFault>
+    ensures { OnOk result ((written : List ℕ) × AreWritten (each view values.now) written
+        × Appends (O.contents output.old) (O.contents output.new) written) }
+{
     for value in values {
-        match value.to_string(alloc) {
-            Ok(text) => write_message(alloc, output, text.as_bytes())?,
-            Err(_) => return Err(StreamFault::OutOfMemory),
-        }
+        tell_one(alloc, value, output)?;
     }
     Ok(())
 }
 
 /// Returns the value of a body, or nothing if it is no JSON. The only error is that a request for
 /// memory was refused.
-fn value_of(alloc: Global, body: &[u8]) -> Result<Option<Value>, AllocError> {
+fn value_of(alloc: Global, body: &[u8]) -> Result<Option<Value>, AllocError>
+    ensures { IfOk result (λ found. IsMessage body.now (option_map view found)) }
+{
     match Value::from_slice(alloc, body) {
         Ok(value) => Ok(Some(value)),
-        Err(error) if error.is_memory() => Err(AllocError),
-        Err(_) => Ok(None),
+        Err(error) => {
+            if error.is_memory() {
+                Err(AllocError)
+            } else {
+                Ok(None)
+            }
+        }
     }
 }
 
-/// Returns what is told after a message, and the exit status if it asks for the end.
+/// Does what a message asks for, and returns what is told then, and the exit status if it asks for
+/// the end.
+fn obeyed(
+    alloc: Global,
+    map: &MapSpec,
+    server: &mut Server,
+    message: &Value,
+) -> Result<(Vec<Value>, Option<u8>), AllocError>
+    ensures does { IfOk result (λ p. Does map.now (server_view server.old)
+        (Some (view message.now)) (server_view server.new) (each view p.0.items) p.1) }
+    ensures small { IfOk result (λ p. IfSome p.1 (λ status. status ≤ 1)) }
+{
+    match asks_for_end(server, message) {
+        Some(status) => Ok((Vec::new(alloc), Some(status))),
+        None => {
+            let values = serve(alloc, map, server, message)?;
+            Ok((values, None))
+        }
+    }
+}
+
+/// Does what the body of a message asks for, and returns what is told then, and the exit status if
+/// it asks for the end.
 fn served(
     alloc: Global,
     map: &MapSpec,
     server: &mut Server,
     body: &[u8],
 ) -> Result<(Vec<Value>, Option<u8>), AllocError>
-    ensures { IfOk result (λ p. IfSome p.1 (λ status. status ≤ 1)) }
+    ensures does { IfOk result (λ p. (message : Option Data) × IsMessage body.now message
+        × Does map.now (server_view server.old) message (server_view server.new)
+        (each view p.0.items) p.1) }
+    ensures small { IfOk result (λ p. IfSome p.1 (λ status. status ≤ 1)) }
 {
-    let Some(message) = value_of(alloc, body)? else {
-        return Ok((not_json(alloc)?, None));
-    };
-    match asks_for_end(server, &message) {
-        Some(status) => Ok((Vec::new(alloc), Some(status))),
-        None => Ok((serve(alloc, map, server, &message)?, None)),
+    match value_of(alloc, body)? {
+        Some(message) => obeyed(alloc, map, server, &message),
+        None => {
+            let values = not_json(alloc, map, server)?;
+            Ok((values, None))
+        }
     }
 }
 

@@ -1,2 +1,7 @@
-pub mod Columns
-pub mod Values
+pub mod Lists
+pub mod Marks
+pub mod Meanings
+pub mod Names
+pub mod Renames
+pub mod Texts
+pub mod Written

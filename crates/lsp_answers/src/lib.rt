@@ -1,21 +1,24 @@
 //! What a language server answers of a source: marks, what is meant at a place, where a name
 //! stands, a name changed, the names of a source, and what may be written.
 //!
-//! `Text` is a source with its lines and names. Each other call makes an answer's value of it.
-//! `columns` counts columns as the protocol does, `values` makes the values of places.
+//! `Text` is a source with its lines and names (`specs/Texts.antt`). Each other call makes an
+//! answer's value of it: `marks` (`Marks.antt`), `meanings` (`Meanings.antt`) with the words of
+//! `wording`, `names` (`Names.antt`), `renaming` (`Renames.antt`), and `lists` (`Lists.antt`) with
+//! what may be written in any source (`written`).
 #![tactic(auto)]
 
-mod columns;
 mod lists;
 mod marks;
 mod meanings;
 mod names;
+mod renaming;
 mod source_text;
-mod values;
+mod wording;
+mod written;
 
-pub use columns::{character_of, column_of};
 pub use lists::{completion, symbols};
 pub use marks::published;
 pub use meanings::hover;
-pub use names::{definition, references, rename};
+pub use names::{definition, references};
+pub use renaming::rename;
 pub use source_text::Text;

@@ -1,43 +1,66 @@
 //! The marks of a source.
 
+ghost use Rattle.std.specs.Prelude.{◌≡◌, ℕ, IfOk, List, map};
+ghost use Rattle.lsp_answers.specs.Marks.{AreMarks, mark_of, severity_of};
+ghost use Rattle.lsp_answers.specs.Texts.{text_view};
+ghost use Rattle.lsp_values.specs.Values.{list_of};
+ghost use Rattle.serde_json.specs.View.{view};
+
 use crate::source_text::Text;
 use bus::MapSpec;
-use serde_json::{Value, json};
+use lsp_values::{mark, marks};
+use serde_json::Value;
 use source_diagnostics::{Diagnostic, diagnostics};
 use std::alloc::{AllocError, Global};
 
 /// Returns how grave a fault or a warning is, as the protocol counts it.
-fn severity(one: &Diagnostic) -> u64 {
+fn severity_of(one: &Diagnostic) -> u64
+    ensures { result ≡ severity_of one.now.kind }
+{
     if one.kind.is_fault() { 1 } else { 2 }
 }
 
 /// Returns the value of a fault or a warning. One of no line stands at the first line.
-fn mark(alloc: Global, text: &Text<'_>, one: &Diagnostic) -> Result<Value, AllocError> {
+fn mark_of(alloc: Global, text: &Text<'_>, one: &Diagnostic) -> Result<Value, AllocError>
+    ensures { IfOk result (λ v. view v ≡ mark_of (text_view text.now) one.now) }
+{
     let number = one.line.max(1);
     let range = text.range(alloc, number, one.note.start, one.note.width)?;
     let words = String::from_utf8_lossy(alloc, &one.note.words)?;
-    json!(in alloc; {
-        "code": one.kind.name(),
-        "message": words.as_str(),
-        "range": range,
-        "severity": severity(one),
-        "source": "mos65"
-    })
+    mark(
+        alloc,
+        severity_of(one),
+        one.kind.name(),
+        words.as_str(),
+        range,
+    )
+}
+
+/// Returns the marks of some faults or warnings.
+fn marks_of(alloc: Global, text: &Text<'_>, found: &[Diagnostic]) -> Result<Value, AllocError>
+    ensures { IfOk result
+        (λ v. view v ≡ list_of (map (mark_of (text_view text.now)) found.now)) }
+{
+    let mut values = Vec::new(alloc);
+    for one in found {
+        let value = mark_of(alloc, text, one)?;
+        values.push(value)?;
+    }
+    Ok(Value::Array(values))
 }
 
 /// Returns the marks of a document: of each fault of its source on a map, or of each warning where
-/// it has no fault. The only error is that a request for memory was refused.
+/// it has no fault, as `check` finds them. The only error is that a request for memory was refused.
 pub fn published(
     alloc: Global,
     map: &MapSpec,
     uri: &str,
     text: &Text<'_>,
-) -> Result<Value, AllocError> {
+) -> Result<Value, AllocError>
+    ensures { IfOk result (λ v. AreMarks map.now uri.now (text_view text.now) (view v)) }
+{
     let found = diagnostics(alloc, text.source, map)?;
-    let mut marks = Vec::new(alloc);
-    for one in &found {
-        marks.push(mark(alloc, text, one)?)?;
-    }
-    let marks = Value::Array(marks);
-    json!(in alloc; {"diagnostics": marks, "uri": uri})
+    let values = marks_of(alloc, text, &found)?;
+    let params = marks(alloc, uri, values)?;
+    Ok(params)
 }

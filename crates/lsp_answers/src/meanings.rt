@@ -1,16 +1,29 @@
 //! What is meant at a place.
 
-use crate::columns::column_of;
+ghost use Rattle.std.specs.Prelude.{◌≡◌, ◌≤◌, ◌++◌, ◌-◌, ℕ, IfOk, List, length, option_and_then, slice_get};
+ghost use Rattle.std.specs.List.{find};
+ghost use Rattle.std.specs.Option.{option_map};
+ghost use Rattle.line_parts.specs.Lexemes.{lexeme_of, lexemes};
+ghost use Rattle.lsp_answers.specs.Meanings.{IsMeaning, IsOfLine, IsOfName, IsOfRow, IsSaid};
+ghost use Rattle.lsp_answers.specs.Meanings.{found_in, is_mnemonic_on, mnemonic_on, opcode_of};
+ghost use Rattle.lsp_answers.specs.Meanings.{row_of, row_on, tokens_or_none};
+ghost use Rattle.lsp_answers.specs.Texts.{line_at, text_view};
+ghost use Rattle.model.specs.Mnemonics.{mnemonic_text};
+ghost use Rattle.model.specs.Token.{tokens_of};
+ghost use Rattle.name_uses.specs.Views.{use_view};
+ghost use Rattle.serde_json.specs.View.{view};
+ghost use Rattle.source_faults.specs.Views.{found_all, found_view};
+
 use crate::source_text::Text;
-use formatting::{push_address, push_byte, push_count, push_text};
+use crate::wording::{instruction_tail, name_tail};
 use lexer::tokens;
-use line_parts::{Code, KeptLine, LineError, Token};
-use model::{LineFault, Mode, TokenKind};
-use name_uses::{NameUse, Part, picked};
+use line_parts::{Statement, Token};
+use lsp_values::{column_of, hover as said_of};
+use model::{LineFault, Profile, Row};
+use name_uses::NameUse;
 use optable::{decode_in, letters_of, mnemonic_in};
-use serde_json::{Value, json};
+use serde_json::Value;
 use source_faults::{Found, Mending, lay_out};
-use source_notes::push_signed;
 use std::alloc::{AllocError, Global};
 use symbols::Symbols;
 
@@ -19,16 +32,25 @@ const SOURCE_SIZE: usize = 1_048_576;
 
 /// What the layout finds of a source: each line, and the numbers of its names.
 #[derive(Drop)]
-struct Laid<'a> {
-    found: Vec<Found<'a>>,
-    symbols: Symbols,
+pub struct Laid<'a> {
+    pub found: Vec<Found<'a>>,
+    pub symbols: Symbols,
 }
 
-/// Lays out a source; nothing if it has too many bytes.
-fn lay_out_text<'a>(alloc: Global, text: &Text<'a>) -> Result<Option<Laid<'a>>, AllocError> {
-    if text.source.len() > SOURCE_SIZE {
-        return Ok(None);
-    }
+/// An instruction in its place.
+#[derive(Clone, Copy)]
+pub struct Placed {
+    pub row: Row,
+    pub opcode: u8,
+    pub address: u32,
+}
+
+/// Lays out a source.
+#[tactic(auto, unfolding(crate::specs::Meanings::found_in))]
+fn lay_out_text<'a>(alloc: Global, text: &Text<'a>) -> Result<Laid<'a>, AllocError>
+    requires { length text.now.source.now ≤ 1048576 }
+    ensures { IfOk result (λ laid. found_all laid.found.items ≡ found_in (text_view text.now)) }
+{
     let mut symbols = Symbols::new(alloc);
     let found = lay_out(
         alloc,
@@ -37,121 +59,39 @@ fn lay_out_text<'a>(alloc: Global, text: &Text<'a>) -> Result<Option<Laid<'a>>, 
         &mut symbols,
         text.source,
     )?;
-    Ok(Some(Laid { found, symbols }))
+    Ok(Laid { found, symbols })
 }
 
-/// Returns what is said at a place, with the range that it is said of.
-fn said(alloc: Global, words: &[u8], range: Value) -> Result<Value, AllocError> {
-    let words = String::from_utf8_lossy(alloc, words)?;
-    json!(in alloc; {
-        "contents": {"kind": "plaintext", "value": words.as_str()}, "range": range
-    })
-}
-
-/// Appends a number: as an address too, if it is one.
-fn push_number(words: &mut Vec<u8>, number: i32) -> Result<(), AllocError> {
-    push_text(words, " = ")?;
-    if number >= 0 && number <= 65535 {
-        push_text(words, "$")?;
-        push_address(words, number as u16)?;
-        push_text(words, " (")?;
-        push_signed(words, number)?;
-        return push_text(words, ")");
-    }
-    push_signed(words, number)
-}
-
-/// Appends where some names are defined.
-fn push_lines(words: &mut Vec<u8>, definitions: &[NameUse<'_>]) -> Result<(), AllocError> {
-    for one in definitions {
-        push_text(words, "\ndefined on line ")?;
-        push_count(words, one.line as u64)?;
-    }
-    Ok(())
+/// Returns what is said at a place, in these words and behind them others, with the range that it
+/// is said of.
+fn said(alloc: Global, front: &[u8], rest: &[u8], range: Value) -> Result<Value, AllocError>
+    ensures { IfOk result (λ v. IsSaid front.now (view range) (view v)) }
+{
+    let mut words = Vec::from_slice(alloc, front)?;
+    words.extend_from_slice(rest)?;
+    let text = String::from_utf8_lossy(alloc, &words)?;
+    let value = said_of(alloc, text.as_str(), range)?;
+    Ok(value)
 }
 
 /// Returns what is said of a name.
-fn name_words(
+fn name_said(
     alloc: Global,
     text: &Text<'_>,
     laid: &Laid<'_>,
     one: &NameUse<'_>,
-) -> Result<Vec<u8>, AllocError> {
-    let mut words = Vec::from_slice(alloc, one.text)?;
-    match laid.symbols.value_of(one.text) {
-        Some(number) => push_number(&mut words, number)?,
-        None => push_text(&mut words, " has no number")?,
-    }
-    let definitions = picked(alloc, &text.uses, one.text, Part::Definitions)?;
-    push_lines(&mut words, &definitions)?;
-    Ok(words)
-}
-
-/// Returns how an operand is written in a mode.
-fn form_of(mode: Mode) -> &'static str {
-    match mode {
-        Mode::Imp => "no operand",
-        Mode::Acc => "the accumulator",
-        Mode::Imm => "a number, #n",
-        Mode::Zp => "zero page, n",
-        Mode::ZpX => "zero page by X, n,X",
-        Mode::ZpY => "zero page by Y, n,Y",
-        Mode::Abs => "an address, nn",
-        Mode::AbsX => "an address by X, nn,X",
-        Mode::AbsY => "an address by Y, nn,Y",
-        Mode::IndX => "a pointer by X, (n,X)",
-        Mode::IndY => "a pointer, then by Y, (n),Y",
-        Mode::Ind => "a pointer, (nn)",
-        Mode::Rel => "a branch",
-        Mode::IndZ => "a pointer, (n)",
-    }
-}
-
-/// Returns which cycles come on top.
-fn extra(mode: Mode, penalty: bool) -> &'static str {
-    if mode == Mode::Rel {
-        ", 1 more if taken, 2 more to another page"
-    } else if penalty {
-        ", 1 more if a page is crossed"
-    } else {
-        ""
-    }
-}
-
-/// Appends how many of something there are.
-fn push_amount(words: &mut Vec<u8>, count: u8, one: &str, many: &str) -> Result<(), AllocError> {
-    push_count(words, count as u64)?;
-    push_text(words, if count == 1 { one } else { many })
-}
-
-/// Returns what is said of an instruction of a line; nothing where the line has none.
-fn instruction_words(
-    alloc: Global,
-    text: &Text<'_>,
-    line: &KeptLine<'_>,
-) -> Result<Option<Vec<u8>>, AllocError> {
-    let Some(code) = line.code else {
-        return Ok(None);
-    };
-    let Some(row) = decode_in(text.profile, code.opcode) else {
-        return Ok(None);
-    };
-    let mut words = Vec::from_slice(alloc, &letters_of(row.mnemonic))?;
-    push_text(&mut words, ", ")?;
-    push_text(&mut words, form_of(row.mode))?;
-    push_text(&mut words, "\n$")?;
-    push_address(&mut words, (line.address % 65536) as u16)?;
-    push_text(&mut words, ": opcode $")?;
-    push_byte(&mut words, code.opcode)?;
-    push_text(&mut words, ", ")?;
-    push_amount(&mut words, row.len, " byte, ", " bytes, ")?;
-    push_amount(&mut words, row.cycles, " cycle", " cycles")?;
-    push_text(&mut words, extra(row.mode, row.penalty))?;
-    Ok(Some(words))
+) -> Result<Value, AllocError>
+    ensures { IfOk result (λ v. IsOfName (text_view text.now) (use_view one.now) (view v)) }
+{
+    let rest = name_tail(alloc, text, laid, one)?;
+    let range = text.range_of(alloc, one)?;
+    said(alloc, one.text, &rest, range)
 }
 
 /// Returns the tokens of a line; none of a line that is not made of tokens.
-fn tokens_or_none<'a>(alloc: Global, line: &'a [u8]) -> Result<Vec<Token<'a>>, AllocError> {
+fn tokens_or_none<'a>(alloc: Global, line: &'a [u8]) -> Result<Vec<Token<'a>>, AllocError>
+    ensures { IfOk result (λ ts. lexemes ts.items ≡ tokens_or_none (tokens_of line.now)) }
+{
     match tokens(alloc, line) {
         Ok(found) => Ok(found),
         Err(LineFault::OutOfMemory) => Err(AllocError),
@@ -159,61 +99,143 @@ fn tokens_or_none<'a>(alloc: Global, line: &'a [u8]) -> Result<Vec<Token<'a>>, A
     }
 }
 
-/// Returns the word at a column of a line that is a mnemonic, if one stands there.
-fn mnemonic_at<'a>(text: &Text<'a>, tokens: &[Token<'a>], column: usize) -> Option<Token<'a>> {
+/// Returns whether a token is a mnemonic, and has a column or ends there.
+fn is_mnemonic_on(profile: Profile, column: usize, token: &Token<'_>) -> bool
+    ensures { result ≡ is_mnemonic_on profile column (lexeme_of token.now) }
+{
+    token.start <= column
+        && column - token.start <= token.text.len()
+        && mnemonic_in(profile, token.text).is_some()
+}
+
+/// Returns the first of some tokens that is a mnemonic at a column.
+fn mnemonic_among<'a>(profile: Profile, column: usize, tokens: &[Token<'a>]) -> Option<Token<'a>>
+    ensures { option_map lexeme_of result
+        ≡ find (is_mnemonic_on profile column) (lexemes tokens.now) }
+{
     for token in tokens {
-        let is_here = token.start <= column && column - token.start <= token.text.len();
-        if is_here && mnemonic_in(text.profile, token.text).is_some() {
+        if is_mnemonic_on(profile, column, token) {
             return Some(*token);
         }
     }
     None
 }
 
-/// Returns what is said of the instruction at a place; `null` where none is.
-fn instruction_at(
+/// Returns the mnemonic at a column of a line, if one stands there.
+fn mnemonic_on<'a>(
+    alloc: Global,
+    profile: Profile,
+    column: usize,
+    line: &'a [u8],
+) -> Result<Option<Token<'a>>, AllocError>
+    ensures { IfOk result (λ found. option_map lexeme_of found
+        ≡ mnemonic_on profile column line.now) }
+{
+    let found = tokens_or_none(alloc, line)?;
+    Ok(mnemonic_among(profile, column, &found))
+}
+
+/// Returns the opcode of what is found of a line, with its address, if it is an instruction.
+fn opcode_of(found: &Found<'_>) -> Option<(u8, u32)>
+    ensures { option_map (λ p. p.0) result ≡ opcode_of (found_view found.now).place.content }
+{
+    let Found::Bytes(kept) = found else {
+        return None;
+    };
+    match &kept.statement {
+        Statement::Instruction(_, _) => match kept.code {
+            Some(code) => Some((code.opcode, kept.address)),
+            None => None,
+        },
+        Statement::Nothing | Statement::Origin(_) | Statement::Bytes(_) => None,
+        Statement::Words(_) | Statement::WordsHighFirst(_) => None,
+        Statement::Reserve(_) | Statement::Finish => None,
+    }
+}
+
+/// Returns the row of what is found of a line, with its address, if it is an instruction.
+pub fn row_of(profile: Profile, found: &Found<'_>) -> Option<Placed>
+    ensures { option_map (λ p. p.row) result ≡ row_of profile (found_view found.now) }
+{
+    let (opcode, address) = opcode_of(found)?;
+    match decode_in(profile, opcode) {
+        Some(row) => Some(Placed {
+            row,
+            opcode,
+            address,
+        }),
+        None => None,
+    }
+}
+
+/// Returns the row of the instruction of a line by its number, with its address, if it has one.
+fn row_on(profile: Profile, found: &[Found<'_>], number: u32) -> Option<Placed>
+    ensures { option_map (λ p. p.row) result ≡ row_on profile (found_all found.now) number }
+{
+    match found.get((number as usize).saturating_sub(1)) {
+        Some(one) => row_of(profile, one),
+        None => None,
+    }
+}
+
+/// Returns what is said of a mnemonic of a line: of its instruction, or `null` if it has none.
+fn instruction_said(
+    alloc: Global,
+    text: &Text<'_>,
+    number: u32,
+    token: &Token<'_>,
+    placed: Option<Placed>,
+) -> Result<Value, AllocError>
+    ensures { IfOk result (λ v. IsOfRow (text_view text.now) number (lexeme_of token.now)
+        (option_map (λ p. p.row) placed) (view v)) }
+{
+    match placed {
+        Some(placed) => {
+            let rest = instruction_tail(alloc, &placed)?;
+            let range = text.range(alloc, number, token.start, token.text.len())?;
+            said(alloc, &letters_of(placed.row.mnemonic), &rest, range)
+        }
+        None => Ok(Value::Null),
+    }
+}
+
+/// Returns what is said at a column of a line by its number, where no name stands; `null` where
+/// there is no such line.
+fn line_said(
     alloc: Global,
     text: &Text<'_>,
     laid: &Laid<'_>,
-    number: u32,
+    number: Option<u32>,
     character: u64,
-) -> Result<Value, AllocError> {
+) -> Result<Value, AllocError>
+    requires { found_all laid.now.found.items ≡ found_in (text_view text.now) }
+    ensures { IfOk result (λ v. IsOfLine (text_view text.now) character number (view v)) }
+{
+    let Some(number) = number else {
+        return Ok(Value::Null);
+    };
     let line = text.line(number);
-    let found = tokens_or_none(alloc, line)?;
-    let Some(token) = mnemonic_at(text, &found, column_of(line, character)) else {
-        return Ok(Value::Null);
-    };
-    let Some(Found::Bytes(kept)) = laid.found.get((number as usize).saturating_sub(1)) else {
-        return Ok(Value::Null);
-    };
-    match instruction_words(alloc, text, kept)? {
-        Some(words) => {
-            let range = text.range(alloc, number, token.start, token.text.len())?;
-            said(alloc, &words, range)
+    match mnemonic_on(alloc, text.profile, column_of(line, character), line)? {
+        Some(token) => {
+            let placed = row_on(text.profile, &laid.found, number);
+            instruction_said(alloc, text, number, &token, placed)
         }
         None => Ok(Value::Null),
     }
 }
 
 /// Returns what is meant at a place: of a name its number and where it is defined, of an
-/// instruction its form, address, opcode, bytes and cycles; `null` elsewhere. The only error is
-/// that a request for memory was refused.
-pub fn hover(
-    alloc: Global,
-    text: &Text<'_>,
-    line: u64,
-    character: u64,
-) -> Result<Value, AllocError> {
-    let Some(laid) = lay_out_text(alloc, text)? else {
+/// instruction its form, address, opcode, bytes, cycles and flags; `null` elsewhere, and of a
+/// source that is too long. The only error is that a request for memory was refused.
+pub fn hover(alloc: Global, text: &Text<'_>, line: u64, character: u64) -> Result<Value, AllocError>
+    ensures { IfOk result (λ v. IsMeaning (text_view text.now) line character (view v)) }
+{
+    if text.source.len() > SOURCE_SIZE {
         return Ok(Value::Null);
-    };
-    if let Some(one) = text.name_at(line, character) {
-        let words = name_words(alloc, text, &laid, &one)?;
-        let range = text.range_of(alloc, &one)?;
-        return said(alloc, &words, range);
     }
-    match text.number(line) {
-        Some(number) => instruction_at(alloc, text, &laid, number, character),
-        None => Ok(Value::Null),
+    let laid = lay_out_text(alloc, text)?;
+    match text.name_at(line, character) {
+        Some(one) => name_said(alloc, text, &laid, &one),
+        None => line_said(alloc, text, &laid, text.number(line), character),
     }
 }

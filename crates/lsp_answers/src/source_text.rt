@@ -1,7 +1,13 @@
 //! A source with its lines and names.
 
-use crate::columns::{character_of, column_of};
-use crate::values::range;
+ghost use Rattle.std.specs.Prelude.{◌≡◌, IfOk};
+ghost use Rattle.std.specs.Option.{option_map};
+ghost use Rattle.lsp_answers.specs.Texts.{line_at, name_at, number_in, range_in, text_of};
+ghost use Rattle.lsp_answers.specs.Texts.{text_view, use_range};
+ghost use Rattle.name_uses.specs.Views.{use_view};
+ghost use Rattle.serde_json.specs.View.{view};
+
+use lsp_values::{character_of, column_of, range};
 use model::Profile;
 use name_uses::{NameUse, name_at, name_uses};
 use serde_json::Value;
@@ -11,7 +17,7 @@ use std::alloc::{AllocError, Global};
 /// The most bytes that a source has (mos65).
 const SOURCE_SIZE: usize = 1_048_576;
 
-/// A source with its lines and its names. One of too many bytes has none of either.
+/// A source with its lines and its names.
 #[derive(Drop)]
 pub struct Text<'a> {
     pub profile: Profile,
@@ -22,9 +28,11 @@ pub struct Text<'a> {
 }
 
 impl<'a> Text<'a> {
-    /// Finds the lines and the names of a source in a profile. The only error is that a request for
-    /// memory was refused.
-    pub fn read(alloc: Global, profile: Profile, source: &'a [u8]) -> Result<Text<'a>, AllocError> {
+    /// Finds the lines and the names of a source in a profile. One of too many bytes has none of
+    /// either. The only error is that a request for memory was refused.
+    pub fn read(alloc: Global, profile: Profile, source: &'a [u8]) -> Result<Text<'a>, AllocError>
+        ensures { IfOk result (λ text. text_view text ≡ text_of profile source.now) }
+    {
         if source.len() > SOURCE_SIZE {
             return Ok(Text {
                 profile,
@@ -44,12 +52,16 @@ impl<'a> Text<'a> {
     }
 
     /// Returns the line of this number, counted from 1; empty where there is none.
-    pub fn line(&self, number: u32) -> &'a [u8] {
+    pub fn line(&self, number: u32) -> &'a [u8]
+        ensures { result.now ≡ line_at (text_view self.now) number }
+    {
         line_or_none(line_of(&self.lines, number))
     }
 
     /// Returns the number of a line that the protocol counts from 0, if there is such a line.
-    pub fn number(&self, line: u64) -> Option<u32> {
+    pub fn number(&self, line: u64) -> Option<u32>
+        ensures { result ≡ number_in (text_view self.now) line }
+    {
         if line < self.lines.len() as u64 && line < 4294967295 {
             Some(line as u32 + 1)
         } else {
@@ -58,10 +70,11 @@ impl<'a> Text<'a> {
     }
 
     /// Returns the name at a place as the protocol counts it, if one stands there.
-    pub fn name_at(&self, line: u64, character: u64) -> Option<NameUse<'a>> {
+    pub fn name_at(&self, line: u64, character: u64) -> Option<NameUse<'a>>
+        ensures { option_map use_view result ≡ name_at (text_view self.now) line character }
+    {
         let number = self.number(line)?;
-        let text = self.line(number);
-        let column = column_of(text, character);
+        let column = column_of(self.line(number), character);
         name_at(&self.uses, number, column)
     }
 
@@ -73,17 +86,22 @@ impl<'a> Text<'a> {
         number: u32,
         start: usize,
         width: usize,
-    ) -> Result<Value, AllocError> {
+    ) -> Result<Value, AllocError>
+        ensures { IfOk result
+            (λ v. view v ≡ range_in (text_view self.now) number start width) }
+    {
         let line = self.line(number);
-        let end = start.saturating_add(width);
         let row = (number as u64).saturating_sub(1);
         let from = character_of(line, start);
-        let to = character_of(line, end);
+        let to = character_of(line, start.saturating_add(width));
         range(alloc, row, from, to)
     }
 
     /// Returns the range of a name. The only error is that a request for memory was refused.
-    pub fn range_of(&self, alloc: Global, one: &NameUse<'_>) -> Result<Value, AllocError> {
+    pub fn range_of(&self, alloc: Global, one: &NameUse<'_>) -> Result<Value, AllocError>
+        ensures { IfOk result
+            (λ v. view v ≡ use_range (text_view self.now) (use_view one.now)) }
+    {
         self.range(alloc, one.line, one.start, one.text.len())
     }
 }

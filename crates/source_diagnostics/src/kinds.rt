@@ -1,5 +1,8 @@
 //! A fault or a warning.
 
+ghost use Rattle.std.specs.Prelude.{◌≡◌};
+ghost use Rattle.source_diagnostics.specs.Kinds.{is_fault, name_of};
+
 use model::AsmFaultKind;
 use source_notes::Note;
 use warning_notes::kind_name;
@@ -16,7 +19,9 @@ pub enum DiagnosticKind {
 
 impl DiagnosticKind {
     /// Returns its name, as `check` writes it.
-    pub fn name(self) -> &'static str {
+    pub fn name(self) -> &'static str
+        ensures { result.now ≡ name_of self }
+    {
         match self {
             DiagnosticKind::Fault(kind) => kind.name(),
             DiagnosticKind::Warning(kind) => kind_name(kind),
@@ -24,7 +29,9 @@ impl DiagnosticKind {
     }
 
     /// Returns whether it is a fault.
-    pub fn is_fault(self) -> bool {
+    pub fn is_fault(self) -> bool
+        ensures { result ≡ is_fault self }
+    {
         match self {
             DiagnosticKind::Fault(_) => true,
             DiagnosticKind::Warning(_) => false,

@@ -1,13 +1,13 @@
-//! The values of answers.
+//! Answers and notices.
 
 ghost use Rattle.std.specs.Prelude.{◌≡◌, IfOk};
-ghost use Rattle.lsp.specs.Replies.{notice_data, result_data};
+ghost use Rattle.lsp_values.specs.Replies.{failure_data, notice_data, number_of, result_data};
 ghost use Rattle.serde_json.specs.View.{view};
 
 use serde_json::{Value, json};
 use std::alloc::{AllocError, Global};
 
-/// Why a request is refused, with the number of the protocol.
+/// Why a request is refused.
 #[derive(Clone, Copy, Debug, PartialEq, Eq)]
 pub enum Failure {
     /// The body of a message is no JSON.
@@ -27,7 +27,9 @@ pub enum Failure {
 impl Failure {
     /// Returns its number. Source: JSON-RPC 2.0, "Error object"; Language Server Protocol 3.17,
     /// "ErrorCodes".
-    fn number(self) -> i64 {
+    fn number(self) -> i64
+        ensures { result ≡ number_of self }
+    {
         match self {
             Failure::NotJson => -32700,
             Failure::NoRequest => -32600,
@@ -52,9 +54,12 @@ pub fn failure_reply(
     id: &Value,
     failure: Failure,
     words: &str,
-) -> Result<Value, AllocError> {
+) -> Result<Value, AllocError>
+    ensures { IfOk result (λ v. view v ≡ failure_data (view id.now) failure words.now) }
+{
+    let number = failure.number();
     json!(in alloc; {
-        "error": {"code": failure.number(), "message": words}, "id": id, "jsonrpc": "2.0"
+        "error": {"code": number, "message": words}, "id": id, "jsonrpc": "2.0"
     })
 }
 
@@ -63,21 +68,4 @@ pub fn notice(alloc: Global, method: &str, params: Value) -> Result<Value, Alloc
     ensures { IfOk result (λ v. view v ≡ notice_data method.now (view params)) }
 {
     json!(in alloc; {"jsonrpc": "2.0", "method": method, "params": params})
-}
-
-/// Returns what the server can do.
-pub fn capabilities(alloc: Global) -> Result<Value, AllocError> {
-    json!(in alloc; {
-        "capabilities": {
-            "completionProvider": {},
-            "definitionProvider": true,
-            "documentSymbolProvider": true,
-            "hoverProvider": true,
-            "positionEncoding": "utf-16",
-            "referencesProvider": true,
-            "renameProvider": true,
-            "textDocumentSync": {"change": 1, "openClose": true}
-        },
-        "serverInfo": {"name": "mos65"}
-    })
 }

@@ -1,7 +1,7 @@
 //! The values of places.
 
 ghost use Rattle.std.specs.Prelude.{◌≡◌, IfOk};
-ghost use Rattle.lsp_answers.specs.Values.{location_data, position_data, range_data};
+ghost use Rattle.lsp_values.specs.Values.{location_data, range_data};
 ghost use Rattle.serde_json.specs.View.{view};
 
 use serde_json::{Value, json};

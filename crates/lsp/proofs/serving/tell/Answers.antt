@@ -1,0 +1,30 @@
+use Rattle.std.proofs.Common.{◌+◌, ◌++◌, [], append_assoc, append-nil, map, subst, sym}
+use Rattle.std.proofs.KnownBytes.{Appends-nil, Appends-trans}
+use Rattle.message_stream.specs.Messages.{framed}
+use Rattle.serde_json.specs.View.{view}
+use Rattle.lsp.specs.Writing.{AreWritten}
+use Rattle.lsp.proofs.Written.{written_end, written_step}
+use Rattle.lsp.proofs.serving.tell.Goals as goal
+
+pub loop-value-init : goal.loop-value-init
+loop-value-init g c = ([], Appends-nil _, λ behind h. h)
+
+pub loop-value-preserved : goal.loop-value-preserved
+loop-value-preserved g c =
+    let inv = c.loop-value.invariant in
+    let one = c.in_ok-tell_one.ensures in
+    let values = c.args.values.now in (
+      inv.0 ++ framed one.0,
+      Appends-trans _ _ _ inv.0 (framed one.0) inv.1 one.2,
+      λ behind h. subst (AreWritten (map view values)) (sym (append_assoc inv.0 (framed one.0) behind))
+          (inv.2 (framed one.0 ++ behind) (written_step values c.loop-value.value-index c.value-item.result c.loop-value-test.true c.value-item.is one.0 behind one.1 h)),
+    )
+
+pub returns : goal.returns
+returns g c =
+    let inv = c.loop-value.invariant in
+    let values = c.args.values.now in (
+      inv.0,
+      subst (AreWritten (map view values)) (append-nil inv.0) (inv.2 [] (written_end values c.loop-value.value-index c.loop-value-test.false)),
+      inv.1,
+    )

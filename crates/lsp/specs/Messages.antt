@@ -1,0 +1,146 @@
+-- What a server does with a message. Source: Language Server Protocol 3.17, "Server lifecycle",
+-- "Text Document Synchronization", "PublishDiagnostics Notification"; JSON-RPC 2.0: a message with
+-- `id` and `method` is a request, one without `id` a notice, one with `id` and `result` or `error`
+-- an answer.
+use Rattle.std.specs.Prelude.{◌≡◌, IsUtf8, ℕ, ◌&&◌, ◌||◌, not, is_some, Bool, true, false, if◌then◌else◌, List, [], ◌∷◌, codes, Option, Some, None}
+use Rattle.lsp.specs.Answers.{IsFailure, IsReply, is_initialize}
+use Rattle.lsp.specs.State.{Opened, State, closed, opened}
+use Rattle.lsp.specs.declared.phase.Phase.{Phase}
+use Rattle.lsp.specs.declared.phase.Phase.TheVariants.{Fresh, Running, ShutDown}
+use Rattle.lsp_answers.specs.Marks.{AreMarks}
+use Rattle.lsp_answers.specs.Texts.{text_of}
+use Rattle.lsp_requests.specs.Requests.{RequestView, shutdown, exit, opens, changes, closes, request_of}
+use Rattle.lsp_values.specs.Replies.{notice_data}
+use Rattle.lsp_values.specs.Values.{list_of, marks_data}
+use Rattle.lsp_values.specs.declared.replies.Failure.TheVariants.{NotJson, NoRequest}
+use Rattle.model.specs.State.{Map}
+use Rattle.serde_json.specs.Data.{Data, null}
+use Rattle.serde_json.specs.Find.{get}
+use Rattle.serde_json.specs.Read.{read}
+
+-- ---- the state after a message
+
+abbrev pub is_shutdown : RequestView → Bool
+is_shutdown shutdown = true
+is_shutdown request = false
+
+-- How far a client has come after a request.
+abbrev pub phase_after : Phase → RequestView → Phase
+phase_after Fresh request = if is_initialize request then Running else Fresh
+phase_after Running request = if is_shutdown request then ShutDown else Running
+phase_after ShutDown request = ShutDown
+
+-- The documents after a notice. A change has the whole text.
+abbrev pub documents_after : List Opened → RequestView → List Opened
+documents_after ds (opens uri text) = opened uri text ds
+documents_after ds (changes uri text) = opened uri text ds
+documents_after ds (closes uri) = closed uri ds
+documents_after ds request = ds
+
+-- A notice counts while the server is in use.
+abbrev pub documents_in : Phase → List Opened → RequestView → List Opened
+documents_in Running ds request = documents_after ds request
+documents_in Fresh ds request = ds
+documents_in ShutDown ds request = ds
+
+abbrev pub state_by : Option Data → State → RequestView → State
+state_by (Some id) s request
+    = record { phase = phase_after s.phase request; documents = s.documents }
+state_by None s request
+    = record { phase = s.phase; documents = documents_in s.phase s.documents request }
+
+abbrev pub id_of : Data → Option Data
+id_of message = get (codes "id") message
+
+abbrev pub state_after : State → Data → State
+state_after s message = state_by (id_of message) s (request_of message)
+
+-- ---- what is told after a message
+
+abbrev pub published : Data → Data
+published marks = notice_data (codes "textDocument/publishDiagnostics") marks
+
+-- After a text was told its marks are, and after its end that there are none.
+abbrev pub AreTold : Map → RequestView → List Data → Type 0
+AreTold bus_map (opens uri text) vs = (marks : Data)
+    × AreMarks bus_map uri (text_of bus_map.profile text) marks × (vs ≡ published marks ∷ [])
+AreTold bus_map (changes uri text) vs = (marks : Data)
+    × AreMarks bus_map uri (text_of bus_map.profile text) marks × (vs ≡ published marks ∷ [])
+AreTold bus_map (closes uri) vs = vs ≡ published (marks_data uri (list_of [])) ∷ []
+AreTold bus_map request vs = vs ≡ []
+
+abbrev pub AreToldIn : Map → Phase → RequestView → List Data → Type 0
+AreToldIn bus_map Running request vs = AreTold bus_map request vs
+AreToldIn bus_map Fresh request vs = vs ≡ []
+AreToldIn bus_map ShutDown request vs = vs ≡ []
+
+abbrev pub has_method : Data → Bool
+has_method message = is_some (get (codes "method") message)
+
+-- A message with an `id` is an answer.
+abbrev pub is_answer : Data → Bool
+is_answer message = not (has_method message) && (is_some (get (codes "result") message)
+    || is_some (get (codes "error") message))
+
+-- One answer to a request, which has its id; none to an answer.
+abbrev pub AreReplies : Bool → Map → State → Data → RequestView → List Data → Type 0
+AreReplies true bus_map s id request vs = vs ≡ []
+AreReplies false bus_map s id request vs
+    = (v : Data) × IsReply bus_map s id request v × (vs ≡ v ∷ [])
+
+-- A message that is neither a request nor a notice.
+abbrev pub AreRefused : List Data → Type 0
+AreRefused vs = (v : Data) × IsFailure null NoRequest v × (vs ≡ v ∷ [])
+
+abbrev pub AreNotices : Bool → Map → Phase → RequestView → List Data → Type 0
+AreNotices true bus_map phase request vs = AreToldIn bus_map phase request vs
+AreNotices false bus_map phase request vs = AreRefused vs
+
+abbrev pub AreAnswersBy : Option Data → Map → State → Data → List Data → Type 0
+AreAnswersBy (Some id) bus_map s message vs
+    = AreReplies (is_answer message) bus_map s id (request_of message) vs
+AreAnswersBy None bus_map s message vs
+    = AreNotices (has_method message) bus_map s.phase (request_of message) vs
+
+-- What is told after a message, in this order.
+abbrev pub AreAnswers : Map → State → Data → List Data → Type 0
+AreAnswers bus_map s message vs = AreAnswersBy (id_of message) bus_map s message vs
+
+-- A body that is no JSON is refused.
+abbrev pub AreAnswersTo : Map → State → Option Data → List Data → Type 0
+AreAnswersTo bus_map s None vs = (v : Data) × IsFailure null NotJson v × (vs ≡ v ∷ [])
+AreAnswersTo bus_map s (Some message) vs = AreAnswers bus_map s message vs
+
+-- ---- the end
+
+abbrev pub is_exit : RequestView → Bool
+is_exit exit = true
+is_exit request = false
+
+-- The status is 0 after `shutdown`, and 1 without.
+abbrev pub status_in : Phase → ℕ
+status_in ShutDown = 0
+status_in Fresh = 1
+status_in Running = 1
+
+-- The exit status that a message asks for, if it asks for the end.
+abbrev pub end_of : State → Data → Option ℕ
+end_of s message = if is_exit (request_of message) then Some (status_in s.phase) else None
+
+-- What a body says: a message, or nothing if it is no JSON.
+abbrev pub IsMessage : List ℕ → Option Data → Type 0
+IsMessage body (Some message) = IsUtf8 body × (read body ≡ Some message)
+IsMessage body None = IsUtf8 body → read body ≡ None
+
+-- ---- what a server does with a body: its state then, what it tells, and whether it ends
+
+abbrev pub DoesUnless : Option ℕ → Map → State → Data → State → List Data → Option ℕ → Type 0
+DoesUnless (Some status) bus_map s message t vs end
+    = (t ≡ s) × (vs ≡ []) × (end ≡ Some status)
+DoesUnless None bus_map s message t vs end
+    = (t ≡ state_after s message) × AreAnswers bus_map s message vs × (end ≡ None)
+
+abbrev pub Does : Map → State → Option Data → State → List Data → Option ℕ → Type 0
+Does bus_map s None t vs end = (t ≡ s) × AreAnswersTo bus_map s None vs × (end ≡ None)
+Does bus_map s (Some message) t vs end
+    = DoesUnless (end_of s message) bus_map s message t vs end

@@ -1,0 +1,87 @@
+//! How far a client has come.
+
+ghost use Rattle.std.specs.Prelude.{◌≡◌, ◌≤◌};
+ghost use Rattle.lsp.specs.Answers.{is_initialize};
+ghost use Rattle.lsp.specs.Messages.{is_exit, is_shutdown, phase_after, status_in};
+ghost use Rattle.lsp_requests.specs.Views.{request_view};
+
+use lsp_requests::Request;
+
+/// How far a client has come.
+#[derive(Clone, Copy, Debug, PartialEq, Eq)]
+pub enum Phase {
+    /// Nothing was asked for yet.
+    Fresh,
+    /// The server is in use.
+    Running,
+    /// `shutdown` was asked for.
+    ShutDown,
+}
+
+impl Phase {
+    /// Returns how far a client has come after a request.
+    pub fn after(self, request: Request<'_>) -> Phase
+        ensures { result ≡ phase_after self (request_view request.entry) }
+    {
+        match self {
+            Phase::Fresh if is_initialize(request) => Phase::Running,
+            Phase::Fresh => Phase::Fresh,
+            Phase::Running if is_shutdown(request) => Phase::ShutDown,
+            Phase::Running => Phase::Running,
+            Phase::ShutDown => Phase::ShutDown,
+        }
+    }
+
+    /// Returns the exit status at the end: 0 after `shutdown`, and 1 without.
+    pub fn status(self) -> u8
+        ensures status { result ≡ status_in self }
+        ensures small { result ≤ 1 }
+    {
+        match self {
+            Phase::ShutDown => 0,
+            Phase::Fresh | Phase::Running => 1,
+        }
+    }
+}
+
+/// Returns whether a request is `initialize`.
+pub fn is_initialize(request: Request<'_>) -> bool
+    ensures { result ≡ is_initialize (request_view request.entry) }
+{
+    match request {
+        Request::Initialize => true,
+        Request::Shutdown | Request::Exit | Request::Open { .. } | Request::Change { .. } => false,
+        Request::Close { .. } | Request::Hover(_) | Request::Definition(_) => false,
+        Request::References { .. } | Request::Rename { .. } => false,
+        Request::Symbols { .. } | Request::Completion { .. } => false,
+        Request::Invalid | Request::Unknown | Request::NoMethod => false,
+    }
+}
+
+/// Returns whether a request is `shutdown`.
+fn is_shutdown(request: Request<'_>) -> bool
+    ensures { result ≡ is_shutdown (request_view request.entry) }
+{
+    match request {
+        Request::Shutdown => true,
+        Request::Initialize | Request::Exit | Request::Open { .. } => false,
+        Request::Change { .. } | Request::Close { .. } | Request::Hover(_) => false,
+        Request::Definition(_) | Request::References { .. } | Request::Rename { .. } => false,
+        Request::Symbols { .. } | Request::Completion { .. } => false,
+        Request::Invalid | Request::Unknown | Request::NoMethod => false,
+    }
+}
+
+/// Returns whether a request is `exit`.
+pub fn is_exit(request: Request<'_>) -> bool
+    ensures { result ≡ is_exit (request_view request.entry) }
+{
+    match request {
+        Request::Exit => true,
+        Request::Initialize | Request::Shutdown | Request::Open { .. } => false,
+        Request::Change { .. } | Request::Close { .. } | Request::Hover(_) => false,
+        Request::Definition(_) | Request::References { .. } | Request::Rename { .. } => false,
+        Request::Symbols { .. } | Request::Completion { .. } => false,
+        Request::Invalid | Request::Unknown | Request::NoMethod => false,
+    }
+}

@@ -1,0 +1,27 @@
+-- Where a name stands. Source: Language Server Protocol 3.17, "Goto Definition Request", "Find
+-- References Request"; which uses a name has, mos65.
+use Rattle.std.specs.Prelude.{ℕ, Bool, if◌then◌else◌, List, map, Option, Some, None}
+use Rattle.lsp_answers.specs.Texts.{TextView, name_at, use_range}
+use Rattle.lsp_values.specs.Values.{list_of, location_data}
+use Rattle.name_uses.specs.Picked.{picked}
+use Rattle.name_uses.specs.Uses.{Use}
+use Rattle.name_uses.specs.declared.picks.Part.{Part}
+use Rattle.name_uses.specs.declared.picks.Part.TheVariants.{All, Definitions, Others}
+use Rattle.serde_json.specs.Data.{Data, null}
+
+abbrev pub locations_of : List ℕ → TextView → List Use → Data
+locations_of uri t uses = list_of (map (λ u. location_data uri (use_range t u)) uses)
+
+-- The locations of those uses of a name that are meant; `null` without a name.
+abbrev pub locations_by : List ℕ → TextView → Part → Option Use → Data
+locations_by uri t part None = null
+locations_by uri t part (Some u) = locations_of uri t (picked part u.text t.uses)
+
+-- Where the name at a place is defined.
+abbrev pub definition_at : List ℕ → TextView → ℕ → ℕ → Data
+definition_at uri t line character = locations_by uri t Definitions (name_at t line character)
+
+-- Where the name at a place stands, with or without where it is defined.
+abbrev pub references_at : List ℕ → TextView → ℕ → ℕ → Bool → Data
+references_at uri t line character declares
+    = locations_by uri t (if declares then All else Others) (name_at t line character)

@@ -1,0 +1,47 @@
+-- A name changed. Source: Language Server Protocol 3.17, "Rename Request"; which name may be given,
+-- mos65.
+use Rattle.std.specs.Prelude.{◌≡◌, ◌<◌, ◌⊎◌, ⊤, ℕ, true, List, [], length, map, Option, Some, None}
+use Rattle.lsp_answers.specs.Texts.{TextView, use_range}
+use Rattle.lsp_values.specs.Values.{changes_data, edit_data, list_of}
+use Rattle.model.specs.Source.{Denotes}
+use Rattle.model.specs.State.{Map}
+use Rattle.name_uses.specs.Uses.{Use, is_name}
+use Rattle.serde_json.specs.Data.{Data}
+use Rattle.source_renaming.specs.Renaming.{IsRefused, renamed, uses_named}
+use Rattle.source_renaming.specs.declared.fault.RenameFault.{RenameFault}
+use Rattle.source_renaming.specs.declared.fault.RenameFault.TheVariants.{NoName, Taken, Changed, OutOfMemory}
+
+-- The changes that put a word in place of some uses.
+abbrev pub edits_of : TextView → List ℕ → List Use → Data
+edits_of t word uses = list_of (map (λ u. edit_data word (use_range t u)) uses)
+
+-- A name gets another one: each place where it stands is changed and no other, and what the source
+-- denotes, the source with these changes denotes too.
+pub record IsRename (bus_map : Map) (uri : List ℕ) (t : TextView) (old new : List ℕ) (v : Data)
+    : Type 0 where
+  pub edits : v ≡ changes_data uri (edits_of t new (uses_named bus_map.profile t.source old))
+  pub named : is_name bus_map.profile new ≡ true
+  pub free : uses_named bus_map.profile t.source new ≡ []
+  pub image : (image : List (Option ℕ)) → Denotes bus_map t.source image
+      → Denotes bus_map (renamed bus_map.profile t.source old new) image
+
+-- A refusal that is told to a client.
+abbrev pub IsTold : RenameFault → Type 0
+IsTold NoName = ⊤
+IsTold Taken = ⊤
+IsTold Changed = ⊤
+IsTold OutOfMemory = ⊥
+
+-- A name is kept: the source is too long, or the change is refused.
+abbrev pub IsKept : Map → TextView → List ℕ → List ℕ → Type 0
+IsKept bus_map t old new = (1048576 < length t.source)
+    ⊎ ((fault : RenameFault) × IsTold fault × IsRefused bus_map t.source old new fault)
+
+-- The name at a place, if one stands there.
+abbrev pub IsRenameAt : Map → List ℕ → TextView → Option Use → List ℕ → Data → Type 0
+IsRenameAt bus_map uri t None new v = ⊥
+IsRenameAt bus_map uri t (Some u) new v = IsRename bus_map uri t u.text new v
+
+abbrev pub IsKeptAt : Map → TextView → Option Use → List ℕ → Type 0
+IsKeptAt bus_map t None new = ⊤
+IsKeptAt bus_map t (Some u) new = IsKept bus_map t u.text new

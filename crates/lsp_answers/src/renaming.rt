@@ -1,0 +1,106 @@
+//! A name changed.
+
+ghost use Rattle.std.specs.Prelude.{◌≡◌, IfErr, IfOk};
+ghost use Rattle.lsp_answers.specs.Renames.{IsKept, IsKeptAt, IsRename, IsRenameAt, IsTold, edits_of};
+ghost use Rattle.lsp_answers.specs.Texts.{name_at, text_view};
+ghost use Rattle.name_uses.specs.Views.{use_views};
+ghost use Rattle.serde_json.specs.View.{view};
+
+use crate::source_text::Text;
+use bus::MapSpec;
+use lsp_values::{changes, edit};
+use name_uses::NameUse;
+use serde_json::Value;
+use source_renaming::{RenameFault, rename as renamed};
+use std::alloc::{AllocError, Global};
+
+/// The most bytes that a source has (mos65).
+const SOURCE_SIZE: usize = 1_048_576;
+
+/// Returns the changes that put a word in place of some uses.
+fn edits(
+    alloc: Global,
+    text: &Text<'_>,
+    uses: &[NameUse<'_>],
+    word: &str,
+) -> Result<Value, AllocError>
+    ensures { IfOk result
+        (λ v. view v ≡ edits_of (text_view text.now) word.now (use_views uses.now)) }
+{
+    let mut found = Vec::new(alloc);
+    for one in uses {
+        let range = text.range_of(alloc, one)?;
+        let value = edit(alloc, word, range)?;
+        found.push(value)?;
+    }
+    Ok(Value::Array(found))
+}
+
+/// Returns why a name is not changed, in words. The only error is that memory ran out.
+fn refusal(fault: RenameFault) -> Result<&'static str, AllocError>
+    ensures { IfOk result (λ words. IsTold fault) }
+{
+    match fault {
+        RenameFault::NoName => Ok(
+            "a name begins with a letter, has letters, digits and _, at most 31, and is no \
+            mnemonic, A, X or Y",
+        ),
+        RenameFault::Taken => Ok("the source has this name already"),
+        RenameFault::Changed => Ok("a line or the source would be too long"),
+        RenameFault::OutOfMemory => Err(AllocError),
+    }
+}
+
+/// Returns the changes that give a name another one, or why there are none.
+fn rename_of(
+    alloc: Global,
+    map: &MapSpec,
+    uri: &str,
+    text: &Text<'_>,
+    old: &[u8],
+    name: &str,
+) -> Result<Result<Value, &'static str>, AllocError>
+    ensures changed { IfOk result (λ r. IfOk r (λ v.
+        IsRename map.now uri.now (text_view text.now) old.now name.now (view v))) }
+    ensures kept { IfOk result (λ r. IfErr r (λ words.
+        IsKept map.now (text_view text.now) old.now name.now)) }
+{
+    if text.source.len() > SOURCE_SIZE {
+        return Ok(Err("a source has at most 1048576 bytes"));
+    }
+    match renamed(alloc, map, text.source, old, name.as_bytes()) {
+        Ok(renaming) => {
+            let edits = edits(alloc, text, &renaming.uses, name)?;
+            let changes = changes(alloc, uri, edits)?;
+            Ok(Ok(changes))
+        }
+        Err(fault) => {
+            let words = refusal(fault)?;
+            Ok(Err(words))
+        }
+    }
+}
+
+/// Returns the changes that give the name at a place another name, or why there are none. The only
+/// error is that a request for memory was refused.
+pub fn rename(
+    alloc: Global,
+    map: &MapSpec,
+    uri: &str,
+    text: &Text<'_>,
+    line: u64,
+    character: u64,
+    name: &str,
+) -> Result<Result<Value, &'static str>, AllocError>
+    // The changes are those of the name at the place.
+    ensures changed { IfOk result (λ r. IfOk r (λ v. IsRenameAt map.now uri.now
+        (text_view text.now) (name_at (text_view text.now) line character) name.now (view v))) }
+    // There are none only for a reason.
+    ensures kept { IfOk result (λ r. IfErr r (λ words. IsKeptAt map.now (text_view text.now)
+        (name_at (text_view text.now) line character) name.now)) }
+{
+    match text.name_at(line, character) {
+        Some(one) => rename_of(alloc, map, uri, text, one.text, name),
+        None => Ok(Err("no name stands here")),
+    }
+}

@@ -1,0 +1,2 @@
+pub mod ColumnSteps
+pub mod Lists

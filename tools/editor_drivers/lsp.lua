@@ -1,0 +1,62 @@
+-- Neovim drives `mos65 lsp`. Environment: PROGRAM, SOURCE (a copy of an example without a fault),
+-- NAME (a name of it) and OTHER (the name that it gets). Each line is 'right: ..' or 'WRONG: ..'.
+local function want(holds, words)
+  io.write((holds and "right: " or "WRONG: ") .. words .. "\n")
+end
+
+local told = 0
+local function wait(test, words)
+  want(vim.wait(20000, test, 20), words)
+end
+
+vim.lsp.handlers["textDocument/publishDiagnostics"] = (function(old)
+  return function(...)
+    told = told + 1
+    return old(...)
+  end
+end)(vim.lsp.handlers["textDocument/publishDiagnostics"])
+
+vim.cmd("edit " .. os.getenv("SOURCE"))
+local client = vim.lsp.start_client({ name = "mos65", cmd = { os.getenv("PROGRAM"), "lsp" }, root_dir = "/" })
+vim.lsp.buf_attach_client(0, client)
+local lines = vim.api.nvim_buf_get_lines(0, 0, -1, false)
+local name, other = os.getenv("NAME"), os.getenv("OTHER")
+local defined, used, column
+for number, line in ipairs(lines) do
+  local code = line:gsub(";.*", "")
+  if code:match("^%s*" .. name .. "%s*[:=]") then
+    defined = number
+  elseif not used and code:match("%f[%w_]" .. name .. "%f[^%w_]") then
+    used, column = number, code:find("%f[%w_]" .. name .. "%f[^%w_]")
+  end
+end
+
+local function diagnostics()
+  return #vim.diagnostic.get(0)
+end
+wait(function() return told > 0 and diagnostics() == 0 end, "no mark on an example")
+vim.api.nvim_buf_set_lines(0, used - 1, used, false, { "        LDX #$100" })
+wait(function() return diagnostics() > 0 end, "a mark comes with a fault")
+local mark = vim.diagnostic.get(0)[1]
+want(mark and mark.lnum == used - 1 and mark.code == "ByteRange", "it is on the line, a ByteRange")
+vim.api.nvim_buf_set_lines(0, used - 1, used, false, { lines[used] })
+wait(function() return diagnostics() == 0 end, "it goes when the line is mended")
+
+local function ask(method, more)
+  vim.api.nvim_win_set_cursor(0, { used, column - 1 })
+  local params = vim.lsp.util.make_position_params()
+  for key, value in pairs(more or {}) do params[key] = value end
+  local got = vim.lsp.buf_request_sync(0, method, params, 20000)
+  return got and got[client] and got[client].result
+end
+local meant = ask("textDocument/hover")
+want(meant and meant.contents.value:find(name, 1, true) == 1, "hover on a name")
+local places = ask("textDocument/definition")
+want(places and #places == 1 and places[1].range.start.line == defined - 1, "its definition")
+local changes = ask("textDocument/rename", { newName = other })
+want(changes ~= nil, "another name")
+if changes then vim.lsp.util.apply_workspace_edit(changes, "utf-16") end
+vim.cmd("silent write")
+vim.lsp.stop_client(client)
+vim.wait(20000, function() return vim.lsp.get_client_by_id(client) == nil end, 20)
+vim.cmd("qa!")
