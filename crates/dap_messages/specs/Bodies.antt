@@ -17,35 +17,43 @@ abbrev pub continued : Data
 continued = object_of ((codes "allThreadsContinued", yes) ∷ [])
 
 -- What the adapter can do.
-abbrev pub capabilities : Data
+unfoldable pub capabilities : Data
 capabilities = object_of ((codes "supportsConditionalBreakpoints", yes)
     ∷ (codes "supportsConfigurationDoneRequest", yes) ∷ (codes "supportsEvaluateForHovers", yes)
-    ∷ (codes "supportsHitConditionalBreakpoints", yes) ∷ (codes "supportsSetVariable", yes)
+    ∷ (codes "supportsExceptionInfoRequest", yes)
+    ∷ (codes "supportsHitConditionalBreakpoints", yes)
+    ∷ (codes "supportsInstructionBreakpoints", yes) ∷ (codes "supportsReadMemoryRequest", yes)
+    ∷ (codes "supportsRestartRequest", yes) ∷ (codes "supportsSetVariable", yes)
     ∷ (codes "supportsStepBack", yes) ∷ (codes "supportsSteppingGranularity", yes)
     ∷ (codes "supportsTerminateRequest", yes) ∷ [])
 
--- One thread, and one scope.
+-- One thread.
 abbrev pub threads : Data
 threads = object_of ((
   codes "threads",
   only (object_of ((codes "id", count 1) ∷ (codes "name", word (codes "6502")) ∷ [])),
 ) ∷ [])
 
-abbrev pub scopes : Data
+-- A scope of a name, by the number that its variables are asked for by.
+abbrev pub scope : List ℕ → ℕ → Data
+scope name n = object_of ((codes "expensive", boolean false) ∷ (codes "name", word name)
+    ∷ (codes "variablesReference", count n) ∷ [])
+
+unfoldable pub scopes : Data
 scopes = object_of ((
   codes "scopes",
-  only (object_of ((codes "expensive", boolean false)
-      ∷ (codes "name", word (codes "Registers"))
-      ∷ (codes "presentationHint", word (codes "registers"))
-      ∷ (codes "variablesReference", count 1) ∷ [])),
+  array (item (scope (codes "Registers") 1) (item (scope (codes "Flags") 2)
+      (item (scope (codes "Symbols") 3) (item (scope (codes "Stack") 4)
+      (item (scope (codes "Zero page") 5) (item (scope (codes "Machine") 6) no_items)))))),
 ) ∷ [])
 
 -- ---- events
 
-abbrev pub stopped_body : List ℕ → Data
-stopped_body reason = object_of ((codes "allThreadsStopped", yes) ∷ (codes "reason", word reason)
+abbrev pub stopped_body : List ℕ → List ℕ → Data
+stopped_body reason words = object_of ((codes "allThreadsStopped", yes)
+    ∷ (codes "description", word words) ∷ (codes "reason", word reason)
     ∷ (codes "threadId", count 1) ∷ [])
 
-abbrev pub output_body : List ℕ → Data
-output_body text = object_of ((codes "category", word (codes "console"))
+abbrev pub output_body : List ℕ → List ℕ → Data
+output_body category text = object_of ((codes "category", word category)
     ∷ (codes "output", word text) ∷ [])

@@ -1,2 +1,4 @@
 pub mod Bodies
+pub mod Fields
 pub mod Messages
+pub mod Requests

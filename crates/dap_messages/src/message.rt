@@ -5,7 +5,7 @@ ghost use Rattle.serde_json.specs.View.{view};
 ghost use Rattle.dap_messages.specs.Messages.{data_of, event_data, next_number, refusal_data, response_data};
 ghost use Rattle.dap_messages.specs.Messages.{said_of};
 
-use dap_requests::{command_of, number_of};
+use crate::requests::{command_of, number_of};
 use serde_json::{Value, json};
 use std::alloc::{AllocError, Global};
 

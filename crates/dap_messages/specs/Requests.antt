@@ -1,10 +1,10 @@
 -- What a message asks for. Source: Debug Adapter Protocol 1.65.
 use Rattle.std.specs.Prelude.{ℕ, Bool, false, bytes_eq, if◌then◌else◌, List, [], ◌∷◌, codes, Option, Some, None, unwrap_or}
 use Rattle.serde_json.specs.Data.{Data}
-use Rattle.dap_requests.specs.Fields.{number_at, text_at}
-use Rattle.dap_requests.specs.declared.request.Move.TheVariants as move
-use Rattle.dap_requests.specs.declared.request.Request.{Request}
-use Rattle.dap_requests.specs.declared.request.Request.TheVariants as to
+use Rattle.dap_messages.specs.Fields.{number_at, text_at}
+use Rattle.dap_messages.specs.declared.request.Move.TheVariants as move
+use Rattle.dap_messages.specs.declared.request.Request.{Request}
+use Rattle.dap_messages.specs.declared.request.Request.TheVariants as to
 
 -- The requests that move the machine. Those by instructions are told apart.
 abbrev pub moves : Bool → List (List ℕ × Request)
@@ -16,14 +16,18 @@ moves by_instructions
     ∷ (codes "reverseContinue", to.Moves move.BackToStop) ∷ []
 
 -- The others.
-abbrev pub others : List (List ℕ × Request)
+unfoldable pub others : List (List ℕ × Request)
 others = (codes "initialize", to.Initialize) ∷ (codes "launch", to.Launch)
     ∷ (codes "setBreakpoints", to.SetBreakpoints)
+    ∷ (codes "setInstructionBreakpoints", to.SetInstructionBreakpoints)
+    ∷ (codes "setExceptionBreakpoints", to.SetExceptionBreakpoints)
     ∷ (codes "configurationDone", to.ConfigurationDone) ∷ (codes "threads", to.Threads)
     ∷ (codes "stackTrace", to.StackTrace) ∷ (codes "scopes", to.Scopes)
     ∷ (codes "variables", to.Variables) ∷ (codes "setVariable", to.SetVariable)
-    ∷ (codes "evaluate", to.Evaluate) ∷ (codes "pause", to.Pause)
-    ∷ (codes "terminate", to.Terminate) ∷ (codes "disconnect", to.Disconnect) ∷ []
+    ∷ (codes "evaluate", to.Evaluate) ∷ (codes "readMemory", to.ReadMemory)
+    ∷ (codes "exceptionInfo", to.ExceptionInfo) ∷ (codes "pause", to.Pause)
+    ∷ (codes "restart", to.Restart) ∷ (codes "terminate", to.Terminate)
+    ∷ (codes "disconnect", to.Disconnect) ∷ []
 
 -- The first of these of a name.
 abbrev pub find : Request → List ℕ → List (List ℕ × Request) → Request

@@ -28,6 +28,10 @@ pub enum Request {
     Launch,
     /// The breakpoints of a source, in place of those it had.
     SetBreakpoints,
+    /// The breakpoints at addresses, in place of those there were.
+    SetInstructionBreakpoints,
+    /// The breakpoints at faults, of which there are none.
+    SetExceptionBreakpoints,
     /// The end of what is set before the program runs.
     ConfigurationDone,
     /// The threads of the program.
@@ -42,10 +46,16 @@ pub enum Request {
     SetVariable,
     /// A line of the console, or what a name stands for.
     Evaluate,
+    /// Bytes of memory.
+    ReadMemory,
+    /// What a step was refused for.
+    ExceptionInfo,
     /// A move of the machine.
     Moves(Move),
     /// A stop.
     Pause,
+    /// The session on the program from its file anew.
+    Restart,
     /// The end of the program.
     Terminate,
     /// The end of the session.

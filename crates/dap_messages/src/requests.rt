@@ -3,17 +3,18 @@
 ghost use Rattle.std.specs.Prelude.{◌≡◌, if◌then◌else◌};
 ghost use Rattle.serde_json.specs.View.{view};
 ghost use Rattle.std.specs.Option.{option_map};
-ghost use Rattle.dap_requests.specs.Requests.{by_instructions, command_of, find, is_request};
-ghost use Rattle.dap_requests.specs.Requests.{is_text, moves, number_of, others, request_named};
-ghost use Rattle.dap_requests.specs.Requests.{request_of};
-ghost use Rattle.dap_requests.specs.declared.request.Move.TheVariants.{Back, BackOver, Over, Step};
-ghost use Rattle.dap_requests.specs.declared.request.Request.TheVariants.{Other};
+ghost use Rattle.dap_messages.specs.Requests.{by_instructions, command_of, find, is_request};
+ghost use Rattle.dap_messages.specs.Requests.{is_text, moves, number_of, others, request_named};
+ghost use Rattle.dap_messages.specs.Requests.{request_of};
+ghost use Rattle.dap_messages.specs.declared.request.Move.TheVariants.{Back, BackOver, Over, Step};
+ghost use Rattle.dap_messages.specs.declared.request.Request.TheVariants.{Other};
 
 use crate::fields::{number_at, text_at};
 use crate::request::{Move, Request};
 use serde_json::Value;
 
 /// Returns the request of a name that is no move.
+#[tactic(auto, unfolding(crate::specs::Requests::others))]
 fn other_named(name: &str) -> Request
     ensures { result ≡ find Other name.now others }
 {
@@ -21,6 +22,8 @@ fn other_named(name: &str) -> Request
         "initialize" => Request::Initialize,
         "launch" => Request::Launch,
         "setBreakpoints" => Request::SetBreakpoints,
+        "setInstructionBreakpoints" => Request::SetInstructionBreakpoints,
+        "setExceptionBreakpoints" => Request::SetExceptionBreakpoints,
         "configurationDone" => Request::ConfigurationDone,
         "threads" => Request::Threads,
         "stackTrace" => Request::StackTrace,
@@ -28,7 +31,10 @@ fn other_named(name: &str) -> Request
         "variables" => Request::Variables,
         "setVariable" => Request::SetVariable,
         "evaluate" => Request::Evaluate,
+        "readMemory" => Request::ReadMemory,
+        "exceptionInfo" => Request::ExceptionInfo,
         "pause" => Request::Pause,
+        "restart" => Request::Restart,
         "terminate" => Request::Terminate,
         "disconnect" => Request::Disconnect,
         _ => Request::Other,

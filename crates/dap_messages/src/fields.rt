@@ -3,7 +3,7 @@
 ghost use Rattle.std.specs.Prelude.{◌≡◌};
 ghost use Rattle.std.specs.Option.{option_map};
 ghost use Rattle.serde_json.specs.View.{view};
-ghost use Rattle.dap_requests.specs.Fields.{flag_at, number_at, text_at};
+ghost use Rattle.dap_messages.specs.Fields.{flag_at, number_at, text_at};
 
 use serde_json::Value;
 
