@@ -150,7 +150,7 @@ fn keep_session(seat: &mut Seat<'_>, fault: LoadFault, file: &str) -> Result<(),
     Ok(())
 }
 
-/// Begins anew on what was loaded, with the names of the session's file of names.
+/// Begins the session anew on what was loaded. The names of a file of names are read again.
 fn begin_anew<H: Files + AllocGlobal>(
     rt: &H,
     seat: &mut Seat<'_>,
