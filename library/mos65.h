@@ -80,6 +80,7 @@ enum { MOS65_LIMIT = 0, MOS65_BREAK = 1, MOS65_WATCH = 2, MOS65_REFUSED = 3 };
 #define MOS65_RETURN 0xFFFF  /* where a call ends at its RTS: MOS65_BREAK at this address */
 #define MOS65_NO_PORT 0xFFFF /* of a configuration: a machine without a port */
 #define MOS65_CALL_EVENTS 4  /* how many events a call makes before its first step */
+#define MOS65_FROM_EVENTS 6  /* how many events mos65_open_from makes */
 
 typedef struct mos65 { void *opaque; bool live; } mos65_t;                   /* a machine, or none */
 typedef struct mos65_assembly { void *opaque; bool live; } mos65_assembly_t; /* an assembly, or none */
@@ -184,6 +185,12 @@ int mos65_open_tape(mos65_t *m, const mos65_config_t *config, const uint8_t *tap
 /* The same with n bytes from an address on; MISUSE where they go past $FFFF, before the configuration. */
 int mos65_open_bytes(mos65_t *m, const mos65_config_t *config, uint16_t address, const uint8_t *bytes,
                      size_t n);
+/* Opens a machine that begins where another one is, for a second way from there: with the bytes of its memory,
+   but those at the port of the configuration, and with its registers, which MOS65_FROM_EVENTS events set. What
+   led the other one there is not held, its console, lines and breakpoints are not taken over, and the cycles
+   begin with 7. MISUSE where m is open; CLOSED where the other one is not; MISUSE or BAD_MAP for the
+   configuration, which may be another one. The other machine stays as it is. */
+int mos65_open_from(mos65_t *m, const mos65_config_t *config, const mos65_t *other);
 /* Frees a machine. CLOSED where none is open. */
 int mos65_close(mos65_t *m);
 

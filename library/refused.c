@@ -64,7 +64,7 @@ static void session(mos65_t *m) {
 static void round_of_calls(void) {
     mos65_config_t config = MOS65_CONFIG;
     mos65_assembly_t a = MOS65_INIT;
-    mos65_t m = MOS65_INIT, taped = MOS65_INIT, bare = MOS65_INIT;
+    mos65_t m = MOS65_INIT, taped = MOS65_INIT, bare = MOS65_INIT, second = MOS65_INIT;
     mos65_fault_t fault;
     mos65_line_t line;
     uint8_t text[300];
@@ -78,9 +78,12 @@ static void round_of_calls(void) {
     if (told(mos65_open_tape(&taped, &config, (const uint8_t *)tape, sizeof tape - 1, &fault)) == MOS65_OK) session(&taped);
     told(mos65_open_bytes(&bare, &config, 0x0200, (const uint8_t *)"\x60", 1));
     bool was_open = m.live;
+    int status = mos65_open_from(&second, &config, &m);
+    CHECK(was_open ? status == MOS65_OK || is_for_memory(status) : status == MOS65_CLOSED);
+    CHECK(second.live == (status == MOS65_OK));
     CHECK(mos65_close(&m) == (was_open ? MOS65_OK : MOS65_CLOSED) && !m.live);
-    mos65_close(&taped), mos65_close(&bare), mos65_assembly_close(&a);
-    CHECK(!taped.live && !bare.live && !a.live);
+    mos65_close(&taped), mos65_close(&bare), mos65_close(&second), mos65_assembly_close(&a);
+    CHECK(!taped.live && !bare.live && !second.live && !a.live);
 }
 
 int main(void) {

@@ -251,6 +251,49 @@ static void devices(void) {
     CHECK(mos65_close(&m) == MOS65_OK);
 }
 
+/* A second machine from where the first one is: it has the memory and the registers, and each goes its own way. */
+static void second(mos65_t *m, mos65_config_t config) {
+    static uint8_t one[65536], two[65536];
+    mos65_t other = MOS65_INIT, none = MOS65_INIT;
+    mos65_registers_t before, after, here;
+    mos65_ending_t end;
+    const size_t fields = offsetof(mos65_registers_t, p) + 1;
+    uint32_t n = 9;
+    CHECK(mos65_write(m, 0x10, (const uint8_t[]){200, 123}, 2) == MOS65_OK);
+    CHECK(mos65_set(m, MOS65_A, 0x5A) == MOS65_OK && mos65_set(m, MOS65_P, 0xC3) == MOS65_OK);
+    CHECK(mos65_set(m, MOS65_PC, 0x0200) == MOS65_OK && mos65_input(m, 'x') == MOS65_OK);
+    CHECK(mos65_registers(m, &before) == MOS65_OK && before.p == 0xE3);
+    CHECK(mos65_open_from(&other, &config, &none) == MOS65_CLOSED && mos65_open_from(m, &config, &none) == MOS65_MISUSE);
+    config.port = 0xF001;
+    CHECK(mos65_open_from(&other, &config, m) == MOS65_BAD_MAP && !other.live);
+    config.port = 0xF000;
+    CHECK(mos65_open_from(&other, &config, m) == MOS65_OK && other.live);
+    CHECK(mos65_open_from(&other, &config, m) == MOS65_MISUSE);
+    CHECK(mos65_registers(&other, &after) == MOS65_OK && after.cycles == 7);
+    after.cycles = before.cycles;
+    CHECK(memcmp(&before, &after, fields) == 0);
+    CHECK(mos65_read(m, 0, one, sizeof one) == MOS65_OK && mos65_read(&other, 0, two, sizeof two) == MOS65_OK);
+    CHECK(memcmp(one, two, sizeof one) == 0);
+    CHECK(mos65_held(&other, &n) == MOS65_OK && n == MOS65_FROM_EVENTS);
+    CHECK(mos65_output_length(&other, &n) == MOS65_OK && n == 0);
+    CHECK(mos65_call(&other, 0x0200, 1000, &end) == MOS65_OK && end.address == MOS65_RETURN);
+    CHECK(mos65_read(&other, 0x12, two, 2) == MOS65_OK && two[0] == 0x18 && two[1] == 0x60);
+    CHECK(mos65_read(m, 0x10, two, 2) == MOS65_OK && two[0] == 200 && two[1] == 123);
+    CHECK(mos65_registers(m, &here) == MOS65_OK && memcmp(&before, &here, fields) == 0);
+    CHECK(mos65_close(&other) == MOS65_OK);
+    /* A port elsewhere: its four bytes of memory are left out, and those at the old one are 0. */
+    config.port = 0x0010;
+    CHECK(mos65_open_from(&other, &config, m) == MOS65_BAD_MAP);
+    CHECK(mos65_write(m, 0x0300, (const uint8_t[]){1, 2, 3, 4, 5}, 5) == MOS65_OK);
+    config.port = 0x0300, config.history = 2;
+    CHECK(mos65_open_from(&other, &config, m) == MOS65_OK && mos65_held(&other, &n) == MOS65_OK && n == 2);
+    CHECK(mos65_read(&other, 0x02FF, two, 6) == MOS65_OK && memcmp(two, "\0\0\0\0\0\5", 6) == 0);
+    CHECK(mos65_close(&other) == MOS65_OK);
+    config.port = MOS65_NO_PORT;
+    CHECK(mos65_open_from(&other, &config, m) == MOS65_OK && mos65_read(&other, 0x0300, two, 5) == MOS65_OK);
+    CHECK(memcmp(two, "\1\2\3\4\5", 5) == 0 && mos65_close(&other) == MOS65_OK);
+}
+
 static void closed(mos65_t *m) {
     mos65_registers_t r;
     mos65_ending_t end = {7, 7, 7, 7, 7};
@@ -301,6 +344,7 @@ int main(void) {
     accesses();
     devices();
     runs(&m, &a);
+    second(&m, config);
     CHECK(mos65_open_bytes(&other, &rom, 0x8000, (const uint8_t *)"\x1A", 1) == MOS65_OK);
     /* $1A is INC A in profile C, and no opcode in profile N. */
     CHECK(mos65_set(&other, MOS65_PC, 0x8000) == MOS65_OK && mos65_step(&other) == MOS65_OK);

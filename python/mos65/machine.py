@@ -600,8 +600,11 @@ class Machine:
         """The last steps, the oldest first, as many as are held.
 
         The machine goes back over them and makes the same events again, so its state and its
-        history stay what they are.
+        history stay what they are. Raises Refused: Count for a count below 0, Busy where a device
+        calls it.
         """
+        if count < 0:
+            raise Refused("Count", text=str(count))
         self._needs_rest()
         rest = self._events.with_steps(count, self._way.held())
         rest.reverse()

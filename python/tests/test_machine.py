@@ -205,6 +205,8 @@ class Calls(Ways):
         self.assertEqual(len(rows), 14)
         self.assertEqual([it.text for it in rows[-3:]], ["RTS", "STA $10", "ASL A"])
         self.assertEqual([len(m.last_steps(it)) for it in (0, 1, 5)], [0, 1, 5])
+        with self.assertRaises(mos65.Refused):
+            m.last_steps(-1)
         self.assertEqual(self.all_of(m), before)
         # 7 steps of each call, and 2 after them; the oldest events are no longer held.
         while m.held:

@@ -1,3 +1,4 @@
+mod Begun
 mod Refused
 mod Shown
 mod TouchingRuns

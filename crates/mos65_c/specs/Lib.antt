@@ -1,3 +1,4 @@
 pub mod Answers
+pub mod From
 pub mod Status
 pub mod Touching

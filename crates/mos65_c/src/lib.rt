@@ -15,6 +15,7 @@ mod looking;
 mod machine;
 mod names;
 mod opening;
+mod opening_from;
 mod running;
 mod stops;
 mod touching;

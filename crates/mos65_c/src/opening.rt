@@ -30,7 +30,7 @@ pub extern "C" fn mos65_version_number() -> u32
 }
 
 /// Starts a closed machine with an image.
-fn start(alloc: Global, m: &mut Mos65, map: MapSpec, history: u32, image: &Image) -> u32
+pub fn start(alloc: Global, m: &mut Mos65, map: MapSpec, history: u32, image: &Image) -> u32
     requires closed { m.old.slot.session ≡ None }
     requires held { history ≤ 65536 }
     ensures { AnswersStart map history image.now result m.new.slot.session }
