@@ -54,7 +54,7 @@ pub enum Request {
     Moves(Move),
     /// A stop.
     Pause,
-    /// The session on the program from its file anew.
+    /// Loads the program's file again, and begins the session anew.
     Restart,
     /// The end of the program.
     Terminate,
