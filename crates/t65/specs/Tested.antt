@@ -3,7 +3,7 @@ use Rattle.std.specs.Prelude.{◌≡◌, ℕ, ◌+◌, ◌-◌, ◌^◌, ◌%◌
 use Rattle.clap.specs.Words.{Text}
 use Rattle.t65_suites.specs.Prepared.{Ground, ground_in}
 use Rattle.t65_reader.specs.RowText.{SeenRow}
-use Rattle.t65_reports.specs.Failures.{detail_text}
+use Rattle.t65_failures.specs.Failures.{detail_text}
 use Rattle.t65_reports.specs.Lines.{line_at, lines_after, next_after}
 use Rattle.t65_reports.specs.Reports.{summary_text, tap_case}
 use Rattle.t65_reports.specs.declared.reports.Score.{Score}

@@ -2,12 +2,13 @@
 use Rattle.std.proofs.Common.{◌≡◌, ℕ, zero, suc, ◌+◌, Bool, true, false, List, [], ◌++◌, refl, ap, sym, ◌∙◌, append_assoc, append-nil, arith, Ok, Err}
 use Rattle.std.proofs.lemmas.Bool.{false≢true}
 use Rattle.model.specs.Names.{Definitions}
-use Rattle.t65_reader.specs.RowText.{Items, and_then, before, fault_at, is_over, item_of, items_within}
-use Rattle.t65_reader.specs.declared.fault.RowFault.{RowFault}
-use Rattle.t65_reader.specs.declared.fault.RowFaultKind.TheVariants.{Syntax}
+use Rattle.t65_values.specs.ValueText.{and_then, fault_at}
+use Rattle.t65_reader.specs.RowText.{Items, before, is_over, item_of, items_within}
+use Rattle.t65_values.specs.declared.fault.RowFault.{RowFault}
+use Rattle.t65_values.specs.declared.fault.RowFaultKind.TheVariants.{Syntax}
 use Rattle.t65_reader.specs.declared.item.Side.{Side}
 use Rattle.t65_reader.specs.declared.row.Item.{Item}
-use Rattle.t65_reader.specs.declared.value.Letters.{Letters}
+use Rattle.t65_values.specs.declared.value.Letters.{Letters}
 
 pub before_none : (more : Items) → before [] more ≡ more
 unfolding before

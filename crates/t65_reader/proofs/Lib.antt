@@ -1,4 +1,3 @@
-mod Hex
 mod Items
 mod Rows
 pub mod Passed

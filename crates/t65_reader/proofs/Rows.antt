@@ -2,7 +2,7 @@
 use Rattle.std.proofs.Common.{◌≡◌, ℕ, ◌+◌, List, [], ◌∷◌, ◌++◌, refl, ap, sym, append_assoc, append-nil, length, arith, Ok, Err, Some}
 use Rattle.model.specs.Names.{Definitions}
 use Rattle.model.specs.TextLines.{lines_from, lines_of}
-use Rattle.t65_reader.specs.declared.fault.TextFault.{TextFault}
+use Rattle.t65_values.specs.declared.fault.TextFault.{TextFault}
 use Rattle.t65_reader.specs.RowText.{Rows, SeenRow, line_before, line_of, row_before, rows_after, rows_from}
 
 pub after_none : (rows : Rows) → rows_after [] rows ≡ rows

@@ -4,22 +4,22 @@ ghost use Rattle.std.specs.Prelude.{◌≡◌, ◌≢◌, ◌==◌, ◌+◌, ◌
 ghost use Rattle.std.specs.Prelude.{IfOk, length, Some, None, take, true, List};
 ghost use Rattle.std.specs.List.{prefix_len};
 ghost use Rattle.model.specs.Token.{is_string_byte};
-ghost use Rattle.t65_reader.specs.RowText.{before, count_items, base_of, bracket_item, fault_at, fits, item_by, item_of};
-ghost use Rattle.t65_reader.specs.RowText.{items_of, items_within, just, letter_item, memory_item};
-ghost use Rattle.t65_reader.specs.RowText.{place_in, place_item, place_of, relation_at, relation_of};
-ghost use Rattle.t65_reader.specs.RowText.{string_after, string_at, string_items, string_of};
-ghost use Rattle.t65_reader.specs.RowText.{string_place, string_word, is_over, letter_in};
-ghost use Rattle.t65_reader.specs.RowText.{word_item, word_of};
+ghost use Rattle.t65_reader.specs.RowText.{base_of, before, bracket_item, count_items, fits};
+ghost use Rattle.t65_reader.specs.RowText.{is_over, item_by, item_of, items_of, items_within, just};
+ghost use Rattle.t65_reader.specs.RowText.{letter_item, memory_item, place_in, place_item};
+ghost use Rattle.t65_reader.specs.RowText.{place_of, relation_at, relation_of, string_after};
+ghost use Rattle.t65_reader.specs.RowText.{string_at, string_items, string_of, string_place};
+ghost use Rattle.t65_reader.specs.RowText.{string_word, word_item};
+ghost use Rattle.t65_values.specs.ValueText.{fault_at, letter_in, word_of};
 ghost use Rattle.t65_reader.specs.declared.row.Item.{Item as SeenItem};
 
-use crate::fault::{Base, RowFault, RowFaultKind};
-use crate::row::{Atom, Flag, Item, Place, Register, Relation, Value};
-use crate::scan::{
-    address_of, after, after_sign, after_word, ends, fault_at, is_next, is_text, word_of,
-};
-use crate::value::{Letters, letter_in, value_of};
+use crate::row::{Flag, Item, Place, Register, Relation};
 use assembler::Assembly;
 use std::alloc::Global;
+use t65_values::{
+    Atom, Base, Letters, RowFault, RowFaultKind, Value, address_of, after, after_sign, after_word,
+    ends, fault_at, is_next, is_text, letter_in, value_of, word_of,
+};
 
 /// The sides of a row, before and after `->`.
 #[derive(Clone, Copy)]

@@ -2,23 +2,23 @@
 
 ghost use Rattle.std.specs.Prelude.{◌≤◌, ◌≡◌, ◌≢◌, IfErr, IfOk, None, Option, Some, MatchOption};
 ghost use Rattle.std.specs.Option.{option_map};
-ghost use Rattle.t65_reader.specs.RowText.{after_dots, after_word, around_of, call_of, called_of};
-ghost use Rattle.t65_reader.specs.RowText.{chosen_of, count_of, letter_of, letters_of, line_at};
-ghost use Rattle.t65_reader.specs.RowText.{call_view, line_of, next_range, no_ranges, part_of};
-ghost use Rattle.t65_reader.specs.RowText.{pointed_row_of, random_of, range_between, range_letter};
-ghost use Rattle.t65_reader.specs.RowText.{range_of, ranges_of, row_of, row_view, row_with, seed_of};
-ghost use Rattle.t65_reader.specs.RowText.{values_of, word_of};
+ghost use Rattle.t65_reader.specs.RowText.{after_dots, around_of, call_of, call_view, called_of};
+ghost use Rattle.t65_reader.specs.RowText.{chosen_of, count_of, cycle_of, entered_of, letter_of};
+ghost use Rattle.t65_reader.specs.RowText.{letters_of, line_at, requested_of, time_of};
+ghost use Rattle.t65_reader.specs.RowText.{line_of, next_range, no_ranges, part_of, pointed_row_of};
+ghost use Rattle.t65_reader.specs.RowText.{random_of, range_between, range_letter, range_of};
+ghost use Rattle.t65_reader.specs.RowText.{ranges_of, row_of, row_view, row_with, seed_of};
+ghost use Rattle.t65_reader.specs.RowText.{values_of};
+ghost use Rattle.t65_values.specs.ValueText.{after_word, word_of};
 
-use crate::fault::{Base, RowFault, RowFaultKind};
 use crate::item::{Side, items_of};
-use crate::row::{Call, Choice, Entry, MOST_STEPS, Part, Range, Ranges, Row};
-use crate::scan::{
-    address_of, after, after_sign, after_word, ends, fault_at, hex_of, is_next, is_text, number_of,
-    skip_blanks, word_of,
-};
-use crate::value::Letters;
+use crate::row::{Call, Choice, Entry, MOST_STEPS, Part, Range, Ranges, Request, Row, Signal};
 use assembler::Assembly;
 use std::alloc::Global;
+use t65_values::{
+    Base, Letters, RowFault, RowFaultKind, Value, address_of, after, after_sign, after_word, ends,
+    fault_at, hex_of, is_next, is_text, number_of, skip_blanks, value_of, word_of,
+};
 
 fn letter_of(range: Option<Range>) -> Option<u8>
     ensures { result ≡ letter_of range }
@@ -71,6 +71,7 @@ fn call_of(
     Ok(Call {
         entry,
         address,
+        request: None,
         given,
         wanted,
         steps: MOST_STEPS,
@@ -78,6 +79,85 @@ fn call_of(
 }
 
 /// Reads `call` with a subroutine, or `interrupt` with a handler.
+#[tactic(auto, unfolding(crate::specs::RowText::entered_of))]
+fn entered_of(
+    alloc: Global,
+    names: &Assembly,
+    letters: Letters,
+    text: &[u8],
+) -> Result<Call, RowFault>
+    ensures ok { IfOk result
+        (λ call. entered_of names.now.names letters text.now ≡ Ok (call_view call)) }
+    ensures err { IfErr result (λ fault. fault.kind ≢ RowFaultKind.OutOfMemory
+        → entered_of names.now.names letters text.now ≡ Err fault) }
+{
+    if is_text(word_of(text), b"call") {
+        call_of(alloc, names, letters, Entry::Subroutine, after_word(text))
+    } else if is_text(word_of(text), b"interrupt") {
+        call_of(alloc, names, letters, Entry::Interrupt, after_word(text))
+    } else {
+        Err(fault_at(RowFaultKind::Syntax, text))
+    }
+}
+
+/// Reads `cycle` and how many cycles.
+#[tactic(auto, unfolding(crate::specs::RowText::cycle_of))]
+fn cycle_of<'a>(
+    names: &Assembly,
+    letters: Letters,
+    text: &'a [u8],
+) -> Result<(Value, &'a [u8]), RowFault>
+    ensures ok { IfOk result
+        (λ p. cycle_of names.now.names letters text.now ≡ Ok (p.0, p.1.now)) }
+    ensures err { IfErr result (λ fault. cycle_of names.now.names letters text.now ≡ Err fault) }
+{
+    if is_text(word_of(text), b"cycle") {
+        value_of(names, letters, Base::Decimal, after_word(text))
+    } else {
+        Err(fault_at(RowFaultKind::Syntax, text))
+    }
+}
+
+/// Reads when an interrupt is asked for: `at cycle`, and how many cycles.
+#[tactic(auto, unfolding(crate::specs::RowText::time_of))]
+fn time_of<'a>(
+    names: &Assembly,
+    letters: Letters,
+    text: &'a [u8],
+) -> Result<(Value, &'a [u8]), RowFault>
+    ensures ok { IfOk result
+        (λ p. time_of names.now.names letters text.now ≡ Ok (p.0, p.1.now)) }
+    ensures err { IfErr result (λ fault. time_of names.now.names letters text.now ≡ Err fault) }
+{
+    if is_text(word_of(text), b"at") {
+        cycle_of(names, letters, after_word(text))
+    } else {
+        Err(fault_at(RowFaultKind::Syntax, text))
+    }
+}
+
+/// Reads when an interrupt is asked for, `:` and the call that it comes into.
+#[tactic(auto, unfolding(crate::specs::RowText::requested_of))]
+fn requested_of(
+    alloc: Global,
+    names: &Assembly,
+    letters: Letters,
+    signal: Signal,
+    text: &[u8],
+) -> Result<Call, RowFault>
+    ensures ok { IfOk result
+        (λ call. requested_of names.now.names letters signal text.now ≡ Ok (call_view call)) }
+    ensures err { IfErr result (λ fault. fault.kind ≢ RowFaultKind.OutOfMemory
+        → requested_of names.now.names letters signal text.now ≡ Err fault) }
+{
+    let (cycle, rest) = time_of(names, letters, text)?;
+    let rest = after_sign(b':', rest)?;
+    let mut call = entered_of(alloc, names, letters, rest)?;
+    call.request = Some(Request { signal, cycle });
+    Ok(call)
+}
+
+/// Reads a call, and before it the interrupt that comes into it, if one does.
 #[tactic(auto, unfolding(crate::specs::RowText::called_of))]
 fn called_of(
     alloc: Global,
@@ -90,12 +170,12 @@ fn called_of(
     ensures err { IfErr result (λ fault. fault.kind ≢ RowFaultKind.OutOfMemory
         → called_of names.now.names letters text.now ≡ Err fault) }
 {
-    if is_text(word_of(text), b"call") {
-        call_of(alloc, names, letters, Entry::Subroutine, after_word(text))
-    } else if is_text(word_of(text), b"interrupt") {
-        call_of(alloc, names, letters, Entry::Interrupt, after_word(text))
+    if is_text(word_of(text), b"irq") {
+        requested_of(alloc, names, letters, Signal::Irq, after_word(text))
+    } else if is_text(word_of(text), b"nmi") {
+        requested_of(alloc, names, letters, Signal::Nmi, after_word(text))
     } else {
-        Err(fault_at(RowFaultKind::Syntax, text))
+        entered_of(alloc, names, letters, text)
     }
 }
 

@@ -2,6 +2,8 @@
 
 ghost use Rattle.std.specs.Prelude.{◌≡◌};
 
+use t65_values::Value;
+
 /// A register of 8 bits. P is the status register: N V 1 B D I Z C from bit 7 down, B as 0.
 #[derive(Clone, Copy)]
 pub enum Register {
@@ -52,46 +54,6 @@ pub enum Relation {
     Above,
 }
 
-/// What joins two numbers; each result is taken modulo 2^32.
-#[derive(Clone, Copy)]
-pub enum Operation {
-    Add,
-    Subtract,
-    Multiply,
-    /// The quotient without its rest; by 0 it is 0.
-    Divide,
-    /// The rest of a quotient; by 0 it is 0.
-    Remainder,
-    And,
-    Or,
-    ExclusiveOr,
-}
-
-/// A number, or the value of one of a row's ranges.
-#[derive(Clone, Copy)]
-pub enum Atom {
-    Number(u32),
-    First,
-    Second,
-    Third,
-    Fourth,
-}
-
-/// An operation and its right side.
-#[derive(Clone, Copy)]
-pub struct Operator {
-    pub operation: Operation,
-    pub right: Atom,
-}
-
-/// A value of up to three parts, joined from left to right.
-#[derive(Clone, Copy)]
-pub struct Value {
-    pub first: Atom,
-    pub second: Option<Operator>,
-    pub third: Option<Operator>,
-}
-
 /// A place and the value that it is given, or with which it is compared.
 #[derive(Clone, Copy)]
 pub struct Item {
@@ -135,11 +97,30 @@ pub enum Entry {
     Interrupt,
 }
 
+/// What asks for an interrupt.
+#[derive(Clone, Copy)]
+pub enum Signal {
+    /// The IRQ line.
+    Irq,
+    /// The NMI.
+    Nmi,
+}
+
+/// An interrupt that is asked for while a routine runs.
+#[derive(Clone, Copy)]
+pub struct Request {
+    pub signal: Signal,
+    /// How many cycles the routine has taken then, at least.
+    pub cycle: Value,
+}
+
 /// A routine that is called, what is given before, and what is wanted after it.
 #[derive(Drop)]
 pub struct Call {
     pub entry: Entry,
     pub address: u16,
+    /// The interrupt that comes into the call.
+    pub request: Option<Request>,
     pub given: Vec<Item>,
     pub wanted: Vec<Item>,
     /// The most steps.

@@ -4,12 +4,12 @@ ghost use Rattle.std.specs.Prelude.{◌≡◌, ◌≢◌, ◌<◌, ◌+◌, ◌-
 ghost use Rattle.model.specs.TextLines.{lines_of};
 ghost use Rattle.t65_reader.specs.RowText.{line_before, line_of, numbered_view, row_view, Rows, rows_after, rows_from};
 
-use crate::fault::{RowFault, RowFaultKind, TextFault};
 use crate::line::read_row;
 use crate::row::Row;
 use assembler::Assembly;
 use line_parts::next_line;
 use std::alloc::Global;
+use t65_values::{RowFault, RowFaultKind, TextFault};
 
 /// The fault of a line, with its column.
 pub fn fault_of(number: u32, line: &[u8], fault: RowFault) -> TextFault

@@ -1,5 +1,2 @@
-pub mod Walks
-pub mod RowText
-pub mod StepByStep
-pub mod Appended
-pub mod Told
+mod RowText
+mod Walks

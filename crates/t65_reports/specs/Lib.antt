@@ -1,5 +1,2 @@
-pub mod Failures
 pub mod Lines
 pub mod Reports
-pub mod Steps
-pub mod Texts

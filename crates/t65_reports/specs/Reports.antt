@@ -5,8 +5,8 @@ use Rattle.std.specs.Option.{is_some}
 use Rattle.std.specs.Str.Lines.{lines}
 use Rattle.std.specs.List.{flat_map, prefix_len, suffix_len}
 use Rattle.t65_reports.specs.declared.wording.TheConstants.{CASE, CASE_END, CASE_FAILS, CASE_PASSES, FAILS, FAILURES, FAULT_NAME, LINE, PASSES, QUOTE, SUITE, TAG_END, TESTS}
-use Rattle.t65_reports.specs.Steps.{blanks}
-use Rattle.t65_reports.specs.Texts.{visible}
+use Rattle.t65_failures.specs.Steps.{blanks}
+use Rattle.t65_values.specs.Visible.{visible}
 use Rattle.t65_reports.specs.declared.reports.Score.{Score}
 
 -- ---- the text of a row

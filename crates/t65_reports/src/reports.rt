@@ -11,13 +11,13 @@ ghost use Rattle.t65_reports.specs.Reports.{suite_head, summary_text, tap_byte, 
 ghost use Rattle.t65_reports.specs.Reports.{tap_comment, tap_detail, tap_fault, tap_row, tap_text};
 ghost use Rattle.t65_reports.specs.Reports.{tap_title, xml, xml_byte};
 
-use crate::steps::push_blanks;
-use crate::texts::push_bytes;
 use crate::wording::{
     CASE, CASE_END, CASE_FAILS, CASE_PASSES, FAILS, FAILURES, FAULT_NAME, LINE, PASSES, QUOTE,
     SUITE, TAG_END, TESTS,
 };
 use std::alloc::{AllocError, Global};
+use t65_failures::push_blanks;
+use t65_values::push_visible;
 
 /// A row that was run, as it is told of.
 #[derive(Clone, Copy)]
@@ -86,7 +86,7 @@ fn push_tap_byte(text: &mut String, byte: u8) -> Result<(), AllocError>
     if byte == b'#' || byte == b'\\' {
         text.push('\\')?;
     }
-    push_bytes(text, &[byte])
+    push_visible(text, byte)
 }
 
 /// Appends a row's text for TAP, where `#` and `\` have `\` before them.
@@ -110,7 +110,7 @@ fn push_xml_byte(text: &mut String, byte: u8) -> Result<(), AllocError>
         b'>' => text.push_str("&gt;"),
         b'"' => text.push_str("&quot;"),
         b'\n' => text.push('\n'),
-        other => push_bytes(text, &[other]),
+        other => push_visible(text, other),
     }
 }
 

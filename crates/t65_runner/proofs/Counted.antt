@@ -14,33 +14,35 @@ use Rattle.model.specs.declared.event.EventFault.{EventFault}
 use Rattle.rig.specs.Subroutine.{return_address}
 use Rattle.t65_reader.specs.RowText.{row_seen}
 use Rattle.t65_reader.specs.declared.row.Row.{Row}
-use Rattle.t65_runner.specs.Counting.{Counted, call_counted, counted_at, counted_in, if_returned, is_last, one_counted, rows_counted, steps_counted}
+use Rattle.t65_runner.specs.Counting.{Counted, Part, call_counted, counted_at, counted_in, counted_on, if_returned, is_last, one_counted, rows_counted, steps_counted}
+use Rattle.t65_runner.specs.Requests.{is_due_in}
+use Rattle.t65_runner.specs.declared.requests.Awaited.{Awaited}
+use Rattle.model.specs.Step.{step}
 use Rattle.t65_runner.specs.Passes.{rows_seen}
 use Rattle.t65_runner.specs.declared.range_values.Values.{Values}
 use Rattle.t65_runner.proofs.Firsts.{seen_end, seen_next}
 
+-- What is done after a step.
+abbrev pub Next : Type 0
+Next = Counted → Part
+
 -- A step leads back.
-pub step_back : (s : Session) (state : State) (counts : Counts) (n : ℕ) → event_of s.current Step ≡ Ok state → (state.regs.pc == return_address) ≡ true
-    → steps_counted (suc n) (counted_at s counts) ≡ one_counted (counted_at s counts) state
-unfolding steps_counted event_of
-step_back s state counts n made back = rw (made, back) refl
+step_back : (s : Session) (state : State) (counts : Counts) (next : Next) → event_of s.current Step ≡ Ok state → (state.regs.pc == return_address) ≡ true
+    → counted_on (counted_at s counts) next (step s.current) ≡ (None, one_counted (counted_at s counts) state)
+unfolding event_of
+step_back s state counts next made back = rw (made, back) refl
 
 -- A step leads on.
-pub step_on : (s : Session) (state : State) (counts : Counts) (n : ℕ) → event_of s.current Step ≡ Ok state → (state.regs.pc == return_address) ≡ false
-    → steps_counted (suc n) (counted_at s counts) ≡ steps_counted n (one_counted (counted_at s counts) state)
-unfolding steps_counted event_of
-step_on s state counts n made on = rw (made, on) refl
+step_on : (s : Session) (state : State) (counts : Counts) (next : Next) → event_of s.current Step ≡ Ok state → (state.regs.pc == return_address) ≡ false
+    → counted_on (counted_at s counts) next (step s.current) ≡ next (one_counted (counted_at s counts) state)
+unfolding event_of
+step_on s state counts next made on = rw (made, on) refl
 
 -- A step is rejected.
-pub step_rejected : (s : Session) (fault : EventFault) (counts : Counts) (n : ℕ) → event_of s.current Step ≡ Err fault
-    → steps_counted (suc n) (counted_at s counts) ≡ counted_at s counts
-unfolding steps_counted event_of
-step_rejected s fault counts n rejected = rw rejected refl
-
-pub no_step : (n : ℕ) (c : Counted) → n ≡ 0 → steps_counted n c ≡ c
-unfolding steps_counted
-no_step zero c e = refl
-no_step (suc n) c e = absurd (omega arith)
+pub step_rejected : (s t : Session) (fault : EventFault) (counts : Counts) (next : Next) → event_of s.current Step ≡ Err fault → t ≡ s
+    → counted_on (counted_at s counts) next (step s.current) ≡ (None, counted_at t counts)
+unfolding event_of
+step_rejected s t fault counts next rejected is = rw (rejected, is) refl
 
 noted_step : (s t : Session) (state : State) (before : Moment) (counts new : Counts) → t ≡ with_state s state → before ≡ moment_of s.current
     → new ≡ (if entered before t.current then counts else noted counts before.regs.pc 0) → one_counted (counted_at s counts) state ≡ counted_at t new
@@ -58,18 +60,41 @@ same_place : (s t : Session) (state : State) → t ≡ with_state s state → (s
 same_place s t state is = ap (λ (u : Session). u.current.regs.pc == return_address) (sym is)
 
 -- The call goes on after a step.
-pub goes_on : (s t : Session) (state : State) (before : Moment) (counts new : Counts) (back : Bool) (n : ℕ) → event_of s.current Step ≡ Ok state → t ≡ with_state s state → before ≡ moment_of s.current
+pub goes_on : (s t : Session) (state : State) (before : Moment) (counts new : Counts) (back : Bool) (next : Next) → event_of s.current Step ≡ Ok state → t ≡ with_state s state → before ≡ moment_of s.current
     → new ≡ (if entered before t.current then counts else noted counts before.regs.pc 0) → back ≡ (t.current.regs.pc == return_address) → not back ≡ true
-    → steps_counted (suc n) (counted_at s counts) ≡ steps_counted n (counted_at t new)
-goes_on s t state before counts new back n made is moment told back_is on =
-    step_on s state counts n made (same_place s t state is ∙ (sym back_is ∙ not_true back on)) ∙ ap (steps_counted n) (noted_step s t state before counts new is moment told)
+    → counted_on (counted_at s counts) next (step s.current) ≡ next (counted_at t new)
+goes_on s t state before counts new back next made is moment told back_is on =
+    step_on s state counts next made (same_place s t state is ∙ (sym back_is ∙ not_true back on)) ∙ ap next (noted_step s t state before counts new is moment told)
 
 -- The call ends with a step.
-pub ends : (s t : Session) (state : State) (before : Moment) (counts new : Counts) (back : Bool) (n : ℕ) → event_of s.current Step ≡ Ok state → t ≡ with_state s state → before ≡ moment_of s.current
+pub ends : (s t : Session) (state : State) (before : Moment) (counts new : Counts) (back : Bool) (next : Next) → event_of s.current Step ≡ Ok state → t ≡ with_state s state → before ≡ moment_of s.current
     → new ≡ (if entered before t.current then counts else noted counts before.regs.pc 0) → back ≡ (t.current.regs.pc == return_address) → not back ≡ false
-    → steps_counted (suc n) (counted_at s counts) ≡ counted_at t new
-ends s t state before counts new back n made is moment told back_is on =
-    step_back s state counts n made (same_place s t state is ∙ (sym back_is ∙ not_false back on)) ∙ noted_step s t state before counts new is moment told
+    → counted_on (counted_at s counts) next (step s.current) ≡ (None, counted_at t new)
+ends s t state before counts new back next made is moment told back_is on =
+    step_back s state counts next made (same_place s t state is ∙ (sym back_is ∙ not_false back on)) ∙ ap (λ (c : Counted). (None, c)) (noted_step s t state before counts new is moment told)
+
+module _ (awaited : Option Awaited) (c : Counted) where
+  -- An interrupt is due.
+  pub comes : (n m : ℕ) → n ≡ m + 1 → is_due_in awaited c.session.current ≡ true → steps_counted awaited n c ≡ (Some m, c)
+  unfolding steps_counted
+  comes zero m e due = absurd (omega arith)
+  comes (suc n) m e due =
+      let same : n ≡ m = omega arith in
+      rw (due, same) refl
+
+  -- None is due, so a step is made.
+  pub waits : (n m : ℕ) → n ≡ m + 1 → is_due_in awaited c.session.current ≡ false
+      → steps_counted awaited n c ≡ counted_on c (steps_counted awaited m) (step c.session.current)
+  unfolding steps_counted
+  waits zero m e due = absurd (omega arith)
+  waits (suc n) m e due =
+      let same : n ≡ m = omega arith in
+      rw (due, same) refl
+
+  pub no_step : (n : ℕ) → n ≡ 0 → steps_counted awaited n c ≡ (None, c)
+  unfolding steps_counted
+  no_step zero e = refl
+  no_step (suc n) e = absurd (omega arith)
 
 -- ---- calls
 

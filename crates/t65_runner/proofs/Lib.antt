@@ -2,3 +2,4 @@ mod Counted
 pub mod Firsts
 mod Parts
 mod Since
+mod Waits

@@ -11,11 +11,15 @@ use Rattle.model.specs.Session.{Session, keep_last, with_state}
 use Rattle.model.specs.State.{Map, State}
 use Rattle.model.specs.Step.{step}
 use Rattle.model.specs.declared.event.Event.{Event}
+use Rattle.model.specs.declared.event.Event.TheVariants as event
 use Rattle.model.specs.declared.event.EventFault.{EventFault}
 use Rattle.model.specs.declared.run_end.RunEnd.{RunEnd}
 use Rattle.model.specs.declared.session_fault.SessionFault.{SessionFault}
 use Rattle.rig.specs.Subroutine.{after_event, after_events, call_of, called, if_accepted, if_cleared, jsr_events, return_address, run_by, run_to_of, without_break}
 use Rattle.t65_runner.specs.Interrupts.{entry_events, interrupted}
+use Rattle.t65_reader.specs.declared.row.Signal.{Signal}
+use Rattle.t65_reader.specs.declared.row.Signal.TheVariants.{Irq, Nmi}
+use Rattle.t65_runner.specs.Requests.{after_arrival, arrival_events}
 use Rattle.t65_runner.specs.Start.{IsSince, first_of, fresh}
 
 -- ---- one more state
@@ -174,6 +178,23 @@ since_interrupted s address now since = since_events s now (entry_events now.cur
 pub breaks_interrupted : (address : ℕ) (now : Session) → (interrupted address now).breaks ≡ now.breaks
 unfolding interrupted
 breaks_interrupted address now = breaks_events now (entry_events now.current.bus.map.profile address now.current.regs)
+
+-- an interrupt comes into a call
+pub since_arrival : (s : State) (signal : Signal) (now : Session) → IsSince s now → IsSince s (after_arrival signal now)
+unfolding after_arrival
+since_arrival s signal now since = since_events s now (arrival_events signal) since
+
+pub arrived_irq : (s a b t : Session) → a ≡ after_event s (event.Irq true) → b ≡ after_event a event.Step → t ≡ after_event b (event.Irq false) → t ≡ after_arrival Irq s
+unfolding after_arrival
+arrived_irq s a b t e1 e2 e3 = rw (e3, e2, e1) refl
+
+pub arrived_nmi : (s a t : Session) → a ≡ after_event s event.Nmi → t ≡ after_event a event.Step → t ≡ after_arrival Nmi s
+unfolding after_arrival
+arrived_nmi s a t e1 e2 = rw (e2, e1) refl
+
+pub breaks_arrival : (signal : Signal) (now : Session) → (after_arrival signal now).breaks ≡ now.breaks
+unfolding after_arrival
+breaks_arrival signal now = breaks_events now (arrival_events signal)
 
 -- the session after a run to the return address that is made with no breakpoint set
 abbrev after_run_back : ℕ → Session → Session

@@ -10,7 +10,11 @@ use Rattle.model.specs.declared.run_end.RunEnd.{RunEnd}
 use Rattle.model.specs.declared.session_fault.SessionFault.{SessionFault}
 use Rattle.rig.specs.Subroutine.{return_address}
 use Rattle.t65_reader.specs.RowText.{SeenCall, SeenRow}
-use Rattle.t65_runner.specs.Passes.{given_all, ran}
+use Rattle.t65_reader.specs.declared.row.Request.{Request}
+use Rattle.t65_reader.specs.declared.row.Signal.{Signal}
+use Rattle.t65_runner.specs.Passes.{awaited_of, given_all, ran}
+use Rattle.t65_runner.specs.Requests.{after_arrival, is_due_in}
+use Rattle.t65_runner.specs.declared.requests.Awaited.{Awaited}
 use Rattle.t65_runner.specs.RangeValues.{count_of, values_at}
 use Rattle.t65_runner.specs.declared.range_values.Values.{Values}
 
@@ -33,30 +37,54 @@ one_counted c after = record {
   counts = counts_with c.session.current after c.counts;
 }
 
+-- Steps that were counted, and how many are left after an interrupt that is due, if it is.
+abbrev pub Part : Type 0
+Part = Option ℕ × Counted
+
 -- The steps of a call go on until one is rejected, or leads back.
-abbrev pub counted_on : Counted → (Counted → Counted) → Result State EventFault → Counted
-counted_on c next (Err fault) = c
-counted_on c next (Ok after) = if after.regs.pc == return_address then one_counted c after
+abbrev pub counted_on : Counted → (Counted → Part) → Result State EventFault → Part
+counted_on c next (Err fault) = (None, c)
+counted_on c next (Ok after) = if after.regs.pc == return_address then (None, one_counted c after)
     else next (one_counted c after)
 
--- So many steps at most are made and counted.
-unfoldable pub steps_counted : ℕ → Counted → Counted
-steps_counted zero c = c
-steps_counted (suc n) c = counted_on c (steps_counted n) (step c.session.current)
+-- So many steps at most are made and counted, until an interrupt is due.
+unfoldable pub steps_counted : Option Awaited → ℕ → Counted → Part
+steps_counted awaited zero c = (None, c)
+steps_counted awaited (suc n) c = if is_due_in awaited c.session.current then (Some n, c)
+    else counted_on c (steps_counted awaited n) (step c.session.current)
 
-abbrev pub counted_from : ℕ → Counts → Result (RunEnd × Session) SessionFault → Option Counted
-counted_from steps counts (Ok entered)
-    = Some (steps_counted steps (counted_at entered.1 counts))
-counted_from steps counts (Err fault) = None
+abbrev pub arrived : Signal → Counted → Counted
+arrived signal c = record { session = after_arrival signal c.session; counts = c.counts }
 
-abbrev pub counted_given : SeenCall → Counts → Option Session → Option Counted
-counted_given call counts None = None
-counted_given call counts (Some s)
-    = counted_from call.steps counts (ran call.entry call.address 0 s)
+-- After an interrupt has come, the steps that are left are counted.
+abbrev pub counted_after : Option Awaited → Part → Counted
+counted_after (Some awaited) (Some left, c)
+    = (steps_counted None left (arrived awaited.signal c)).1
+counted_after awaited (left, c) = c
+
+-- The steps of a call, and those of an interrupt that comes into it.
+unfoldable pub all_counted : Option Awaited → ℕ → Counted → Counted
+all_counted awaited steps c = counted_after awaited (steps_counted awaited steps c)
+
+abbrev pub awaited_in : Values → State → Option Request → Option Awaited
+awaited_in values s None = None
+awaited_in values s (Some request) = Some (awaited_of values s request)
+
+abbrev pub counted_from : Values → SeenCall → Counts → Result (RunEnd × Session) SessionFault
+    → Option Counted
+counted_from values call counts (Ok entered) = Some (all_counted
+    (awaited_in values entered.1.current call.request) call.steps (counted_at entered.1 counts))
+counted_from values call counts (Err fault) = None
+
+abbrev pub counted_given : Values → SeenCall → Counts → Option Session → Option Counted
+counted_given values call counts None = None
+counted_given values call counts (Some s)
+    = counted_from values call counts (ran call.entry call.address 0 s)
 
 -- A call whose items can be given is made and counted; otherwise it is not made.
 unfoldable pub call_counted : Values → SeenCall → Counted → Option Counted
-call_counted values call c = counted_given call c.counts (given_all values call.given c.session)
+call_counted values call c
+    = counted_given values call c.counts (given_all values call.given c.session)
 
 abbrev pub has_returned : Counted → Bool
 has_returned c = c.session.current.regs.pc == return_address

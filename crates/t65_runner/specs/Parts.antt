@@ -1,5 +1,5 @@
 -- Which rows of a file are tests, and which are run before and after each. Source: mos65.
-use Rattle.std.specs.Prelude.{ℕ, ◌-◌, Bool, true, false, List}
+use Rattle.std.specs.Prelude.{ℕ, Bool, true, false, List}
 use Rattle.std.specs.List.{filter}
 use Rattle.t65_reader.specs.RowText.{SeenRow}
 use Rattle.t65_reader.specs.declared.row.Part.{Part}

@@ -22,16 +22,16 @@ use Rattle.model.specs.declared.run_end.Why.TheVariants.{Break}
 use Rattle.model.specs.declared.session_fault.SessionFault.{SessionFault}
 use Rattle.rig.specs.Subroutine.{byte_patched, call_of, return_address}
 use Rattle.t65_reader.specs.RowText.{SeenCall, SeenRow, row_seen}
-use Rattle.t65_reader.specs.declared.row.Atom.{Atom}
-use Rattle.t65_reader.specs.declared.row.Atom.TheVariants.{Number, First, Second, Third, Fourth}
+use Rattle.t65_values.specs.declared.expression.Atom.{Atom}
+use Rattle.t65_values.specs.declared.expression.Atom.TheVariants.{Number, First, Second, Third, Fourth}
 use Rattle.t65_reader.specs.declared.row.Entry.{Entry}
 use Rattle.t65_reader.specs.declared.row.Entry.TheVariants.{Subroutine, Interrupt}
 use Rattle.t65_reader.specs.declared.row.Flag.{Flag}
 use Rattle.t65_reader.specs.declared.row.Flag.TheVariants.{N, V, D, I, Z, C}
 use Rattle.t65_reader.specs.declared.row.Item.{Item}
-use Rattle.t65_reader.specs.declared.row.Operation.{Operation}
-use Rattle.t65_reader.specs.declared.row.Operation.TheVariants.{Add, Subtract, Multiply, Divide, Remainder, And, Or, ExclusiveOr}
-use Rattle.t65_reader.specs.declared.row.Operator.{Operator}
+use Rattle.t65_values.specs.declared.expression.Operation.{Operation}
+use Rattle.t65_values.specs.declared.expression.Operation.TheVariants.{Add, Subtract, Multiply, Divide, Remainder, And, Or, ExclusiveOr}
+use Rattle.t65_values.specs.declared.expression.Operator.{Operator}
 use Rattle.t65_reader.specs.declared.row.Place.{Place}
 use Rattle.t65_reader.specs.declared.row.Place.TheVariants.{Register as InRegister, Flag as InFlag, Byte, Word, Input, Output, OutputCount, Cycles}
 use Rattle.t65_reader.specs.declared.row.Register.{Register}
@@ -39,8 +39,12 @@ use Rattle.t65_reader.specs.declared.row.Register.TheVariants.{A, X, Y, S, P}
 use Rattle.t65_reader.specs.declared.row.Relation.{Relation}
 use Rattle.t65_reader.specs.declared.row.Row.{Row}
 use Rattle.t65_reader.specs.declared.row.Relation.TheVariants.{Equal, Below, Above}
-use Rattle.t65_reader.specs.declared.row.Value.{Value}
+use Rattle.t65_values.specs.declared.expression.Value.{Value}
+use Rattle.t65_reader.specs.declared.row.Request.{Request}
 use Rattle.t65_runner.specs.Interrupts.{interrupt_of}
+use Rattle.t65_runner.specs.Requests.{awaiting}
+use Rattle.t65_runner.specs.declared.requests.Awaited.{Awaited}
+use Rattle.t65_runner.specs.declared.requests.CallEnd.{CallEnd}
 use Rattle.t65_runner.specs.RangeValues.{count_of, values_at}
 use Rattle.t65_runner.specs.declared.range_values.Values.{Values}
 
@@ -196,18 +200,46 @@ abbrev pub ran : Entry → ℕ → ℕ → Session → Result (RunEnd × Session
 ran Subroutine address steps s = call_of address steps s
 ran Interrupt address steps s = interrupt_of address steps s
 
+-- The interrupt that comes into a call which begins in a state.
+abbrev pub awaited_of : Values → State → Request → Awaited
+awaited_of values s request = record {
+  signal = request.signal;
+  start = s.cycles;
+  cycle = number_of values request.cycle;
+}
+
+abbrev pub ended_whole : Result (RunEnd × Session) SessionFault
+    → Result (CallEnd × Session) SessionFault
+ended_whole (Ok ran) = Ok (record { before = None; end = ran.0 }, ran.1)
+ended_whole (Err fault) = Err fault
+
+abbrev pub awaiting_from : Values → Request → ℕ → Result (RunEnd × Session) SessionFault
+    → Result (CallEnd × Session) SessionFault
+awaiting_from values request steps (Ok entered)
+    = awaiting (awaited_of values entered.1.current request) steps entered.1
+awaiting_from values request steps (Err fault) = Err fault
+
+abbrev pub called_by : Values → SeenCall → Option Request → Session
+    → Result (CallEnd × Session) SessionFault
+called_by values call None s = ended_whole (ran call.entry call.address call.steps s)
+called_by values call (Some request) s
+    = awaiting_from values request call.steps (ran call.entry call.address 0 s)
+
+-- How a call ends for values of ranges, and the session after it.
+unfoldable pub called : Values → SeenCall → Session → Result (CallEnd × Session) SessionFault
+called values call s = called_by values call call.request s
+
 -- The session after a call that has returned, with the stack pointer as it was, and after which each
 -- item holds.
-abbrev pub passed_after : Values → List Item → Session → Result (RunEnd × Session) SessionFault
+abbrev pub passed_after : Values → List Item → Session → Result (CallEnd × Session) SessionFault
     → Option Session
-passed_after values wanted s (Ok called) = if is_return called.0.why
+passed_after values wanted s (Ok called) = if is_return called.0.end.why
     && (called.1.current.regs.s == s.current.regs.s)
     && list_all (item_holds values s.current called.1.current) wanted then Some called.1 else None
 passed_after values wanted s (Err fault) = None
 
 abbrev pub passed_given : Values → SeenCall → Session → Option Session
-passed_given values call s
-    = passed_after values call.wanted s (ran call.entry call.address call.steps s)
+passed_given values call s = passed_after values call.wanted s (called values call s)
 
 -- The session after a call that passes for values of ranges; none where it fails.
 unfoldable pub passed : Values → SeenCall → Session → Option Session

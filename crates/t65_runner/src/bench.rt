@@ -6,25 +6,26 @@ ghost use Rattle.model.specs.State.{State};
 ghost use Rattle.rig.specs.Subroutine.{call_of};
 ghost use Rattle.t65_reader.specs.RowText.{call_view, row_view};
 ghost use Rattle.t65_runner.specs.Passes.{all_passed, failed_values, first_failed, first_from, rows_seen};
-ghost use Rattle.t65_runner.specs.Passes.{passed, ran};
+ghost use Rattle.t65_runner.specs.Passes.{awaited_of, called, passed, ran};
 ghost use Rattle.t65_runner.specs.RangeValues.{values_at};
 ghost use Rattle.t65_runner.specs.Start.{fresh, IsSince};
 
 use crate::going_back::restore;
 use crate::interrupts::interrupt;
-use crate::passes::{all_hold, call_start, given_all};
+use crate::passes::{all_hold, call_start, given_all, number_of};
 use crate::range_values::{Values, count_of, four_later, seed_of, values_by};
+use crate::requests::{Awaited, CallEnd, run_awaiting};
 use bus::{Image, MapSpec};
 use debugger::{RunEnd, Session, Why};
 use rig::call;
 use std::alloc::{AllocError, Global};
-use t65_reader::{Call, Entry, Row};
+use t65_reader::{Call, Entry, Request, Row};
 
 /// Where a called routine returns to.
 const RETURN_ADDRESS: u16 = 0xffff;
 
 /// Calls a subroutine, for so many steps at most, in a session with no breakpoint.
-fn called(session: &mut Session, address: u16, steps: u32) -> Result<RunEnd, AllocError>
+fn called_at(session: &mut Session, address: u16, steps: u32) -> Result<RunEnd, AllocError>
     requires stops { session.old.breaks ≡ [] }
     ensures ok { IfOk result
         (λ end. call_of address steps session.old ≡ Ok (end, session.new)) }
@@ -55,8 +56,46 @@ pub fn run_entered(
     ensures stops { session.new.breaks ≡ [] }
 {
     match entry {
-        Entry::Subroutine => called(session, address, steps),
+        Entry::Subroutine => called_at(session, address, steps),
         Entry::Interrupt => interrupt(session, address, steps),
+    }
+}
+
+/// Returns the interrupt that comes into a call which begins here.
+pub fn awaited_of(session: &Session, values: Values, request: Request) -> Awaited
+    ensures { result ≡ awaited_of values session.now.current request }
+{
+    Awaited {
+        signal: request.signal,
+        start: session.cycles(),
+        cycle: number_of(values, request.cycle),
+    }
+}
+
+/// Calls a routine for values of ranges, in a session with no breakpoint. The interrupt that its
+/// row asks for comes into the call.
+///
+/// # Errors
+///
+/// `AllocError` if an allocation failed.
+#[tactic(auto, unfolding(crate::specs::Passes::called))]
+pub fn run_called(session: &mut Session, call: &Call, values: Values) -> Result<CallEnd, AllocError>
+    requires stops { session.old.breaks ≡ [] }
+    ensures ok { IfOk result
+        (λ end. called values (call_view call.now) session.old ≡ Ok (end, session.new)) }
+    ensures since { (s : State) → IsSince s session.old → IsSince s session.new }
+    ensures stops { session.new.breaks ≡ [] }
+{
+    match call.request {
+        None => {
+            let end = run_entered(session, call.entry, call.address, call.steps)?;
+            Ok(CallEnd { before: None, end })
+        }
+        Some(request) => {
+            run_entered(session, call.entry, call.address, 0)?;
+            let awaited = awaited_of(session, values, request);
+            run_awaiting(session, awaited, call.steps)
+        }
     }
 }
 
@@ -80,8 +119,8 @@ fn run_call(session: &mut Session, call: &Call, values: Values) -> Result<bool, 
         return Ok(false);
     }
     let before = call_start(session);
-    let end = run_entered(session, call.entry, call.address, call.steps)?;
-    let has_returned = end.why == Why::Break(RETURN_ADDRESS);
+    let called = run_called(session, call, values)?;
+    let has_returned = called.end.why == Why::Break(RETURN_ADDRESS);
     Ok(
         has_returned
             && session.regs().s == before.stack

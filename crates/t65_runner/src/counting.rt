@@ -1,29 +1,28 @@
 //! How often steps begin at each address in the calls of a row.
 
 ghost use Rattle.std.specs.Prelude.{◌≡◌, ◌==◌, [], ℕ, IfOk, None, OnOk, Some, false, if◌then◌else◌};
-ghost use Rattle.std.specs.Prelude.{map, suc, true};
+ghost use Rattle.std.specs.Prelude.{map, true};
 ghost use Rattle.accesses.specs.Moments.{entered};
 ghost use Rattle.accesses.specs.Tallies.{noted};
 ghost use Rattle.model.specs.State.{State};
+ghost use Rattle.model.specs.Step.{step};
 ghost use Rattle.t65_reader.specs.RowText.{call_view, row_view};
-ghost use Rattle.t65_runner.specs.Counting.{are_same, call_counted, counted_at, counted_by};
-ghost use Rattle.t65_runner.specs.Counting.{is_last};
-ghost use Rattle.t65_runner.specs.Counting.{rows_counted, steps_counted, test_counted};
+ghost use Rattle.t65_runner.specs.Counting.{Counted, Part, all_counted, are_same, awaited_in};
+ghost use Rattle.t65_runner.specs.Counting.{call_counted, counted_at, counted_by, counted_on};
+ghost use Rattle.t65_runner.specs.Counting.{is_last, rows_counted, steps_counted, test_counted};
 ghost use Rattle.t65_runner.specs.Start.{IsSince, fresh};
 ghost use Rattle.t65_runner.specs.Passes.{rows_seen};
 
-use crate::bench::run_entered;
+use crate::bench::{awaited_of, run_entered};
 use crate::going_back::restore;
 use crate::passes::given_all;
 use crate::range_values::{Values, count_of, four_later, seed_of, values_by};
+use crate::requests::{Awaited, arrive, is_back, is_due_in};
 use accesses::{Moment, Tally, moment_of};
 use bus::{Image, MapSpec};
 use debugger::{Event, Session};
 use std::alloc::{AllocError, Global};
-use t65_reader::{Call, Row};
-
-/// Where a called routine returns to.
-const RETURN_ADDRESS: u16 = 0xffff;
+use t65_reader::{Call, Request, Row};
 
 /// Counts a step that was made from a moment on, unless an interrupt came in place of the
 /// instruction.
@@ -36,22 +35,15 @@ fn note(session: &Session, before: Moment, tally: &mut Tally)
     }
 }
 
-/// Returns whether a call has come back.
-fn is_back(session: &Session) -> bool
-    ensures { result ≡ (session.now.current.regs.pc == 65535) }
-{
-    session.regs().pc == RETURN_ADDRESS
-}
-
 /// Makes a step and counts it, and returns whether the call goes on: the step was not rejected, and
 /// does not lead back.
 fn count_step(session: &mut Session, tally: &mut Tally) -> bool
-    ensures on { result ≡ true → (n : ℕ)
-        → steps_counted (suc n) (counted_at session.old tally.old)
-        ≡ steps_counted n (counted_at session.new tally.new) }
-    ensures end { result ≡ false → (n : ℕ)
-        → steps_counted (suc n) (counted_at session.old tally.old)
-        ≡ counted_at session.new tally.new }
+    ensures on { result ≡ true → (next : Counted → Part)
+        → counted_on (counted_at session.old tally.old) next (step session.old.current)
+        ≡ next (counted_at session.new tally.new) }
+    ensures end { result ≡ false → (next : Counted → Part)
+        → counted_on (counted_at session.old tally.old) next (step session.old.current)
+        ≡ (None, counted_at session.new tally.new) }
     ensures since { (s : State) → IsSince s session.old → IsSince s session.new }
     ensures stops { session.new.breaks ≡ session.old.breaks }
 {
@@ -65,17 +57,54 @@ fn count_step(session: &mut Session, tally: &mut Tally) -> bool
     }
 }
 
-/// Makes so many steps at most, and counts them.
-fn count_steps(session: &mut Session, limit: u32, tally: &mut Tally)
-    ensures counted { counted_at session.new tally.new
-        ≡ steps_counted limit (counted_at session.old tally.old) }
+/// Makes so many steps at most and counts them, until an interrupt is due. Returns how many are
+/// left after its entry, if it is due.
+fn count_steps(
+    session: &mut Session,
+    awaited: Option<Awaited>,
+    limit: u32,
+    tally: &mut Tally,
+) -> Option<u32>
+    ensures counted { steps_counted awaited limit (counted_at session.old tally.old)
+        ≡ (result, counted_at session.new tally.new) }
     ensures since { (s : State) → IsSince s session.old → IsSince s session.new }
     ensures stops { session.new.breaks ≡ session.old.breaks }
 {
-    for _ in 0..limit {
-        if !count_step(session, tally) {
-            return;
+    for did in 0..limit {
+        if is_due_in(session, awaited) {
+            return Some(limit - did - 1);
         }
+        if !count_step(session, tally) {
+            return None;
+        }
+    }
+    None
+}
+
+/// Counts the steps of a call that was entered, and those of an interrupt that comes into it.
+#[tactic(auto, unfolding(crate::specs::Counting::all_counted))]
+fn count_all(session: &mut Session, awaited: Option<Awaited>, limit: u32, tally: &mut Tally)
+    ensures counted { counted_at session.new tally.new
+        ≡ all_counted awaited limit (counted_at session.old tally.old) }
+    ensures since { (s : State) → IsSince s session.old → IsSince s session.new }
+    ensures stops { session.new.breaks ≡ session.old.breaks }
+{
+    let left = count_steps(session, awaited, limit, tally);
+    match (awaited, left) {
+        (Some(awaited), Some(left)) => {
+            arrive(session, awaited.signal);
+            count_steps(session, None, left, tally);
+        }
+        _ => {}
+    }
+}
+
+fn awaited_in(session: &Session, values: Values, request: Option<Request>) -> Option<Awaited>
+    ensures { result ≡ awaited_in values session.now.current request }
+{
+    match request {
+        None => None,
+        Some(request) => Some(awaited_of(session, values, request)),
     }
 }
 
@@ -101,7 +130,8 @@ fn count_call(
         return Ok(false);
     }
     run_entered(session, call.entry, call.address, 0)?;
-    count_steps(session, call.steps, tally);
+    let awaited = awaited_in(session, values, call.request);
+    count_all(session, awaited, call.steps, tally);
     Ok(true)
 }
 

@@ -7,16 +7,13 @@ ghost use Rattle.rig.specs.Subroutine.{after_event, byte_patched};
 ghost use Rattle.t65_runner.specs.Interrupts.{entered_flags, interrupt_of, interrupted};
 ghost use Rattle.t65_runner.specs.Start.{IsSince};
 
+use crate::requests::run_back;
 use debugger::{Event, Flags, Profile, RunEnd, Session, Setting};
-use rig::run_to;
 use std::alloc::AllocError;
-
-/// Where a handler returns to.
-const RETURN_ADDRESS: u16 = 0xffff;
 
 /// Makes an event; one that is refused changes nothing.
 #[tactic(auto, unfolding(rig::specs::Subroutine::after_event))]
-fn happen(session: &mut Session, event: Event)
+pub fn happen(session: &mut Session, event: Event)
     ensures { session.new ≡ after_event session.old event }
 {
     let _ = session.event(event);
@@ -86,8 +83,5 @@ pub fn interrupt(session: &mut Session, address: u16, limit: u32) -> Result<RunE
     ensures stops { session.new.breaks ≡ [] }
 {
     enter(session, address);
-    match run_to(session, RETURN_ADDRESS, limit) {
-        Ok(end) => Ok(end),
-        Err(_) => Err(AllocError),
-    }
+    run_back(session, limit)
 }

@@ -5,8 +5,8 @@
 //!
 //! `specs/Passes.antt` says when a row passes, `specs/RangeValues.antt` for which values it is run,
 //! `specs/Parts.antt` which rows are run around a test, `specs/Interrupts.antt` how a handler is
-//! entered, `specs/Counting.antt` how often steps begin where, and `specs/Start.antt` how a session
-//! stands to its start.
+//! entered, `specs/Requests.antt` how an interrupt comes into a call, `specs/Counting.antt` how
+//! often steps begin where, and `specs/Start.antt` how a session stands to its start.
 #![tactic(auto)]
 
 mod around;
@@ -16,13 +16,15 @@ mod going_back;
 mod interrupts;
 mod passes;
 mod range_values;
+mod requests;
 
 pub use around::{Around, has_test, rows_of};
-pub use bench::{first_failed, run_entered};
+pub use bench::{first_failed, run_called};
 pub use counting::count_test;
 pub use going_back::{HISTORY, restore};
 pub use passes::{
     CallStart, all_hold, call_start, came, compares, given_all, given_one, number_of,
 };
 pub use range_values::Values;
+pub use requests::{Awaited, CallEnd, arrive};
 pub use t65_reader::Row;

@@ -14,7 +14,8 @@ ghost use Rattle.t65_runner.specs.Passes.{register_of, setting_of, with_flag};
 
 use crate::range_values::Values;
 use debugger::{Event, Flags, Regs, Session, Setting};
-use t65_reader::{Atom, Flag, Item, Operation, Operator, Place, Register, Relation, Value};
+use t65_reader::{Flag, Item, Place, Register, Relation};
+use t65_values::{Atom, Operation, Operator, Value};
 
 /// What a call is compared with: the state in which it began.
 #[derive(Clone, Copy)]

@@ -14,7 +14,7 @@ use Rattle.model.specs.Names.{Definitions}
 use Rattle.t65_suites.specs.HeadText.{SeenHead, head_from}
 use Rattle.t65_reader.specs.RowText.{SeenRow, rows_from}
 use Rattle.t65_reader.specs.declared.row.Part.TheVariants.{Test}
-use Rattle.t65_reader.specs.declared.fault.TextFault.{TextFault}
+use Rattle.t65_values.specs.declared.fault.TextFault.{TextFault}
 use Rattle.t65_suites.specs.Ends.{EndsFile, EndsRows, EndsTest, HeadedFile}
 use Rattle.t65_runner.specs.Parts.{rows_of}
 use Rattle.t65_suites.specs.Prepared.{map_of}

@@ -2,8 +2,8 @@
 use Rattle.std.proofs.Common.{◌≡◌, ℕ, ◌+◌, List, [], ◌∷◌, true, false, refl, arith, length, Err}
 use Rattle.model.specs.TextLines.{lines_from, lines_of}
 use Rattle.t65_suites.specs.HeadText.{head_from, head_in_line, head_of}
-use Rattle.t65_reader.specs.RowText.{ends, skip_blanks}
-use Rattle.t65_reader.specs.declared.fault.RowFaultKind.TheVariants.{NoSource}
+use Rattle.t65_values.specs.ValueText.{ends, skip_blanks}
+use Rattle.t65_values.specs.declared.fault.RowFaultKind.TheVariants.{NoSource}
 
 pub skipped : (number : ℕ) (line front : List ℕ) (lines : List (List ℕ)) → front ≡ skip_blanks line → ends front ≡ true
     → head_from number (line ∷ lines) ≡ head_from (number + 1) lines

@@ -4,9 +4,9 @@ use Rattle.arguments.specs.declared.load_fault.LoadFault.{LoadFault}
 use Rattle.arguments.specs.declared.load_fault.LoadFault.TheVariants as load
 use Rattle.arguments.specs.declared.refusal.Refusal.{Refusal}
 use Rattle.arguments.specs.declared.refusal.Refusal.TheVariants.{OutOfMemory}
-use Rattle.t65_reader.specs.FaultWords.{fault_words}
-use Rattle.t65_reader.specs.declared.fault.TextFault.{TextFault}
-use Rattle.model.specs.Token.{is_printable}
+use Rattle.t65_values.specs.FaultWords.{fault_words}
+use Rattle.t65_values.specs.declared.fault.TextFault.{TextFault}
+use Rattle.t65_values.specs.Visible.{visible}
 use Rattle.t65_suites.specs.declared.fault.FileFault.{FileFault}
 use Rattle.t65_suites.specs.declared.fault.FileFault.TheVariants.{InRows, InSource}
 use Rattle.t65_suites.specs.declared.fault.TestFault.{TestFault}
@@ -34,11 +34,7 @@ is_memory (InSource path fault) = is_out_of_source fault
 
 -- ---- texts
 
-abbrev pub visible : ℕ → ℕ
-visible byte = if is_printable byte then byte else if byte == 9 then 32 else 63
-
--- A tab is shown as a space, and what is no visible character of ASCII as `?`. Lines end where they
--- do.
+-- Lines end where they do.
 abbrev pub shown : ℕ → ℕ
 shown b = if b == 10 then 10 else visible b
 

@@ -4,12 +4,13 @@ use Rattle.std.specs.Str.{byte, bytes_eq}
 use Rattle.std.specs.List.{prefix_len}
 use Rattle.model.specs.declared.instruction.Profile.{Profile}
 use Rattle.model.specs.declared.instruction.Profile.TheVariants as profile
-use Rattle.t65_reader.specs.RowText.{Reads, after_sign, after_word, and_then, ends, fault_at, is_next, number_of, skip_blanks, string_of, word_of}
-use Rattle.t65_reader.specs.declared.fault.RowFault.{RowFault}
-use Rattle.t65_reader.specs.declared.fault.RowFaultKind.TheVariants.{NoSource, Syntax}
-use Rattle.t65_reader.specs.declared.fault.TextFault.{TextFault}
+use Rattle.t65_values.specs.ValueText.{Reads, after_sign, after_word, and_then, ends, fault_at, is_next, number_of, skip_blanks, word_of}
+use Rattle.t65_reader.specs.RowText.{string_of}
+use Rattle.t65_values.specs.declared.fault.RowFault.{RowFault}
+use Rattle.t65_values.specs.declared.fault.RowFaultKind.TheVariants.{NoSource, Syntax}
+use Rattle.t65_values.specs.declared.fault.TextFault.{TextFault}
 use Rattle.t65_suites.specs.declared.head.Head.{Head}
-use Rattle.t65_reader.specs.declared.fault.Base.TheVariants.{Hex}
+use Rattle.t65_values.specs.declared.fault.Base.TheVariants.{Hex}
 
 -- The source that a file names, and the machine that its rows run on.
 pub record SeenHead : Type 0 where

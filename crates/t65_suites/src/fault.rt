@@ -7,7 +7,7 @@ ghost use Rattle.t65_suites.specs.declared.fault.FileFault.TheVariants.{InRows};
 ghost use Rattle.t65_suites.specs.declared.fault.TestFault.TheVariants.{Refused};
 
 use arguments::{LoadFault, Refusal};
-use t65_reader::TextFault;
+use t65_values::TextFault;
 
 /// Why a file of rows cannot be tested.
 #[derive(Clone, Copy)]

@@ -1,7 +1,7 @@
 //! Why a suite cannot be tested, in words.
 
 ghost use Rattle.std.specs.Prelude.{◌≡◌, ◌++◌, ◌∷◌, [], IfOk, OnOk, map, string_bytes};
-ghost use Rattle.t65_suites.specs.FaultTexts.{IsRowsTitle, IsShown, IsTitle, line_title, shown, visible};
+ghost use Rattle.t65_suites.specs.FaultTexts.{IsRowsTitle, IsShown, IsTitle, line_title, shown};
 
 use crate::fault::{FileFault, TestFault};
 use crate::names::text_of;
@@ -9,7 +9,7 @@ use crate::wording::{NO_ROW, NO_SOURCE, TOO_LARGE};
 use arguments::{LoadFault, Refusal, put_fault_line, refuse_file};
 use std::alloc::{AllocError, Global};
 use std::io::Write;
-use t65_reader::{RowFaultKind, TextFault};
+use t65_values::{RowFaultKind, TextFault, push_visible};
 
 /// Returns an example of what has to stand there, for the faults that a first file has.
 fn example_of(kind: RowFaultKind) -> &'static str {
@@ -20,16 +20,6 @@ fn example_of(kind: RowFaultKind) -> &'static str {
     }
 }
 
-fn push_seen(text: &mut String, byte: u8) -> Result<(), AllocError>
-    ensures { OnOk result (string_bytes text.new ≡ string_bytes text.old ++ visible byte ∷ []) }
-{
-    match byte {
-        b' '..=b'~' => text.push(byte as char),
-        b'\t' => text.push(' '),
-        _ => text.push('?'),
-    }
-}
-
 /// Appends a byte as it is shown.
 fn push_shown(text: &mut String, byte: u8) -> Result<(), AllocError>
     ensures { OnOk result (string_bytes text.new ≡ string_bytes text.old ++ shown byte ∷ []) }
@@ -37,7 +27,7 @@ fn push_shown(text: &mut String, byte: u8) -> Result<(), AllocError>
     if byte == b'\n' {
         text.push('\n')
     } else {
-        push_seen(text, byte)
+        push_visible(text, byte)
     }
 }
 

@@ -7,13 +7,14 @@ ghost use Rattle.t65_suites.specs.HeadText.{after_file, file_of, head_from, head
 ghost use Rattle.t65_suites.specs.HeadText.{is_name_byte, then_ends};
 ghost use Rattle.t65_suites.specs.HeadText.{option_of, options_of, plain_head, port_of, profile_of};
 ghost use Rattle.t65_suites.specs.HeadText.{rom_of, then_read};
-ghost use Rattle.t65_reader.specs.RowText.{after_sign, after_word, word_of};
+ghost use Rattle.t65_values.specs.ValueText.{after_sign, after_word, word_of};
 
 use line_parts::next_line;
 use model::Profile;
-use t65_reader::{
-    RowFault, RowFaultKind, TextFault, after_sign, after_word, ends, fault_at, fault_of, hex_of,
-    is_next, is_text, skip_blanks, string_of, word_of,
+use t65_reader::{fault_of, string_of};
+use t65_values::{
+    RowFault, RowFaultKind, TextFault, after_sign, after_word, ends, fault_at, hex_of, is_next,
+    is_text, skip_blanks, word_of,
 };
 
 /// The source that a test file names, and the machine that its rows run on.

@@ -26,8 +26,9 @@ use model::BusFault;
 use source_map::Places;
 use std::alloc::Global;
 use std::rt::Files;
-use t65_reader::{Row, RowFaultKind, read_rows};
+use t65_reader::{Row, read_rows};
 use t65_runner::has_test;
+use t65_values::RowFaultKind;
 
 /// A file of rows, the source assembled, and the rows, one of them a test at least.
 #[derive(Drop)]

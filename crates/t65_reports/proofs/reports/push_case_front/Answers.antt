@@ -1,5 +1,5 @@
 use Rattle.t65_reports.specs.Reports.{case_front}
-use Rattle.t65_reports.proofs.RowText.{four}
+use Rattle.t65_failures.proofs.Joined.{four}
 use Rattle.t65_reports.proofs.reports.push_case_front.Goals as goal
 
 pub returns : goal.returns

@@ -1,4 +1,4 @@
-use Rattle.t65_reports.proofs.RowText.{five}
+use Rattle.t65_failures.proofs.Joined.{five}
 use Rattle.t65_reports.proofs.reports.push_failure.Goals as goal
 
 pub returns : goal.returns

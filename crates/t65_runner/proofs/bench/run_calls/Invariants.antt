@@ -1,4 +1,4 @@
-use Rattle.std.proofs.Common.{◌≡◌, [], drop, map}
+use Rattle.std.proofs.Common.{◌≡◌, [], drop}
 use Rattle.model.specs.State.{State}
 use Rattle.t65_runner.specs.Passes.{all_passed, rows_seen}
 use Rattle.t65_runner.specs.Start.{IsSince}

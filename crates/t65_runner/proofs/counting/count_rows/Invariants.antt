@@ -1,4 +1,4 @@
-use Rattle.std.proofs.Common.{◌≡◌, [], drop, map}
+use Rattle.std.proofs.Common.{◌≡◌, [], drop}
 use Rattle.model.specs.State.{State}
 use Rattle.t65_runner.specs.Counting.{counted_at, rows_counted}
 use Rattle.t65_runner.specs.Start.{IsSince}

@@ -1,4 +1,4 @@
-use Rattle.std.proofs.Common.{◌≡◌, ◌-◌, map}
+use Rattle.std.proofs.Common.{◌≡◌, ◌-◌}
 use Rattle.t65_runner.specs.Counting.{counted_by, counted_in}
 use Rattle.t65_runner.specs.RangeValues.{count_of, number_before, seed_of, values_at}
 use Rattle.t65_runner.specs.Start.{fresh}

@@ -2,8 +2,8 @@ use Rattle.std.proofs.Common.{◌∙◌, sym, ap, arith}
 use Rattle.std.specs.Prelude.{Err, Result}
 use Rattle.model.specs.TextLines.{lines_of}
 use Rattle.t65_suites.specs.HeadText.{SeenHead, head_from, head_in_line}
-use Rattle.t65_reader.specs.declared.fault.RowFault.{RowFault}
-use Rattle.t65_reader.specs.declared.fault.TextFault.{TextFault}
+use Rattle.t65_values.specs.declared.fault.RowFault.{RowFault}
+use Rattle.t65_values.specs.declared.fault.TextFault.{TextFault}
 use Rattle.t65_suites.proofs.Heads.{headed, skipped, unheaded}
 use Rattle.t65_suites.proofs.head.read_head.Goals as goal
 

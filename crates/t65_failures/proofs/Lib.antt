@@ -1,0 +1,4 @@
+mod Appended
+pub mod Joined
+mod StepByStep
+mod Told

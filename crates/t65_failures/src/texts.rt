@@ -1,0 +1,125 @@
+//! Places, values and rows as text.
+
+ghost use Rattle.std.specs.Prelude.{◌≡◌, ◌++◌, ◌∷◌, [], OnOk, map, string_bytes};
+ghost use Rattle.t65_failures.specs.Texts.{flag_name, named_address, named_byte, named_count};
+ghost use Rattle.t65_failures.specs.Texts.{number_text, place_text, register_name, relation_sign, value_text};
+ghost use Rattle.t65_values.specs.Visible.{visible};
+
+use crate::wording::{CYCLES, INPUT, OUTPUT_BYTE, OUTPUT_COUNT};
+use std::alloc::AllocError;
+use t65_reader::{Flag, Place, Range, Register, Relation};
+use t65_values::push_visible;
+
+/// Appends bytes, with a `?` for each that is no visible character of ASCII.
+pub fn push_bytes(text: &mut String, bytes: &[u8]) -> Result<(), AllocError>
+    ensures { OnOk result (string_bytes text.new
+        ≡ string_bytes text.old ++ map visible bytes.now) }
+{
+    for byte in bytes {
+        push_visible(text, *byte)?;
+    }
+    Ok(())
+}
+
+fn register_name(register: Register) -> &'static str
+    ensures { result.now ≡ register_name register }
+{
+    match register {
+        Register::A => "A",
+        Register::X => "X",
+        Register::Y => "Y",
+        Register::S => "S",
+        Register::P => "P",
+    }
+}
+
+fn flag_name(flag: Flag) -> &'static str
+    ensures { result.now ≡ flag_name flag }
+{
+    match flag {
+        Flag::N => "N",
+        Flag::V => "V",
+        Flag::D => "D",
+        Flag::I => "I",
+        Flag::Z => "Z",
+        Flag::C => "C",
+    }
+}
+
+/// Appends a place as a row names it.
+pub fn push_place(text: &mut String, place: Place) -> Result<(), AllocError>
+    ensures { OnOk result (string_bytes text.new ≡ string_bytes text.old ++ place_text place) }
+{
+    match place {
+        Place::Register(register) => text.push_str(register_name(register)),
+        Place::Flag(flag) => text.push_str(flag_name(flag)),
+        Place::Byte(address) => write!(text, "[{address:04X}]"),
+        Place::Word(address) => write!(text, "[{address:04X}].w"),
+        Place::Input => text.push_str(INPUT),
+        Place::Output(index) => write!(text, "{}{index}", OUTPUT_BYTE),
+        Place::OutputCount => text.push_str(OUTPUT_COUNT),
+        Place::Cycles => text.push_str(CYCLES),
+    }
+}
+
+/// Appends a relation as a row writes it.
+pub fn push_relation(text: &mut String, relation: Relation) -> Result<(), AllocError>
+    ensures { OnOk result (string_bytes text.new
+        ≡ string_bytes text.old ++ relation_sign relation ∷ []) }
+{
+    text.push(match relation {
+        Relation::Equal => '=',
+        Relation::Below => '<',
+        Relation::Above => '>',
+    })
+}
+
+/// Appends a number as a row would write it for a place.
+pub fn push_number(text: &mut String, place: Place, number: u64) -> Result<(), AllocError>
+    ensures { OnOk result (string_bytes text.new
+        ≡ string_bytes text.old ++ number_text place number) }
+{
+    match place {
+        Place::Cycles | Place::OutputCount | Place::Flag(_) => write!(text, "{number}"),
+        Place::Word(_) => write!(text, "{number:04X}"),
+        Place::Register(_) | Place::Byte(_) | Place::Input | Place::Output(_) => {
+            write!(text, "{number:02X}")
+        }
+    }
+}
+
+/// Appends a byte behind words.
+#[tactic(auto, unfolding(crate::specs::Texts::named_byte))]
+pub fn push_named_byte(text: &mut String, words: &str, byte: u8) -> Result<(), AllocError>
+    ensures { OnOk result (string_bytes text.new
+        ≡ string_bytes text.old ++ named_byte words.now byte) }
+{
+    write!(text, "{words}{byte:02X}")
+}
+
+/// Appends an address behind words.
+#[tactic(auto, unfolding(crate::specs::Texts::named_address))]
+pub fn push_named_address(text: &mut String, words: &str, address: u16) -> Result<(), AllocError>
+    ensures { OnOk result (string_bytes text.new
+        ≡ string_bytes text.old ++ named_address words.now address) }
+{
+    write!(text, "{words}{address:04X}")
+}
+
+/// Appends a count behind words.
+#[tactic(auto, unfolding(crate::specs::Texts::named_count))]
+pub fn push_named_count(text: &mut String, words: &str, count: u64) -> Result<(), AllocError>
+    ensures { OnOk result (string_bytes text.new
+        ≡ string_bytes text.old ++ named_count words.now count) }
+{
+    write!(text, "{words}{count}")
+}
+
+/// Appends the value of a range's letter.
+pub fn push_value(text: &mut String, range: Range, value: u32) -> Result<(), AllocError>
+    ensures { OnOk result (string_bytes text.new
+        ≡ string_bytes text.old ++ value_text range value) }
+{
+    text.push(range.letter as char)?;
+    write!(text, "={value:02X}")
+}

@@ -1,5 +1,0 @@
-use Rattle.t65_reports.proofs.RowText.{three}
-use Rattle.t65_reports.proofs.detail.push_no_return.Goals as goal
-
-pub returns : goal.returns
-returns c = three _ _ _ _ _ _ _ c.in_ok-push_named_count.ensures c.in_ok-push_named_address.ensures c.in_ok-push_str.ensures.bytes

@@ -1,5 +1,0 @@
-use Rattle.t65_reports.proofs.RowText.{three}
-use Rattle.t65_reports.proofs.detail.push_other_stack.Goals as goal
-
-pub returns : goal.returns
-returns c = three _ _ _ _ _ _ _ c.in_ok-push_named_byte.ensures c.in_ok-push_named_byte-2.ensures c.in_ok-push_str.ensures.bytes

@@ -1,7 +1,0 @@
-use Rattle.t65_reports.specs.Steps.{regs_text}
-use Rattle.t65_reports.proofs.RowText.{five}
-use Rattle.t65_reports.proofs.steps.push_regs.Goals as goal
-
-pub returns : goal.returns
-unfolding regs_text
-returns c = five _ _ _ _ _ _ _ _ _ _ _ c.in_ok-push_named_byte.ensures c.in_ok-push_named_byte-2.ensures c.in_ok-push_named_byte-3.ensures c.in_ok-push_named_byte-4.ensures c.in_ok-push_status.ensures

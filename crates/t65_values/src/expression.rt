@@ -1,0 +1,41 @@
+//! What a value is made of, as plain types.
+
+/// What joins two numbers; each result is taken modulo 2^32.
+#[derive(Clone, Copy)]
+pub enum Operation {
+    Add,
+    Subtract,
+    Multiply,
+    /// The quotient without its rest; by 0 it is 0.
+    Divide,
+    /// The rest of a quotient; by 0 it is 0.
+    Remainder,
+    And,
+    Or,
+    ExclusiveOr,
+}
+
+/// A number, or the value of one of a row's ranges.
+#[derive(Clone, Copy)]
+pub enum Atom {
+    Number(u32),
+    First,
+    Second,
+    Third,
+    Fourth,
+}
+
+/// An operation and its right side.
+#[derive(Clone, Copy)]
+pub struct Operator {
+    pub operation: Operation,
+    pub right: Atom,
+}
+
+/// A value of up to three parts, joined from left to right.
+#[derive(Clone, Copy)]
+pub struct Value {
+    pub first: Atom,
+    pub second: Option<Operator>,
+    pub third: Option<Operator>,
+}

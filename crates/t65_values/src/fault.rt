@@ -1,0 +1,78 @@
+//! Why a line is no row.
+
+ghost use Rattle.std.specs.Prelude.{◌≡◌, Some};
+ghost use Rattle.t65_values.specs.FaultWords.{fault_words};
+
+use crate::wording;
+use std::fmt;
+
+/// How the digits of a bare number are read.
+#[derive(Clone, Copy)]
+pub enum Base {
+    Hex,
+    Decimal,
+}
+
+/// Why a line is no row.
+#[derive(Clone, Copy)]
+pub enum RowFaultKind {
+    /// Something else has to stand there.
+    Syntax,
+    /// A number has more than four hex digits, or more than seven decimal ones.
+    LongNumber(Base),
+    /// The source does not define the name.
+    UndefinedName,
+    /// The number of the name or the address is outside 0..65535.
+    AddressRange,
+    /// The last value of a range is below its first.
+    EmptyRange,
+    /// A row of a file names a second source.
+    SecondSource,
+    /// The first line that is not blank names no source.
+    NoSource,
+    /// A request for memory was refused.
+    OutOfMemory,
+}
+
+impl RowFaultKind {
+    /// Returns the words of the fault.
+    fn words(&self) -> &'static str
+        ensures { result.now ≡ fault_words self.now }
+    {
+        match self {
+            RowFaultKind::Syntax => wording::SYNTAX,
+            RowFaultKind::LongNumber(Base::Hex) => wording::LONG_HEX,
+            RowFaultKind::LongNumber(Base::Decimal) => wording::LONG_DECIMAL,
+            RowFaultKind::UndefinedName => wording::UNDEFINED_NAME,
+            RowFaultKind::AddressRange => wording::ADDRESS_RANGE,
+            RowFaultKind::EmptyRange => wording::EMPTY_RANGE,
+            RowFaultKind::SecondSource => wording::SECOND_SOURCE,
+            RowFaultKind::NoSource => wording::NO_SOURCE,
+            RowFaultKind::OutOfMemory => wording::OUT_OF_MEMORY,
+        }
+    }
+}
+
+impl fmt::Display for RowFaultKind {
+    ghost output = { λ kind. Some (fault_words kind) };
+
+    fn fmt<W: fmt::Write>(&self, f: &mut fmt::Formatter<W>) -> fmt::Result {
+        let text = self.words();
+        write!(f, "{text}")
+    }
+}
+
+/// Why a line is no row, and how many of its bytes are left where that is seen.
+#[derive(Clone, Copy)]
+pub struct RowFault {
+    pub left: usize,
+    pub kind: RowFaultKind,
+}
+
+/// The fault of a text: its line and its column, both counted from 1.
+#[derive(Clone, Copy)]
+pub struct TextFault {
+    pub line: u32,
+    pub column: usize,
+    pub kind: RowFaultKind,
+}

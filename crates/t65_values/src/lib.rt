@@ -1,0 +1,23 @@
+//! What stands at the front of a text of a test file: words, signs, numbers, addresses and values.
+//!
+//! A call that reads one of these returns it with the text after it. The definitions are
+//! `specs/ValueText.antt`; a fault's words are in `specs/FaultWords.antt`, and `specs/Visible.antt`
+//! says how a byte of a file is told.
+#![tactic(auto)]
+
+mod expression;
+mod fault;
+mod scan;
+mod value;
+mod visible;
+mod wording;
+
+pub use assembler::Assembly;
+pub use expression::{Atom, Operation, Operator, Value};
+pub use fault::{Base, RowFault, RowFaultKind, TextFault};
+pub use scan::{
+    address_of, after, after_sign, after_word, ends, fault_at, hex_of, is_next, is_text, number_of,
+    skip_blanks, word_of,
+};
+pub use value::{Letters, letter_in, value_of};
+pub use visible::push_visible;
