@@ -4,7 +4,3 @@ pub mod Rows
 pub mod Steps
 pub mod Told
 pub mod Word
-pub mod Differences
-pub mod DifferenceRows
-pub mod Sides
-pub mod CompareWord

@@ -16,8 +16,8 @@ use Rattle.tape_info.specs.declared.checksum.Sums.{Sums}
 use Rattle.tape_info.specs.declared.fact_list.Facts.{Facts}
 use Rattle.tape_info.specs.declared.gaps.Gap.{Gap}
 use Rattle.tape_info.specs.declared.ranges.Range.{Range}
-use Rattle.tape_words.specs.declared.wording.TheConstants.{RECORD, RECORDS}
-use Rattle.tape_info.specs.declared.wording.TheConstants.{TAPE_ROW, IMAGE_ROW, IN, AND, BYTE, BYTES, RANGE, RANGES, RANGE_ROW, CRC_32, SUM_16, SUM_8, CLASH, NO_BASE, FREE, GAP_ROW, NOTHING, NMI_ROW, RESET_ROW, IRQ_ROW, PAGE_0_ROW, PAGE_1_ROW, PORT_ROW}
+use Rattle.tape_words.specs.declared.wording.TheConstants.{BYTE, BYTES, RECORD, RECORDS}
+use Rattle.tape_info.specs.declared.wording.TheConstants.{TAPE_ROW, IMAGE_ROW, IN, AND, RANGE, RANGES, RANGE_ROW, CRC_32, SUM_16, SUM_8, CLASH, NO_BASE, FREE, GAP_ROW, NOTHING, NMI_ROW, RESET_ROW, IRQ_ROW, PAGE_0_ROW, PAGE_1_ROW, PORT_ROW}
 
 -- ---- words of the rows
 

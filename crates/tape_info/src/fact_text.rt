@@ -18,7 +18,7 @@ use image_reader::{RecordFault, RecordFaultKind};
 use memory_map::{Image, MapSpec};
 use model::Profile;
 use std::alloc::{AllocError, Global};
-use tape_words::{RECORD, RECORDS, push_count, push_instruction};
+use tape_words::{BYTE, BYTES, RECORD, RECORDS, push_count, push_instruction};
 
 /// Appends how many data records a tape has; of another image nothing.
 fn push_records(words: &mut String, records: Option<usize>) -> Result<(), AllocError>
@@ -51,7 +51,7 @@ fn push_tape(words: &mut String, facts: &Facts, records: Option<usize>) -> Resul
         (string_bytes words.new ≡ string_bytes words.old ++ tape_row facts.now records) }
 {
     words.push_str(image_name(records))?;
-    push_count(words, facts.bytes as u64, wording::BYTE, wording::BYTES)?;
+    push_count(words, facts.bytes as u64, BYTE, BYTES)?;
     words.push_str(wording::IN)?;
     push_count(
         words,
@@ -76,7 +76,7 @@ fn push_stretch(words: &mut String, front: &str, first: u32, last: u32) -> Resul
 fn push_bytes(words: &mut String, count: u64) -> Result<(), AllocError>
     ensures { OnOk result (string_bytes words.new ≡ string_bytes words.old ++ byte_count count) }
 {
-    push_count(words, count, wording::BYTE, wording::BYTES)
+    push_count(words, count, BYTE, BYTES)
 }
 
 /// Appends check sums, and ends the row.

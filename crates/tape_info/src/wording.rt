@@ -1,5 +1,4 @@
-//! The words of the rows of `info` and `cmp`. `specs/Rows.antt` and `specs/DifferenceRows.antt` say
-//! where each stands.
+//! The words of the rows of `info`. `specs/Rows.antt` says where each stands.
 
 pub const TAPE_ROW: &str = "tape    ";
 
@@ -8,10 +7,6 @@ pub const IMAGE_ROW: &str = "image   ";
 pub const IN: &str = " in ";
 
 pub const AND: &str = " and ";
-
-pub const BYTE: &str = "byte";
-
-pub const BYTES: &str = "bytes";
 
 pub const RANGE: &str = "range";
 
@@ -48,9 +43,3 @@ pub const FREE: &str = " is free, or --port none\n";
 pub const NO_BASE: &str = " of the image; no base is free, try --port none\n";
 
 pub const MEND_MENDS_IT: &str = "`mend` mends it\n";
-
-pub const NO_BYTE: &str = "--";
-
-pub const ON: &str = " on ";
-
-pub const ONLY: &str = " only\n";

@@ -1,9 +1,10 @@
 -- What the words of `info`, `cmp` and `mend` ask for, by the values that clap's definition of a
 -- parse finds among them. Source: mos65.
-use Rattle.std.specs.Prelude.{ℕ, List, Option, Some, None, codes, if◌then◌else◌}
+use Rattle.std.specs.Prelude.{ℕ, Bool, List, Option, Some, None, codes, if◌then◌else◌}
 use Rattle.std.specs.Str.{bytes_eq}
 use Rattle.clap.specs.Words.{Text}
 use Rattle.model.specs.declared.instruction.Profile.{Profile}
+use Rattle.arguments.specs.Asked.{is_flag}
 use Rattle.arguments.specs.Values.{port_asked, profile_asked}
 use Rattle.arguments.specs.Words.{value_in}
 use Rattle.image_files.specs.Options.{form_said}
@@ -23,6 +24,7 @@ pub record CmpAsked : Type 0 where
   pub tape : Text
   pub other : Text
   pub form : Option Form
+  pub align : Bool
   pub profile : Profile
 
 pub record MendAsked : Type 0 where
@@ -35,11 +37,16 @@ info_of (Some tape) (Some form) (Some port) (Some profile)
     = Some (record { tape = tape; form = form; port = port; profile = profile })
 info_of tape form port profile = None
 
-abbrev pub cmp_of : Option Text → Option Text → Option (Option Form) → Option Profile
+abbrev pub cmp_of : Option Text → Option Text → Option (Option Form) → Bool → Option Profile
     → Option CmpAsked
-cmp_of (Some tape) (Some other) (Some form) (Some profile)
-    = Some (record { tape = tape; other = other; form = form; profile = profile })
-cmp_of tape other form profile = None
+cmp_of (Some tape) (Some other) (Some form) align (Some profile) = Some (record {
+  tape = tape;
+  other = other;
+  form = form;
+  align = align;
+  profile = profile;
+})
+cmp_of tape other form align profile = None
 
 -- The file to write has another name than the tape.
 abbrev pub mend_of : Option Text → Option Text → Option MendAsked
@@ -54,7 +61,7 @@ info_by value = info_of (value (codes "TAPE")) (form_said value)
 
 abbrev pub cmp_by : (Text → Option Text) → Option CmpAsked
 cmp_by value = cmp_of (value (codes "TAPE")) (value (codes "OTHER")) (form_said value)
-    (profile_asked (value (codes "profile")))
+    (is_flag (value (codes "align"))) (profile_asked (value (codes "profile")))
 
 abbrev pub mend_by : (Text → Option Text) → Option MendAsked
 mend_by value = mend_of (value (codes "TAPE")) (value (codes "OUT"))
@@ -79,6 +86,7 @@ cmp_view w = record {
   tape = w.tape.now;
   other = w.other.now;
   form = w.form;
+  align = w.align;
   profile = w.profile;
 }
 

@@ -3,9 +3,9 @@
 ghost use Rattle.std.specs.Prelude.{◌≡◌, IfErr, IfOk, false};
 ghost use Rattle.clap.specs.Words.{app_of, kind_of};
 ghost use Rattle.clap.specs.declared.builder.command.Command.TheViews.{out-Command};
-ghost use Rattle.tape_words.specs.CommandLines.{cmp, info, mend};
+ghost use Rattle.tape_words.specs.CommandLines.{cmp, cmp_part, info, mend};
 
-use arguments::{begin, file, port, profile};
+use arguments::{begin, file, flag, port, profile};
 use clap::error::ErrorKind;
 use clap::{Command, Error};
 use image_files::with_image_options;
@@ -35,19 +35,30 @@ pub fn info_command<'a>(alloc: Global) -> Result<Command<'a>, Error>
     with_image_options(alloc, command, RAW, PRG)
 }
 
-/// Returns the command line of `cmp`. The only error is that an allocation failed.
-pub fn cmp_command<'a>(alloc: Global) -> Result<Command<'a>, Error>
-    ensures shape { IfOk result (λ c. app_of c ≡ cmp) }
+/// The files that `cmp` reads, and its flag.
+fn cmp_part<'a>(alloc: Global) -> Result<Command<'a>, Error>
+    ensures shape { IfOk result (λ c. app_of c ≡ cmp_part) }
     ensures local { IfOk result (λ c. (out-Command c).has_globals ≡ false) }
     ensures memory { IfErr result (λ e. kind_of e ≡ ErrorKind.OutOfMemory) }
 {
     let about = "Tells in which bytes two images differ, with the instructions there";
     let statuses =
         "Exit status: 0 the same, 1 they differ, 2 words or an image wrong, 3 memory, 4 reading or writing";
+    let align = "Finds what was put in and taken out, where the rest has moved";
     let command = begin(alloc, "cmp", "mos65 cmp", about, statuses)?
         .arg(file(alloc, "TAPE", "The first tape, Intel HEX or S-records"))?
         .arg(file(alloc, "OTHER", "The image to compare it with"))?
-        .arg(profile(alloc))?;
+        .arg(flag(alloc, "align", align))?;
+    Ok(command)
+}
+
+/// Returns the command line of `cmp`. The only error is that an allocation failed.
+pub fn cmp_command<'a>(alloc: Global) -> Result<Command<'a>, Error>
+    ensures shape { IfOk result (λ c. app_of c ≡ cmp) }
+    ensures local { IfOk result (λ c. (out-Command c).has_globals ≡ false) }
+    ensures memory { IfErr result (λ e. kind_of e ≡ ErrorKind.OutOfMemory) }
+{
+    let command = cmp_part(alloc)?.arg(profile(alloc))?;
     with_image_options(alloc, command, RAW, PRG)
 }
 

@@ -19,6 +19,10 @@ pub const END_RECORD_COUNTS: &str = "end record: it counts ";
 
 pub const COUNTS_ANOTHER: &str = "end record: it counts another number of records";
 
+pub const BYTE: &str = "byte";
+
+pub const BYTES: &str = "bytes";
+
 pub const RECORD: &str = "record";
 
 pub const RECORDS: &str = "records";

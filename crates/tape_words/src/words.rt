@@ -8,7 +8,7 @@ ghost use Rattle.tape_words.specs.Asked.{info_view, mend_asked, mend_by, mend_vi
 ghost use Rattle.tape_words.specs.CommandLines.{cmp, info, mend};
 
 use crate::command::{cmp_command, info_command, mend_command};
-use arguments::{WordsFault, matched, port_asked, profile_asked, value_fault};
+use arguments::{WordsFault, is_given, matched, port_asked, profile_asked, value_fault};
 use clap::ArgMatches;
 use image_files::form_said;
 use image_reader::Form;
@@ -29,7 +29,7 @@ pub struct InfoWords<'a> {
     pub profile: Profile,
 }
 
-/// What the words of `cmp TAPE OTHER [--profile N|C] [--bin HHHH] [--prg]` ask for.
+/// What the words of `cmp TAPE OTHER [--align] [--profile N|C] [--bin HHHH] [--prg]` ask for.
 #[derive(Clone, Copy)]
 pub struct CmpWords<'a> {
     /// The first file to read.
@@ -38,6 +38,8 @@ pub struct CmpWords<'a> {
     pub other: &'a str,
     /// The form of both, if one is said.
     pub form: Option<Form>,
+    /// Whether the rows are those of an alignment.
+    pub align: bool,
     /// The processor whose instructions are shown.
     pub profile: Profile,
 }
@@ -71,6 +73,7 @@ fn cmp_words<'a>(matches: &ArgMatches<'a>) -> Option<CmpWords<'a>>
         tape: matches.get_str("TAPE")?,
         other: matches.get_str("OTHER")?,
         form: form_said(matches)?,
+        align: is_given(matches, "align"),
         profile: profile_asked(matches.get_str("profile"))?,
     })
 }

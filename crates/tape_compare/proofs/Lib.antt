@@ -1,0 +1,7 @@
+pub mod Below
+pub mod CompareWord
+pub mod DifferenceRows
+pub mod PartsBelow
+pub mod Rows
+pub mod Starts
+pub mod TextOfRows
