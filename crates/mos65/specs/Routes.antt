@@ -1,5 +1,6 @@
 -- Which call serves the words of the program. Source: mos65.
-use Rattle.std.specs.Prelude.{Bool, false, List, [], ◌∷◌, ◌||◌, bytes_eq, codes, if◌then◌else◌}
+use Rattle.std.specs.Prelude.{Bool, false, List, [], ◌∷◌, ◌==◌, ◌||◌, bytes_eq, codes, if◌then◌else◌}
+use Rattle.std.specs.List.{starts_with}
 use Rattle.asm_files.specs.Asked.{asks_for_files}
 use Rattle.clap.specs.Words.{Text}
 use Rattle.mos65.specs.declared.routes.Route.{Route}
@@ -15,6 +16,17 @@ has word (first ∷ rest) = bytes_eq first word || has word rest
 abbrev pub asks_for_help : List Text → Bool
 asks_for_help (word ∷ []) = bytes_eq word (codes "--help") || bytes_eq word (codes "-h")
 asks_for_help words = false
+
+-- A word says that a file is an image: `--image`, `--bin` or `--prg`.
+abbrev pub names_image : Text → Bool
+names_image word = bytes_eq word (codes "--image") || bytes_eq word (codes "--prg")
+    || bytes_eq word (codes "--bin") || starts_with (λ a b. a == b) word (codes "--bin=")
+
+-- Such a word stands before `--`, after which no word is an option.
+abbrev pub asks_for_image : List Text → Bool
+asks_for_image [] = false
+asks_for_image (word ∷ words) = if bytes_eq word (codes "--") then false
+    else names_image word || asks_for_image words
 
 -- The words that one call each serves, by their names.
 unfoldable pub added : List (Text × Route)
@@ -35,11 +47,13 @@ asm_route rest = if asks_for_help rest then to.Whole
 
 abbrev pub dis_route : List Text → Route
 dis_route rest = if asks_for_help rest then to.Whole
-    else if has (codes "--source") rest then to.DisSource else to.Program
+    else if has (codes "--source") rest then to.DisSource
+    else if asks_for_image rest then to.DisImage else to.Program
 
 abbrev pub debug_route : List Text → Route
 debug_route rest = if asks_for_help rest then to.Whole
-    else if is_strict rest then to.StrictDebug else to.Program
+    else if is_strict rest then to.StrictDebug
+    else if asks_for_image rest then to.DebugImage else to.Program
 
 abbrev pub route_of : List Text → Route
 route_of [] = to.Whole

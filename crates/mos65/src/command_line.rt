@@ -2,13 +2,14 @@
 
 ghost use Rattle.std.specs.Prelude.{◌≡◌, ◌≤◌};
 
-use arguments::{WordsFault, refused_words};
+use arguments::{WordsFault, flag, refused_words};
 use arguments_play::{mon_command, run_command, trace_command};
 use asm_files::asm_files_command;
 use checking::check_command;
 use clap::error::ErrorKind;
 use clap::{Command, Error};
 use dis_source::dis_source_command;
+use image_files::with_image_options;
 use image_words::convert_command;
 use lsp::lsp_command;
 use page_words::page_command;
@@ -37,10 +38,29 @@ fn with<'a>(command: Command<'a>, word: Result<Command<'a>, Error>) -> Result<Co
     Ok(command)
 }
 
+/// What the help of `--image` says.
+const IMAGE: &str = "FILE tells its form by its first record: a tape, Intel HEX or S-records";
+
+/// Returns the command line of `dis` with all its options. The only error is that an allocation
+/// failed.
+fn dis_command<'a>(alloc: Global) -> Result<Command<'a>, Error> {
+    let command = dis_source_command(alloc)?.arg(flag(alloc, "image", IMAGE))?;
+    Ok(command)
+}
+
+/// Returns the command line of `debug` with all its options. The only error is that an allocation
+/// failed.
+fn debug_command<'a>(alloc: Global) -> Result<Command<'a>, Error> {
+    let raw = "FILE has bytes alone, from this address on, four hex digits";
+    let prg = "FILE is a PRG file: its address in two bytes, and bytes from it on";
+    let command = strict_debug_command(alloc)?.arg(flag(alloc, "image", IMAGE))?;
+    with_image_options(alloc, command, raw, prg)
+}
+
 /// Adds the words that read a source or a tape and write another file.
 fn with_files<'a>(alloc: Global, command: Command<'a>) -> Result<Command<'a>, Error> {
     let command = with(command, asm_files_command(alloc))?;
-    let command = with(command, dis_source_command(alloc))?;
+    let command = with(command, dis_command(alloc))?;
     let command = with(command, check_command(alloc))?;
     let command = with(command, info_command(alloc))?;
     let command = with(command, cmp_command(alloc))?;
@@ -55,7 +75,7 @@ fn with_runs<'a>(alloc: Global, command: Command<'a>) -> Result<Command<'a>, Err
     let command = with(command, trace_command(alloc))?;
     let command = with(command, page_command(alloc))?;
     let command = with(command, test_command(alloc))?;
-    with(command, strict_debug_command(alloc))
+    with(command, debug_command(alloc))
 }
 
 /// Adds the words that serve an editor.

@@ -9,6 +9,8 @@ use crate::command_line::tell_whole;
 use crate::routes::{Route, route_of};
 use asm_files::asm_files;
 use checking::check;
+use debug_image::debug_image;
+use dis_image::dis_image;
 use dis_source::dis_source;
 use image_words::convert;
 use lsp::lsp;
@@ -20,7 +22,8 @@ use std::io;
 use std::process::ExitCode;
 use strict_debug::strict_debug;
 use t65::test;
-use tape_info::{tape_cmp, tape_info};
+use tape_compare::tape_cmp;
+use tape_info::tape_info;
 use tape_mend::tape_mend;
 use tracing::trace_program;
 
@@ -34,6 +37,17 @@ fn debug_strictly(rt: &HostRuntime, words: &[&str]) -> u8 {
         &mut rt.stderr(),
     );
     status
+}
+
+/// Serves `debug` with an image, and returns the exit status.
+fn debug_on_image(rt: &HostRuntime, words: &[&str]) -> u8 {
+    debug_image(
+        rt,
+        words,
+        &mut rt.reader(),
+        &mut io::writer(rt),
+        &mut rt.stderr(),
+    )
 }
 
 /// Serves a word that runs a program with the standard input, and returns the exit status.
@@ -99,9 +113,11 @@ fn serve(rt: &HostRuntime, words: &[&str]) -> u8 {
         Route::Mend => tape_mend(rt, rest, &mut io::writer(rt), &mut rt.stderr()),
         Route::Convert => convert(rt, rest, &mut io::writer(rt), &mut rt.stderr()),
         Route::Test => test(rt, rest, &mut io::writer(rt), &mut rt.stderr()),
+        Route::DisImage => dis_image(rt, rest, &mut io::writer(rt), &mut rt.stderr()),
         Route::DisSource => dis_source(rt, rest, &mut io::writer(rt), &mut rt.stderr()),
         Route::AsmFiles => asm_files(rt, rest, &mut io::writer(rt), &mut rt.stderr()),
         Route::StrictDebug => debug_strictly(rt, rest),
+        Route::DebugImage => debug_on_image(rt, rest),
         Route::Page => page(rt, rest, &mut io::writer(rt), &mut rt.stderr()),
         route @ (Route::Mon | Route::Run | Route::Trace) => play(rt, route, rest),
         Route::Lsp => serve_editor(rt, rest),

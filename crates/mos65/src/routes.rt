@@ -2,8 +2,8 @@
 
 ghost use Rattle.std.specs.Prelude.{◌≡◌};
 ghost use Rattle.arguments.specs.Words.{texts};
-ghost use Rattle.mos65.specs.Routes.{added, asks_for_help, asm_route, debug_route, dis_route, find};
-ghost use Rattle.mos65.specs.Routes.{has, route_of};
+ghost use Rattle.mos65.specs.Routes.{added, asks_for_help, asks_for_image, asm_route, debug_route};
+ghost use Rattle.mos65.specs.Routes.{dis_route, find, has, names_image, route_of};
 
 use asm_files::asks_for_files;
 use strict_debug::is_strict;
@@ -35,10 +35,14 @@ pub enum Route {
     Lsp,
     /// `dis` with `--source`.
     DisSource,
+    /// `dis` with an image.
+    DisImage,
     /// `asm` with files for other programs.
     AsmFiles,
     /// `debug` with `--strict`.
     StrictDebug,
+    /// `debug` with an image.
+    DebugImage,
     /// `asm`, `dis` and `debug` as promised.
     Program,
     /// The whole command line: help, the version, and words that are none.
@@ -88,6 +92,31 @@ fn has(word: &str, words: &[&str]) -> bool
     false
 }
 
+/// Returns whether a word says that a file is an image: `--image`, `--bin` or `--prg`.
+fn names_image(word: &str) -> bool
+    ensures { result ≡ names_image word.now }
+{
+    word == "--image"
+        || word == "--prg"
+        || word == "--bin"
+        || word.as_bytes().starts_with(b"--bin=")
+}
+
+/// Returns whether such a word stands before a word `--`.
+fn asks_for_image(words: &[&str]) -> bool
+    ensures { result ≡ asks_for_image (texts words.entry.now) }
+{
+    for word in words {
+        if *word == "--" {
+            return false;
+        }
+        if names_image(word) {
+            return true;
+        }
+    }
+    false
+}
+
 /// Returns the call for the words after `asm`.
 fn asm_route(rest: &[&str]) -> Route
     ensures { result ≡ asm_route (texts rest.entry.now) }
@@ -109,6 +138,8 @@ fn dis_route(rest: &[&str]) -> Route
         Route::Whole
     } else if has("--source", rest) {
         Route::DisSource
+    } else if asks_for_image(rest) {
+        Route::DisImage
     } else {
         Route::Program
     }
@@ -122,6 +153,8 @@ fn debug_route(rest: &[&str]) -> Route
         Route::Whole
     } else if is_strict(rest) {
         Route::StrictDebug
+    } else if asks_for_image(rest) {
+        Route::DebugImage
     } else {
         Route::Program
     }

@@ -1,0 +1,2 @@
+mod Read
+pub mod Served
