@@ -23,6 +23,9 @@ function facts(lines) {
 // (how the run ended is told behind it)
 const info = facts((part("facts") + part("end")).split("\n"));
 if (part("source")) info.source = text(part("source")).replace(/\n$/, "").split("\n");
+// puts markup into an element, unless it is there already
+const shown = {};
+const put = (id, h) => { if (shown[id] !== h) $(id).innerHTML = shown[id] = h; };
 const esc = t => t.replace(/[&<>]/g, c => ({"&": "&amp;", "<": "&lt;", ">": "&gt;"})[c]);
 
 // ---- the run: columns, one entry for each state or step (crates/page_data/specs/Format.antt)
@@ -349,13 +352,16 @@ function drawCode() {
     if (r.a < 0) return;
     const e = rowEls[k], s = short(r.a), v = s ? before(visits, r.a, cur) : 0;
     if (s && seen[k] !== v) { seen[k] = v; e.cells[1].textContent = v || "·"; const i = e.cells[2].firstChild; if (i) i.style.setProperty("--f", v / s * 100 + "%"); }
-    if (r.live) { const a = r.a, [t, len] = dis(a); e.cells[3].innerHTML = `<span class="c">${[0, 1, 2].map(j => j < len ? H(M[a + j & 65535]) : "  ").join(" ")}</span>  ${esc(t)}`; }
+    if (r.live) {
+      const a = r.a, [t, len] = dis(a), h = `<span class="c">${[0, 1, 2].map(j => j < len ? H(M[a + j & 65535]) : "  ").join(" ")}</span>  ${esc(t)}`;
+      if (r.h !== h) e.cells[3].innerHTML = r.h = h;
+    }
     const now = r.j >= 0 ? r.j == lab : r.a == pc;
     e.classList.toggle("now", now); e.classList.toggle("was", r.a == was && !now); e.classList.toggle("sel", r.a == sel);
     if (now) { e.setAttribute("aria-current", "step"); reveal(e); } else e.removeAttribute("aria-current");
   });
   const a = chosen(), many = short(a), at = before(visits, a, cur) + (pc == a && cur < n);
-  $("visit").innerHTML = `<span>${lineText(a) || "$" + H(a, 4)}: ${pc == a && cur < n ? "visit" : "visited"} ${N3(at)} of ${N3(many)}, ${N3(T.cycAt[a])} cycles in all</span><span><button data-v="-1">◂ visit</button><button data-v="1">visit ▸</button></span>`;
+  put("visit", `<span>${lineText(a) || "$" + H(a, 4)}: ${pc == a && cur < n ? "visit" : "visited"} ${N3(at)} of ${N3(many)}, ${N3(T.cycAt[a])} cycles in all</span><span><button data-v="-1">◂ visit</button><button data-v="1">visit ▸</button></span>`);
 }
 function reveal(e) {
   const b = $("rows"), y = e.offsetTop, h = b.clientHeight;
@@ -401,11 +407,11 @@ function drawMachine() {
     const v = c[cur], o = c[p];
     return `<div class="reg${v != o ? " chg" : ""}" data-r="${t}" title="Click: back to the step that set ${t}"><small><span>${t}</span><span>${v != o ? "was " + H(o) : ""}</span></small><b>${H(v)}</b><small><span>${v}</span><span>${esc(glyph(v))}</span></small></div>`;
   };
-  $("regs").innerHTML = reg("A", T.A) + reg("X", T.X) + reg("Y", T.Y) + reg("S", T.S);
-  $("pc").innerHTML = `<small><span>PC</span><span>${lineText(T.PC[cur])}</span></small><b>${H(T.PC[cur], 4)}</b><small>${esc(placeOf(T.PC[cur]))}</small>`;
-  $("flags").innerHTML = [..."NV-BDIZC"].map((f, j) => { const m = 128 >> j, on = T.P[cur] & m; return f == "-" || f == "B" ? "" : `<span class="${on ? "on" : ""}${(T.P[p] ^ T.P[cur]) & m ? " chg" : ""}" title="${{N: "negative", V: "overflow", D: "decimal", I: "interrupts off", Z: "zero", C: "carry"}[f]}">${f}<span class="off">=${on ? 1 : 0}</span></span>`; }).join("");
-  $("did").innerHTML = act(cur - 1, "did", true);
-  $("next").innerHTML = act(cur, "next", false);
+  put("regs", reg("A", T.A) + reg("X", T.X) + reg("Y", T.Y) + reg("S", T.S));
+  put("pc", `<small><span>PC</span><span>${lineText(T.PC[cur])}</span></small><b>${H(T.PC[cur], 4)}</b><small>${esc(placeOf(T.PC[cur]))}</small>`);
+  put("flags", [..."NV-BDIZC"].map((f, j) => { const m = 128 >> j, on = T.P[cur] & m; return f == "-" || f == "B" ? "" : `<span class="${on ? "on" : ""}${(T.P[p] ^ T.P[cur]) & m ? " chg" : ""}" title="${{N: "negative", V: "overflow", D: "decimal", I: "interrupts off", Z: "zero", C: "carry"}[f]}">${f}<span class="off">=${on ? 1 : 0}</span></span>`; }).join(""));
+  put("did", act(cur - 1, "did", true));
+  put("next", act(cur, "next", false));
   let c = callAt(cur), h = "", s = T.S[cur];
   for (; c; c = c.up) {
     const pushed = [];
@@ -413,17 +419,17 @@ function drawMachine() {
     s = c.s + (c.irq ? 3 : 2);
     h += `<button data-go="${Math.max(0, c.start - 1)}" title="Go to the call"><b class="${c.irq ? "I" : ""}">${esc(placeOf(c.at))}</b>${pushed.length ? `pushed ${pushed.join(" ")}` : ""}<span>${c.up ? (c.irq ? "interrupt at " : "from ") + (lineText(T.PC[c.start - 1]) || "$" + H(T.PC[c.start - 1], 4)) : "reset"}</span></button>`;
   }
-  $("calls").innerHTML = h;
-  const at = below(T.outAt, cur);
-  $("past").textContent = outText.slice(0, at * per); $("later").textContent = outText.slice(at * per);
+  put("calls", h);
+  const at = below(T.outAt, cur) * per;
+  if (at != outTo) { outTo = at; $("past").textContent = outText.slice(0, at); $("later").textContent = outText.slice(at); }
   const o = $("out"), y = $("cursor").offsetTop - o.offsetTop;
   if (y < o.scrollTop || y > o.scrollTop + o.clientHeight - 20) { const lh = parseFloat(getComputedStyle(o).lineHeight); o.scrollTop = Math.floor((y - o.clientHeight / 2) / lh) * lh; }
   const taken = below(T.takenAt, cur), given = below(T.givenAt, cur + 1), vis = a => a.map(b => b == 10 ? "⏎" : b < 32 || b > 126 ? "·" : String.fromCharCode(b)).join("");
-  $("in").innerHTML = T.given.length ? `input ${esc(vis(T.given.slice(Math.max(0, taken - 12), taken)))}<i style="border-left:.16rem solid var(--nowink)"></i><b>${esc(vis(T.given.slice(taken, given)))}</b>` : "";
+  put("in", T.given.length ? `input ${esc(vis(T.given.slice(Math.max(0, taken - 12), taken)))}<i style="border-left:.16rem solid var(--nowink)"></i><b>${esc(vis(T.given.slice(taken, given)))}</b>` : "");
 }
-let outText, per;
+let outText, per, outTo;
 function form(h) {
-  hexOut = h; per = h ? 3 : 1;
+  hexOut = h; per = h ? 3 : 1; outTo = -1;
   outText = T.out.map(b => h ? H(b) + " " : b == 10 ? "\n" : b < 32 || b > 126 ? "·" : String.fromCharCode(b)).join("");
   $("form").textContent = h ? "as text" : "as hex"; $("form").hidden = !T.out.length;
 }
@@ -437,15 +443,15 @@ const vars = [...named].map(([a, t]) => {
 function drawNames() {
   const f = T.first[cur], wrote = new Set();
   for (let i = cur && T.first[cur - 1]; i < f; i++) if (isWrite(i)) wrote.add(T.where[i]);
-  $("names").innerHTML = vars.map(v => {
+  put("names", vars.map(v => {
     let h = "";
     for (let a = v.a; a < v.a + v.len; a++) h += ` <span class="${wrote.has(a) ? "W" : before(uses, a + 65536, f) || T.image[a] ? "" : "nv"}">${H(M[a])}</span>`;
     return `<button data-a="${v.a}"${v.a == cell ? ' class="pick"' : ""}><b>${esc(v.t)}</b><u>${h}</u><span>${v.len == 1 ? M[v.a] + " " + esc(glyph(M[v.a])) : v.len == 2 ? "$" + H(M[v.a] | M[v.a + 1] << 8, 4) : ""}</span></button>`;
-  }).join("");
+  }).join(""));
 }
 
 // ---- memory
-let tds = [];
+let tds = [], styles = [];
 const touched = [];
 for (let p = 0; p < 256; p++) { let w = 0; for (let a = p * 256; a < p * 256 + 256; a++) w += size(uses, a) + size(uses, a + 65536) + size(visits, a); if (w) touched.push([p, w]); }
 function show(p) {
@@ -454,7 +460,7 @@ function show(p) {
   for (const b of $("pages").children) b.setAttribute("aria-pressed", b.value == String(p));
   if (p != "map") {
     $("grid").innerHTML = `<tr><th></th>${[...Array(16)].map((_, k) => `<th scope="col">${H(k, 1)}</th>`).join("")}</tr>` + [...Array(16)].map((_, r) => `<tr><th scope="row">${H(page * 256 + r * 16, 4)}</th>${"<td></td>".repeat(16)}</tr>`).join("");
-    tds = [...$("grid").querySelectorAll("td")];
+    tds = [...$("grid").querySelectorAll("td")]; styles = [];
     tds.forEach((e, k) => e.tabIndex = k ? -1 : 0);
   }
   draw();
@@ -468,15 +474,16 @@ function drawMemory() {
     const t = H(M[a]), cls = (w || T.image[a] ? "" : "nv ") + (v && before(visits, a, cur) ? "x " : "") + (a >= will && a < will + len && cur < n ? "pc " : "") + (a == 256 + T.S[cur] ? "sp " : "") + (done.get(a) || "") + (a == cell ? " pick" : "");
     if (e.firstChild?.data !== t) e.textContent = t;
     if (e.className !== cls) e.className = cls;
-    e.style.cssText = (w ? `--w:${fresh(cur - 1 - T.step[pick(uses, a + 65536, w - 1)]).toFixed(2)};` : "") + (r ? `--r:${fresh(cur - 1 - T.step[pick(uses, a, r - 1)]).toFixed(2)}` : "");
+    const style = (w ? `--w:${fresh(cur - 1 - T.step[pick(uses, a + 65536, w - 1)]).toFixed(2)};` : "") + (r ? `--r:${fresh(cur - 1 - T.step[pick(uses, a, r - 1)]).toFixed(2)}` : "");
+    if (styles[k] !== style) e.style.cssText = styles[k] = style;
   });
   else drawMap();
   const a = cell;
-  if (a < 0) { $("cell").innerHTML = "<span style='color:var(--dim)'>Click a byte to see who changed it; click it again to go there.<br><b class=W>▇</b> written, the fresher the stronger · <b class=R>▂</b> read · pale: never written</span>"; return; }
+  if (a < 0) { put("cell", "<span style='color:var(--dim)'>Click a byte to see who changed it; click it again to go there.<br><b class=W>▇</b> written, the fresher the stronger · <b class=R>▂</b> read · pale: never written</span>"); return; }
   const w = before(uses, a + 65536, f), r = before(uses, a, f), i = pick(uses, a + 65536, w - 1), nm = nameOf(a);
   const who = i >= 0 ? `Last write: step ${N3(T.step[i] + 1)}, <code>${esc(T.head[T.step[i]] & 4 ? "by hand" : T.head[T.step[i]] & 8 ? "interrupt" : dis(T.PC[T.step[i]])[0])}</code> ${lineText(T.PC[T.step[i]]) || "at $" + H(T.PC[T.step[i]], 4)}: <code>${H(M[a] ^ T.xor[i])} → ${H(M[a])}</code>` : T.image[a] ? "Not written so far: the byte is the program's own" : "Never written so far";
-  $("cell").innerHTML = `<code><b>$${H(a, 4)}</b> ${esc(nm)} = <b>${H(M[a])}</b></code> ${M[a]} ${esc(glyph(M[a]))} · written ${N3(w)} of ${N3(size(uses, a + 65536))}, read ${N3(r)} of ${N3(size(uses, a))} times<br>${who}<div>` +
-    [["◂ write", 1, -1], ["write ▸", 1, 1], ["◂ read", 0, -1], ["read ▸", 0, 1]].map(([t, wr, by]) => `<button data-w="${wr}" data-by="${by}">${t}</button>`).join("") + "</div>";
+  put("cell", `<code><b>$${H(a, 4)}</b> ${esc(nm)} = <b>${H(M[a])}</b></code> ${M[a]} ${esc(glyph(M[a]))} · written ${N3(w)} of ${N3(size(uses, a + 65536))}, read ${N3(r)} of ${N3(size(uses, a))} times<br>${who}<div>` +
+    [["◂ write", 1, -1], ["write ▸", 1, 1], ["◂ read", 0, -1], ["read ▸", 0, 1]].map(([t, wr, by]) => `<button data-w="${wr}" data-by="${by}">${t}</button>`).join("") + "</div>");
 }
 const firstOf = new Float64Array(65536 * 3).fill(Infinity);
 const lens = [...Array(256)].map((_, o) => { const f = info.ops[o * 4 + 3]; return "ab".includes(f) ? 1 : "jklm".includes(f) ? 3 : 2; });

@@ -1,10 +1,14 @@
 //! The viewer of a page.
 
+ghost use Rattle.page_facts.specs.Viewer.{IsViewer};
+
 use crate::pieces::{BEFORE_END, BEFORE_RUN, BEFORE_SOURCE, HEAD, TAIL};
 use page_writer::Template;
 
 /// Returns the viewer, between whose parts a page has what it shows.
-pub fn viewer() -> Template<'static> {
+pub fn viewer() -> Template<'static>
+    ensures { IsViewer result }
+{
     Template {
         head: HEAD,
         before_source: BEFORE_SOURCE,
