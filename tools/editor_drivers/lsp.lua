@@ -53,6 +53,16 @@ local meant = ask("textDocument/hover")
 want(meant and meant.contents.value:find(name, 1, true) == 1, "hover on a name")
 local places = ask("textDocument/definition")
 want(places and #places == 1 and places[1].range.start.line == defined - 1, "its definition")
+local function shown(method, more)
+  local got = ask(method, more)
+  return type(got) == "table" and #(got.data or got.signatures or got) or 0
+end
+local colours, hints = shown("textDocument/semanticTokens/full"), shown("textDocument/inlayHint", { range = {
+  start = { line = 0, character = 0 }, ["end"] = { line = #lines, character = 0 } } })
+want(colours > 0 and colours % 5 == 0, "colours")
+want(shown("textDocument/foldingRange") > 0, "folds")
+want(hints > 0 and hints <= #lines, "what stands behind lines")
+want(shown("textDocument/signatureHelp") > 0, "the forms of an operation")
 local changes = ask("textDocument/rename", { newName = other })
 want(changes ~= nil, "another name")
 if changes then vim.lsp.util.apply_workspace_edit(changes, "utf-16") end

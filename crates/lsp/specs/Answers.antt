@@ -1,6 +1,7 @@
 -- What is answered to requests. Source: Language Server Protocol 3.17; JSON-RPC 2.0.
 use Rattle.std.specs.Prelude.{◌≡◌, ◌⊎◌, ℕ, Bool, true, false, if◌then◌else◌, List}
 use Rattle.lsp.specs.Capabilities.{capabilities}
+use Rattle.lsp.specs.Shown.{colours_in, folds_in, hints_in, signatures_in}
 use Rattle.lsp.specs.State.{Opened, State, source_in}
 use Rattle.lsp.specs.declared.phase.Phase.{Phase}
 use Rattle.lsp.specs.declared.phase.Phase.TheVariants.{Fresh, Running, ShutDown}
@@ -9,8 +10,9 @@ use Rattle.lsp_answers.specs.Meanings.{IsMeaning}
 use Rattle.lsp_answers.specs.Names.{definition_at, references_at}
 use Rattle.lsp_answers.specs.Renames.{IsKeptAt, IsRenameAt}
 use Rattle.lsp_answers.specs.Texts.{TextView, name_at, text_of}
+use Rattle.lsp_fixes.specs.Fixes.{AreFixes}
 use Rattle.lsp_requests.specs.Fields.{PlaceView}
-use Rattle.lsp_requests.specs.Requests.{RequestView, initialize, shutdown, hover, definition, references, rename, symbols, completion, invalid, unknown}
+use Rattle.lsp_requests.specs.Requests.{RequestView, initialize, shutdown, hover, definition, references, rename, symbols, completion, signatures, colours, folds, hints, fixes, invalid, unknown}
 use Rattle.lsp_values.specs.Replies.{failure_data, result_data}
 use Rattle.lsp_values.specs.declared.replies.Failure.{Failure}
 use Rattle.lsp_values.specs.declared.replies.Failure.TheVariants as failures
@@ -51,6 +53,15 @@ IsRunning bus_map ds id (symbols uri) v
     = v ≡ result_data id (symbols_of (text_on bus_map ds uri))
 IsRunning bus_map ds id (completion uri) v
     = v ≡ result_data id (completion_of (text_on bus_map ds uri))
+IsRunning bus_map ds id (signatures place) v = v ≡ result_data id
+    (signatures_in (text_on bus_map ds place.uri) place.line place.character)
+IsRunning bus_map ds id (colours uri) v
+    = v ≡ result_data id (colours_in (text_on bus_map ds uri))
+IsRunning bus_map ds id (folds uri) v = v ≡ result_data id (folds_in (text_on bus_map ds uri))
+IsRunning bus_map ds id (hints uri from to) v
+    = v ≡ result_data id (hints_in (text_on bus_map ds uri) from to)
+IsRunning bus_map ds id (fixes uri from to) v
+    = IsResult id (AreFixes bus_map uri (text_on bus_map ds uri) (from, to)) v
 IsRunning bus_map ds id shutdown v = v ≡ result_data id null
 IsRunning bus_map ds id invalid v = IsFailure id failures.WrongParameters v
 IsRunning bus_map ds id unknown v = IsFailure id failures.UnknownMethod v

@@ -1,20 +1,45 @@
 -- What the server can do. Source: Language Server Protocol 3.17, "Initialize Request".
-use Rattle.std.specs.Prelude.{true, List, [], ◌∷◌, codes}
-use Rattle.lsp_values.specs.Values.{count, object_of, word}
+use Rattle.std.specs.Prelude.{true, List, [], ◌∷◌, codes, map}
+use Rattle.lsp_outline.specs.Colours.{modifiers, types}
+use Rattle.lsp_values.specs.Values.{count, list_of, object_of, word}
 use Rattle.serde_json.specs.Data.{Data, boolean}
 
 abbrev pub yes : Data
 yes = boolean true
 
 -- Documents are opened and closed, and a change has the whole text, which is the number 1.
-abbrev pub sync : Data
+unfoldable pub sync : Data
 sync = object_of ((codes "change", count 1) ∷ (codes "openClose", yes) ∷ [])
 
-abbrev pub served : Data
-served = object_of ((codes "completionProvider", object_of [])
-    ∷ (codes "definitionProvider", yes) ∷ (codes "documentSymbolProvider", yes)
-    ∷ (codes "hoverProvider", yes) ∷ (codes "positionEncoding", word (codes "utf-16"))
+-- The colours of a whole text, by the legend.
+unfoldable pub colours : Data
+colours = object_of ((codes "full", yes) ∷ (
+  codes "legend",
+  object_of ((codes "tokenModifiers", list_of (map word modifiers))
+      ∷ (codes "tokenTypes", list_of (map word types)) ∷ []),
+) ∷ [])
+
+-- A blank and a comma ask for the forms of an operation.
+unfoldable pub signatures : Data
+signatures = object_of ((
+  codes "triggerCharacters",
+  list_of (word (codes " ") ∷ word (codes ",") ∷ []),
+) ∷ [])
+
+-- Changes mend what is marked.
+unfoldable pub fixes : Data
+fixes = object_of ((
+  codes "codeActionKinds",
+  list_of (word (codes "quickfix") ∷ []),
+) ∷ [])
+
+unfoldable pub served : Data
+served = object_of ((codes "codeActionProvider", fixes)
+    ∷ (codes "completionProvider", object_of []) ∷ (codes "definitionProvider", yes) ∷ (codes "documentSymbolProvider", yes)
+    ∷ (codes "foldingRangeProvider", yes) ∷ (codes "hoverProvider", yes)
+    ∷ (codes "inlayHintProvider", yes) ∷ (codes "positionEncoding", word (codes "utf-16"))
     ∷ (codes "referencesProvider", yes) ∷ (codes "renameProvider", yes)
+    ∷ (codes "semanticTokensProvider", colours) ∷ (codes "signatureHelpProvider", signatures)
     ∷ (codes "textDocumentSync", sync) ∷ [])
 
 abbrev pub capabilities : Data

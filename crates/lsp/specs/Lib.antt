@@ -2,5 +2,6 @@ pub mod Answers
 pub mod Capabilities
 pub mod CommandLine
 pub mod Messages
+pub mod Shown
 pub mod State
 pub mod Writing

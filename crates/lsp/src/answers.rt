@@ -1,9 +1,8 @@
 //! What is answered to requests.
 
-ghost use Rattle.std.specs.Prelude.{◌≡◌, IfOk};
-ghost use Rattle.lsp.specs.Answers.{IsFailure, IsFresh, IsRenamed, IsReplyIn, IsRunning, text_on};
-ghost use Rattle.lsp.specs.State.{documents_view, source_in};
-ghost use Rattle.lsp_answers.specs.Texts.{text_view};
+ghost use Rattle.std.specs.Prelude.{IfOk};
+ghost use Rattle.lsp.specs.Answers.{IsFailure, IsFresh, IsRenamed, IsReplyIn, IsRunning};
+ghost use Rattle.lsp.specs.State.{documents_view};
 ghost use Rattle.lsp_requests.specs.Requests as asked;
 ghost use Rattle.lsp_requests.specs.Views.{place_view, request_view};
 ghost use Rattle.serde_json.specs.View.{view};
@@ -11,35 +10,14 @@ ghost use Rattle.serde_json.specs.View.{view};
 use crate::capabilities::capabilities;
 use crate::documents::Documents;
 use crate::phase::{Phase, is_initialize};
+use crate::shown::{colours_reply, fixes_reply, folds_reply, hints_reply, signatures_reply};
+use crate::texts::text_on;
 use bus::MapSpec;
-use lsp_answers::{Text, completion, definition, hover, references, rename, symbols};
+use lsp_answers::{completion, definition, hover, references, rename, symbols};
 use lsp_requests::{Place, Request};
 use lsp_values::{Failure, failure_reply, result_reply};
 use serde_json::Value;
 use std::alloc::{AllocError, Global};
-
-/// Returns the source of a document; an empty one where it is not open.
-fn source_in<'a>(documents: &'a Documents, uri: &str) -> &'a [u8]
-    ensures { result.now ≡ source_in (documents_view documents.now) uri.now }
-{
-    match documents.text_of(uri) {
-        Some(text) => text.as_bytes(),
-        None => &[],
-    }
-}
-
-/// Returns the text of a document.
-fn text_on<'a>(
-    alloc: Global,
-    map: &MapSpec,
-    documents: &'a Documents,
-    uri: &str,
-) -> Result<Text<'a>, AllocError>
-    ensures { IfOk result (λ text. text_view text
-        ≡ text_on map.now (documents_view documents.now) uri.now) }
-{
-    Text::read(alloc, map.profile(), source_in(documents, uri))
-}
 
 /// Answers a request for another name.
 fn rename_reply(
@@ -219,6 +197,15 @@ fn running_reply(
         Request::Rename { place, name } => rename_reply(alloc, map, documents, id, place, name),
         Request::Symbols { uri } => symbols_reply(alloc, map, documents, id, uri),
         Request::Completion { uri } => completion_reply(alloc, map, documents, id, uri),
+        Request::Signatures(place) => signatures_reply(alloc, map, documents, id, place),
+        Request::Colours { uri } => colours_reply(alloc, map, documents, id, uri),
+        Request::Folds { uri } => folds_reply(alloc, map, documents, id, uri),
+        Request::Hints { uri, from, to } => {
+            hints_reply(alloc, map, documents, id, uri, (from, to))
+        }
+        Request::Fixes { uri, from, to } => {
+            fixes_reply(alloc, map, documents, id, uri, (from, to))
+        }
         Request::Shutdown => result_reply(alloc, id, Value::Null),
         Request::Invalid => failed(alloc, id, Failure::WrongParameters),
         Request::Unknown => failed(alloc, id, Failure::UnknownMethod),

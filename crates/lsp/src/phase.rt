@@ -54,6 +54,8 @@ pub fn is_initialize(request: Request<'_>) -> bool
         Request::Close { .. } | Request::Hover(_) | Request::Definition(_) => false,
         Request::References { .. } | Request::Rename { .. } => false,
         Request::Symbols { .. } | Request::Completion { .. } => false,
+        Request::Signatures(_) | Request::Colours { .. } => false,
+        Request::Folds { .. } | Request::Hints { .. } | Request::Fixes { .. } => false,
         Request::Invalid | Request::Unknown | Request::NoMethod => false,
     }
 }
@@ -68,6 +70,8 @@ fn is_shutdown(request: Request<'_>) -> bool
         Request::Change { .. } | Request::Close { .. } | Request::Hover(_) => false,
         Request::Definition(_) | Request::References { .. } | Request::Rename { .. } => false,
         Request::Symbols { .. } | Request::Completion { .. } => false,
+        Request::Signatures(_) | Request::Colours { .. } => false,
+        Request::Folds { .. } | Request::Hints { .. } | Request::Fixes { .. } => false,
         Request::Invalid | Request::Unknown | Request::NoMethod => false,
     }
 }
@@ -82,6 +86,8 @@ pub fn is_exit(request: Request<'_>) -> bool
         Request::Change { .. } | Request::Close { .. } | Request::Hover(_) => false,
         Request::Definition(_) | Request::References { .. } | Request::Rename { .. } => false,
         Request::Symbols { .. } | Request::Completion { .. } => false,
+        Request::Signatures(_) | Request::Colours { .. } => false,
+        Request::Folds { .. } | Request::Hints { .. } | Request::Fixes { .. } => false,
         Request::Invalid | Request::Unknown | Request::NoMethod => false,
     }
 }

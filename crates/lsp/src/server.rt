@@ -7,7 +7,6 @@ ghost use Rattle.lsp.specs.Messages.{is_answer, published, state_after};
 ghost use Rattle.lsp.specs.State.{documents_view, server_view, start};
 ghost use Rattle.lsp_answers.specs.Marks.{AreMarks};
 ghost use Rattle.lsp_answers.specs.Texts.{text_of, text_view};
-ghost use Rattle.lsp_requests.specs.Requests.{request_of};
 ghost use Rattle.lsp_requests.specs.Views.{request_view};
 ghost use Rattle.lsp_values.specs.Values.{list_of, marks_data};
 ghost use Rattle.serde_json.specs.Data.{Data};
@@ -105,6 +104,8 @@ fn note(alloc: Global, documents: &mut Documents, request: Request<'_>) -> Resul
         Request::Hover(_) | Request::Definition(_) => Ok(()),
         Request::References { .. } | Request::Rename { .. } => Ok(()),
         Request::Symbols { .. } | Request::Completion { .. } => Ok(()),
+        Request::Signatures(_) | Request::Colours { .. } => Ok(()),
+        Request::Folds { .. } | Request::Hints { .. } | Request::Fixes { .. } => Ok(()),
         Request::Invalid | Request::Unknown | Request::NoMethod => Ok(()),
     }
 }
@@ -122,6 +123,9 @@ fn told(alloc: Global, map: &MapSpec, request: Request<'_>) -> Result<Vec<Value>
         Request::Hover(_) | Request::Definition(_) => Ok(Vec::new(alloc)),
         Request::References { .. } | Request::Rename { .. } => Ok(Vec::new(alloc)),
         Request::Symbols { .. } | Request::Completion { .. } => Ok(Vec::new(alloc)),
+        Request::Signatures(_) | Request::Colours { .. } => Ok(Vec::new(alloc)),
+        Request::Folds { .. } | Request::Hints { .. } => Ok(Vec::new(alloc)),
+        Request::Fixes { .. } => Ok(Vec::new(alloc)),
         Request::Invalid | Request::Unknown | Request::NoMethod => Ok(Vec::new(alloc)),
     }
 }

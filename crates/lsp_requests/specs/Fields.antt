@@ -40,6 +40,15 @@ place_of message = place_by (uri_of message)
     (number_at (codes "/params/position/line") message)
     (number_at (codes "/params/position/character") message)
 
+-- The lines in which a range begins and ends.
+abbrev pub lines_by : Option ℕ → Option ℕ → Option (ℕ × ℕ)
+lines_by (Some from) (Some to) = Some (from, to)
+lines_by from to = None
+
+abbrev pub lines_of : Data → Option (ℕ × ℕ)
+lines_of message = lines_by (number_at (codes "/params/range/start/line") message)
+    (number_at (codes "/params/range/end/line") message)
+
 -- Something stands at a path.
 unfoldable pub has : List ℕ → Data → Bool
 has path message = is_some (pointer path message)

@@ -1,7 +1,7 @@
 -- What a message asks for. Source: Language Server Protocol 3.17.
 use Rattle.std.specs.Prelude.{ℕ, Bool, bytes_eq, if◌then◌else◌, List, codes, Option, Some, None}
 use Rattle.serde_json.specs.Data.{Data}
-use Rattle.lsp_requests.specs.Fields.{PlaceView, changed_text, flag_at, place_of, text_at, uri_of}
+use Rattle.lsp_requests.specs.Fields.{PlaceView, changed_text, flag_at, lines_of, place_of, text_at, uri_of}
 
 pub data RequestView : Type 0 where
   initialize : RequestView
@@ -16,6 +16,11 @@ pub data RequestView : Type 0 where
   rename : PlaceView → List ℕ → RequestView
   symbols : List ℕ → RequestView
   completion : List ℕ → RequestView
+  signatures : PlaceView → RequestView
+  colours : List ℕ → RequestView
+  folds : List ℕ → RequestView
+  hints : List ℕ → ℕ → ℕ → RequestView
+  fixes : List ℕ → ℕ → ℕ → RequestView
   invalid : RequestView
   unknown : RequestView
   no_method : RequestView
@@ -72,7 +77,40 @@ abbrev pub rename_of : Data → RequestView
 rename_of message = of_place (λ place. rename_at place
     (text_at (codes "/params/newName") message)) (place_of message)
 
+abbrev pub signatures_of : Data → RequestView
+signatures_of message = of_place signatures (place_of message)
+
+abbrev pub colours_of : Data → RequestView
+colours_of message = of_document colours (uri_of message)
+
+abbrev pub folds_of : Data → RequestView
+folds_of message = of_document folds (uri_of message)
+
+abbrev pub hints_within : List ℕ → Option (ℕ × ℕ) → RequestView
+hints_within uri None = invalid
+hints_within uri (Some lines) = hints uri lines.0 lines.1
+
+abbrev pub hints_of : Data → RequestView
+hints_of message = of_document (λ uri. hints_within uri (lines_of message)) (uri_of message)
+
+abbrev pub fixes_within : List ℕ → Option (ℕ × ℕ) → RequestView
+fixes_within uri None = invalid
+fixes_within uri (Some lines) = fixes uri lines.0 lines.1
+
+abbrev pub fixes_of : Data → RequestView
+fixes_of message = of_document (λ uri. fixes_within uri (lines_of message)) (uri_of message)
+
 -- ---- by the method
+
+-- What is shown of a document.
+unfoldable pub by_method_of_shown : List ℕ → Data → RequestView
+by_method_of_shown method message =
+    if bytes_eq method (codes "textDocument/signatureHelp") then signatures_of message
+    else if bytes_eq method (codes "textDocument/semanticTokens/full") then colours_of message
+    else if bytes_eq method (codes "textDocument/foldingRange") then folds_of message
+    else if bytes_eq method (codes "textDocument/inlayHint") then hints_of message
+    else if bytes_eq method (codes "textDocument/codeAction") then fixes_of message
+    else unknown
 
 abbrev pub by_method_of_text : List ℕ → Data → RequestView
 by_method_of_text method message =
@@ -85,7 +123,7 @@ by_method_of_text method message =
     else if bytes_eq method (codes "textDocument/rename") then rename_of message
     else if bytes_eq method (codes "textDocument/documentSymbol") then symbols_of message
     else if bytes_eq method (codes "textDocument/completion") then completion_of message
-    else unknown
+    else by_method_of_shown method message
 
 abbrev pub by_method : List ℕ → Data → RequestView
 by_method method message =

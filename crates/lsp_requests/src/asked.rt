@@ -36,6 +36,16 @@ pub enum Request<'a> {
     Symbols { uri: &'a str },
     /// `textDocument/completion`
     Completion { uri: &'a str },
+    /// `textDocument/signatureHelp`
+    Signatures(Place<'a>),
+    /// `textDocument/semanticTokens/full`
+    Colours { uri: &'a str },
+    /// `textDocument/foldingRange`
+    Folds { uri: &'a str },
+    /// `textDocument/inlayHint`, and the first and the last line that are wanted, counted from 0.
+    Hints { uri: &'a str, from: u64, to: u64 },
+    /// `textDocument/codeAction`, and the first and the last line that are meant, counted from 0.
+    Fixes { uri: &'a str, from: u64, to: u64 },
     /// A method that is served, without what it needs.
     Invalid,
     /// A method that is not served.

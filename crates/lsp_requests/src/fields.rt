@@ -3,7 +3,8 @@
 ghost use Rattle.std.specs.Prelude.{◌≡◌};
 ghost use Rattle.std.specs.Option.{option_map};
 ghost use Rattle.serde_json.specs.View.{view};
-ghost use Rattle.lsp_requests.specs.Fields.{changed_text, flag_at, has, number_at, place_of, text_at, uri_of};
+ghost use Rattle.lsp_requests.specs.Fields.{changed_text, flag_at, has, lines_of, number_at, place_of};
+ghost use Rattle.lsp_requests.specs.Fields.{text_at, uri_of};
 ghost use Rattle.lsp_requests.specs.Views.{place_view};
 
 use crate::asked::Place;
@@ -53,6 +54,15 @@ pub fn place_of(message: &Value) -> Option<Place<'_>>
         line,
         character,
     })
+}
+
+/// Returns the numbers of the lines in which the range of a message begins and ends, if it has one.
+pub fn lines_of(message: &Value) -> Option<(u64, u64)>
+    ensures { result ≡ lines_of (view message.now) }
+{
+    let from = number_at(message, "/params/range/start/line")?;
+    let to = number_at(message, "/params/range/end/line")?;
+    Some((from, to))
 }
 
 /// Returns whether something stands at a path of a message.

@@ -3,13 +3,15 @@
 ghost use Rattle.std.specs.Prelude.{◌≡◌};
 ghost use Rattle.std.specs.Option.{option_map};
 ghost use Rattle.serde_json.specs.View.{view};
-ghost use Rattle.lsp_requests.specs.Requests.{by_method, by_method_of_text, change_of, close_of};
-ghost use Rattle.lsp_requests.specs.Requests.{completion_of, definition_of, hover_of, open_of};
-ghost use Rattle.lsp_requests.specs.Requests.{references_of, rename_at, rename_of, request_of, symbols_of};
+ghost use Rattle.lsp_requests.specs.Requests.{by_method, by_method_of_shown, by_method_of_text};
+ghost use Rattle.lsp_requests.specs.Requests.{change_of, close_of, colours_of, completion_of};
+ghost use Rattle.lsp_requests.specs.Requests.{definition_of, fixes_of, fixes_within, folds_of, hints_of};
+ghost use Rattle.lsp_requests.specs.Requests.{hints_within, hover_of, open_of, references_of, rename_at};
+ghost use Rattle.lsp_requests.specs.Requests.{rename_of, request_of, signatures_of, symbols_of};
 ghost use Rattle.lsp_requests.specs.Views.{place_view, request_view};
 
 use crate::asked::{Place, Request};
-use crate::fields::{changed_text, flag_at, place_of, text_at, uri_of};
+use crate::fields::{changed_text, flag_at, lines_of, place_of, text_at, uri_of};
 use serde_json::Value;
 
 /// Reads `textDocument/didOpen`.
@@ -119,6 +121,91 @@ fn rename_of(message: &Value) -> Request<'_>
     }
 }
 
+/// Reads `textDocument/signatureHelp`.
+fn signatures_of(message: &Value) -> Request<'_>
+    ensures { request_view result ≡ signatures_of (view message.now) }
+{
+    match place_of(message) {
+        Some(place) => Request::Signatures(place),
+        None => Request::Invalid,
+    }
+}
+
+/// Reads `textDocument/semanticTokens/full`.
+fn colours_of(message: &Value) -> Request<'_>
+    ensures { request_view result ≡ colours_of (view message.now) }
+{
+    match uri_of(message) {
+        Some(uri) => Request::Colours { uri },
+        None => Request::Invalid,
+    }
+}
+
+/// Reads `textDocument/foldingRange`.
+fn folds_of(message: &Value) -> Request<'_>
+    ensures { request_view result ≡ folds_of (view message.now) }
+{
+    match uri_of(message) {
+        Some(uri) => Request::Folds { uri },
+        None => Request::Invalid,
+    }
+}
+
+/// Returns the request for hints between two lines of a document, if the lines are given.
+fn hints_within(uri: &str, lines: Option<(u64, u64)>) -> Request<'_>
+    ensures { request_view result ≡ hints_within uri.now lines }
+{
+    match lines {
+        Some((from, to)) => Request::Hints { uri, from, to },
+        None => Request::Invalid,
+    }
+}
+
+/// Reads `textDocument/inlayHint`.
+fn hints_of(message: &Value) -> Request<'_>
+    ensures { request_view result ≡ hints_of (view message.now) }
+{
+    match uri_of(message) {
+        Some(uri) => hints_within(uri, lines_of(message)),
+        None => Request::Invalid,
+    }
+}
+
+/// Returns the request for changes between two lines of a document, if the lines are given.
+fn fixes_within(uri: &str, lines: Option<(u64, u64)>) -> Request<'_>
+    ensures { request_view result ≡ fixes_within uri.now lines }
+{
+    match lines {
+        Some((from, to)) => Request::Fixes { uri, from, to },
+        None => Request::Invalid,
+    }
+}
+
+/// Reads `textDocument/codeAction`.
+fn fixes_of(message: &Value) -> Request<'_>
+    ensures { request_view result ≡ fixes_of (view message.now) }
+{
+    match uri_of(message) {
+        Some(uri) => fixes_within(uri, lines_of(message)),
+        None => Request::Invalid,
+    }
+}
+
+/// Reads a message that is about what is shown of a document.
+#[tactic(auto, unfolding(crate::specs::Requests::by_method_of_shown))]
+fn by_method_of_shown<'a>(method: &str, message: &'a Value) -> Request<'a>
+    ensures { request_view result ≡ by_method_of_shown method.now (view message.now) }
+{
+    match method {
+        "textDocument/signatureHelp" => signatures_of(message),
+        "textDocument/semanticTokens/full" => colours_of(message),
+        "textDocument/foldingRange" => folds_of(message),
+        "textDocument/inlayHint" => hints_of(message),
+        "textDocument/codeAction" => fixes_of(message),
+        _ => Request::Unknown,
+    }
+}
+
 /// Reads a message that is about a document.
 fn by_method_of_text<'a>(method: &str, message: &'a Value) -> Request<'a>
     ensures { request_view result ≡ by_method_of_text method.now (view message.now) }
@@ -133,7 +220,7 @@ fn by_method_of_text<'a>(method: &str, message: &'a Value) -> Request<'a>
         "textDocument/rename" => rename_of(message),
         "textDocument/documentSymbol" => symbols_of(message),
         "textDocument/completion" => completion_of(message),
-        _ => Request::Unknown,
+        method => by_method_of_shown(method, message),
     }
 }
 

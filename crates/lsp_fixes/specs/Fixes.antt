@@ -1,0 +1,47 @@
+-- The changes that an editor offers for faults. Source: Language Server Protocol 3.17, "Code Action
+-- Request"; for which faults, mos65.
+use Rattle.std.specs.Prelude.{◌≡◌, ℕ, ◌-◌, ◌&&◌, nat_le, max, Bool, if◌then◌else◌, List, [], ◌∷◌, ◌++◌, codes, Option, Some, None}
+use Rattle.std.specs.List.{flat_map}
+use Rattle.std.specs.Str.Lossy.{utf8_lossy}
+use Rattle.lsp_answers.specs.Texts.{TextView, range_in}
+use Rattle.lsp_fixes.specs.RightWords.{right_word}
+use Rattle.lsp_values.specs.Values.{changes_data, edit_data, list_of, object_of, word}
+use Rattle.model.specs.AllFaults.{faults_of}
+use Rattle.model.specs.State.{Map}
+use Rattle.serde_json.specs.Data.{Data}
+use Rattle.source_diagnostics.specs.Diagnostics.{AreDiagnostics}
+use Rattle.source_diagnostics.specs.declared.kinds.Diagnostic.{Diagnostic}
+
+abbrev pub action_data : List ℕ → Data → Data
+action_data title edit = object_of ((codes "edit", edit) ∷ (codes "kind", word (codes "quickfix"))
+    ∷ (codes "title", word title) ∷ [])
+
+abbrev pub title_of : List ℕ → List ℕ
+title_of right = codes "write " ++ right
+
+-- A word in place of the bytes that are meant, which are those that are marked.
+abbrev pub fix_of : List ℕ → TextView → Diagnostic → List ℕ → Data
+fix_of uri t d right = action_data (utf8_lossy (title_of right)) (changes_data uri
+    (list_of (edit_data (utf8_lossy right) (range_in t (max d.line 1) d.note.start d.note.width)
+    ∷ [])))
+
+abbrev pub fixes_by : List ℕ → TextView → Diagnostic → Option (List ℕ) → List Data
+fixes_by uri t d None = []
+fixes_by uri t d (Some right) = fix_of uri t d right ∷ []
+
+-- The change for a fault or a warning, if its words name the right word.
+abbrev pub fixes_of : List ℕ → TextView → Diagnostic → List Data
+fixes_of uri t d = fixes_by uri t d (right_word t.profile t.uses d.note.words.items)
+
+-- Its line is between the first and the last of those that are asked for, counted from 0.
+abbrev pub is_between : ℕ × ℕ → Diagnostic → Bool
+is_between between d = nat_le between.0 (d.line - 1) && nat_le (d.line - 1) between.1
+
+abbrev pub fixes_between : List ℕ → TextView → ℕ × ℕ → Diagnostic → List Data
+fixes_between uri t between d = if is_between between d then fixes_of uri t d else []
+
+-- The changes for what `check` tells of a source between two lines, in its order.
+abbrev pub AreFixes : Map → List ℕ → TextView → ℕ × ℕ → Data → Type 0
+AreFixes bus_map uri t between v = (ds : List Diagnostic)
+    × AreDiagnostics bus_map t.source (faults_of bus_map t.source) ds
+    × (v ≡ list_of (flat_map (fixes_between uri t between) ds))

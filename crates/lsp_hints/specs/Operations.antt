@@ -1,0 +1,72 @@
+-- The operation that is written in a line, which need not be whole. Source: mos65.
+use Rattle.std.specs.Prelude.{ℕ, ◌+◌, ◌==◌, ◌&&◌, not, nat_le, Bool, false, if◌then◌else◌, List, [], ◌∷◌, codes, drop, take, Option, Some, None}
+use Rattle.std.specs.List.{prefix_len}
+use Rattle.std.specs.Str.{str_eq_ignore_ascii_case}
+use Rattle.lsp_hints.specs.declared.operation.Operation.{Operation}
+use Rattle.lsp_hints.specs.declared.operation.Operation.TheVariants.{Instruction, Bytes, Words, WordsHighFirst, Reserve, Finish, Origin, Definition}
+use Rattle.model.specs.Mnemonics.{mnemonic_named}
+use Rattle.model.specs.Token.{is_blank, is_word_byte}
+use Rattle.model.specs.declared.instruction.Mnemonic.{Mnemonic}
+use Rattle.model.specs.declared.instruction.Profile.{Profile}
+use Rattle.source_notes.specs.Lines.{without_blanks}
+
+abbrev pub begins_with : ℕ → List ℕ → Bool
+begins_with byte [] = false
+begins_with byte (b ∷ bytes) = b == byte
+
+-- ---- where the operation starts
+
+abbrev pub blanks_after : List ℕ → ℕ → ℕ
+blanks_after line place = place + prefix_len is_blank (drop place line)
+
+abbrev pub word_after : List ℕ → ℕ → ℕ
+word_after line place = place + prefix_len is_word_byte (drop place line)
+
+abbrev pub colon_of : List ℕ → ℕ
+colon_of line = blanks_after line (word_after line (blanks_after line 0))
+
+-- Behind the `:` of a label; 0 without one.
+abbrev pub label_end : List ℕ → ℕ
+label_end line
+    = if begins_with 58 (drop (colon_of line) line) then colon_of line + 1 else 0
+
+abbrev pub start_of : List ℕ → ℕ
+start_of line = blanks_after line (label_end line)
+
+-- The word of an operation: letters, digits and `_`, also behind a `.`, or a `*`.
+abbrev pub word_size : List ℕ → ℕ
+word_size bytes = if begins_with 42 bytes then 1
+    else if begins_with 46 bytes then word_after bytes 1 else word_after bytes 0
+
+-- ---- which it is
+
+abbrev pub directive_of : List ℕ → Option Operation
+directive_of name =
+    if str_eq_ignore_ascii_case name (codes ".BYTE") then Some Bytes
+    else if str_eq_ignore_ascii_case name (codes ".WORD") then Some Words
+    else if str_eq_ignore_ascii_case name (codes ".DBYTE") then Some WordsHighFirst
+    else if str_eq_ignore_ascii_case name (codes ".RES") then Some Reserve
+    else if str_eq_ignore_ascii_case name (codes ".END") then Some Finish
+    else None
+
+abbrev pub operation_by : Option Mnemonic → List ℕ → Option Operation
+operation_by (Some m) word = Some (Instruction m)
+operation_by None word = directive_of word
+
+-- Where `=` stands behind a word, a name is defined, or the address is set.
+abbrev pub operation_of : Profile → List ℕ → List ℕ → Option Operation
+operation_of profile word behind = if begins_with 61 (without_blanks behind)
+    then (if begins_with 42 word then Some Origin else Some Definition)
+    else operation_by (mnemonic_named profile word) word
+
+-- Before the first `;`.
+abbrev pub code_end : List ℕ → ℕ
+code_end line = prefix_len (λ b. not (b == 59)) line
+
+-- The operation of a line where a column is behind its word and before any `;`.
+abbrev pub operation_at : Profile → List ℕ → ℕ → Option Operation
+operation_at profile line column =
+    let rest = drop (start_of line) line in
+    let size = word_size rest in
+    if nat_le (start_of line + size) column && nat_le column (code_end line)
+    then operation_of profile (take size rest) (drop size rest) else None

@@ -1,0 +1,172 @@
+//! The operation that is written in a line.
+
+ghost use Rattle.std.specs.Prelude.{◌≡◌, ◌≤◌, length};
+ghost use Rattle.std.specs.Str.{str_eq_ignore_ascii_case};
+ghost use Rattle.lsp_hints.specs.Operations.{begins_with, blanks_after, code_end, colon_of};
+ghost use Rattle.lsp_hints.specs.Operations.{directive_of, word_after};
+ghost use Rattle.lsp_hints.specs.Operations.{label_end, operation_at, operation_of, start_of};
+ghost use Rattle.lsp_hints.specs.Operations.{word_size};
+
+use model::{Mnemonic, Profile};
+use optable::mnemonic_in;
+use source_notes::{after, blank_run, word_run};
+
+/// An operation.
+#[derive(Clone, Copy, Debug)]
+pub enum Operation {
+    /// An instruction.
+    Instruction(Mnemonic),
+    /// `.BYTE`
+    Bytes,
+    /// `.WORD`
+    Words,
+    /// `.DBYTE`
+    WordsHighFirst,
+    /// `.RES`
+    Reserve,
+    /// `.END`
+    Finish,
+    /// `*=`
+    Origin,
+    /// `name =`
+    Definition,
+}
+
+/// Returns whether some bytes begin with this one.
+fn begins_with(byte: u8, bytes: &[u8]) -> bool
+    ensures { result ≡ begins_with byte bytes.now }
+{
+    match bytes {
+        [first, ..] => *first == byte,
+        [] => false,
+    }
+}
+
+/// Returns where the blanks behind a place of a line end.
+fn blanks_after(line: &[u8], place: usize) -> usize
+    requires { place ≤ length line.now }
+    ensures end { result ≡ blanks_after line.now place }
+    ensures within { result ≤ length line.now }
+{
+    place + blank_run(after(line, place))
+}
+
+/// Returns where the word behind a place of a line ends.
+fn word_after(line: &[u8], place: usize) -> usize
+    requires { place ≤ length line.now }
+    ensures end { result ≡ word_after line.now place }
+    ensures within { result ≤ length line.now }
+{
+    place + word_run(after(line, place))
+}
+
+/// Returns where the word that a line begins with and the blanks behind it end.
+fn colon_of(line: &[u8]) -> usize
+    ensures place { result ≡ colon_of line.now }
+    ensures within { result ≤ length line.now }
+{
+    blanks_after(line, word_after(line, blanks_after(line, 0)))
+}
+
+/// Returns how many bytes of a line its label has with what stands before it and its `:`; 0 without
+/// a label.
+fn label_end(line: &[u8]) -> usize
+    ensures end { result ≡ label_end line.now }
+    ensures within { result ≤ length line.now }
+{
+    let colon = colon_of(line);
+    if begins_with(b':', after(line, colon)) {
+        colon + 1
+    } else {
+        0
+    }
+}
+
+/// Returns where the operation of a line starts.
+fn start_of(line: &[u8]) -> usize
+    ensures start { result ≡ start_of line.now }
+    ensures within { result ≤ length line.now }
+{
+    blanks_after(line, label_end(line))
+}
+
+/// Returns how many bytes the word of an operation has: a `.` or a `*` belongs to it.
+fn word_size(bytes: &[u8]) -> usize
+    ensures size { result ≡ word_size bytes.now }
+    ensures within { result ≤ length bytes.now }
+{
+    if begins_with(b'*', bytes) {
+        1
+    } else if begins_with(b'.', bytes) {
+        word_after(bytes, 1)
+    } else {
+        word_after(bytes, 0)
+    }
+}
+
+/// Returns whether a text is this one, in either letter case.
+fn is_written(text: &[u8], name: &[u8]) -> bool
+    ensures { result ≡ str_eq_ignore_ascii_case text.now name.now }
+{
+    text.eq_ignore_ascii_case(name)
+}
+
+/// Returns the directive of a name, if there is one.
+fn directive_of(name: &[u8]) -> Option<Operation>
+    ensures { result ≡ directive_of name.now }
+{
+    if is_written(name, b".BYTE") {
+        return Some(Operation::Bytes);
+    }
+    if is_written(name, b".WORD") {
+        return Some(Operation::Words);
+    }
+    if is_written(name, b".DBYTE") {
+        return Some(Operation::WordsHighFirst);
+    }
+    if is_written(name, b".RES") {
+        return Some(Operation::Reserve);
+    }
+    if is_written(name, b".END") {
+        return Some(Operation::Finish);
+    }
+    None
+}
+
+/// Returns the operation of a word and the bytes behind it, if there is one.
+fn operation_of(profile: Profile, word: &[u8], behind: &[u8]) -> Option<Operation>
+    ensures { result ≡ operation_of profile word.now behind.now }
+{
+    if begins_with(b'=', after(behind, blank_run(behind))) {
+        return if begins_with(b'*', word) {
+            Some(Operation::Origin)
+        } else {
+            Some(Operation::Definition)
+        };
+    }
+    match mnemonic_in(profile, word) {
+        Some(mnemonic) => Some(Operation::Instruction(mnemonic)),
+        None => directive_of(word),
+    }
+}
+
+/// Returns how many bytes of a line stand before its first `;`.
+fn code_end(line: &[u8]) -> usize
+    ensures { result ≡ code_end line.now }
+{
+    line.iter().take_while(|byte| **byte != b';').count()
+}
+
+/// Returns the operation of a line, if a column stands behind its word and before any `;`.
+pub fn operation_at(profile: Profile, line: &[u8], column: usize) -> Option<Operation>
+    ensures { result ≡ operation_at profile line.now column }
+{
+    let start = start_of(line);
+    let rest = after(line, start);
+    let size = word_size(rest);
+    if column >= start + size && column <= code_end(line) {
+        operation_of(profile, &rest[..size], &rest[size..])
+    } else {
+        None
+    }
+}

@@ -1,0 +1,4 @@
+pub mod EndSteps
+pub mod Gathered
+pub mod PaintSteps
+pub mod FoldSteps

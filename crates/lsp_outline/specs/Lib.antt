@@ -1,0 +1,3 @@
+pub mod Colours
+pub mod Folds
+pub mod Painted

@@ -1,0 +1,33 @@
+//! The values of answers.
+
+ghost use Rattle.std.specs.Prelude.{◌≡◌, IfOk};
+ghost use Rattle.lsp_outline.specs.Folds.{comment_data, fold_data};
+ghost use Rattle.lsp_outline.specs.Painted.{data_of};
+ghost use Rattle.serde_json.specs.View.{view};
+
+use crate::folds::Fold;
+use serde_json::{Value, json};
+use std::alloc::{AllocError, Global};
+
+/// Returns the value of some colours.
+pub fn data(alloc: Global, counts: Value) -> Result<Value, AllocError>
+    ensures { IfOk result (λ v. view v ≡ data_of (view counts)) }
+{
+    json!(in alloc; {"data": counts})
+}
+
+/// Returns the value of a fold.
+pub fn fold(alloc: Global, one: &Fold) -> Result<Value, AllocError>
+    ensures { IfOk result (λ v. view v ≡ fold_data one.now) }
+{
+    let (first, last) = (one.first, one.last);
+    json!(in alloc; {"endLine": last, "startLine": first})
+}
+
+/// Returns the value of a fold of comments.
+pub fn comment_fold(alloc: Global, one: &Fold) -> Result<Value, AllocError>
+    ensures { IfOk result (λ v. view v ≡ comment_data one.now) }
+{
+    let (first, last) = (one.first, one.last);
+    json!(in alloc; {"endLine": last, "kind": "comment", "startLine": first})
+}
