@@ -1,0 +1,2 @@
+mod Matching
+mod Replaced

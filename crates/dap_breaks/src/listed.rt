@@ -1,0 +1,349 @@
+//! Requests that list breakpoints: each replaces those of the one before.
+
+ghost use Rattle.std.specs.Prelude.{◌≡◌, [], IfOk, OnOk, map as each};
+ghost use Rattle.dap_breaks.specs.Answered.{IsAnswer, answer_at, answer_of, elsewhere};
+ghost use Rattle.dap_breaks.specs.Breaks.{KeepsEvents, SetsBreaks, SetsSourceBreaks, all_cleared};
+ghost use Rattle.dap_breaks.specs.Breaks.{all_set, place_of};
+ghost use Rattle.dap_breaks.specs.Wanted.{Matches, addresses};
+ghost use Rattle.dap_values.specs.Answers.{breakpoints_body};
+ghost use Rattle.serde_json.specs.View.{view};
+
+use crate::breaks::replace;
+use crate::wanted::{List, Wanted, push_at, push_unset, row_from, unset};
+use arguments::is_one_file;
+use dap_messages::text_at;
+use dap_values::{Counting, breakpoint_set, breakpoint_unset, breakpoints_body, place_at};
+use dap_views::{Source, is_break};
+use mon_runs::Session;
+use mon_session::Desk;
+use mon_stops::Break;
+use serde_json::{Value, json};
+use std::alloc::{AllocError, Global};
+use std::rt::Files;
+
+/// What is said where no line has bytes.
+const NO_BYTES: &str = "no line from here on has bytes";
+
+/// What is said of a breakpoint that the session has no room for.
+pub const NO_ROOM: &str = "256 breakpoints are set";
+
+/// The breakpoints that a client has listed.
+#[derive(Drop)]
+pub struct Listed {
+    /// The addresses of those of the source.
+    pub lines: Vec<u16>,
+    /// The addresses of those at addresses.
+    pub addresses: Vec<u16>,
+    /// The last requests for both.
+    pub line_request: Option<Value>,
+    pub address_request: Option<Value>,
+}
+
+impl Listed {
+    /// Makes that of a client that has listed none.
+    pub fn new(alloc: Global) -> Listed
+        ensures lines { result.lines.items ≡ [] }
+        ensures addresses { result.addresses.items ≡ [] }
+    {
+        Listed {
+            lines: Vec::new(alloc),
+            addresses: Vec::new(alloc),
+            line_request: None,
+            address_request: None,
+        }
+    }
+}
+
+/// Returns the breakpoints that a request lists.
+fn list_of(request: &Value) -> &[Value] {
+    match request
+        .pointer("/arguments/breakpoints")
+        .and_then(Value::as_array)
+    {
+        Some(list) => list.as_slice(),
+        None => &[],
+    }
+}
+
+/// Returns a list without breakpoints.
+fn new_list(alloc: Global) -> List
+    ensures { Matches result }
+{
+    List {
+        told: Vec::new(alloc),
+        stops: Vec::new(alloc),
+    }
+}
+
+/// Appends that no line has bytes.
+fn push_no_bytes(alloc: Global, list: &mut List, line: u32) -> Result<(), AllocError>
+    ensures { OnOk result (Matches list.old → Matches list.new) }
+{
+    let wanted = unset(alloc, line, NO_BYTES)?;
+    push_unset(list, wanted)
+}
+
+/// Returns the first line of a source with bytes at a line or behind it, with its address.
+fn row_in(source: &Source<'_>, line: u32) -> Option<(u32, u16)> {
+    match source.assembly {
+        Some(assembly) => row_from(assembly, line),
+        None => None,
+    }
+}
+
+/// Appends a breakpoint of a line of the source.
+fn push_line(
+    alloc: Global,
+    list: &mut List,
+    desk: &Desk,
+    source: &Source<'_>,
+    wanted: &Value,
+) -> Result<(), AllocError>
+    ensures { OnOk result (Matches list.old → Matches list.new) }
+{
+    let line = source.counting.line_at(wanted);
+    match row_in(source, line) {
+        Some((line, address)) => push_at(alloc, list, desk, wanted, line, address),
+        None => push_no_bytes(alloc, list, line),
+    }
+}
+
+/// Returns the breakpoints of lines that a request lists.
+fn lines_listed(
+    alloc: Global,
+    desk: &Desk,
+    source: &Source<'_>,
+    request: &Value,
+) -> Result<List, AllocError>
+    ensures { IfOk result Matches }
+{
+    let mut list = new_list(alloc);
+    for wanted in list_of(request) {
+        push_line(alloc, &mut list, desk, source, wanted)?;
+    }
+    Ok(list)
+}
+
+/// Appends that a breakpoint has no address.
+fn push_no_address(alloc: Global, list: &mut List) -> Result<(), AllocError>
+    ensures { OnOk result (Matches list.old → Matches list.new) }
+{
+    let wanted = unset(alloc, 0, "this is no address")?;
+    push_unset(list, wanted)
+}
+
+/// Appends a breakpoint at an address.
+fn push_address(
+    alloc: Global,
+    list: &mut List,
+    desk: &Desk,
+    wanted: &Value,
+) -> Result<(), AllocError>
+    ensures { OnOk result (Matches list.old → Matches list.new) }
+{
+    match place_at(wanted, "/instructionReference", "/offset") {
+        Some(address) => {
+            let line = desk.places.line_at(address).unwrap_or(0);
+            push_at(alloc, list, desk, wanted, line, address)
+        }
+        None => push_no_address(alloc, list),
+    }
+}
+
+/// Returns the breakpoints at addresses that a request lists.
+fn addresses_listed(alloc: Global, desk: &Desk, request: &Value) -> Result<List, AllocError>
+    ensures { IfOk result Matches }
+{
+    let mut list = new_list(alloc);
+    for wanted in list_of(request) {
+        push_address(alloc, &mut list, desk, wanted)?;
+    }
+    Ok(list)
+}
+
+/// Returns the addresses of breakpoints.
+fn addresses_of(alloc: Global, stops: &[Break]) -> Result<Vec<u16>, AllocError>
+    ensures { IfOk result (λ found. found.items ≡ addresses stops.now) }
+{
+    let mut found = Vec::new(alloc);
+    for stop in stops {
+        found.push(stop.address)?;
+    }
+    Ok(found)
+}
+
+/// Returns what is answered of a breakpoint that stands at an address, if it is set.
+fn answer_at(alloc: Global, session: &Session, line: u64, address: u16) -> Result<Value, AllocError>
+    ensures { IfOk result (λ v. view v ≡ answer_at session.now line address) }
+{
+    if is_break(session, address) {
+        breakpoint_set(alloc, address, line)
+    } else {
+        breakpoint_unset(alloc, line, NO_ROOM)
+    }
+}
+
+/// Returns what is answered of a breakpoint.
+fn answer(
+    alloc: Global,
+    session: &Session,
+    counting: Counting,
+    wanted: &Wanted,
+) -> Result<Value, AllocError>
+    ensures { IfOk result (λ v. view v ≡ answer_of session.now counting wanted.now) }
+{
+    let line = counting.shown_line(wanted.line);
+    match wanted.address {
+        Some(address) => answer_at(alloc, session, line, address),
+        None => breakpoint_unset(alloc, line, wanted.words.as_str()),
+    }
+}
+
+/// Returns what is answered of breakpoints.
+fn answers(
+    alloc: Global,
+    session: &Session,
+    counting: Counting,
+    told: &[Wanted],
+) -> Result<Value, AllocError>
+    ensures { IfOk result
+        (λ v. view v ≡ breakpoints_body (each (answer_of session.now counting) told.now)) }
+{
+    let mut list = Vec::new(alloc);
+    for wanted in told {
+        let value = answer(alloc, session, counting, wanted)?;
+        list.push(value)?;
+    }
+    breakpoints_body(alloc, list)
+}
+
+/// Returns what is answered of a breakpoint of another source.
+fn elsewhere(alloc: Global) -> Result<Value, AllocError>
+    ensures { IfOk result (λ v. view v ≡ elsewhere) }
+{
+    json!(in alloc; {
+        "message": "this is not the source of the session", "verified": false
+    })
+}
+
+/// Returns what is answered of breakpoints of another source, none of which is set.
+fn answers_elsewhere(alloc: Global, request: &Value) -> Result<Value, AllocError> {
+    let mut list = Vec::new(alloc);
+    for _ in list_of(request) {
+        let value = elsewhere(alloc)?;
+        list.push(value)?;
+    }
+    breakpoints_body(alloc, list)
+}
+
+/// Replaces the breakpoints of the source by others.
+fn replace_lines(
+    alloc: Global,
+    desk: &mut Desk,
+    listed: &mut Listed,
+    stops: Vec<Break>,
+) -> Result<(), AllocError>
+    ensures place { OnOk result (place_of desk.new ≡ all_set stops.items
+        (all_cleared listed.old.lines.items (place_of desk.old))) }
+    ensures kept { KeepsEvents desk.old desk.new }
+    ensures lines { OnOk result (listed.new.lines.items ≡ addresses stops.items) }
+    ensures addresses { listed.new.addresses ≡ listed.old.addresses }
+{
+    let found = addresses_of(alloc, stops.as_slice())?;
+    replace(desk, listed.lines.as_slice(), stops)?;
+    listed.lines = found;
+    Ok(())
+}
+
+/// Replaces the breakpoints at addresses by others.
+fn replace_addresses(
+    alloc: Global,
+    desk: &mut Desk,
+    listed: &mut Listed,
+    stops: Vec<Break>,
+) -> Result<(), AllocError>
+    ensures place { OnOk result (place_of desk.new ≡ all_set stops.items
+        (all_cleared listed.old.addresses.items (place_of desk.old))) }
+    ensures kept { KeepsEvents desk.old desk.new }
+    ensures addresses { OnOk result (listed.new.addresses.items ≡ addresses stops.items) }
+    ensures lines { listed.new.lines ≡ listed.old.lines }
+{
+    let found = addresses_of(alloc, stops.as_slice())?;
+    replace(desk, listed.addresses.as_slice(), stops)?;
+    listed.addresses = found;
+    Ok(())
+}
+
+/// Sets the breakpoints of the source that a request lists, in place of those before, and returns
+/// what is answered.
+///
+/// Errors: `AllocError` if an allocation fails; the old ones are cleared then, and some of the new
+/// ones may be set.
+pub fn set_lines(
+    alloc: Global,
+    desk: &mut Desk,
+    listed: &mut Listed,
+    source: &Source<'_>,
+    request: &Value,
+) -> Result<Value, AllocError>
+    ensures sets { OnOk result (SetsBreaks listed.old.lines.items listed.new.lines.items
+        (place_of desk.old) (place_of desk.new)) }
+    ensures kept { KeepsEvents desk.old desk.new }
+    ensures addresses { listed.new.addresses ≡ listed.old.addresses }
+    ensures answer { IfOk result (IsAnswer desk.new.session source.now.counting
+        listed.new.lines.items) }
+{
+    let List { told, stops } = lines_listed(alloc, desk, source, request)?;
+    replace_lines(alloc, desk, listed, stops)?;
+    listed.line_request = Some(request.clone()?);
+    answers(alloc, &desk.session, source.counting, told.as_slice())
+}
+
+/// Sets the breakpoints at addresses that a request lists, in place of those before, and returns
+/// what is answered.
+///
+/// Errors: `AllocError` if an allocation fails; the old ones are cleared then, and some of the new
+/// ones may be set.
+pub fn set_addresses(
+    alloc: Global,
+    desk: &mut Desk,
+    listed: &mut Listed,
+    counting: Counting,
+    request: &Value,
+) -> Result<Value, AllocError>
+    ensures sets { OnOk result (SetsBreaks listed.old.addresses.items
+        listed.new.addresses.items (place_of desk.old) (place_of desk.new)) }
+    ensures kept { KeepsEvents desk.old desk.new }
+    ensures lines { listed.new.lines ≡ listed.old.lines }
+    ensures answer { IfOk result (IsAnswer desk.new.session counting
+        listed.new.addresses.items) }
+{
+    let List { told, stops } = addresses_listed(alloc, desk, request)?;
+    replace_addresses(alloc, desk, listed, stops)?;
+    listed.address_request = Some(request.clone()?);
+    answers(alloc, &desk.session, counting, told.as_slice())
+}
+
+/// Sets the breakpoints that a request lists for a source, in place of those before, if the source
+/// is that of the session. Returns what is answered.
+///
+/// Errors: as those of `set_lines`.
+pub fn set_source<H: Files + AllocGlobal>(
+    rt: &H,
+    desk: &mut Desk,
+    listed: &mut Listed,
+    source: &Source<'_>,
+    request: &Value,
+) -> Result<Value, AllocError>
+    ensures sets { OnOk result (SetsSourceBreaks listed.old.lines.items listed.new.lines.items
+        (place_of desk.old) (place_of desk.new)) }
+    ensures kept { KeepsEvents desk.old desk.new }
+    ensures addresses { listed.new.addresses ≡ listed.old.addresses }
+{
+    let path = text_at(request, "/arguments/source/path").unwrap_or("");
+    if is_one_file(rt, path, source.path) {
+        set_lines(rt.alloc(), desk, listed, source, request)
+    } else {
+        answers_elsewhere(rt.alloc(), request)
+    }
+}

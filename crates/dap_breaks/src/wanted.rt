@@ -1,0 +1,209 @@
+//! The breakpoints that a client wants, read from its list.
+
+ghost use Rattle.std.specs.Prelude.{◌≡◌, ◌++◌, IfOk, None, OnOk, option_map, string_bytes};
+ghost use Rattle.assembler.specs.Assembly.{source_lines};
+ghost use Rattle.assembler.specs.Lines.{line_view};
+ghost use Rattle.dap_breaks.specs.Wanted.{Matches, break_line, condition_text, first_row};
+ghost use Rattle.dap_breaks.specs.Wanted.{has_bytes, hits_text, option_text, row_with};
+ghost use Rattle.serde_json.specs.View.{view};
+
+use assembler::{Assembly, SourceLine};
+use dap_messages::text_at;
+use formatting::{push_address, push_text};
+use mon_lines::{Command, Slip, read_line};
+use mon_session::Desk;
+use mon_stops::Break;
+use mon_texts::push_slip;
+use serde_json::Value;
+use std::alloc::{AllocError, Global};
+
+/// What a client is told of a breakpoint that it wants.
+#[derive(Drop)]
+pub struct Wanted {
+    /// Where it stands, if it can stand somewhere.
+    pub address: Option<u16>,
+    /// The line that it stands at, or is wanted at: 0 if it has none.
+    pub line: u32,
+    /// Why it cannot stand anywhere.
+    pub words: String,
+}
+
+/// A list of breakpoints that a client wants: what is told of each, and those that are set.
+#[derive(Drop)]
+pub struct List {
+    pub told: Vec<Wanted>,
+    pub stops: Vec<Break>,
+}
+
+/// Returns whether a line is at a number or behind it, and has bytes.
+fn has_bytes(row: &SourceLine<'_>, line: u32) -> bool
+    ensures { result ≡ has_bytes line (line_view row.now) }
+{
+    row.number >= line && row.count > 0 && row.address < 65536
+}
+
+/// Returns the number and the address of a line, if it is at a number or behind it, and has bytes.
+fn row_with(row: Option<SourceLine<'_>>, line: u32) -> Option<(u32, u16)>
+    ensures { result ≡ row_with line (option_map line_view row.entry) }
+{
+    match row {
+        Some(row) if has_bytes(&row, line) => Some((row.number, row.address as u16)),
+        _ => None,
+    }
+}
+
+/// Returns the first line with bytes at a line or behind it, with its address.
+pub fn row_from(assembly: &Assembly, line: u32) -> Option<(u32, u16)>
+    ensures { result ≡ first_row line (source_lines assembly.now) }
+{
+    for index in 0..assembly.line_count() {
+        if let Some(found) = row_with(assembly.line(index), line) {
+            return Some(found);
+        }
+    }
+    None
+}
+
+/// Appends words and a text behind them, unless there is no text.
+fn push_option(text: &mut Vec<u8>, words: &str, option: Option<&str>) -> Result<(), AllocError>
+    ensures { OnOk result (text.new.items
+        ≡ text.old.items ++ option_text words.now (option_map (λ s. s.now) option.entry)) }
+{
+    match option {
+        Some(option) => {
+            if option.is_empty() {
+                return Ok(());
+            }
+            push_text(text, words)?;
+            push_text(text, option)
+        }
+        None => Ok(()),
+    }
+}
+
+/// Appends the condition of a breakpoint, if it has one.
+fn push_condition(line: &mut Vec<u8>, wanted: &Value) -> Result<(), AllocError>
+    ensures { OnOk result
+        (line.new.items ≡ line.old.items ++ condition_text (view wanted.now)) }
+{
+    push_option(line, " if ", text_at(wanted, "/condition"))
+}
+
+/// Appends the hit count of a breakpoint, if it has one.
+fn push_hits(line: &mut Vec<u8>, wanted: &Value) -> Result<(), AllocError>
+    ensures { OnOk result (line.new.items ≡ line.old.items ++ hits_text (view wanted.now)) }
+{
+    push_option(line, " times ", text_at(wanted, "/hitCondition"))
+}
+
+/// Returns the line of `mon` that sets a breakpoint.
+fn break_line(alloc: Global, wanted: &Value, address: u16) -> Result<Vec<u8>, AllocError>
+    ensures { IfOk result (λ line. line.items ≡ break_line (view wanted.now) address) }
+{
+    let mut line = Vec::new(alloc);
+    push_text(&mut line, "break $")?;
+    push_address(&mut line, address)?;
+    push_condition(&mut line, wanted)?;
+    push_hits(&mut line, wanted)?;
+    Ok(line)
+}
+
+/// Returns what is told of a breakpoint that cannot be set, for this reason.
+pub fn unset(alloc: Global, line: u32, words: &str) -> Result<Wanted, AllocError>
+    ensures address { IfOk result (λ wanted. wanted.address ≡ None) }
+    ensures line { IfOk result (λ wanted. wanted.line ≡ line) }
+    ensures words { IfOk result (λ wanted. string_bytes wanted.words ≡ words.now) }
+{
+    let words = String::from_str(alloc, words)?;
+    Ok(Wanted {
+        address: None,
+        line,
+        words,
+    })
+}
+
+/// Returns what is told of a breakpoint whose line of `mon` is wrong.
+fn slipped(alloc: Global, line: u32, slip: Slip<'_>) -> Result<Wanted, AllocError>
+    ensures { IfOk result (λ wanted. wanted.address ≡ None) }
+{
+    let mut text = Vec::new(alloc);
+    push_slip(&mut text, slip)?;
+    let words = String::from_utf8_lossy(alloc, text.as_slice().trim_ascii())?;
+    Ok(Wanted {
+        address: None,
+        line,
+        words,
+    })
+}
+
+/// Appends what is told of a breakpoint that cannot be set.
+pub fn push_unset(list: &mut List, wanted: Wanted) -> Result<(), AllocError>
+    requires { wanted.address ≡ None }
+    ensures { OnOk result (Matches list.old → Matches list.new) }
+{
+    list.told.push(wanted)?;
+    Ok(())
+}
+
+/// Appends a breakpoint that can be set.
+fn push_stop(alloc: Global, list: &mut List, line: u32, stop: Break) -> Result<(), AllocError>
+    ensures { OnOk result (Matches list.old → Matches list.new) }
+{
+    let wanted = Wanted {
+        address: Some(stop.address),
+        line,
+        words: String::new(alloc),
+    };
+    list.stops.push(stop)?;
+    list.told.push(wanted)?;
+    Ok(())
+}
+
+/// Appends the breakpoint of a line of `mon`, or what is wrong in it. A line of the source has it,
+/// or none.
+fn push_read(
+    alloc: Global,
+    list: &mut List,
+    desk: &Desk,
+    line: u32,
+    text: &[u8],
+) -> Result<(), AllocError>
+    ensures { OnOk result (Matches list.old → Matches list.new) }
+{
+    match read_line(text, &desk.places, desk.session.regs().pc) {
+        Ok(
+            Command::Break {
+                address,
+                tests,
+                times,
+            },
+        ) => push_stop(alloc, list, line, Break::new(address, tests, times)),
+        Ok(_) => {
+            let wanted = unset(alloc, line, "this is no break")?;
+            push_unset(list, wanted)
+        }
+        Err(slip) => {
+            let wanted = slipped(alloc, line, slip)?;
+            push_unset(list, wanted)
+        }
+    }
+}
+
+/// Appends a breakpoint that a client wants at an address, which a line has, or none.
+pub fn push_at(
+    alloc: Global,
+    list: &mut List,
+    desk: &Desk,
+    wanted: &Value,
+    line: u32,
+    address: u16,
+) -> Result<(), AllocError>
+    ensures { OnOk result (Matches list.old → Matches list.new) }
+{
+    let text = break_line(alloc, wanted, address)?;
+    if text.len() > 255 {
+        let wanted = unset(alloc, line, "the condition is too long")?;
+        return push_unset(list, wanted);
+    }
+    push_read(alloc, list, desk, line, text.as_slice())
+}

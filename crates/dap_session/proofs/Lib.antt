@@ -1,0 +1,3 @@
+mod Begun
+mod Done
+mod Stays

@@ -1,0 +1,85 @@
+-- What a request does to a session, and what is answered. Source: Debug Adapter Protocol 1.65; mos65.
+use Rattle.std.specs.Prelude.{◌≡◌, ⊤, List, [], ◌∷◌, codes, string_bytes}
+use Rattle.assembler.specs.Assembly.{AssemblyView}
+use Rattle.dap_breaks.specs.Breaks.{KeepsEvents, SetsBreaks, SetsSourceBreaks, place_of}
+use Rattle.dap_messages.specs.Bodies.{nothing, scopes, threads}
+use Rattle.dap_messages.specs.Messages.{Said, done, event}
+use Rattle.dap_messages.specs.declared.request.Request.{Request}
+use Rattle.dap_messages.specs.declared.request.Request.TheVariants as to
+use Rattle.dap_session.specs.Begun.{IsBegun}
+use Rattle.dap_session.specs.Changes.{HasChanged}
+use Rattle.dap_session.specs.Console.{Evaluates, is_console}
+use Rattle.dap_session.specs.Moves.{begun_stand, moved}
+use Rattle.dap_session.specs.Options.{IsAgain}
+use Rattle.dap_session.specs.declared.options.Options.{Options}
+use Rattle.dap_session.specs.declared.seat.Seat.{Seat}
+use Rattle.dap_values.specs.Answers.{breakpoints_body, exception_body}
+use Rattle.dap_values.specs.declared.counting.Counting.{Counting}
+use Rattle.dap_views.specs.Frames.{AreFrames, wants_first}
+use Rattle.dap_views.specs.Memory.{memory_shown}
+use Rattle.dap_views.specs.Scopes.{variables_shown}
+use Rattle.mon_steps.specs.RunLines.{KeepsWatches, stand_of}
+use Rattle.serde_json.specs.Data.{Data}
+
+-- A request is done: that is said first, and events behind it.
+abbrev pub IsDone : List Said → Type 0
+IsDone said = (body : Data) × (rest : List Said) × (said ≡ done body ∷ rest)
+
+-- ---- a session that begins anew
+
+-- It begins from the file of another, and has the breakpoints that are listed.
+abbrev pub BeginsAgain : Seat → Seat → Type 0
+BeginsAgain old new = (options : Options) × IsAgain old.options options × (begun : Seat)
+    × IsBegun options begun × KeepsEvents begun.desk new.desk × (new.options ≡ options)
+
+-- The machine stands then before the first instruction, or has run to a stop.
+abbrev pub Restarts : Seat → Seat → Type 0
+Restarts old new = (begun : Seat) × BeginsAgain old begun × (stand_of new.desk ≡ begun_stand begun)
+
+-- ---- what is shown
+
+-- The value that is answered to a request that changes nothing.
+abbrev pub IsShown : Request → Data → Counting → Seat → Data → Type 0
+IsShown to.Threads request counting seat v = v ≡ threads
+IsShown to.StackTrace request counting seat v = AreFrames (wants_first request)
+    seat.desk.places (string_bytes seat.options.file) counting seat.desk.session.current.regs.pc v
+IsShown to.Scopes request counting seat v = v ≡ scopes
+IsShown to.Variables request counting seat v
+    = v ≡ variables_shown seat.desk.session seat.assembly request
+IsShown to.ReadMemory request counting seat v
+    = v ≡ memory_shown seat.desk.session.current.bus.memory request
+IsShown to.ExceptionInfo request counting seat v = v ≡ exception_body (string_bytes seat.told.words)
+IsShown to.SetExceptionBreakpoints request counting seat v = v ≡ breakpoints_body []
+IsShown to.Pause request counting seat v = v ≡ nothing
+IsShown asked request counting seat v = ⊥
+
+abbrev pub Shows : Request → Data → Counting → Seat → List Said → Type 0
+Shows asked request counting seat said
+    = (v : Data) × IsShown asked request counting seat v × (said ≡ done v ∷ [])
+
+-- The program is said to have ended.
+abbrev pub Terminates : List Said → Type 0
+Terminates said = said ≡ done nothing ∷ event (codes "terminated") nothing ∷ []
+
+-- ---- all requests of a session. Most change nothing
+
+abbrev pub AreAnswers : Request → Data → Counting → Seat → Seat → List Said → Type 0
+AreAnswers (to.Moves way) request counting old new said
+    = (stand_of new.desk ≡ moved old.options.steps way old.desk)
+    × KeepsWatches old.desk new.desk × IsDone said
+AreAnswers to.ConfigurationDone request counting old new said
+    = (stand_of new.desk ≡ begun_stand old) × KeepsWatches old.desk new.desk × IsDone said
+AreAnswers to.SetBreakpoints request counting old new said = SetsSourceBreaks
+    old.listed.lines.items new.listed.lines.items (place_of old.desk) (place_of new.desk)
+    × KeepsEvents old.desk new.desk × IsDone said
+AreAnswers to.SetInstructionBreakpoints request counting old new said = SetsBreaks
+    old.listed.addresses.items new.listed.addresses.items (place_of old.desk)
+    (place_of new.desk) × KeepsEvents old.desk new.desk × IsDone said
+AreAnswers to.Evaluate request counting old new said
+    = Evaluates (is_console request) request old.desk new.desk × IsDone said
+AreAnswers to.SetVariable request counting old new said
+    = HasChanged old.desk new.desk × IsDone said
+AreAnswers to.Restart request counting old new said = Restarts old new × IsDone said
+AreAnswers to.Terminate request counting old new said = (new ≡ old) × Terminates said
+AreAnswers asked request counting old new said
+    = (new ≡ old) × Shows asked request counting old said

@@ -1,0 +1,68 @@
+-- Lines of the console. Source: Debug Adapter Protocol 1.65, "Evaluate Request"; mos65.
+use Rattle.std.specs.Prelude.{ℕ, ◌≡◌, ◌<◌, ◌≤◌, ⊤, Bool, true, false, List, [], ◌∷◌, codes, length, Option, Some, None, unwrap_or}
+use Rattle.std.specs.Str.{bytes_eq}
+use Rattle.std.specs.Str.Lossy.{utf8_lossy}
+use Rattle.dap_messages.specs.Bodies.{nothing}
+use Rattle.dap_messages.specs.Fields.{text_at}
+use Rattle.dap_messages.specs.Messages.{Said, done, event}
+use Rattle.dap_session.specs.declared.fault.Fault.{Fault}
+use Rattle.dap_session.specs.declared.fault.Fault.TheVariants as fault
+use Rattle.dap_views.specs.Looks.{look_at}
+use Rattle.mon_dispatch.specs.Lines.{IsTooLong, Serves}
+use Rattle.mon_session.specs.Course.{ShowsOnly}
+use Rattle.mon_session.specs.declared.desk.Desk.{Desk}
+use Rattle.serde_json.specs.Data.{Data}
+
+-- ---- a line of `mon`
+
+-- A line of at most 255 bytes does what it asks for. A longer one asks for nothing.
+abbrev pub AnswersLine : List ℕ → Bool → Desk → Desk → Type 0
+AnswersLine line is_over old new = (length line ≤ 255 → Serves line is_over old new)
+    × (255 < length line → IsTooLong is_over old new)
+
+-- A line is served, and this is what it says.
+abbrev pub ServesConsole : List ℕ → Bool → Desk → Desk → List ℕ → Type 0
+ServesConsole line is_over old new said = (begun : Desk) × (served : Desk)
+    × ShowsOnly old begun × (begun.text.items ≡ []) × AnswersLine line is_over begun served
+    × ShowsOnly served new × (said ≡ utf8_lossy served.text.items)
+
+-- A line that ends the session is said to have ended it.
+abbrev pub over : Said
+over = event (codes "terminated") nothing
+
+-- ---- a register or a place
+
+-- What it shows is answered.
+abbrev pub Looks : Desk → List ℕ → List Said → Type 0
+Looks desk text said = (v : Data)
+    × (look_at desk.session.current desk.places.names text ≡ Some v) × (said ≡ done v ∷ [])
+
+-- ---- which of them is asked for
+
+abbrev pub is_repl : Option (List ℕ) → Bool
+is_repl None = true
+is_repl (Some context) = bytes_eq context (codes "repl")
+
+abbrev pub is_console : Data → Bool
+is_console request = is_repl (text_at (codes "/arguments/context") request)
+
+-- The text that a request asks of: empty if there is none.
+abbrev pub expression_of : Data → List ℕ
+expression_of request = unwrap_or (text_at (codes "/arguments/expression") request) []
+
+-- A line of the console is served, or nothing is changed.
+abbrev pub Evaluates : Bool → Data → Desk → Desk → Type 0
+Evaluates true request old new = (is_over : Bool) × (said : List ℕ)
+    × ServesConsole (expression_of request) is_over old new said
+Evaluates false request old new = new ≡ old
+
+-- ---- what a refused request changes: nothing of the session
+
+abbrev pub ShowsIfRefused : Fault → Desk → Desk → Type 0
+ShowsIfRefused (fault.Refused words) old new = ShowsOnly old new
+ShowsIfRefused fault.OutOfMemory old new = ⊤
+
+-- That memory ran out.
+abbrev pub IsMemory : Fault → Type 0
+IsMemory (fault.Refused words) = ⊥
+IsMemory fault.OutOfMemory = ⊤

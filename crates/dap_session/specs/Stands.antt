@@ -1,0 +1,31 @@
+-- What a client is told of a halt. Source: Debug Adapter Protocol 1.65, "Stopped Event"; mos65.
+use Rattle.std.specs.Prelude.{ℕ, ◌≡◌, ◌==◌, ◌&&◌, not, Bool, if◌then◌else◌, List, ◌++◌, length}
+use Rattle.std.specs.List.{list_any}
+use Rattle.dap_messages.specs.Messages.{Said}
+use Rattle.dap_session.specs.declared.seat.Seat.{Seat}
+use Rattle.dap_views.specs.Told.{told_of}
+use Rattle.dap_views.specs.declared.halts.Halt.{Halt}
+use Rattle.dap_views.specs.declared.halts.Reason.{Reason}
+use Rattle.dap_views.specs.declared.halts.Reason.TheVariants.{Breakpoint, InstructionBreakpoint}
+
+abbrev pub is_at : List ℕ → ℕ → Bool
+is_at addresses address = list_any (λ other. other == address) addresses
+
+-- A breakpoint that is listed by its address alone is told apart.
+abbrev pub reason_at : List ℕ → List ℕ → ℕ → Reason → Reason
+reason_at lines addresses pc Breakpoint = if is_at addresses pc && not (is_at lines pc)
+    then InstructionBreakpoint else Breakpoint
+reason_at lines addresses pc other = other
+
+-- A halt as it is told at a seat.
+abbrev pub halt_at : Seat → Halt → Halt
+halt_at seat halt = record halt {
+  reason = reason_at seat.listed.lines.items seat.listed.addresses.items
+      seat.desk.session.current.regs.pc halt.reason;
+}
+
+-- A halt is told behind what was said, and how many bytes are put out is noted.
+abbrev pub IsToldHalt : Seat → Halt → Seat → List Said → List Said → Type 0
+IsToldHalt old halt new before after
+    = (after ≡ before ++ told_of old.desk old.told.count (halt_at old halt))
+    × (new.told.count ≡ length old.desk.session.current.bus.out)

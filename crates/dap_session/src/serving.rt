@@ -1,0 +1,278 @@
+//! What is done with a request.
+
+ghost use Rattle.std.specs.Prelude.{◌≡◌, ◌∷◌, [], IfErr, IfOk, None, OnOk, map as each, string_bytes};
+ghost use Rattle.dap_messages.specs.Messages.{refused, said_of};
+ghost use Rattle.dap_messages.specs.Requests.{request_of};
+ghost use Rattle.dap_session.specs.Served.{Begins, CountsIfRefused, Initializes, IsRefused};
+ghost use Rattle.dap_session.specs.Served.{ObeysAdapter, ObeysBegun, ObeysFirst, ObeysLaunched};
+ghost use Rattle.dap_session.specs.Served.{Launches, RestsIfRefused, Serves, StaysIfRefused, ended};
+ghost use Rattle.dap_session.specs.Served.{launched, need_of};
+ghost use Rattle.serde_json.specs.View.{view};
+
+use crate::answering::answer;
+use crate::console::push_terminated;
+use crate::fault::{Fault, refused};
+use crate::launching::options_of;
+use crate::seat::{Seat, begin};
+use dap_messages::{Message, Request, capabilities, nothing, request_of};
+use dap_values::Counting;
+use dap_views::answered;
+use serde_json::Value;
+use std::alloc::{AllocError, Global};
+use std::rt::Files;
+
+/// An adapter: how its client counts, and the session, if one has begun.
+#[derive(Drop)]
+pub struct Adapter {
+    pub counting: Option<Counting>,
+    pub seat: Option<Seat>,
+}
+
+impl Adapter {
+    /// Makes an adapter of which nothing was asked.
+    pub fn new() -> Adapter
+        ensures counting { result.counting ≡ None }
+        ensures seat { result.seat ≡ None }
+    {
+        Adapter {
+            counting: None,
+            seat: None,
+        }
+    }
+}
+
+/// Notes how a client counts, and answers what the adapter can do.
+fn initialize(
+    alloc: Global,
+    counting: &mut Option<Counting>,
+    request: &Value,
+) -> Result<Vec<Message>, AllocError>
+    ensures { IfOk result (λ ms. Initializes (view request.now) counting.new
+        (each said_of ms.items)) }
+{
+    let body = capabilities(alloc)?;
+    let messages = answered(alloc, body)?;
+    *counting = Some(Counting::of(request));
+    Ok(messages)
+}
+
+/// Returns the answer to a launch, after which breakpoints may be set.
+fn launched(alloc: Global) -> Result<Vec<Message>, AllocError>
+    ensures { IfOk result (λ ms. each said_of ms.items ≡ launched) }
+{
+    let body = nothing(alloc)?;
+    let mut messages = answered(alloc, body)?;
+    let body = nothing(alloc)?;
+    messages.push(Message::Event("initialized", body))?;
+    Ok(messages)
+}
+
+/// Returns a session that begins, and the answer to its launch.
+fn begun_first<H: Files + AllocGlobal>(
+    rt: &H,
+    request: &Value,
+) -> Result<(Seat, Vec<Message>), Fault>
+    ensures { IfOk result
+        (λ p. Begins (view request.now) p.0 (each said_of p.1.items)) }
+{
+    let options = options_of(rt.alloc(), request)?;
+    let messages = launched(rt.alloc())?;
+    let begun = begin(rt, options)?;
+    Ok((begun, messages))
+}
+
+/// Begins a session, if none has begun.
+#[tactic(auto, using(crate::proofs::Stays::stays_same))]
+fn launch<H: Files + AllocGlobal>(
+    rt: &H,
+    seat: &mut Option<Seat>,
+    request: &Value,
+) -> Result<Vec<Message>, Fault>
+    ensures done { IfOk result
+        (λ ms. Launches (view request.now) seat.old seat.new (each said_of ms.items)) }
+    ensures refused { IfErr result (λ f. StaysIfRefused f seat.old seat.new) }
+{
+    match seat {
+        Some(_) => Err(refused(rt.alloc(), "launch comes once")),
+        None => {
+            let (begun, messages) = begun_first(rt, request)?;
+            *seat = Some(begun);
+            Ok(messages)
+        }
+    }
+}
+
+/// Serves a request of a session, if one has begun.
+#[tactic(auto, using(crate::proofs::Stays::stays_same))]
+fn serve_launched<H: Files + AllocGlobal>(
+    rt: &H,
+    seat: &mut Option<Seat>,
+    counting: Counting,
+    request: &Value,
+    asked: Request,
+) -> Result<Vec<Message>, Fault>
+    ensures done { IfOk result (λ ms. ObeysLaunched asked (view request.now) counting seat.old
+        seat.new (each said_of ms.items)) }
+    ensures refused { IfErr result (λ f. StaysIfRefused f seat.old seat.new) }
+{
+    match seat {
+        Some(seat) => answer(rt, seat, counting, request, asked),
+        None => Err(refused(rt.alloc(), "no program was launched")),
+    }
+}
+
+/// Returns the answer to a request that ends the session.
+fn ended(alloc: Global) -> Result<Vec<Message>, AllocError>
+    ensures { IfOk result (λ ms. each said_of ms.items ≡ ended) }
+{
+    let body = nothing(alloc)?;
+    answered(alloc, body)
+}
+
+/// What a request needs.
+#[derive(Clone, Copy, Debug, PartialEq, Eq)]
+enum Need {
+    /// It is not served here.
+    Unserved,
+    /// It ends the session.
+    End,
+    /// It begins a session.
+    Beginning,
+    /// It is served in a session.
+    InSession,
+}
+
+/// Returns what a request needs of a client that has said how it counts.
+fn need_of(asked: Request) -> Need
+    ensures { result ≡ need_of asked }
+{
+    match asked {
+        Request::Initialize | Request::NoRequest => Need::Unserved,
+        Request::Disconnect => Need::End,
+        Request::Launch => Need::Beginning,
+        Request::Moves(_) | Request::SetBreakpoints => Need::InSession,
+        Request::SetInstructionBreakpoints | Request::SetExceptionBreakpoints => Need::InSession,
+        Request::ConfigurationDone | Request::Threads | Request::StackTrace => Need::InSession,
+        Request::Scopes | Request::Variables | Request::SetVariable => Need::InSession,
+        Request::Evaluate | Request::ReadMemory | Request::ExceptionInfo => Need::InSession,
+        Request::Pause | Request::Restart | Request::Terminate | Request::Other => Need::InSession,
+    }
+}
+
+/// Serves a request of a client that has said how it counts.
+#[tactic(auto, using(crate::proofs::Stays::stays_same))]
+fn serve_begun<H: Files + AllocGlobal>(
+    rt: &H,
+    seat: &mut Option<Seat>,
+    counting: Counting,
+    request: &Value,
+    asked: Request,
+) -> Result<Vec<Message>, Fault>
+    ensures done { IfOk result (λ ms. ObeysBegun (need_of asked) asked (view request.now) counting
+        seat.old seat.new (each said_of ms.items)) }
+    ensures refused { IfErr result (λ f. StaysIfRefused f seat.old seat.new) }
+{
+    match need_of(asked) {
+        Need::Unserved => Err(refused(rt.alloc(), "this cannot be served here")),
+        Need::End => Ok(ended(rt.alloc())?),
+        Need::Beginning => launch(rt, seat, request),
+        Need::InSession => serve_launched(rt, seat, counting, request, asked),
+    }
+}
+
+/// Serves a request of a client that has not said how it counts.
+#[tactic(auto, using(crate::proofs::Stays::counts_same))]
+fn serve_first(
+    alloc: Global,
+    counting: &mut Option<Counting>,
+    request: &Value,
+    asked: Request,
+) -> Result<Vec<Message>, Fault>
+    ensures done { IfOk result
+        (λ ms. ObeysFirst asked (view request.now) counting.new (each said_of ms.items)) }
+    ensures refused { IfErr result (λ f. CountsIfRefused f counting.old counting.new) }
+{
+    match asked {
+        Request::Initialize => Ok(initialize(alloc, counting, request)?),
+        _ => Err(refused(alloc, "initialize comes first")),
+    }
+}
+
+/// Serves a request.
+#[tactic(auto, using(crate::proofs::Stays::counts_same, crate::proofs::Stays::stays_same))]
+fn serve_asked<H: Files + AllocGlobal>(
+    rt: &H,
+    adapter: &mut Adapter,
+    request: &Value,
+    asked: Request,
+) -> Result<Vec<Message>, Fault>
+    ensures done { IfOk result (λ ms. ObeysAdapter asked (view request.now) adapter.old
+        adapter.new (each said_of ms.items)) }
+    ensures refused { IfErr result (λ f. RestsIfRefused f adapter.old adapter.new) }
+{
+    match adapter.counting {
+        Some(counting) => serve_begun(rt, &mut adapter.seat, counting, request, asked),
+        None => serve_first(rt.alloc(), &mut adapter.counting, request, asked),
+    }
+}
+
+/// Returns whether a refused request leaves a client without a session that it asked for.
+fn ends(adapter: &Adapter, asked: Request) -> bool {
+    match asked {
+        Request::Launch => adapter.seat.is_none(),
+        _ => false,
+    }
+}
+
+/// Returns the refusal of a request.
+fn refused_by(alloc: Global, words: String) -> Result<Vec<Message>, AllocError>
+    ensures { IfOk result
+        (λ ms. each said_of ms.items ≡ refused (string_bytes words) ∷ []) }
+{
+    let mut messages = Vec::new(alloc);
+    messages.push(Message::Refused(words))?;
+    Ok(messages)
+}
+
+/// Appends that the session has ended, if it has.
+#[tactic(auto, using(crate::proofs::Done::refused_more))]
+fn push_end(alloc: Global, messages: &mut Vec<Message>, ends: bool) -> Result<(), AllocError>
+    ensures { OnOk result
+        (IsRefused (each said_of messages.old.items)
+        → IsRefused (each said_of messages.new.items)) }
+{
+    if ends {
+        push_terminated(alloc, messages)?;
+    }
+    Ok(())
+}
+
+/// Returns the refusal of a request, and that the session has ended, if it has.
+#[tactic(auto, using(crate::proofs::Done::refused_one))]
+fn refusal(alloc: Global, words: String, ends: bool) -> Result<Vec<Message>, AllocError>
+    ensures { IfOk result (λ ms. IsRefused (each said_of ms.items)) }
+{
+    let mut messages = refused_by(alloc, words)?;
+    push_end(alloc, &mut messages, ends)?;
+    Ok(messages)
+}
+
+/// Serves a request, and returns its answer and events. The only error is a failed allocation.
+pub fn serve<H: Files + AllocGlobal>(
+    rt: &H,
+    adapter: &mut Adapter,
+    request: &Value,
+) -> Result<Vec<Message>, AllocError>
+    ensures { IfOk result (λ ms. Serves (request_of (view request.now)) (view request.now)
+        adapter.old adapter.new (each said_of ms.items)) }
+{
+    let asked = request_of(request);
+    match serve_asked(rt, adapter, request, asked) {
+        Ok(messages) => Ok(messages),
+        Err(Fault::Refused(words)) => {
+            let messages = refusal(rt.alloc(), words, ends(adapter, asked))?;
+            Ok(messages)
+        }
+        Err(Fault::OutOfMemory) => Err(AllocError),
+    }
+}

@@ -1,0 +1,5 @@
+pub mod Answers
+pub mod Counting
+pub mod References
+pub mod Texts
+pub mod Variables

@@ -1,0 +1,2 @@
+mod Breaks
+mod Cells

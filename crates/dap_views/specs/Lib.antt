@@ -1,0 +1,6 @@
+pub mod Frames
+pub mod Halts
+pub mod Looks
+pub mod Memory
+pub mod Scopes
+pub mod Told

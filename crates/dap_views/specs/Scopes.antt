@@ -1,0 +1,80 @@
+-- The variables of each scope. Source: Debug Adapter Protocol 1.65, "Variables Request"; which
+-- scopes there are, mos65.
+use Rattle.std.specs.Prelude.{ℕ, ℤ, zero, suc, pos, negsuc, ◌+◌, ◌-◌, ◌==◌, nat_le, if◌then◌else◌, List, [], ◌∷◌, codes, length, slice_index, Option, Some, None, option_and_then}
+use Rattle.std.specs.List.{flat_map}
+use Rattle.std.specs.Str.Lossy.{utf8_lossy}
+use Rattle.assembler.specs.Assembly.{AssemblyView}
+use Rattle.dap_messages.specs.Fields.{number_at}
+use Rattle.dap_values.specs.Texts.{address_text}
+use Rattle.dap_values.specs.Variables.{byte_variable, flags_shown, number_variable, registers_shown, variables_body}
+use Rattle.dap_views.specs.declared.variables.Scope.{Scope}
+use Rattle.dap_views.specs.declared.variables.Scope.TheVariants.{Registers, Flags, Symbols, Stack, ZeroPage, Machine}
+use Rattle.model.specs.Session.{Session}
+use Rattle.model.specs.State.{State}
+use Rattle.serde_json.specs.Data.{Data}
+
+-- ---- numbers of scopes
+
+unfoldable pub scope_of : ℕ → Option Scope
+scope_of number = if number == 1 then Some Registers else if number == 2 then Some Flags
+    else if number == 3 then Some Symbols else if number == 4 then Some Stack
+    else if number == 5 then Some ZeroPage else if number == 6 then Some Machine else None
+
+abbrev pub scope_at : Data → Option Scope
+scope_at request = option_and_then scope_of
+    (number_at (codes "/arguments/variablesReference") request)
+
+-- ---- bytes
+
+-- The byte at an address, under its address.
+abbrev pub cell : List ℕ → ℕ → Data
+cell memory address = byte_variable (address_text address) (slice_index memory address)
+
+-- So many from an address on.
+unfoldable pub cells : List ℕ → ℕ → ℕ → List Data
+cells memory address zero = []
+cells memory address (suc n) = cell memory address ∷ cells memory (address + 1) n
+
+-- Those of the stack, from that above the stack pointer on.
+abbrev pub stack_shown : State → List Data
+stack_shown s = cells s.bus.memory (257 + s.regs.s) (512 - (257 + s.regs.s))
+
+-- ---- names
+
+-- The byte at the number of a name, if the number is an address.
+abbrev pub named_cell : List ℕ → List ℕ → ℤ → List Data
+named_cell memory name (pos n) = if nat_le n 65535
+    then byte_variable (utf8_lossy name) (slice_index memory n) ∷ [] else []
+named_cell memory name (negsuc n) = []
+
+-- Those of all names of a source, in the order of their definition.
+abbrev pub symbols_shown : List ℕ → List (List ℕ × ℤ) → List Data
+symbols_shown memory names = flat_map (λ d. named_cell memory d.0 d.1) names
+
+abbrev pub symbols_of : List ℕ → Option AssemblyView → List Data
+symbols_of memory (Some assembly) = symbols_shown memory assembly.names
+symbols_of memory None = []
+
+-- ---- scopes
+
+abbrev pub machine_shown : Session → List Data
+machine_shown session = number_variable (codes "cycles") session.current.cycles
+    ∷ number_variable (codes "events held") (length session.earlier)
+    ∷ number_variable (codes "bytes put out") (length session.current.bus.out) ∷ []
+
+abbrev pub scope_shown : Session → Option AssemblyView → Scope → List Data
+scope_shown session assembly Registers = registers_shown session.current.regs
+scope_shown session assembly Flags = flags_shown session.current.regs.flags
+scope_shown session assembly Symbols = symbols_of session.current.bus.memory assembly
+scope_shown session assembly Stack = stack_shown session.current
+scope_shown session assembly ZeroPage = cells session.current.bus.memory 0 256
+scope_shown session assembly Machine = machine_shown session
+
+-- A number of no scope has no variables.
+abbrev pub listed : Session → Option AssemblyView → Option Scope → List Data
+listed session assembly (Some scope) = scope_shown session assembly scope
+listed session assembly None = []
+
+abbrev pub variables_shown : Session → Option AssemblyView → Data → Data
+variables_shown session assembly request
+    = variables_body (listed session assembly (scope_at request))

@@ -1,0 +1,126 @@
+//! A register, or the byte at a place.
+
+ghost use Rattle.std.specs.Prelude.{◌≡◌, ◌++◌, IfOk, codes, option_map, string_bytes};
+ghost use Rattle.dap_views.specs.Looks.{byte_at, first_in, look_at, place_on, place_shown};
+ghost use Rattle.dap_views.specs.Looks.{register_byte, register_shown};
+ghost use Rattle.mon_lines.specs.Lines.{command_view};
+ghost use Rattle.serde_json.specs.View.{view};
+
+use dap_values::{address_text, byte_text, evaluated, looked_at};
+use formatting::push_text;
+use model::Regs;
+use mon_lines::{Command, read_line};
+use mon_runs::Session;
+use mon_session::Desk;
+use serde_json::Value;
+use source_map::Places;
+use std::alloc::{AllocError, Global};
+
+/// Returns the byte of the register of a name, if there is one. The status register has B clear.
+fn register_byte(regs: Regs, name: &str) -> Option<u8>
+    ensures { result ≡ register_byte regs name.now }
+{
+    match name {
+        "A" => Some(regs.a),
+        "X" => Some(regs.x),
+        "Y" => Some(regs.y),
+        "S" => Some(regs.s),
+        "P" => Some(regs.flags.to_byte(false)),
+        _ => None,
+    }
+}
+
+/// Returns the value of the register of a name, if there is one.
+fn register_shown(alloc: Global, regs: Regs, name: &str) -> Result<Option<String>, AllocError>
+    ensures { IfOk result
+        (λ shown. option_map string_bytes shown ≡ register_shown regs name.now) }
+{
+    if name == "PC" {
+        let text = address_text(alloc, regs.pc)?;
+        return Ok(Some(text));
+    }
+    match register_byte(regs, name) {
+        Some(byte) => {
+            let text = byte_text(alloc, byte)?;
+            Ok(Some(text))
+        }
+        None => Ok(None),
+    }
+}
+
+/// Returns the line of `mon` that shows what stands at a place.
+fn mem_line(alloc: Global, text: &str) -> Result<Vec<u8>, AllocError>
+    ensures { IfOk result (λ line. line.items ≡ codes "mem " ++ text.now) }
+{
+    let mut line = Vec::new(alloc);
+    push_text(&mut line, "mem ")?;
+    push_text(&mut line, text)?;
+    Ok(line)
+}
+
+/// Returns the first address that a line of `mon` shows, if it shows some.
+fn first_in(command: &Command<'_>) -> Option<u16>
+    ensures { result ≡ first_in (command_view command.now) }
+{
+    match command {
+        Command::Mem(stretch) => Some(stretch.first),
+        _ => None,
+    }
+}
+
+/// Returns the first address that a line shows, if it has at most 255 bytes, and shows some.
+fn place_on(line: &[u8], places: &Places, pc: u16) -> Option<u16>
+    ensures { result ≡ place_on places.now.names pc line.now }
+{
+    if line.len() > 255 {
+        return None;
+    }
+    match read_line(line, places, pc) {
+        Ok(command) => first_in(&command),
+        Err(_) => None,
+    }
+}
+
+/// Returns the byte at an address, if there is an address.
+fn byte_at(
+    alloc: Global,
+    session: &Session,
+    address: Option<u16>,
+) -> Result<Option<Value>, AllocError>
+    ensures { IfOk result (λ found. option_map view found
+        ≡ byte_at session.now.current.bus.memory address) }
+{
+    match address {
+        Some(address) => {
+            let text = byte_text(alloc, session.peek(address))?;
+            let value = looked_at(alloc, address, text.as_str())?;
+            Ok(Some(value))
+        }
+        None => Ok(None),
+    }
+}
+
+/// Returns the byte at the place that a text names, if it names one.
+fn place_shown(alloc: Global, desk: &Desk, text: &str) -> Result<Option<Value>, AllocError>
+    ensures { IfOk result (λ found. option_map view found
+        ≡ place_shown desk.now.session.current desk.now.places.names text.now) }
+{
+    let line = mem_line(alloc, text)?;
+    let address = place_on(line.as_slice(), &desk.places, desk.session.regs().pc);
+    byte_at(alloc, &desk.session, address)
+}
+
+/// Returns the register that a text names, or the byte at the place that it names: `None` if it
+/// names neither.
+pub fn look_at(alloc: Global, desk: &Desk, text: &str) -> Result<Option<Value>, AllocError>
+    ensures { IfOk result (λ found. option_map view found
+        ≡ look_at desk.now.session.current desk.now.places.names text.now) }
+{
+    match register_shown(alloc, desk.session.regs(), text)? {
+        Some(shown) => {
+            let value = evaluated(alloc, shown.as_str())?;
+            Ok(Some(value))
+        }
+        None => place_shown(alloc, desk, text),
+    }
+}

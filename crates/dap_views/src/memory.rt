@@ -1,0 +1,78 @@
+//! Bytes of memory.
+
+ghost use Rattle.std.specs.Prelude.{◌≡◌, ◌+◌, ◌≤◌, IfOk};
+ghost use Rattle.dap_views.specs.Memory.{bytes_shown, count_at, memory_shown, most};
+ghost use Rattle.dap_values.specs.References.{place_at};
+ghost use Rattle.mon_texts.specs.Memory.{bytes_from};
+ghost use Rattle.serde_json.specs.View.{view};
+
+use base64::engine::general_purpose::STANDARD;
+use dap_messages::number_at;
+use dap_values::{memory_body, place_at};
+use mon_runs::Session;
+use mon_session::Desk;
+use serde_json::Value;
+use std::alloc::{AllocError, Global};
+
+/// Returns so many bytes from an address on.
+fn bytes_from(
+    alloc: Global,
+    session: &Session,
+    first: u16,
+    count: u32,
+) -> Result<Vec<u8>, AllocError>
+    requires { first + count ≤ 65536 }
+    ensures { IfOk result
+        (λ bytes. bytes.items ≡ bytes_from session.now.current.bus.memory first count) }
+{
+    let mut bytes = Vec::new(alloc);
+    for offset in 0..count {
+        bytes.push(session.peek((first as u32 + offset) as u16))?;
+    }
+    Ok(bytes)
+}
+
+/// Returns how many bytes a request asks for, at most 65,536.
+fn count_at(request: &Value) -> u32
+    ensures value { result ≡ count_at (view request.now) }
+    ensures most { result ≤ 65536 }
+{
+    match number_at(request, "/arguments/count") {
+        Some(count) if count < 65536 => count as u32,
+        Some(_) => 65536,
+        None => 0,
+    }
+}
+
+/// Returns how many of so many bytes there are from an address on.
+fn most(first: u16, count: u32) -> u32
+    ensures value { result ≡ most first count }
+    ensures within { first + result ≤ 65536 }
+    ensures least { result ≤ count }
+{
+    count.min(65536 - u32::from(first))
+}
+
+/// Returns so many bytes from an address on, as far as the memory goes.
+fn bytes_at(alloc: Global, session: &Session, first: u16, count: u32) -> Result<Value, AllocError>
+    ensures { IfOk result
+        (λ v. view v ≡ bytes_shown session.now.current.bus.memory first count) }
+{
+    let most = most(first, count);
+    let bytes = bytes_from(alloc, session, first, most)?;
+    let text = STANDARD.encode(alloc, bytes.as_slice())?;
+    memory_body(alloc, first, text.as_str(), u64::from(count - most))
+}
+
+/// Returns the bytes of memory that a request asks for, as far as it goes: none where it names no
+/// address.
+pub fn memory_shown(alloc: Global, desk: &Desk, request: &Value) -> Result<Value, AllocError>
+    ensures { IfOk result (λ v. view v
+        ≡ memory_shown desk.now.session.current.bus.memory (view request.now)) }
+{
+    let count = count_at(request);
+    match place_at(request, "/arguments/memoryReference", "/arguments/offset") {
+        Some(first) => bytes_at(alloc, &desk.session, first, count),
+        None => memory_body(alloc, 0, "", u64::from(count)),
+    }
+}

@@ -1,0 +1,218 @@
+//! What a client is told besides the answer to a request.
+
+ghost use Rattle.std.specs.Prelude.{◌≡◌, ◌++◌, ◌∷◌, ◌-◌, ◌<◌, ◌≤◌, [], IfOk, OnOk, codes, drop, length};
+ghost use Rattle.std.specs.Prelude.{map as each, string_bytes};
+ghost use Rattle.dap_messages.specs.Messages.{done, said_of};
+ghost use Rattle.dap_views.specs.Told.{characters, console_said, fault_shown, halt_shown, less_text};
+ghost use Rattle.dap_views.specs.Told.{line_of, output_said, remark_said, stopped_said};
+ghost use Rattle.dap_views.specs.Told.{told_of, unmoved_said};
+ghost use Rattle.serde_json.specs.View.{view};
+
+use crate::halts::{Halt, Reason};
+use crate::wording::{LESS_BEFORE, LESS_BEHIND};
+use dap_messages::{Message, output_body, stopped_body};
+use dap_values::invalidated;
+use formatting::{push_count, push_text};
+use model::EventFault;
+use mon_runs::Session;
+use mon_session::{Desk, push_fault};
+use serde_json::Value;
+use source_map::Places;
+use std::alloc::{AllocError, Global};
+
+/// What a client was told: how many of the bytes that the program put out, and why the machine
+/// stands.
+#[derive(Drop)]
+pub struct Told {
+    pub count: u32,
+    pub words: String,
+}
+
+/// Returns what the program put out since it had put out so many bytes. A byte is the character of
+/// its number.
+fn output_since(alloc: Global, session: &Session, from: u32) -> Result<String, AllocError>
+    requires { from ≤ length session.now.current.bus.out }
+    ensures { IfOk result (λ text. string_bytes text
+        ≡ characters (drop from session.now.current.bus.out)) }
+{
+    let mut text = String::new(alloc);
+    for index in from..session.output_len() {
+        text.push(session.output_at(index).unwrap_or(0) as char)?;
+    }
+    Ok(text)
+}
+
+/// Appends an event with a text.
+fn push_output(
+    alloc: Global,
+    messages: &mut Vec<Message>,
+    category: &str,
+    text: &str,
+) -> Result<(), AllocError>
+    ensures { OnOk result (each said_of messages.new.items
+        ≡ each said_of messages.old.items ++ output_said category.now text.now ∷ []) }
+{
+    let body = output_body(alloc, category, text)?;
+    messages.push(Message::Event("output", body))?;
+    Ok(())
+}
+
+/// Returns that so many bytes were taken back.
+fn less_text(alloc: Global, count: u32) -> Result<String, AllocError>
+    ensures { IfOk result (λ text. string_bytes text ≡ less_text count) }
+{
+    let mut text = Vec::new(alloc);
+    push_text(&mut text, LESS_BEFORE)?;
+    push_count(&mut text, u64::from(count))?;
+    push_text(&mut text, LESS_BEHIND)?;
+    String::from_utf8_lossy(alloc, text.as_slice())
+}
+
+/// Appends that bytes were taken back, since the client was told more than there are.
+fn push_less(
+    alloc: Global,
+    messages: &mut Vec<Message>,
+    session: &Session,
+    told: u32,
+) -> Result<(), AllocError>
+    requires { length session.now.current.bus.out < told }
+    ensures { OnOk result (each said_of messages.new.items ≡ each said_of messages.old.items
+        ++ output_said (codes "console")
+        (less_text (told - length session.now.current.bus.out)) ∷ []) }
+{
+    let text = less_text(alloc, told - session.output_len())?;
+    push_output(alloc, messages, "console", text.as_str())
+}
+
+/// Appends what the program put out since the client was told so many bytes, or that bytes were
+/// taken back.
+fn push_console(
+    alloc: Global,
+    messages: &mut Vec<Message>,
+    session: &Session,
+    told: u32,
+) -> Result<(), AllocError>
+    ensures { OnOk result (each said_of messages.new.items ≡ each said_of messages.old.items
+        ++ console_said told session.now.current.bus.out) }
+{
+    let count = session.output_len();
+    if told < count {
+        let text = output_since(alloc, session, told)?;
+        push_output(alloc, messages, "stdout", text.as_str())
+    } else if count < told {
+        push_less(alloc, messages, session, told)
+    } else {
+        Ok(())
+    }
+}
+
+/// Returns words with a line end behind them.
+fn line_of(alloc: Global, words: &str) -> Result<String, AllocError>
+    ensures { IfOk result (λ text. string_bytes text ≡ line_of words.now) }
+{
+    let mut text = String::from_str(alloc, words)?;
+    text.push_str("\n")?;
+    Ok(text)
+}
+
+/// Appends words as a remark.
+fn push_words(alloc: Global, messages: &mut Vec<Message>, words: &str) -> Result<(), AllocError>
+    ensures { OnOk result (each said_of messages.new.items ≡ each said_of messages.old.items
+        ++ output_said (codes "console") (line_of words.now) ∷ []) }
+{
+    let text = line_of(alloc, words)?;
+    push_output(alloc, messages, "console", text.as_str())
+}
+
+/// Appends why the machine stands as a remark, if it is before the first instruction or at its
+/// oldest state.
+fn push_remark(alloc: Global, messages: &mut Vec<Message>, halt: Halt) -> Result<(), AllocError>
+    ensures { OnOk result (each said_of messages.new.items
+        ≡ each said_of messages.old.items ++ remark_said halt.reason halt.words.now) }
+{
+    match halt.reason {
+        Reason::Entry => push_words(alloc, messages, halt.words),
+        Reason::Step | Reason::Breakpoint | Reason::InstructionBreakpoint => Ok(()),
+        Reason::DataBreakpoint | Reason::Exception | Reason::Pause => Ok(()),
+    }
+}
+
+/// Returns why a step is refused, in words.
+fn fault_shown(alloc: Global, places: &Places, fault: EventFault) -> Result<String, AllocError>
+    ensures { IfOk result
+        (λ words. string_bytes words ≡ fault_shown places.now.names fault) }
+{
+    let mut text = Vec::new(alloc);
+    push_fault(&mut text, places, fault)?;
+    String::from_utf8_lossy(alloc, text.as_slice())
+}
+
+/// Returns why the machine stands, in words.
+fn halt_shown(alloc: Global, places: &Places, halt: Halt) -> Result<String, AllocError>
+    ensures { IfOk result (λ words. string_bytes words
+        ≡ halt_shown places.now.names halt.words.now halt.fault) }
+{
+    match halt.fault {
+        Some(fault) => fault_shown(alloc, places, fault),
+        None => String::from_str(alloc, halt.words),
+    }
+}
+
+/// Appends that the machine stands.
+fn push_stopped(
+    alloc: Global,
+    messages: &mut Vec<Message>,
+    reason: Reason,
+    words: &str,
+) -> Result<(), AllocError>
+    ensures { OnOk result (each said_of messages.new.items
+        ≡ each said_of messages.old.items ++ stopped_said reason words.now ∷ []) }
+{
+    let body = stopped_body(alloc, reason.word(), words)?;
+    messages.push(Message::Event("stopped", body))?;
+    Ok(())
+}
+
+/// Appends what the program put out, a remark if the machine is before the first instruction or at
+/// its oldest state, and that the machine stands. Notes what was told.
+pub fn tell_halt(
+    alloc: Global,
+    messages: &mut Vec<Message>,
+    desk: &Desk,
+    told: &mut Told,
+    halt: Halt,
+) -> Result<(), AllocError>
+    ensures messages { OnOk result (each said_of messages.new.items
+        ≡ each said_of messages.old.items ++ told_of desk.now told.old.count halt) }
+    ensures count { OnOk result
+        (told.new.count ≡ length desk.now.session.current.bus.out) }
+    ensures words { OnOk result (string_bytes told.new.words
+        ≡ halt_shown desk.now.places.names halt.words.now halt.fault) }
+{
+    push_console(alloc, messages, &desk.session, told.count)?;
+    push_remark(alloc, messages, halt)?;
+    let words = halt_shown(alloc, &desk.places, halt)?;
+    push_stopped(alloc, messages, halt.reason, words.as_str())?;
+    told.count = desk.session.output_len();
+    told.words = words;
+    Ok(())
+}
+
+/// Appends that what the client shows may have changed.
+pub fn tell_unmoved(alloc: Global, messages: &mut Vec<Message>) -> Result<(), AllocError>
+    ensures { OnOk result (each said_of messages.new.items
+        ≡ each said_of messages.old.items ++ unmoved_said ∷ []) }
+{
+    let body = invalidated(alloc)?;
+    messages.push(Message::Event("invalidated", body))?;
+    Ok(())
+}
+
+/// Returns an answer with a body.
+pub fn answered(alloc: Global, body: Value) -> Result<Vec<Message>, AllocError>
+    ensures { IfOk result (λ ms. each said_of ms.items ≡ done (view body) ∷ []) }
+{
+    let mut messages = Vec::new(alloc);
+    messages.push(Message::Done(body))?;
+    Ok(messages)
+}
