@@ -1,0 +1,4 @@
+pub mod Asked
+pub mod First
+pub mod Held
+pub mod Pages

@@ -1,0 +1,18 @@
+//! Files that lines of `mon` write.
+//!
+//! `page` writes what a session holds as one page for a browser: `held` goes back over the events
+//! that the session holds and makes them again, and records each as `page_data` does. `first` says
+//! of the oldest state what a session does not tell. `asked` reads the line, and `writing` writes a
+//! file unless the session has read it.
+#![tactic(auto)]
+
+mod asked;
+mod first;
+mod held;
+mod page;
+pub mod wording;
+mod writing;
+
+pub use asked::{PageLine, page_line};
+pub use page::{Program, show_page};
+pub use writing::{Outcome, write_new};

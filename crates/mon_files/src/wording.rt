@@ -1,0 +1,24 @@
+//! The words of what is said of a file, behind its name.
+
+pub const NOT_WRITTEN: &str = " cannot be written\n";
+
+pub const OWN_FILE: &str = " is a file of this session; save under another name\n";
+
+pub const NONE_HELD: &str = " is not written: no step was made yet, or its history is gone\n";
+
+pub const UNKNOWN_FIRST: &str = " is not written: the history has room for less than 5 events\n";
+
+pub const EVENT: &str = " event, ";
+
+pub const EVENTS: &str = " events, ";
+
+pub const BYTE: &str = " byte\n";
+
+pub const BYTES: &str = " bytes\n";
+
+/// What a page says of its end.
+pub const HERE: &str = "here the page was written";
+
+/// What help says of the line.
+pub const HELP: &str =
+    "page FILE                         writes the steps that are held as a page for a browser\nas in: page run.html\n";
