@@ -1,3 +1,4 @@
 pub mod Filtered
 pub mod Nothing
 pub mod Written
+pub mod Refused

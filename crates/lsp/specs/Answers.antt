@@ -1,5 +1,5 @@
 -- What is answered to requests. Source: Language Server Protocol 3.17; JSON-RPC 2.0.
-use Rattle.std.specs.Prelude.{◌≡◌, ◌⊎◌, ℕ, Bool, true, false, if◌then◌else◌, List}
+use Rattle.std.specs.Prelude.{◌≡◌, ◌⊎◌, ℕ, Bool, true, false, List}
 use Rattle.lsp.specs.Capabilities.{capabilities}
 use Rattle.lsp.specs.Shown.{colours_in, folds_in, hints_in, signatures_in}
 use Rattle.lsp.specs.State.{Opened, State, source_in}
@@ -10,7 +10,7 @@ use Rattle.lsp_answers.specs.Meanings.{IsMeaning}
 use Rattle.lsp_answers.specs.Names.{definition_at, references_at}
 use Rattle.lsp_answers.specs.Renames.{IsKeptAt, IsRenameAt}
 use Rattle.lsp_answers.specs.Texts.{TextView, name_at, text_of}
-use Rattle.lsp_fixes.specs.Fixes.{AreFixes}
+use Rattle.lsp_hints.specs.Fixes.{AreFixes}
 use Rattle.lsp_requests.specs.Fields.{PlaceView}
 use Rattle.lsp_requests.specs.Requests.{RequestView, initialize, shutdown, hover, definition, references, rename, symbols, completion, signatures, colours, folds, hints, fixes, invalid, unknown}
 use Rattle.lsp_values.specs.Replies.{failure_data, result_data}

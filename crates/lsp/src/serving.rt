@@ -1,11 +1,17 @@
 //! Messages taken from the input, one after another, and answered.
 
-ghost use Rattle.std.specs.Prelude.{◌≡◌, ◌≤◌, ℕ, IfOk, IfSome, List, OnOk, Option, Some, map as each};
-ghost use Rattle.std.specs.Io.KnownBytes.{Appends};
+ghost use Rattle.std.specs.Prelude.{◌≡◌, ◌≤◌, ◌++◌, ℕ, IfOk, IfSome, List, None, OnOk, Option, Some};
+ghost use Rattle.std.specs.Prelude.{map as each};
+ghost use Rattle.std.specs.Io.KnownBytes.{Appends, Consumes};
 ghost use Rattle.std.specs.Option.{option_map};
+ghost use Rattle.arguments.specs.Words.{Fits, Refuses, texts};
+ghost use Rattle.lsp.specs.CommandLine.{LspAsked, lsp_app, lsp_asked, lsp_view};
 ghost use Rattle.lsp.specs.Messages.{Does, IsMessage};
+ghost use Rattle.lsp.specs.Sessions.{Answers, IsSession, map_for};
 ghost use Rattle.lsp.specs.State.{server_view};
+ghost use Rattle.lsp.specs.Turns.{Comes, IsSmall};
 ghost use Rattle.lsp.specs.Writing.{AreWritten, IsTextOf};
+ghost use Rattle.lsp.specs.declared.phase.Phase.TheVariants.{ShutDown};
 ghost use Rattle.message_stream.specs.Messages.{framed};
 ghost use Rattle.serde_json.specs.Data.{Data};
 ghost use Rattle.serde_json.specs.View.{view};
@@ -107,6 +113,82 @@ fn served(
     }
 }
 
+/// Does what the body of a message asks for, and writes what is told then. Returns the exit status
+/// if the message asks for the end.
+///
+/// Errors: `Write` if the output fails; `OutOfMemory` if an allocation fails.
+#[tactic(auto, unfolding(crate::specs::Sessions::Answers))]
+fn answer<O: Write>(
+    alloc: Global,
+    map: &MapSpec,
+    server: &mut Server,
+    body: &[u8],
+    output: &mut O,
+) -> Result<Option<u8>, StreamFault>
+    ensures answers { IfOk result (λ end. (written : List ℕ) × Answers map.now body.now
+        (server_view server.old) (server_view server.new) end written
+        × Appends (O.contents output.old) (O.contents output.new) written) }
+    ensures small { IfOk result (λ end. IfSome end (λ status. status ≤ 1)) }
+{
+    let Ok((values, end)) = served(alloc, map, server, body) else {
+        return Err(StreamFault::OutOfMemory);
+    };
+    tell(alloc, &values, output)?;
+    Ok(end)
+}
+
+/// What came of a turn.
+#[derive(Clone, Copy)]
+enum Turn {
+    /// A message was served.
+    Served,
+    /// A message asked for the end, with this exit status.
+    Ended(u8),
+    /// The input has ended behind a message.
+    Over,
+}
+
+/// Takes the next message of the input and serves it: it is answered, and the answer flushed, when
+/// this returns.
+///
+/// Errors: those of `Incoming::next`; `Write` if the output fails; `OutOfMemory` if an allocation
+/// fails.
+fn take_turn<R: Read, O: Write>(
+    alloc: Global,
+    map: &MapSpec,
+    incoming: &mut Incoming,
+    server: &mut Server,
+    input: &mut R,
+    output: &mut O,
+) -> Result<Turn, StreamFault>
+    ensures turn { IfOk result (λ turn. (told : List ℕ)
+        × Consumes (R.remaining input.old) (R.remaining input.new) told × (written : List ℕ)
+        × Comes map.now (incoming.old ++ told) (R.remaining input.new) incoming.new
+        (server_view server.old) (server_view server.new) written turn
+        × Appends (O.contents output.old) (O.contents output.new) written) }
+    ensures small { IfOk result IsSmall }
+{
+    let Some(body) = incoming.next(alloc, input)? else {
+        return Ok(Turn::Over);
+    };
+    match answer(alloc, map, server, &body, output)? {
+        Some(status) => Ok(Turn::Ended(status)),
+        None => Ok(Turn::Served),
+    }
+}
+
+/// Returns the exit status of a server whose input has ended: 0 after `shutdown`.
+///
+/// Errors: `Cut` before `shutdown`.
+fn status_at_end(server: &Server) -> Result<u8, StreamFault>
+    ensures { IfOk result (λ status. (status ≡ 0) × (server.now.phase ≡ ShutDown)) }
+{
+    match server.phase {
+        Phase::ShutDown => Ok(0),
+        Phase::Fresh | Phase::Running => Err(StreamFault::Cut),
+    }
+}
+
 /// Serves messages up to one that asks for the end, and returns the exit status: each is answered,
 /// and the answer flushed, before the next is read. Without such a message the end of the input is
 /// an end with 0 after `shutdown`, and cut off otherwise.
@@ -119,23 +201,17 @@ fn attend<R: Read, O: Write>(
     input: &mut R,
     output: &mut O,
 ) -> Result<u8, StreamFault>
-    ensures { IfOk result (λ status. status ≤ 1) }
+    ensures session { IfOk result (λ status. IsSession map.now (R.remaining input.old)
+        (R.remaining input.new) status (O.contents output.old) (O.contents output.new)) }
+    ensures small { IfOk result (λ status. status ≤ 1) }
 {
     let mut incoming = Incoming::new(alloc);
     let mut server = Server::new(alloc);
     for _ in 0..u64::MAX {
-        let Some(body) = incoming.next(alloc, input)? else {
-            if server.phase == Phase::ShutDown {
-                return Ok(0);
-            }
-            return Err(StreamFault::Cut);
-        };
-        let Ok((values, end)) = served(alloc, map, &mut server, &body) else {
-            return Err(StreamFault::OutOfMemory);
-        };
-        tell(alloc, &values, output)?;
-        if let Some(status) = end {
-            return Ok(status);
+        match take_turn(alloc, map, &mut incoming, &mut server, input, output)? {
+            Turn::Served => {}
+            Turn::Ended(status) => return Ok(status),
+            Turn::Over => return status_at_end(&server),
         }
     }
     Err(StreamFault::Read)
@@ -175,6 +251,9 @@ fn done<R: Read, O: Write, E: Write>(
     output: &mut O,
     errors: &mut E,
 ) -> u8
+    ensures session { result ≤ 1 → IsSession (map_for (lsp_view words.now))
+        (R.remaining input.old) (R.remaining input.new) result (O.contents output.old)
+        (O.contents output.new) }
     ensures status { result ≤ 4 }
     ensures quiet { result ≤ 1 → errors.new ≡ errors.old }
     ensures unread { result ≡ 2 → input.new ≡ input.old }
@@ -203,6 +282,16 @@ pub fn lsp<H: AllocGlobal, R: Read, O: Write, E: Write>(
     output: &mut O,
     errors: &mut E,
 ) -> u8
+    // Words that fit the command line, with right values: up to the end all messages that were read
+    // are answered in their order, and nothing else is written.
+    ensures session { (a : LspAsked) → lsp_asked (texts words.entry.now) ≡ Some a
+        → Fits lsp_app (texts words.entry.now) → result ≤ 1 → IsSession (map_for a)
+        (R.remaining input.old) (R.remaining input.new) result (O.contents output.old)
+        (O.contents output.new) }
+    // Other words read nothing, and write nothing on the output but help.
+    ensures refused { Refuses lsp_app (texts words.entry.now)
+        (lsp_asked (texts words.entry.now) ≡ None) result (input.new ≡ input.old)
+        (output.new ≡ output.old) }
     ensures status { result ≤ 4 }
     // After `exit` nothing is written on the error stream.
     ensures quiet { result ≤ 1 → errors.new ≡ errors.old }

@@ -1,6 +1,6 @@
 -- What stands behind the lines of a source. Source: Language Server Protocol 3.17, "Inlay Hint
 -- Request"; what is shown of which line, mos65.
-use Rattle.std.specs.Prelude.{ℕ, ◌+◌, ◌&&◌, nat_le, nat_lt, Bool, true, false, if◌then◌else◌, is_some, List, [], ◌∷◌, ◌++◌, length, codes, decimal, Option, Some, None, option_and_then, slice_get}
+use Rattle.std.specs.Prelude.{ℕ, ◌+◌, ◌&&◌, nat_le, nat_lt, Bool, true, false, if◌then◌else◌, is_some, List, [], ◌∷◌, ◌++◌, length, codes, decimal, Option, Some, None, slice_get}
 use Rattle.std.specs.Str.Lossy.{utf8_lossy}
 use Rattle.lsp_values.specs.Values.{list_of, object_of, position_data, word}
 use Rattle.model.specs.AllFaults.{Found, found_lines, smallest}

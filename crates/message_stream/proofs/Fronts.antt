@@ -1,5 +1,5 @@
 -- Steps through the bytes of a header.
-use Rattle.std.proofs.Common.{◌≡◌, ◌≢◌, ◌∙◌, ◌-◌, sym, take, length-drop, eq-eqb, ne_eqb, option_and_then, ℕ, ◌+◌, ◌<◌, ◌≤◌, ◌==◌, ◌&&◌, Bool, true, false, List, [], ◌∷◌, length, get_or, drop, refl, ap, add-one, arith, drop-cons, Option, None, Some, if◌then◌else◌}
+use Rattle.std.proofs.Common.{◌≡◌, ◌≢◌, ◌∙◌, ◌-◌, sym, take, length-drop, eq-eqb, ne_eqb, option_and_then, ℕ, ◌+◌, ◌<◌, ◌≤◌, ◌==◌, ◌&&◌, Bool, true, false, List, [], ◌∷◌, length, get_or, drop, refl, ap, add-one, arith, drop-cons, None, Some, if◌then◌else◌}
 use Rattle.std.proofs.lemmas.Grind.{common_steps}
 use Rattle.std.proofs.lemmas.List.{drop-drop, take_all}
 use Rattle.message_stream.specs.Messages.{begins_field, ends_header, header_from, length_in, number_from, number_in, with_digit}

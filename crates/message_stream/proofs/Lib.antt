@@ -2,3 +2,4 @@ pub mod Fronts
 pub mod Taking
 pub mod ReadAgain
 pub mod Stays
+pub mod Sessions

@@ -1,12 +1,12 @@
 -- A message that is written is read again.
-use Rattle.std.proofs.Common.{◌≡◌, ◌≢◌, ◌∙◌, ℕ, ◌+◌, ◌-◌, ◌*◌, ◌^◌, ◌<◌, ◌≤◌, ◌==◌, ◌&&◌, not, nat_le, nat_lt, Bool, true, false, List, [], ◌∷◌, ◌++◌, length, take, drop, refl, sym, ap, subst, arith, add-one, eq-eqb, ne_eqb, append_assoc, length-append, Option, None, Some, option_and_then, codes, decimal}
+use Rattle.std.proofs.Common.{◌≡◌, ◌≢◌, ◌∙◌, ℕ, ◌+◌, ◌-◌, ◌*◌, ◌^◌, ◌<◌, ◌≤◌, ◌==◌, ◌&&◌, not, nat_lt, Bool, true, false, List, [], ◌∷◌, ◌++◌, length, take, drop, refl, sym, ap, subst, arith, ne_eqb, append_assoc, length-append, Some, decimal}
 use Rattle.std.proofs.Math.Seq.{drop-append_seam, take-append_seam}
 use Rattle.std.proofs.lemmas.Bool.{le-ltb}
 use Rattle.std.proofs.lemmas.Fmt.{decimal_nonempty, digits_decimal, digits_value-decimal, length-decimal-le}
 use Rattle.std.proofs.lemmas.Str.Parse.{FoldsDigits, IsNumeralModel, numerals_by_fold, tells_digits}
 use Rattle.std.specs.Str.Parse.{AllDigits}
 use Rattle.std.specs.Int.{IsInRange}
-use Rattle.message_stream.specs.Messages.{AreMessages, IsFront, ReadsAgain, begins_field, blank_line, ends_header, framed, front_of, header_from, header_len, is_digit, length_field, length_in, most_body, number_from, number_in, with_digit}
+use Rattle.message_stream.specs.Messages.{IsFront, ReadsAgain, begins_field, blank_line, ends_header, framed, front_of, header_from, header_len, is_digit, length_field, length_in, most_body, number_from, number_in, with_digit}
 use Rattle.message_stream.specs.declared.front.Front.TheVariants.{Message}
 
 -- ---- the number

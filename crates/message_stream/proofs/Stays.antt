@@ -1,11 +1,10 @@
 -- A message in front stays in front, whatever comes behind the bytes.
-use Rattle.std.proofs.Common.{◌≡◌, ◌≢◌, ◌∙◌, ℕ, ◌+◌, ◌-◌, ◌<◌, ◌≤◌, ◌==◌, nat_lt, Bool, true, false, List, [], ◌∷◌, ◌++◌, length, take, drop, refl, sym, ap, subst, arith, length-append, length-drop, Option, None, Some, if◌then◌else◌}
+use Rattle.std.proofs.Common.{◌≡◌, ◌∙◌, ℕ, ◌+◌, ◌-◌, ◌≤◌, nat_lt, Bool, true, false, List, [], ◌∷◌, ◌++◌, length, take, drop, refl, sym, ap, subst, arith, length-append, length-drop, Option, None, Some, if◌then◌else◌}
 use Rattle.std.proofs.lemmas.List.{drop-append-le, take-append-le}
 use Rattle.std.proofs.lemmas.Bool.{ltb-false}
 use Rattle.message_stream.proofs.ReadAgain.{front_at}
 use Rattle.message_stream.specs.Messages.{AreMessages, IsFront, Stays, body_at, behind_header, ends_header, front_of, header_from, header_len, length_in, most_header}
-use Rattle.message_stream.specs.declared.front.Front.{Front}
-use Rattle.message_stream.specs.declared.front.Front.TheVariants.{Message, Open, NoLength, LongHeader}
+use Rattle.message_stream.specs.declared.front.Front.TheVariants.{Message, Open, LongHeader}
 
 -- ---- the header
 

@@ -1,5 +1,5 @@
 -- What is taken from a reader, and why nothing is. Source: mos65.
-use Rattle.std.specs.Prelude.{ℕ, ◌≡◌, List, [], ◌++◌, Option}
+use Rattle.std.specs.Prelude.{ℕ, ◌≡◌, List, [], Option}
 use Rattle.std.specs.Io.KnownBytes.{IsAtEnd}
 use Rattle.message_stream.specs.Messages.{front_of}
 use Rattle.message_stream.specs.declared.fault.StreamFault.{StreamFault}

@@ -1,4 +1,4 @@
-use Rattle.std.proofs.Common.{◌≡◌, ◌∙◌, List, [], ap, codes, refl, rules}
+use Rattle.std.proofs.Common.{◌≡◌, ◌∙◌, [], ap, codes, refl, rules}
 use Rattle.lsp.specs.Capabilities.{colours, fixes, served, signatures, sync, yes}
 use Rattle.lsp_values.specs.Values.{object_of, word}
 use Rattle.serde_json.specs.Data.{Data, object, Members, no_members, put}

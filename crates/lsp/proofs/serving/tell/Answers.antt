@@ -1,4 +1,4 @@
-use Rattle.std.proofs.Common.{◌+◌, ◌++◌, [], append_assoc, append-nil, map, subst, sym}
+use Rattle.std.proofs.Common.{◌++◌, [], append_assoc, append-nil, map, subst, sym}
 use Rattle.std.proofs.KnownBytes.{Appends-nil, Appends-trans}
 use Rattle.message_stream.specs.Messages.{framed}
 use Rattle.serde_json.specs.View.{view}

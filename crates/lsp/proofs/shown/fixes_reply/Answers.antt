@@ -1,6 +1,6 @@
 use Rattle.std.proofs.Common.{subst}
 use Rattle.lsp_answers.specs.Texts.{TextView}
-use Rattle.lsp_fixes.specs.Fixes.{AreFixes}
+use Rattle.lsp_hints.specs.Fixes.{AreFixes}
 use Rattle.serde_json.specs.View.{view}
 use Rattle.lsp.proofs.shown.fixes_reply.Goals as goal
 

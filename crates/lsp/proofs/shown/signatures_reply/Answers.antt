@@ -1,6 +1,6 @@
 use Rattle.std.proofs.Common.{◌∙◌, ap, ℕ, List}
-use Rattle.lsp.specs.Shown.{line_in, signatures_in}
-use Rattle.lsp_answers.specs.Texts.{TextView, text_view}
+use Rattle.lsp.specs.Shown.{signatures_in}
+use Rattle.lsp_answers.specs.Texts.{TextView}
 use Rattle.lsp_hints.specs.Signatures.{signatures_of}
 use Rattle.lsp_values.specs.Replies.{result_data}
 use Rattle.serde_json.specs.View.{view}

@@ -4,8 +4,8 @@ ghost use Rattle.std.specs.Prelude.{◌≡◌, ◌++◌, ◌∷◌, [], IfOk, On
 ghost use Rattle.std.specs.List.{flat_map};
 ghost use Rattle.std.specs.Str.Lossy.{utf8_lossy};
 ghost use Rattle.lsp_answers.specs.Texts.{text_view};
-ghost use Rattle.lsp_fixes.specs.Fixes.{AreFixes, action_data, fix_of, fixes_between, fixes_of, is_between};
-ghost use Rattle.lsp_fixes.specs.Fixes.{title_of};
+ghost use Rattle.lsp_hints.specs.Fixes.{AreFixes, action_data, fix_of, fixes_between, fixes_of, is_between};
+ghost use Rattle.lsp_hints.specs.Fixes.{title_of};
 ghost use Rattle.lsp_values.specs.Values.{list_of};
 ghost use Rattle.serde_json.specs.View.{view};
 

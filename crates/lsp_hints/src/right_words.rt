@@ -4,9 +4,9 @@ ghost use Rattle.std.specs.Prelude.{◌≡◌, ◌≤◌, length};
 ghost use Rattle.std.specs.List.{list_any};
 ghost use Rattle.std.specs.Option.{option_map};
 ghost use Rattle.std.specs.Str.{bytes_eq};
-ghost use Rattle.lsp_fixes.specs.RightWords.{defines, first_size, is_directive, is_named, is_right};
-ghost use Rattle.lsp_fixes.specs.RightWords.{is_word_or_point, named_in, right_word, second_part};
-ghost use Rattle.lsp_fixes.specs.RightWords.{without_write, word_size};
+ghost use Rattle.lsp_hints.specs.RightWords.{defines, first_size, is_directive, is_named, is_right};
+ghost use Rattle.lsp_hints.specs.RightWords.{is_word_or_point, named_in, right_word, second_part};
+ghost use Rattle.lsp_hints.specs.RightWords.{without_write, word_size};
 ghost use Rattle.name_uses.specs.Views.{use_view, use_views};
 
 use model::Profile;

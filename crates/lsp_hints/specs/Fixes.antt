@@ -4,7 +4,7 @@ use Rattle.std.specs.Prelude.{◌≡◌, ℕ, ◌-◌, ◌&&◌, nat_le, max, Bo
 use Rattle.std.specs.List.{flat_map}
 use Rattle.std.specs.Str.Lossy.{utf8_lossy}
 use Rattle.lsp_answers.specs.Texts.{TextView, range_in}
-use Rattle.lsp_fixes.specs.RightWords.{right_word}
+use Rattle.lsp_hints.specs.RightWords.{right_word}
 use Rattle.lsp_values.specs.Values.{changes_data, edit_data, list_of, object_of, word}
 use Rattle.model.specs.AllFaults.{faults_of}
 use Rattle.model.specs.State.{Map}

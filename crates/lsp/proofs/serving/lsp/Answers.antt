@@ -1,0 +1,29 @@
+use Rattle.std.proofs.Common.{◌≡◌, None, refl, subst}
+use Rattle.arguments.proofs.Parsed.{not_both, one_asked}
+use Rattle.arguments.proofs.Refusing.{not_refused, refuses}
+use Rattle.arguments.specs.Words.{texts}
+use Rattle.lsp.specs.CommandLine.{LspAsked, lsp_app, lsp_asked, lsp_view}
+use Rattle.lsp.specs.Sessions.{IsSession, map_for}
+use Rattle.lsp.proofs.Refused.{no_session}
+use Rattle.lsp.proofs.serving.lsp.Goals as goal
+
+pub returns-in-Ok-clause-session : goal.returns-in-Ok-clause-session
+returns-in-Ok-clause-session g c a h fits low =
+    subst (λ (b : LspAsked). IsSession (map_for b) (g.R.Read.remaining c.args.input.now) (g.R.Read.remaining c.done.new.input) c.done.result (g.O.Write.contents c.args.output.now) (g.O.Write.contents c.done.new.output))
+    (one_asked _ (lsp_view c.in-Ok.words) a c.in-Ok.ensures.asked h) (c.done.ensures.session low)
+
+pub returns-in-Err-clause-session : goal.returns-in-Err-clause-session
+returns-in-Err-clause-session g c a h fits low =
+    absurd (no_session (texts c.args.words.now) c.in-Err.fault c.refused_words.result a c.in-Err.ensures.refused c.refused_words.ensures.status h fits low)
+
+pub returns-in-Ok-clause-refused : goal.returns-in-Ok-clause-refused
+returns-in-Ok-clause-refused g c =
+    not_refused lsp_app (texts c.args.words.now) (lsp_asked (texts c.args.words.now) ≡ None) c.done.result
+    (c.done.new.input ≡ c.args.input.now) (c.done.new.output ≡ c.args.output.now)
+    c.in-Ok.ensures.fits (not_both _ (lsp_view c.in-Ok.words) c.in-Ok.ensures.asked)
+
+pub returns-in-Err-clause-refused : goal.returns-in-Err-clause-refused
+returns-in-Err-clause-refused g c =
+    refuses lsp_app (texts c.args.words.now) (lsp_asked (texts c.args.words.now) ≡ None) c.in-Err.fault c.refused_words.result
+    (c.args.input.now ≡ c.args.input.now) (c.refused_words.new.output ≡ c.args.output.now)
+    c.in-Err.ensures.refused c.refused_words.ensures.status refl c.refused_words.ensures.untouched
