@@ -1,4 +1,5 @@
 pub mod Between
+pub mod Runs
 pub mod Marked
 pub mod Words
 pub mod Parts

@@ -10,7 +10,9 @@ use Rattle.model.specs.declared.instruction.Profile.{Profile}
 use Rattle.source_forms.specs.declared.mark.Mark.{Mark}
 use Rattle.dis_source.specs.Advice.{is_at_port}
 use Rattle.dis_source.specs.Asked.{SourceAsked}
+use Rattle.dis_source.specs.Fill.{AreKept, bytes_left_out}
 use Rattle.dis_source.specs.Marks.{cell_between}
+use Rattle.dis_source.proofs.Runs.{same_filled}
 use Rattle.names_files.specs.NamesFile.{names_file}
 use Rattle.clap.specs.Words.{Text}
 use Rattle.dis_source.specs.Word.{AreFileNames, AreGiven, AreNames, names_map}
@@ -19,11 +21,24 @@ use Rattle.reached.specs.Reached.{AreFollowed}
 use Rattle.dis_source.specs.Written.{AreFollowedBy, AreMarked, AreMarkedBy, IsText, IsWritten, is_followed, starts_of}
 
 -- the source of a part with its marks and names, and where it may be
-pub source_is : (asked : SourceAsked) (image : List (Option ℕ)) (names : Option Definitions) (part : List (Option ℕ)) (marks : List Mark) (text : List ℕ) (at_port : Bool) → ((a : ℕ) → a < 65536 → cell_at part a ≡ cell_between image asked.first asked.last a)
-    → AreMarkedBy asked part marks → IsText asked part marks names text
-    → ((bus_map : Map) → bus_map.profile ≡ asked.profile → has_port_byte bus_map part ≡ false → Denotes bus_map text part) → at_port ≡ is_at_port part → IsWritten asked image names text at_port
-source_is asked image names part marks text at_port cells marked says means same =
-    record { source = record { part = part; cells = cells; marks = marks; marked = marked; says = says; denotes = means }; same = same }
+pub source_is : (asked : SourceAsked) (image : List (Option ℕ)) (names : Option Definitions) (whole part : List (Option ℕ)) (marks : List Mark) (text : List ℕ) (at_port : Bool) (left_out : ℕ) → ((a : ℕ) → a < 65536 → cell_at whole a ≡ cell_between image asked.first asked.last a)
+    → AreKept whole asked.fill part → left_out ≡ bytes_left_out whole part → AreMarkedBy asked part marks → IsText asked part marks names text
+    → ((bus_map : Map) → bus_map.profile ≡ asked.profile → has_port_byte bus_map part ≡ false → Denotes bus_map text part) → at_port ≡ is_at_port part → IsWritten asked image names text at_port left_out
+source_is asked image names whole part marks text at_port left_out cells kept counted marked says means same = record {
+  source = record {
+    whole = whole;
+    cells = cells;
+    part = part;
+    kept = kept;
+    filled = same_filled asked.fill whole part kept;
+    marks = marks;
+    marked = marked;
+    says = says;
+    denotes = means;
+  };
+  same = same;
+  counted = counted;
+}
 
 -- marks where control is not followed, and where it is
 pub unfollowed : (asked : SourceAsked) (part : List (Option ℕ)) (marks : List Mark) → AreMarked asked marks → is_followed asked.following ≡ false → AreMarkedBy asked part marks

@@ -26,13 +26,18 @@ abbrev pub advice : Bool → Profile → List ℕ
 advice port profile = if is_needed port profile then codes "mos65: this is a source for asm"
     ++ (port_words port ++ (profile_words profile ++ 10 ∷ [])) else []
 
--- ---- what is told of a file of names
+-- ---- what is told of a file of names, and of fill
 
 -- The line that says how many lines of it were left out, if some were.
 unfoldable pub left_out_text : ℕ → List ℕ
 left_out_text count = if count == 0 then []
     else codes "mos65: names left out: " ++ decimal count ++ codes "\n"
 
--- The same in front of another line.
-abbrev pub remark : ℕ → List ℕ → List ℕ
-remark count line = left_out_text count ++ line
+-- The line that says how many bytes were left out as fill, if some were.
+unfoldable pub bytes_text : ℕ → List ℕ
+bytes_text count = if count == 0 then []
+    else codes "mos65: bytes left out: " ++ decimal count ++ codes "\n"
+
+-- Both in front of another line.
+abbrev pub remark : ℕ → ℕ → List ℕ → List ℕ
+remark names bytes line = left_out_text names ++ (bytes_text bytes ++ line)

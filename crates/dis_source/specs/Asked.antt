@@ -4,7 +4,7 @@ use Rattle.std.specs.Prelude.{ℕ, Bool, List, [], ◌∷◌, Option, Some, None
 use Rattle.arguments.specs.Asked.{is_flag}
 use Rattle.arguments.specs.Values.{profile_asked}
 use Rattle.clap.specs.Words.{Text}
-use Rattle.image_files.specs.Options.{form_said}
+use Rattle.image_files.specs.Options.{fill_asked, form_said}
 use Rattle.image_reader.specs.declared.form.Form.{Form}
 use Rattle.model.specs.Commands.{address_of, from_1_to}
 use Rattle.model.specs.Digits.{decimal_number}
@@ -37,6 +37,7 @@ pub record SourceAsked : Type 0 where
   pub labels : Bool
   pub symbols : Option Text
   pub profile : Profile
+  pub fill : Option ℕ
 
 -- Two addresses, the first at most the last.
 abbrev pub addresses_of : Option ℕ → Option ℕ → Option (ℕ × ℕ)
@@ -127,9 +128,10 @@ following_asked values = following_of_values (addresses_asked (values (codes "fo
     (addresses_asked (values (codes "follow"))) (routines_asked (values (codes "inline")))
 
 abbrev pub source_of_values : Option Text → Option (Option Form) → Option (ℕ × ℕ) → Option Ranges
-    → Option Following → Bool → Option Text → Option Profile → Option SourceAsked
+    → Option Following → Bool → Option Text → Option Profile → Option (Option ℕ)
+    → Option SourceAsked
 source_of_values (Some tape) (Some form) (Some bounds) (Some ranges) (Some following) labels symbols
-    (Some profile) =
+    (Some profile) (Some fill) =
     Some (record {
       tape = tape;
       form = form;
@@ -140,8 +142,9 @@ source_of_values (Some tape) (Some form) (Some bounds) (Some ranges) (Some follo
       labels = labels;
       symbols = symbols;
       profile = profile;
+      fill = fill;
     })
-source_of_values tape form bounds ranges following labels symbols profile = None
+source_of_values tape form bounds ranges following labels symbols profile fill = None
 
 -- What the first values and all values of the names ask for, where each is one that its name can
 -- have.
@@ -150,4 +153,4 @@ source_asked value values = source_of_values (value (codes "TAPE")) (form_said v
     (bounds_asked (value (codes "LO")) (value (codes "HI")))
     (all_ranges_asked values) (following_asked values)
     (is_flag (value (codes "labels"))) (value (codes "symbols"))
-    (profile_asked (value (codes "profile")))
+    (profile_asked (value (codes "profile"))) (fill_asked (value (codes "fill")))

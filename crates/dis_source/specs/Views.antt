@@ -31,4 +31,5 @@ source_view w = record {
   labels = w.labels;
   symbols = option_map (λ s. s.now) w.symbols;
   profile = w.profile;
+  fill = w.fill;
 }

@@ -12,6 +12,7 @@ use Rattle.dis_source.specs.Asked.{SourceAsked}
 use Rattle.std.specs.Io.KnownBytes.{Appends}
 use Rattle.model.specs.Writers.{AppendsFront}
 use Rattle.dis_source.specs.Advice.{advice, is_at_port, remark}
+use Rattle.dis_source.specs.Fill.{bytes_left_out}
 use Rattle.dis_source.specs.Written.{IsSourceOfPart}
 use Rattle.names_files.specs.NamesFile.{names_file}
 use Rattle.model.specs.Names.{Definitions}
@@ -51,24 +52,27 @@ pub record IsSource (asked : SourceAsked) (text : List ℕ) : Type 0 where
   pub given : AreGiven asked.symbols asked.profile names left_out
   pub written : IsSourceOfPart asked image names text
 
--- The same, whether its part has bytes where the port is if nothing is said, and how many lines of
--- the file of names are left out.
-pub record IsSourceWith (asked : SourceAsked) (text : List ℕ) (at_port : Bool) (left_out : ℕ)
+-- The same, whether its part has bytes where the port is if nothing is said, how many lines of the
+-- file of names are left out, and how many bytes are left out as fill.
+pub record IsSourceWith (asked : SourceAsked) (text : List ℕ) (at_port : Bool) (names bytes : ℕ)
     : Type 0 where
   pub source : IsSource asked text
   pub same : at_port ≡ is_at_port source.written.part
-  pub counted : left_out ≡ source.left_out
+  pub counted : names ≡ source.left_out
+  pub padded : bytes ≡ bytes_left_out source.written.whole source.written.part
 
 abbrev pub IsSaid : SourceAsked → Bool → List ℕ → Type 0
 IsSaid asked is_right text = IsSource asked text
 
 -- A source was written, and on the error stream a beginning of how many lines of the file of names
--- were left out, if some were, and of what `asm` has to be told, if it has to be told something.
+-- were left out, if some were, of how many bytes were left out as fill, if some were, and of what
+-- `asm` has to be told, if it has to be told something.
 pub record IsDone (asked : SourceAsked) (held now errors told : Option (List ℕ)) : Type 0 where
   pub text : List ℕ
   pub source : IsSource asked text
   pub written : Appends held now text
   pub advised : AppendsFront errors told (remark source.left_out
+      (bytes_left_out source.written.whole source.written.part)
       (advice (is_at_port source.written.part) asked.profile))
 
 -- Why a source of names is refused: it has this fault. Memory may run out at any source.

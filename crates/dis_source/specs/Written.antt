@@ -11,6 +11,7 @@ use Rattle.named_source.specs.NamedText.{IsNamedText}
 use Rattle.reached.specs.Reached.{AreFollowed, vectors}
 use Rattle.dis_source.specs.Advice.{is_at_port}
 use Rattle.dis_source.specs.Asked.{Following, SourceAsked}
+use Rattle.dis_source.specs.Fill.{AreKept, AreSameFilled, bytes_left_out}
 use Rattle.dis_source.specs.Marks.{cell_between, has_labels, mark_of}
 
 -- ---- marks
@@ -58,23 +59,28 @@ IsText asked part marks None text = text ≡ (if has_labels asked
     then labelled_source asked.profile part marks
     else flagged_source asked.profile part marks [])
 
--- A text is the source of what an image has between the addresses that are asked for, with the marks
--- that are asked for and the names that are given. Under each map of the profile it denotes exactly
--- this, if none of it is at the map's port.
+-- A text is the source of what an image has between the addresses that are asked for, without its
+-- runs of the fill byte that is asked for, with the marks that are asked for and the names that are
+-- given. Under each map of the profile it denotes exactly this, if none of it is at the map's port.
+-- With the fill byte in its gaps it is the image between the addresses, filled in the same way.
 pub record IsSourceOfPart (asked : SourceAsked) (image : List (Option ℕ))
     (names : Option Definitions) (text : List ℕ) : Type 0 where
-  pub part : List (Option ℕ)
+  pub whole : List (Option ℕ)
   pub cells : (a : ℕ) → a < 65536
-      → cell_at part a ≡ cell_between image asked.first asked.last a
+      → cell_at whole a ≡ cell_between image asked.first asked.last a
+  pub part : List (Option ℕ)
+  pub kept : AreKept whole asked.fill part
+  pub filled : AreSameFilled asked.fill whole part
   pub marks : List Mark
   pub marked : AreMarkedBy asked part marks
   pub says : IsText asked part marks names text
   pub denotes : (bus_map : Map) → bus_map.profile ≡ asked.profile
       → has_port_byte bus_map part ≡ false → Denotes bus_map text part
 
--- A text is the source that is asked for, and it is known whether the part has bytes where the port
--- is if nothing is said.
+-- A text is the source that is asked for. It is known whether the part has bytes where the port is if
+-- nothing is said, and how many bytes are left out as fill.
 pub record IsWritten (asked : SourceAsked) (image : List (Option ℕ)) (names : Option Definitions)
-    (text : List ℕ) (at_port : Bool) : Type 0 where
+    (text : List ℕ) (at_port : Bool) (left_out : ℕ) : Type 0 where
   pub source : IsSourceOfPart asked image names text
   pub same : at_port ≡ is_at_port source.part
+  pub counted : left_out ≡ bytes_left_out source.whole source.part

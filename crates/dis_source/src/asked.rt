@@ -11,7 +11,7 @@ use crate::following::{FollowWords, following_asked};
 use crate::ranges::{RangeWords, addresses, all_ranges_asked};
 use arguments::{WordsFault, is_given, matched, profile_asked, wrong_value};
 use clap::ArgMatches;
-use image_files::form_said;
+use image_files::{fill_asked, form_said};
 use image_reader::Form;
 use model::Profile;
 use std::alloc::{AllocError, Global};
@@ -37,6 +37,8 @@ pub struct SourceWords<'a> {
     pub symbols: Option<&'a str>,
     /// The processor whose instructions are written.
     pub profile: Profile,
+    /// The byte whose runs are left out, if one is said.
+    pub fill: Option<u8>,
 }
 
 /// The addresses that LO and HI ask for, all where neither is there, or `None` where they are
@@ -83,6 +85,9 @@ fn source_words<'a>(
     let Some(profile) = profile_asked(matches.get_str("profile")) else {
         return Ok(None);
     };
+    let Some(fill) = fill_asked(matches.get_str("fill")) else {
+        return Ok(None);
+    };
     Ok(Some(SourceWords {
         tape,
         form,
@@ -93,6 +98,7 @@ fn source_words<'a>(
         labels: is_given(matches, "labels"),
         symbols: matches.get_str("symbols"),
         profile,
+        fill,
     }))
 }
 
@@ -100,6 +106,8 @@ fn source_words<'a>(
 fn wrong_word(matches: &ArgMatches<'_>) -> &'static str {
     if bounds_asked(matches.get_str("LO"), matches.get_str("HI")).is_none() {
         "LO and HI take four hex digits each, the lower first"
+    } else if fill_asked(matches.get_str("fill")).is_none() {
+        "--fill takes two hex digits"
     } else {
         let lists = "ranges are 0200-02FF, addresses 0200, routines 0200=z or 0200=12";
         wrong_value(matches).unwrap_or(lists)
@@ -112,8 +120,8 @@ fn wrong_word(matches: &ArgMatches<'_>) -> &'static str {
 ///
 /// - `Help` if they ask for help, and `Usage` if they do not fit the command line, with `clap`'s
 ///   text.
-/// - `Wrong`: they fit, and a value is wrong: an address, a range or a routine that is none, LO
-///   without HI, or a first address above the last.
+/// - `Wrong`: they fit, and a value is wrong: an address, a range, a routine or a fill byte that is
+///   none, LO without HI, or a first address above the last.
 /// - `OutOfMemory`: an allocation failed.
 pub fn read_source_words<'a>(
     alloc: Global,

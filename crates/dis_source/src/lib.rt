@@ -2,14 +2,17 @@
 //!
 //! `dis_source` is the one call. It reads its words (`command`, `asked`, `ranges`, `following`),
 //! marks what is no code (`marks`), and writes the source of the tape's image as it is asked for
-//! (`written`), and what `asm` has to be told of it (`advice`). The contract of `written` says that
-//! this source denotes the part of the image that is asked for, whatever is marked and named:
-//! `round_trips` and `named_source` have the theorem, and `reached` finds what control reaches.
+//! (`written`), and what `asm` has to be told of it (`advice`). Runs of the byte with which an
+//! image is padded are left out before anything else, if that is asked for (`fill`). The contract
+//! of `written` says that this source denotes the part of the image that is asked for, whatever is
+//! marked and named: `round_trips` and `named_source` have the theorem, and `reached` finds what
+//! control reaches.
 #![tactic(auto)]
 
 mod advice;
 mod asked;
 mod command;
+mod fill;
 mod following;
 mod marks;
 mod ranges;

@@ -73,8 +73,8 @@ fn cell_between(image: &Image, first: u16, last: u16, address: u16) -> Option<u8
     }
 }
 
-/// Puts a byte, if there is one, at an address.
-fn put_cell(part: &mut Image, address: u16, cell: Option<u8>)
+/// Puts a byte at an address if there is one.
+pub fn put_cell(part: &mut Image, address: u16, cell: Option<u8>)
     ensures { part.new ≡ with_cell part.old address cell }
 {
     match cell {

@@ -11,7 +11,7 @@ ghost use Rattle.names_files.specs.NamesFile.{names_file};
 ghost use Rattle.dis_source.specs.Word.{HasNamesFault, IsDone, IsSaid, IsSourceWith};
 ghost use Rattle.image_files.specs.Files.{HasNoImage};
 
-use crate::advice::put_remarks;
+use crate::advice::{LeftOut, put_remarks};
 use crate::asked::{SourceWords, read_source_words};
 use crate::written::{SourceText, defined, written};
 use arguments::{FileRefusal, Refusal, read_source, refuse, refused_words, write_text};
@@ -117,7 +117,7 @@ fn text_of<'a, H: Files + AllocGlobal>(
     words: &SourceWords<'a>,
 ) -> Result<ReadSource, ImageFileRefusal<'a>>
     ensures source { IfOk result (λ r. IsSourceWith (source_view words.now) r.source.text.items
-        r.source.at_port r.left_out) }
+        r.source.at_port r.left_out r.source.left_out) }
     ensures refused { IfErr result (EndsSource (source_view words.now)) }
 {
     let file = words.tape;
@@ -159,7 +159,11 @@ fn done<H: Files + AllocGlobal, O: Write, E: Write>(
     match text_of(rt, words) {
         Ok(read) => match write_text(output, read.source.text.as_slice()) {
             Ok(()) => {
-                put_remarks(read.left_out, read.source.at_port, words.profile, errors);
+                let left_out = LeftOut {
+                    names: read.left_out,
+                    bytes: read.source.left_out,
+                };
+                put_remarks(left_out, read.source.at_port, words.profile, errors);
                 0
             }
             Err(_) => refuse(Refusal::Write, errors),
@@ -174,9 +178,10 @@ fn done<H: Files + AllocGlobal, O: Write, E: Write>(
 /// It is 0 if the source was written, 1 if the file is no image or the source of names has a fault,
 /// 2 if the words are wrong, 3 if memory ran out, 4 if reading or writing failed. For each but 0 a
 /// line on `errors` says why, with the name of the file that has the fault or cannot be read. For 0
-/// a line there says how many names of the file of names were left out, if some were, and one says
-/// which options `asm` needs for the source, if it needs some. The status is the same if they
-/// cannot be written. The text is whole, and each file closed, before any of it is written.
+/// a line there says how many names of the file of names were left out, if some were, one says how
+/// many bytes were left out as fill, if some were, and one says which options `asm` needs for the
+/// source, if it needs some. The status is the same if they cannot be written. The text is whole,
+/// and each file closed, before any of it is written.
 pub fn dis_source<H: Files + AllocGlobal, O: Write, E: Write>(
     rt: &H,
     words: &[&str],

@@ -13,6 +13,7 @@ ghost use Rattle.model.specs.State.{Map, has_port_byte};
 
 use crate::advice::is_at_port;
 use crate::asked::SourceWords;
+use crate::fill::kept;
 use crate::following::FollowWords;
 use crate::marks::{between, marks_of};
 use arguments::{Refusal, map_of};
@@ -168,11 +169,15 @@ pub struct SourceText {
     pub text: Vec<u8>,
     /// Whether the image has bytes at the port.
     pub at_port: bool,
+    /// How many bytes of the image are left out as fill.
+    pub left_out: usize,
 }
 
 /// Returns the source of what an image has between the addresses of the words, as the words ask for
-/// it: whatever they mark and name, it denotes exactly this. With it comes whether this has bytes
-/// at the port. The only error is that a request for memory was refused.
+/// it: whatever they mark and name, it denotes exactly this, without the runs of the fill byte of
+/// the words. These are left out first, so control is followed to where they begin. With it comes
+/// whether this has bytes at the port, and how many bytes are left out. The only error is that a
+/// request for memory was refused.
 pub fn written(
     alloc: Global,
     words: &SourceWords<'_>,
@@ -180,15 +185,16 @@ pub fn written(
     names: Option<&Assembly>,
 ) -> Result<SourceText, AllocError>
     ensures { IfOk result (λ w. IsWritten (source_view words.now) image.now
-        (option_map (λ a. a.now.names) names.entry) w.text.items w.at_port) }
+        (option_map (λ a. a.now.names) names.entry) w.text.items w.at_port w.left_out) }
 {
-    let Ok(part) = between(alloc, image, words.first, words.last) else {
-        return Err(AllocError);
-    };
-    let marks = marked(alloc, words, &part)?;
-    let text = source_of(alloc, words, &part, marks.as_slice(), names)?;
+    let whole = between(alloc, image, words.first, words.last)?;
+    let kept_part = kept(alloc, whole, words.fill)?;
+    let part = &kept_part.part;
+    let marks = marked(alloc, words, part)?;
+    let text = source_of(alloc, words, part, marks.as_slice(), names)?;
     Ok(SourceText {
         text,
-        at_port: is_at_port(&part),
+        at_port: is_at_port(part),
+        left_out: kept_part.left_out,
     })
 }

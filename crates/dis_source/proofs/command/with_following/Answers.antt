@@ -1,7 +1,6 @@
-use Rattle.std.proofs.Common.{rules, ap, ap₂, codes, ◌≡◌, ◌∙◌, refl}
-use Rattle.arguments.specs.CommandLine.{file_rule, flag_rule, list_rule, option_rule}
+use Rattle.std.proofs.Common.{rules, ap₂, codes, ◌≡◌, ◌∙◌, refl}
+use Rattle.arguments.specs.CommandLine.{list_rule}
 use Rattle.clap.specs.Words.{app_of, rule_of, with_rule}
-use Rattle.dis_source.specs.CommandLine.{bound_rule, dis_part, with_following, with_ranges}
 use Rattle.dis_source.proofs.command.with_following.Goals as goal
 
 pub returns-clause-shape : goal.returns-clause-shape
