@@ -1,3 +1,7 @@
 mod Read
 pub mod Refused
 pub mod Whole
+mod ListingRead
+pub mod Listed
+mod DebuggingRead
+pub mod Served

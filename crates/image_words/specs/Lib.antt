@@ -2,3 +2,10 @@ pub mod CommandLine
 pub mod Asked
 pub mod Converted
 pub mod Statuses
+pub mod ListingAsked
+pub mod ListingCommandLine
+pub mod Listing
+pub mod DebugAsked
+pub mod DebugCommandLine
+pub mod DebugWord
+pub mod Serving

@@ -1,12 +1,15 @@
-//! `convert IN OUT`: an image in one form from an image in another.
+//! The words of an image: `convert`, and `dis` and `debug` with an image in any form.
 //!
-//! `converted` has the theorem: what is written, read again, is the part of the image that the
-//! bytes of IN denote. `convert` is the word: it reads its words and IN, and writes OUT. How IN is
-//! read is of `image_files`.
+//! `converted` has the theorem of `convert IN OUT`: what is written, read again, is the part of the
+//! image that the bytes of IN denote. `convert` is the word: it reads its words and IN, and writes
+//! OUT. `dis_image` lists an image as instructions (`dis_rows`), and `debug_image` serves a session
+//! on one (`debugging`). How a file is read is of `image_files`.
 #![tactic(auto)]
 
 mod command;
 mod converting;
+mod debugging;
+mod dis_rows;
 mod fault;
 mod names;
 mod run;
@@ -15,6 +18,8 @@ mod words;
 
 pub use command::convert_command;
 pub use converting::converted;
+pub use debugging::{debug_image, debug_image_command};
+pub use dis_rows::{dis_image, dis_image_command};
 pub use fault::ConvertFault;
 pub use names::FormName;
 pub use run::convert;

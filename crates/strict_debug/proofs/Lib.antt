@@ -6,3 +6,4 @@ pub mod Made
 pub mod Seeing
 pub mod Telling
 pub mod Naming
+pub mod OnImage

@@ -3,12 +3,13 @@
 //! `debug` writes its replies to a `Watch`, which passes them on and notes what it sees
 //! (`specs/Seen.antt`). So the replies are those of `debug`, and no lower crate knows of the
 //! option. In proofs alone the watch remembers what it was told, so the status is that of the whole
-//! transcript.
+//! transcript. `strict_debug_image` does the same with `debug` on an image.
 #![tactic(auto)]
 
 mod asked;
 mod command;
 mod heard;
+mod image;
 mod log;
 mod seen;
 mod strict;
@@ -17,6 +18,7 @@ mod watch;
 pub use asked::is_strict;
 pub use command::strict_debug_command;
 pub use heard::Heard;
+pub use image::strict_debug_image;
 pub use log::Log;
 pub use seen::{Place, Seen};
 pub use strict::strict_debug;

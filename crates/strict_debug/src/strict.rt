@@ -20,7 +20,7 @@ use std::rt::Files;
 
 /// Returns the exit status of a session whose plain one is this: 5 if it is done and a reply told
 /// of a fault.
-fn status_of_replies(status: u8, has_fault: bool) -> u8
+pub fn status_of_replies(status: u8, has_fault: bool) -> u8
     ensures done { status ≡ 0 → result ≡ if has_fault then 5 else 0 }
     ensures failed { 1 ≤ status → result ≡ status }
 {

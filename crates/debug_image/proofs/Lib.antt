@@ -1,2 +1,0 @@
-mod Read
-pub mod Served

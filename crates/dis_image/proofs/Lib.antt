@@ -1,2 +1,0 @@
-pub mod Listed
-mod Read
