@@ -1,5 +1,5 @@
 -- What the form of some bytes says of what is told of them.
-use Rattle.std.proofs.Common.{◌≡◌, ◌⊎◌, ℕ, Bool, true, false, List, Option, Some, None, Result, Ok, Err, inl, inr, refl, sym, ap, subst, ◌∙◌}
+use Rattle.std.proofs.Common.{◌≡◌, ◌⊎◌, ℕ, true, false, List, [], Option, Some, None, Result, Ok, Err, inl, inr, refl, sym, ap, subst, ◌∙◌}
 use Rattle.arguments.specs.declared.refusal.Refusal.TheVariants.{OutOfMemory}
 use Rattle.image_files.specs.Bytes.{IsImage, IsNoImage, form_by}
 use Rattle.image_files.specs.declared.refusal.ImageRefusal.TheVariants as why
@@ -9,7 +9,9 @@ use Rattle.image_reader.specs.declared.form.Form.TheVariants.{Tape, Text, Raw, P
 use Rattle.image_reader.specs.declared.form.OtherText.{OtherText}
 use Rattle.model.specs.Tape.{TapeDenotes}
 use Rattle.tape_info.specs.Facts.{data_records}
-use Rattle.tape_info.specs.Told.{AreRows, IsRightImage, is_tape, records_in}
+use Rattle.tape_info.specs.Overlaps.{overlaps_of}
+use Rattle.tape_info.specs.Told.{AreOverlaps, AreRows, IsRightImage, is_tape, records_in}
+use Rattle.tape_info.specs.declared.ranges.Range.{Range}
 use Rattle.tape_words.specs.Asked.{InfoAsked}
 
 the_form : (told : Result Form OtherText) → is_tape told ≡ true → told ≡ Ok Tape
@@ -38,7 +40,21 @@ tape_image said bytes cells is denotes = (Tape, the_form (form_by said bytes) is
 pub tape_records : (said : Option Form) (bytes : List ℕ) (count : ℕ) → is_tape (form_by said bytes) ≡ true → count ≡ data_records bytes → Some count ≡ records_in (form_by said bytes) bytes
 tape_records said bytes count is e = ap Some e ∙ sym (ap (λ (t : Result Form OtherText). records_in t bytes) (the_form (form_by said bytes) is))
 
+pub tape_overlaps : (said : Option Form) (bytes : List ℕ) (overlaps : List Range) → is_tape (form_by said bytes) ≡ true → ((cells : List (Option ℕ)) → (tape : TapeDenotes bytes cells) → overlaps ≡ overlaps_of tape.pieces)
+    → AreOverlaps (form_by said bytes) bytes overlaps
+tape_overlaps said bytes overlaps is each = subst (λ (t : Result Form OtherText). AreOverlaps t bytes overlaps) (sym (the_form (form_by said bytes) is)) each
+
 -- another form
+pub no_overlaps : (told : Result Form OtherText) (bytes : List ℕ) (overlaps : List Range) → is_tape told ≡ false → overlaps ≡ [] → AreOverlaps told bytes overlaps
+no_overlaps (Ok Tape) bytes overlaps is none = absurd (no is)
+  where
+    no : true ≡ false → ⊥
+    no e = cc
+no_overlaps (Ok (Text form)) bytes overlaps is none = none
+no_overlaps (Ok (Raw address)) bytes overlaps is none = none
+no_overlaps (Ok Prg) bytes overlaps is none = none
+no_overlaps (Err like) bytes overlaps is none = none
+
 pub no_records : (told : Result Form OtherText) (bytes : List ℕ) → is_tape told ≡ false → None ≡ records_in told bytes
 no_records (Ok Tape) bytes is = absurd (no is)
   where
@@ -50,13 +66,15 @@ no_records (Ok Prg) bytes is = refl
 no_records (Err like) bytes is = refl
 
 -- what is said of an image
-pub right_image : (asked : InfoAsked) (bytes : List ℕ) (image : List (Option ℕ)) (port : ℕ) (records : Option ℕ) (said : List ℕ) → port ≡ asked.port → IsImage asked.form bytes image
-    → records ≡ records_in (form_by asked.form bytes) bytes → AreRows asked.profile image port records said → IsRightImage asked said
-right_image asked bytes image port records said at is counts rows = record {
+pub right_image : (asked : InfoAsked) (bytes : List ℕ) (image : List (Option ℕ)) (port : ℕ) (records : Option ℕ) (overlaps : List Range) (said : List ℕ) → port ≡ asked.port → IsImage asked.form bytes image
+    → records ≡ records_in (form_by asked.form bytes) bytes → AreOverlaps (form_by asked.form bytes) bytes overlaps → AreRows asked.profile image port records overlaps said → IsRightImage asked said
+right_image asked bytes image port records overlaps said at is counts over rows = record {
   bytes = bytes;
   image = image;
   denotes = is;
-  rows = subst (λ (n : Option ℕ). AreRows asked.profile image asked.port n said) counts (subst (λ (k : ℕ). AreRows asked.profile image k records said) at rows);
+  overlaps = overlaps;
+  written = over;
+  rows = subst (λ (n : Option ℕ). AreRows asked.profile image asked.port n overlaps said) counts (subst (λ (k : ℕ). AreRows asked.profile image k records overlaps said) at rows);
 }
 
 -- bytes that are no image are refused for that, where it is not memory that ran out

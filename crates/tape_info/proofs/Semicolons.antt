@@ -11,13 +11,13 @@ use Rattle.model.specs.Tape.{Part, gap, record_of, IsPiece, front_of, count_of, 
 abbrev is_semicolon : ℕ → Bool
 is_semicolon b = b == 59
 
-no_digit : (b : ℕ) → is_hex_byte b ≡ true → (b == 59) ≡ false
+pub no_digit : (b : ℕ) → is_hex_byte b ≡ true → (b == 59) ≡ false
 no_digit b h = elim (cases_Bool (b == 59)) [
   | inl t ↦ let e : is_hex_byte b ≡ is_hex_byte 59 = ap is_hex_byte (eqb-true b 59 t) in absurd cc
   | inr f ↦ f
 ]
 
-no_gap : (b : ℕ) → is_skipped b ≡ true → (b == 59) ≡ false
+pub no_gap : (b : ℕ) → is_skipped b ≡ true → (b == 59) ≡ false
 no_gap b h = elim (cases_Bool (b == 59)) [
   | inl t ↦ let e : is_skipped b ≡ is_skipped 59 = ap is_skipped (eqb-true b 59 t) in absurd cc
   | inr f ↦ f

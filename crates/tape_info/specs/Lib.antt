@@ -1,5 +1,6 @@
 pub mod Crc
 pub mod Facts
+pub mod Overlaps
 pub mod Rows
 pub mod Steps
 pub mod Told

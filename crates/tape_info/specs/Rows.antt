@@ -17,7 +17,7 @@ use Rattle.tape_info.specs.declared.fact_list.Facts.{Facts}
 use Rattle.tape_info.specs.declared.gaps.Gap.{Gap}
 use Rattle.tape_info.specs.declared.ranges.Range.{Range}
 use Rattle.tape_words.specs.declared.wording.TheConstants.{BYTE, BYTES, RECORD, RECORDS}
-use Rattle.tape_info.specs.declared.wording.TheConstants.{TAPE_ROW, IMAGE_ROW, IN, AND, RANGE, RANGES, RANGE_ROW, CRC_32, SUM_16, SUM_8, CLASH, NO_BASE, FREE, GAP_ROW, NOTHING, NMI_ROW, RESET_ROW, IRQ_ROW, PAGE_0_ROW, PAGE_1_ROW, PORT_ROW}
+use Rattle.tape_info.specs.declared.wording.TheConstants.{TAPE_ROW, IMAGE_ROW, IN, AND, RANGE, RANGES, RANGE_ROW, CRC_32, SUM_16, SUM_8, CLASH, NO_BASE, FREE, OVERLAP_ROW, AGAIN, GAP_ROW, NOTHING, NMI_ROW, RESET_ROW, IRQ_ROW, PAGE_0_ROW, PAGE_1_ROW, PORT_ROW}
 
 -- ---- words of the rows
 
@@ -73,6 +73,16 @@ range_row summed = stretch_text RANGE_ROW.now summed.0.first summed.0.last
 -- A row for each range with its check sum.
 abbrev pub range_rows : Facts → List ℕ
 range_rows facts = flat_map range_row (zip facts.ranges.items facts.checksums.items)
+
+-- The row of addresses at which more than one record of a tape puts a byte:
+-- `overlap 0201-0201  1 byte written more than once`.
+unfoldable pub overlap_row : Range → List ℕ
+overlap_row range = stretch_text OVERLAP_ROW.now range.first range.last
+    ++ byte_count (range.last - range.first + 1) ++ AGAIN.now
+
+-- A row for each range of such addresses.
+abbrev pub overlap_rows : List Range → List ℕ
+overlap_rows overlaps = flat_map overlap_row overlaps
 
 -- The row of a gap, from the address after the range before it to the one before the range after it.
 abbrev pub known_gap_row : Gap → List ℕ
@@ -136,10 +146,12 @@ part_rows port facts = part_row PAGE_0_ROW.now 0 255 facts.in_page_0
 
 -- ---- all rows
 
--- All rows of an image's facts, for a profile, a port and so many records of a tape.
-unfoldable pub rows_of : Profile → List (Option ℕ) → ℕ → Facts → Option ℕ → List ℕ
-rows_of profile image port facts records = tape_row facts records ++ range_rows facts
-    ++ gap_row facts.gap ++ vector_rows profile image facts ++ part_rows port facts
+-- All rows of an image's facts, for a profile, a port, so many records of a tape and where these
+-- overlap.
+unfoldable pub rows_of : Profile → List (Option ℕ) → ℕ → Facts → Option ℕ → List Range → List ℕ
+rows_of profile image port facts records overlaps = tape_row facts records ++ range_rows facts
+    ++ overlap_rows overlaps ++ gap_row facts.gap ++ vector_rows profile image facts
+    ++ part_rows port facts
 
 -- ---- what is no image
 

@@ -1,5 +1,5 @@
 -- What `info` says of a tape. Source: mos65. No clause can say which tape a file has.
-use Rattle.std.specs.Prelude.{◌≡◌, ◌⊎◌, ℕ, Bool, true, false, List, [], ◌++◌, Option, None, Some, Result, Ok, Err}
+use Rattle.std.specs.Prelude.{◌≡◌, ◌⊎◌, ℕ, Bool, true, false, List, [], ◌++◌, Option, None, Some, Result, Ok}
 use Rattle.image_files.specs.Bytes.{IsImage, IsNoImage, form_by}
 use Rattle.image_files.specs.FreeBase.{IsFreeBase}
 use Rattle.image_files.specs.declared.refusal.ImageRefusal.TheVariants as why
@@ -15,8 +15,10 @@ use Rattle.tape_mend.specs.Mending.{IsMendedText, mended_text}
 use Rattle.tape_words.specs.Asked.{InfoAsked}
 use Rattle.tape_words.specs.Meanings.{fault_line}
 use Rattle.tape_info.specs.Facts.{bytes_among, checksums_of, data_records, largest_gap, ranges_of, vector_at}
+use Rattle.tape_info.specs.Overlaps.{overlaps_of}
 use Rattle.tape_info.specs.Rows.{no_image_text, rows_of}
 use Rattle.tape_info.specs.declared.fact_list.Facts.{Facts}
+use Rattle.tape_info.specs.declared.ranges.Range.{Range}
 use Rattle.tape_info.specs.declared.wording.TheConstants.{MEND_MENDS_IT}
 
 -- The facts of an image, with those of a map's port.
@@ -35,10 +37,10 @@ pub record AreFacts (image : List (Option ℕ)) (port : ℕ) (f : Facts) : Type 
 
 -- The rows of an image's facts, for a profile and a port.
 pub record AreRows (profile : Profile) (image : List (Option ℕ)) (port : ℕ) (records : Option ℕ)
-    (said : List ℕ) : Type 0 where
+    (overlaps : List Range) (said : List ℕ) : Type 0 where
   pub facts : Facts
   pub are : AreFacts image port facts
-  pub rows : said ≡ rows_of profile image port facts records
+  pub rows : said ≡ rows_of profile image port facts records overlaps
 
 abbrev pub is_tape : Result Form OtherText → Bool
 is_tape (Ok Tape) = true
@@ -49,13 +51,22 @@ abbrev pub records_in : Result Form OtherText → List ℕ → Option ℕ
 records_in (Ok Tape) bytes = Some (data_records bytes)
 records_in told bytes = None
 
+-- Where records of a tape overlap: the ranges of the addresses at which more than one of them puts a
+-- byte. Of an image in another form nothing is said.
+abbrev pub AreOverlaps : Result Form OtherText → List ℕ → List Range → Type 0
+AreOverlaps (Ok Tape) bytes overlaps = (cells : List (Option ℕ)) → (tape : TapeDenotes bytes cells)
+    → overlaps ≡ overlaps_of tape.pieces
+AreOverlaps told bytes overlaps = overlaps ≡ []
+
 -- What is said of an image that some bytes denote.
 pub record IsRightImage (asked : InfoAsked) (said : List ℕ) : Type 0 where
   pub bytes : List ℕ
   pub image : List (Option ℕ)
   pub denotes : IsImage asked.form bytes image
+  pub overlaps : List Range
+  pub written : AreOverlaps (form_by asked.form bytes) bytes overlaps
   pub rows : AreRows asked.profile image asked.port
-      (records_in (form_by asked.form bytes) bytes) said
+      (records_in (form_by asked.form bytes) bytes) overlaps said
 
 -- `mend` makes a right tape of a text.
 abbrev pub IsMendable : List ℕ → Type 0

@@ -2,7 +2,7 @@
 
 ghost use Rattle.std.specs.Prelude.{◌≡◌, ◌++◌, IfOk, OnOk, string_bytes};
 ghost use Rattle.tape_info.specs.Rows.{amount_text, base_text, between_text, byte_count, clash_text};
-ghost use Rattle.tape_info.specs.Rows.{gap_row, kind_text, place_text};
+ghost use Rattle.tape_info.specs.Rows.{gap_row, kind_text, overlap_row, overlap_rows, place_text};
 ghost use Rattle.tape_info.specs.Rows.{known_gap_row, part_row, part_rows, port_row, range_row};
 ghost use Rattle.tape_info.specs.Rows.{range_rows, records_text, rows_of, stretch_text, sum_text};
 ghost use Rattle.tape_info.specs.Rows.{image_name, no_image_text, tape_row, target_text, vector_rows};
@@ -19,6 +19,15 @@ use memory_map::{Image, MapSpec};
 use model::Profile;
 use std::alloc::{AllocError, Global};
 use tape_words::{BYTE, BYTES, RECORD, RECORDS, push_count, push_instruction};
+
+/// What is to be known of a tape's records.
+#[derive(Drop)]
+pub struct OfTape {
+    /// How many data records there are, or `None` of an image in another form.
+    pub records: Option<usize>,
+    /// The ranges of the addresses at which more than one of them puts a byte.
+    pub overlaps: Vec<Range>,
+}
 
 /// Appends how many data records a tape has; of another image nothing.
 fn push_records(words: &mut String, records: Option<usize>) -> Result<(), AllocError>
@@ -117,6 +126,32 @@ fn push_ranges(words: &mut String, facts: &Facts) -> Result<(), AllocError>
 {
     for (range, sums) in facts.ranges.iter().zip(facts.checksums.iter()) {
         push_range(words, *range, *sums)?;
+    }
+    Ok(())
+}
+
+/// Appends the row of addresses at which more than one record of a tape puts a byte.
+#[tactic(auto, unfolding(crate::specs::Rows::overlap_row))]
+fn push_overlap(words: &mut String, range: Range) -> Result<(), AllocError>
+    ensures { OnOk result (string_bytes words.new ≡ string_bytes words.old ++ overlap_row range) }
+{
+    push_stretch(
+        words,
+        wording::OVERLAP_ROW,
+        range.first as u32,
+        range.last as u32,
+    )?;
+    push_bytes(words, range.last.saturating_sub(range.first) as u64 + 1)?;
+    words.push_str(wording::AGAIN)
+}
+
+/// Appends a row for each range of such addresses.
+fn push_overlaps(words: &mut String, overlaps: &[Range]) -> Result<(), AllocError>
+    ensures { OnOk result (string_bytes words.new
+        ≡ string_bytes words.old ++ overlap_rows overlaps.now) }
+{
+    for range in overlaps {
+        push_overlap(words, *range)?;
     }
     Ok(())
 }
@@ -286,8 +321,8 @@ fn push_parts(words: &mut String, map: &MapSpec, facts: &Facts) -> Result<(), Al
     push_port(words, map, facts)
 }
 
-/// Returns the rows of `info`: the image, its ranges, the largest gap, the vectors, and what stands
-/// in pages 0 and 1 and at the port.
+/// Returns the rows of `info`: the image, its ranges, where records of a tape overlap, the largest
+/// gap, the vectors, and what stands in pages 0 and 1 and at the port.
 ///
 /// Errors: `AllocError` if an allocation fails.
 #[tactic(auto, unfolding(crate::specs::Rows::rows_of))]
@@ -297,14 +332,16 @@ pub fn image_text(
     image: &Image,
     map: &MapSpec,
     facts: &Facts,
-    records: Option<usize>,
+    tape: &OfTape,
 ) -> Result<String, AllocError>
     ensures { IfOk result (λ words. string_bytes words
-        ≡ rows_of profile image.now map.now.port facts.now records) }
+        ≡ rows_of profile image.now map.now.port facts.now tape.now.records
+        tape.now.overlaps.items) }
 {
     let mut words = String::new(alloc);
-    push_tape(&mut words, facts, records)?;
+    push_tape(&mut words, facts, tape.records)?;
     push_ranges(&mut words, facts)?;
+    push_overlaps(&mut words, &tape.overlaps)?;
     push_gap(&mut words, facts.gap)?;
     push_vectors(&mut words, profile, image, facts)?;
     push_parts(&mut words, map, facts)?;

@@ -6,14 +6,16 @@ ghost use Rattle.arguments.specs.Words.{AsksForHelp, Fits, Misfits, texts};
 ghost use Rattle.model.specs.State.{is_map};
 ghost use Rattle.image_files.specs.Bytes.{IsImage, IsNoImage, form_by};
 ghost use Rattle.image_files.specs.declared.refusal.ImageRefusal.TheVariants as why_not;
-ghost use Rattle.model.specs.Tape.{FirstFault};
-ghost use Rattle.tape_info.specs.Told.{AreRows, IsFaultText, IsHint, is_tape, records_in};
+ghost use Rattle.model.specs.Tape.{FirstFault, TapeDenotes};
+ghost use Rattle.tape_info.specs.Told.{AreOverlaps, AreRows, IsFaultText, IsHint, is_tape};
+ghost use Rattle.tape_info.specs.Told.{records_in};
 ghost use Rattle.tape_info.specs.Word.{Asks, EndsInfo, IsAbout, IsSaid};
 ghost use Rattle.tape_words.specs.Asked.{info_asked, info_view};
 ghost use Rattle.tape_words.specs.CommandLines.{info};
 
 use crate::fact_list::{data_records, facts_of};
-use crate::fact_text::{image_text, no_image_text};
+use crate::fact_text::{OfTape, image_text, no_image_text};
+use crate::overlaps::overlaps_of;
 use crate::wording;
 use arguments::{FileRefusal, Refusal, refused_words};
 use image_files::{ImageRefusal, NoImage, form_by, image_of_bytes};
@@ -27,19 +29,19 @@ use std::rt::Files;
 use tape_mend::mend_text;
 use tape_words::{Answer, InfoWords, answered, fault_text, read_info_words, read_text};
 
-/// Returns what is in an image, which has so many records if it is a tape.
+/// Returns what is in an image, and in the records if it is a tape.
 fn image_rows(
     alloc: Global,
     words: &InfoWords<'_>,
     map: &MapSpec,
     image: &Image,
-    records: Option<usize>,
+    tape: &OfTape,
 ) -> Result<String, AllocError>
     ensures { IfOk result (λ said. AreRows words.now.profile image.now map.now.port
-        records (string_bytes said)) }
+        tape.now.records tape.now.overlaps.items (string_bytes said)) }
 {
     let facts = facts_of(alloc, image, map)?;
-    let said = image_text(alloc, words.profile, image, map, &facts, records)?;
+    let said = image_text(alloc, words.profile, image, map, &facts, tape)?;
     Ok(said)
 }
 
@@ -80,14 +82,16 @@ fn right_answer(
     map: &MapSpec,
     bytes: &[u8],
     image: &Image,
-    records: Option<usize>,
+    tape: &OfTape,
 ) -> Result<Answer, AllocError>
     requires port { map.now.port ≡ words.now.port }
     requires denotes { IsImage words.now.form bytes.now image.now }
-    requires records { records ≡ records_in (form_by words.now.form bytes.now) bytes.now }
+    requires records { tape.now.records ≡ records_in (form_by words.now.form bytes.now) bytes.now }
+    requires overlaps { AreOverlaps (form_by words.now.form bytes.now) bytes.now
+        tape.now.overlaps.items }
     ensures { IfOk result (IsAbout (info_view words.now)) }
 {
-    let text = image_rows(alloc, words, map, image, records)?;
+    let text = image_rows(alloc, words, map, image, tape)?;
     Ok(Answer {
         text,
         is_right: true,
@@ -126,8 +130,30 @@ fn is_tape(form: Result<Form, OtherText>) -> bool
     }
 }
 
+/// Returns what is to be said of the text of a right tape. The only error is that an allocation
+/// failed.
+#[tactic(auto, using(crate::proofs::Forms::tape_image, crate::proofs::Forms::tape_records, crate::proofs::Forms::tape_overlaps))]
+fn tape_rows(
+    alloc: Global,
+    words: &InfoWords<'_>,
+    map: &MapSpec,
+    text: &[u8],
+    image: &Image,
+) -> Result<Answer, AllocError>
+    requires port { map.now.port ≡ words.now.port }
+    requires form { is_tape (form_by words.now.form text.now) ≡ true }
+    requires denotes { TapeDenotes text.now image.now }
+    ensures { IfOk result (IsAbout (info_view words.now)) }
+{
+    let overlaps = overlaps_of(alloc, text)?;
+    let tape = OfTape {
+        records: Some(data_records(text)),
+        overlaps,
+    };
+    right_answer(alloc, words, map, text, image, &tape)
+}
+
 /// Returns what is to be said of the text of a tape. The only error is that an allocation failed.
-#[tactic(auto, using(crate::proofs::Forms::tape_image, crate::proofs::Forms::tape_records))]
 fn tape_answer(
     alloc: Global,
     words: &InfoWords<'_>,
@@ -139,10 +165,7 @@ fn tape_answer(
     ensures { IfOk result (IsAbout (info_view words.now)) }
 {
     match read_tape(alloc, text) {
-        Ok(image) => {
-            let records = data_records(text);
-            right_answer(alloc, words, map, text, &image, Some(records))
-        }
+        Ok(image) => tape_rows(alloc, words, map, text, &image),
         Err(fault) => match fault.kind {
             TapeFaultKind::OutOfMemory => Err(AllocError),
             _ => wrong_answer(alloc, words, text, fault),
@@ -168,9 +191,31 @@ fn other_answer(
     })
 }
 
+/// Returns what is to be said of an image in another form than a tape. The only error is that an
+/// allocation failed.
+#[tactic(auto, using(crate::proofs::Forms::no_records, crate::proofs::Forms::no_overlaps))]
+fn other_rows(
+    alloc: Global,
+    words: &InfoWords<'_>,
+    map: &MapSpec,
+    bytes: &[u8],
+    image: &Image,
+) -> Result<Answer, AllocError>
+    requires port { map.now.port ≡ words.now.port }
+    requires form { is_tape (form_by words.now.form bytes.now) ≡ false }
+    requires denotes { IsImage words.now.form bytes.now image.now }
+    ensures { IfOk result (IsAbout (info_view words.now)) }
+{
+    let tape = OfTape {
+        records: None,
+        overlaps: Vec::new(alloc),
+    };
+    right_answer(alloc, words, map, bytes, image, &tape)
+}
+
 /// Returns what is to be said of bytes that are no tape. The only error is that an allocation
 /// failed.
-#[tactic(auto, using(crate::proofs::Forms::no_records, crate::proofs::Forms::other_image))]
+#[tactic(auto, using(crate::proofs::Forms::other_image))]
 fn image_answer(
     alloc: Global,
     words: &InfoWords<'_>,
@@ -182,7 +227,7 @@ fn image_answer(
     ensures { IfOk result (IsAbout (info_view words.now)) }
 {
     match image_of_bytes(alloc, words.form, bytes) {
-        Ok(image) => right_answer(alloc, words, map, bytes, &image, None),
+        Ok(image) => other_rows(alloc, words, map, bytes, &image),
         Err(ImageRefusal::NoImage(why)) => other_answer(alloc, words, bytes, why),
         Err(ImageRefusal::Refused(_)) => Err(AllocError),
     }

@@ -20,6 +20,10 @@ pub const SUM_16: &str = "  sum16 ";
 
 pub const SUM_8: &str = "  sum8 ";
 
+pub const OVERLAP_ROW: &str = "overlap ";
+
+pub const AGAIN: &str = " written more than once\n";
+
 pub const GAP_ROW: &str = "gap     ";
 
 pub const NOTHING: &str = "nothing";
