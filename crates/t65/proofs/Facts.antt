@@ -120,7 +120,7 @@ tested_run manner suite count old new prepared tally p is written =
     }
 
 pub untested_run : (manner : Manner) (suite : SuiteAsked) (count : ℕ) (old new : Option (List ℕ)) (fault : FileFault) (tally : Tally)
-    → EndsFile fault → tally ≡ tally_after false 0 (fresh_tally count)
+    → EndsFile suite.reading fault → tally ≡ tally_after false 0 (fresh_tally count)
     → ((title : List ℕ) × (remarks : List ℕ) × Appends old new (tap_fault tally.count (name_of suite) title remarks ++ summary_if manner.is_summary (name_of suite) tally.score) × IsFaultText fault title remarks)
     → IsRun manner suite count old new tally
 untested_run manner suite count old new fault tally ends is told = record {
@@ -140,7 +140,7 @@ untested_run manner suite count old new fault tally ends is told = record {
 
 -- All of TAP.
 pub all_told : (asked : TestAsked) (suites : List SuiteAsked) (old begun run new : Option (List ℕ)) (count : ℕ) (passes : Bool)
-    → suites ≡ suites_of asked.sources asked.files → Appends old begun TAP_BEGIN.now → AreRun (manner_of asked) suites begun run count passes
+    → suites ≡ suites_of asked.reading asked.sources asked.files → Appends old begun TAP_BEGIN.now → AreRun (manner_of asked) suites begun run count passes
     → Appends run new (plan_text count) → AreTested asked old new passes
 all_told asked suites old begun run new count passes are first ran last =
     let told = Appends-trans begun run new ran.all.text (plan_text ran.all.count) ran.written (subst (λ (n : ℕ). Appends run new (plan_text n)) (sym ran.count_is) last) in (
@@ -160,7 +160,7 @@ tested_result manner suite count old new prepared name (Ok tally) p named is wri
     (subst (λ (n : List ℕ). Appends old new (rows_text (ground_in prepared) n count 1 (lines_of prepared.text.items) (tests_in prepared) ++ summary_if manner.is_summary n tally.score)) named written)
 
 pub untested_result : (manner : Manner) (suite : SuiteAsked) (count : ℕ) (old new : Option (List ℕ)) (fault : FileFault) (result : Result Tally Stop)
-    → EndsFile fault → IfOk result (λ tally. tally ≡ tally_after false 0 (fresh_tally count))
+    → EndsFile suite.reading fault → IfOk result (λ tally. tally ≡ tally_after false 0 (fresh_tally count))
     → IfOk result (λ tally. (title : List ℕ) × (remarks : List ℕ) × Appends old new (tap_fault tally.count (name_of suite) title remarks ++ summary_if manner.is_summary (name_of suite) tally.score) × IsFaultText fault title remarks)
     → IfOk result (IsRun manner suite count old new)
 untested_result manner suite count old new fault (Err stop) ends is told = tt

@@ -1,11 +1,11 @@
 -- The way over the rows of a suite.
-use Rattle.std.proofs.Common.{◌≡◌, ◌∙◌, ℕ, ◌+◌, ◌<◌, ◌≤◌, List, [], ◌++◌, Option, length, drop, get_or, map, refl, sym, ap, subst, append-nil, append_assoc}
+use Rattle.std.proofs.Common.{◌≡◌, ◌∙◌, ℕ, ◌+◌, ◌<◌, ◌≤◌, List, [], ◌++◌, Option, length, drop, get_or, refl, sym, ap, subst, append-nil, append_assoc}
 use Rattle.std.specs.Prelude.{Bool, is_none}
 use Rattle.std.specs.Io.KnownBytes.{Appends}
 use Rattle.std.proofs.KnownBytes.{Appends-nil, Appends-trans}
 use Rattle.std.proofs.lemmas.List.{drop_all, drop_more, get_or_default}
 use Rattle.std.specs.Borrow.{Bor}
-use Rattle.t65_reader.specs.RowText.{numbered_view, row_seen}
+use Rattle.t65_reader.specs.RowText.{row_seen}
 use Rattle.t65_reader.specs.declared.row.Row.{Row}
 use Rattle.t65_reports.specs.Lines.{line_at, lines_after, next_after}
 use Rattle.t65_reports.specs.Reports.{tap_case}

@@ -4,16 +4,21 @@ use Rattle.std.specs.Prelude.{ℕ, nat_lt, Bool, false, ◌||◌, if◌then◌el
 use Rattle.std.specs.List.{list_any}
 use Rattle.std.specs.Str.{bytes_eq}
 use Rattle.arguments.specs.Asked.{is_flag}
-use Rattle.arguments.specs.Values.{steps_asked}
+use Rattle.arguments.specs.Values.{form_asked, steps_asked}
+use Rattle.arguments.specs.declared.file_options.FileForm.{FileForm}
+use Rattle.arguments.specs.declared.file_options.FileForm.TheVariants.{Source}
 use Rattle.clap.specs.Words.{Text}
 use Rattle.t65_reader.specs.RowText.{most_steps}
+use Rattle.t65_suites.specs.Suites.{ReadingAsked}
 
--- The files of rows, one at least, and the sources that they are run on, where those are not the
--- files' own; the files that a report for JUnit and one for lcov go to, which have other names than
--- these and each other; the most steps of a call; and whether a line is written of each file.
+-- The files of rows, one at least, and the files that they are run on, where those are not the
+-- files' own; how what they are run on is read; the files that a report for JUnit and one for lcov
+-- go to, which have other names than these and each other; the most steps of a call; and whether a
+-- line is written of each file.
 pub record TestAsked : Type 0 where
   pub files : List Text
   pub sources : List Text
+  pub reading : ReadingAsked
   pub junit : Option Text
   pub coverage : Option Text
   pub steps : ℕ
@@ -27,16 +32,17 @@ abbrev pub replaces : Option Text → List Text → Bool
 replaces None files = false
 replaces (Some report) files = list_any (has_name report) files
 
--- Two reports have one name.
+-- There are two files, and they have one name.
 abbrev pub are_one : Option Text → Option Text → Bool
 are_one (Some report) (Some other) = bytes_eq report other
 are_one report other = false
 
 -- A report has the name of a file that is read, or of the other report.
-abbrev pub clash : Option Text → Option Text → List Text → List Text → Bool
-clash junit coverage sources files
-    = replaces junit files || replaces junit sources || replaces coverage files
-    || replaces coverage sources || are_one junit coverage
+abbrev pub clash : Option Text → Option Text → Option Text → List Text → List Text → Bool
+clash junit coverage symbols sources files
+    = replaces junit files || replaces junit sources || are_one junit symbols
+    || replaces coverage files || replaces coverage sources || are_one coverage symbols
+    || are_one junit coverage
 
 -- At most 4,294,967,295.
 abbrev pub limit_of : Option ℕ → Option ℕ
@@ -51,28 +57,49 @@ abbrev pub sources_asked : Option (List Text) → List Text
 sources_asked None = []
 sources_asked (Some sources) = sources
 
-abbrev pub test_of : Option Text → Option Text → Option ℕ → Bool → List Text → List Text
-    → Option TestAsked
-test_of junit coverage None is_summary sources files = None
-test_of junit coverage (Some steps) is_summary sources [] = None
-test_of junit coverage (Some steps) is_summary sources (file ∷ files)
-    = if clash junit coverage sources (file ∷ files) then None else Some (record {
+-- A source has its own names: a file of names is for an image.
+abbrev pub named_as : FileForm → Text → Option ReadingAsked
+named_as Source names = None
+named_as form names = Some (record { form = form; symbols = Some names })
+
+abbrev pub reading_as : FileForm → Option Text → Option ReadingAsked
+reading_as form None = Some (record { form = form; symbols = None })
+reading_as form (Some names) = named_as form names
+
+abbrev pub reading_by : Option FileForm → Option Text → Option ReadingAsked
+reading_by None symbols = None
+reading_by (Some form) symbols = reading_as form symbols
+
+-- How the files are read that rows are run on: as images with `--image`, `--bin HHHH` or `--prg`.
+abbrev pub reading_asked : (Text → Option Text) → Option ReadingAsked
+reading_asked value = reading_by (form_asked (is_flag (value (codes "image")))
+    (value (codes "bin")) (is_flag (value (codes "prg")))) (value (codes "symbols"))
+
+abbrev pub test_of : Option Text → Option Text → Option ℕ → Option ReadingAsked → Bool → List Text
+    → List Text → Option TestAsked
+test_of junit coverage None reading is_summary sources files = None
+test_of junit coverage (Some steps) None is_summary sources files = None
+test_of junit coverage (Some steps) (Some reading) is_summary sources [] = None
+test_of junit coverage (Some steps) (Some reading) is_summary sources (file ∷ files)
+    = if clash junit coverage reading.symbols sources (file ∷ files) then None else Some (record {
       files = file ∷ files;
       sources = sources;
+      reading = reading;
       junit = junit;
       coverage = coverage;
       steps = steps;
       is_summary = is_summary;
     })
 
-abbrev pub test_by : Option Text → Option Text → Option ℕ → Bool → List Text → Option (List Text)
-    → Option TestAsked
-test_by junit coverage steps is_summary sources None = None
-test_by junit coverage steps is_summary sources (Some files)
-    = test_of junit coverage steps is_summary sources files
+abbrev pub test_by : Option Text → Option Text → Option ℕ → Option ReadingAsked → Bool → List Text
+    → Option (List Text) → Option TestAsked
+test_by junit coverage steps reading is_summary sources None = None
+test_by junit coverage steps reading is_summary sources (Some files)
+    = test_of junit coverage steps reading is_summary sources files
 
 -- What the first values and all values of the names ask for.
 abbrev pub test_asked : (Text → Option Text) → (Text → Option (List Text)) → Option TestAsked
 test_asked value values = test_by (value (codes "junit")) (value (codes "coverage"))
-    (limit_asked (value (codes "steps"))) (is_flag (value (codes "summary")))
-    (sources_asked (values (codes "source"))) (values (codes "FILE"))
+    (limit_asked (value (codes "steps"))) (reading_asked value)
+    (is_flag (value (codes "summary"))) (sources_asked (values (codes "source")))
+    (values (codes "FILE"))

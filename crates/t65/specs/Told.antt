@@ -52,7 +52,7 @@ pub record IsFaultText (fault : FileFault) (title remarks : List ℕ) : Type 0 w
 pub record IsUntested (manner : Manner) (suite : SuiteAsked) (count : ℕ) (outcome : Outcome)
     : Type 0 where
   pub fault : FileFault
-  pub ends : EndsFile fault
+  pub ends : EndsFile suite.reading fault
   pub title : List ℕ
   pub remarks : List ℕ
   pub told : IsFaultText fault title remarks
@@ -103,10 +103,12 @@ Tells old new all = Appends old new (TAP_BEGIN.now ++ (all.text ++ plan_text all
 -- not.
 abbrev pub AreTested : TestAsked → Option (List ℕ) → Option (List ℕ) → Bool → Type 0
 AreTested asked old new passes = (all : Outcome)
-    × AreOutcomes (manner_of asked) 0 (suites_of asked.sources asked.files) all
+    × AreOutcomes (manner_of asked) 0 (suites_of asked.reading asked.sources asked.files) all
     × (all.passes ≡ passes) × Tells old new all
 
--- Neither report has the name of a file that is read: of a file of rows, or of a source of the words.
+-- Neither report has the name of a file that is read by a name of the words.
 pub record AreKept (asked : TestAsked) : Type 0 where
-  pub junit : replaces_any asked.junit (suites_of asked.sources asked.files) ≡ false
-  pub coverage : replaces_any asked.coverage (suites_of asked.sources asked.files) ≡ false
+  pub junit : replaces_any asked.junit
+      (suites_of asked.reading asked.sources asked.files) ≡ false
+  pub coverage : replaces_any asked.coverage
+      (suites_of asked.reading asked.sources asked.files) ≡ false

@@ -1,8 +1,9 @@
-//! Which lines of the sources were run, as lcov reads it.
+//! Which lines of the sources were run, as lcov reads it. An image has no lines.
 
 ghost use Rattle.std.specs.Prelude.{◌≡◌, IfOk, None, OnOk, is_some};
 ghost use Rattle.std.specs.Io.KnownBytes.{Appends};
 ghost use Rattle.std.specs.Option.{option_map};
+ghost use Rattle.lcov.specs.Records.{record_text};
 ghost use Rattle.t65.specs.Covered.{counts_begun, held, record_of};
 ghost use Rattle.t65_reader.specs.RowText.{row_view};
 ghost use Rattle.t65_runner.specs.Counting.{test_counted};
@@ -11,7 +12,7 @@ ghost use Rattle.t65_runner.specs.Start.{fresh};
 
 use crate::stop::Stop;
 use accesses::Tally;
-use arguments::Refusal;
+use arguments::{FileForm, Refusal};
 use debugger::Session;
 use lcov::push_record;
 use std::alloc::{AllocError, Global};
@@ -60,7 +61,19 @@ fn counts_begun(alloc: Global, is_asked: bool) -> Result<Option<Tally>, AllocErr
     Ok(Some(tally))
 }
 
-/// Returns the record of a suite whose steps were counted; no byte where they were not.
+/// Returns the record of a suite's source.
+fn source_record(alloc: Global, prepared: &Prepared, counts: &Tally) -> Result<Vec<u8>, AllocError>
+    ensures { IfOk result (λ text. text.items
+        ≡ record_text prepared.now.places.file prepared.now.assembly counts.now) }
+{
+    let mut text = Vec::new(alloc);
+    let path = prepared.places.file();
+    push_record(&mut text, alloc, path, &prepared.assembly, counts)?;
+    Ok(text)
+}
+
+/// Returns the record of a suite whose steps were counted; no byte where they were not, or where an
+/// image was run.
 fn record_of(
     alloc: Global,
     prepared: &Prepared,
@@ -69,14 +82,12 @@ fn record_of(
     ensures { IfOk result (λ text. text.items
         ≡ record_of prepared.now (option_map (λ c. c.now) counts.entry)) }
 {
-    let mut text = Vec::new(alloc);
     match counts {
-        None => Ok(text),
-        Some(counts) => {
-            let path = prepared.places.file();
-            push_record(&mut text, alloc, path, &prepared.assembly, counts)?;
-            Ok(text)
-        }
+        None => Ok(Vec::new(alloc)),
+        Some(counts) => match prepared.form {
+            FileForm::Source => source_record(alloc, prepared, counts),
+            FileForm::Records | FileForm::Raw(_) | FileForm::Prg => Ok(Vec::new(alloc)),
+        },
     }
 }
 
@@ -146,7 +157,7 @@ impl<F: Write + Drop> Coverage<F> {
         }
     }
 
-    /// Ends a suite: writes the record of its source, if that is asked for.
+    /// Ends a suite: writes the record of its source, if it has one and that is asked for.
     ///
     /// Errors: `OutOfMemory` if an allocation fails, `Coverage` if the file cannot be written.
     pub fn end_suite(&mut self, alloc: Global, prepared: &Prepared) -> Result<(), Stop>

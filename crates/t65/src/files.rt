@@ -94,7 +94,7 @@ fn untested(
         × IsFaultText fault.now title remarks) }
 {
     let title = title_of(alloc, fault)?;
-    let remarks = remarks_of(alloc, suite.rows, fault)?;
+    let remarks = remarks_of(alloc, suite, fault)?;
     Ok(Told {
         tap: tap_fault(alloc, number, suite.name(), &title, &remarks)?,
         junit: junit_fault(alloc, suite.name(), &title, &remarks)?,
@@ -171,13 +171,14 @@ fn run_suite<H: Files + AllocGlobal, O: Write>(
     }
 }
 
-/// Runs suites, each on its source, and tells of their tests as they end. Returns how many tests
+/// Runs suites, each on its program, and tells of their tests as they end. Returns how many tests
 /// there are, and whether all pass.
 ///
 /// # Errors
 ///
 /// `OutOfMemory` if an allocation fails, `Output`, `Report` and `Coverage` if these cannot be
-/// written. What cannot be read or assembled is a test that fails, and the other suites are run.
+/// written. What cannot be read, assembled or loaded is a test that fails, and the other suites are
+/// run.
 pub fn run_suites<H: Files + AllocGlobal, O: Write>(
     rt: &H,
     suites: &[Suite<'_>],

@@ -1,10 +1,13 @@
 //! What the word `test` does.
 
-ghost use Rattle.std.specs.Prelude.{◌≡◌, ◌≢◌, ◌⊎◌, ◌≤◌, IfErr, IfOk, None, false, true};
+ghost use Rattle.std.specs.Prelude.{◌≡◌, ◌≢◌, ◌⊎◌, ◌≤◌, IfErr, IfOk, None, false, option_map};
+ghost use Rattle.std.specs.Prelude.{true};
 ghost use Rattle.arguments.specs.Words.{AsksForHelp, Fits, Misfits, texts};
 ghost use Rattle.t65.specs.CommandLine.{Asks, test, words_asked};
 ghost use Rattle.t65.specs.Told.{AreKept, AreTested};
 ghost use Rattle.t65.specs.Views.{test_view};
+ghost use Rattle.t65_suites.specs.Replaced.{replaces_any};
+ghost use Rattle.t65_suites.specs.Suites.{suites_of};
 
 use crate::coverage::begin_coverage;
 use crate::files::{Manner, run_suites};
@@ -27,7 +30,7 @@ fn run_told<H: Files + AllocGlobal, O: Write>(
     ensures { IfOk result (AreTested (test_view words.now) (O.contents output.old)
         (O.contents output.new)) }
 {
-    let suites = suites_of(rt.alloc(), &words.files, &words.sources)?;
+    let suites = suites_of(rt.alloc(), &words.files, &words.sources, words.reading)?;
     let manner = Manner {
         steps: words.steps,
         is_summary: words.is_summary,
@@ -62,6 +65,23 @@ fn refuse_stop<E: Write>(stop: Stop, words: &TestWords<'_>, errors: &mut E) -> u
     }
 }
 
+/// Returns the path of the first file that is read and that a report would replace, if there are
+/// such a file and a report.
+///
+/// Errors: `OutOfMemory` if an allocation fails.
+fn replaced_for<H: Files + AllocGlobal>(
+    rt: &H,
+    words: &TestWords<'_>,
+    report: Option<&str>,
+) -> Result<Option<String>, TestFault>
+    ensures { IfOk result (λ found. found ≡ None
+        → replaces_any (option_map (λ r. r.now) report.entry)
+        (suites_of (test_view words.now).reading (test_view words.now).sources
+        (test_view words.now).files) ≡ false) }
+{
+    replaced_by(rt, &words.files, &words.sources, words.reading, report)
+}
+
 /// Returns the path of the first file that is read and that the report for JUnit or the file for
 /// lcov would replace, if there is one.
 ///
@@ -72,9 +92,9 @@ fn replaced_file<H: Files + AllocGlobal>(
 ) -> Result<Option<String>, TestFault>
     ensures { IfOk result (λ found. found ≡ None → AreKept (test_view words.now)) }
 {
-    match replaced_by(rt, &words.files, &words.sources, words.junit)? {
+    match replaced_for(rt, words, words.junit)? {
         Some(path) => Ok(Some(path)),
-        None => match replaced_by(rt, &words.files, &words.sources, words.coverage)? {
+        None => match replaced_for(rt, words, words.coverage)? {
             Some(path) => Ok(Some(path)),
             None => Ok(None),
         },
@@ -158,10 +178,10 @@ fn run_words<H: Files + AllocGlobal, O: Write, E: Write>(
 ///
 /// TAP goes to `output`, which is flushed after each test, and before that the report for JUnit to
 /// its file, if one is asked for, which is whole after each test. The file for lcov gets a record
-/// after each suite. Neither replaces a file that is read: where its name is that of a file of rows
-/// or of a source of the words, or both have one name, the words are wrong, and where it is another
-/// name for one, or is the source that a file names, the status is 4. What cannot be
-/// read or assembled is a test that fails, and other files are tested. That `errors` cannot be
+/// after each suite that is run on a source. Neither replaces a file that is read: where its name
+/// is that of a file of the words, or both have one name, the words are wrong, and where it is
+/// another name for one, or is the source that a file names, the status is 4. What cannot be read,
+/// assembled or loaded is a test that fails, and other files are tested. That `errors` cannot be
 /// written changes no status.
 pub fn test<H: Files + AllocGlobal, O: Write, E: Write>(
     rt: &H,

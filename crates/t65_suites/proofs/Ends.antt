@@ -3,11 +3,10 @@ use Rattle.std.proofs.Common.{◌≡◌, ℕ, List, [], Ok, Err, false, inl, inr
 use Rattle.std.specs.Prelude.{String, Result, IfErr, IsErrAnd, string_bytes}
 use Rattle.std.specs.declared.alloc.Global.{Global}
 use Rattle.arguments.specs.Values.{base_of}
-use Rattle.arguments.specs.declared.load_fault.LoadFault.{LoadFault}
 use Rattle.arguments.specs.declared.refusal.Refusal.TheVariants.{Map as NoMap}
-use Rattle.assembler.specs.Assembly.{AssemblyView, IsAssembled}
-use Rattle.loading.specs.Loads.{EndsAsSource}
-use Rattle.model.specs.State.{Map, is_map}
+use Rattle.assembler.specs.Assembly.{AssemblyView}
+use Rattle.loading.specs.declared.named.NamedFault.{NamedFault}
+use Rattle.model.specs.State.{is_map}
 use Rattle.model.specs.TextLines.{lines_of}
 use Rattle.model.specs.declared.bus_fault.BusFault.TheVariants.{BadMap}
 use Rattle.model.specs.Names.{Definitions}
@@ -15,16 +14,17 @@ use Rattle.t65_suites.specs.HeadText.{SeenHead, head_from}
 use Rattle.t65_reader.specs.RowText.{SeenRow, rows_from}
 use Rattle.t65_reader.specs.declared.row.Part.TheVariants.{Test}
 use Rattle.t65_values.specs.declared.fault.TextFault.{TextFault}
-use Rattle.t65_suites.specs.Ends.{EndsFile, EndsRows, EndsTest, HeadedFile}
+use Rattle.t65_suites.specs.Ends.{EndsAnyTest, EndsFile, EndsRows, EndsTest, HeadedFile}
+use Rattle.t65_suites.specs.Programs.{EndsProgram, IsProgram, file_asked}
+use Rattle.t65_suites.specs.Suites.{ReadingAsked}
 use Rattle.t65_runner.specs.Parts.{rows_of}
-use Rattle.t65_suites.specs.Prepared.{map_of}
 use Rattle.t65_suites.specs.declared.fault.FileFault.{FileFault}
-use Rattle.t65_suites.specs.declared.fault.FileFault.TheVariants.{InRows, InSource}
+use Rattle.t65_suites.specs.declared.fault.FileFault.TheVariants.{InProgram, InRows}
 use Rattle.t65_suites.specs.declared.fault.TestFault.{TestFault}
 use Rattle.t65_suites.specs.declared.fault.TestFault.TheVariants.{Rows, TooLarge, NoRow, Refused}
 
-pub head_ends : (text : List ℕ) (fault : TextFault) → head_from 1 (lines_of text) ≡ Err fault → EndsTest (Rows fault)
-head_ends text fault refused = inl (text, refused)
+pub head_ends : (text : List ℕ) (fault : TextFault) → head_from 1 (lines_of text) ≡ Err fault → EndsAnyTest (Rows fault)
+head_ends text fault refused = λ reading. inl (text, refused)
 
 pub no_test : (steps : ℕ) (names : Definitions) (next : ℕ) (lines : List (List ℕ)) (rows : List (ℕ × SeenRow)) → rows_from steps names next lines ≡ Ok rows → rows_of Test rows ≡ []
     → EndsRows steps names next lines NoRow
@@ -34,48 +34,50 @@ abbrev headed_file : (text : List ℕ) (head : SeenHead) (next : ℕ) (lines : L
 headed_file text head next lines headed = record { text = text; head = head; next = next; lines = lines; headed = headed }
 
 pub map_ends : (text : List ℕ) (head : SeenHead) (next : ℕ) (lines : List (List ℕ)) (fault : TestFault)
-    → head_from 1 (lines_of text) ≡ Ok (head, next, lines) → fault ≡ Refused (NoMap BadMap) → is_map head.rom (base_of head.port) ≡ false → EndsTest fault
+    → head_from 1 (lines_of text) ≡ Ok (head, next, lines) → fault ≡ Refused (NoMap BadMap) → is_map head.rom (base_of head.port) ≡ false → EndsAnyTest fault
 map_ends text head next lines fault headed is none =
-    subst EndsTest (sym is) (headed_file text head next lines headed, refl, none)
+    subst EndsAnyTest (sym is) (λ reading. (headed_file text head next lines headed, refl, none))
 
-pub source_ends : (text : List ℕ) (head : SeenHead) (next : ℕ) (lines : List (List ℕ)) (bus_map : Map) (path : String Global) (name : List ℕ) (fault : LoadFault)
-    → head_from 1 (lines_of text) ≡ Ok (head, next, lines) → bus_map ≡ map_of head → name ≡ string_bytes path → EndsAsSource bus_map name fault → EndsFile (InSource path fault)
-source_ends text head next lines bus_map path name fault headed is named ends =
-    let on_its_map = subst (λ m. EndsAsSource m name fault) is ends in
-    (headed_file text head next lines headed, subst (λ n. EndsAsSource (map_of head) n fault) named on_its_map)
+pub program_ends : (reading : ReadingAsked) (text : List ℕ) (head : SeenHead) (next : ℕ) (lines : List (List ℕ)) (path : String Global) (name : List ℕ) (fault : NamedFault)
+    → head_from 1 (lines_of text) ≡ Ok (head, next, lines) → name ≡ string_bytes path → EndsProgram (file_asked reading head name) reading.symbols fault → EndsFile reading (InProgram path fault)
+program_ends reading text head next lines path name fault headed named ends =
+    (headed_file text head next lines headed, subst (λ n. EndsProgram (file_asked reading head n) reading.symbols fault) named ends)
 
-abbrev rows_read : (text : List ℕ) (head : SeenHead) (next : ℕ) (lines : List (List ℕ)) (bus_map : Map) (assembly : AssemblyView)
-    → head_from 1 (lines_of text) ≡ Ok (head, next, lines) → bus_map ≡ map_of head → IsAssembled bus_map assembly → IsAssembled (map_of head) assembly
-rows_read text head next lines bus_map assembly headed is a = subst (λ m. IsAssembled m assembly) is a
-
-pub rows_end : (text : List ℕ) (head : SeenHead) (next : ℕ) (lines : List (List ℕ)) (bus_map : Map) (assembly : AssemblyView) (steps : ℕ) (fault : TestFault)
-    → head_from 1 (lines_of text) ≡ Ok (head, next, lines) → bus_map ≡ map_of head → IsAssembled bus_map assembly → EndsRows steps assembly.names next lines fault → EndsTest fault
-rows_end text head next lines bus_map assembly steps (Rows fault) headed is a ends =
+pub rows_end : (reading : ReadingAsked) (text : List ℕ) (head : SeenHead) (next : ℕ) (lines : List (List ℕ)) (path : List ℕ) (assembly : AssemblyView) (steps : ℕ) (fault : TestFault)
+    → head_from 1 (lines_of text) ≡ Ok (head, next, lines) → IsProgram (file_asked reading head path) reading.symbols assembly → EndsRows steps assembly.names next lines fault → EndsTest reading fault
+rows_end reading text head next lines path assembly steps (Rows fault) headed program ends =
     inr (record {
       file = headed_file text head next lines headed;
+      path = path;
       assembly = assembly;
-      assembled = rows_read text head next lines bus_map assembly headed is a;
+      program = program;
       steps = steps;
       read = ends;
     })
-rows_end text head next lines bus_map assembly steps TooLarge headed is a ends = tt
-rows_end text head next lines bus_map assembly steps NoRow headed is a ends = (
+rows_end reading text head next lines path assembly steps TooLarge headed program ends = tt
+rows_end reading text head next lines path assembly steps NoRow headed program ends = (
   ends.0,
   record {
     file = headed_file text head next lines headed;
+    path = path;
     assembly = assembly;
-    assembled = rows_read text head next lines bus_map assembly headed is a;
+    program = program;
     steps = steps;
     read = ends.1;
   },
   ends.2,
 )
-rows_end text head next lines bus_map assembly steps (Refused refusal) headed is a ends = subst EndsTest (sym ends) tt
+rows_end reading text head next lines path assembly steps (Refused refusal) headed program ends = subst (EndsTest reading) (sym ends) tt
 
 -- The fault of rows that are not read, passed on.
-pub rows_passed_on : {X : Type 0} (result : Result X FileFault) (text : List ℕ) (head : SeenHead) (next : ℕ) (lines : List (List ℕ)) (bus_map : Map) (assembly : AssemblyView) (steps : ℕ) (fault : TestFault)
-    → IsErrAnd result (λ e. e ≡ InRows fault) → head_from 1 (lines_of text) ≡ Ok (head, next, lines) → bus_map ≡ map_of head → IsAssembled bus_map assembly
-    → EndsRows steps assembly.names next lines fault → IfErr result EndsFile
-rows_passed_on (Ok x) text head next lines bus_map assembly steps fault h headed is a ends = absurd h
-rows_passed_on (Err e) text head next lines bus_map assembly steps fault h headed is a ends =
-    subst EndsFile (sym h) (rows_end text head next lines bus_map assembly steps fault headed is a ends)
+pub rows_passed_on : {X : Type 0} (result : Result X FileFault) (reading : ReadingAsked) (text : List ℕ) (head : SeenHead) (next : ℕ) (lines : List (List ℕ)) (path : List ℕ) (assembly : AssemblyView) (steps : ℕ) (fault : TestFault)
+    → IsErrAnd result (λ e. e ≡ InRows fault) → head_from 1 (lines_of text) ≡ Ok (head, next, lines) → IsProgram (file_asked reading head path) reading.symbols assembly
+    → EndsRows steps assembly.names next lines fault → IfErr result (EndsFile reading)
+rows_passed_on (Ok x) reading text head next lines path assembly steps fault h headed program ends = absurd h
+rows_passed_on (Err e) reading text head next lines path assembly steps fault h headed program ends =
+    subst (EndsFile reading) (sym h) (rows_end reading text head next lines path assembly steps fault headed program ends)
+
+-- The fault of a file of rows, passed on.
+pub passed_on : {X : Type 0} (result : Result X FileFault) (reading : ReadingAsked) (fault : TestFault) → IsErrAnd result (λ e. e ≡ InRows fault) → EndsAnyTest fault → IfErr result (EndsFile reading)
+passed_on (Ok x) reading fault h ends = absurd h
+passed_on (Err e) reading fault h ends = subst (EndsFile reading) (sym h) (ends reading)

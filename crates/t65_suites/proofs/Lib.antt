@@ -1,5 +1,6 @@
 mod Ends
 mod Heads
 mod Paths
+mod Programs
 mod Ready
 mod Spared

@@ -1,13 +1,13 @@
 -- What was prepared.
-use Rattle.std.proofs.Common.{◌≡◌, ℕ, List, Option, map, refl, sym, ap, ◌∙◌, subst}
+use Rattle.std.proofs.Common.{◌≡◌, ℕ, List, Option, map, refl, sym, ap, ◌∙◌}
 use Rattle.std.specs.Prelude.{Ok}
-use Rattle.assembler.specs.Assembly.{IsAssembled}
 use Rattle.model.specs.State.{Map}
 use Rattle.model.specs.TextLines.{lines_of}
 use Rattle.source_map.specs.Lines.{PlacesView, places_of}
 use Rattle.t65_suites.specs.HeadText.{SeenHead, head_from}
 use Rattle.t65_reader.specs.RowText.{SeenRow, numbered_view, rows_from}
 use Rattle.t65_reader.specs.declared.row.Part.TheVariants.{Setup, Teardown}
+use Rattle.t65_suites.specs.Programs.{IsProgram, file_asked}
 use Rattle.t65_suites.specs.Suites.{SuiteAsked}
 use Rattle.t65_runner.specs.Parts.{rows_of}
 use Rattle.t65_suites.specs.Prepared.{Ground, IsPrepared, map_of, path_of}
@@ -25,10 +25,10 @@ ground_at bus_map image places rows = record {
 pub ready : (prepared : Prepared) (steps : ℕ) (suite : SuiteAsked) (text : List ℕ) (head : SeenHead) (next : ℕ) (lines : List (List ℕ)) (path : List ℕ)
     → head_from 1 (lines_of text) ≡ Ok (head, next, lines) → text ≡ prepared.text.items
     → prepared.map ≡ map_of head → path ≡ path_of suite head.source
-    → IsAssembled prepared.map prepared.assembly → prepared.places ≡ places_of path prepared.assembly
+    → IsProgram (file_asked suite.reading head path) suite.reading.symbols prepared.assembly → prepared.places ≡ places_of path prepared.assembly
     → rows_from steps prepared.assembly.names next lines ≡ Ok (map numbered_view prepared.rows.items)
-    → IsPrepared steps suite prepared
-ready prepared steps suite text head next lines path headed same mapped named assembled placed read = record {
+    → prepared.form ≡ suite.reading.form → IsPrepared steps suite prepared
+ready prepared steps suite text head next lines path headed same mapped named program placed read form = record {
   file = record {
     text = text;
     head = head;
@@ -38,7 +38,7 @@ ready prepared steps suite text head next lines path headed same mapped named as
     path = path;
     path_is = named;
     assembly = prepared.assembly;
-    assembled = subst (λ (m : Map). IsAssembled m prepared.assembly) mapped assembled;
+    program = program;
     rows = map numbered_view prepared.rows.items;
     read = read;
   };
@@ -46,4 +46,5 @@ ready prepared steps suite text head next lines path headed same mapped named as
   ground_is = ap (λ (m : Map). ground_at m prepared.assembly.image (places_of path prepared.assembly) (map numbered_view prepared.rows.items)) (sym mapped)
       ∙ ap (λ (p : PlacesView). ground_at prepared.map prepared.assembly.image p (map numbered_view prepared.rows.items)) (sym placed);
   rows_are = refl;
+  form_is = form;
 }

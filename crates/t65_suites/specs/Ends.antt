@@ -4,8 +4,8 @@ use Rattle.std.specs.Prelude.{◌≡◌, ◌⊎◌, ⊤, ℕ, false, List, [], O
 use Rattle.arguments.specs.Values.{base_of}
 use Rattle.arguments.specs.declared.refusal.Refusal.{Refusal}
 use Rattle.arguments.specs.declared.refusal.Refusal.TheVariants.{Map as NoMap, OutOfMemory, Read}
-use Rattle.assembler.specs.Assembly.{AssemblyView, IsAssembled}
-use Rattle.loading.specs.Loads.{EndsAsSource}
+use Rattle.assembler.specs.Assembly.{AssemblyView}
+use Rattle.clap.specs.Words.{Text}
 use Rattle.model.specs.Names.{Definitions}
 use Rattle.model.specs.State.{is_map}
 use Rattle.model.specs.TextLines.{lines_of}
@@ -14,9 +14,10 @@ use Rattle.t65_suites.specs.HeadText.{SeenHead, head_from}
 use Rattle.t65_reader.specs.RowText.{Rows, SeenRow, rows_from}
 use Rattle.t65_reader.specs.declared.row.Part.TheVariants.{Test}
 use Rattle.t65_runner.specs.Parts.{rows_of}
-use Rattle.t65_suites.specs.Prepared.{map_of}
+use Rattle.t65_suites.specs.Programs.{EndsProgram, IsProgram, file_asked}
+use Rattle.t65_suites.specs.Suites.{ReadingAsked}
 use Rattle.t65_suites.specs.declared.fault.FileFault.{FileFault}
-use Rattle.t65_suites.specs.declared.fault.FileFault.TheVariants.{InRows, InSource}
+use Rattle.t65_suites.specs.declared.fault.FileFault.TheVariants.{InProgram, InRows}
 use Rattle.t65_suites.specs.declared.fault.TestFault.{TestFault}
 use Rattle.t65_suites.specs.declared.fault.TestFault.TheVariants.{Rows as NotRows, TooLarge, NoRow, Refused}
 
@@ -28,11 +29,12 @@ pub record HeadedFile : Type 0 where
   pub lines : List (List ℕ)
   pub headed : head_from 1 (lines_of text) ≡ Ok (head, next, lines)
 
--- The rows of some file are read so under the names of some source on its map.
-pub record AreRead (rows : Rows) : Type 0 where
+-- The rows of some file are read so under the names of some file that is loaded on its map.
+pub record AreRead (reading : ReadingAsked) (rows : Rows) : Type 0 where
   pub file : HeadedFile
+  pub path : Text
   pub assembly : AssemblyView
-  pub assembled : IsAssembled (map_of file.head) assembly
+  pub program : IsProgram (file_asked reading file.head path) reading.symbols assembly
   pub steps : ℕ
   pub read : rows_from steps assembly.names file.next file.lines ≡ rows
 
@@ -47,19 +49,24 @@ EndsRefused refusal = ⊥
 
 -- Why a file of rows cannot be tested: its head or a row has this fault, no row is a test, or it is
 -- refused.
-abbrev pub EndsTest : TestFault → Type 0
-EndsTest (NotRows fault) = ((text : List ℕ) × (head_from 1 (lines_of text) ≡ Err fault))
-    ⊎ AreRead (Err fault)
-EndsTest TooLarge = ⊤
-EndsTest NoRow = (rows : List (ℕ × SeenRow)) × AreRead (Ok rows) × (rows_of Test rows ≡ [])
-EndsTest (Refused refusal) = EndsRefused refusal
+abbrev pub EndsTest : ReadingAsked → TestFault → Type 0
+EndsTest reading (NotRows fault) = ((text : List ℕ) × (head_from 1 (lines_of text) ≡ Err fault))
+    ⊎ AreRead reading (Err fault)
+EndsTest reading TooLarge = ⊤
+EndsTest reading NoRow = (rows : List (ℕ × SeenRow)) × AreRead reading (Ok rows)
+    × (rows_of Test rows ≡ [])
+EndsTest reading (Refused refusal) = EndsRefused refusal
 
--- Why a suite cannot be tested: its file of rows cannot, or the source is not assembled on the map
--- of its head.
-abbrev pub EndsFile : FileFault → Type 0
-EndsFile (InRows fault) = EndsTest fault
-EndsFile (InSource path fault) = (file : HeadedFile)
-    × EndsAsSource (map_of file.head) (string_bytes path) fault
+-- The same for every suite.
+abbrev pub EndsAnyTest : TestFault → Type 0
+EndsAnyTest fault = (reading : ReadingAsked) → EndsTest reading fault
+
+-- Why a suite cannot be tested: its file of rows cannot, or the file that its rows are run on is
+-- not loaded on the map of its head.
+abbrev pub EndsFile : ReadingAsked → FileFault → Type 0
+EndsFile reading (InRows fault) = EndsTest reading fault
+EndsFile reading (InProgram path fault) = (file : HeadedFile)
+    × EndsProgram (file_asked reading file.head (string_bytes path)) reading.symbols fault
 
 -- Why rows are not read under some names.
 abbrev pub EndsRows : ℕ → Definitions → ℕ → List (List ℕ) → TestFault → Type 0

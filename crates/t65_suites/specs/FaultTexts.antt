@@ -4,11 +4,13 @@ use Rattle.arguments.specs.declared.load_fault.LoadFault.{LoadFault}
 use Rattle.arguments.specs.declared.load_fault.LoadFault.TheVariants as load
 use Rattle.arguments.specs.declared.refusal.Refusal.{Refusal}
 use Rattle.arguments.specs.declared.refusal.Refusal.TheVariants.{OutOfMemory}
+use Rattle.loading.specs.declared.named.NamedFault.{NamedFault}
+use Rattle.loading.specs.declared.named.NamedFault.TheVariants.{HasSource, OfFile, OfNames}
 use Rattle.t65_values.specs.FaultWords.{fault_words}
 use Rattle.t65_values.specs.declared.fault.TextFault.{TextFault}
 use Rattle.t65_values.specs.Visible.{visible}
 use Rattle.t65_suites.specs.declared.fault.FileFault.{FileFault}
-use Rattle.t65_suites.specs.declared.fault.FileFault.TheVariants.{InRows, InSource}
+use Rattle.t65_suites.specs.declared.fault.FileFault.TheVariants.{InProgram, InRows}
 use Rattle.t65_suites.specs.declared.fault.TestFault.{TestFault}
 use Rattle.t65_suites.specs.declared.fault.TestFault.TheVariants.{Rows, TooLarge, NoRow, Refused}
 use Rattle.t65_suites.specs.declared.wording.TheConstants.{NO_ROW, TOO_LARGE}
@@ -23,14 +25,19 @@ abbrev pub is_out_of_rows : TestFault → Bool
 is_out_of_rows (Refused refusal) = is_out refusal
 is_out_of_rows fault = false
 
-abbrev pub is_out_of_source : LoadFault → Bool
-is_out_of_source (load.Refused refusal) = is_out refusal
-is_out_of_source fault = false
+abbrev pub is_out_of_file : LoadFault → Bool
+is_out_of_file (load.Refused refusal) = is_out refusal
+is_out_of_file fault = false
+
+abbrev pub is_out_of_program : NamedFault → Bool
+is_out_of_program (OfFile fault) = is_out_of_file fault
+is_out_of_program (OfNames refusal) = is_out refusal
+is_out_of_program HasSource = false
 
 -- Whether memory ran out.
 abbrev pub is_memory : FileFault → Bool
 is_memory (InRows fault) = is_out_of_rows fault
-is_memory (InSource path fault) = is_out_of_source fault
+is_memory (InProgram path fault) = is_out_of_program fault
 
 -- ---- texts
 
@@ -55,4 +62,4 @@ IsRowsTitle (Refused refusal) title = IsShown title
 -- Why a suite cannot be tested, in a few words.
 abbrev pub IsTitle : FileFault → List ℕ → Type 0
 IsTitle (InRows fault) title = IsRowsTitle fault title
-IsTitle (InSource path fault) title = IsShown title
+IsTitle (InProgram path fault) title = IsShown title

@@ -3,5 +3,6 @@ pub mod FaultTexts
 pub mod HeadText
 pub mod Paths
 pub mod Prepared
+pub mod Programs
 pub mod Replaced
 pub mod Suites

@@ -1,7 +1,7 @@
 -- What is read of a suite before its tests are run. Source: mos65.
-use Rattle.std.specs.Prelude.{◌≡◌, ℕ, ◌-◌, List, Option, Some, None, Ok, map}
+use Rattle.std.specs.Prelude.{◌≡◌, ℕ, List, Option, Some, None, Ok, map}
 use Rattle.arguments.specs.Values.{base_of}
-use Rattle.assembler.specs.Assembly.{AssemblyView, IsAssembled}
+use Rattle.assembler.specs.Assembly.{AssemblyView}
 use Rattle.clap.specs.Words.{Text}
 use Rattle.model.specs.State.{Map}
 use Rattle.model.specs.TextLines.{lines_of}
@@ -11,6 +11,7 @@ use Rattle.t65_reader.specs.RowText.{SeenRow, numbered_view, rows_from}
 use Rattle.t65_reader.specs.declared.row.Part.TheVariants.{Test, Setup, Teardown}
 use Rattle.t65_runner.specs.Parts.{rows_of}
 use Rattle.t65_suites.specs.Paths.{source_path}
+use Rattle.t65_suites.specs.Programs.{IsProgram, file_asked}
 use Rattle.t65_suites.specs.Suites.{SuiteAsked}
 use Rattle.t65_suites.specs.declared.prepared.Prepared.{Prepared}
 
@@ -18,7 +19,8 @@ use Rattle.t65_suites.specs.declared.prepared.Prepared.{Prepared}
 abbrev pub map_of : SeenHead → Map
 map_of head = record { profile = head.profile; rom = head.rom; port = base_of head.port }
 
--- The path of a suite's source: the one that the words name, or that the file of rows does.
+-- The path of the file that a suite's rows are run on: the one that the words name, or that the
+-- file of rows does.
 abbrev pub path_by : Text → Option Text → Text → Text
 path_by rows None name = source_path rows name
 path_by rows (Some source) name = source
@@ -26,8 +28,8 @@ path_by rows (Some source) name = source
 abbrev pub path_of : SuiteAsked → Text → Text
 path_of suite name = path_by suite.rows suite.source name
 
--- The text of a file of rows, its head, the path of the source, what that is assembled to, and the
--- rows, which are read under the source's names.
+-- The text of a file of rows, its head, the path of the file that they are run on, what is loaded
+-- of that, and the rows, which are read under its names.
 pub record TestedFile (steps : ℕ) (suite : SuiteAsked) : Type 0 where
   pub text : List ℕ
   pub head : SeenHead
@@ -37,7 +39,7 @@ pub record TestedFile (steps : ℕ) (suite : SuiteAsked) : Type 0 where
   pub path : Text
   pub path_is : path ≡ path_of suite head.source
   pub assembly : AssemblyView
-  pub assembled : IsAssembled (map_of head) assembly
+  pub program : IsProgram (file_asked suite.reading head path) suite.reading.symbols assembly
   pub rows : List (ℕ × SeenRow)
   pub read : rows_from steps assembly.names next lines ≡ Ok rows
 
@@ -79,3 +81,4 @@ pub record IsPrepared (steps : ℕ) (suite : SuiteAsked) (prepared : Prepared) :
   pub text_is : file.text ≡ prepared.text.items
   pub ground_is : ground_of steps suite file ≡ ground_in prepared
   pub rows_are : file.rows ≡ map numbered_view prepared.rows.items
+  pub form_is : prepared.form ≡ suite.reading.form

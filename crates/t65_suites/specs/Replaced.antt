@@ -1,5 +1,5 @@
 -- Files that are read, and that a report would replace. Which names are other names of a file, and
--- which source a file of rows names, no clause can say. Source: mos65.
+-- which file a file of rows names, no clause can say. Source: mos65.
 use Rattle.std.specs.Prelude.{◌≡◌, ◌⊎◌, ◌||◌, Bool, false, List, Option, None, Some, Contains}
 use Rattle.std.specs.List.{list_any}
 use Rattle.std.specs.Str.{bytes_eq}
@@ -12,22 +12,25 @@ abbrev pub replaces_one : Text → Option Text → Bool
 replaces_one report None = false
 replaces_one report (Some file) = bytes_eq file report
 
--- A report has the name of a suite's file of rows, or of the source that the words name for it.
+-- A report has the name of a suite's file of rows, or of a file that the words name for it.
 abbrev pub is_read : Text → SuiteAsked → Bool
 is_read report suite = bytes_eq suite.rows report || replaces_one report suite.source
+    || replaces_one report suite.reading.symbols
 
 -- A report, if there is one, has the name of a file that is read for some suites.
 abbrev pub replaces_any : Option Text → List SuiteAsked → Bool
 replaces_any None suites = false
 replaces_any (Some report) suites = list_any (is_read report) suites
 
--- The path of a suite's source, by the name that its file of rows has for it.
+-- The path of the file that a suite's rows are run on, by the name that its file of rows has for
+-- it.
 abbrev pub IsSourceOf : SuiteAsked → Text → Type 0
 IsSourceOf suite path = (name : Text) × (path ≡ path_of suite name)
 
--- A file is read for a suite: its file of rows, or its source.
+-- A file is read for a suite: its file of rows, the one that they are run on, or that of names.
 abbrev pub IsReadForOne : SuiteAsked → Text → Type 0
-IsReadForOne suite path = (path ≡ suite.rows) ⊎ IsSourceOf suite path
+IsReadForOne suite path = (path ≡ suite.rows) ⊎ (IsSourceOf suite path
+    ⊎ (suite.reading.symbols ≡ Some path))
 
 -- A file is read for one of some suites.
 abbrev pub IsReadFor : List SuiteAsked → Text → Type 0

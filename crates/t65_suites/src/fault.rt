@@ -2,11 +2,12 @@
 
 ghost use Rattle.std.specs.Prelude.{◌≡◌};
 ghost use Rattle.t65_suites.specs.FaultTexts.{is_memory, is_out, is_out_of_rows};
-ghost use Rattle.t65_suites.specs.FaultTexts.{is_out_of_source};
+ghost use Rattle.t65_suites.specs.FaultTexts.{is_out_of_file, is_out_of_program};
 ghost use Rattle.t65_suites.specs.declared.fault.FileFault.TheVariants.{InRows};
 ghost use Rattle.t65_suites.specs.declared.fault.TestFault.TheVariants.{Refused};
 
 use arguments::{LoadFault, Refusal};
+use loading::NamedFault;
 use t65_values::TextFault;
 
 /// Why a file of rows cannot be tested.
@@ -30,11 +31,11 @@ impl From<Refusal> for TestFault {
     }
 }
 
-/// Where a fault is: in the file of rows, or in the source of that path.
+/// Where a fault is: in the file of rows, or in the file of that path, which its rows are run on.
 #[derive(Drop)]
 pub enum FileFault {
     InRows(TestFault),
-    InSource(String, LoadFault),
+    InProgram(String, NamedFault),
 }
 
 impl From<TestFault> for FileFault {
@@ -60,8 +61,8 @@ fn is_out_of_rows(fault: TestFault) -> bool
     }
 }
 
-fn is_out_of_source(fault: &LoadFault) -> bool
-    ensures { result ≡ is_out_of_source fault.now }
+fn is_out_of_file(fault: &LoadFault) -> bool
+    ensures { result ≡ is_out_of_file fault.now }
 {
     match fault {
         LoadFault::Refused(refusal) => is_out(*refusal),
@@ -74,12 +75,22 @@ fn is_out_of_source(fault: &LoadFault) -> bool
     }
 }
 
+fn is_out_of_program(fault: &NamedFault) -> bool
+    ensures { result ≡ is_out_of_program fault.now }
+{
+    match fault {
+        NamedFault::OfFile(fault) => is_out_of_file(fault),
+        NamedFault::OfNames(refusal) => is_out(*refusal),
+        NamedFault::HasSource => false,
+    }
+}
+
 /// Returns whether memory ran out: then nothing more is told of the file.
 pub fn is_memory(fault: &FileFault) -> bool
     ensures { result ≡ is_memory fault.now }
 {
     match fault {
         FileFault::InRows(fault) => is_out_of_rows(*fault),
-        FileFault::InSource(_, fault) => is_out_of_source(fault),
+        FileFault::InProgram(_, fault) => is_out_of_program(fault),
     }
 }

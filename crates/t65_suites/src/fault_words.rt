@@ -5,8 +5,10 @@ ghost use Rattle.t65_suites.specs.FaultTexts.{IsRowsTitle, IsShown, IsTitle, lin
 
 use crate::fault::{FileFault, TestFault};
 use crate::names::text_of;
-use crate::wording::{NO_ROW, NO_SOURCE, TOO_LARGE};
-use arguments::{LoadFault, Refusal, put_fault_line, refuse_file};
+use crate::suites::Suite;
+use crate::wording::{AT_PORT, NO_IMAGE, NO_ROW, NO_SOURCE, TOO_LARGE};
+use arguments::{LoadFault, Refusal, put_fault_line, refuse_file, tell_no_image};
+use loading::NamedFault;
 use std::alloc::{AllocError, Global};
 use std::io::Write;
 use t65_values::{RowFaultKind, TextFault, push_visible};
@@ -90,14 +92,29 @@ fn rows_title(alloc: Global, fault: TestFault) -> Result<String, AllocError>
     }
 }
 
-/// Returns why a source cannot be tested, in a few words.
-fn source_title(alloc: Global, fault: &LoadFault) -> Result<String, AllocError>
+/// Returns why a file is not loaded, in a few words.
+fn file_title(alloc: Global, fault: &LoadFault) -> Result<String, AllocError>
     ensures { IfOk result (λ title. IsShown (string_bytes title)) }
 {
     match fault {
         LoadFault::Faults { fault, .. } => refusal_words(alloc, Refusal::Source(*fault)),
         LoadFault::Refused(refusal) => refusal_words(alloc, *refusal),
-        _ => shown_text(alloc, NO_SOURCE.as_bytes()),
+        LoadFault::NoImage { .. } => shown_text(alloc, NO_IMAGE.as_bytes()),
+        LoadFault::AtPort { .. } => shown_text(alloc, AT_PORT.as_bytes()),
+        LoadFault::LooksLikeTape | LoadFault::LooksLikeHex | LoadFault::LooksLikeSRecords => {
+            shown_text(alloc, NO_SOURCE.as_bytes())
+        }
+    }
+}
+
+/// Returns why there is nothing to run rows on, in a few words.
+fn program_title(alloc: Global, fault: &NamedFault) -> Result<String, AllocError>
+    ensures { IfOk result (λ title. IsShown (string_bytes title)) }
+{
+    match fault {
+        NamedFault::OfFile(fault) => file_title(alloc, fault),
+        NamedFault::OfNames(refusal) => refusal_words(alloc, *refusal),
+        NamedFault::HasSource => shown_text(alloc, NO_IMAGE.as_bytes()),
     }
 }
 
@@ -109,7 +126,7 @@ pub fn title_of(alloc: Global, fault: &FileFault) -> Result<String, AllocError>
 {
     match fault {
         FileFault::InRows(fault) => rows_title(alloc, *fault),
-        FileFault::InSource(_, fault) => source_title(alloc, fault),
+        FileFault::InProgram(_, fault) => program_title(alloc, fault),
     }
 }
 
@@ -147,12 +164,20 @@ fn tell_rows<E: Write>(path: &str, fault: TestFault, text: &mut E) {
 
 /// Writes what a file looks like that is named as a source.
 fn tell_like<E: Write>(path: &str, like: &str, text: &mut E) {
-    let _ = writeln!(text, "mos65: {path} looks like {like}, and is no source");
+    let _ = writeln!(
+        text,
+        "mos65: {path} looks like {like}, and is no source: use --image"
+    );
 }
 
-/// Writes why a source is not assembled: all of its faults, what it looks like, or why it is not
-/// read.
-fn tell_source<E: Write>(path: &str, fault: &LoadFault, text: &mut E) {
+/// Writes that an image has bytes at the port, and which base is free.
+fn tell_port<E: Write>(path: &str, first: u32, last: u32, free: Option<u16>, text: &mut E) {
+    let _ = LoadFault::AtPort { first, last, free }.tell(path, text);
+}
+
+/// Writes why a file is not loaded: all faults of a source, what a file looks like, why it is no
+/// image, that it has bytes at the port, or why it is not read.
+fn tell_file<E: Write>(path: &str, fault: &LoadFault, text: &mut E) {
     match fault {
         LoadFault::Faults { text: told, .. } => {
             let _ = text.write_all(told);
@@ -163,7 +188,25 @@ fn tell_source<E: Write>(path: &str, fault: &LoadFault, text: &mut E) {
         LoadFault::LooksLikeTape => tell_like(path, "a tape", text),
         LoadFault::LooksLikeHex => tell_like(path, "Intel HEX", text),
         LoadFault::LooksLikeSRecords => tell_like(path, "S-records", text),
-        _ => {}
+        LoadFault::NoImage {
+            place,
+            what,
+            number,
+        } => tell_no_image(path, place.as_slice(), *what, *number, text),
+        LoadFault::AtPort { first, last, free } => tell_port(path, *first, *last, *free, text),
+    }
+}
+
+/// Writes why there is nothing to run rows on, where a file of names may be named.
+fn tell_program<E: Write>(path: &str, symbols: Option<&str>, fault: &NamedFault, text: &mut E) {
+    match fault {
+        NamedFault::OfFile(fault) => tell_file(path, fault, text),
+        NamedFault::OfNames(refusal) => {
+            let _ = refuse_file(*refusal, symbols.unwrap_or(""), text);
+        }
+        NamedFault::HasSource => {
+            let _ = NamedFault::HasSource.tell(path, symbols, text);
+        }
     }
 }
 
@@ -171,13 +214,15 @@ fn tell_source<E: Write>(path: &str, fault: &LoadFault, text: &mut E) {
 /// the error stream.
 ///
 /// Errors: `AllocError` if an allocation fails.
-pub fn remarks_of(alloc: Global, rows: &str, fault: &FileFault) -> Result<String, AllocError>
+pub fn remarks_of(alloc: Global, suite: Suite<'_>, fault: &FileFault) -> Result<String, AllocError>
     ensures { IfOk result (λ remarks. IsShown (string_bytes remarks)) }
 {
     let mut told = Vec::new(alloc);
     match fault {
-        FileFault::InRows(fault) => tell_rows(rows, *fault, &mut told),
-        FileFault::InSource(path, fault) => tell_source(path, fault, &mut told),
+        FileFault::InRows(fault) => tell_rows(suite.rows, *fault, &mut told),
+        FileFault::InProgram(path, fault) => {
+            tell_program(path, suite.reading.symbols, fault, &mut told)
+        }
     }
     shown_text(alloc, &told)
 }

@@ -1,8 +1,9 @@
-//! Suites: files of rows, each with the source that its rows are run on.
+//! Suites: files of rows, each with the file that its rows are run on, a source or an image.
 //!
 //! `suites_of` says which these are by the words of a command line, `read_head` reads the line of a
 //! file that names its source and the machine, and `prepare` reads the file and assembles the
-//! source, or says why it cannot be tested. `title_of` and `remarks_of` say that in words.
+//! source or loads the image (`specs/Programs.antt`), or says why it cannot be tested. `title_of`
+//! and `remarks_of` say that in words.
 //! `replaced_by` finds a file that is read and that a report would replace. Which bytes a file has,
 //! no clause can say.
 #![tactic(auto)]
@@ -12,6 +13,7 @@ mod fault_words;
 mod head;
 mod names;
 mod prepared;
+mod program;
 mod replaced;
 mod suites;
 mod wording;
@@ -21,4 +23,4 @@ pub use fault_words::{remarks_of, title_of};
 pub use head::{Head, Opened, read_head};
 pub use prepared::{Prepared, prepare};
 pub use replaced::replaced_by;
-pub use suites::{Suite, suites_of};
+pub use suites::{Reading, Suite, suites_of};

@@ -3,7 +3,7 @@
 ghost use Rattle.std.specs.Prelude.{◌≡◌, ◌≤◌, ◌⊎◌, ◌++◌, IfErr, IfOk, length, string_bytes};
 ghost use Rattle.std.specs.Prelude.{vec_len};
 ghost use Rattle.std.specs.Str.{IsUtf8};
-ghost use Rattle.t65_suites.specs.Ends.{EndsTest};
+ghost use Rattle.t65_suites.specs.Ends.{EndsAnyTest};
 ghost use Rattle.t65_suites.specs.Paths.{begins_at_root, folder_for, name_start, source_path};
 ghost use Rattle.t65_suites.specs.Suites.{suite_view};
 ghost use Rattle.t65_suites.specs.Prepared.{path_of};
@@ -23,7 +23,7 @@ const LARGEST: u64 = 1_048_576;
 /// an allocation fails.
 pub fn read_rows_text<H: Files + AllocGlobal>(rt: &H, path: &str) -> Result<Vec<u8>, TestFault>
     ensures small { IfOk result (λ text. vec_len text ≤ 1048576) }
-    ensures refused { IfErr result EndsTest }
+    ensures refused { IfErr result EndsAnyTest }
 {
     let text = read_most(rt, path, LARGEST + 1)?;
     if text.len() > LARGEST as usize {
@@ -77,7 +77,7 @@ fn joined(alloc: Global, front: &[u8], back: &[u8]) -> Result<Vec<u8>, AllocErro
     Ok(text)
 }
 
-/// Returns the path of a source that a file of rows names: from the folder of that file, if it does
+/// Returns the path of a file that a file of rows names: from the folder of that file, if it does
 /// not begin with `/`.
 ///
 /// Errors: `Read` if the name is no text of UTF-8; `OutOfMemory`.
@@ -86,7 +86,7 @@ fn source_path(alloc: Global, file: &str, name: &[u8]) -> Result<String, TestFau
     ensures fault { IfErr result (λ fault. (fault ≡ TestFault.Refused Refusal.OutOfMemory)
         ⊎ ((fault ≡ TestFault.Refused (Refusal.Read ReadFault.Other))
         × ¬ IsUtf8 (source_path file.now name.now))) }
-    ensures refused { IfErr result EndsTest }
+    ensures refused { IfErr result EndsAnyTest }
 {
     let folder = folder_for(file.as_bytes(), name);
     match joined(alloc, folder, name) {
@@ -97,14 +97,14 @@ fn source_path(alloc: Global, file: &str, name: &[u8]) -> Result<String, TestFau
     }
 }
 
-/// Returns the path of a suite's source: the one that the words name, or that the file of rows does
-/// by this name.
+/// Returns the path of the file that a suite's rows are run on: the one that the words name, or
+/// that the file of rows does by this name.
 ///
 /// Errors: those of `source_path`.
 pub fn path_of(alloc: Global, suite: Suite<'_>, name: &[u8]) -> Result<String, TestFault>
     ensures path { IfOk result
         (λ path. string_bytes path ≡ path_of (suite_view suite.entry) name.now) }
-    ensures refused { IfErr result EndsTest }
+    ensures refused { IfErr result EndsAnyTest }
 {
     match suite.source {
         None => source_path(alloc, suite.rows, name),

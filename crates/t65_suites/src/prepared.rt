@@ -1,26 +1,27 @@
-//! A suite read: its rows, its source assembled, and the places of that.
+//! A suite read: its rows, what they are run on, and the places of that.
 
-ghost use Rattle.std.specs.Prelude.{◌≡◌, ◌≤◌, ◌<◌, ◌+◌, [], IfErr, IfOk, Ok, Some, false, length};
-ghost use Rattle.std.specs.Prelude.{map, string_bytes};
+ghost use Rattle.std.specs.Prelude.{◌≡◌, ◌≤◌, ◌<◌, ◌+◌, [], IfErr, IfOk, Ok, false, length, map};
+ghost use Rattle.std.specs.Prelude.{true};
+ghost use Rattle.arguments.specs.Asked.{file_view};
 ghost use Rattle.arguments.specs.Values.{base_of};
-ghost use Rattle.assembler.specs.Assembly.{IsAssembled};
-ghost use Rattle.loading.specs.Loads.{EndsAsSource};
 ghost use Rattle.model.specs.State.{is_map};
 ghost use Rattle.model.specs.TextLines.{lines_of};
 ghost use Rattle.source_map.specs.Lines.{places_of};
 ghost use Rattle.t65_suites.specs.HeadText.{head_from, head_view};
 ghost use Rattle.t65_reader.specs.RowText.{numbered_view, rows_from};
-ghost use Rattle.t65_suites.specs.Ends.{EndsFile, EndsRows, EndsTest};
-ghost use Rattle.t65_suites.specs.Suites.{suite_view};
+ghost use Rattle.t65_suites.specs.Ends.{EndsAnyTest, EndsFile, EndsRows};
 ghost use Rattle.t65_suites.specs.Prepared.{IsPrepared, map_of};
+ghost use Rattle.t65_suites.specs.Programs.{EndsProgram, IsProgram, file_asked};
+ghost use Rattle.t65_suites.specs.Suites.{reading_view, suite_view};
 
 use crate::fault::{FileFault, TestFault};
 use crate::head::{Head, Opened, read_head};
 use crate::names::{path_of, read_rows_text};
-use crate::suites::Suite;
-use arguments::{LoadFault, Refusal, read_source};
+use crate::program::program_of;
+use crate::suites::{Reading, Suite};
+use arguments::{FileForm, FileWords, LoadFault, Refusal};
 use assembler::Assembly;
-use loading::assembled_source;
+use loading::NamedFault;
 use memory_map::{MapSpec, Port};
 use model::BusFault;
 use source_map::Places;
@@ -30,11 +31,14 @@ use t65_reader::{Row, read_rows};
 use t65_runner::has_test;
 use t65_values::RowFaultKind;
 
-/// A file of rows, the source assembled, and the rows, one of them a test at least.
+/// A file of rows, what they are run on, and the rows, one of them a test at least. An image is an
+/// assembly without a line, with the names of a file or none.
 #[derive(Drop)]
 pub struct Prepared {
     pub text: Vec<u8>,
     pub map: MapSpec,
+    /// As what the rows' program was read.
+    pub form: FileForm,
     pub assembly: Assembly,
     pub rows: Vec<(u32, Row)>,
     pub places: Places,
@@ -53,6 +57,8 @@ fn port_at(base: Option<u16>) -> Port
 /// Returns the map that a head asks for.
 fn map_of(head: Head<'_>) -> Result<MapSpec, TestFault>
     ensures map { IfOk result (λ map. map ≡ map_of (head_view head.entry)) }
+    ensures is_map { IfOk result (λ _. is_map (head_view head.entry).rom
+        (base_of (head_view head.entry).port) ≡ true) }
     ensures none { IfErr result (λ fault. (fault ≡ TestFault.Refused (Refusal.Map BusFault.BadMap))
         × (is_map (head_view head.entry).rom (base_of (head_view head.entry).port) ≡ false)) }
 {
@@ -61,37 +67,69 @@ fn map_of(head: Head<'_>) -> Result<MapSpec, TestFault>
     )
 }
 
-/// Returns the source of a file, assembled.
-///
-/// Errors: `Read` if the file cannot be read; those of `assembled_source`.
-fn assembled_file<H: Files + AllocGlobal>(
-    rt: &H,
-    path: &str,
-    map: &MapSpec,
-) -> Result<Assembly, LoadFault>
-    ensures assembled { IfOk result (IsAssembled map.now) }
-    ensures refused { IfErr result (EndsAsSource map.now path.now) }
+/// Returns how the file of a path is read for a head.
+fn words_for<'a>(reading: Reading<'_>, head: Head<'_>, path: &'a str) -> FileWords<'a>
+    ensures { file_view result
+        ≡ file_asked (reading_view reading.entry) (head_view head.entry) path.now }
 {
-    let source = read_source(rt, path)?;
-    assembled_source(rt.alloc(), path, &source, map)
+    FileWords {
+        file: path,
+        form: reading.form,
+        port: port_at(head.port),
+        rom: head.rom,
+        profile: head.profile,
+    }
 }
 
-/// Returns the source of a file, assembled, and its places.
+/// Returns what is loaded of the file of a path on the map of a head.
 ///
-/// Errors: those of `assembled_file`.
-fn assembled<H: Files + AllocGlobal>(
+/// Errors: those of `program_of`.
+fn loaded<H: Files + AllocGlobal>(
     rt: &H,
+    reading: Reading<'_>,
+    head: Head<'_>,
     path: &str,
     map: &MapSpec,
-) -> Result<(Assembly, Places), LoadFault>
-    ensures assembled { IfOk result (λ found. IsAssembled map.now found.0) }
-    ensures places { IfOk result (λ found. found.1 ≡ places_of path.now found.0) }
-    ensures refused { IfErr result (EndsAsSource map.now path.now) }
+) -> Result<Assembly, NamedFault>
+    requires map { map.now ≡ map_of (head_view head) }
+    requires is_map { is_map (head_view head).rom (base_of (head_view head).port) ≡ true }
+    ensures program { IfOk result (IsProgram
+        (file_asked (reading_view reading.entry) (head_view head.entry) path.now)
+        (reading_view reading.entry).symbols) }
+    ensures refused { IfErr result (EndsProgram
+        (file_asked (reading_view reading.entry) (head_view head.entry) path.now)
+        (reading_view reading.entry).symbols) }
 {
-    let assembly = assembled_file(rt, path, map)?;
-    match Places::of_source(rt.alloc(), path.as_bytes(), &assembly) {
-        Ok(places) => Ok((assembly, places)),
-        Err(_) => Err(LoadFault::Refused(Refusal::OutOfMemory)),
+    let words = words_for(reading, head, path);
+    program_of(rt, &words, reading.symbols, map)
+}
+
+/// Returns what is loaded of the file of a path on the map of a head, and its places.
+///
+/// Errors: those of `program_of`, and `OutOfMemory`.
+fn placed<H: Files + AllocGlobal>(
+    rt: &H,
+    reading: Reading<'_>,
+    head: Head<'_>,
+    path: &str,
+    map: &MapSpec,
+) -> Result<(Assembly, Places), NamedFault>
+    requires map { map.now ≡ map_of (head_view head) }
+    requires is_map { is_map (head_view head).rom (base_of (head_view head).port) ≡ true }
+    ensures program { IfOk result (λ found. IsProgram
+        (file_asked (reading_view reading.entry) (head_view head.entry) path.now)
+        (reading_view reading.entry).symbols found.0) }
+    ensures places { IfOk result (λ found. found.1 ≡ places_of path.now found.0) }
+    ensures refused { IfErr result (EndsProgram
+        (file_asked (reading_view reading.entry) (head_view head.entry) path.now)
+        (reading_view reading.entry).symbols) }
+{
+    match loaded(rt, reading, head, path, map) {
+        Ok(assembly) => match Places::of_source(rt.alloc(), path.as_bytes(), &assembly) {
+            Ok(places) => Ok((assembly, places)),
+            Err(_) => Err(NamedFault::OfFile(LoadFault::Refused(Refusal::OutOfMemory))),
+        },
+        Err(fault) => Err(fault),
     }
 }
 
@@ -103,7 +141,7 @@ fn opened_in(text: &[u8]) -> Result<Opened<'_>, TestFault>
         ≡ Ok (head_view opened.head, opened.next, lines_of opened.rest.now)) }
     ensures room { IfOk result
         (λ opened. opened.next + length opened.rest.now ≤ 1 + length text.now) }
-    ensures refused { IfErr result EndsTest }
+    ensures refused { IfErr result EndsAnyTest }
 {
     read_head(text).map_err(TestFault::Rows)
 }
@@ -135,31 +173,40 @@ fn rows_in(
     }
 }
 
-/// Reads the rows of a suite, and assembles its source.
-#[tactic(auto, using(crate::proofs::Ends::map_ends))]
+/// Reads the rows of a suite, and loads what they are run on.
+///
+/// # Errors
+///
+/// - `InRows`: the file of rows cannot be read, or has more than 1,048,576 bytes; its head or a row
+///   has a fault; its head asks for a map that is none; no row is a test.
+/// - `InProgram`: what the rows are run on is not loaded, as `program_of` says.
+///
+/// An allocation that fails is `OutOfMemory` in one of them.
+#[tactic(auto, using(crate::proofs::Ends::map_ends, crate::proofs::Ends::passed_on))]
 pub fn prepare<H: Files + AllocGlobal>(
     rt: &H,
     suite: Suite<'_>,
     steps: u32,
 ) -> Result<Prepared, FileFault>
     ensures prepared { IfOk result (IsPrepared steps (suite_view suite.entry)) }
-    ensures refused { IfErr result EndsFile }
+    ensures refused { IfErr result (EndsFile (suite_view suite.entry).reading) }
 {
     let text = read_rows_text(rt, suite.rows)?;
     let opened = opened_in(&text)?;
     let map = map_of(opened.head)?;
     let path = path_of(rt.alloc(), suite, opened.head.source)?;
-    match assembled(rt, &path, &map) {
+    match placed(rt, suite.reading, opened.head, &path, &map) {
         Ok((assembly, places)) => {
             let rows = rows_in(rt.alloc(), &assembly, opened.next, steps, opened.rest)?;
             Ok(Prepared {
                 text,
                 map,
+                form: suite.reading.form,
                 assembly,
                 rows,
                 places,
             })
         }
-        Err(fault) => Err(FileFault::InSource(path, fault)),
+        Err(fault) => Err(FileFault::InProgram(path, fault)),
     }
 }

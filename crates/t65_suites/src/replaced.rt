@@ -1,20 +1,21 @@
 //! Files that are read, and that a report would replace.
 
 ghost use Rattle.std.specs.List.{list_any};
-ghost use Rattle.std.specs.Prelude.{◌≡◌, None, IfOk, IfSome, false, map, option_map, string_bytes};
+ghost use Rattle.std.specs.Prelude.{◌≡◌, ◌||◌, None, Some, IfOk, IfSome, false, map, option_map};
+ghost use Rattle.std.specs.Prelude.{string_bytes};
 ghost use Rattle.std.specs.Str.{bytes_eq};
 ghost use Rattle.t65_suites.specs.Replaced.{IsReadFor, IsReadForOne, IsSourceOf, is_read};
 ghost use Rattle.t65_suites.specs.Replaced.{replaces_any, replaces_one};
-ghost use Rattle.t65_suites.specs.Suites.{suite_view, suites_of};
+ghost use Rattle.t65_suites.specs.Suites.{reading_view, suite_view, suites_of};
 
 use crate::fault::TestFault;
 use crate::head::read_head;
 use crate::names::{copied, path_of, read_rows_text};
-use crate::suites::{Suite, suites_of};
+use crate::suites::{Reading, Suite, suites_of};
 use arguments::{Refusal, is_one_file};
 use std::rt::Files;
 
-/// Returns the path of a suite's source.
+/// Returns the path of the file that a suite's rows are run on.
 ///
 /// Errors: why the head of the file of rows cannot be read; `OutOfMemory` if an allocation fails.
 fn path_in<H: Files + AllocGlobal>(rt: &H, suite: Suite<'_>) -> Result<String, TestFault>
@@ -30,8 +31,8 @@ fn path_in<H: Files + AllocGlobal>(rt: &H, suite: Suite<'_>) -> Result<String, T
     }
 }
 
-/// Returns the path of a suite's source, or `None` where the head of the file of rows cannot be
-/// read.
+/// Returns the path of the file that a suite's rows are run on, or `None` where the head of the
+/// file of rows cannot be read.
 ///
 /// Errors: `OutOfMemory` if an allocation fails.
 fn source_of<H: Files + AllocGlobal>(rt: &H, suite: Suite<'_>) -> Result<Option<String>, TestFault>
@@ -67,7 +68,7 @@ fn replaced_file<H: Files + AllocGlobal>(
     }
 }
 
-/// Returns the path of the source that a file of rows names, if a report would replace it.
+/// Returns the path of the file that a file of rows names, if a report would replace it.
 ///
 /// Errors: `OutOfMemory` if an allocation fails.
 fn replaced_own<H: Files + AllocGlobal>(
@@ -90,7 +91,7 @@ fn replaced_own<H: Files + AllocGlobal>(
     }
 }
 
-/// Returns the path of a suite's source, if a report would replace it.
+/// Returns the path of the file that a suite's rows are run on, if a report would replace it.
 ///
 /// Errors: `OutOfMemory` if an allocation fails.
 fn replaced_source<H: Files + AllocGlobal>(
@@ -112,6 +113,53 @@ fn replaced_source<H: Files + AllocGlobal>(
     }
 }
 
+/// Returns the path of the file whose names a suite's image has, if there is one and a report would
+/// replace it.
+///
+/// Errors: `OutOfMemory` if an allocation fails.
+fn replaced_names<H: Files + AllocGlobal>(
+    rt: &H,
+    suite: Suite<'_>,
+    report: &str,
+) -> Result<Option<String>, TestFault>
+    ensures spared { IfOk result (λ found. found ≡ None
+        → replaces_one report.now (suite_view suite.entry).reading.symbols ≡ false) }
+    ensures found { IfOk result (λ found. IfSome found
+        (λ path. (suite_view suite.entry).reading.symbols ≡ Some (string_bytes path))) }
+{
+    match suite.reading.symbols {
+        Some(names) => match replaced_file(rt, names, report)? {
+            Some(path) => Ok(Some(path)),
+            None => Ok(None),
+        },
+        None => Ok(None),
+    }
+}
+
+/// Returns which of the files that a suite's rows are run on a report would replace, if it would
+/// one: the program, or the file whose names it has.
+///
+/// Errors: `OutOfMemory` if an allocation fails.
+fn replaced_program<H: Files + AllocGlobal>(
+    rt: &H,
+    suite: Suite<'_>,
+    report: &str,
+) -> Result<Option<String>, TestFault>
+    ensures spared { IfOk result (λ found. found ≡ None
+        → (replaces_one report.now (suite_view suite.entry).source
+        || replaces_one report.now (suite_view suite.entry).reading.symbols) ≡ false) }
+    ensures found { IfOk result (λ found. IfSome found
+        (λ path. IsReadForOne (suite_view suite.entry) (string_bytes path))) }
+{
+    match replaced_source(rt, suite, report)? {
+        Some(path) => Ok(Some(path)),
+        None => match replaced_names(rt, suite, report)? {
+            Some(path) => Ok(Some(path)),
+            None => Ok(None),
+        },
+    }
+}
+
 /// Returns which file of a suite the report would replace, if it would one.
 ///
 /// Errors: `OutOfMemory` if an allocation fails.
@@ -127,7 +175,7 @@ fn replaced_in<H: Files + AllocGlobal>(
 {
     match replaced_file(rt, suite.rows, report)? {
         Some(path) => Ok(Some(path)),
-        None => match replaced_source(rt, suite, report)? {
+        None => match replaced_program(rt, suite, report)? {
             Some(path) => Ok(Some(path)),
             None => Ok(None),
         },
@@ -157,29 +205,31 @@ fn first_replaced<H: Files + AllocGlobal>(
     Ok(None)
 }
 
-/// Returns the path of the first file that is read for the suites of some files of rows and sources
-/// and that a report would replace, if there are such a file and a report.
+/// Returns the path of the first file that is read for the suites of some files of rows and
+/// sources, and that a report would replace, if there are such a file and a report.
 ///
 /// Errors: `OutOfMemory` if an allocation fails.
 pub fn replaced_by<H: Files + AllocGlobal>(
     rt: &H,
     files: &[&str],
     sources: &[&str],
+    reading: Reading<'_>,
     report: Option<&str>,
 ) -> Result<Option<String>, TestFault>
-    // No file of rows and no source has the report's name.
+    // No file that is read by a name of the words has the report's name.
     ensures spared { IfOk result (λ found. found ≡ None
         → replaces_any (option_map (λ r. r.now) report.entry)
-        (suites_of (map (λ s. s.now) sources.now) (map (λ f. f.now) files.now)) ≡ false) }
-    // The path is that of a file of rows, or of its source.
+        (suites_of (reading_view reading.entry) (map (λ s. s.now) sources.now)
+        (map (λ f. f.now) files.now)) ≡ false) }
+    // The path is that of a file of rows, of what it is run on, or of names.
     ensures found { IfOk result (λ found. IfSome found (λ path. IsReadFor
-        (suites_of (map (λ s. s.now) sources.now) (map (λ f. f.now) files.now))
-        (string_bytes path))) }
+        (suites_of (reading_view reading.entry) (map (λ s. s.now) sources.now)
+        (map (λ f. f.now) files.now)) (string_bytes path))) }
 {
     let Some(report) = report else {
         return Ok(None);
     };
-    match suites_of(rt.alloc(), files, sources) {
+    match suites_of(rt.alloc(), files, sources, reading) {
         Ok(suites) => first_replaced(rt, &suites, report),
         Err(_) => Err(TestFault::Refused(Refusal::OutOfMemory)),
     }

@@ -1,21 +1,35 @@
-//! Which files of rows are run on which sources.
+//! Which files of rows are run on which files.
 
 ghost use Rattle.std.specs.Prelude.{◌≡◌, ◌++◌, [], IfOk, OnOk, map, unwrap_or};
 ghost use Rattle.std.specs.Option.{option_map};
-ghost use Rattle.t65_suites.specs.Suites.{name_of, on_source, suite_view, suites_of, suites_of_file};
+ghost use Rattle.t65_suites.specs.Suites.{name_of, on_source, reading_view, suite_view};
+ghost use Rattle.t65_suites.specs.Suites.{suites_of, suites_of_file};
 
+use arguments::FileForm;
 use std::alloc::{AllocError, Global};
 
-/// A file of rows, and the source that its rows are run on where it is not the one that the file
-/// names.
+/// How a file is read that rows are run on.
+#[derive(Clone, Copy)]
+pub struct Reading<'a> {
+    /// As a source, or as an image in this form.
+    pub form: FileForm,
+    /// The file whose names an image has, if one is named.
+    pub symbols: Option<&'a str>,
+}
+
+/// A file of rows, and what its rows are run on.
 #[derive(Clone, Copy)]
 pub struct Suite<'a> {
     pub rows: &'a str,
+    /// The file that the rows are run on, where it is not the one that the file of rows names.
     pub source: Option<&'a str>,
+    /// How that is read.
+    pub reading: Reading<'a>,
 }
 
 impl<'a> Suite<'a> {
-    /// Returns the name of the suite: that of the source that the words name, or of the file.
+    /// Returns the name of the suite: that of the file that the words name for its rows to be run
+    /// on, or of the file of rows.
     pub fn name(&self) -> &'a str
         ensures { result.now ≡ name_of (suite_view self.now) }
     {
@@ -26,55 +40,67 @@ impl<'a> Suite<'a> {
     }
 }
 
-/// Appends the suites of a file of rows: one for each source.
+/// Appends the suites of a file of rows: one for each file that they are run on.
 fn push_each<'a>(
     suites: &mut Vec<Suite<'a>>,
     rows: &'a str,
     sources: &[&'a str],
+    reading: Reading<'a>,
 ) -> Result<(), AllocError>
     ensures { OnOk result (map suite_view suites.new.items ≡ map suite_view suites.old.items
-        ++ map (on_source rows.now) (map (λ s. s.now) sources.now)) }
+        ++ map (on_source (reading_view reading.entry) rows.now)
+        (map (λ s. s.now) sources.now)) }
 {
     for source in sources {
         suites.push(Suite {
             rows,
             source: Some(*source),
+            reading,
         })?;
     }
     Ok(())
 }
 
-/// Appends the suites of a file of rows: one for each source, or one on the source that it names.
+/// Appends the suites of a file of rows: one for each file that they are run on, or one on the file
+/// that it names.
 fn push_suites<'a>(
     suites: &mut Vec<Suite<'a>>,
     rows: &'a str,
     sources: &[&'a str],
+    reading: Reading<'a>,
 ) -> Result<(), AllocError>
     ensures { OnOk result (map suite_view suites.new.items ≡ map suite_view suites.old.items
-        ++ suites_of_file (map (λ s. s.now) sources.now) rows.now) }
+        ++ suites_of_file (reading_view reading.entry) (map (λ s. s.now) sources.now) rows.now) }
 {
     if sources.is_empty() {
-        suites.push(Suite { rows, source: None })?;
+        suites.push(Suite {
+            rows,
+            source: None,
+            reading,
+        })?;
         Ok(())
     } else {
-        push_each(suites, rows, sources)
+        push_each(suites, rows, sources, reading)
     }
 }
 
-/// Returns the suites of files of rows, in their order.
+/// Returns the suites of files of rows, in their order: each file on each source, or on its own.
+/// All that they are run on is read in one way.
 ///
 /// Errors: `AllocError` if an allocation fails.
 pub fn suites_of<'a>(
     alloc: Global,
     files: &[&'a str],
     sources: &[&'a str],
+    reading: Reading<'a>,
 ) -> Result<Vec<Suite<'a>>, AllocError>
     ensures { IfOk result (λ suites. map suite_view suites.items
-        ≡ suites_of (map (λ s. s.now) sources.now) (map (λ f. f.now) files.now)) }
+        ≡ suites_of (reading_view reading.entry) (map (λ s. s.now) sources.now)
+        (map (λ f. f.now) files.now)) }
 {
     let mut suites = Vec::new(alloc);
     for rows in files {
-        push_suites(&mut suites, *rows, sources)?;
+        push_suites(&mut suites, *rows, sources, reading)?;
     }
     Ok(suites)
 }

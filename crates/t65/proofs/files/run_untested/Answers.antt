@@ -1,9 +1,6 @@
 use Rattle.std.proofs.KnownBytes.{Appends-trans}
-use Rattle.std.proofs.Common.{sym, subst, ◌≡◌, ◌++◌, List, ℕ}
-use Rattle.std.specs.Prelude.{string_bytes}
+use Rattle.std.proofs.Common.{subst, List, ℕ}
 use Rattle.std.specs.Io.KnownBytes.{Appends}
-use Rattle.t65_reports.specs.Reports.{tap_fault}
-use Rattle.t65_suites.specs.Suites.{name_of, suite_view}
 use Rattle.t65.specs.Tested.{summary_if}
 use Rattle.t65.proofs.files.run_untested.Goals as goal
 

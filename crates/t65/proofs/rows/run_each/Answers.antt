@@ -1,4 +1,4 @@
-use Rattle.std.proofs.Common.{◌∙◌, ◌+◌, ℕ, List, ap, arith, drop, map, refl}
+use Rattle.std.proofs.Common.{◌∙◌, ◌+◌, ℕ, List, ap, arith, drop, refl}
 use Rattle.model.specs.TextLines.{lines_of}
 use Rattle.t65_reports.specs.Lines.{lines_left}
 use Rattle.t65.specs.Tested.{rows_text, tally_rows}

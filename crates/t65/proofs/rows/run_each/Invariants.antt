@@ -1,4 +1,4 @@
-use Rattle.std.proofs.Common.{◌≡◌, drop, map}
+use Rattle.std.proofs.Common.{◌≡◌, drop}
 use Rattle.model.specs.TextLines.{lines_of}
 use Rattle.t65_reports.specs.Lines.{lines_left}
 use Rattle.t65_runner.specs.Start.{fresh}

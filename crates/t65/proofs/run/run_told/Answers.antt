@@ -15,7 +15,7 @@ returns g c =
     let new = g.O.Write.contents c.write_text-2.new.output in
     all_told (test_view c.args.words.now) _ old begun ran new c.in_ok-count.count c.in_ok-count.all_pass
     (ap (λ (s : List Suite). map suite_view s) c.deref-3.ensures.value ∙ (c.in_ok-suites.ensures
-    ∙ ap₂ (λ (s f : List (Bor (List ℕ))). suites_of (map (λ x. x.now) s) (map (λ x. x.now) f)) c.deref-2.ensures.value c.deref.ensures.value))
+    ∙ ap₂ (λ (s f : List (Bor (List ℕ))). suites_of (test_view c.args.words.now).reading (map (λ x. x.now) s) (map (λ x. x.now) f)) c.deref-2.ensures.value c.deref.ensures.value))
     (subst (Appends old begun) c.as_bytes.ensures.value c.in_ok-write_text.ensures)
     c.in_ok-count.ensures
     (subst (Appends ran new) (c.as_bytes-2.ensures.value ∙ c.in_ok-plan.ensures) c.in_ok-write_text-2.ensures)
