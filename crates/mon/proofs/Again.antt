@@ -1,15 +1,16 @@
 -- Lines that are served again, and why a file is not loaded again.
-use Rattle.std.proofs.Common.{◌≡◌, ◌⊎◌, ◌∙◌, ◌<◌, ℕ, ◌+◌, false, true≢false, List, [], ◌∷◌, Option, None, Some, Result, Ok, Err, Bor, option_map, unwrap_or, inl, inr, refl, sym, ap, subst, length, get_or, drop}
+use Rattle.std.proofs.Common.{◌≡◌, ◌⊎◌, ◌∙◌, ◌<◌, ℕ, ◌+◌, Bool, false, true≢false, List, [], ◌∷◌, Option, None, Some, Result, Ok, Err, Bor, option_map, unwrap_or, inl, inr, refl, sym, ap, subst, length, get_or, drop}
 use Rattle.std.proofs.lemmas.List.{drop_more}
 use Rattle.std.specs.Prelude.{OnOk}
 use Rattle.arguments.specs.declared.load_fault.LoadFault.{LoadFault}
 use Rattle.arguments.specs.declared.load_fault.LoadFault.TheVariants.{Refused}
 use Rattle.arguments.specs.declared.refusal.Refusal.{Refusal}
 use Rattle.arguments.specs.declared.refusal.Refusal.TheVariants.{OutOfMemory}
-use Rattle.arguments_play.specs.Mon.{MonAsked}
-use Rattle.mon.specs.Files.{EndsReload, Repeats, is_memory}
+use Rattle.arguments_play.specs.Mon.{MonAsked, mon_view}
+use Rattle.mon.specs.Files.{EndsReload, IsReloaded, Repeats, ServesAgain, is_memory}
 use Rattle.mon.specs.Notes.{SeenNote, notes_after, placed_in}
-use Rattle.mon.specs.Starts.{EndsNamed}
+use Rattle.mon.specs.Starts.{EndsNamed, StartsMon}
+use Rattle.mon.specs.declared.seat.Seat.{Seat}
 use Rattle.mon_dispatch.specs.Lines.{Follows}
 use Rattle.mon_dispatch.specs.declared.lines.Outcome.{Outcome}
 use Rattle.mon_lines.specs.Lines.{line_of}
@@ -36,6 +37,23 @@ unfolding Repeats
 again_more notes i note outcome a b noted more h at follows is new left p =
     subst (λ l. Repeats l a noted new left) (sym (drop_more notes i note h ∙ ap (λ n. n ∷ drop (i + 1) notes) (sym at)))
     (b, outcome, follows, subst (λ n. Repeats (drop (i + 1) notes) b n new left) is p)
+
+-- a session that has begun, put in place of another
+pub reloads : (a b : Seat) (fresh ready : Desk) (loaded : List Bool) (text : List ℕ)
+    (notes left : List SeenNote) → StartsMon (mon_view a.words.now) fresh loaded
+    → text ≡ a.desk.text.items → notes ≡ a.notes.items → ServesAgain text notes fresh ready left
+    → b.desk ≡ ready → b.loaded ≡ loaded → b.notes.items ≡ left → b.view ≡ a.view
+    → b.words ≡ a.words → IsReloaded a b
+reloads a b fresh ready loaded text notes left starts t n again desk known items view words = (
+  fresh,
+  subst (λ (k : List Bool). StartsMon (mon_view a.words.now) fresh k) (sym known) starts,
+  subst (λ (x : List ℕ). ServesAgain x a.notes.items fresh b.desk b.notes.items) t
+      (subst (λ (x : List SeenNote). ServesAgain text x fresh b.desk b.notes.items) n
+      (subst (λ (d : Desk). ServesAgain text notes fresh d b.notes.items) (sym desk)
+      (subst (λ (x : List SeenNote). ServesAgain text notes fresh ready x) (sym items) again))),
+  view,
+  words,
+)
 
 -- ---- why a file is not loaded again
 

@@ -2,7 +2,7 @@
 use Rattle.std.proofs.Common.{◌≡◌, ◌∙◌, ℕ, Bool, List, [], ◌∷◌, ◌++◌, append_assoc, append-nil, Option, None, Result, Ok, Err, inl, inr, ap, sym, length}
 use Rattle.std.proofs.lemmas.Bool.{cases_lt}
 use Rattle.mon.specs.Attended.{AnswersLine}
-use Rattle.mon.specs.Files.{IsReloaded, Reloads, Repeats, SeenFiling, ServesFiles, no_file, to_reload, to_save}
+use Rattle.mon.specs.Files.{IsReloaded, Reloads, Repeats, SeenFiling, ServesAgain, ServesFiles, no_file, to_reload, to_save}
 use Rattle.mon.specs.Notes.{SeenNote, notes_after, placed_in}
 use Rattle.mon.specs.declared.seat.Seat.{Seat}
 use Rattle.mon_dispatch.specs.Lines.{Follows, Says, read_at}
@@ -47,15 +47,19 @@ repeats_say (note ∷ notes) a noted b left p =
       rest.1 ∙ ap (λ t. t ++ rest.0) first.1 ∙ append_assoc a.text.items first.0 rest.0,
     )
 
-reloaded_says : (a b : Seat) → IsReloaded a b → (said : List ℕ) × Says said a.desk b.desk
-reloaded_says a b p =
-    let again = repeats_say a.notes.items p.2 [] p.6 b.notes.items p.7 in
-    let shown = shown_text p.6.session.current p.6.places.names None in
-    let text = a.desk.text.items in (
-      p.4 ++ (again.0 ++ shown),
-      p.9 ∙ ap (λ t. t ++ shown) (again.1 ∙ ap (λ t. t ++ again.0) p.5)
-          ∙ append_assoc (text ++ p.4) again.0 shown ∙ append_assoc text p.4 (again.0 ++ shown),
+again_says : (old : List ℕ) (notes : List SeenNote) (fresh new : Desk) (left : List SeenNote)
+    → ServesAgain old notes fresh new left → (said : List ℕ) × (new.text.items ≡ old ++ said)
+unfolding ServesAgain
+again_says old notes fresh new left p =
+    let again = repeats_say notes p.0 [] p.4 left p.5 in
+    let shown = shown_text p.4.session.current p.4.places.names None in (
+      p.2 ++ (again.0 ++ shown),
+      p.7 ∙ ap (λ t. t ++ shown) (again.1 ∙ ap (λ t. t ++ again.0) p.3)
+          ∙ append_assoc (old ++ p.2) again.0 shown ∙ append_assoc old p.2 (again.0 ++ shown),
     )
+
+reloaded_says : (a b : Seat) → IsReloaded a b → (said : List ℕ) × Says said a.desk b.desk
+reloaded_says a b p = again_says a.desk.text.items a.notes.items p.0 b.desk b.notes.items p.2
 
 reloads_say : (a b : Seat) → Reloads a b → (said : List ℕ) × Says said a.desk b.desk
 reloads_say a b (inl p) = reloaded_says a b p
@@ -82,7 +86,7 @@ both_say line is_over filing a b c p q =
 
 -- no screen comes or goes
 reloads_view : (a b : Seat) → Reloads a b → b.view ≡ a.view
-reloads_view a b (inl p) = p.10
+reloads_view a b (inl p) = p.3
 reloads_view a b (inr p) = p.0.1
 
 pub files_view : (filing : SeenFiling) (a b : Seat) → ServesFiles filing a b → b.view ≡ a.view

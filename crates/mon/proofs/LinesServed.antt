@@ -4,7 +4,9 @@ use Rattle.std.proofs.lemmas.Bool.{cases_lt, lt-ltb}
 use Rattle.std.proofs.lemmas.List.{take_all}
 use Rattle.std.specs.Io.BufRead.{ends_with_byte, strip_last}
 use Rattle.model.specs.TextLines.{ended_lines_of}
-use Rattle.mon.specs.Attended.{AnswersLine, IsAttended, IsNoted, prompt_of, IsAttendedSoFar, ServesLine, ServesLines}
+use Rattle.mon.specs.Attended.{AnswersLine, IsAttended, IsNoted, prompt_of, IsAttendedSoFar, ServesBy, ServesLine, ServesLines}
+use Rattle.mon_files.specs.Asked.{SeenPage, page_in, page_line}
+use Rattle.mon_line_parts.specs.Reading.{skip}
 use Rattle.mon.specs.Files.{SeenFiling, ServesFiles, filing_at, filing_in, no_file}
 use Rattle.mon.specs.Notes.{notes_after, placed_at, placed_in}
 use Rattle.mon.specs.declared.notes.Placed.{Placed}
@@ -60,10 +62,17 @@ plain_answer true seat said none = refl
 plain_answer false seat said none = ap (λ v. drawn v seat.desk said ++ []) none ∙ append-nil said
 
 -- where no screen is drawn, no line draws one
+plain_by : (asked : Option SeenPage) (line : List ℕ) (is_over : Bool) (a b : Seat) (said : List ℕ)
+    → a.view ≡ None → ServesBy asked line is_over a b said → b.view ≡ None
+plain_by None line is_over a b said none p = p.6.1
+    ∙ files_view (filing_at p.0.desk line) p.0 p.3 p.4 ∙ p.2.view ∙ ap (view_after a.desk line) none
+plain_by (Some asked) line is_over a b said none p =
+    p.4.1 ∙ p.2.view ∙ ap (view_after a.desk line) none
+
 plain_view : (line : List ℕ) (is_over : Bool) (a b : Seat) (said : List ℕ) → a.view ≡ None
     → ServesLine line is_over a b said → b.view ≡ None
-plain_view line is_over a b said none p = p.6.1
-    ∙ files_view (filing_at p.0.desk line) p.0 p.3 p.4 ∙ p.2.view ∙ ap (view_after a.desk line) none
+unfolding ServesLine
+plain_view line is_over a b said none p = plain_by (page_line line) line is_over a b said none p
 
 pub plain_line : (line : List ℕ) (is_over : Bool) (a b : Seat) (said text : List ℕ) → a.view ≡ None
     → ServesLine line is_over a b said → answer_text is_over [] b text ≡ text
@@ -71,10 +80,16 @@ plain_line line is_over a b said text none p =
     plain_answer is_over b text (plain_view line is_over a b said none p)
 
 -- only the text changes after a line
+then_by : (asked : Option SeenPage) (line : List ℕ) (is_over : Bool) (a b c : Seat) (said : List ℕ)
+    → ServesBy asked line is_over a b said → Rests b c → ServesBy asked line is_over a c said
+then_by None line is_over a b c said p q =
+    (p.0, p.1, p.2, p.3, p.4, p.5, rests_then p.3 b c p.6 q)
+then_by (Some asked) line is_over a b c said p q = (p.0, p.1, p.2, p.3, rests_then p.1 b c p.4 q)
+
 pub line_then : (line : List ℕ) (is_over : Bool) (a b c : Seat) (said : List ℕ)
     → ServesLine line is_over a b said → Rests b c → ServesLine line is_over a c said
-line_then line is_over a b c said p q =
-    (p.0, p.1, p.2, p.3, p.4, p.5, rests_then p.3 b c p.6 q)
+unfolding ServesLine
+line_then line is_over a b c said p q = then_by (page_line line) line is_over a b c said p q
 
 pub lines_then : (prompt : List ℕ) (lines : List (List ℕ)) (is_over : Bool) (a b c : Seat)
     (w : List ℕ) → ServesLines prompt lines is_over a b w → Rests b c
@@ -240,17 +255,25 @@ files_long : (desk : Desk) (kept line : List ℕ) (a b : Seat) → 255 < length 
 files_long desk kept line a b h i p =
     subst (λ (filing : SeenFiling). ServesFiles filing a b) (filing_long desk kept h ∙ sym (filing_long desk line i)) p
 
+-- a line that is too long is not about a page
+page_long : (line : List ℕ) → 255 < length line → page_line line ≡ None
+unfolding page_line
+page_long line h = ap (λ t. cond t None (page_in (skip line))) (lt-ltb 255 (length line) h)
+
 -- what is kept is all of the line, or too long as the line is
 pub line_kept : (begun : List ℕ) (is_over : Bool) (a b : Seat) (said : List ℕ)
     → ServesLine (strip_last 13 (take 257 begun)) is_over a b said
     → ServesLine (strip_last 13 begun) is_over a b said
+unfolding ServesLine
 line_kept begun is_over a b said p = elim (cases_lt 257 (length begun)) [
   | inl more ↦
       let kept = strip_last 13 (take 257 begun) in
       let line = strip_last 13 begun in
       let long : 255 < length (strip_last 13 (take 257 begun))
       = omega (arith, length-take 257 begun, length-strip 13 (take 257 begun)) in
-      let also : 255 < length (strip_last 13 begun) = omega (arith, length-strip 13 begun) in (
+      let also : 255 < length (strip_last 13 begun) = omega (arith, length-strip 13 begun) in
+      let p = subst (λ (asked : Option SeenPage). ServesBy asked kept is_over a b said) (page_long kept long) p in
+      subst (λ (asked : Option SeenPage). ServesBy asked line is_over a b said) (sym (page_long line also)) (
         p.0,
         both_long kept line is_over a.desk p.0.desk long also p.1,
         noted_long kept line a p.0 long also p.2,

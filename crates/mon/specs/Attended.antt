@@ -1,11 +1,13 @@
 -- Which lines of its input a session of `mon` serves, in which order, and what it writes.
 -- Source: mos65.
-use Rattle.std.specs.Prelude.{ℕ, ◌≡◌, ◌<◌, ◌≤◌, ◌⊎◌, Bool, true, false, if◌then◌else◌, List, [], ◌∷◌, ◌++◌, length, Option, codes}
+use Rattle.std.specs.Prelude.{ℕ, ◌≡◌, ◌<◌, ◌≤◌, ◌⊎◌, Bool, true, false, if◌then◌else◌, List, [], ◌∷◌, ◌++◌, length, Option, Some, None, codes}
 use Rattle.std.specs.Io.BufRead.{strip_last}
 use Rattle.std.specs.Io.KnownBytes.{Consumes, IsAtEnd}
 use Rattle.model.specs.TextLines.{ended_lines_of, lines_from}
 use Rattle.mon.specs.declared.wording.TheConstants.{PROMPT}
 use Rattle.mon_dispatch.specs.Lines.{IsTooLong, Says, Serves}
+use Rattle.mon_files.specs.Asked.{SeenPage, page_line}
+use Rattle.mon_files.specs.Pages.{ShowsPage}
 use Rattle.mon_session.specs.declared.desk.Desk.{Desk}
 use Rattle.mon.specs.Files.{ServesFiles, filing_at}
 use Rattle.mon.specs.Notes.{notes_after, placed_at}
@@ -40,13 +42,30 @@ pub record IsNoted (line : List ℕ) (old new : Seat) : Type 0 where
   pub loaded : new.loaded ≡ old.loaded
   pub words : new.words ≡ old.words
 
--- A line is answered and noted, then it saves or reloads if it asks for that, and so much is said.
--- Then only the text changes, which is written.
-abbrev pub ServesLine : List ℕ → Bool → Seat → Seat → List ℕ → Type 0
-ServesLine line is_over old new said = (served : Seat)
+-- A line about a page: the session is shown, goes back and comes again. A screen shows what it shows
+-- after the line.
+pub record IsShown (asked : SeenPage) (line : List ℕ) (old new : Seat) : Type 0 where
+  pub shown : ShowsPage asked old.words.now.history old.desk new.desk
+  pub view : new.view ≡ view_after old.desk line old.view
+  pub notes : new.notes ≡ old.notes
+  pub loaded : new.loaded ≡ old.loaded
+  pub words : new.words ≡ old.words
+
+-- Another line is answered and noted, then it saves or reloads if it asks for that.
+abbrev pub ServesOther : List ℕ → Bool → Seat → Seat → List ℕ → Type 0
+ServesOther line is_over old new said = (served : Seat)
     × AnswersLine line is_over old.desk served.desk × IsNoted line old served
     × (filed : Seat) × ServesFiles (filing_at served.desk line) served filed
     × Says said old.desk filed.desk × Rests filed new
+
+-- What a line does, and so much is said. Then only the text changes, which is written.
+abbrev pub ServesBy : Option SeenPage → List ℕ → Bool → Seat → Seat → List ℕ → Type 0
+ServesBy None line is_over old new said = ServesOther line is_over old new said
+ServesBy (Some asked) line is_over old new said = (is_over ≡ false) × (shown : Seat)
+    × IsShown asked line old shown × Says said old.desk shown.desk × Rests shown new
+
+unfoldable pub ServesLine : List ℕ → Bool → Seat → Seat → List ℕ → Type 0
+ServesLine line is_over old new said = ServesBy (page_line line) line is_over old new said
 
 -- ---- lines one after another
 

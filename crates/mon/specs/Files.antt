@@ -1,6 +1,5 @@
--- The tape that `save` writes, and the file that `reload` loads again. Source: mos65.
-use Rattle.std.specs.Prelude.{◌≡◌, ◌<◌, ◌⊎◌, ℕ, ◌==◌, ◌&&◌, ◌||◌, nat_lt, not, Bool, true, false, if◌then◌else◌, List, [], ◌∷◌, ◌++◌, length, slice_index, slice_set, Option, Some, None, Result, Ok, Err}
-use Rattle.accesses.specs.Writing.{is_written}
+-- Lines that save memory, and the file that `reload` loads again. Source: mos65.
+use Rattle.std.specs.Prelude.{◌≡◌, ◌⊎◌, ℕ, nat_lt, Bool, true, false, if◌then◌else◌, List, [], ◌∷◌, ◌++◌, length, Option, Some, None, Result, Ok, Err}
 use Rattle.arguments.specs.FaultLines.{load_text}
 use Rattle.arguments.specs.declared.load_fault.LoadFault.{LoadFault}
 use Rattle.arguments.specs.declared.load_fault.LoadFault.TheVariants.{Refused}
@@ -8,8 +7,6 @@ use Rattle.arguments.specs.declared.refusal.Refusal.{Refusal}
 use Rattle.arguments.specs.declared.refusal.Refusal.TheVariants.{OutOfMemory}
 use Rattle.arguments_play.specs.Mon.{MonAsked, mon_view}
 use Rattle.loading.specs.Loads.{EndsLoad, EndsNames}
-use Rattle.model.specs.Image.{cell_at}
-use Rattle.model.specs.State.{Bus, is_port}
 use Rattle.model.specs.Writers.{AppendsFront}
 use Rattle.mon.specs.Notes.{SeenNote, notes_after, placed_in}
 use Rattle.mon.specs.Seats.{Rests}
@@ -25,7 +22,6 @@ use Rattle.mon_lines.specs.declared.command.Stretch.{Stretch}
 use Rattle.mon_session.specs.Course.{ShowsOnly}
 use Rattle.mon_session.specs.EventTexts.{shown_text}
 use Rattle.mon_session.specs.declared.desk.Desk.{Desk}
-use Rattle.mon_stops.specs.Stops.{is_within}
 
 -- ---- what a line asks for
 
@@ -57,32 +53,6 @@ filing_in (Err slip) = no_file
 abbrev pub filing_at : Desk → List ℕ → SeenFiling
 filing_at desk line = if nat_lt 255 (length line) then no_file else filing_in (read_at desk line)
 
--- ---- what is saved
-
--- Without addresses, each byte that the file has, and each other that is not 0.
-abbrev pub is_asked : List Bool → List ℕ → Option Stretch → ℕ → Bool
-is_asked loaded memory None address
-    = is_written loaded address || not (slice_index memory address == 0)
-is_asked loaded memory (Some stretch) address = is_within stretch address
-
--- No byte of the console's port is saved.
-abbrev pub is_saved : Bus → List Bool → Option Stretch → ℕ → Bool
-is_saved bus loaded stretch address
-    = is_asked loaded bus.memory stretch address && not (is_port bus.map address)
-
-abbrev pub saved_at : Bus → List Bool → Option Stretch → ℕ → Option ℕ
-saved_at bus loaded stretch address = if is_saved bus loaded stretch address
-    then Some (slice_index bus.memory address) else None
-
-abbrev pub with_saved : Bus → List Bool → Option Stretch → ℕ → List (Option ℕ) → List (Option ℕ)
-with_saved bus loaded stretch address image = if is_saved bus loaded stretch address
-    then slice_set image address (Some (slice_index bus.memory address)) else image
-
--- An image has these bytes and no others.
-abbrev pub IsSaved : Bus → List Bool → Option Stretch → List (Option ℕ) → Type 0
-IsSaved bus loaded stretch image = (length image ≡ 65536)
-    × ((address : ℕ) → address < 65536 → cell_at image address ≡ saved_at bus loaded stretch address)
-
 -- ---- what is loaded again
 
 -- Lines that were noted do at a desk what they ask for, one after another, and are noted anew if
@@ -95,15 +65,20 @@ Repeats (note ∷ notes) old noted new left =
     × Repeats notes between
     (notes_after between (placed_in read) note.pc note.line noted) new left
 
+-- Behind a text something is said of the file, lines that were noted are served again, and the state
+-- is shown.
+unfoldable pub ServesAgain : List ℕ → List SeenNote → Desk → Desk → List SeenNote → Type 0
+ServesAgain text notes fresh new left = (begun : Desk) × ShowsOnly fresh begun
+    × (first : List ℕ) × (begun.text.items ≡ text ++ first)
+    × (ready : Desk) × Repeats notes begun [] ready left
+    × ShowsOnly ready new
+    × Says (shown_text ready.session.current ready.places.names None) ready new
+
 -- A session begins on the file as it is now, the lines that were noted are served again, and the
 -- state is shown. No event can be undone then.
 abbrev pub IsReloaded : Seat → Seat → Type 0
 IsReloaded old new = (fresh : Desk) × StartsMon (mon_view old.words.now) fresh new.loaded
-    × (begun : Desk) × ShowsOnly fresh begun
-    × (first : List ℕ) × (begun.text.items ≡ old.desk.text.items ++ first)
-    × (ready : Desk) × Repeats old.notes.items begun [] ready new.notes.items
-    × ShowsOnly ready new.desk
-    × Says (shown_text ready.session.current ready.places.names None) ready new.desk
+    × ServesAgain old.desk.text.items old.notes.items fresh new.desk new.notes.items
     × (new.view ≡ old.view) × (new.words ≡ old.words)
 
 -- Why a file of a session is not loaded: its own file, or that of its names.
@@ -132,7 +107,7 @@ Reloads old new = IsReloaded old new ⊎ KeepsSession old new
 -- ---- the whole
 
 -- A line that saves says something and changes nothing else. Which bytes a file gets, no clause can
--- say: those of the tape of the image that is saved.
+-- say: those of the tape of the image that is saved, as `mon_files` defines it.
 abbrev pub ServesFiles : SeenFiling → Seat → Seat → Type 0
 ServesFiles (to_save file stretch) old new
     = Rests old new × (said : List ℕ) × Says said old.desk new.desk

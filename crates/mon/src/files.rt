@@ -1,13 +1,15 @@
 //! Lines that save memory or load the file again.
 
-ghost use Rattle.std.specs.Prelude.{◌≡◌, IfErr, OnOk};
+ghost use Rattle.std.specs.Prelude.{◌≡◌, ℕ, IfErr, List, OnOk};
 ghost use Rattle.mon.specs.Done.{EndsAnswer};
 ghost use Rattle.mon.specs.Files.{ServesFiles, filing_at, filing_by, filing_view};
+ghost use Rattle.mon.specs.Seats.{Rests};
+ghost use Rattle.mon_dispatch.specs.Lines.{Says};
 
 use crate::reloading::reload;
-use crate::saving::save;
 use crate::seat::Seat;
 use arguments::Refusal;
+use mon_files::save_tape;
 use mon_lines::{Command, Stretch, read_line};
 use mon_session::Desk;
 use std::rt::Files;
@@ -50,6 +52,20 @@ fn filing_at<'a>(desk: &Desk, line: &'a [u8]) -> Filing<'a>
         Ok(command) => filing_by(&command),
         Err(_) => Filing::Nothing,
     }
+}
+
+/// Writes the tape of memory to a file, of a stretch if one is given, and says what became of it.
+fn save<H: Files + AllocGlobal>(
+    rt: &H,
+    seat: &mut Seat<'_>,
+    file: &[u8],
+    stretch: Option<Stretch>,
+) -> Result<(), Refusal>
+    ensures rests { Rests seat.old seat.new }
+    ensures said { OnOk result ((said : List ℕ) × Says said seat.old.desk seat.new.desk) }
+    ensures refused { IfErr result EndsAnswer }
+{
+    save_tape(rt, &mut seat.desk, seat.words, &seat.loaded, file, stretch)
 }
 
 /// Saves memory or loads the file again, if a line asks for it.

@@ -11,7 +11,7 @@ ghost use Rattle.model.specs.Event.{start};
 ghost use Rattle.model.specs.Session.{new_session};
 ghost use Rattle.mon.specs.Done.{EndsAnswer};
 ghost use Rattle.mon.specs.Files.{EndsReload, IsReloaded, KeepsSession, Reloads, Repeats};
-ghost use Rattle.mon.specs.Files.{SaysFront, is_memory};
+ghost use Rattle.mon.specs.Files.{SaysFront, ServesAgain, is_memory};
 ghost use Rattle.mon.specs.Notes.{SeenNote, notes_after, placed_in};
 ghost use Rattle.mon.specs.Starts.{StartsMon};
 ghost use Rattle.mon_dispatch.specs.Lines.{Follows};
@@ -77,22 +77,63 @@ fn say_loaded(desk: &mut Desk, text: &[u8], file: &str) -> Result<(), AllocError
     desk.say(LOADED_AGAIN)
 }
 
+/// Says that a file is loaded again, serves the lines that were noted once more, and shows the
+/// state. Returns the lines that have placed something.
+///
+/// Errors: `AllocError` if an allocation fails.
+fn serve_again(
+    alloc: Global,
+    desk: &mut Desk,
+    text: &[u8],
+    file: &str,
+    notes: &[Note],
+) -> Result<Vec<Note>, AllocError>
+    ensures { desk.old.text.items ≡ [] → IfOk result
+        (λ left. ServesAgain text.now notes.now desk.old desk.new left.items) }
+{
+    say_loaded(desk, text, file)?;
+    let left = repeat(alloc, desk, notes)?;
+    desk.show(None)?;
+    Ok(left)
+}
+
+/// Puts a session that has begun, with its notes, in place of the one at a seat.
+fn put_started(seat: &mut Seat<'_>, started: Started, notes: Vec<Note>)
+    ensures desk { seat.new.desk ≡ started.desk }
+    ensures loaded { seat.new.loaded ≡ started.loaded }
+    ensures notes { seat.new.notes.items ≡ notes.items }
+    ensures view { seat.new.view ≡ seat.old.view }
+    ensures words { seat.new.words ≡ seat.old.words }
+{
+    let Started { desk, loaded } = started;
+    seat.desk = desk;
+    seat.loaded = loaded;
+    seat.notes = notes;
+}
+
+/// Forgets a session that has begun.
+fn forget(_started: Started) {}
+
 /// Takes over a session that has begun, serves the lines that were noted once more, and shows the
 /// state.
 fn take_over(alloc: Global, seat: &mut Seat<'_>, started: Started) -> Result<(), AllocError>
     requires { StartsMon (mon_view seat.old.words.now) started.desk started.loaded }
     ensures { OnOk result (IsReloaded seat.old seat.new) }
 {
-    let Started { desk, loaded } = started;
-    let mut desk = desk;
+    let mut started = started;
     let words = seat.words;
-    say_loaded(&mut desk, seat.desk.text.as_slice(), words.file.file)?;
-    let notes = repeat(alloc, &mut desk, seat.notes.as_slice())?;
-    desk.show(None)?;
-    seat.desk = desk;
-    seat.notes = notes;
-    seat.loaded = loaded;
-    Ok(())
+    let text = seat.desk.text.as_slice();
+    let notes = seat.notes.as_slice();
+    match serve_again(alloc, &mut started.desk, text, words.file.file, notes) {
+        Ok(left) => {
+            put_started(seat, started, left);
+            Ok(())
+        }
+        Err(fault) => {
+            forget(started);
+            Err(fault)
+        }
+    }
 }
 
 /// Returns whether memory ran out.
@@ -150,7 +191,8 @@ fn keep_session(seat: &mut Seat<'_>, fault: LoadFault, file: &str) -> Result<(),
     Ok(())
 }
 
-/// Begins the session anew on what was loaded. The names of a file of names are read again.
+/// Begins the session again from its file, which was loaded. The names of a file of names are read
+/// again.
 fn begin_anew<H: Files + AllocGlobal>(
     rt: &H,
     seat: &mut Seat<'_>,

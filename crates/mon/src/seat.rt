@@ -3,18 +3,20 @@
 ghost use Rattle.std.specs.Prelude.{◌≡◌, ◌++◌, [], ℕ, IfErr, IfOk, List, Ok, OnOk};
 ghost use Rattle.std.specs.Prelude.{if◌then◌else◌};
 ghost use Rattle.std.specs.Io.KnownBytes.{Appends};
-ghost use Rattle.mon.specs.Attended.{AnswersLine, IsNoted, ServesLine, prompt_of};
+ghost use Rattle.mon.specs.Attended.{AnswersLine, IsNoted, IsShown, ServesLine, ServesOther};
+ghost use Rattle.mon.specs.Attended.{prompt_of};
 ghost use Rattle.mon.specs.Done.{EndsAnswer};
 ghost use Rattle.mon.specs.Seats.{Rests, answer_text, drawn, stretch_after, view_after};
 ghost use Rattle.mon_dispatch.specs.Lines.{Says};
+ghost use Rattle.mon_files.specs.Asked.{page_view};
 
 use crate::files::serve_files;
 use crate::notes::{Note, note_line, placed_at};
 use crate::wording::PROMPT;
-use accesses::Written;
 use arguments::Refusal;
 use arguments_play::MonWords;
 use mon_dispatch::serve;
+use mon_files::{Known, PageLine, page_line, show_page};
 use mon_lines::{Command, Stretch, read_line};
 use mon_screen::{View, push_view};
 use mon_session::Desk;
@@ -31,8 +33,8 @@ pub struct Seat<'a> {
     pub view: Option<View>,
     /// The lines that have placed what stands.
     pub notes: Vec<Note>,
-    /// The addresses at which the session's file has a byte.
-    pub loaded: Written,
+    /// The addresses at which the session's file has a byte, and what a page shows besides.
+    pub loaded: Known,
 }
 
 /// Returns what was made, or that an allocation failed.
@@ -141,8 +143,8 @@ fn view_after(desk: &Desk, line: &[u8], view: Option<View>) -> Option<View>
     })
 }
 
-/// Does what a line asks for at a desk, notes it if it has placed something, and returns whether
-/// the session is to end.
+/// Does what a line asks for at a desk, notes it if it has placed something, keeps what it has
+/// handed in, and returns whether the session is to end.
 fn serve_noted(alloc: Global, seat: &mut Seat<'_>, line: &[u8]) -> Result<bool, AllocError>
     ensures served { IfOk result
         (λ is_over. AnswersLine line.now is_over seat.old.desk seat.new.desk) }
@@ -150,9 +152,43 @@ fn serve_noted(alloc: Global, seat: &mut Seat<'_>, line: &[u8]) -> Result<bool, 
 {
     seat.view = view_after(&seat.desk, line, seat.view);
     let pc = seat.desk.session.regs().pc;
+    let room = seat.desk.session.input_room();
     let placed = placed_at(&seat.desk, line);
     let is_over = serve(&mut seat.desk, alloc, line)?;
+    seat.loaded.keep_typed(&seat.desk, line, room)?;
     note_line(alloc, &mut seat.notes, &seat.desk, placed, pc, line)?;
+    Ok(is_over)
+}
+
+/// Does what a line about a page asks for.
+fn serve_page<H: Files + AllocGlobal>(
+    rt: &H,
+    seat: &mut Seat<'_>,
+    line: &[u8],
+    asked: PageLine<'_>,
+) -> Result<(), Refusal>
+    ensures shown { OnOk result (IsShown (page_view asked.entry) line.now seat.old seat.new) }
+    ensures refused { IfErr result EndsAnswer }
+{
+    seat.view = view_after(&seat.desk, line, seat.view);
+    let program = seat.loaded.program(seat.words);
+    show_page(rt, &mut seat.desk, &program, asked)
+}
+
+/// Does what a line asks for that is not about a page, also with files, and returns whether the
+/// session is to end.
+fn serve_other<H: Files + AllocGlobal>(
+    rt: &H,
+    seat: &mut Seat<'_>,
+    line: &[u8],
+) -> Result<bool, Refusal>
+    ensures served { IfOk result (λ is_over. (said : List ℕ)
+        × ServesOther line.now is_over seat.old seat.new said
+        × Says said seat.old.desk seat.new.desk) }
+    ensures refused { IfErr result EndsAnswer }
+{
+    let is_over = of_memory(serve_noted(rt.alloc(), seat, line))?;
+    serve_files(rt, seat, line)?;
     Ok(is_over)
 }
 
@@ -167,7 +203,11 @@ pub fn serve_line<H: Files + AllocGlobal>(
         × Says said seat.old.desk seat.new.desk) }
     ensures refused { IfErr result EndsAnswer }
 {
-    let is_over = of_memory(serve_noted(rt.alloc(), seat, line))?;
-    serve_files(rt, seat, line)?;
-    Ok(is_over)
+    match page_line(line) {
+        Some(asked) => {
+            serve_page(rt, seat, line, asked)?;
+            Ok(false)
+        }
+        None => serve_other(rt, seat, line),
+    }
 }

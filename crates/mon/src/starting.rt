@@ -7,21 +7,22 @@ ghost use Rattle.assembler.specs.Assembly.{AssemblyView};
 ghost use Rattle.mon.specs.Starts.{AreNamed, EndsNamed, IsNewDesk, places_in, with_names};
 
 use crate::seat::of_memory;
-use accesses::Written;
 use arguments::Refusal;
 use arguments_play::MonWords;
 use assembler::Assembly;
 use loading::{Loaded, load_names};
+use mon_files::Known;
 use mon_session::Desk;
 use source_map::Places;
 use std::alloc::Global;
 use std::rt::Files;
 
-/// A desk at which no line was served, and the addresses at which the file has a byte.
+/// A desk at which no line was served, and what is known of the program besides.
 #[derive(Drop)]
 pub struct Started {
     pub desk: Desk,
-    pub loaded: Written,
+    /// The addresses at which the file has a byte, and what a page shows besides.
+    pub loaded: Known,
 }
 
 /// Returns the places of what was loaded.
@@ -35,12 +36,12 @@ fn places_of(alloc: Global, file: &str, assembly: &Option<Assembly>) -> Result<P
     }
 }
 
-/// Adds the names of a file of names, if one is named.
+/// Adds the names of a file of names, if one is named, and returns it.
 fn add_names<H: Files + AllocGlobal>(
     rt: &H,
     words: &MonWords<'_>,
     places: &mut Places,
-) -> Result<(), Refusal>
+) -> Result<Option<Assembly>, Refusal>
     ensures named { OnOk result ((names : Option AssemblyView)
         × AreNamed (mon_view words.now).symbols (file_view words.now.file) names
         × (places.new ≡ with_names names places.old)) }
@@ -48,11 +49,11 @@ fn add_names<H: Files + AllocGlobal>(
         ⊎ EndsNamed (mon_view words.now).symbols (file_view words.now.file) fault) }
 {
     let Some(path) = words.symbols else {
-        return Ok(());
+        return Ok(None);
     };
     let names = load_names(rt, &words.file, path)?;
     of_memory(places.add_names(rt.alloc(), &names))?;
-    Ok(())
+    Ok(Some(names))
 }
 
 /// Returns the desk of what was loaded, with the names of a file of names, if one is named.
@@ -79,10 +80,10 @@ pub fn start<H: Files + AllocGlobal>(
         written,
     } = loaded;
     let mut places = places_of(rt.alloc(), words.file.file, &assembly)?;
-    add_names(rt, words, &mut places)?;
+    let names = add_names(rt, words, &mut places)?;
     let desk = of_memory(Desk::new(rt.alloc(), session, places, words.history))?;
     Ok(Started {
         desk,
-        loaded: written,
+        loaded: Known::new(rt.alloc(), written, assembly, names),
     })
 }

@@ -13,13 +13,5 @@ pub const NO_VECTOR: &str =
 /// What is written before a line is read, if a prompt is asked for.
 pub const PROMPT: &str = "mon> ";
 
-// What is said of a file, behind its name.
+/// What is said of a file, behind its name.
 pub const LOADED_AGAIN: &str = " is loaded again\n";
-
-pub const BYTE_IS_SAVED: &str = " byte is saved\n";
-
-pub const BYTES_ARE_SAVED: &str = " bytes are saved\n";
-
-pub const NOT_WRITTEN: &str = " cannot be written\n";
-
-pub const OWN_FILE: &str = " is a file of this session; save under another name\n";

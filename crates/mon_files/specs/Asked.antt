@@ -30,5 +30,5 @@ page_in text = if is_word (codes "page") text then Some (shown_in (after_word te
     else if is_word (codes "help") text && is_word (codes "page") (after_word text) then Some help
     else None
 
-abbrev pub page_line : List ℕ → Option SeenPage
+unfoldable pub page_line : List ℕ → Option SeenPage
 page_line line = if nat_lt 255 (length line) then None else page_in (skip line)

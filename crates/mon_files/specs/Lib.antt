@@ -2,3 +2,4 @@ pub mod Asked
 pub mod First
 pub mod Held
 pub mod Pages
+pub mod Saved

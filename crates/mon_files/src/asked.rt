@@ -33,6 +33,7 @@ fn shown_in(text: &[u8]) -> PageLine<'_>
 
 /// Returns what a line asks for that begins with `page`, or with `help` and then `page`. A line of
 /// more than 255 bytes asks for nothing.
+#[tactic(auto, unfolding(crate::specs::Asked::page_line))]
 pub fn page_line(line: &[u8]) -> Option<PageLine<'_>>
     ensures { option_map page_view result ≡ page_line line.now }
 {

@@ -1,6 +1,6 @@
 //! The page of what a session holds.
 
-ghost use Rattle.std.specs.Prelude.{◌≡◌, ◌<◌, ◌≤◌, ◌++◌, ℕ, List, IfErr, IfOk, IfSome, Ok, OnOk, length};
+ghost use Rattle.std.specs.Prelude.{◌≡◌, ◌<◌, ◌≤◌, ◌++◌, ℕ, List, IfErr, IfOk, IfSome, OnOk, length};
 ghost use Rattle.mon_dispatch.specs.Lines.{Says};
 ghost use Rattle.mon_files.specs.Asked.{page_view, slip, to, help};
 ghost use Rattle.mon_files.specs.Held.{shown_again};
@@ -13,7 +13,7 @@ use crate::held::record_held;
 use crate::wording::{
     BYTE, BYTES, EVENT, EVENTS, HELP, HERE, NONE_HELD, NOT_WRITTEN, OWN_FILE, UNKNOWN_FIRST,
 };
-use crate::writing::{Outcome, write_new};
+use crate::writing::{Outcome, of_memory, write_new};
 use accesses::Written;
 use arguments::Refusal;
 use arguments_play::MonWords;
@@ -126,14 +126,6 @@ fn say_outcome(
         Outcome::Own => say_of(desk, file, OWN_FILE),
         Outcome::Not => say_of(desk, file, NOT_WRITTEN),
     }
-}
-
-/// Returns what was made, or that an allocation failed.
-fn of_memory<T>(made: Result<T, AllocError>) -> Result<T, Refusal>
-    ensures made { IfOk result (λ value. made ≡ Ok value) }
-    ensures refused { IfErr result (λ fault. fault ≡ Refusal.OutOfMemory) }
-{
-    made.map_err(|_| Refusal::OutOfMemory)
 }
 
 /// Writes a page to a file, if there is one, and says what has become of it.

@@ -4,6 +4,10 @@ pub const NOT_WRITTEN: &str = " cannot be written\n";
 
 pub const OWN_FILE: &str = " is a file of this session; save under another name\n";
 
+pub const BYTE_IS_SAVED: &str = " byte is saved\n";
+
+pub const BYTES_ARE_SAVED: &str = " bytes are saved\n";
+
 pub const NONE_HELD: &str = " is not written: no step was made yet, or its history is gone\n";
 
 pub const UNKNOWN_FIRST: &str = " is not written: the history has room for less than 5 events\n";

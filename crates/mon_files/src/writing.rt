@@ -1,9 +1,10 @@
 //! A file that a line writes.
 
-ghost use Rattle.std.specs.Prelude.{◌≡◌, IfErr};
+ghost use Rattle.std.specs.Prelude.{◌≡◌, IfErr, IfOk, Ok};
 
 use arguments::{Refusal, is_one_file, write_file};
 use arguments_play::MonWords;
+use std::alloc::AllocError;
 use std::rt::Files;
 
 /// What has become of a file that was to be written.
@@ -14,6 +15,14 @@ pub enum Outcome {
     Own,
     /// It cannot be written.
     Not,
+}
+
+/// Returns what was made, or that an allocation failed.
+pub fn of_memory<T>(made: Result<T, AllocError>) -> Result<T, Refusal>
+    ensures made { IfOk result (λ value. made ≡ Ok value) }
+    ensures refused { IfErr result (λ fault. fault ≡ Refusal.OutOfMemory) }
+{
+    made.map_err(|_| Refusal::OutOfMemory)
 }
 
 /// Returns whether a session has read a file.

@@ -5,7 +5,7 @@ use Rattle.mon.proofs.starting.start.Goals as goal
 pub returns-clause-made : goal.returns-clause-made
 returns-clause-made g c =
     let made = c.in_ok-desk.ensures.made in
-    let named = c.in_ok-add_names.ensures.named in (
+    let named = c.in_ok-names.ensures.named in (
       named.0,
       named.1,
       record {

@@ -1,5 +1,5 @@
-use Rattle.mon.proofs.Cells.{IsSavedBelow}
-use Rattle.mon.proofs.saving.saved_image.Given as goal
+use Rattle.mon_files.proofs.Cells.{IsSavedBelow}
+use Rattle.mon_files.proofs.saving.saved_image.Given as goal
 
 -- The addresses so far have what is saved of them, and the others have nothing.
 abbrev pub invariant-loop-address : goal.invariant-loop-address

@@ -1,6 +1,6 @@
 use Rattle.std.proofs.Common.{◌+◌, arith, subst, sym}
-use Rattle.mon.proofs.Cells.{IsSavedBelow, none_saved, one_saved}
-use Rattle.mon.proofs.saving.saved_image.Goals as goal
+use Rattle.mon_files.proofs.Cells.{IsSavedBelow, none_saved, one_saved}
+use Rattle.mon_files.proofs.saving.saved_image.Goals as goal
 
 pub loop-address-init : goal.loop-address-init
 loop-address-init c =

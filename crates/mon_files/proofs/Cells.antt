@@ -5,7 +5,7 @@ use Rattle.std.proofs.lemmas.List.{get_or-replicate, get_or-set_same, get_or-set
 use Rattle.std.specs.Prelude.{slice_index}
 use Rattle.model.specs.Image.{cell_at, empty_image}
 use Rattle.model.specs.State.{Bus}
-use Rattle.mon.specs.Files.{is_saved, saved_at, with_saved}
+use Rattle.mon_files.specs.Saved.{is_saved, saved_at, with_saved}
 use Rattle.mon_lines.specs.declared.command.Stretch.{Stretch}
 
 -- The first n addresses have what is saved of them, and the others have nothing.

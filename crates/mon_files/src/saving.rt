@@ -4,16 +4,15 @@ ghost use Rattle.std.specs.Prelude.{◌≡◌, ℕ, IfErr, IfOk, List, OnOk, Opt
 ghost use Rattle.model.specs.Image.{empty_image};
 ghost use Rattle.model.specs.Tape.{TapeDenotes};
 ghost use Rattle.model.specs.TapeText.{tape_text};
-ghost use Rattle.mon.specs.Done.{EndsAnswer};
-ghost use Rattle.mon.specs.Files.{IsSaved, is_asked, is_saved, with_saved};
-ghost use Rattle.mon.specs.Seats.{Rests};
 ghost use Rattle.mon_dispatch.specs.Lines.{Says};
+ghost use Rattle.mon_files.specs.Saved.{IsSaved, is_asked, is_saved, with_saved};
 ghost use Rattle.mon_session.specs.Course.{ShowsOnly};
 
-use crate::seat::{Seat, of_memory};
+use crate::known::Known;
 use crate::wording::{BYTE_IS_SAVED, BYTES_ARE_SAVED, NOT_WRITTEN, OWN_FILE};
+use crate::writing::{Outcome, of_memory, write_new};
 use accesses::Written;
-use arguments::{Refusal, is_one_file, write_file};
+use arguments::Refusal;
 use arguments_play::MonWords;
 use memory_map::Image;
 use mon_lines::Stretch;
@@ -21,16 +20,6 @@ use mon_session::{Desk, Session};
 use papertape::write_tape;
 use std::alloc::{AllocError, Global};
 use std::rt::Files;
-
-/// What has become of a file that was to be written.
-#[derive(Clone, Copy)]
-enum Saved {
-    Whole,
-    /// It is a file that the session has read.
-    Own,
-    /// It cannot be written.
-    Not,
-}
 
 /// Returns whether the byte at an address is asked for.
 fn is_asked(session: &Session, loaded: &Written, stretch: Option<Stretch>, address: u16) -> bool
@@ -113,51 +102,19 @@ fn saved_tape(
     Ok((tape, count))
 }
 
-/// Returns whether a session has read a file.
-fn is_own<H: Files>(rt: &H, words: &MonWords<'_>, path: &str) -> bool {
-    match words.symbols {
-        Some(symbols) if is_one_file(rt, path, symbols) => true,
-        _ => is_one_file(rt, path, words.file.file),
-    }
-}
-
-/// Writes a text to a file, unless the session has read that file.
-///
-/// Errors: `OutOfMemory` if an allocation fails.
-fn write_saved<H: Files>(
-    rt: &H,
-    words: &MonWords<'_>,
-    file: &[u8],
-    text: &[u8],
-) -> Result<Saved, Refusal>
-    ensures { IfErr result (λ fault. fault ≡ Refusal.OutOfMemory) }
-{
-    let Ok(path) = str::from_utf8(file) else {
-        return Ok(Saved::Not);
-    };
-    if is_own(rt, words, path) {
-        return Ok(Saved::Own);
-    }
-    match write_file(rt, path, text) {
-        Ok(()) => Ok(Saved::Whole),
-        Err(Refusal::OutOfMemory) => Err(Refusal::OutOfMemory),
-        Err(_) => Ok(Saved::Not),
-    }
-}
-
 /// Says what has become of a file, and how many bytes it has if it was written.
-fn say_saved(desk: &mut Desk, file: &[u8], saved: Saved, count: usize) -> Result<(), AllocError>
+fn say_saved(desk: &mut Desk, file: &[u8], outcome: Outcome, count: usize) -> Result<(), AllocError>
     ensures shows { ShowsOnly desk.old desk.new }
     ensures said { OnOk result ((said : List ℕ) × Says said desk.old desk.new) }
 {
     desk.text.extend_from_slice(file)?;
-    match saved {
-        Saved::Whole => {
+    match outcome {
+        Outcome::Whole => {
             desk.say(": ")?;
             desk.count(count as u64, BYTE_IS_SAVED, BYTES_ARE_SAVED)
         }
-        Saved::Own => desk.say(OWN_FILE),
-        Saved::Not => desk.say(NOT_WRITTEN),
+        Outcome::Own => desk.say(OWN_FILE),
+        Outcome::Not => desk.say(NOT_WRITTEN),
     }
 }
 
@@ -168,18 +125,20 @@ fn say_saved(desk: &mut Desk, file: &[u8], saved: Saved, count: usize) -> Result
 /// # Errors
 ///
 /// - `OutOfMemory`: an allocation failed.
-pub fn save<H: Files + AllocGlobal>(
+pub fn save_tape<H: Files + AllocGlobal>(
     rt: &H,
-    seat: &mut Seat<'_>,
+    desk: &mut Desk,
+    words: &MonWords<'_>,
+    known: &Known,
     file: &[u8],
     stretch: Option<Stretch>,
 ) -> Result<(), Refusal>
-    ensures rests { Rests seat.old seat.new }
-    ensures said { OnOk result ((said : List ℕ) × Says said seat.old.desk seat.new.desk) }
-    ensures refused { IfErr result EndsAnswer }
+    ensures shows { ShowsOnly desk.old desk.new }
+    ensures said { OnOk result ((said : List ℕ) × Says said desk.old desk.new) }
+    ensures refused { IfErr result (λ fault. fault ≡ Refusal.OutOfMemory) }
 {
-    let session = &seat.desk.session;
-    let (tape, count) = of_memory(saved_tape(rt.alloc(), session, &seat.loaded, stretch))?;
-    let saved = write_saved(rt, seat.words, file, tape.as_slice())?;
-    of_memory(say_saved(&mut seat.desk, file, saved, count))
+    let tape = saved_tape(rt.alloc(), &desk.session, known.written(), stretch);
+    let (tape, count) = of_memory(tape)?;
+    let outcome = write_new(rt, words, file, tape.as_slice())?;
+    of_memory(say_saved(desk, file, outcome, count))
 }

@@ -1,0 +1,31 @@
+-- The bytes that `save` writes. Source: mos65.
+use Rattle.std.specs.Prelude.{◌≡◌, ◌<◌, ℕ, ◌==◌, ◌&&◌, ◌||◌, not, Bool, if◌then◌else◌, List, length, slice_index, slice_set, Option, Some, None}
+use Rattle.accesses.specs.Writing.{is_written}
+use Rattle.model.specs.Image.{cell_at}
+use Rattle.model.specs.State.{Bus, is_port}
+use Rattle.mon_lines.specs.declared.command.Stretch.{Stretch}
+use Rattle.mon_stops.specs.Stops.{is_within}
+
+-- Without addresses, each byte that the file has, and each other that is not 0.
+abbrev pub is_asked : List Bool → List ℕ → Option Stretch → ℕ → Bool
+is_asked loaded memory None address
+    = is_written loaded address || not (slice_index memory address == 0)
+is_asked loaded memory (Some stretch) address = is_within stretch address
+
+-- No byte of the console's port is saved.
+abbrev pub is_saved : Bus → List Bool → Option Stretch → ℕ → Bool
+is_saved bus loaded stretch address
+    = is_asked loaded bus.memory stretch address && not (is_port bus.map address)
+
+abbrev pub saved_at : Bus → List Bool → Option Stretch → ℕ → Option ℕ
+saved_at bus loaded stretch address = if is_saved bus loaded stretch address
+    then Some (slice_index bus.memory address) else None
+
+abbrev pub with_saved : Bus → List Bool → Option Stretch → ℕ → List (Option ℕ) → List (Option ℕ)
+with_saved bus loaded stretch address image = if is_saved bus loaded stretch address
+    then slice_set image address (Some (slice_index bus.memory address)) else image
+
+-- An image has these bytes and no others.
+abbrev pub IsSaved : Bus → List Bool → Option Stretch → List (Option ℕ) → Type 0
+IsSaved bus loaded stretch image = (length image ≡ 65536)
+    × ((address : ℕ) → address < 65536 → cell_at image address ≡ saved_at bus loaded stretch address)
