@@ -7,15 +7,13 @@ use Rattle.console.specs.Playing.{Outcome, begun, played}
 use Rattle.console.specs.declared.ending.Ending.{Ending}
 use Rattle.console.specs.declared.ending.Played.{Played}
 use Rattle.loading.specs.Loads.{IsLoaded}
-use Rattle.loading.specs.Place.{names_of}
 use Rattle.loading.specs.Told.{Heard}
 use Rattle.model.specs.Event.{start, reset_state}
 use Rattle.model.specs.Session.{Session, new_session}
 use Rattle.model.specs.State.{Map, loaded_bus}
 use Rattle.page_words.specs.Asked.{PageAsked}
-use Rattle.page_words.specs.Done.{IsDone, IsInput, IsShown, Ran, ShownIfFound, start_in, start_of}
+use Rattle.page_words.specs.Done.{IsDone, IsInput, IsShown, Ran, ShownIfNamed, start_in, start_of}
 use Rattle.page_writer.specs.Data.{IsQuiet}
-use Rattle.running.specs.Places.{place_asked}
 use Rattle.running.specs.Runs.{Start, TellsEnding}
 use Rattle.running.specs.Statuses.{status_of_ending}
 
@@ -45,9 +43,9 @@ shown a assembly until s t heard end status input is ran ended told =
 -- A file that was loaded.
 pub done_by : (a : PageAsked) (s : Session) (w : List Bool) (assembly : Option AssemblyView) (image : List (Option ℕ)) (heard : Heard) (status : ℕ) → IsLoaded a.file image assembly
     → s ≡ new_session 0 (start (map_of a.file) image) → w ≡ bytes_in image
-    → ShownIfFound a assembly (place_asked (names_of assembly) a.until) (start_in a.is_free s w) heard status → IsDone a heard status
+    → ShownIfNamed a assembly (start_in a.is_free s w) heard status → IsDone a heard status
 done_by a s w assembly image heard status loaded begins bytes ran =
-    let T : Start → Type 0 = λ x. ShownIfFound a assembly (place_asked (names_of assembly) a.until) x heard status in
+    let T : Start → Type 0 = λ x. ShownIfNamed a assembly x heard status in
     let at : start_in a.is_free s w ≡ start_of a image =
     ap (λ (t : Session). start_in a.is_free t w) begins ∙ ap (λ (v : List Bool). start_in a.is_free (new_session 0 (start (map_of a.file) image)) v) bytes in
     inr (image, assembly, loaded, subst T at ran)

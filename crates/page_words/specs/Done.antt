@@ -2,19 +2,20 @@
 -- names a file stands for, which input a file has, nor what the page's file got. Source: mos65.
 use Rattle.std.specs.Prelude.{◌≡◌, ◌⊎◌, ⊤, ℕ, Bool, [], List, Option, Some, None, Result, Ok, Err}
 use Rattle.accesses.specs.Writing.{bytes_in, or_everywhere}
-use Rattle.arguments.specs.Asked.{map_of}
+use Rattle.arguments.specs.Asked.{FileAsked, map_of}
 use Rattle.arguments.specs.FaultLines.{file_line}
 use Rattle.arguments.specs.Statuses.{status_of}
 use Rattle.arguments.specs.declared.refusal.Refusal.{Refusal}
 use Rattle.arguments.specs.declared.refusal.Refusal.TheVariants.{Map, OutOfMemory, Read, Session, Source, Tape, Words, Write}
-use Rattle.assembler.specs.Assembly.{AssemblyView}
+use Rattle.assembler.specs.Assembly.{AssemblyView, IsAssembled}
 use Rattle.console.specs.Playing.{Outcome, begun, played}
 use Rattle.console.specs.Written.{RanAs}
 use Rattle.console.specs.declared.ending.Played.{Played}
 use Rattle.loading.specs.Loads.{IsLoaded}
-use Rattle.loading.specs.Place.{names_of}
+use Rattle.loading.specs.Place.{names_of, place_of}
 use Rattle.loading.specs.Told.{Heard, IsUnloaded, Tells}
 use Rattle.model.specs.Event.{start}
+use Rattle.model.specs.Names.{Definitions}
 use Rattle.model.specs.Session.{Session as SessionView, new_session}
 use Rattle.page_words.specs.Asked.{PageAsked}
 use Rattle.running.specs.Places.{place_asked}
@@ -73,17 +74,48 @@ ShownIfFound a assembly (Ok until) s heard status = IsShown a assembly until s h
 ShownIfFound a assembly (Err refused) s heard status
     = (status ≡ refused) × Tells heard (unplaced_line a.until)
 
+-- ---- names and places
+
+-- The names of a file of names, if one is named.
+abbrev pub AreNamed : Option (List ℕ) → FileAsked → Option AssemblyView → Type 0
+AreNamed None file names = names ≡ None
+AreNamed (Some path) file None = ⊥
+AreNamed (Some path) file (Some names) = IsAssembled (map_of file) names
+
+-- The place of a word by a file of names, where it names none by the source.
+abbrev pub if_unplaced : Option ℕ → Option ℕ → Option ℕ
+if_unplaced None other = other
+if_unplaced (Some address) other = None
+
+abbrev pub place_besides : Definitions → Definitions → Option (List ℕ) → Option ℕ
+place_besides source names None = None
+place_besides source names (Some word) = if_unplaced (place_of source word) (place_of names word)
+
+-- The place of a word by the source or by a file of names; the source comes first.
+abbrev pub found_or : Option ℕ → Result (Option ℕ) ℕ → Result (Option ℕ) ℕ
+found_or (Some address) rest = Ok (Some address)
+found_or None rest = rest
+
+abbrev pub place_in : Definitions → Definitions → Option (List ℕ) → Result (Option ℕ) ℕ
+place_in source names word = found_or (place_besides source names word) (place_asked source word)
+
+-- The names were read, and the place of the words was looked for among them and in the source; or
+-- there is no whole page.
+abbrev pub ShownIfNamed : PageAsked → Option AssemblyView → Start → Heard → ℕ → Type 0
+ShownIfNamed a assembly s heard status = IsRefused heard status
+    ⊎ ((names : Option AssemblyView) × AreNamed a.symbols a.file names
+    × ShownIfFound a assembly (place_in (names_of assembly) (names_of names) a.until) s heard
+    status)
+
 -- A session at the start of an image, with the image's bytes written.
 abbrev pub start_of : PageAsked → List (Option ℕ) → Start
 start_of a image
     = start_in a.is_free (new_session 0 (start (map_of a.file) image)) (bytes_in image)
 
 -- What was done for words: a file was not loaded, and the error stream got why; or from the start
--- of an image that it can have, on the map of the words and with the names of the image's source,
--- a session ran.
+-- of an image that it can have, on the map of the words and with the names of the image's source
+-- and of the file of names, a session ran.
 abbrev pub IsDone : PageAsked → Heard → ℕ → Type 0
 IsDone a heard status = IsUnloaded a.file heard status ⊤
     ⊎ ((image : List (Option ℕ)) × (assembly : Option AssemblyView)
-    × IsLoaded a.file image assembly
-    × ShownIfFound a assembly (place_asked (names_of assembly) a.until) (start_of a image)
-    heard status)
+    × IsLoaded a.file image assembly × ShownIfNamed a assembly (start_of a image) heard status)

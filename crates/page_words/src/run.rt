@@ -1,25 +1,28 @@
 //! What the word `page` does.
 
 ghost use Rattle.std.specs.Prelude.{◌≡◌, ◌⊎◌, ℕ, List, Option, IfErr, IfOk, None, Some, false};
+ghost use Rattle.std.specs.Prelude.{OnErr, OnOk, option_map};
 ghost use Rattle.accesses.specs.Writing.{or_everywhere};
 ghost use Rattle.arguments.specs.Words.{Fits, Refuses, texts};
 ghost use Rattle.loading.specs.Place.{names_of};
 ghost use Rattle.model.specs.Event.{start};
 ghost use Rattle.model.specs.Session.{new_session};
 ghost use Rattle.model.specs.State.{Map, is_map};
+ghost use Rattle.model.specs.Writers.{AppendsFront};
 ghost use Rattle.page_words.specs.Asked.{PageAsked, asked, page_view};
 ghost use Rattle.page_words.specs.CommandLine.{page};
-ghost use Rattle.page_words.specs.Done.{EndsFile, IsDone, IsInput, IsShown, Ran};
-ghost use Rattle.page_words.specs.Done.{ShownIfFound, start_in};
+ghost use Rattle.page_words.specs.Done.{AreNamed, EndsFile, IsDone, IsInput, IsShown, Ran};
+ghost use Rattle.page_words.specs.Done.{ShownIfFound, ShownIfNamed, place_besides, place_in};
+ghost use Rattle.page_words.specs.Done.{start_in};
 ghost use Rattle.page_writer.specs.Data.{IsQuiet};
-ghost use Rattle.running.specs.Places.{place_asked};
+ghost use Rattle.running.specs.Told.{unplaced_line};
 
 use crate::words::{PageWords, read_page_words};
 use accesses::Written;
-use arguments::{FileRefusal, Refusal, is_one_file, read_most, refused_words};
+use arguments::{FileRefusal, Refusal, is_one_file, read_most, refuse_file, refused_words};
 use assembler::Assembly;
 use console::Played;
-use loading::{Loaded, load, load_names};
+use loading::{Loaded, load, load_names, place_of};
 use page_facts::{Program, facts_of, source_of, viewer};
 use page_writer::{SendFault, Texts, write_page};
 use running::{place_named, status_of_ending, tell_ending};
@@ -43,7 +46,9 @@ fn names_asked<H: Files + AllocGlobal>(
     rt: &H,
     words: &PageWords<'_>,
 ) -> Result<Option<Assembly>, Refusal>
-    ensures { IfErr result EndsFile }
+    ensures named { IfOk result (λ names. AreNamed (page_view words.now).symbols
+        (page_view words.now).file names) }
+    ensures refused { IfErr result EndsFile }
 {
     match words.symbols {
         None => Ok(None),
@@ -194,11 +199,12 @@ fn make_page<H: Files + AllocGlobal>(
     }
 }
 
-/// Reads the names and the input that are asked for, and writes the page of what was loaded.
+/// Reads the input that is asked for, and writes the page of what was loaded.
 fn show_run<'a, H: Files + AllocGlobal>(
     rt: &H,
     words: &PageWords<'a>,
     loaded: &mut Loaded,
+    names: Option<&Assembly>,
     until: Option<u16>,
 ) -> Result<Played, FileRefusal<'a>>
     requires { IsQuiet loaded.old.session.current }
@@ -209,13 +215,6 @@ fn show_run<'a, H: Files + AllocGlobal>(
     ensures assembly { loaded.new.assembly ≡ loaded.old.assembly }
     ensures refused { IfErr result (λ why. EndsFile why.refusal) }
 {
-    let names = match names_asked(rt, words) {
-        Ok(names) => names,
-        Err(refusal) => {
-            let file = words.symbols.unwrap_or(words.out);
-            return Err(FileRefusal { file, refusal });
-        }
-    };
     let input = match input_asked(rt, words) {
         Ok(input) => input,
         Err(refusal) => {
@@ -223,7 +222,7 @@ fn show_run<'a, H: Files + AllocGlobal>(
             return Err(FileRefusal { file, refusal });
         }
     };
-    match make_page(rt, words, loaded, names.as_ref(), until, input.as_slice()) {
+    match make_page(rt, words, loaded, names, until, input.as_slice()) {
         Ok(played) => Ok(played),
         Err(refusal) => Err(FileRefusal {
             file: words.out,
@@ -238,6 +237,7 @@ fn show_to<H: Files + AllocGlobal, E: Write>(
     rt: &H,
     words: &PageWords<'_>,
     loaded: &mut Loaded,
+    names: Option<&Assembly>,
     until: Option<u16>,
     errors: &mut E,
 ) -> u8
@@ -248,7 +248,7 @@ fn show_to<H: Files + AllocGlobal, E: Write>(
           now = E.contents errors.new;
         }) result }
 {
-    match show_run(rt, words, loaded, until) {
+    match show_run(rt, words, loaded, names, until) {
         Ok(played) => {
             let pc = loaded.session.regs().pc;
             let assembly = loaded.assembly.as_ref();
@@ -259,7 +259,66 @@ fn show_to<H: Files + AllocGlobal, E: Write>(
     }
 }
 
-/// Writes the page of what was loaded up to the place of the words, and returns the exit status.
+/// Returns the address that a word names by a file of names, and not by the source.
+fn place_besides(loaded: &Loaded, names: Option<&Assembly>, word: Option<&str>) -> Option<u16>
+    ensures { result ≡ place_besides (names_of loaded.now.assembly)
+        (names_of (option_map (λ a. a.now) names.entry)) (option_map (λ w. w.now) word.entry) }
+{
+    let word = word?.as_bytes();
+    match place_of(loaded.assembly.as_ref(), word) {
+        Some(_) => None,
+        None => place_of(names, word),
+    }
+}
+
+/// Returns the address of the place that a word names by the source or by a file of names, or
+/// `None` if there is no word.
+///
+/// Errors: as `place_named`.
+fn place_in<E: Write>(
+    loaded: &Loaded,
+    names: Option<&Assembly>,
+    word: Option<&str>,
+    errors: &mut E,
+) -> Result<Option<u16>, u8>
+    ensures place { result ≡ place_in (names_of loaded.now.assembly)
+        (names_of (option_map (λ a. a.now) names.entry)) (option_map (λ w. w.now) word.entry) }
+    ensures quiet { OnOk result (errors.new ≡ errors.old) }
+    ensures told { OnErr result (AppendsFront (E.contents errors.old) (E.contents errors.new)
+        (unplaced_line (option_map (λ w. w.now) word.entry))) }
+{
+    match place_besides(loaded, names, word) {
+        Some(address) => Ok(Some(address)),
+        None => place_named(loaded, word, errors),
+    }
+}
+
+/// Writes the page of what was loaded up to the place of the words, with the names of a file of
+/// names, and returns the exit status.
+fn show_named<H: Files + AllocGlobal, E: Write>(
+    rt: &H,
+    words: &PageWords<'_>,
+    loaded: &mut Loaded,
+    names: Option<&Assembly>,
+    errors: &mut E,
+) -> u8
+    requires { IsQuiet loaded.old.session.current }
+    ensures { ShownIfFound (page_view words.now) loaded.old.assembly
+        (place_in (names_of loaded.old.assembly)
+        (names_of (option_map (λ a. a.now) names.entry)) (page_view words.now).until)
+        (start_in words.now.is_free loaded.old.session loaded.old.written) (record {
+          held = E.contents errors.old;
+          now = E.contents errors.new;
+        }) result }
+{
+    match place_in(loaded, names, words.until, errors) {
+        Ok(until) => show_to(rt, words, loaded, names, until, errors),
+        Err(status) => status,
+    }
+}
+
+/// Reads the names that are asked for, writes the page of what was loaded, and returns the exit
+/// status.
 fn show_loaded<H: Files + AllocGlobal, E: Write>(
     rt: &H,
     words: &PageWords<'_>,
@@ -267,16 +326,18 @@ fn show_loaded<H: Files + AllocGlobal, E: Write>(
     errors: &mut E,
 ) -> u8
     requires { IsQuiet loaded.old.session.current }
-    ensures { ShownIfFound (page_view words.now) loaded.old.assembly
-        (place_asked (names_of loaded.old.assembly) (page_view words.now).until)
+    ensures { ShownIfNamed (page_view words.now) loaded.old.assembly
         (start_in words.now.is_free loaded.old.session loaded.old.written) (record {
           held = E.contents errors.old;
           now = E.contents errors.new;
         }) result }
 {
-    match place_named(loaded, words.until, errors) {
-        Ok(until) => show_to(rt, words, loaded, until, errors),
-        Err(status) => status,
+    match names_asked(rt, words) {
+        Ok(names) => show_named(rt, words, loaded, names.as_ref(), errors),
+        Err(refusal) => {
+            let file = words.symbols.unwrap_or(words.out);
+            refuse_file(refusal, file, errors)
+        }
     }
 }
 
