@@ -1,2 +1,3 @@
 mod Matching
 mod Replaced
+mod Watching

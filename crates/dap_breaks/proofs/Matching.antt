@@ -7,7 +7,7 @@ use Rattle.std.specs.Prelude.{slice_get}
 use Rattle.assembler.specs.Lines.{LineView}
 use Rattle.dap_breaks.specs.Wanted.{first_row, has_bytes, row_with, told_addresses}
 use Rattle.dap_breaks.specs.declared.wanted.Wanted.{Wanted}
-use Rattle.dap_values.specs.Answers.{breakpoints_body}
+use Rattle.dap_messages.specs.Answers.{breakpoints_body}
 use Rattle.serde_json.specs.Data.{Data}
 use Rattle.serde_json.specs.View.{view}
 use Rattle.serde_json.specs.declared.value.Value.{Value}

@@ -5,9 +5,9 @@ use Rattle.dap_breaks.specs.Wanted.{told_addresses}
 use Rattle.dap_breaks.specs.declared.listed.TheConstants.{NO_ROOM}
 use Rattle.dap_breaks.specs.declared.wanted.Wanted.{Wanted}
 use Rattle.dap_messages.specs.Messages.{object_of, word}
-use Rattle.dap_values.specs.Answers.{breakpoint_set, breakpoint_unset, breakpoints_body}
-use Rattle.dap_values.specs.Counting.{shown_line}
-use Rattle.dap_values.specs.declared.counting.Counting.{Counting}
+use Rattle.dap_messages.specs.Answers.{breakpoint_set, breakpoint_unset, breakpoints_body}
+use Rattle.dap_messages.specs.Counting.{shown_line}
+use Rattle.dap_messages.specs.declared.counting.Counting.{Counting}
 use Rattle.model.specs.Session.{Session}
 use Rattle.serde_json.specs.Data.{Data, boolean}
 use Rattle.serde_json.specs.View.{view}

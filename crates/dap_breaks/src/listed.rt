@@ -1,18 +1,21 @@
 //! Requests that list breakpoints: each replaces those of the one before.
 
-ghost use Rattle.std.specs.Prelude.{◌≡◌, [], IfOk, OnOk, map as each};
+ghost use Rattle.std.specs.Prelude.{◌≡◌, [], IfOk, OnOk, codes, map as each, option_map};
 ghost use Rattle.dap_breaks.specs.Answered.{IsAnswer, answer_at, answer_of, elsewhere};
 ghost use Rattle.dap_breaks.specs.Breaks.{KeepsEvents, SetsBreaks, SetsSourceBreaks, all_cleared};
 ghost use Rattle.dap_breaks.specs.Breaks.{all_set, place_of};
+ghost use Rattle.dap_breaks.specs.Targets.{row_in};
 ghost use Rattle.dap_breaks.specs.Wanted.{Matches, addresses};
-ghost use Rattle.dap_values.specs.Answers.{breakpoints_body};
-ghost use Rattle.serde_json.specs.View.{view};
+ghost use Rattle.dap_messages.specs.Answers.{breakpoints_body};
+ghost use Rattle.dap_breaks.specs.Watches.{items_at};
+ghost use Rattle.serde_json.specs.View.{items_view, view};
 
 use crate::breaks::replace;
 use crate::wanted::{List, Wanted, push_at, push_unset, row_from, unset};
 use arguments::is_one_file;
-use dap_messages::text_at;
-use dap_values::{Counting, breakpoint_set, breakpoint_unset, breakpoints_body, place_at};
+use dap_messages::{
+    Counting, breakpoint_set, breakpoint_unset, breakpoints_body, place_at, text_at,
+};
 use dap_views::{Source, is_break};
 use mon_runs::Session;
 use mon_session::Desk;
@@ -34,9 +37,10 @@ pub struct Listed {
     pub lines: Vec<u16>,
     /// The addresses of those at addresses.
     pub addresses: Vec<u16>,
-    /// The last requests for both.
+    /// The last requests for both, and for bytes that are watched.
     pub line_request: Option<Value>,
     pub address_request: Option<Value>,
+    pub data_request: Option<Value>,
 }
 
 impl Listed {
@@ -50,12 +54,15 @@ impl Listed {
             addresses: Vec::new(alloc),
             line_request: None,
             address_request: None,
+            data_request: None,
         }
     }
 }
 
 /// Returns the breakpoints that a request lists.
-fn list_of(request: &Value) -> &[Value] {
+pub fn list_of(request: &Value) -> &[Value]
+    ensures { items_view result.now ≡ items_at (codes "/arguments/breakpoints") (view request.now) }
+{
     match request
         .pointer("/arguments/breakpoints")
         .and_then(Value::as_array)
@@ -84,7 +91,9 @@ fn push_no_bytes(alloc: Global, list: &mut List, line: u32) -> Result<(), AllocE
 }
 
 /// Returns the first line of a source with bytes at a line or behind it, with its address.
-fn row_in(source: &Source<'_>, line: u32) -> Option<(u32, u16)> {
+pub fn row_in(source: &Source<'_>, line: u32) -> Option<(u32, u16)>
+    ensures { result ≡ row_in line (option_map (λ a. a.now) source.now.assembly) }
+{
     match source.assembly {
         Some(assembly) => row_from(assembly, line),
         None => None,

@@ -19,13 +19,14 @@ continued = object_of ((codes "allThreadsContinued", yes) ∷ [])
 -- What the adapter can do.
 unfoldable pub capabilities : Data
 capabilities = object_of ((codes "supportsConditionalBreakpoints", yes)
-    ∷ (codes "supportsConfigurationDoneRequest", yes) ∷ (codes "supportsEvaluateForHovers", yes)
-    ∷ (codes "supportsExceptionInfoRequest", yes)
+    ∷ (codes "supportsConfigurationDoneRequest", yes) ∷ (codes "supportsDataBreakpoints", yes)
+    ∷ (codes "supportsDisassembleRequest", yes) ∷ (codes "supportsEvaluateForHovers", yes)
+    ∷ (codes "supportsExceptionInfoRequest", yes) ∷ (codes "supportsGotoTargetsRequest", yes)
     ∷ (codes "supportsHitConditionalBreakpoints", yes)
     ∷ (codes "supportsInstructionBreakpoints", yes) ∷ (codes "supportsReadMemoryRequest", yes)
     ∷ (codes "supportsRestartRequest", yes) ∷ (codes "supportsSetVariable", yes)
     ∷ (codes "supportsStepBack", yes) ∷ (codes "supportsSteppingGranularity", yes)
-    ∷ (codes "supportsTerminateRequest", yes) ∷ [])
+    ∷ (codes "supportsTerminateRequest", yes) ∷ (codes "supportsWriteMemoryRequest", yes) ∷ [])
 
 -- One thread.
 abbrev pub threads : Data

@@ -1,4 +1,9 @@
+pub mod Answers
 pub mod Bodies
+pub mod Counting
 pub mod Fields
 pub mod Messages
+pub mod References
 pub mod Requests
+pub mod Texts
+pub mod Variables

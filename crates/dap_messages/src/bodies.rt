@@ -16,11 +16,13 @@ pub fn capabilities(alloc: Global) -> Result<Value, AllocError>
 {
     json!(in alloc; {
         "supportsConditionalBreakpoints": true, "supportsConfigurationDoneRequest": true,
+        "supportsDataBreakpoints": true, "supportsDisassembleRequest": true,
         "supportsEvaluateForHovers": true, "supportsExceptionInfoRequest": true,
-        "supportsHitConditionalBreakpoints": true, "supportsInstructionBreakpoints": true,
-        "supportsReadMemoryRequest": true, "supportsRestartRequest": true,
-        "supportsSetVariable": true, "supportsStepBack": true,
-        "supportsSteppingGranularity": true, "supportsTerminateRequest": true
+        "supportsGotoTargetsRequest": true, "supportsHitConditionalBreakpoints": true,
+        "supportsInstructionBreakpoints": true, "supportsReadMemoryRequest": true,
+        "supportsRestartRequest": true, "supportsSetVariable": true, "supportsStepBack": true,
+        "supportsSteppingGranularity": true, "supportsTerminateRequest": true,
+        "supportsWriteMemoryRequest": true
     })
 }
 

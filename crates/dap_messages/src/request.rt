@@ -48,13 +48,25 @@ pub enum Request {
     Evaluate,
     /// Bytes of memory.
     ReadMemory,
+    /// Instructions, each in a row.
+    Disassemble,
+    /// Other bytes of memory.
+    WriteMemory,
+    /// The addresses at which a line can be gone to.
+    GotoTargets,
+    /// Another instruction as the next.
+    Goto,
+    /// Whether what a name stands for can be watched.
+    DataBreakpointInfo,
+    /// The bytes that are watched, in place of those that were.
+    SetDataBreakpoints,
     /// What a step was refused for.
     ExceptionInfo,
     /// A move of the machine.
     Moves(Move),
     /// A stop.
     Pause,
-    /// Loads the program's file again, and begins the session anew.
+    /// Begins the session again from its file.
     Restart,
     /// The end of the program.
     Terminate,

@@ -1,3 +1,2 @@
-mod Begun
 mod Done
 mod Stays

@@ -2,10 +2,10 @@
 use Rattle.std.proofs.Common.{Option, Some, None, refl}
 use Rattle.dap_session.specs.Console.{ShowsIfRefused}
 use Rattle.dap_session.specs.Served.{CountsIfRefused, Stays, StaysIfRefused}
-use Rattle.dap_session.specs.declared.fault.Fault.{Fault}
-use Rattle.dap_session.specs.declared.fault.Fault.TheVariants as fault
-use Rattle.dap_session.specs.declared.seat.Seat.{Seat}
-use Rattle.dap_values.specs.declared.counting.Counting.{Counting}
+use Rattle.dap_launch.specs.declared.fault.Fault.{Fault}
+use Rattle.dap_launch.specs.declared.fault.Fault.TheVariants as fault
+use Rattle.dap_launch.specs.declared.seat.Seat.{Seat}
+use Rattle.dap_messages.specs.declared.counting.Counting.{Counting}
 use Rattle.mon_session.specs.declared.desk.Desk.{Desk}
 
 pub shows_same : (f : Fault) (d : Desk) → ShowsIfRefused f d d

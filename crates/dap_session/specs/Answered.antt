@@ -2,22 +2,26 @@
 use Rattle.std.specs.Prelude.{◌≡◌, ⊤, List, [], ◌∷◌, codes, string_bytes}
 use Rattle.assembler.specs.Assembly.{AssemblyView}
 use Rattle.dap_breaks.specs.Breaks.{KeepsEvents, SetsBreaks, SetsSourceBreaks, place_of}
+use Rattle.dap_breaks.specs.Targets.{AreTargets}
+use Rattle.dap_breaks.specs.Watches.{KeepsBreaks, SetsWatches, data_shown}
 use Rattle.dap_messages.specs.Bodies.{nothing, scopes, threads}
 use Rattle.dap_messages.specs.Messages.{Said, done, event}
 use Rattle.dap_messages.specs.declared.request.Request.{Request}
 use Rattle.dap_messages.specs.declared.request.Request.TheVariants as to
-use Rattle.dap_session.specs.Begun.{IsBegun}
-use Rattle.dap_session.specs.Changes.{HasChanged}
+use Rattle.dap_launch.specs.Begun.{IsBegun}
+use Rattle.dap_session.specs.Changes.{Goes, HasChanged, Writes}
 use Rattle.dap_session.specs.Console.{Evaluates, is_console}
 use Rattle.dap_session.specs.Moves.{begun_stand, moved}
-use Rattle.dap_session.specs.Options.{IsAgain}
-use Rattle.dap_session.specs.declared.options.Options.{Options}
-use Rattle.dap_session.specs.declared.seat.Seat.{Seat}
-use Rattle.dap_values.specs.Answers.{breakpoints_body, exception_body}
-use Rattle.dap_values.specs.declared.counting.Counting.{Counting}
+use Rattle.dap_launch.specs.Options.{IsAgain}
+use Rattle.dap_launch.specs.declared.options.Options.{Options}
+use Rattle.dap_launch.specs.declared.seat.Seat.{Seat}
+use Rattle.dap_messages.specs.Answers.{breakpoints_body, exception_body}
+use Rattle.dap_messages.specs.declared.counting.Counting.{Counting}
 use Rattle.dap_views.specs.Frames.{AreFrames, wants_first}
 use Rattle.dap_views.specs.Memory.{memory_shown}
+use Rattle.dap_views.specs.Rows.{disassembled}
 use Rattle.dap_views.specs.Scopes.{variables_shown}
+use Rattle.mon_session.specs.declared.desk.Desk.{Desk}
 use Rattle.mon_steps.specs.RunLines.{KeepsWatches, stand_of}
 use Rattle.serde_json.specs.Data.{Data}
 
@@ -25,12 +29,17 @@ use Rattle.serde_json.specs.Data.{Data}
 abbrev pub IsDone : List Said → Type 0
 IsDone said = (body : Data) × (rest : List Said) × (said ≡ done body ∷ rest)
 
--- ---- a session that begins anew
+-- ---- a session that begins again from its file
 
--- It begins from the file of another, and has the breakpoints that are listed.
+-- Events, names, lines, and what is shown at each stop are what they were.
+abbrev pub KeepsMade : Desk → Desk → Type 0
+KeepsMade old new = (new.events ≡ old.events) × (new.places ≡ old.places)
+    × (new.displays ≡ old.displays)
+
+-- It begins from the file of another, and has the breakpoints and the watches that are listed.
 abbrev pub BeginsAgain : Seat → Seat → Type 0
 BeginsAgain old new = (options : Options) × IsAgain old.options options × (begun : Seat)
-    × IsBegun options begun × KeepsEvents begun.desk new.desk × (new.options ≡ options)
+    × IsBegun options begun × KeepsMade begun.desk new.desk × (new.options ≡ options)
 
 -- The machine stands then before the first instruction, or has run to a stop.
 abbrev pub Restarts : Seat → Seat → Type 0
@@ -48,6 +57,9 @@ IsShown to.Variables request counting seat v
     = v ≡ variables_shown seat.desk.session seat.assembly request
 IsShown to.ReadMemory request counting seat v
     = v ≡ memory_shown seat.desk.session.current.bus.memory request
+IsShown to.Disassemble request counting seat v
+    = v ≡ disassembled seat.desk (string_bytes seat.options.file) counting request
+IsShown to.DataBreakpointInfo request counting seat v = v ≡ data_shown seat.desk request
 IsShown to.ExceptionInfo request counting seat v = v ≡ exception_body (string_bytes seat.told.words)
 IsShown to.SetExceptionBreakpoints request counting seat v = v ≡ breakpoints_body []
 IsShown to.Pause request counting seat v = v ≡ nothing
@@ -56,6 +68,11 @@ IsShown asked request counting seat v = ⊥
 abbrev pub Shows : Request → Data → Counting → Seat → List Said → Type 0
 Shows asked request counting seat said
     = (v : Data) × IsShown asked request counting seat v × (said ≡ done v ∷ [])
+
+-- The addresses at which a line can be gone to.
+abbrev pub ShowsTargets : Data → Counting → Seat → List Said → Type 0
+ShowsTargets request counting seat said
+    = (v : Data) × AreTargets counting seat.assembly request v × (said ≡ done v ∷ [])
 
 -- The program is said to have ended.
 abbrev pub Terminates : List Said → Type 0
@@ -79,6 +96,14 @@ AreAnswers to.Evaluate request counting old new said
     = Evaluates (is_console request) request old.desk new.desk × IsDone said
 AreAnswers to.SetVariable request counting old new said
     = HasChanged old.desk new.desk × IsDone said
+AreAnswers to.SetDataBreakpoints request counting old new said
+    = SetsWatches request old.desk new.desk × KeepsBreaks old.desk new.desk × IsDone said
+AreAnswers to.Goto request counting old new said
+    = Goes request old.desk new.desk × IsDone said
+AreAnswers to.WriteMemory request counting old new said
+    = Writes request old.desk new.desk × IsDone said
+AreAnswers to.GotoTargets request counting old new said
+    = (new ≡ old) × ShowsTargets request counting old said
 AreAnswers to.Restart request counting old new said = Restarts old new × IsDone said
 AreAnswers to.Terminate request counting old new said = (new ≡ old) × Terminates said
 AreAnswers asked request counting old new said

@@ -5,8 +5,8 @@ use Rattle.std.specs.Str.Lossy.{utf8_lossy}
 use Rattle.dap_messages.specs.Bodies.{nothing}
 use Rattle.dap_messages.specs.Fields.{text_at}
 use Rattle.dap_messages.specs.Messages.{Said, done, event}
-use Rattle.dap_session.specs.declared.fault.Fault.{Fault}
-use Rattle.dap_session.specs.declared.fault.Fault.TheVariants as fault
+use Rattle.dap_launch.specs.declared.fault.Fault.{Fault}
+use Rattle.dap_launch.specs.declared.fault.Fault.TheVariants as fault
 use Rattle.dap_views.specs.Looks.{look_at}
 use Rattle.mon_dispatch.specs.Lines.{IsTooLong, Serves}
 use Rattle.mon_session.specs.Course.{ShowsOnly}

@@ -3,7 +3,7 @@
 use Rattle.std.specs.Prelude.{ℕ, ◌==◌, if◌then◌else◌, Option}
 use Rattle.dap_messages.specs.declared.request.Move.{Move}
 use Rattle.dap_messages.specs.declared.request.Move.TheVariants as to
-use Rattle.dap_session.specs.declared.seat.Seat.{Seat}
+use Rattle.dap_launch.specs.declared.seat.Seat.{Seat}
 use Rattle.mon_runs.specs.Goals.{opcode_at_pc}
 use Rattle.mon_session.specs.Course.{Course, course_of}
 use Rattle.mon_session.specs.declared.desk.Desk.{Desk}

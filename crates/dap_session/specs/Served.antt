@@ -7,18 +7,18 @@ use Rattle.dap_messages.specs.Messages.{Said, done, event, refused}
 use Rattle.dap_messages.specs.declared.request.Request.{Request}
 use Rattle.dap_messages.specs.declared.request.Request.TheVariants as to
 use Rattle.dap_session.specs.Answered.{AreAnswers}
-use Rattle.dap_session.specs.Begun.{IsBegun}
+use Rattle.dap_launch.specs.Begun.{IsBegun}
 use Rattle.dap_session.specs.Console.{IsMemory, ShowsIfRefused}
-use Rattle.dap_session.specs.Options.{AreOptions}
-use Rattle.dap_session.specs.declared.fault.Fault.{Fault}
-use Rattle.dap_session.specs.declared.fault.Fault.TheVariants as fault
-use Rattle.dap_session.specs.declared.options.Options.{Options}
-use Rattle.dap_session.specs.declared.seat.Seat.{Seat}
+use Rattle.dap_launch.specs.Options.{AreOptions}
+use Rattle.dap_launch.specs.declared.fault.Fault.{Fault}
+use Rattle.dap_launch.specs.declared.fault.Fault.TheVariants as fault
+use Rattle.dap_launch.specs.declared.options.Options.{Options}
+use Rattle.dap_launch.specs.declared.seat.Seat.{Seat}
 use Rattle.dap_session.specs.declared.serving.Adapter.{Adapter}
 use Rattle.dap_session.specs.declared.serving.Need.{Need}
 use Rattle.dap_session.specs.declared.serving.Need.TheVariants.{Unserved, End, Beginning, InSession}
-use Rattle.dap_values.specs.Counting.{counting_of}
-use Rattle.dap_values.specs.declared.counting.Counting.{Counting}
+use Rattle.dap_messages.specs.Counting.{counting_of}
+use Rattle.dap_messages.specs.declared.counting.Counting.{Counting}
 use Rattle.mon_session.specs.Course.{ShowsOnly}
 use Rattle.serde_json.specs.Data.{Data}
 

@@ -2,7 +2,7 @@
 use Rattle.std.specs.Prelude.{ℕ, ◌≡◌, ◌==◌, ◌&&◌, not, Bool, if◌then◌else◌, List, ◌++◌, length}
 use Rattle.std.specs.List.{list_any}
 use Rattle.dap_messages.specs.Messages.{Said}
-use Rattle.dap_session.specs.declared.seat.Seat.{Seat}
+use Rattle.dap_launch.specs.declared.seat.Seat.{Seat}
 use Rattle.dap_views.specs.Told.{told_of}
 use Rattle.dap_views.specs.declared.halts.Halt.{Halt}
 use Rattle.dap_views.specs.declared.halts.Reason.{Reason}

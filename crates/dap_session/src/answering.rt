@@ -2,23 +2,30 @@
 
 ghost use Rattle.std.specs.Prelude.{◌≡◌, IfErr, IfOk, OnOk, map as each, string_bytes};
 ghost use Rattle.dap_breaks.specs.Breaks.{KeepsEvents, SetsBreaks, SetsSourceBreaks, place_of};
+ghost use Rattle.dap_breaks.specs.Watches.{KeepsBreaks, SetsWatches};
 ghost use Rattle.dap_messages.specs.Messages.{said_of};
-ghost use Rattle.dap_session.specs.Answered.{AreAnswers, BeginsAgain, IsDone, IsShown, Restarts};
-ghost use Rattle.dap_session.specs.Answered.{Shows, Terminates};
+ghost use Rattle.dap_session.specs.Answered.{AreAnswers, BeginsAgain, IsDone, IsShown, KeepsMade, Restarts};
+ghost use Rattle.dap_session.specs.Answered.{Shows, ShowsTargets, Terminates};
 ghost use Rattle.dap_session.specs.Console.{ShowsIfRefused};
 ghost use Rattle.dap_session.specs.Moves.{begun_stand, moved};
 ghost use Rattle.mon_steps.specs.RunLines.{KeepsWatches, stand_of};
 ghost use Rattle.serde_json.specs.View.{view};
 
+use crate::changing::{go_to, write_memory};
 use crate::console::{evaluate, set_variable};
-use crate::fault::{Fault, refused};
 use crate::moves::make_move;
-use crate::seat::{Seat, begin, source_of};
 use crate::stands::push_halt;
-use dap_breaks::{Listed, set_addresses, set_lines, set_source};
-use dap_messages::{Message, Move, Request, continued, nothing, scopes, threads};
-use dap_values::{Counting, breakpoints_body, exception};
-use dap_views::{Halt, Reason, answered, frames_shown, memory_shown, stand_by, variables_shown};
+use dap_breaks::{
+    Listed, data_shown, goto_targets, set_addresses, set_data, set_lines, set_source,
+};
+use dap_launch::{Fault, Seat, begin, refused, source_of};
+use dap_messages::{
+    Counting, Message, Move, Request, breakpoints_body, continued, exception, nothing, scopes,
+    threads,
+};
+use dap_views::{
+    Halt, Reason, answered, disassembled, frames_shown, memory_shown, stand_by, variables_shown,
+};
 use serde_json::Value;
 use std::alloc::{AllocError, Global};
 use std::rt::Files;
@@ -112,6 +119,17 @@ fn set_by_address(
     answered(alloc, body)
 }
 
+/// Watches the bytes that a request lists.
+#[tactic(auto, using(crate::proofs::Done::done_one))]
+fn watch(alloc: Global, seat: &mut Seat, request: &Value) -> Result<Vec<Message>, AllocError>
+    ensures sets { OnOk result (SetsWatches (view request.now) seat.old.desk seat.new.desk) }
+    ensures kept { OnOk result (KeepsBreaks seat.old.desk seat.new.desk) }
+    ensures answer { IfOk result (λ ms. IsDone (each said_of ms.items)) }
+{
+    let body = set_data(alloc, &mut seat.desk, &mut seat.listed, request)?;
+    answered(alloc, body)
+}
+
 /// Sets the breakpoints of the source that a request lists, if there is one.
 fn set_lines_again(
     alloc: Global,
@@ -144,22 +162,34 @@ fn set_addresses_again(
     Ok(())
 }
 
-/// Lists the breakpoints of a session for one that has begun anew.
+/// Watches the bytes that a request lists, if there is one.
+fn watch_again(alloc: Global, seat: &mut Seat, request: &Option<Value>) -> Result<(), AllocError>
+    ensures kept { KeepsBreaks seat.old.desk seat.new.desk }
+    ensures options { seat.new.options ≡ seat.old.options }
+{
+    if let Some(request) = request {
+        let _ = set_data(alloc, &mut seat.desk, &mut seat.listed, request)?;
+    }
+    Ok(())
+}
+
+/// Lists the breakpoints and the watches of a session for one that has begun again.
 fn set_again(
     alloc: Global,
     seat: &mut Seat,
     counting: Counting,
     old: &Listed,
 ) -> Result<(), AllocError>
-    ensures kept { OnOk result (KeepsEvents seat.old.desk seat.new.desk) }
+    ensures kept { OnOk result (KeepsMade seat.old.desk seat.new.desk) }
     ensures options { seat.new.options ≡ seat.old.options }
 {
     set_lines_again(alloc, seat, counting, &old.line_request)?;
     set_addresses_again(alloc, seat, counting, &old.address_request)?;
+    watch_again(alloc, seat, &old.data_request)?;
     Ok(())
 }
 
-/// Returns a session that begins anew from the file of one, with the breakpoints that it has.
+/// Returns a session that begins again from the file of one, with the breakpoints that it has.
 fn begun_again<H: Files + AllocGlobal>(
     rt: &H,
     seat: &Seat,
@@ -173,7 +203,7 @@ fn begun_again<H: Files + AllocGlobal>(
     Ok(begun)
 }
 
-/// Begins the session anew from its file, with the breakpoints that it has.
+/// Begins the session again from its file, with the breakpoints that it has.
 #[tactic(auto, using(crate::proofs::Stays::shows_same))]
 fn restart<H: Files + AllocGlobal>(
     rt: &H,
@@ -218,6 +248,8 @@ fn shown(
         Request::Scopes => Ok(scopes(alloc)?),
         Request::Variables => Ok(variables_shown(alloc, &seat.desk, &source, request)?),
         Request::ReadMemory => Ok(memory_shown(alloc, &seat.desk, request)?),
+        Request::DataBreakpointInfo => Ok(data_shown(alloc, &seat.desk, request)?),
+        Request::Disassemble => Ok(disassembled(alloc, &seat.desk, &source, request)?),
         Request::ExceptionInfo => Ok(exception(alloc, seat.told.words.as_str())?),
         Request::SetExceptionBreakpoints => Ok(breakpoints_body(alloc, Vec::new(alloc))?),
         Request::Pause => Ok(nothing(alloc)?),
@@ -241,6 +273,22 @@ fn show(
     Ok(messages)
 }
 
+/// Answers where a line can be gone to.
+fn show_targets<H: Files + AllocGlobal>(
+    rt: &H,
+    seat: &Seat,
+    counting: Counting,
+    request: &Value,
+) -> Result<Vec<Message>, AllocError>
+    ensures { IfOk result
+        (λ ms. ShowsTargets (view request.now) counting seat.now (each said_of ms.items)) }
+{
+    let source = source_of(&seat.options, &seat.assembly, counting);
+    let body = goto_targets(rt, &source, request)?;
+    let messages = answered(rt.alloc(), body)?;
+    Ok(messages)
+}
+
 /// Does what a request of a session asks for, and returns the messages to the client.
 ///
 /// Errors: `Refused` if it cannot be done. Nothing but the text said last is changed then.
@@ -256,28 +304,28 @@ pub fn answer<H: Files + AllocGlobal>(
         seat.new (each said_of ms.items)) }
     ensures refused { IfErr result (λ f. ShowsIfRefused f seat.old.desk seat.new.desk) }
 {
+    let alloc = rt.alloc();
     match asked {
-        Request::Moves(way) => Ok(make(rt.alloc(), seat, way)?),
+        Request::Moves(way) => Ok(make(alloc, seat, way)?),
         Request::SetBreakpoints => Ok(set_listed(rt, seat, counting, request)?),
-        Request::SetInstructionBreakpoints => {
-            Ok(set_by_address(rt.alloc(), seat, counting, request)?)
-        }
-        Request::ConfigurationDone => Ok(configured(rt.alloc(), seat)?),
-        Request::Evaluate => Ok(evaluate(rt.alloc(), seat, request)?),
-        Request::SetVariable => Ok(set_variable(rt.alloc(), seat, request)?),
+        Request::SetInstructionBreakpoints => Ok(set_by_address(alloc, seat, counting, request)?),
+        Request::ConfigurationDone => Ok(configured(alloc, seat)?),
+        Request::Evaluate => Ok(evaluate(alloc, seat, request)?),
+        Request::SetVariable => Ok(set_variable(alloc, seat, request)?),
+        Request::SetDataBreakpoints => Ok(watch(alloc, seat, request)?),
+        Request::Goto => Ok(go_to(alloc, seat, request)?),
+        Request::WriteMemory => Ok(write_memory(alloc, seat, request)?),
+        Request::GotoTargets => Ok(show_targets(rt, seat, counting, request)?),
         Request::Restart => Ok(restart(rt, seat, counting)?),
-        Request::Terminate => Ok(terminate(rt.alloc())?),
-        Request::Threads | Request::StackTrace | Request::Scopes | Request::Variables => {
-            Ok(show(rt.alloc(), seat, counting, request, asked)?)
-        }
-        Request::ReadMemory | Request::ExceptionInfo | Request::Pause => {
-            Ok(show(rt.alloc(), seat, counting, request, asked)?)
-        }
-        Request::SetExceptionBreakpoints | Request::Initialize | Request::Launch => {
-            Ok(show(rt.alloc(), seat, counting, request, asked)?)
-        }
-        Request::Disconnect | Request::Other | Request::NoRequest => {
-            Ok(show(rt.alloc(), seat, counting, request, asked)?)
-        }
+        Request::Terminate => Ok(terminate(alloc)?),
+        Request::Threads | Request::StackTrace => show(alloc, seat, counting, request, asked),
+        Request::Scopes | Request::Variables => show(alloc, seat, counting, request, asked),
+        Request::ReadMemory | Request::Disassemble => show(alloc, seat, counting, request, asked),
+        Request::DataBreakpointInfo => show(alloc, seat, counting, request, asked),
+        Request::ExceptionInfo | Request::Pause => show(alloc, seat, counting, request, asked),
+        Request::SetExceptionBreakpoints => show(alloc, seat, counting, request, asked),
+        Request::Initialize | Request::Launch => show(alloc, seat, counting, request, asked),
+        Request::Disconnect | Request::Other => show(alloc, seat, counting, request, asked),
+        Request::NoRequest => show(alloc, seat, counting, request, asked),
     }
 }

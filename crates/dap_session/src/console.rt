@@ -10,11 +10,9 @@ ghost use Rattle.dap_session.specs.Console.{expression_of, is_console, over};
 ghost use Rattle.mon_session.specs.Course.{KeepsStops, course_of, happened};
 ghost use Rattle.serde_json.specs.View.{view};
 
-use crate::fault::{Fault, refused, refused_by};
-use crate::seat::Seat;
 use crate::stands::push_halt;
-use dap_messages::{Message, nothing, number_at, text_at};
-use dap_values::{evaluated, value_set};
+use dap_launch::{Fault, Seat, refused, refused_by};
+use dap_messages::{Message, evaluated, nothing, number_at, text_at, value_set};
 use dap_views::{Reason, answered, look_at, stand_by, tell_unmoved};
 use mon_dispatch::serve;
 use mon_lines::{Command, Flag, Slip, read_line};
@@ -174,7 +172,7 @@ fn setting_line(alloc: Global, request: &Value) -> Result<String, AllocError> {
 ///
 /// Errors: `Refused` if the machine does not accept it.
 #[tactic(auto, using(crate::proofs::Stays::shows_same))]
-fn happen(alloc: Global, desk: &mut Desk, event: Event) -> Result<(), Fault>
+pub fn happen(alloc: Global, desk: &mut Desk, event: Event) -> Result<(), Fault>
     ensures course { course_of desk.new ≡ happened event (course_of desk.old) }
     ensures stops { KeepsStops desk.old desk.new }
     ensures refused { IfErr result (λ f. ShowsIfRefused f desk.old desk.new) }

@@ -11,11 +11,8 @@ ghost use Rattle.serde_json.specs.View.{view};
 
 use crate::answering::answer;
 use crate::console::push_terminated;
-use crate::fault::{Fault, refused};
-use crate::launching::options_of;
-use crate::seat::{Seat, begin};
-use dap_messages::{Message, Request, capabilities, nothing, request_of};
-use dap_values::Counting;
+use dap_launch::{Fault, Seat, begin, options_of, refused};
+use dap_messages::{Counting, Message, Request, capabilities, nothing, request_of};
 use dap_views::answered;
 use serde_json::Value;
 use std::alloc::{AllocError, Global};
@@ -155,6 +152,9 @@ fn need_of(asked: Request) -> Need
         Request::ConfigurationDone | Request::Threads | Request::StackTrace => Need::InSession,
         Request::Scopes | Request::Variables | Request::SetVariable => Need::InSession,
         Request::Evaluate | Request::ReadMemory | Request::ExceptionInfo => Need::InSession,
+        Request::Disassemble | Request::WriteMemory | Request::GotoTargets => Need::InSession,
+        Request::Goto | Request::DataBreakpointInfo => Need::InSession,
+        Request::SetDataBreakpoints => Need::InSession,
         Request::Pause | Request::Restart | Request::Terminate | Request::Other => Need::InSession,
     }
 }

@@ -5,8 +5,8 @@ ghost use Rattle.dap_messages.specs.Messages.{said_of};
 ghost use Rattle.dap_session.specs.Answered.{IsDone};
 ghost use Rattle.dap_session.specs.Stands.{IsToldHalt, is_at, reason_at};
 
-use crate::seat::Seat;
 use dap_breaks::Listed;
+use dap_launch::Seat;
 use dap_messages::Message;
 use dap_views::{Halt, Reason, tell_halt};
 use std::alloc::{AllocError, Global};

@@ -1,2 +1,3 @@
 mod Breaks
 mod Cells
+mod Following

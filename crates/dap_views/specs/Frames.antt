@@ -3,9 +3,9 @@
 use Rattle.std.specs.Prelude.{ℕ, ◌≡◌, ◌==◌, Bool, true, false, List, [], ◌∷◌, codes, Option, Some, None, unwrap_or}
 use Rattle.std.specs.Str.Lossy.{utf8_lossy}
 use Rattle.dap_messages.specs.Fields.{number_at}
-use Rattle.dap_values.specs.Answers.{frame_at_line, frame_without_line, frames_body}
-use Rattle.dap_values.specs.Counting.{first_column, shown_line}
-use Rattle.dap_values.specs.declared.counting.Counting.{Counting}
+use Rattle.dap_messages.specs.Answers.{frame_at_line, frame_without_line, frames_body}
+use Rattle.dap_messages.specs.Counting.{first_column, shown_line}
+use Rattle.dap_messages.specs.declared.counting.Counting.{Counting}
 use Rattle.mon_instructions.specs.Places.{place_text}
 use Rattle.serde_json.specs.Data.{Data}
 use Rattle.source_map.specs.Lines.{PlacesView, line_at}

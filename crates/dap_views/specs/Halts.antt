@@ -18,6 +18,7 @@ word_of reason.Breakpoint = codes "breakpoint"
 word_of reason.InstructionBreakpoint = codes "instruction breakpoint"
 word_of reason.DataBreakpoint = codes "data breakpoint"
 word_of reason.Exception = codes "exception"
+word_of reason.Goto = codes "goto"
 word_of reason.Pause = codes "pause"
 
 -- ---- how a run has ended

@@ -2,5 +2,6 @@ pub mod Frames
 pub mod Halts
 pub mod Looks
 pub mod Memory
+pub mod Rows
 pub mod Scopes
 pub mod Told

@@ -2,8 +2,8 @@
 -- mos65.
 use Rattle.std.specs.Prelude.{ℕ, nat_lt, false, if◌then◌else◌, List, ◌++◌, codes, length, slice_index, Option, Some, None, option_map, Result, Ok, Err}
 use Rattle.std.specs.Str.{bytes_eq}
-use Rattle.dap_values.specs.Answers.{evaluated_body, looked_at_body}
-use Rattle.dap_values.specs.Texts.{address_text, byte_text}
+use Rattle.dap_messages.specs.Answers.{evaluated_body, looked_at_body}
+use Rattle.dap_messages.specs.Texts.{address_text, byte_text}
 use Rattle.model.specs.Effect.{status}
 use Rattle.model.specs.State.{State}
 use Rattle.model.specs.declared.registers.Regs.{Regs}
@@ -47,9 +47,12 @@ byte_at memory (Some address)
     = Some (looked_at_body address (byte_text (slice_index memory address)))
 byte_at memory None = None
 
+abbrev pub place_named : List Named → ℕ → List ℕ → Option ℕ
+place_named names pc text = place_on names pc (codes "mem " ++ text)
+
 abbrev pub place_shown : State → List Named → List ℕ → Option Data
 place_shown s names text
-    = byte_at s.bus.memory (place_on names s.regs.pc (codes "mem " ++ text))
+    = byte_at s.bus.memory (place_named names s.regs.pc text)
 
 -- ---- a register before a place
 

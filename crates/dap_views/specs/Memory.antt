@@ -4,14 +4,14 @@ use Rattle.std.specs.Prelude.{ℕ, ◌-◌, min, List, [], codes, Option, Some, 
 use Rattle.base64.specs.Engines.{standard}
 use Rattle.base64.specs.GeneralPurpose.{encode_of}
 use Rattle.dap_messages.specs.Fields.{number_at}
-use Rattle.dap_values.specs.Answers.{memory_body}
-use Rattle.dap_values.specs.References.{place_at}
+use Rattle.dap_messages.specs.Answers.{memory_body}
+use Rattle.dap_messages.specs.References.{place_at}
 use Rattle.mon_texts.specs.Memory.{bytes_from}
 use Rattle.serde_json.specs.Data.{Data}
 
--- How many bytes are asked for, at most 65,536.
-abbrev pub count_at : Data → ℕ
-count_at request = min 65536 (unwrap_or (number_at (codes "/arguments/count") request) 0)
+-- How many are asked for at a path, at most 65,536.
+abbrev pub count_at : List ℕ → Data → ℕ
+count_at path request = min 65536 (unwrap_or (number_at path request) 0)
 
 -- How many of so many bytes there are from an address on.
 abbrev pub most : ℕ → ℕ → ℕ
@@ -28,5 +28,5 @@ memory_at memory count (Some first) = bytes_shown memory first count
 memory_at memory count None = memory_body 0 [] count
 
 abbrev pub memory_shown : List ℕ → Data → Data
-memory_shown memory request = memory_at memory (count_at request)
+memory_shown memory request = memory_at memory (count_at (codes "/arguments/count") request)
     (place_at (codes "/arguments/memoryReference") (codes "/arguments/offset") request)

@@ -5,8 +5,8 @@ use Rattle.std.specs.List.{flat_map}
 use Rattle.std.specs.Str.Lossy.{utf8_lossy}
 use Rattle.assembler.specs.Assembly.{AssemblyView}
 use Rattle.dap_messages.specs.Fields.{number_at}
-use Rattle.dap_values.specs.Texts.{address_text}
-use Rattle.dap_values.specs.Variables.{byte_variable, flags_shown, number_variable, registers_shown, variables_body}
+use Rattle.dap_messages.specs.Texts.{address_text}
+use Rattle.dap_messages.specs.Variables.{byte_variable, flags_shown, number_variable, registers_shown, variables_body}
 use Rattle.dap_views.specs.declared.variables.Scope.{Scope}
 use Rattle.dap_views.specs.declared.variables.Scope.TheVariants.{Registers, Flags, Symbols, Stack, ZeroPage, Machine}
 use Rattle.model.specs.Session.{Session}

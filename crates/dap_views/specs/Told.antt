@@ -5,7 +5,7 @@ use Rattle.std.specs.List.{flat_map}
 use Rattle.std.specs.Str.Lossy.{utf8_lossy}
 use Rattle.dap_messages.specs.Bodies.{output_body, stopped_body}
 use Rattle.dap_messages.specs.Messages.{Said, event}
-use Rattle.dap_values.specs.Answers.{invalidated_body}
+use Rattle.dap_messages.specs.Answers.{invalidated_body}
 use Rattle.dap_views.specs.Halts.{word_of}
 use Rattle.dap_views.specs.declared.halts.Halt.{Halt}
 use Rattle.dap_views.specs.declared.halts.Reason.{Reason}

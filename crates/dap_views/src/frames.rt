@@ -6,8 +6,7 @@ ghost use Rattle.dap_views.specs.Frames.{wants_first};
 ghost use Rattle.serde_json.specs.View.{view};
 
 use crate::source::Source;
-use dap_messages::number_at;
-use dap_values::{frame_at_line, frame_without_line, frames_body};
+use dap_messages::{frame_at_line, frame_without_line, frames_body, number_at};
 use mon_instructions::push_place;
 use mon_session::Desk;
 use serde_json::Value;

@@ -26,6 +26,8 @@ pub enum Reason {
     DataBreakpoint,
     /// A step is refused.
     Exception,
+    /// Another instruction was made the next.
+    Goto,
     /// Nothing has stopped the run so far, or there is nothing to do.
     Pause,
 }
@@ -42,6 +44,7 @@ impl Reason {
             Reason::InstructionBreakpoint => "instruction breakpoint",
             Reason::DataBreakpoint => "data breakpoint",
             Reason::Exception => "exception",
+            Reason::Goto => "goto",
             Reason::Pause => "pause",
         }
     }

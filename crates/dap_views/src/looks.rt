@@ -1,12 +1,12 @@
 //! A register, or the byte at a place.
 
 ghost use Rattle.std.specs.Prelude.{◌≡◌, ◌++◌, IfOk, codes, option_map, string_bytes};
-ghost use Rattle.dap_views.specs.Looks.{byte_at, first_in, look_at, place_on, place_shown};
+ghost use Rattle.dap_views.specs.Looks.{byte_at, first_in, look_at, place_named, place_on, place_shown};
 ghost use Rattle.dap_views.specs.Looks.{register_byte, register_shown};
 ghost use Rattle.mon_lines.specs.Lines.{command_view};
 ghost use Rattle.serde_json.specs.View.{view};
 
-use dap_values::{address_text, byte_text, evaluated, looked_at};
+use dap_messages::{address_text, byte_text, evaluated, looked_at};
 use formatting::push_text;
 use model::Regs;
 use mon_lines::{Command, read_line};
@@ -100,13 +100,23 @@ fn byte_at(
     }
 }
 
+/// Returns the address of the place that a text names, if it names one.
+///
+/// Errors: `AllocError` if an allocation fails.
+pub fn place_named(alloc: Global, desk: &Desk, text: &str) -> Result<Option<u16>, AllocError>
+    ensures { IfOk result (λ found. found
+        ≡ place_named desk.now.places.names desk.now.session.current.regs.pc text.now) }
+{
+    let line = mem_line(alloc, text)?;
+    Ok(place_on(line.as_slice(), &desk.places, desk.session.regs().pc))
+}
+
 /// Returns the byte at the place that a text names, if it names one.
 fn place_shown(alloc: Global, desk: &Desk, text: &str) -> Result<Option<Value>, AllocError>
     ensures { IfOk result (λ found. option_map view found
         ≡ place_shown desk.now.session.current desk.now.places.names text.now) }
 {
-    let line = mem_line(alloc, text)?;
-    let address = place_on(line.as_slice(), &desk.places, desk.session.regs().pc);
+    let address = place_named(alloc, desk, text)?;
     byte_at(alloc, &desk.session, address)
 }
 

@@ -1,14 +1,13 @@
 //! Bytes of memory.
 
 ghost use Rattle.std.specs.Prelude.{◌≡◌, ◌+◌, ◌≤◌, IfOk};
-ghost use Rattle.dap_views.specs.Memory.{bytes_shown, count_at, memory_shown, most};
-ghost use Rattle.dap_values.specs.References.{place_at};
+ghost use Rattle.dap_views.specs.Memory.{bytes_shown, count_at, memory_at, memory_shown, most};
+ghost use Rattle.dap_messages.specs.References.{place_at};
 ghost use Rattle.mon_texts.specs.Memory.{bytes_from};
 ghost use Rattle.serde_json.specs.View.{view};
 
 use base64::engine::general_purpose::STANDARD;
-use dap_messages::number_at;
-use dap_values::{memory_body, place_at};
+use dap_messages::{memory_body, number_at, place_at};
 use mon_runs::Session;
 use mon_session::Desk;
 use serde_json::Value;
@@ -32,12 +31,12 @@ fn bytes_from(
     Ok(bytes)
 }
 
-/// Returns how many bytes a request asks for, at most 65,536.
-fn count_at(request: &Value) -> u32
-    ensures value { result ≡ count_at (view request.now) }
+/// Returns how many a request asks for at a path, at most 65,536.
+pub fn count_at(request: &Value, path: &str) -> u32
+    ensures value { result ≡ count_at path.now (view request.now) }
     ensures most { result ≤ 65536 }
 {
-    match number_at(request, "/arguments/count") {
+    match number_at(request, path) {
         Some(count) if count < 65536 => count as u32,
         Some(_) => 65536,
         None => 0,
@@ -64,15 +63,30 @@ fn bytes_at(alloc: Global, session: &Session, first: u16, count: u32) -> Result<
     memory_body(alloc, first, text.as_str(), u64::from(count - most))
 }
 
+/// Returns so many bytes from an address on, as far as the memory goes: none where there is no
+/// address.
+fn memory_at(
+    alloc: Global,
+    session: &Session,
+    count: u32,
+    first: Option<u16>,
+) -> Result<Value, AllocError>
+    ensures { IfOk result
+        (λ v. view v ≡ memory_at session.now.current.bus.memory count first) }
+{
+    match first {
+        Some(first) => bytes_at(alloc, session, first, count),
+        None => memory_body(alloc, 0, "", u64::from(count)),
+    }
+}
+
 /// Returns the bytes of memory that a request asks for, as far as it goes: none where it names no
 /// address.
 pub fn memory_shown(alloc: Global, desk: &Desk, request: &Value) -> Result<Value, AllocError>
     ensures { IfOk result (λ v. view v
         ≡ memory_shown desk.now.session.current.bus.memory (view request.now)) }
 {
-    let count = count_at(request);
-    match place_at(request, "/arguments/memoryReference", "/arguments/offset") {
-        Some(first) => bytes_at(alloc, &desk.session, first, count),
-        None => memory_body(alloc, 0, "", u64::from(count)),
-    }
+    let count = count_at(request, "/arguments/count");
+    let first = place_at(request, "/arguments/memoryReference", "/arguments/offset");
+    memory_at(alloc, &desk.session, count, first)
 }

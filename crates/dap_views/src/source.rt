@@ -1,7 +1,7 @@
 //! The source of a session, as its client counts its lines.
 
 use assembler::Assembly;
-use dap_values::Counting;
+use dap_messages::Counting;
 
 /// The source of a session, if it has one, with its path, and how the client counts its lines.
 #[derive(Clone, Copy)]

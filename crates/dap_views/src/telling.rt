@@ -10,8 +10,7 @@ ghost use Rattle.serde_json.specs.View.{view};
 
 use crate::halts::{Halt, Reason};
 use crate::wording::{LESS_BEFORE, LESS_BEHIND};
-use dap_messages::{Message, output_body, stopped_body};
-use dap_values::invalidated;
+use dap_messages::{Message, invalidated, output_body, stopped_body};
 use formatting::{push_count, push_text};
 use model::EventFault;
 use mon_runs::Session;
@@ -133,7 +132,7 @@ fn push_remark(alloc: Global, messages: &mut Vec<Message>, halt: Halt) -> Result
     match halt.reason {
         Reason::Entry => push_words(alloc, messages, halt.words),
         Reason::Step | Reason::Breakpoint | Reason::InstructionBreakpoint => Ok(()),
-        Reason::DataBreakpoint | Reason::Exception | Reason::Pause => Ok(()),
+        Reason::DataBreakpoint | Reason::Exception | Reason::Goto | Reason::Pause => Ok(()),
     }
 }
 

@@ -3,7 +3,7 @@
 ghost use Rattle.std.specs.Prelude.{◌≡◌, ◌-◌, ◌∷◌, ◌++◌, [], IfOk, OnOk, map as each, option_map};
 ghost use Rattle.std.specs.Prelude.{slice_get};
 ghost use Rattle.std.specs.Option.{option_to_list};
-ghost use Rattle.dap_values.specs.Variables.{flags_shown, number_variable, registers_shown};
+ghost use Rattle.dap_messages.specs.Variables.{flags_shown, number_variable, registers_shown};
 ghost use Rattle.dap_views.specs.Scopes.{cell, cells, listed, machine_shown, named_cell};
 ghost use Rattle.dap_views.specs.Scopes.{scope_at, scope_of, scope_shown, stack_shown};
 ghost use Rattle.dap_views.specs.Scopes.{symbols_of, symbols_shown, variables_shown};
@@ -11,9 +11,9 @@ ghost use Rattle.serde_json.specs.View.{view};
 
 use crate::source::Source;
 use assembler::Assembly;
-use dap_messages::number_at;
-use dap_values::{
-    address_text, byte_variable, number_variable, push_flags, push_registers, variables_body,
+use dap_messages::{
+    address_text, byte_variable, number_at, number_variable, push_flags, push_registers,
+    variables_body,
 };
 use mon_runs::Session;
 use mon_session::Desk;

@@ -1,6 +1,6 @@
 use Rattle.std.proofs.Common.{◌≡◌, ◌∙◌, ◌∷◌, ◌++◌, [], List, append_assoc, map}
 use Rattle.std.specs.Prelude.{codes}
-use Rattle.dap_values.specs.Variables.{number_variable}
+use Rattle.dap_messages.specs.Variables.{number_variable}
 use Rattle.serde_json.specs.View.{view}
 use Rattle.serde_json.specs.Data.{Data}
 use Rattle.dap_views.proofs.variables.push_machine.Goals as goal

@@ -1,0 +1,68 @@
+//! The addresses at which a line can be gone to.
+
+ghost use Rattle.std.specs.Prelude.{◌≡◌, IfOk, codes, map as each, option_map};
+ghost use Rattle.dap_breaks.specs.Targets.{AreTargets, line_in, targets_of, targets_shown};
+ghost use Rattle.serde_json.specs.Find.{pointer};
+ghost use Rattle.serde_json.specs.View.{view};
+
+use crate::listed::row_in;
+use arguments::is_one_file;
+use dap_messages::{Counting, goto_target, targets_body, text_at};
+use dap_views::Source;
+use serde_json::Value;
+use std::alloc::{AllocError, Global};
+use std::rt::Files;
+
+/// Returns the line that a request names: one that no source has if it names none.
+fn line_in(counting: Counting, request: &Value) -> u32
+    ensures { result ≡ line_in counting (pointer (codes "/arguments") (view request.now)) }
+{
+    match request.pointer("/arguments") {
+        Some(arguments) => counting.line_at(arguments),
+        None => 1_000_000,
+    }
+}
+
+/// Returns a line with its address, if there is one, as what can be gone to.
+fn targets_of(
+    alloc: Global,
+    counting: Counting,
+    row: Option<(u32, u16)>,
+) -> Result<Vec<Value>, AllocError>
+    ensures { IfOk result (λ list. each view list.items ≡ targets_of counting row) }
+{
+    let mut list = Vec::new(alloc);
+    if let Some((line, address)) = row {
+        let value = goto_target(alloc, address, counting.shown_line(line))?;
+        list.push(value)?;
+    }
+    Ok(list)
+}
+
+/// Returns what can be gone to in the source of the session.
+fn own_targets(alloc: Global, source: &Source<'_>, request: &Value) -> Result<Value, AllocError>
+    ensures { IfOk result (λ v. view v ≡ targets_shown source.now.counting
+        (option_map (λ a. a.now) source.now.assembly) (view request.now)) }
+{
+    let row = row_in(source, line_in(source.counting, request));
+    let list = targets_of(alloc, source.counting, row)?;
+    targets_body(alloc, list)
+}
+
+/// Returns the addresses at which the line that a request names can be gone to: that of the first
+/// line with bytes from there on, if there is one, and the source is that of the session.
+pub fn goto_targets<H: Files + AllocGlobal>(
+    rt: &H,
+    source: &Source<'_>,
+    request: &Value,
+) -> Result<Value, AllocError>
+    ensures { IfOk result (λ v. AreTargets source.now.counting
+        (option_map (λ a. a.now) source.now.assembly) (view request.now) (view v)) }
+{
+    let path = text_at(request, "/arguments/source/path").unwrap_or("");
+    if is_one_file(rt, path, source.path) {
+        own_targets(rt.alloc(), source, request)
+    } else {
+        targets_body(rt.alloc(), Vec::new(rt.alloc()))
+    }
+}

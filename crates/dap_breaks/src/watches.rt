@@ -1,0 +1,265 @@
+//! Bytes that are watched: each list of them replaces the one before.
+
+ghost use Rattle.std.specs.Prelude.{◌≡◌, ◌++◌, ◌∷◌, [], IfOk, OnOk, map as each, option_map};
+ghost use Rattle.dap_breaks.specs.Watches.{KeepsBreaks, SetsWatches, all_unset, byte_watch};
+ghost use Rattle.dap_breaks.specs.Watches.{data_by, data_shown, has_bytes, name_of, none_watched};
+ghost use Rattle.dap_breaks.specs.Watches.{place_if, place_of, unset, watched_of, watches_by, watches_in};
+ghost use Rattle.dap_breaks.specs.Watches.{watches_named, watches_of, with_all, with_one};
+ghost use Rattle.serde_json.specs.View.{view};
+
+use crate::listed::{Listed, list_of};
+use dap_messages::{
+    breakpoints_body, data_at, data_unwatched, data_watched, no_data, number_at, place_at, text_at,
+};
+use dap_views::place_named;
+use mon_lines::{Stretch, WatchKind};
+use mon_runs::Session;
+use mon_session::Desk;
+use mon_settings::set_watch;
+use mon_stops::Watch;
+use serde_json::Value;
+use std::alloc::{AllocError, Global};
+
+/// What is said of a name that stands for no byte.
+pub const NO_DATA: &str = "this is no byte of memory";
+
+/// What is said of a byte that cannot be watched.
+const NOT_WATCHED: &str = "this byte cannot be watched";
+
+/// Returns whether the variables of a scope can be bytes. Without a scope a name is a place.
+fn has_bytes(scope: Option<u64>) -> bool
+    ensures { result ≡ has_bytes scope }
+{
+    match scope {
+        Some(scope) => !(scope == 1 || scope == 2 || scope == 6),
+        None => true,
+    }
+}
+
+/// Returns the name of a request: empty if it has none.
+fn name_of(request: &Value) -> &str
+    ensures { result.now ≡ name_of (view request.now) }
+{
+    match text_at(request, "/arguments/name") {
+        Some(name) => name,
+        None => "",
+    }
+}
+
+/// Returns the address of the place that a text names, if it names one, and a byte can be there.
+fn place_if(
+    alloc: Global,
+    desk: &Desk,
+    is_byte: bool,
+    name: &str,
+) -> Result<Option<u16>, AllocError>
+    ensures { IfOk result (λ found. found ≡ place_if is_byte desk.now name.now) }
+{
+    if is_byte {
+        place_named(alloc, desk, name)
+    } else {
+        Ok(None)
+    }
+}
+
+/// Returns the address of the byte that a request names, if it names one.
+fn place_of(alloc: Global, desk: &Desk, request: &Value) -> Result<Option<u16>, AllocError>
+    ensures { IfOk result (λ found. found ≡ place_of desk.now (view request.now)) }
+{
+    place_if(
+        alloc,
+        desk,
+        has_bytes(number_at(request, "/arguments/variablesReference")),
+        name_of(request),
+    )
+}
+
+/// Returns what can be watched of the byte at an address, if there is an address.
+fn data_by(alloc: Global, address: Option<u16>) -> Result<Value, AllocError>
+    ensures { IfOk result (λ v. view v ≡ data_by address) }
+{
+    match address {
+        Some(address) => data_at(alloc, address),
+        None => no_data(alloc, NO_DATA),
+    }
+}
+
+/// Returns what can be watched of the byte that a request names.
+pub fn data_shown(alloc: Global, desk: &Desk, request: &Value) -> Result<Value, AllocError>
+    ensures { IfOk result (λ v. view v ≡ data_shown desk.now (view request.now)) }
+{
+    let address = place_of(alloc, desk, request)?;
+    data_by(alloc, address)
+}
+
+/// Appends a watch of one byte.
+fn push_watch(list: &mut Vec<Watch>, address: u16, kind: WatchKind) -> Result<(), AllocError>
+    ensures { OnOk result (list.new.items ≡ list.old.items ++ byte_watch address kind ∷ []) }
+{
+    let stretch = Stretch {
+        first: address,
+        last: address,
+    };
+    list.push(Watch::Bytes { stretch, kind })?;
+    Ok(())
+}
+
+/// Appends the watches of one byte for an access.
+fn push_named(list: &mut Vec<Watch>, address: u16, access: &str) -> Result<(), AllocError>
+    ensures { OnOk result
+        (list.new.items ≡ list.old.items ++ watches_named address access.now) }
+{
+    match access {
+        "read" => push_watch(list, address, WatchKind::Read),
+        "readWrite" => {
+            push_watch(list, address, WatchKind::Read)?;
+            push_watch(list, address, WatchKind::Write)
+        }
+        _ => push_watch(list, address, WatchKind::Change),
+    }
+}
+
+/// Appends the watches of one byte for an access. Without one changes are watched.
+fn push_by(list: &mut Vec<Watch>, address: u16, access: Option<&str>) -> Result<(), AllocError>
+    ensures { OnOk result (list.new.items
+        ≡ list.old.items ++ watches_by address (option_map (λ s. s.now) access.entry)) }
+{
+    match access {
+        Some(access) => push_named(list, address, access),
+        None => push_watch(list, address, WatchKind::Change),
+    }
+}
+
+/// Appends the watches that a client wants of one byte, if it names one.
+fn push_wanted(list: &mut Vec<Watch>, wanted: &Value) -> Result<(), AllocError>
+    ensures { OnOk result (list.new.items ≡ list.old.items ++ watches_of (view wanted.now)) }
+{
+    match place_at(wanted, "/dataId", "/offset") {
+        Some(address) => push_by(list, address, text_at(wanted, "/accessType")),
+        None => Ok(()),
+    }
+}
+
+/// Returns the watches that a client wants.
+fn watches_in(alloc: Global, listed: &[Value]) -> Result<Vec<Watch>, AllocError>
+    ensures { IfOk result (λ list. list.items ≡ watches_in (each view listed.now)) }
+{
+    let mut list = Vec::new(alloc);
+    for wanted in listed {
+        push_wanted(&mut list, wanted)?;
+    }
+    Ok(list)
+}
+
+/// Ends the watch of changes in the session at an address.
+fn unset(session: &mut Session, address: u16)
+    ensures { session.new ≡ unset address session.old }
+{
+    let _ = session.clear_watch(address);
+}
+
+/// Ends the watch of changes in the session at some addresses.
+fn unset_all(session: &mut Session, addresses: &[u16])
+    ensures { session.new ≡ all_unset addresses.now session.old }
+{
+    for address in addresses {
+        unset(session, *address);
+    }
+}
+
+/// Clears all watches.
+fn clear_watches(desk: &mut Desk)
+    ensures watched { watched_of desk.new ≡ none_watched (watched_of desk.old) }
+    ensures kept { KeepsBreaks desk.old desk.new }
+{
+    unset_all(&mut desk.session, desk.stops.changes.as_slice());
+    desk.stops.watches.clear();
+    desk.stops.changes.clear();
+}
+
+/// Sets a watch, if it can be set.
+fn set_one(desk: &mut Desk, watch: Watch) -> Result<(), AllocError>
+    ensures watched { OnOk result
+        (watched_of desk.new ≡ with_one watch (watched_of desk.old)) }
+    ensures kept { KeepsBreaks desk.old desk.new }
+{
+    set_watch(desk, watch)
+}
+
+/// Sets watches, one after another.
+fn set_each(desk: &mut Desk, watches: &[Watch]) -> Result<(), AllocError>
+    ensures watched { OnOk result
+        (watched_of desk.new ≡ with_all watches.now (watched_of desk.old)) }
+    ensures kept { KeepsBreaks desk.old desk.new }
+{
+    for watch in watches {
+        set_one(desk, *watch)?;
+    }
+    Ok(())
+}
+
+/// Replaces all watches by others. Those that cannot be set are not.
+fn replace_watches(desk: &mut Desk, watches: &[Watch]) -> Result<(), AllocError>
+    ensures watched { OnOk result (watched_of desk.new
+        ≡ with_all watches.now (none_watched (watched_of desk.old))) }
+    ensures kept { KeepsBreaks desk.old desk.new }
+{
+    clear_watches(desk);
+    set_each(desk, watches)
+}
+
+/// Returns whether a byte is watched for an access.
+fn is_watched(desk: &Desk, address: u16, access: &str) -> bool {
+    match access {
+        "read" => desk.stops.has_access(WatchKind::Read, address),
+        "readWrite" => {
+            desk.stops.has_access(WatchKind::Read, address)
+                && desk.stops.has_access(WatchKind::Write, address)
+        }
+        _ => desk.stops.has_access(WatchKind::Change, address),
+    }
+}
+
+/// Returns what is answered of a byte that a client wants watched.
+fn answer(alloc: Global, desk: &Desk, wanted: &Value) -> Result<Value, AllocError> {
+    let access = text_at(wanted, "/accessType").unwrap_or("write");
+    match place_at(wanted, "/dataId", "/offset") {
+        Some(address) if is_watched(desk, address, access) => data_watched(alloc),
+        Some(_) => data_unwatched(alloc, NOT_WATCHED),
+        None => data_unwatched(alloc, NO_DATA),
+    }
+}
+
+/// Returns what is answered of bytes that a client wants watched.
+fn answers(alloc: Global, desk: &Desk, listed: &[Value]) -> Result<Value, AllocError> {
+    let mut list = Vec::new(alloc);
+    for wanted in listed {
+        let value = answer(alloc, desk, wanted)?;
+        list.push(value)?;
+    }
+    breakpoints_body(alloc, list)
+}
+
+/// Watches the bytes that a request lists, in place of all that were watched, and returns what is
+/// answered.
+///
+/// Errors: `AllocError` if an allocation fails; the old watches are cleared then, and some of the
+/// new ones may be set.
+pub fn set_data(
+    alloc: Global,
+    desk: &mut Desk,
+    listed: &mut Listed,
+    request: &Value,
+) -> Result<Value, AllocError>
+    ensures sets { OnOk result (SetsWatches (view request.now) desk.old desk.new) }
+    ensures kept { KeepsBreaks desk.old desk.new }
+    ensures lines { listed.new.lines ≡ listed.old.lines }
+    ensures addresses { listed.new.addresses ≡ listed.old.addresses }
+{
+    let wanted = list_of(request);
+    let watches = watches_in(alloc, wanted)?;
+    replace_watches(desk, watches.as_slice())?;
+    desk.text.clear();
+    listed.data_request = Some(request.clone()?);
+    answers(alloc, desk, wanted)
+}

@@ -1,0 +1,16 @@
+use Rattle.std.proofs.Common.{◌∙◌, ap, sym}
+use Rattle.arguments.specs.Values.{port_asked, profile_asked, rom_asked}
+use Rattle.dap_launch.proofs.launching.options_with.Goals as goal
+
+pub returns : goal.returns
+returns c = record {
+  file = c.in_ok-file.ensures.ok;
+  form = sym c.in-Some.ensures;
+  port = sym (c.in-Some-port_asked.ensures ∙ ap port_asked c.text_at.ensures);
+  rom = sym (c.in-Some-rom_asked.ensures ∙ ap rom_asked c.text_at-2.ensures);
+  profile = sym (c.in-Some-profile_asked.ensures ∙ ap profile_asked c.text_at-3.ensures);
+  history = c.history_of.ensures.value;
+  symbols = c.in_ok-symbols.ensures ∙ c.text_at-4.ensures;
+  steps = c.steps_of.ensures;
+  stops_on_entry = c.stops_on_entry.ensures;
+}

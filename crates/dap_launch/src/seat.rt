@@ -1,0 +1,177 @@
+//! How a session begins.
+
+ghost use Rattle.std.specs.Prelude.{◌≡◌, IfOk, OnOk, option_map, string_bytes};
+ghost use Rattle.arguments.specs.Asked.{map_of};
+ghost use Rattle.assembler.specs.Assembly.{AssemblyView, IsAssembled};
+ghost use Rattle.dap_launch.specs.Begun.{AddsNames, IsBegun, IsSeated, places_in, with_names};
+ghost use Rattle.dap_launch.specs.Options.{file_of};
+ghost use Rattle.source_map.specs.Lines.{PlacesView};
+
+use crate::fault::{Fault, refused_by};
+use crate::options::Options;
+use arguments::{LoadFault, Refusal};
+use assembler::Assembly;
+use dap_breaks::Listed;
+use dap_messages::Counting;
+use dap_views::{Source, Told};
+use loading::{Loaded, load_names, load_with_history};
+use mon_runs::Session;
+use mon_session::Desk;
+use source_map::Places;
+use std::alloc::{AllocError, Global};
+use std::rt::Files;
+
+/// A session on a program.
+#[derive(Drop)]
+pub struct Seat {
+    pub options: Options,
+    pub desk: Desk,
+    /// The source with its lines, if the program is one.
+    pub assembly: Option<Assembly>,
+    /// The breakpoints that the client has listed.
+    pub listed: Listed,
+    /// What the client was told.
+    pub told: Told,
+}
+
+/// Returns the source of a session, as its client counts lines.
+pub fn source_of<'a>(
+    options: &'a Options,
+    assembly: &'a Option<Assembly>,
+    counting: Counting,
+) -> Source<'a>
+    ensures path { result.path.now ≡ string_bytes options.now.file }
+    ensures assembly { option_map (λ a. a.now) result.assembly ≡ assembly.now }
+    ensures counting { result.counting ≡ counting }
+{
+    Source {
+        path: options.file.as_str(),
+        assembly: assembly.as_ref(),
+        counting,
+    }
+}
+
+/// Returns the places of what was loaded.
+fn places_of(alloc: Global, file: &str, assembly: &Option<Assembly>) -> Result<Places, AllocError>
+    ensures { IfOk result (λ places. places ≡ places_in file.now assembly.now) }
+{
+    match assembly {
+        Some(assembly) => Places::of_source(alloc, file.as_bytes(), assembly),
+        None => Ok(Places::new(alloc)),
+    }
+}
+
+/// The most bytes of a line that says why a file is not loaded, but for the file's name.
+const LONGEST_LINE: usize = 256;
+
+/// Returns the line that says why a file is not loaded.
+fn told(alloc: Global, fault: LoadFault, file: &str) -> Result<Vec<u8>, AllocError> {
+    let mut text = Vec::new(alloc);
+    text.reserve(file.len().saturating_add(LONGEST_LINE))?;
+    let _ = fault.tell(file, &mut text);
+    Ok(text)
+}
+
+/// Returns why a file is not loaded: all faults of a source, or a line.
+fn unloaded(alloc: Global, fault: LoadFault, file: &str) -> Fault {
+    match fault {
+        LoadFault::Refused(Refusal::OutOfMemory) => Fault::OutOfMemory,
+        LoadFault::Faults { text, .. } => refused_by(alloc, &text),
+        fault => match told(alloc, fault, file) {
+            Ok(text) => refused_by(alloc, &text),
+            Err(_) => Fault::OutOfMemory,
+        },
+    }
+}
+
+/// Adds the names of a file of names.
+fn add_from<H: Files + AllocGlobal>(
+    rt: &H,
+    options: &Options,
+    path: &str,
+    places: &mut Places,
+) -> Result<(), Fault>
+    ensures { OnOk result ((names : AssemblyView)
+        × IsAssembled (map_of (file_of options.now)) names
+        × (places.new ≡ with_names names places.old)) }
+{
+    match load_names(rt, &options.words(), path) {
+        Ok(names) => {
+            places.add_names(rt.alloc(), &names)?;
+            Ok(())
+        }
+        Err(refusal) => Err(unloaded(rt.alloc(), LoadFault::Refused(refusal), path)),
+    }
+}
+
+/// Adds the names of a file of names, if one is named.
+fn add_names<H: Files + AllocGlobal>(
+    rt: &H,
+    options: &Options,
+    symbols: &Option<String>,
+    places: &mut Places,
+) -> Result<(), Fault>
+    ensures { OnOk result (AddsNames (option_map string_bytes symbols.now) (file_of options.now)
+        places.old places.new) }
+{
+    match symbols {
+        Some(path) => add_from(rt, options, path.as_str(), places),
+        None => Ok(()),
+    }
+}
+
+/// Returns the seat of a session at which no request was served.
+fn seat_on(
+    alloc: Global,
+    options: Options,
+    session: Session,
+    assembly: Option<Assembly>,
+    places: Places,
+) -> Result<Seat, AllocError>
+    ensures { IfOk result (IsSeated options session assembly places) }
+{
+    let desk = Desk::new(alloc, session, places, options.history)?;
+    Ok(Seat {
+        options,
+        desk,
+        assembly,
+        listed: Listed::new(alloc),
+        told: Told {
+            count: 0,
+            words: String::new(alloc),
+        },
+    })
+}
+
+/// Begins a session on what was loaded.
+fn begin_on<H: Files + AllocGlobal>(rt: &H, options: Options, loaded: Loaded) -> Result<Seat, Fault>
+    ensures { IfOk result (λ seat. (known : PlacesView)
+        × AddsNames (option_map string_bytes options.symbols) (file_of options)
+        (places_in (string_bytes options.file) loaded.assembly) known
+        × IsSeated options loaded.session loaded.assembly known seat) }
+{
+    let Loaded {
+        session,
+        assembly,
+        written: _,
+    } = loaded;
+    let mut places = places_of(rt.alloc(), options.file.as_str(), &assembly)?;
+    add_names(rt, &options, &options.symbols, &mut places)?;
+    let seat = seat_on(rt.alloc(), options, session, assembly, places)?;
+    Ok(seat)
+}
+
+/// Begins a session: loads the file of a launch, and the file of names, if one is named.
+///
+/// Errors: `Refused` with what `loading` says of the file; `OutOfMemory` if an allocation fails.
+pub fn begin<H: Files + AllocGlobal>(rt: &H, options: Options) -> Result<Seat, Fault>
+    ensures { IfOk result (IsBegun options) }
+{
+    match load_with_history(rt, &options.words(), options.history) {
+        Ok(loaded) => {
+            let seat = begin_on(rt, options, loaded)?;
+            Ok(seat)
+        }
+        Err(fault) => Err(unloaded(rt.alloc(), fault, options.file.as_str())),
+    }
+}

@@ -1,0 +1,69 @@
+//! How a client counts lines and columns.
+
+ghost use Rattle.std.specs.Prelude.{◌≡◌};
+ghost use Rattle.dap_messages.specs.Counting.{counting_of, first_column, flag_or_true, line_at, shown_line};
+ghost use Rattle.serde_json.specs.View.{view};
+
+use crate::fields::{flag_at, number_at};
+use serde_json::Value;
+
+/// How a client counts lines and columns.
+#[derive(Clone, Copy, Debug, PartialEq, Eq)]
+pub struct Counting {
+    /// Whether the first line has the number 1, and not 0.
+    pub lines_start_at_1: bool,
+    /// Whether the first column has the number 1, and not 0.
+    pub columns_start_at_1: bool,
+}
+
+/// Returns the flag at a path of a message: true if there is none.
+fn flag_or_true(message: &Value, path: &str) -> bool
+    ensures { result ≡ flag_or_true path.now (view message.now) }
+{
+    match flag_at(message, path) {
+        Some(flag) => flag,
+        None => true,
+    }
+}
+
+impl Counting {
+    /// Returns how the client of an `initialize` counts.
+    pub fn of(request: &Value) -> Counting
+        ensures { result ≡ counting_of (view request.now) }
+    {
+        Counting {
+            lines_start_at_1: flag_or_true(request, "/arguments/linesStartAt1"),
+            columns_start_at_1: flag_or_true(request, "/arguments/columnsStartAt1"),
+        }
+    }
+
+    /// Returns the number of a line, counted from 1, as the client counts it.
+    pub fn shown_line(self, line: u32) -> u64
+        ensures { result ≡ shown_line self line }
+    {
+        if self.lines_start_at_1 {
+            u64::from(line)
+        } else {
+            u64::from(line.saturating_sub(1))
+        }
+    }
+
+    /// Returns the number of the first column.
+    pub fn first_column(self) -> u64
+        ensures { result ≡ first_column self }
+    {
+        if self.columns_start_at_1 { 1 } else { 0 }
+    }
+
+    /// Returns the line that a message names, counted from 1: 1,000,000 if it names none, or one
+    /// from there on, where no source has one.
+    pub fn line_at(self, message: &Value) -> u32
+        ensures { result ≡ line_at self (view message.now) }
+    {
+        match number_at(message, "/line") {
+            Some(line) if line < 999_999 && self.lines_start_at_1 => line as u32,
+            Some(line) if line < 999_999 => line as u32 + 1,
+            _ => 1_000_000,
+        }
+    }
+}

@@ -1,0 +1,58 @@
+//! The rows of a disassembly.
+
+ghost use Rattle.std.specs.Prelude.{◌≡◌, IfOk, map as each};
+ghost use Rattle.dap_messages.specs.Answers.{instruction_at_line, instruction_row};
+ghost use Rattle.dap_messages.specs.Answers.{instructions_body, no_instruction};
+ghost use Rattle.serde_json.specs.View.{view};
+
+use crate::texts::reference;
+use serde_json::{Value, json};
+use std::alloc::{AllocError, Global};
+
+/// Returns the row of an instruction that begins a line of a source, which has a path.
+pub fn instruction_at_line(
+    alloc: Global,
+    address: u16,
+    bytes: &str,
+    text: &str,
+    line: u64,
+    path: &str,
+) -> Result<Value, AllocError>
+    ensures { IfOk result
+        (λ v. view v ≡ instruction_at_line address bytes.now text.now line path.now) }
+{
+    let place = reference(alloc, address)?;
+    json!(in alloc; {
+        "address": place.as_str(), "instruction": text, "instructionBytes": bytes, "line": line,
+        "location": {"path": path}
+    })
+}
+
+/// Returns the row of an instruction that begins no line.
+pub fn instruction_row(
+    alloc: Global,
+    address: u16,
+    bytes: &str,
+    text: &str,
+) -> Result<Value, AllocError>
+    ensures { IfOk result (λ v. view v ≡ instruction_row address bytes.now text.now) }
+{
+    let place = reference(alloc, address)?;
+    json!(in alloc; {
+        "address": place.as_str(), "instruction": text, "instructionBytes": bytes
+    })
+}
+
+/// Returns a row where no memory is.
+pub fn no_instruction(alloc: Global) -> Result<Value, AllocError>
+    ensures { IfOk result (λ v. view v ≡ no_instruction) }
+{
+    json!(in alloc; {"address": "0xFFFF", "instruction": "", "presentationHint": "invalid"})
+}
+
+/// Returns the answer that has some rows of a disassembly.
+pub fn instructions_body(alloc: Global, list: Vec<Value>) -> Result<Value, AllocError>
+    ensures { IfOk result (λ v. view v ≡ instructions_body (each view list.items)) }
+{
+    json!(in alloc; {"instructions": Value::Array(list)})
+}

@@ -1,0 +1,29 @@
+//! Lines to go to.
+
+ghost use Rattle.std.specs.Prelude.{◌≡◌, IfOk, map as each};
+ghost use Rattle.dap_messages.specs.Answers.{goto_target, targets_body};
+ghost use Rattle.serde_json.specs.View.{view};
+
+use crate::texts::{address_text, reference};
+use serde_json::{Value, json};
+use std::alloc::{AllocError, Global};
+
+/// Returns an address to go to, with its line.
+pub fn goto_target(alloc: Global, address: u16, line: u64) -> Result<Value, AllocError>
+    ensures { IfOk result (λ v. view v ≡ goto_target address line) }
+{
+    let place = reference(alloc, address)?;
+    let label = address_text(alloc, address)?;
+    let id = u64::from(address);
+    json!(in alloc; {
+        "id": id, "instructionPointerReference": place.as_str(), "label": label.as_str(),
+        "line": line
+    })
+}
+
+/// Returns the answer that has some addresses to go to.
+pub fn targets_body(alloc: Global, list: Vec<Value>) -> Result<Value, AllocError>
+    ensures { IfOk result (λ v. view v ≡ targets_body (each view list.items)) }
+{
+    json!(in alloc; {"targets": Value::Array(list)})
+}

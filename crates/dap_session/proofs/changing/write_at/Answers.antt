@@ -1,0 +1,12 @@
+use Rattle.std.proofs.Common.{◌∙◌, ℕ, List, ap}
+use Rattle.mon_session.specs.Course.{course_of}
+use Rattle.mon_settings.specs.ByteLines.{bytes_put}
+use Rattle.dap_session.proofs.changing.write_at.Goals as goal
+
+pub returns-clause-done : goal.returns-clause-done
+returns-clause-done c = (
+  c.in_ok-bytes.bytes.items,
+  c.in_ok-bytes.ensures,
+  c.put_all.ensures.course ∙ ap (λ (bytes : List ℕ). bytes_put c.args.address bytes (course_of c.args.desk.now)) c.as_slice.ensures.value,
+  c.put_all.ensures.stops,
+)

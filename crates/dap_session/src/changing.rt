@@ -1,0 +1,179 @@
+//! Requests that make another instruction the next, or write bytes to memory.
+
+ghost use Rattle.std.specs.Prelude.{◌≡◌, IfErr, IfOk, Ok, OnOk, map as each};
+ghost use Rattle.base64.specs.Engines.{standard};
+ghost use Rattle.base64.specs.GeneralPurpose.{decode_of};
+ghost use Rattle.dap_messages.specs.Messages.{said_of};
+ghost use Rattle.dap_session.specs.Answered.{IsDone};
+ghost use Rattle.dap_session.specs.Changes.{Goes, HasGone, HasWritten, Writes, data_of, target_at};
+ghost use Rattle.dap_session.specs.Console.{ShowsIfRefused};
+ghost use Rattle.mon_session.specs.Course.{KeepsStops, course_of};
+ghost use Rattle.mon_settings.specs.ByteLines.{bytes_put};
+ghost use Rattle.serde_json.specs.View.{view};
+
+use crate::console::happen;
+use crate::stands::push_halt;
+use base64::DecodeAllocError;
+use base64::engine::general_purpose::STANDARD;
+use dap_launch::{Fault, Seat, refused};
+use dap_messages::{Message, nothing, number_at, place_at, text_at, written_body};
+use dap_views::{Reason, answered, stand_by, tell_unmoved};
+use model::Setting;
+use mon_runs::{Event, Session};
+use mon_session::Desk;
+use mon_settings::put;
+use serde_json::Value;
+use std::alloc::{AllocError, Global};
+
+/// Returns the address that a request goes to, if it names one.
+fn target_at(request: &Value) -> Option<u16>
+    ensures { result ≡ target_at (view request.now) }
+{
+    match number_at(request, "/arguments/targetId") {
+        Some(number) if number <= 65535 => Some(number as u16),
+        _ => None,
+    }
+}
+
+/// Says that the machine stands at another instruction.
+#[tactic(auto, using(crate::proofs::Done::done_one))]
+fn gone(alloc: Global, seat: &mut Seat) -> Result<Vec<Message>, AllocError>
+    ensures desk { seat.new.desk ≡ seat.old.desk }
+    ensures answer { IfOk result (λ ms. IsDone (each said_of ms.items)) }
+{
+    let body = nothing(alloc)?;
+    let mut messages = answered(alloc, body)?;
+    let halt = stand_by(Reason::Goto, "gone to another line");
+    push_halt(alloc, &mut messages, seat, halt)?;
+    Ok(messages)
+}
+
+/// Makes the instruction at an address the next, and says that the machine stands there.
+#[tactic(auto, using(crate::proofs::Stays::shows_same))]
+fn go_at(alloc: Global, seat: &mut Seat, address: u16) -> Result<Vec<Message>, Fault>
+    ensures done { OnOk result (HasGone address seat.old.desk seat.new.desk) }
+    ensures answer { IfOk result (λ ms. IsDone (each said_of ms.items)) }
+    ensures refused { IfErr result (λ f. ShowsIfRefused f seat.old.desk seat.new.desk) }
+{
+    happen(alloc, &mut seat.desk, Event::Set(Setting::Pc(address)))?;
+    let messages = gone(alloc, seat)?;
+    Ok(messages)
+}
+
+/// Makes the instruction at the address that a request names the next, and says that the machine
+/// stands there.
+///
+/// Errors: `Refused` if the request names no address.
+#[tactic(auto, using(crate::proofs::Stays::shows_same))]
+pub fn go_to(alloc: Global, seat: &mut Seat, request: &Value) -> Result<Vec<Message>, Fault>
+    ensures done { OnOk result (Goes (view request.now) seat.old.desk seat.new.desk) }
+    ensures answer { IfOk result (λ ms. IsDone (each said_of ms.items)) }
+    ensures refused { IfErr result (λ f. ShowsIfRefused f seat.old.desk seat.new.desk) }
+{
+    match target_at(request) {
+        Some(address) => {
+            let messages = go_at(alloc, seat, address)?;
+            Ok(messages)
+        }
+        None => Err(refused(alloc, "this is no address to go to")),
+    }
+}
+
+/// Returns the text of the bytes that a request writes: empty if it has none.
+fn data_of(request: &Value) -> &str
+    ensures { result.now ≡ data_of (view request.now) }
+{
+    match text_at(request, "/arguments/data") {
+        Some(text) => text,
+        None => "",
+    }
+}
+
+/// Returns the bytes that a request writes.
+///
+/// Errors: `Refused` if they are not written in Base64.
+fn bytes_in(alloc: Global, request: &Value) -> Result<Vec<u8>, Fault>
+    ensures { IfOk result
+        (λ bytes. decode_of standard (data_of (view request.now)) ≡ Ok bytes.items) }
+{
+    match STANDARD.decode(alloc, data_of(request).as_bytes()) {
+        Ok(bytes) => Ok(bytes),
+        Err(DecodeAllocError::OutOfMemory) => Err(Fault::OutOfMemory),
+        Err(_) => Err(refused(alloc, "the bytes are not in Base64")),
+    }
+}
+
+/// Returns how many bytes of a list memory has from an address on.
+fn count_there(session: &Session, address: u16, bytes: &[u8]) -> u64 {
+    let mut count = 0u64;
+    for byte in bytes {
+        let place = u64::from(address).saturating_add(count);
+        if place > 65535 || session.peek(place as u16) != *byte {
+            return count;
+        }
+        count = count.saturating_add(1);
+    }
+    count
+}
+
+/// Puts bytes into memory.
+fn put_all(desk: &mut Desk, address: u16, bytes: &[u8]) -> Result<(), AllocError>
+    ensures course { course_of desk.new ≡ bytes_put address bytes.now (course_of desk.old) }
+    ensures stops { KeepsStops desk.old desk.new }
+{
+    desk.text.clear();
+    let done = put(desk, address, bytes);
+    desk.text.clear();
+    done
+}
+
+/// Says how many bytes memory has of those that were written, and that it has changed.
+#[tactic(auto, using(crate::proofs::Done::done_one, crate::proofs::Done::done_more))]
+fn written(alloc: Global, count: u64) -> Result<Vec<Message>, AllocError>
+    ensures answer { IfOk result (λ ms. IsDone (each said_of ms.items)) }
+{
+    let body = written_body(alloc, count)?;
+    let mut messages = answered(alloc, body)?;
+    tell_unmoved(alloc, &mut messages)?;
+    Ok(messages)
+}
+
+/// Writes bytes to memory from an address on, an event for each, up to the first that is rejected.
+///
+/// Errors: `Refused` if the bytes are not written in Base64.
+#[tactic(auto, using(crate::proofs::Stays::shows_same))]
+fn write_at(
+    alloc: Global,
+    desk: &mut Desk,
+    address: u16,
+    request: &Value,
+) -> Result<Vec<Message>, Fault>
+    ensures done { OnOk result (HasWritten address (view request.now) desk.old desk.new) }
+    ensures answer { IfOk result (λ ms. IsDone (each said_of ms.items)) }
+    ensures refused { IfErr result (λ f. ShowsIfRefused f desk.old desk.new) }
+{
+    let bytes = bytes_in(alloc, request)?;
+    put_all(desk, address, bytes.as_slice())?;
+    let count = count_there(&desk.session, address, bytes.as_slice());
+    let messages = written(alloc, count)?;
+    Ok(messages)
+}
+
+/// Writes bytes to memory, an event for each, up to the first that is rejected. Nothing is written
+/// if they go past FFFF.
+///
+/// Errors: `Refused` if the request names no address, or the bytes are not written in Base64.
+#[tactic(auto, using(crate::proofs::Stays::shows_same))]
+pub fn write_memory(alloc: Global, seat: &mut Seat, request: &Value) -> Result<Vec<Message>, Fault>
+    ensures done { OnOk result (Writes (view request.now) seat.old.desk seat.new.desk) }
+    ensures answer { IfOk result (λ ms. IsDone (each said_of ms.items)) }
+    ensures refused { IfErr result (λ f. ShowsIfRefused f seat.old.desk seat.new.desk) }
+{
+    match place_at(request, "/arguments/memoryReference", "/arguments/offset") {
+        Some(address) => {
+            let messages = write_at(alloc, &mut seat.desk, address, request)?;
+            Ok(messages)
+        }
+        None => Err(refused(alloc, "this is no address to write to")),
+    }
+}

@@ -1,5 +1,0 @@
-pub mod Answers
-pub mod Counting
-pub mod References
-pub mod Texts
-pub mod Variables

@@ -1,0 +1,19 @@
+use Rattle.std.proofs.Common.{◌+◌, ◌-◌, arith}
+use Rattle.dap_views.proofs.Following.{to_done, to_end, to_more}
+use Rattle.dap_views.proofs.rows.rows_to.Goals as goal
+
+pub returns-then-address-until-clause-value : goal.returns-then-address-until-clause-value
+returns-then-address-until-clause-value c = to_end c.args.desk.now c.args.until (c.saturating_sub-end.result - c.loop.counter) c.loop.address c.loop.count _
+    c.if-address-until.true c.loop.invariant.count
+
+pub loop-preserved : goal.loop-preserved
+loop-preserved c = record {
+  count = to_more c.args.desk.now c.args.until (c.saturating_sub-end.result - c.loop.counter) (c.saturating_sub-end.result - (c.loop.counter + 1)) c.loop.address c.in_ok-address.address c.loop.count _
+      (omega (arith, c.loop-test.true)) (omega (arith, c.if-address-until.false)) c.in_ok-address.ensures.value c.loop.invariant.count;
+  most = omega (arith, c.loop.invariant.most);
+  within = c.in_ok-address.ensures.within;
+}
+
+pub returns-clause-value : goal.returns-clause-value
+returns-clause-value c = to_done c.args.desk.now c.args.until (c.saturating_sub-end.result - c.loop.counter) c.loop.address c.loop.count _
+    (omega (arith, c.loop-test.false)) c.loop.invariant.count
