@@ -1,4 +1,4 @@
-;;; mos65.el --- Sources of mos65, with its language server -*- lexical-binding: t -*-
+;;; mos65.el --- Sources of mos65, with its language server and its debugger -*- lexical-binding: t -*-
 
 ;; In the init file: (load "…/editors/emacs/mos65.el"). `M-x eglot' or `M-x lsp' in such a buffer starts
 ;; the server.
@@ -24,5 +24,12 @@
    (make-lsp-client :new-connection (lsp-stdio-connection (lambda () (list mos65-program "lsp")))
                     :major-modes '(mos65-mode)
                     :server-id 'mos65)))
+
+;; `M-x dap-debug' offers the file of the buffer where dap-mode is installed.
+(with-eval-after-load 'dap-mode
+  (dap-register-debug-provider
+   "mos65" (lambda (conf) (plist-put conf :dap-server-path (list mos65-program "dap")) conf))
+  (dap-register-debug-template
+   "mos65" (list :type "mos65" :request "launch" :name "mos65" :program "${file}" :stopOnEntry t)))
 
 (provide 'mos65)

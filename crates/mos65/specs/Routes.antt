@@ -1,5 +1,5 @@
 -- Which call serves the words of the program. Source: mos65.
-use Rattle.std.specs.Prelude.{Bool, false, List, [], ◌∷◌, ◌==◌, ◌||◌, bytes_eq, codes, if◌then◌else◌}
+use Rattle.std.specs.Prelude.{Bool, true, false, List, [], ◌∷◌, ◌==◌, ◌||◌, bytes_eq, codes, if◌then◌else◌}
 use Rattle.std.specs.List.{starts_with}
 use Rattle.asm_files.specs.Asked.{asks_for_files}
 use Rattle.clap.specs.Words.{Text}
@@ -33,7 +33,8 @@ unfoldable pub added : List (Text × Route)
 added = (codes "check", to.Check) ∷ (codes "info", to.Info) ∷ (codes "cmp", to.Cmp)
     ∷ (codes "mend", to.Mend) ∷ (codes "convert", to.Convert) ∷ (codes "test", to.Test)
     ∷ (codes "mon", to.Mon) ∷ (codes "run", to.Run) ∷ (codes "trace", to.Trace)
-    ∷ (codes "page", to.Page) ∷ (codes "lsp", to.Lsp) ∷ []
+    ∷ (codes "page", to.Page) ∷ (codes "lsp", to.Lsp)
+    ∷ (codes "dap", to.Dap) ∷ []
 
 -- The first of these of a name; the whole command line has all others.
 abbrev pub find : Text → List (Text × Route) → Route
@@ -50,10 +51,16 @@ dis_route rest = if asks_for_help rest then to.Whole
     else if has (codes "--source") rest then to.DisSource
     else if asks_for_image rest then to.DisImage else to.Program
 
+-- A session, by whether it is strict and whether it is on an image.
+abbrev pub session_route : Bool → Bool → Route
+session_route true true = to.StrictImage
+session_route true false = to.StrictDebug
+session_route false true = to.DebugImage
+session_route false false = to.Program
+
 abbrev pub debug_route : List Text → Route
 debug_route rest = if asks_for_help rest then to.Whole
-    else if is_strict rest then to.StrictDebug
-    else if asks_for_image rest then to.DebugImage else to.Program
+    else session_route (is_strict rest) (asks_for_image rest)
 
 abbrev pub route_of : List Text → Route
 route_of [] = to.Whole

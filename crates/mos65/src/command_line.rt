@@ -8,6 +8,7 @@ use asm_files::asm_files_command;
 use checking::check_command;
 use clap::error::ErrorKind;
 use clap::{Command, Error};
+use dap::dap_command;
 use dis_source::dis_source_command;
 use image_files::with_image_options;
 use image_words::convert_command;
@@ -80,7 +81,8 @@ fn with_runs<'a>(alloc: Global, command: Command<'a>) -> Result<Command<'a>, Err
 
 /// Adds the words that serve an editor.
 fn with_editors<'a>(alloc: Global, command: Command<'a>) -> Result<Command<'a>, Error> {
-    with(command, lsp_command(alloc))
+    let command = with(command, lsp_command(alloc))?;
+    with(command, dap_command(alloc))
 }
 
 /// Returns the whole command line. The only error is that an allocation failed.

@@ -9,10 +9,9 @@ use crate::command_line::tell_whole;
 use crate::routes::{Route, route_of};
 use asm_files::asm_files;
 use checking::check;
-use debug_image::debug_image;
-use dis_image::dis_image;
+use dap::dap;
 use dis_source::dis_source;
-use image_words::convert;
+use image_words::{convert, debug_image, dis_image};
 use lsp::lsp;
 use mon::mon;
 use page_words::page;
@@ -20,7 +19,7 @@ use program::{process_words, program, unreadable_words, words_of};
 use running::run_program;
 use std::io;
 use std::process::ExitCode;
-use strict_debug::strict_debug;
+use strict_debug::{strict_debug, strict_debug_image};
 use t65::test;
 use tape_compare::tape_cmp;
 use tape_info::tape_info;
@@ -30,6 +29,18 @@ use tracing::trace_program;
 /// Serves `debug --strict`, and returns the exit status.
 fn debug_strictly(rt: &HostRuntime, words: &[&str]) -> u8 {
     let (status, _) = strict_debug(
+        rt,
+        words,
+        &mut rt.reader(),
+        io::writer(rt),
+        &mut rt.stderr(),
+    );
+    status
+}
+
+/// Serves `debug --strict` with an image, and returns the exit status.
+fn debug_strictly_on_image(rt: &HostRuntime, words: &[&str]) -> u8 {
+    let (status, _) = strict_debug_image(
         rt,
         words,
         &mut rt.reader(),
@@ -78,14 +89,23 @@ fn play(rt: &HostRuntime, route: Route, words: &[&str]) -> u8 {
 }
 
 /// Serves an editor over the standard streams, and returns the exit status.
-fn serve_editor(rt: &HostRuntime, words: &[&str]) -> u8 {
-    lsp(
-        rt,
-        words,
-        &mut rt.reader(),
-        &mut io::writer(rt),
-        &mut rt.stderr(),
-    )
+fn serve_editor(rt: &HostRuntime, route: Route, words: &[&str]) -> u8 {
+    match route {
+        Route::Dap => dap(
+            rt,
+            words,
+            &mut rt.reader(),
+            &mut io::writer(rt),
+            &mut rt.stderr(),
+        ),
+        _ => lsp(
+            rt,
+            words,
+            &mut rt.reader(),
+            &mut io::writer(rt),
+            &mut rt.stderr(),
+        ),
+    }
 }
 
 /// Serves `asm`, `dis` and `debug` as promised, and returns the exit status.
@@ -117,10 +137,11 @@ fn serve(rt: &HostRuntime, words: &[&str]) -> u8 {
         Route::DisSource => dis_source(rt, rest, &mut io::writer(rt), &mut rt.stderr()),
         Route::AsmFiles => asm_files(rt, rest, &mut io::writer(rt), &mut rt.stderr()),
         Route::StrictDebug => debug_strictly(rt, rest),
+        Route::StrictImage => debug_strictly_on_image(rt, rest),
         Route::DebugImage => debug_on_image(rt, rest),
         Route::Page => page(rt, rest, &mut io::writer(rt), &mut rt.stderr()),
         route @ (Route::Mon | Route::Run | Route::Trace) => play(rt, route, rest),
-        Route::Lsp => serve_editor(rt, rest),
+        route @ (Route::Lsp | Route::Dap) => serve_editor(rt, route, rest),
         Route::Program => serve_promised(rt, words),
         Route::Whole => tell_whole(rt.alloc(), words, &mut io::writer(rt), &mut rt.stderr()),
     }

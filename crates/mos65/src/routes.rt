@@ -3,7 +3,7 @@
 ghost use Rattle.std.specs.Prelude.{◌≡◌};
 ghost use Rattle.arguments.specs.Words.{texts};
 ghost use Rattle.mos65.specs.Routes.{added, asks_for_help, asks_for_image, asm_route, debug_route};
-ghost use Rattle.mos65.specs.Routes.{dis_route, find, has, names_image, route_of};
+ghost use Rattle.mos65.specs.Routes.{dis_route, find, has, names_image, route_of, session_route};
 
 use asm_files::asks_for_files;
 use strict_debug::is_strict;
@@ -33,6 +33,8 @@ pub enum Route {
     Page,
     /// `lsp`.
     Lsp,
+    /// `dap`.
+    Dap,
     /// `dis` with `--source`.
     DisSource,
     /// `dis` with an image.
@@ -41,6 +43,8 @@ pub enum Route {
     AsmFiles,
     /// `debug` with `--strict`.
     StrictDebug,
+    /// `debug` with `--strict` and an image.
+    StrictImage,
     /// `debug` with an image.
     DebugImage,
     /// `asm`, `dis` and `debug` as promised.
@@ -66,6 +70,7 @@ fn added(name: &str) -> Route
         "trace" => Route::Trace,
         "page" => Route::Page,
         "lsp" => Route::Lsp,
+        "dap" => Route::Dap,
         _ => Route::Whole,
     }
 }
@@ -145,18 +150,26 @@ fn dis_route(rest: &[&str]) -> Route
     }
 }
 
+/// Returns the call for a session, by whether it is strict and whether it is on an image.
+fn session_route(is_strict: bool, is_image: bool) -> Route
+    ensures { result ≡ session_route is_strict is_image }
+{
+    match (is_strict, is_image) {
+        (true, true) => Route::StrictImage,
+        (true, false) => Route::StrictDebug,
+        (false, true) => Route::DebugImage,
+        (false, false) => Route::Program,
+    }
+}
+
 /// Returns the call for the words after `debug`.
 fn debug_route(rest: &[&str]) -> Route
     ensures { result ≡ debug_route (texts rest.entry.now) }
 {
     if asks_for_help(rest) {
         Route::Whole
-    } else if is_strict(rest) {
-        Route::StrictDebug
-    } else if asks_for_image(rest) {
-        Route::DebugImage
     } else {
-        Route::Program
+        session_route(is_strict(rest), asks_for_image(rest))
     }
 }
 

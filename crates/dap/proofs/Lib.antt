@@ -1,0 +1,2 @@
+mod Attended
+mod Sent

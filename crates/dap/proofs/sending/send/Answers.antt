@@ -1,0 +1,35 @@
+use Rattle.std.proofs.Common.{◌+◌, ◌++◌, [], append_assoc, append-nil, drop, map, subst, sym}
+use Rattle.std.proofs.KnownBytes.{Appends-nil, Appends-trans}
+use Rattle.serde_json.specs.View.{view}
+use Rattle.dap.specs.Sent.{AreSent}
+use Rattle.dap_messages.specs.Messages.{said_of}
+use Rattle.dap.proofs.Sent.{sent_end, sent_step}
+use Rattle.dap.proofs.sending.send.Goals as goal
+
+pub loop-message-init : goal.loop-message-init
+loop-message-init g c = ([], Appends-nil _, λ total behind h. h)
+
+pub loop-message-preserved : goal.loop-message-preserved
+loop-message-preserved g c =
+    let inv = c.loop-message.invariant in
+    let one = c.in_ok-sent.ensures.sent in
+    let request = view c.args.request.now in
+    let messages = c.args.messages.now in
+    let i = c.loop-message.message-index in (
+      inv.0 ++ one.0,
+      Appends-trans _ _ _ inv.0 one.0 inv.1 one.2,
+      λ total behind h. subst (AreSent c.args.sent request (map said_of messages) total) (sym (append_assoc inv.0 one.0 behind))
+          (inv.2 total (one.0 ++ behind) (sent_step c.loop-message.sent request messages i c.message-item.result c.loop-message-test.true c.message-item.is one.0 one.1 total behind
+          (subst (λ n. AreSent n request (map said_of (drop (i + 1) messages)) total behind) c.in_ok-sent.ensures.number h))),
+    )
+
+pub returns-clause-sent : goal.returns-clause-sent
+returns-clause-sent g c =
+    let inv = c.loop-message.invariant in
+    let request = view c.args.request.now in
+    let messages = c.args.messages.now in (
+      inv.0,
+      subst (AreSent c.args.sent request (map said_of messages) c.loop-message.sent) (append-nil inv.0)
+          (inv.2 c.loop-message.sent [] (sent_end c.loop-message.sent request messages c.loop-message.message-index c.loop-message-test.false)),
+      inv.1,
+    )

@@ -1,0 +1,4 @@
+pub mod Attended
+pub mod CommandLine
+pub mod Sent
+pub mod Served

@@ -1,0 +1,44 @@
+-- What is done with a message, and what is written. Source: Debug Adapter Protocol 1.65, "Base
+-- protocol"; RFC 8259; what is said of a body that is no JSON, mos65.
+use Rattle.std.specs.Prelude.{ℕ, ◌≡◌, IsUtf8, Bool, true, false, List, [], ◌∷◌, Option, Some, None}
+use Rattle.dap.specs.Sent.{AreSent}
+use Rattle.dap.specs.declared.serving.TheConstants.{NOT_JSON}
+use Rattle.dap_messages.specs.Messages.{Said, refused}
+use Rattle.dap_messages.specs.Requests.{request_of}
+use Rattle.dap_messages.specs.declared.request.Request.{Request}
+use Rattle.dap_messages.specs.declared.request.Request.TheVariants.{Disconnect}
+use Rattle.dap_session.specs.Served.{Serves}
+use Rattle.dap_session.specs.declared.serving.Adapter.{Adapter}
+use Rattle.serde_json.specs.Data.{Data, null}
+use Rattle.serde_json.specs.Read.{read}
+
+-- What a body says: a message, or nothing if it is no JSON.
+abbrev pub IsMessage : List ℕ → Option Data → Type 0
+IsMessage body (Some message) = IsUtf8 body × (read body ≡ Some message)
+IsMessage body None = IsUtf8 body → read body ≡ None
+
+abbrev pub is_end : Request → Bool
+is_end Disconnect = true
+is_end asked = false
+
+-- A body that is no JSON is refused, as an answer to no request.
+abbrev pub IsNotJson : Data → List Said → Bool → Type 0
+IsNotJson request said end = (request ≡ null) × (said ≡ refused NOT_JSON.now ∷ []) × (end ≡ false)
+
+-- A message does what it asks for, and is answered; `disconnect` asks for the end.
+abbrev pub ServesMessage : Data → Adapter → Adapter → Data → List Said → Bool → Type 0
+ServesMessage message old new request said end = (request ≡ message)
+    × Serves (request_of message) message old new said × (end ≡ is_end (request_of message))
+
+abbrev pub ServesFound : Option Data → Adapter → Adapter → Data → List Said → Bool → Type 0
+ServesFound (Some message) old new request said end = ServesMessage message old new request said end
+ServesFound None old new request said end = (new ≡ old) × IsNotJson request said end
+
+abbrev pub ServesBody : List ℕ → Adapter → Adapter → Data → List Said → Bool → Type 0
+ServesBody body old new request said end = (found : Option Data) × IsMessage body found
+    × ServesFound found old new request said end
+
+-- After so many messages a body is served, so many are sent then, and this is written.
+unfoldable pub Answers : List ℕ → Adapter → ℕ → Adapter → ℕ → Bool → List ℕ → Type 0
+Answers body old sent new total end written = (request : Data) × (said : List Said)
+    × ServesBody body old new request said end × AreSent sent request said total written

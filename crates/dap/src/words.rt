@@ -1,0 +1,46 @@
+//! The words of `dap`.
+
+ghost use Rattle.std.specs.Prelude.{◌≡◌, IfErr, IfOk, None, Some, false};
+ghost use Rattle.arguments.specs.Words.{Fits, IsRefusalOf, texts};
+ghost use Rattle.clap.specs.Words.{app_of, kind_of};
+ghost use Rattle.clap.specs.declared.builder.command.Command.TheViews.{out-Command};
+ghost use Rattle.dap.specs.CommandLine.{dap_app};
+
+use arguments::{WordsFault, begin, matched};
+use clap::error::ErrorKind;
+use clap::{Command, Error};
+use std::alloc::Global;
+
+/// What the help of `dap` shows below its options.
+const STATUSES: &str =
+    "An editor starts it; it speaks the Debug Adapter Protocol on standard input and
+output. What is debugged, and how, is asked for by launch: program (a source),
+stopOnEntry, steps, history, symbols, port, rom, profile, tape, bin, prg.
+
+Exit status: 0 after disconnect, 2 words wrong, 3 memory, 4 reading or writing
+
+Example:
+  mos65 dap";
+
+/// Returns the command line of `dap`. The only error is that an allocation failed.
+pub fn dap_command<'a>(alloc: Global) -> Result<Command<'a>, Error>
+    ensures shape { IfOk result (λ c. app_of c ≡ dap_app) }
+    ensures local { IfOk result (λ c. (out-Command c).has_globals ≡ false) }
+    ensures memory { IfErr result (λ e. kind_of e ≡ ErrorKind.OutOfMemory) }
+{
+    let about = "Serves an editor as a debugger that steps backwards";
+    begin(alloc, "dap", "mos65 dap", about, STATUSES)
+}
+
+/// Reads the words of `dap`, its own name left out: there are none.
+///
+/// # Errors
+///
+/// Those of `matched`.
+pub fn read_words(alloc: Global, words: &[&str]) -> Result<(), WordsFault>
+    ensures fits { IfOk result (λ _. Fits dap_app (texts words.entry.now)) }
+    ensures refused { IfErr result (IsRefusalOf dap_app (texts words.entry.now) ⊥) }
+{
+    matched(dap_command(alloc)?, words)?;
+    Ok(())
+}
