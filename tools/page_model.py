@@ -82,7 +82,10 @@ def regs_of(s):
 
 
 def start_of(s):
-    return page_format.begin(store.whole(s.mem), regs_of(s), s.pc, s.cycles, s.control << 2)
+    given = bytes(store.get(s.given, k) for k in range(s.given_len))
+    lines = s.control << 2 | s.irq << 3 | s.nmi << 4
+    return page_format.begin(store.whole(s.mem), regs_of(s), s.pc, s.cycles, lines, s.taken,
+                             machine.output(s), given)
 
 
 def change(spec, s, given):
@@ -119,14 +122,17 @@ def event_change(spec, s, event, *words):
     }
 
 
-def session_of(spec, image, events):
-    """The bytes of a session: its start, and a record for each event, where None is a step."""
-    s = machine.start(spec, image)
-    data = bytearray(start_of(s))
+def session_of(spec, image, events, held):
+    """The bytes of a session that holds the last `held` of its events: the state before them, and a
+    record for each event, where None is a step. Beside them the states."""
+    s, states, made = machine.start(spec, image), [], []
     for event in events:
-        s, made = event_change(spec, s, *event) if event else change(spec, s, b"")
-        data += page_format.record(made)
-    return bytes(data)
+        states.append(s)
+        s, change_made = event_change(spec, s, *event) if event else change(spec, s, b"")
+        made.append(page_format.record(change_made))
+    states.append(s)
+    first = len(events) - held
+    return start_of(states[first]) + b"".join(made[first:]), states[first:]
 
 
 def data_of(spec, image, gives):

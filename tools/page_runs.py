@@ -15,6 +15,8 @@ PROGRAM = os.environ.get("MOS65", f"{TOP}/crates/mos65/out/mos65")
 
 # A source, its words, its input, and the port, the ROM and the profile of its map.
 HOSTILE = "hostile.a65"
+# What a page of a session says of its end.
+HELD = b"why here the page was written\n"
 MAP = (0xF000, None, "N")
 RUNS = [
     ("hunt.a65", [], b"", MAP),
@@ -67,6 +69,31 @@ echo:   PHA
 *=$FFFC
 .WORD start,echo
 """,
+    "session.a65": """*=$0200
+start:  LDX #$FF
+        TXS
+        LDA #1
+        STA $F003       ; input asks for an IRQ
+        LDX #0
+here:   INX
+        CLI
+        STX $30
+        JSR wait
+        JMP here
+wait:   LDY #3
+again:  DEY
+        BNE again
+        RTS
+entry:  PHA
+        LDA $F002
+        BEQ none
+        LDA $F001
+        STA $F000
+none:   PLA
+        RTI
+*=$FFFA
+.WORD entry,start,entry
+""",
     "leave.a65": """save    = $10
 count   = $11
         *=$0200
@@ -92,6 +119,32 @@ plain:  RTS""" + START,
                    "code: LDA #0\n STA $F000\n JMP start" + START,
     "none.a65": "*=$0200\nstart: .BYTE 2" + START,
 }
+# Sessions of `mon` that end with a page: the file, the events that are held at most, and lines, each
+# with its events: a number is so many steps, a negative one so many events undone, and a call with
+# its words is an event of the machine.
+PATCH, SET, GIVE = (getattr(page_model.machine, name) for name in ("patch", "set_register", "give"))
+IRQ, NMI, RESET = (getattr(page_model.machine, name) for name in ("set_irq", "nmi", "reset"))
+TYPED = [(GIVE, byte) for byte in b"ab\n"]
+SESSIONS = [
+    ("session.a65", 65536, [
+        ("step 30", [30]), ("put $0300 1 2", [(PATCH, 0x300, b"\1"), (PATCH, 0x301, b"\2")]),
+        ("asm $0300 LDA $1234", [(PATCH, 0x300, b"\xAD\x34\x12")]),
+        ("set A 12", [(SET, "a", 12)]), ("set P 2", [(SET, "p", 2)]), ('type "ab\\n"', TYPED),
+        ("step 40", [40]), ("set PC here", [(SET, "pc", 0x20A)]), ("irq on", [(IRQ, True)]),
+        ("step 6", [6]), ("nmi", [(NMI,)]), ("step 2", [2]), ("irq off", [(IRQ, False)]),
+        ("nmi", [(NMI,)]), ("reset", [(RESET,)]), ("step 9", [9]), ("back 7", [-7]),
+        ("put $0020 $20", [(PATCH, 0x20, b"\x20")]), ('type "b"', [(GIVE, 98)]), ("step 5", [5]),
+        ("back 6", [-6]), ("redo 1", [(GIVE, 98)]), ("history 4", []), ("where", []),
+    ]),
+    # the oldest state that is held has an IRQ asked for, an NMI pending, and input taken
+    ("session.a65", 12, [
+        ('type "ab\\n"', TYPED), ("step 70", [70]), ("irq on", [(IRQ, True)]),
+        ("nmi", [(NMI,)]), ("set X 1", [(SET, "x", 1)]), ("step 11", [11]),
+    ]),
+    ("session.a65", 8, [("step 50", [50]), ("irq on", [(IRQ, True)]), ("step 9", [9]),
+                        ("irq off", [(IRQ, False)])]),
+    ("session.tape", 5, [("step 50", [50]), ("nmi", [(NMI,)]), ("back 3", [-3])]),
+]
 
 
 def spec_of(row=MAP):
@@ -150,8 +203,11 @@ def file_of(name):
     """What a page is made of: an example, a source of this tool, or the tape of an example."""
     if name == HOSTILE:
         return hostile()
+    source = name.replace(".tape", ".a65")
     if name in SOURCES:
         return SOURCES[name].encode()
+    if source in SOURCES:
+        return tape.write_tape(page_model.asm.assemble(SOURCES[source].encode(), spec_of()).image)
     with open(f"{TOP}/examples/{name.replace('.tape', '.a65')}", "rb") as it:
         text = it.read()
     if name.endswith(".tape"):
@@ -169,6 +225,53 @@ def written(folder, name, words, typed):
                    capture_output=True, timeout=60)
     with open(f"{folder}/{name}.html", "rb") as it:
         return it.read()
+
+
+def events_of(lines, history):
+    """The events of lines, undone ones left out, and how many of them are held at their end."""
+    events, held = [], 0
+    for _, made in lines:
+        for it in made:
+            if isinstance(it, int) and it < 0:
+                del events[it:]
+                held += it
+                continue
+            events += [None] * it if isinstance(it, int) else [it]
+            held = min(history, held + (it if isinstance(it, int) else 1))
+    return events, held
+
+
+def make_session(compare, folder, number, name, history, lines):
+    """Has `mon` write the page of a session in a folder, the current one, and returns its path. It is
+    compared with the page that is made by tools/reference. Without the program that page is taken."""
+    out = f"session-{number}.html"
+    with open(name, "wb") as it:
+        it.write(file_of(name))
+    image = page_model.asm.assemble(file_of("session.a65"), spec_of())
+    assembly = image if name.endswith(".a65") else None
+    facts = page_model.facts_of(name, spec_of(), image.image, assembly)
+    held, states = page_model.session_of(spec_of(), image.image, *events_of(lines, history))
+    wanted = page_model.page_of(facts, page_model.source_of(assembly), held, HELD)
+    if os.access(PROGRAM, os.X_OK):
+        typed = "".join(f"{line}\n" for line, _ in lines) + f"regs\npage {out}\nregs\nhistory\n"
+        words = ["--tape"] if name.endswith(".tape") else []
+        ran = subprocess.run([PROGRAM, "mon", name, *words, "--history", str(history)], cwd=folder,
+                             input=typed, capture_output=True, text=True, timeout=60)
+        said = ran.stdout.split("\n")
+        told = f"{out}: {len(states) - 1} events, {len(wanted)} bytes"
+        at = next(k for k, line in enumerate(said) if line.startswith(out))
+        compare(f"{out} said", said[at - 1:at + 2], [said[at - 1], told, said[at - 1]])
+        with open(f"{folder}/{out}", "rb") as it:
+            page = it.read()
+        told = page_format.decode(base64.b64decode(parts_of(page)["run"]))
+        meant = page_format.decode(held)
+        compare(f"{out} start", told[0].state(), meant[0].state())
+        compare(f"{out} changes", told[1], meant[1])
+        compare(f"{out} page", page == wanted, True)
+    else:
+        with open(out, "wb") as it:
+            it.write(wanted)
+    return f"{folder}/{out}"
 
 
 def make_page(compare, folder, name, words, typed, row):
