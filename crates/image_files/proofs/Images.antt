@@ -5,7 +5,7 @@ use Rattle.image_reader.specs.Images.{Denotes, HasFault}
 use Rattle.image_reader.specs.declared.fault.ImageFault.{ImageFault}
 use Rattle.image_reader.specs.declared.fault.ImageFault.TheVariants as fault
 use Rattle.image_reader.specs.declared.form.Form.{Form}
-use Rattle.image_reader.specs.declared.form.OtherText.{OtherText}
+use Rattle.image_files.specs.declared.form.OtherText.{OtherText}
 use Rattle.image_files.specs.Bytes.{IsFaulty, IsImage, IsNoImage, as_refusal, form_by, of_fault}
 use Rattle.image_files.specs.declared.refusal.ImageRefusal.{ImageRefusal}
 use Rattle.image_files.specs.declared.refusal.ImageRefusal.TheVariants.{NoImage, Refused}

@@ -2,12 +2,12 @@
 -- denote none. Source: mos65.
 use Rattle.std.specs.Prelude.{◌≡◌, ℕ, List, Option, Some, None, Result, Ok, Err}
 use Rattle.arguments.specs.declared.refusal.Refusal.TheVariants as refusal
-use Rattle.image_reader.specs.Forms.{form_of}
+use Rattle.image_files.specs.Forms.{form_of}
 use Rattle.image_reader.specs.Images.{Denotes, HasFault}
 use Rattle.image_reader.specs.declared.fault.ImageFault.{ImageFault}
 use Rattle.image_reader.specs.declared.fault.ImageFault.TheVariants as fault
 use Rattle.image_reader.specs.declared.form.Form.{Form}
-use Rattle.image_reader.specs.declared.form.OtherText.{OtherText}
+use Rattle.image_files.specs.declared.form.OtherText.{OtherText}
 use Rattle.image_files.specs.declared.refusal.ImageRefusal.{ImageRefusal}
 use Rattle.image_files.specs.declared.refusal.ImageRefusal.TheVariants.{NoImage, Refused}
 use Rattle.image_files.specs.declared.refusal.NoImage.TheVariants.{Record, PastEnd, NoAddress, Looks, TooLong}

@@ -1,3 +1,4 @@
+pub mod Forms
 pub mod Bytes
 pub mod Told
 pub mod Ends

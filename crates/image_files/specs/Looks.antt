@@ -5,14 +5,14 @@ use Rattle.std.specs.List.{prefix_len}
 use Rattle.arguments.specs.declared.load_fault.LoadFault.{LoadFault}
 use Rattle.arguments.specs.declared.load_fault.LoadFault.TheVariants.{LooksLikeHex, LooksLikeSRecords, LooksLikeTape, Refused}
 use Rattle.arguments.specs.declared.refusal.Refusal.TheVariants.{OutOfMemory}
-use Rattle.image_reader.specs.Forms.{form_of}
+use Rattle.image_files.specs.Forms.{form_of}
 use Rattle.image_reader.specs.Texts.{text_image}
 use Rattle.image_reader.specs.declared.fault.RecordFault.{RecordFault}
 use Rattle.image_reader.specs.declared.fault.RecordFaultKind.{RecordFaultKind}
 use Rattle.image_reader.specs.declared.fault.RecordFaultKind.TheVariants.{NoEnd}
 use Rattle.image_reader.specs.declared.form.Form.{Form}
 use Rattle.image_reader.specs.declared.form.Form.TheVariants.{Text}
-use Rattle.image_reader.specs.declared.form.OtherText.{OtherText}
+use Rattle.image_files.specs.declared.form.OtherText.{OtherText}
 use Rattle.image_reader.specs.declared.form.TextForm.{TextForm}
 use Rattle.image_reader.specs.declared.form.TextForm.TheVariants.{Hex, SRecord}
 use Rattle.papertape.specs.Hint.{BeginsTape, is_inside}

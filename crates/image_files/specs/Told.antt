@@ -5,7 +5,7 @@ use Rattle.arguments.specs.Statuses.{status_of}
 use Rattle.arguments.specs.declared.load_fault.LoadFault.{LoadFault}
 use Rattle.arguments.specs.declared.load_fault.LoadFault.TheVariants as load_fault
 use Rattle.image_reader.specs.RecordFault.{record_fault_name, record_fault_number}
-use Rattle.image_reader.specs.declared.form.OtherText.TheVariants as other
+use Rattle.image_files.specs.declared.form.OtherText.TheVariants as other
 use Rattle.image_files.specs.declared.refusal.ImageRefusal.{ImageRefusal}
 use Rattle.image_files.specs.declared.refusal.ImageRefusal.TheVariants as why
 use Rattle.image_files.specs.declared.refusal.NoImage.{NoImage}

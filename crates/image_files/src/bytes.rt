@@ -5,9 +5,10 @@ ghost use Rattle.image_files.specs.Bytes.{IsImage, IsNoImage, as_refusal, form_b
 ghost use Rattle.image_files.specs.declared.refusal.ImageRefusal.{ImageRefusal};
 ghost use Rattle.image_files.specs.declared.refusal.ImageRefusal.TheVariants.{Refused};
 
+use crate::form::{OtherText, form_of};
 use crate::refusal::{ImageRefusal, NoImage, of_fault};
 use arguments::Refusal;
-use image_reader::{Form, ImageFault, OtherText, form_of, read_image};
+use image_reader::{Form, ImageFault, read_image};
 use memory_map::Image;
 use std::alloc::Global;
 

@@ -1,15 +1,16 @@
 //! A file read as an image, in the form that is said of it or that its first record tells.
 //!
-//! `image_of_bytes` has the theorem: what is read is the image that the bytes denote, and each
-//! refusal is their first fault (`specs/Bytes.antt`). `image_of_file` reads a file so, and
+//! `image_of_bytes` has the theorem: what is read is the image that the bytes denote, and each of
+//! the refusals is their first fault (`specs/Bytes.antt`). `image_of_file` reads a file so, and an
 //! `ImageRefusal` says why it is no image. `refuse_image` refuses a text that is given as a source,
 //! and begins with a record of an image. `with_image_options` adds the options that say the form.
-//! `free_base` finds where a port would meet no byte of an image.
+//! `form` tells it by the first record. `free_base` finds where a port would meet no bytes of it.
 #![tactic(auto)]
 
 mod bytes;
 mod ends;
 mod file;
+mod form;
 mod looks;
 mod options;
 mod ports;
@@ -19,6 +20,7 @@ mod wording;
 pub use bytes::{form_by, image_of_bytes};
 pub use ends::ends_of;
 pub use file::{image_bytes, image_of_file};
+pub use form::OtherText;
 pub use looks::refuse_image;
 pub use options::{fill_asked, form_said, said_of, with_image_options};
 pub use ports::free_base;

@@ -4,12 +4,13 @@ ghost use Rattle.std.specs.Prelude.{◌≡◌, ◌≤◌, IfErr, IfOk, None, OnO
 ghost use Rattle.std.specs.List.{prefix_len};
 ghost use Rattle.image_files.specs.Looks.{EndsLooks, IsSource, begun_as, begun_in, first_line};
 ghost use Rattle.image_files.specs.Looks.{goes_on, lacks_end, records_begun};
-ghost use Rattle.image_reader.specs.Forms.{form_of};
+ghost use Rattle.image_files.specs.Forms.{form_of};
 ghost use Rattle.image_reader.specs.Texts.{text_image};
 ghost use Rattle.papertape.specs.Hint.{is_inside};
 
+use crate::form::form_of;
 use arguments::{LoadFault, Refusal};
-use image_reader::{Form, ImageFault, RecordFaultKind, TextForm, form_of, read_image};
+use image_reader::{Form, ImageFault, RecordFaultKind, TextForm, read_image};
 use papertape::looks_like_tape;
 use std::alloc::{AllocError, Global};
 

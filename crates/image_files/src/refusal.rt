@@ -7,10 +7,11 @@ ghost use Rattle.image_files.specs.Told.{refusal_text, status_of_image, what_of}
 ghost use Rattle.image_files.specs.declared.refusal.ImageRefusal.TheVariants.{Refused};
 ghost use Rattle.model.specs.Writers.{AppendsFront};
 
+use crate::form::OtherText;
 use crate::wording;
 use arguments::{FileRefusal, LoadFault, Refusal, refuse_file, tell_no_image};
 use formatting::{Text, push_bytes, push_decimal};
-use image_reader::{ImageFault, OtherText, RecordFault};
+use image_reader::{ImageFault, RecordFault};
 use std::io::Write;
 
 /// What is wrong with the bytes of a file.

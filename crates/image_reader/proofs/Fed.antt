@@ -1,5 +1,5 @@
 -- A text that is fed in pieces gives what it gives whole.
-use Rattle.std.proofs.Common.{◌≡◌, ℕ, ◌+◌, ◌<◌, ◌≤◌, eqb, ltb, cond, Bool, true, false, List, [], ◌∷◌, ◌++◌, length, take, Option, Result, Ok, Err, refl, sym, ap, ◌∙◌, arith, inl, inr}
+use Rattle.std.proofs.Common.{◌≡◌, ℕ, eqb, cond, List, [], ◌∷◌, ◌++◌, length, take, Option, Result, Ok, Err, refl, sym, ap, ◌∙◌, arith, inl, inr}
 use Rattle.std.specs.Io.BufRead.{strip_last}
 use Rattle.std.proofs.lemmas.Bool.{cases_Bool, cases_lt, lt-ltb, le-ltb}
 use Rattle.std.proofs.lemmas.List.{length-append, length-take-le, take_all, take-append-le}
@@ -7,10 +7,10 @@ use Rattle.model.specs.TextLines.{lines_from, lines_of, last_line, no_line}
 use Rattle.image_reader.specs.declared.fault.LineFault.{LineFault}
 use Rattle.image_reader.specs.declared.fault.RecordFault.{RecordFault}
 use Rattle.image_reader.specs.declared.form.TextForm.{TextForm}
-use Rattle.image_reader.specs.Feeding.{Begun, Fed, answer_of, end_of_feeding, fed, fed_byte, held_with, line_ended, nothing_fed, text_ended}
+use Rattle.image_reader.specs.Feeding.{Begun, Fed, all_read, end_of_feeding, fed, fed_byte, held_with, line_ended, nothing_fed, overlaps_of_feeding}
 use Rattle.image_reader.specs.Progress.{Progress, start}
 use Rattle.image_reader.specs.Records.{◌>>=◌}
-use Rattle.image_reader.specs.Texts.{after_lines, finished, in_line, next_line, numbered, read_line, text_image}
+use Rattle.image_reader.specs.Texts.{after_lines, finished, in_line, next_line, numbered, read_line, text_image, text_overlaps}
 use Rattle.image_reader.proofs.Fronts.{held_line, last_held}
 
 abbrev Image : Type 0
@@ -105,28 +105,34 @@ after_append (x ∷ xs) ys n s = line_append xs ys n (read_line s x) (λ t. afte
 abbrev end_lines : ℕ × Progress → Image
 end_lines t = finished t.0 t.1
 
-ended_is : (tail : List ℕ) (n : ℕ) (s : Progress) → text_ended (begin n s (take 523 tail)) ≡ (after_lines n s (last_line tail) >>= end_lines)
-unfolding text_ended
+abbrev again_of : ℕ × Progress → Image
+again_of t = Ok t.1.again
+
+ended_is : (tail : List ℕ) (n : ℕ) (s : Progress) → all_read (begin n s (take 523 tail)) ≡ after_lines n s (last_line tail)
+unfolding all_read
 ended_is [] n s = refl
-ended_is (b ∷ bytes) n s =
-    ap (λ (r : Step). numbered n r >>= finished (next_line n)) (last_held s (b ∷ bytes)) ∙ go (read_line s (b ∷ bytes)) where
-      go : (r : Step) → (numbered n r >>= finished (next_line n)) ≡ ((numbered n r >>= λ t. Ok (next_line n, t)) >>= end_lines)
-      go (Err f) = refl
-      go (Ok t) = refl
+ended_is (b ∷ bytes) n s = ap (λ (r : Step). numbered n r >>= λ t. Ok (next_line n, t)) (last_held s (b ∷ bytes))
+
+-- what the reader has read at the end is what the lines lead to
+fed_lines : (form : TextForm) (text : List ℕ) → (fed (nothing_fed form) text >>= all_read) ≡ after_lines 1 (start form) (lines_of text)
+fed_lines form text =
+    let ended = lines_from no_line [] text in
+    let tail = tail_from [] text in
+    ap (λ (s : Fed). s >>= all_read) (fed_led text [] [] 1 (start form) refl)
+    ∙ go tail (after_lines 1 (start form) ended)
+    ∙ sym (ap (after_lines 1 (start form)) (lines_split text []) ∙ after_append ended (last_line tail) 1 (start form)) where
+      go : (tail : List ℕ) (r : Lines) → ((r >>= begun_at tail) >>= all_read) ≡ (r >>= λ t. after_lines t.0 t.1 (last_line tail))
+      go tail (Err f) = refl
+      go tail (Ok t) = ended_is tail t.0 t.1
 
 -- what the reader answers at the end is what the text gives
 pub fed_text : (form : TextForm) (text : List ℕ) → end_of_feeding (fed (nothing_fed form) text) ≡ text_image form text
 unfolding text_image
-fed_text form text =
-    let ended = lines_from no_line [] text in
-    let tail = tail_from [] text in
-    ap end_of_feeding (fed_led text [] [] 1 (start form) refl)
-    ∙ go tail (after_lines 1 (start form) ended)
-    ∙ sym (ap (λ (l : List (List ℕ)). after_lines 1 (start form) l >>= end_lines) (lines_split text [])
-    ∙ ap (λ (r : Lines). r >>= end_lines) (after_append ended (last_line tail) 1 (start form))) where
-      go : (tail : List ℕ) (r : Lines) → end_of_feeding (r >>= begun_at tail) ≡ ((r >>= λ t. after_lines t.0 t.1 (last_line tail)) >>= end_lines)
-      go tail (Err f) = refl
-      go tail (Ok t) = ended_is tail t.0 t.1
+fed_text form text = ap (λ (r : Lines). r >>= end_lines) (fed_lines form text)
+
+pub fed_overlaps : (form : TextForm) (text : List ℕ) → overlaps_of_feeding (fed (nothing_fed form) text) ≡ text_overlaps form text
+unfolding text_overlaps
+fed_overlaps form text = ap (λ (r : Lines). r >>= again_of) (fed_lines form text)
 
 -- ---- while it still goes on
 

@@ -1,10 +1,10 @@
 -- Of a line that is longer than any record only the front counts.
-use Rattle.std.proofs.Common.{◌≡◌, ℕ, zero, suc, ◌+◌, ◌-◌, ◌*◌, ◌<◌, ◌≤◌, min, eqb, ltb, cond, Bool, true, false, List, [], ◌∷◌, ◌++◌, length, take, Option, Some, None, Result, Ok, Err, refl, sym, ap, ◌∙◌, arith, inl, inr}
+use Rattle.std.proofs.Common.{◌≡◌, ℕ, zero, suc, ◌+◌, ◌-◌, ◌*◌, ◌<◌, ◌≤◌, min, eqb, cond, Bool, List, [], ◌∷◌, length, take, Option, Some, None, Result, Err, refl, sym, ap, ◌∙◌, arith, inl, inr}
 use Rattle.std.specs.List.{prefix_len}
 use Rattle.std.specs.Io.BufRead.{ends_with_byte, strip_last}
 use Rattle.std.proofs.lemmas.Bool.{cases_Bool, cases_lt, cond_both, lt-ltb, le-ltb, ne_eqb}
-use Rattle.std.proofs.lemmas.List.{length-take, length-take-le, take-take, take_all, take-append-le, length-append}
-use Rattle.model.specs.Digits.{digit_value, is_hex_byte}
+use Rattle.std.proofs.lemmas.List.{length-take, length-take-le, take-take, take_all}
+use Rattle.model.specs.Digits.{is_hex_byte}
 use Rattle.papertape.proofs.Digits.{value_small}
 use Rattle.image_reader.specs.declared.fault.LineFault.{LineFault}
 use Rattle.image_reader.specs.declared.fault.RecordFaultKind.{RecordFaultKind}
@@ -17,7 +17,7 @@ use Rattle.image_reader.specs.declared.s_records.Role.{Role}
 use Rattle.image_reader.specs.HexRecords.{after_hex, hex_line}
 use Rattle.image_reader.specs.Progress.{Progress}
 use Rattle.image_reader.specs.Records.{◌>>=◌, at, record_bytes, record_digits, wanted, with_total}
-use Rattle.image_reader.specs.SRecords.{after_s, kind_of, s_digits, s_line, s_rest}
+use Rattle.image_reader.specs.SRecords.{after_s, kind_of, s_digits, s_line}
 use Rattle.image_reader.specs.Texts.{form_line, line_at, read_line}
 
 -- two lists that are as long as a front at least, and have the same front

@@ -1,15 +1,14 @@
 -- What was fed of a text that a reader tells, and what is answered for it.
-use Rattle.std.proofs.Common.{◌≡◌, ℕ, ◌≤◌, List, [], ◌++◌, length, Option, None, Some, IfSome, Result, Ok, Err, IfErr, IfOk, refl, sym, ap, ◌∙◌, subst, ◌⊎◌, inl, inr, append-nil}
+use Rattle.std.proofs.Common.{◌≡◌, ℕ, ◌≤◌, List, [], ◌++◌, length, Option, None, Some, IfSome, Result, Ok, Err, IfErr, IfOk, refl, sym, ap, ◌∙◌, subst, inl, inr, append-nil}
 use Rattle.std.proofs.KnownBytes.{Consumes-kept, Consumes-nil, Consumes-trans, Consumes-whole}
 use Rattle.std.specs.Result.{IsErrAnd}
 use Rattle.std.specs.Io.KnownBytes.{Consumes, IsAtEnd, Keeps}
-use Rattle.image_reader.specs.declared.fault.ImageFault.{ImageFault}
 use Rattle.image_reader.specs.declared.fault.ImageFault.TheVariants as fault
 use Rattle.image_reader.specs.declared.fault.ImageReadFault.{ImageReadFault}
 use Rattle.image_reader.specs.declared.fault.ImageReadFault.TheVariants.{Image, Read}
 use Rattle.image_reader.specs.declared.fault.RecordFault.{RecordFault}
 use Rattle.image_reader.specs.declared.form.TextForm.{TextForm}
-use Rattle.image_reader.specs.Feeding.{Begun, Fed, answer_of, end_of_feeding, fed, nothing_fed}
+use Rattle.image_reader.specs.Feeding.{Fed, answer_of, end_of_feeding, fed, nothing_fed}
 use Rattle.image_reader.specs.Streaming.{Answers, EndsReading, EndsWithPiece, GoesOn, IsImageOf, IsRefusalOf, Reads}
 use Rattle.image_reader.specs.Texts.{text_image}
 use Rattle.image_reader.proofs.Fed.{fed-append, fed_text, goes_on, refused_already}

@@ -38,17 +38,24 @@ abbrev pub fed : Fed → List ℕ → Fed
 fed s [] = s
 fed s (b ∷ bytes) = fed (s >>= fed_byte b) bytes
 
--- the text ends
-abbrev pub end_held : List ℕ → Begun → Result (List (Option ℕ)) RecordFault
-end_held [] r = finished r.line r.progress
+-- the text ends, and with it the line begun: the number of the next line, and what was read
+abbrev pub end_held : List ℕ → Begun → Result (ℕ × Progress) RecordFault
+end_held [] r = Ok (r.line, r.progress)
 end_held (b ∷ bytes) r = numbered r.line (read_line r.progress (b ∷ bytes))
-    >>= finished (next_line r.line)
+    >>= λ s. Ok (next_line r.line, s)
 
-unfoldable pub text_ended : Begun → Result (List (Option ℕ)) RecordFault
-text_ended r = end_held r.held r
+unfoldable pub all_read : Begun → Result (ℕ × Progress) RecordFault
+all_read r = end_held r.held r
+
+abbrev pub read_by_feeding : Fed → Result (ℕ × Progress) RecordFault
+read_by_feeding s = s >>= all_read
 
 abbrev pub end_of_feeding : Fed → Result (List (Option ℕ)) RecordFault
-end_of_feeding s = s >>= text_ended
+end_of_feeding s = read_by_feeding s >>= λ t. finished t.0 t.1
+
+-- where data records overlap
+abbrev pub overlaps_of_feeding : Fed → Result (List (Option ℕ)) RecordFault
+overlaps_of_feeding s = read_by_feeding s >>= λ t. Ok t.1.again
 
 -- what a call says of the reader that it leaves: nothing, or its fault
 abbrev pub answer_of : Fed → Result Unit RecordFault

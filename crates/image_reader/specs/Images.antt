@@ -5,6 +5,7 @@ use Rattle.image_reader.specs.declared.fault.ImageFault.TheVariants as fault
 use Rattle.image_reader.specs.declared.fault.RecordFault.{RecordFault}
 use Rattle.image_reader.specs.declared.form.Form.{Form}
 use Rattle.image_reader.specs.declared.form.Form.TheVariants.{Tape, Text, Raw, Prg}
+use Rattle.image_reader.specs.EndRecords.{as_read}
 use Rattle.image_reader.specs.Records.{word_of}
 use Rattle.image_reader.specs.Texts.{text_image}
 use Rattle.model.specs.Image.{empty_image, with_bytes}
@@ -24,9 +25,9 @@ prg_image [] = Err fault.NoAddress
 prg_image (low ∷ []) = Err fault.NoAddress
 prg_image (low ∷ high ∷ bytes) = raw_image (word_of high low) bytes
 
--- Bytes denote an image.
+-- Bytes denote an image. A tape's end record may have the number of records again for its sum.
 abbrev pub Denotes : Form → List ℕ → List (Option ℕ) → Type 0
-Denotes Tape bytes cells = TapeDenotes bytes cells
+Denotes Tape bytes cells = TapeDenotes (as_read bytes) cells
 Denotes (Text form) bytes cells = text_image form bytes ≡ Ok cells
 Denotes (Raw address) bytes cells = raw_image address bytes ≡ Ok cells
 Denotes Prg bytes cells = prg_image bytes ≡ Ok cells
@@ -41,7 +42,7 @@ IsTextFault gives f = ⊥
 
 -- Bytes denote none: this is their first fault.
 abbrev pub HasFault : Form → List ℕ → ImageFault → Type 0
-HasFault Tape bytes f = IsTapeFault bytes f
+HasFault Tape bytes f = IsTapeFault (as_read bytes) f
 HasFault (Text form) bytes f = IsTextFault (text_image form bytes) f
 HasFault (Raw address) bytes f = raw_image address bytes ≡ Err f
 HasFault Prg bytes f = prg_image bytes ≡ Err f

@@ -5,6 +5,6 @@ pub mod HexRecords
 pub mod SRecords
 pub mod Texts
 pub mod Feeding
-pub mod Forms
+pub mod EndRecords
 pub mod Images
 pub mod Streaming

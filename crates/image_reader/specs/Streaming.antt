@@ -1,7 +1,6 @@
 -- A text of records that is read from a reader, a piece at a time. Source: mos65.
-use Rattle.std.specs.Prelude.{◌≡◌, ◌≤◌, ⊤, ◌⊎◌, ℕ, List, [], ◌++◌, length, Option, None, Some, Result, Ok, Err}
+use Rattle.std.specs.Prelude.{◌≡◌, ◌≤◌, ⊤, ◌⊎◌, ℕ, List, [], ◌++◌, length, Option, Result, Ok, Err}
 use Rattle.std.specs.Io.KnownBytes.{Consumes, IsAtEnd}
-use Rattle.image_reader.specs.declared.fault.ImageFault.{ImageFault}
 use Rattle.image_reader.specs.declared.fault.ImageFault.TheVariants as fault
 use Rattle.image_reader.specs.declared.fault.ImageReadFault.{ImageReadFault}
 use Rattle.image_reader.specs.declared.fault.ImageReadFault.TheVariants.{Image, Read}

@@ -61,3 +61,8 @@ after_lines n s (line ∷ lines)
 -- the line the first place where it ceases to be a record.
 unfoldable pub text_image : TextForm → List ℕ → Result (List (Option ℕ)) RecordFault
 text_image form text = after_lines 1 (start form) (lines_of text) >>= λ t. finished t.0 t.1
+
+-- A cell at each address for which more than one data record of a text has a byte, or the first fault
+-- of a line.
+unfoldable pub text_overlaps : TextForm → List ℕ → Result (List (Option ℕ)) RecordFault
+text_overlaps form text = after_lines 1 (start form) (lines_of text) >>= λ t. Ok t.1.again

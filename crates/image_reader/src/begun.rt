@@ -61,20 +61,20 @@ fn without_cr(line: &[u8]) -> &[u8]
 }
 
 impl BegunText {
-    ghost use Rattle.image_reader.specs.Feeding.{GivesBegun, fed_byte, line_ended, text_ended};
+    ghost use Rattle.image_reader.specs.Feeding.{GivesBegun, all_read, fed_byte, line_ended};
     ghost use Rattle.image_reader.specs.Progress.{start};
     ghost use Rattle.std.specs.Prelude.{[]};
 
-    /// Begins to read a text into an image.
-    pub fn new(form: TextForm, image: Image) -> BegunText
+    /// Begins to read a text into an image, and notes overlaps in another.
+    pub fn new(form: TextForm, image: Image, again: Image) -> BegunText
         ensures { result ≡ record {
-          progress = record (start form) { cells = image };
+          progress = record (start form) { cells = image; again = again };
           line = 1;
           held = [];
         } }
     {
         BegunText {
-            reading: Reading::new(form, image),
+            reading: Reading::new(form, image, again),
             line: 1,
             held: Held::new(),
         }
@@ -111,18 +111,20 @@ impl BegunText {
         Ok(())
     }
 
-    /// Returns the image of the text that ends here, or its fault.
-    #[tactic(auto, unfolding(crate::specs::Feeding::text_ended))]
-    pub fn finish(self) -> Result<Image, RecordFault>
-        ensures { text_ended self ≡ result }
+    /// Reads the line that the end of the text ends, and returns the number of the next line.
+    ///
+    /// Errors: the fault of that line.
+    #[tactic(auto, unfolding(crate::specs::Feeding::all_read))]
+    pub fn read_all(self) -> Result<(u32, Reading), RecordFault>
+        ensures { all_read self ≡ result }
     {
         let mut reading = self.reading;
         let line = self.held.as_slice();
         if line.is_empty() {
-            return reading.finish(self.line);
+            return Ok((self.line, reading));
         }
         match reading.read_line(line) {
-            Ok(()) => reading.finish(next_line(self.line)),
+            Ok(()) => Ok((next_line(self.line), reading)),
             Err(fault) => Err(in_line(self.line, fault)),
         }
     }

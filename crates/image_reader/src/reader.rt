@@ -5,6 +5,7 @@ ghost use Rattle.std.specs.Prelude.{◌≡◌, ◌∷◌, [], IfOk};
 use crate::begun::BegunText;
 use crate::fault::RecordFault;
 use crate::form::TextForm;
+use crate::reading::Reading;
 use memory_map::Image;
 use std::alloc::{AllocError, Global};
 use std::marker::Model;
@@ -31,6 +32,7 @@ impl Model for RecordReader {
 
 impl RecordReader {
     ghost use Rattle.image_reader.specs.Feeding.{answer_of, end_of_feeding, fed, nothing_fed};
+    ghost use Rattle.image_reader.specs.Feeding.{overlaps_of_feeding, read_by_feeding};
 
     /// Makes a reader that was fed nothing.
     ///
@@ -38,13 +40,16 @@ impl RecordReader {
     pub fn new(alloc: Global, form: TextForm) -> Result<RecordReader, AllocError>
         ensures { IfOk result (λ r. r ≡ nothing_fed form) }
     {
-        match Image::new(alloc) {
-            Err(_) => Err(AllocError),
-            Ok(image) => Ok(RecordReader {
-                begun: BegunText::new(form, image),
-                failed: None,
-            }),
-        }
+        let Ok(image) = Image::new(alloc) else {
+            return Err(AllocError);
+        };
+        let Ok(again) = Image::new(alloc) else {
+            return Err(AllocError);
+        };
+        Ok(RecordReader {
+            begun: BegunText::new(form, image, again),
+            failed: None,
+        })
     }
 
     /// Takes one byte.
@@ -85,6 +90,32 @@ impl RecordReader {
         }
     }
 
+    /// Returns what was read of the text that was fed, and the number of the line that would come
+    /// next.
+    ///
+    /// Errors: the fault of `feed`, if the reader has failed; that of the last line, if no LF ended
+    /// it.
+    fn read_all(self) -> Result<(u32, Reading), RecordFault>
+        ensures { read_by_feeding self ≡ result }
+    {
+        match self.failed {
+            None => self.begun.read_all(),
+            Some(fault) => Err(fault),
+        }
+    }
+
+    /// Returns an image with a cell at each address for which more than one data record of the text
+    /// that was fed has a byte.
+    ///
+    /// Errors: the fault of `feed`, if the reader has failed; that of the last line, if no LF ended
+    /// it.
+    pub fn overlaps(self) -> Result<Image, RecordFault>
+        ensures { overlaps_of_feeding self ≡ result }
+    {
+        let (_, reading) = self.read_all()?;
+        Ok(reading.overlaps())
+    }
+
     /// Returns the image of the text that was fed.
     ///
     /// Errors: the fault of `feed`, if the reader has failed; that of the last line, if no LF ended
@@ -92,9 +123,7 @@ impl RecordReader {
     pub fn finish(self) -> Result<Image, RecordFault>
         ensures { end_of_feeding self ≡ result }
     {
-        match self.failed {
-            None => self.begun.finish(),
-            Some(fault) => Err(fault),
-        }
+        let (line, reading) = self.read_all()?;
+        reading.finish(line)
     }
 }

@@ -1,6 +1,7 @@
 //! What was read of a text of records so far.
 
 ghost use Rattle.std.specs.Prelude.{◌≡◌, ◌+◌, ◌≤◌, ◌<◌, ◌∷◌, [], ◌^◌, length};
+ghost use Rattle.image_reader.specs.Progress.{with_again, with_again_at};
 
 use crate::fault::{LineFault, RecordFault, RecordFaultKind};
 use crate::form::TextForm;
@@ -25,6 +26,7 @@ pub enum Place {
 pub struct Reading {
     form: TextForm,
     image: Image,
+    again: Image,
     base: u32,
     count: u32,
     place: Place,
@@ -38,10 +40,30 @@ impl Model for Reading {
     ghost view = { λ r. record {
       form = r.form;
       cells = r.image;
+      again = r.again;
       base = r.base;
       count = r.count;
       place = r.place;
     } };
+}
+
+/// Puts a cell at an address where an image has a byte.
+fn note(again: &mut Image, image: &Image, address: u16)
+    ensures { again.new ≡ with_again_at image.now again.old address }
+{
+    if image.get(address).is_some() {
+        again.put(address, 0);
+    }
+}
+
+/// Puts a cell at each address of some bytes where an image has a byte already.
+fn note_each(again: &mut Image, image: &Image, address: u16, bytes: &[u8])
+    requires { address + length bytes.now ≤ 65536 }
+    ensures { again.new ≡ with_again image.now again.old address bytes.now }
+{
+    for (i, _) in bytes.iter().enumerate() {
+        note(again, image, address + i as u16);
+    }
 }
 
 impl Reading {
@@ -49,13 +71,14 @@ impl Reading {
     ghost use Rattle.image_reader.specs.SRecords.{one_more};
     ghost use Rattle.image_reader.specs.Texts.{finished, form_line, read_line};
 
-    /// Begins to read a text into an image.
-    pub fn new(form: TextForm, image: Image) -> Reading
-        ensures { result ≡ record (start form) { cells = image } }
+    /// Begins to read a text into an image, and notes overlaps in another.
+    pub fn new(form: TextForm, image: Image, again: Image) -> Reading
+        ensures { result ≡ record (start form) { cells = image; again = again } }
     {
         Reading {
             form,
             image,
+            again,
             base: 0,
             count: 0,
             place: Place::Open,
@@ -117,6 +140,7 @@ impl Reading {
             });
         }
         if !bytes.is_empty() {
+            note_each(&mut self.again, &self.image, address as u16, bytes);
             self.image.store(address as u16, bytes);
         }
         Ok(())
@@ -142,6 +166,13 @@ impl Reading {
             TextForm::Hex => hex_line(self, line),
             TextForm::SRecord => s_line(self, line),
         }
+    }
+
+    /// Returns an image with a cell at each address for which more than one data record has a byte.
+    pub fn overlaps(self) -> Image
+        ensures { result ≡ self.again }
+    {
+        self.again
     }
 
     /// Returns the image, or the fault of a text that ends here, before the line of a number.

@@ -40,7 +40,7 @@ impl RecordBytes {
 }
 
 /// Returns whether a byte is a hex digit, of either case.
-fn is_hex_digit(byte: u8) -> bool
+pub fn is_hex_digit(byte: u8) -> bool
     ensures { result ≡ is_hex_byte byte }
 {
     byte.is_ascii_hexdigit()
@@ -95,7 +95,7 @@ fn stop_of(count: usize, digits: &[u8]) -> RecordFaultKind
 }
 
 /// Decodes digits into bytes.
-fn decode(digits: &[u8], bytes: &mut [u8])
+pub fn decode(digits: &[u8], bytes: &mut [u8])
     requires hex { list_all is_hex_byte digits.now ≡ true }
     requires room { length digits.now ≡ 2 * length bytes.old }
     ensures { bytes.new ≡ bytes_of_digits digits.now }

@@ -21,9 +21,9 @@ use Rattle.image_reader.specs.declared.form.TextForm.TheVariants.{Hex, SRecord}
 use Rattle.image_reader.specs.declared.reading.Place.TheVariants.{Open, Ended}
 use Rattle.image_reader.specs.declared.s_records.Role.TheVariants.{Data, End, Header}
 use Rattle.image_reader.specs.HexRecords.{after_hex, hex_line}
-use Rattle.image_reader.specs.Progress.{Progress, start, stored}
+use Rattle.image_reader.specs.Progress.{Progress, start, stored, with_again}
 use Rattle.image_reader.specs.Records.{◌>>=◌, record_bytes, record_digits, wanted, with_total}
-use Rattle.image_reader.specs.SRecords.{after_s, next_count, s_line}
+use Rattle.image_reader.specs.SRecords.{after_s, one_more, s_line}
 use Rattle.image_reader.specs.Texts.{after_lines, finished, form_line, next_line, numbered, read_line, text_image}
 use Rattle.image_writer.specs.ImageTexts.{checksum, end_text, front_text, hex_end, hex_row, image_text, record_text, row_text, s_end, s_header, s_row}
 use Rattle.image_writer.specs.Rows.{put_rows, rows}
@@ -89,7 +89,11 @@ bytes_read front extra total b bs small h n =
 abbrev Step : Type 0
 Step = Result Progress LineFault
 
-put_there : (column address : ℕ) (bytes : List ℕ) (s : Progress) → address + length bytes ≤ 65536 → stored column address bytes s ≡ Ok (record s { cells = with_bytes s.cells address bytes })
+-- bytes are put from an address on
+abbrev put : Progress → ℕ → List ℕ → Progress
+put s address bytes = record s { cells = with_bytes s.cells address bytes; again = with_again s.cells s.again address bytes }
+
+put_there : (column address : ℕ) (bytes : List ℕ) (s : Progress) → address + length bytes ≤ 65536 → stored column address bytes s ≡ Ok (put s address bytes)
 unfolding stored
 put_there column address bytes s h = rw (le-leb (address + length bytes) 65536 h) refl
 
@@ -104,7 +108,7 @@ abbrev mark_of : TextForm → List ℕ
 mark_of Hex = codes ":"
 mark_of SRecord = codes "S1"
 
-hex_stored : (row : Stretch) (s : Progress) → IsRow row → s.base ≡ 0 → after_hex s (whole 0 (hex_bytes row)) ≡ Ok (record s { cells = with_bytes s.cells row.0 row.1 })
+hex_stored : (row : Stretch) (s : Progress) → IsRow row → s.base ≡ 0 → after_hex s (whole 0 (hex_bytes row)) ≡ Ok (put s row.0 row.1)
 unfolding after_hex
 hex_stored row s h base =
     let c = checksum 0 (hex_bytes row) in
@@ -114,14 +118,14 @@ hex_stored row s h base =
     ∙ ap (λ (a : ℕ). stored 4 a row.1 s) address
     ∙ put_there 4 row.0 row.1 s h.fits
 
-hex_read : (row : Stretch) (s : Progress) → IsRow row → s.base ≡ 0 → hex_line s (codes ":" ++ encode_upper (whole 0 (hex_bytes row))) ≡ Ok (record s { cells = with_bytes s.cells row.0 row.1 })
+hex_read : (row : Stretch) (s : Progress) → IsRow row → s.base ≡ 0 → hex_line s (codes ":" ++ encode_upper (whole 0 (hex_bytes row))) ≡ Ok (put s row.0 row.1)
 unfolding hex_line
 hex_read row s h base =
     let fits : AreBytes (hex_bytes row) = (omega (arith, h.few), (omega (arith, h.inside), (omega arith, (omega arith, h.bytes)))) in
     ap (λ (r : Result (List ℕ) LineFault). r >>= after_hex s) (bytes_read 1 5 0 (length row.1) (row.0 / 256 ∷ row.0 % 256 ∷ 0 ∷ row.1) (omega arith) fits (omega arith))
     ∙ hex_stored row s h base
 
-s_stored : (row : Stretch) (s : Progress) → IsRow row → after_s Data 2 s (whole 255 (s_bytes row)) ≡ Ok (record s { cells = with_bytes s.cells row.0 row.1; place = Open; count = next_count s.count })
+s_stored : (row : Stretch) (s : Progress) → IsRow row → after_s Data 2 s (whole 255 (s_bytes row)) ≡ Ok (one_more (put s row.0 row.1))
 unfolding after_s
 s_stored row s h =
     let c = checksum 255 (s_bytes row) in
@@ -129,12 +133,12 @@ s_stored row s h =
     let bytes : take (length row.1 + 3 - 3) (row.1 ++ c ∷ []) ≡ row.1 = ap (λ (k : ℕ). take k (row.1 ++ c ∷ [])) n ∙ take_at row.1 (c ∷ []) (length row.1) refl in
     let address : row.0 / 256 * 256 + row.0 % 256 ≡ row.0 = omega arith in
     rw (le-ltb (length row.1 + 3) 3 (omega arith))
-    (ap (λ (x : List ℕ). stored 5 (row.0 / 256 * 256 + row.0 % 256) x s >>= λ t. Ok (record t { place = Open; count = next_count t.count })) bytes
-    ∙ ap (λ (a : ℕ). stored 5 a row.1 s >>= λ t. Ok (record t { place = Open; count = next_count t.count })) address
-    ∙ ap (λ (r : Step). r >>= λ t. Ok (record t { place = Open; count = next_count t.count })) (put_there 5 row.0 row.1 s h.fits))
+    (ap (λ (x : List ℕ). stored 5 (row.0 / 256 * 256 + row.0 % 256) x s >>= λ t. Ok (one_more t)) bytes
+    ∙ ap (λ (a : ℕ). stored 5 a row.1 s >>= λ t. Ok (one_more t)) address
+    ∙ ap (λ (r : Step). r >>= λ t. Ok (one_more t)) (put_there 5 row.0 row.1 s h.fits))
 
 s_read : (row : Stretch) (s : Progress) → IsRow row → s_line s (codes "S1" ++ encode_upper (whole 255 (s_bytes row)))
-    ≡ Ok (record s { cells = with_bytes s.cells row.0 row.1; place = Open; count = next_count s.count })
+    ≡ Ok (one_more (put s row.0 row.1))
 unfolding s_line
 s_read row s h =
     let fits : AreBytes (s_bytes row) = (omega (arith, h.few), (omega (arith, h.inside), (omega arith, h.bytes))) in
@@ -217,7 +221,7 @@ row_read Hex row s h e place base =
     record {
       line = line_of (codes ":") 0 (hex_bytes row);
       cut = λ rest. record_cut (codes ":") 0 (hex_bytes row) rest (hex_no_end (encode_upper (whole 0 (hex_bytes row))) (hex_of-encode (whole 0 (hex_bytes row)) fits));
-      next = record s { cells = with_bytes s.cells row.0 row.1 };
+      next = put s row.0 row.1;
       read = read_open Hex s _ e place ∙ hex_read row s h base;
       same = e;
       place = place;
@@ -230,7 +234,7 @@ row_read SRecord row s h e place base =
     record {
       line = line_of (codes "S1") 255 (s_bytes row);
       cut = λ rest. record_cut (codes "S1") 255 (s_bytes row) rest (hex_no_end (encode_upper (whole 255 (s_bytes row))) (hex_of-encode (whole 255 (s_bytes row)) fits));
-      next = record s { cells = with_bytes s.cells row.0 row.1; place = Open; count = next_count s.count };
+      next = one_more (put s row.0 row.1);
       read = read_open SRecord s _ e place ∙ s_read row s h;
       same = e;
       place = refl;

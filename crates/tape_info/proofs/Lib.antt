@@ -5,3 +5,4 @@ pub mod Noted
 pub mod Writes
 pub mod Word
 pub mod Forms
+pub mod RightTapes

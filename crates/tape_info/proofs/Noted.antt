@@ -1,11 +1,15 @@
 -- What is noted of the records of a tape, a byte, a record and a place at a time.
-use Rattle.std.proofs.Common.{◌≡◌, ◌≢◌, ◌⊎◌, ℕ, suc, ◌+◌, ◌-◌, ◌*◌, ◌<◌, ◌≤◌, ◌==◌, Bool, true, false, List, drop, length, min, slice_index, add-zero, Option, Some, None, is_some, replicate, refl, sym, ap, subst, ◌∙◌, arith, inl, inr, get_or, get_or-set_other, get_or-set_same}
+use Rattle.std.proofs.Common.{◌≡◌, ◌≢◌, ◌⊎◌, ℕ, suc, ◌+◌, ◌-◌, ◌*◌, ◌<◌, ◌≤◌, ◌==◌, Bool, true, false, List, drop, length, min, slice_index, add-zero, Option, Some, None, Ok, is_some, replicate, refl, sym, ap, subst, ◌∙◌, arith, inl, inr, get_or, get_or-set_other, get_or-set_same}
 use Rattle.std.specs.Prelude.{slice_set}
 use Rattle.std.proofs.lemmas.List.{get_or-replicate, get_or_past, length-replicate, length-set}
 use Rattle.std.proofs.lemmas.Bool.{cases_Bool, eqb-true}
 use Rattle.std.proofs.lemmas.Bool.Decides.{nat_tests, leb_tells}
 use Rattle.model.specs.Image.{cell_at, empty_image}
-use Rattle.tape_info.specs.Overlaps.{AreNoted, cell_from, covered, pair_at, with_bytes, with_cell_if, with_digits, with_place}
+use Rattle.image_reader.specs.Texts.{text_overlaps}
+use Rattle.image_reader.specs.declared.form.TextForm.{TextForm}
+use Rattle.tape_info.specs.Facts.{ranges_of}
+use Rattle.tape_info.specs.declared.ranges.Range.{Range}
+use Rattle.tape_info.specs.Overlaps.{AreNoted, AreTextOverlaps, cell_from, covered, pair_at, with_bytes, with_cell_if, with_digits, with_place}
 
 abbrev Cells : Type 0
 Cells = List (Option ℕ)
@@ -182,3 +186,8 @@ unwritten once again n text place other noted = elim (cases_Bool (slice_index te
   | inl t ↦ absurd (other (eqb-true _ _ t))
   | inr f ↦ recounted once again n (with_place n text place) noted (λ a h. rw f (sym (add-zero (n a))))
 ]
+
+-- ---- texts of Intel HEX and of S-records
+
+pub text_ranges : (form : TextForm) (text : List ℕ) (again : List (Option ℕ)) (overlaps : List Range) → text_overlaps form text ≡ Ok again → overlaps ≡ ranges_of again → AreTextOverlaps form text overlaps
+text_ranges form text again overlaps read are = (again, read, are)

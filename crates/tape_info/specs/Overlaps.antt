@@ -1,7 +1,9 @@
--- At which addresses more than one record of a tape puts a byte. Source: mos65. The later record
--- counts, by the definition of what a tape denotes.
-use Rattle.std.specs.Prelude.{◌≡◌, ℕ, ◌+◌, ◌*◌, ◌<◌, ◌==◌, ◌&&◌, nat_le, nat_lt, Bool, true, false, if◌then◌else◌, List, [], ◌∷◌, drop, length, map, slice_index, slice_set, Option, Some, None}
+-- At which addresses more than one record puts a byte: of a tape, of Intel HEX or of S-records.
+-- Source: mos65. The later record counts, by the definitions of what these denote.
+use Rattle.std.specs.Prelude.{◌≡◌, ℕ, ◌+◌, ◌*◌, ◌<◌, ◌==◌, ◌&&◌, nat_le, nat_lt, Bool, true, false, if◌then◌else◌, List, [], ◌∷◌, drop, length, map, slice_index, slice_set, Option, Some, None, Ok}
 use Rattle.std.specs.List.{range_with_len}
+use Rattle.image_reader.specs.declared.form.TextForm.{TextForm}
+use Rattle.image_reader.specs.Texts.{text_overlaps}
 use Rattle.model.specs.Digits.{digit_value}
 use Rattle.model.specs.Image.{cell_at}
 use Rattle.model.specs.Tape.{Part, gap, record_of, claim_of}
@@ -35,7 +37,13 @@ written_again pieces = map (λ a. cell_from 2 (writes_at pieces a)) (range_with_
 abbrev pub overlaps_of : List Part → List Range
 overlaps_of pieces = ranges_of (written_again pieces)
 
--- ---- what the code notes of a text
+-- The ranges of the addresses for which more than one data record of a text of Intel HEX or of
+-- S-records has a byte, in rising order.
+abbrev pub AreTextOverlaps : TextForm → List ℕ → List Range → Type 0
+AreTextOverlaps form text overlaps = (again : List (Option ℕ)) × (text_overlaps form text ≡ Ok again)
+    × (overlaps ≡ ranges_of again)
+
+-- ---- what the code notes of a tape
 
 -- Two images have a cell where one record or more, and where two or more, put a byte, if so many do
 -- at each address.

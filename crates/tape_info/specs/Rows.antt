@@ -74,7 +74,7 @@ range_row summed = stretch_text RANGE_ROW.now summed.0.first summed.0.last
 abbrev pub range_rows : Facts → List ℕ
 range_rows facts = flat_map range_row (zip facts.ranges.items facts.checksums.items)
 
--- The row of addresses at which more than one record of a tape puts a byte:
+-- The row of addresses at which more than one record puts a byte:
 -- `overlap 0201-0201  1 byte written more than once`.
 unfoldable pub overlap_row : Range → List ℕ
 overlap_row range = stretch_text OVERLAP_ROW.now range.first range.last

@@ -20,12 +20,12 @@ use model::Profile;
 use std::alloc::{AllocError, Global};
 use tape_words::{BYTE, BYTES, RECORD, RECORDS, push_count, push_instruction};
 
-/// What is to be known of a tape's records.
+/// What is to be known of an image's records.
 #[derive(Drop)]
 pub struct OfTape {
-    /// How many data records there are, or `None` of an image in another form.
+    /// How many data records a tape has, or `None` of an image in another form.
     pub records: Option<usize>,
-    /// The ranges of the addresses at which more than one of them puts a byte.
+    /// The ranges of the addresses at which more than one record puts a byte.
     pub overlaps: Vec<Range>,
 }
 
@@ -130,7 +130,7 @@ fn push_ranges(words: &mut String, facts: &Facts) -> Result<(), AllocError>
     Ok(())
 }
 
-/// Appends the row of addresses at which more than one record of a tape puts a byte.
+/// Appends the row of addresses at which more than one record puts a byte.
 #[tactic(auto, unfolding(crate::specs::Rows::overlap_row))]
 fn push_overlap(words: &mut String, range: Range) -> Result<(), AllocError>
     ensures { OnOk result (string_bytes words.new ≡ string_bytes words.old ++ overlap_row range) }
@@ -321,8 +321,8 @@ fn push_parts(words: &mut String, map: &MapSpec, facts: &Facts) -> Result<(), Al
     push_port(words, map, facts)
 }
 
-/// Returns the rows of `info`: the image, its ranges, where records of a tape overlap, the largest
-/// gap, the vectors, and what stands in pages 0 and 1 and at the port.
+/// Returns the rows of `info`: the image, its ranges, where records overlap, the largest gap,
+/// the vectors, and what stands in pages 0 and 1 and at the port.
 ///
 /// Errors: `AllocError` if an allocation fails.
 #[tactic(auto, unfolding(crate::specs::Rows::rows_of))]

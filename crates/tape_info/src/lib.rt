@@ -1,8 +1,9 @@
 //! The word `info TAPE`: what is on a tape.
 //!
 //! `facts_of` has the facts of an image, each by its definition in `specs/Facts.antt`.
-//! `data_records` has the number of a tape's records, and `overlaps_of` where more than one of them
-//! puts a byte (`specs/Overlaps.antt`). `tape_info` is the word `info`: it writes these as text, or
+//! `data_records` has the number of a tape's records. `overlaps_of` and `text_overlaps_of` have the
+//! addresses for which more than one record has a byte (`specs/Overlaps.antt`). `law` states that
+//! right tapes are read as they stand. `tape_info` is the word `info`: it writes these as text, or
 //! what is wrong with the tape.
 #![tactic(auto)]
 
@@ -10,6 +11,7 @@ mod checksum;
 mod fact_list;
 mod fact_text;
 mod gaps;
+mod law;
 mod overlaps;
 mod ranges;
 mod run;
@@ -18,6 +20,7 @@ mod wording;
 pub use checksum::crc_32;
 pub use fact_list::{Facts, data_records, facts_of};
 pub use gaps::Gap;
-pub use overlaps::overlaps_of;
+pub use law::right_tapes_are_read_as_they_stand;
+pub use overlaps::{overlaps_of, text_overlaps_of};
 pub use ranges::Range;
 pub use run::tape_info;

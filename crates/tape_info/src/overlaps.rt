@@ -1,14 +1,15 @@
-//! Where more than one record of a tape puts a byte.
+//! Where more than one record puts a byte.
 
 ghost use Rattle.std.specs.Prelude.{◌≡◌, ℕ, ◌+◌, ◌-◌, ◌<◌, ◌≤◌, List, Option, IfOk, drop, length};
 ghost use Rattle.std.specs.Prelude.{slice_index};
 ghost use Rattle.model.specs.Digits.{digit_value};
 ghost use Rattle.model.specs.Tape.{TapeDenotes};
-ghost use Rattle.tape_info.specs.Overlaps.{AreNoted, overlaps_of, with_bytes, with_place};
-ghost use Rattle.tape_info.specs.Overlaps.{pair_at, with_cell_if, with_digits, written_again};
+ghost use Rattle.tape_info.specs.Overlaps.{AreNoted, AreTextOverlaps, overlaps_of, with_bytes};
+ghost use Rattle.tape_info.specs.Overlaps.{pair_at, with_cell_if, with_digits, with_place, written_again};
 
 use crate::ranges::{Range, ranges_of};
 use formatting::hex_value;
+use image_reader::{TextForm, read_overlaps};
 use memory_map::Image;
 use std::alloc::{AllocError, Global};
 
@@ -132,4 +133,22 @@ pub fn overlaps_of(alloc: Global, text: &[u8]) -> Result<Vec<Range>, AllocError>
 {
     let again = written_again(alloc, text)?;
     ranges_of(alloc, again.cells())
+}
+
+/// Returns the ranges of the addresses for which more than one data record of a text of Intel HEX
+/// or of S-records has a byte, in rising order. The text denotes an image, so the only error is
+/// that an allocation failed.
+#[tactic(auto, using(crate::proofs::Noted::text_ranges))]
+pub fn text_overlaps_of(
+    alloc: Global,
+    form: TextForm,
+    text: &[u8],
+) -> Result<Vec<Range>, AllocError>
+    ensures { IfOk result (λ ranges. AreTextOverlaps form text.now ranges.items) }
+{
+    let Ok(again) = read_overlaps(alloc, form, text) else {
+        return Err(AllocError);
+    };
+    let ranges = ranges_of(alloc, again.cells())?;
+    Ok(ranges)
 }

@@ -6,20 +6,22 @@ ghost use Rattle.arguments.specs.Words.{AsksForHelp, Fits, Misfits, texts};
 ghost use Rattle.model.specs.State.{is_map};
 ghost use Rattle.image_files.specs.Bytes.{IsImage, IsNoImage, form_by};
 ghost use Rattle.image_files.specs.declared.refusal.ImageRefusal.TheVariants as why_not;
+ghost use Rattle.image_reader.specs.EndRecords.{as_read};
 ghost use Rattle.model.specs.Tape.{FirstFault, TapeDenotes};
-ghost use Rattle.tape_info.specs.Told.{AreOverlaps, AreRows, IsFaultText, IsHint, is_tape};
-ghost use Rattle.tape_info.specs.Told.{records_in};
+ghost use Rattle.tape_info.specs.Told.{AreOverlaps, AreRows, IsEndText, IsFaultText, IsHint};
+ghost use Rattle.tape_info.specs.Told.{is_count_twice, is_tape, records_in};
 ghost use Rattle.tape_info.specs.Word.{Asks, EndsInfo, IsAbout, IsSaid};
 ghost use Rattle.tape_words.specs.Asked.{info_asked, info_view};
 ghost use Rattle.tape_words.specs.CommandLines.{info};
 
 use crate::fact_list::{data_records, facts_of};
 use crate::fact_text::{OfTape, image_text, no_image_text};
-use crate::overlaps::overlaps_of;
+use crate::overlaps::{overlaps_of, text_overlaps_of};
+use crate::ranges::Range;
 use crate::wording;
 use arguments::{FileRefusal, Refusal, refused_words};
-use image_files::{ImageRefusal, NoImage, form_by, image_of_bytes};
-use image_reader::{Form, OtherText};
+use image_files::{ImageRefusal, NoImage, OtherText, form_by, image_of_bytes};
+use image_reader::{Form, has_count_twice, with_end_sum};
 use memory_map::{Image, MapSpec};
 use model::{TapeFault, TapeFaultKind};
 use papertape::read_tape;
@@ -27,7 +29,9 @@ use std::alloc::{AllocError, Global};
 use std::io::Write;
 use std::rt::Files;
 use tape_mend::mend_text;
-use tape_words::{Answer, InfoWords, answered, fault_text, read_info_words, read_text};
+use tape_words::{
+    Answer, COUNT_TWICE, InfoWords, answered, fault_text, read_info_words, read_text,
+};
 
 /// Returns what is in an image, and in the records if it is a tape.
 fn image_rows(
@@ -45,12 +49,12 @@ fn image_rows(
     Ok(said)
 }
 
-/// Returns what is to be said of `mend`: that it mends a text, or nothing.
-fn mend_hint(alloc: Global, text: &[u8]) -> Result<&'static str, AllocError>
-    ensures { IfOk result (λ hint. IsHint text.now hint.now) }
+/// Returns what is to be said of `mend`: the words if it mends a text, or nothing.
+fn mend_hint(alloc: Global, words: &'static str, text: &[u8]) -> Result<&'static str, AllocError>
+    ensures { IfOk result (λ hint. IsHint words.now text.now hint.now) }
 {
     match mend_text(alloc, text) {
-        Ok(_) => Ok(wording::MEND_MENDS_IT),
+        Ok(_) => Ok(words),
         Err(fault) => match fault.kind {
             TapeFaultKind::OutOfMemory => Err(AllocError),
             _ => Ok(""),
@@ -69,9 +73,64 @@ fn wrong_tape(
         (λ said. IsFaultText words.now.tape.now text.now fault (string_bytes said)) }
 {
     let mut said = fault_text(alloc, words.tape, text, fault)?;
-    let hint = mend_hint(alloc, text)?;
+    let hint = mend_hint(alloc, wording::MEND_MENDS_IT, text)?;
     said.push_str(hint)?;
     Ok(said)
+}
+
+/// Returns whether a form is told, and is that of a tape.
+fn is_tape(form: Result<Form, OtherText>) -> bool
+    ensures { result ≡ is_tape form }
+{
+    match form {
+        Ok(form) => match form {
+            Form::Tape => true,
+            Form::Text(_) => false,
+            Form::Raw(_) => false,
+            Form::Prg => false,
+        },
+        Err(_) => false,
+    }
+}
+
+/// Returns whether bytes that tell a form are a tape whose end record has the number of records in
+/// place of its sum.
+fn is_count_twice(told: Result<Form, OtherText>, bytes: &[u8]) -> bool
+    ensures { result ≡ is_count_twice told bytes.now }
+{
+    match told {
+        Ok(form) => match form {
+            Form::Tape => has_count_twice(bytes),
+            Form::Text(_) => false,
+            Form::Raw(_) => false,
+            Form::Prg => false,
+        },
+        Err(_) => false,
+    }
+}
+
+/// Returns that the end record of a tape has the number of records in place of its sum, and whether
+/// `mend` mends it.
+fn count_twice_text(alloc: Global, text: &[u8]) -> Result<String, AllocError>
+    ensures { IfOk result (λ said. IsEndText true text.now (string_bytes said)) }
+{
+    let hint = mend_hint(alloc, wording::MENDED_FOR_DEBUG, text)?;
+    let mut said = String::new(alloc);
+    said.push_str(COUNT_TWICE)?;
+    said.push_str("\n")?;
+    said.push_str(hint)?;
+    Ok(said)
+}
+
+/// Returns what is said last of an image, by whether it is such a tape.
+fn end_text(alloc: Global, is_twice: bool, bytes: &[u8]) -> Result<String, AllocError>
+    ensures { IfOk result (λ said. IsEndText is_twice bytes.now (string_bytes said)) }
+{
+    if is_twice {
+        count_twice_text(alloc, bytes)
+    } else {
+        Ok(String::new(alloc))
+    }
 }
 
 /// Returns what is to be said of bytes that denote an image. The only error is that an allocation
@@ -91,7 +150,10 @@ fn right_answer(
         tape.now.overlaps.items }
     ensures { IfOk result (IsAbout (info_view words.now)) }
 {
-    let text = image_rows(alloc, words, map, image, tape)?;
+    let mut text = image_rows(alloc, words, map, image, tape)?;
+    let is_twice = is_count_twice(form_by(words.form, bytes), bytes);
+    let end = end_text(alloc, is_twice, bytes)?;
+    text.push_str(end.as_str())?;
     Ok(Answer {
         text,
         is_right: true,
@@ -105,7 +167,7 @@ fn wrong_answer(
     text: &[u8],
     fault: TapeFault,
 ) -> Result<Answer, AllocError>
-    requires { FirstFault text.now fault.kind fault.offset }
+    requires { FirstFault (as_read text.now) fault.kind fault.offset }
     ensures { IfOk result (IsAbout (info_view words.now)) }
 {
     let text = wrong_tape(alloc, words, text, fault)?;
@@ -115,42 +177,52 @@ fn wrong_answer(
     })
 }
 
-/// Returns whether a form is told, and is that of a tape.
-fn is_tape(form: Result<Form, OtherText>) -> bool
-    ensures { result ≡ is_tape form }
-{
-    match form {
-        Ok(form) => match form {
-            Form::Tape => true,
-            Form::Text(_) => false,
-            Form::Raw(_) => false,
-            Form::Prg => false,
-        },
-        Err(_) => false,
-    }
-}
-
-/// Returns what is to be said of the text of a right tape. The only error is that an allocation
-/// failed.
+/// Returns what is to be said of the text of a right tape, by the text that is read. The only error
+/// is that an allocation failed.
 #[tactic(auto, using(crate::proofs::Forms::tape_image, crate::proofs::Forms::tape_records, crate::proofs::Forms::tape_overlaps))]
 fn tape_rows(
     alloc: Global,
     words: &InfoWords<'_>,
     map: &MapSpec,
     text: &[u8],
+    read: &[u8],
     image: &Image,
 ) -> Result<Answer, AllocError>
     requires port { map.now.port ≡ words.now.port }
     requires form { is_tape (form_by words.now.form text.now) ≡ true }
-    requires denotes { TapeDenotes text.now image.now }
+    requires read { read.now ≡ as_read text.now }
+    requires denotes { TapeDenotes read.now image.now }
     ensures { IfOk result (IsAbout (info_view words.now)) }
 {
-    let overlaps = overlaps_of(alloc, text)?;
+    let overlaps = overlaps_of(alloc, read)?;
     let tape = OfTape {
-        records: Some(data_records(text)),
+        records: Some(data_records(read)),
         overlaps,
     };
     right_answer(alloc, words, map, text, image, &tape)
+}
+
+/// Returns what is to be said of the text of a tape, by the text that is read. The only error is
+/// that an allocation failed.
+fn read_answer(
+    alloc: Global,
+    words: &InfoWords<'_>,
+    map: &MapSpec,
+    text: &[u8],
+    read: &[u8],
+) -> Result<Answer, AllocError>
+    requires port { map.now.port ≡ words.now.port }
+    requires form { is_tape (form_by words.now.form text.now) ≡ true }
+    requires read { read.now ≡ as_read text.now }
+    ensures { IfOk result (IsAbout (info_view words.now)) }
+{
+    match read_tape(alloc, read) {
+        Ok(image) => tape_rows(alloc, words, map, text, read, &image),
+        Err(fault) => match fault.kind {
+            TapeFaultKind::OutOfMemory => Err(AllocError),
+            _ => wrong_answer(alloc, words, text, fault),
+        },
+    }
 }
 
 /// Returns what is to be said of the text of a tape. The only error is that an allocation failed.
@@ -164,12 +236,11 @@ fn tape_answer(
     requires form { is_tape (form_by words.now.form text.now) ≡ true }
     ensures { IfOk result (IsAbout (info_view words.now)) }
 {
-    match read_tape(alloc, text) {
-        Ok(image) => tape_rows(alloc, words, map, text, &image),
-        Err(fault) => match fault.kind {
-            TapeFaultKind::OutOfMemory => Err(AllocError),
-            _ => wrong_answer(alloc, words, text, fault),
-        },
+    if has_count_twice(text) {
+        let read = with_end_sum(alloc, text)?;
+        read_answer(alloc, words, map, text, &read)
+    } else {
+        read_answer(alloc, words, map, text, text)
     }
 }
 
@@ -191,9 +262,30 @@ fn other_answer(
     })
 }
 
+/// Returns where the records of an image in another form than a tape overlap, if it has records.
+/// The only error is that an allocation failed.
+fn other_overlaps(
+    alloc: Global,
+    form: Result<Form, OtherText>,
+    bytes: &[u8],
+) -> Result<Vec<Range>, AllocError>
+    requires { is_tape form ≡ false }
+    ensures { IfOk result (λ ranges. AreOverlaps form bytes.now ranges.items) }
+{
+    match form {
+        Ok(form) => match form {
+            Form::Text(form) => text_overlaps_of(alloc, form, bytes),
+            Form::Tape => Ok(Vec::new(alloc)),
+            Form::Raw(_) => Ok(Vec::new(alloc)),
+            Form::Prg => Ok(Vec::new(alloc)),
+        },
+        Err(_) => Ok(Vec::new(alloc)),
+    }
+}
+
 /// Returns what is to be said of an image in another form than a tape. The only error is that an
 /// allocation failed.
-#[tactic(auto, using(crate::proofs::Forms::no_records, crate::proofs::Forms::no_overlaps))]
+#[tactic(auto, using(crate::proofs::Forms::no_records))]
 fn other_rows(
     alloc: Global,
     words: &InfoWords<'_>,
@@ -208,7 +300,7 @@ fn other_rows(
 {
     let tape = OfTape {
         records: None,
-        overlaps: Vec::new(alloc),
+        overlaps: other_overlaps(alloc, form_by(words.form, bytes), bytes)?,
     };
     right_answer(alloc, words, map, bytes, image, &tape)
 }

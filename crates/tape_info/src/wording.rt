@@ -47,3 +47,5 @@ pub const FREE: &str = " is free, or --port none\n";
 pub const NO_BASE: &str = " of the image; no base is free, try --port none\n";
 
 pub const MEND_MENDS_IT: &str = "`mend` mends it\n";
+
+pub const MENDED_FOR_DEBUG: &str = "`mend` mends it for `dis TAPE` and `debug --tape`\n";

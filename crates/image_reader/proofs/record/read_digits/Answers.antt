@@ -1,5 +1,4 @@
-use Rattle.std.proofs.Common.{◌≡◌, ◌+◌, ◌≤◌, ℕ, List, length, slice_index, arith, subst, sym, is_ok}
-use Rattle.std.specs.List.{prefix_len}
+use Rattle.std.proofs.Common.{◌≡◌, ◌+◌, ℕ, List, length, slice_index, arith, subst, sym}
 use Rattle.model.specs.Digits.{is_hex_byte}
 use Rattle.image_reader.proofs.Sizes.{all_pass, bytes_size}
 use Rattle.image_reader.proofs.record.read_digits.Goals as goal

@@ -3,8 +3,8 @@ use Rattle.std.specs.Prelude.{ℕ, ◌==◌, ◌||◌, ◌&&◌, nat_le, Bool, i
 use Rattle.std.specs.List.{list_all, prefix_len}
 use Rattle.image_reader.specs.declared.form.Form.{Form}
 use Rattle.image_reader.specs.declared.form.Form.TheVariants.{Tape, Text}
-use Rattle.image_reader.specs.declared.form.OtherText.{OtherText}
-use Rattle.image_reader.specs.declared.form.OtherText.TheVariants as other
+use Rattle.image_files.specs.declared.form.OtherText.{OtherText}
+use Rattle.image_files.specs.declared.form.OtherText.TheVariants as other
 use Rattle.image_reader.specs.declared.form.TextForm.TheVariants.{Hex, SRecord}
 use Rattle.model.specs.Tape.{is_skipped}
 
@@ -29,9 +29,9 @@ s_form bytes [] = Err (other_of bytes)
 s_form bytes (c ∷ rest) = if is_digit c then Ok (Text SRecord) else Err (other_of bytes)
 
 -- The form by the first byte that a tape does not skip.
-abbrev pub form_by : List ℕ → List ℕ → Result Form OtherText
-form_by bytes [] = Err other.Nothing
-form_by bytes (b ∷ rest) =
+abbrev pub first_form : List ℕ → List ℕ → Result Form OtherText
+first_form bytes [] = Err other.Nothing
+first_form bytes (b ∷ rest) =
     if b == 59 then Ok Tape
     else if b == 58 then Ok (Text Hex)
     else if b == 83 then s_form bytes rest
@@ -40,4 +40,4 @@ form_by bytes (b ∷ rest) =
 -- The form that the first record of some bytes tells: `;` a tape, `:` Intel HEX, `S` and a digit
 -- S-records. Before it may stand what a tape skips.
 unfoldable pub form_of : List ℕ → Result Form OtherText
-form_of bytes = form_by bytes (drop (prefix_len is_skipped bytes) bytes)
+form_of bytes = first_form bytes (drop (prefix_len is_skipped bytes) bytes)

@@ -1,7 +1,7 @@
 use Rattle.std.proofs.Common.{sym, arith, refl, length-take}
 use Rattle.std.proofs.lemmas.List.{take_all}
-use Rattle.image_reader.specs.Forms.{front_bytes}
-use Rattle.image_reader.proofs.form.front_bytes.Goals as goal
+use Rattle.image_files.specs.Forms.{front_bytes}
+use Rattle.image_files.proofs.form.front_bytes.Goals as goal
 
 pub returns-then-bytes-le64 : goal.returns-then-bytes-le64
 unfolding front_bytes
