@@ -2,7 +2,7 @@
 use Rattle.std.specs.Prelude.{◌≡◌, ◌≤◌, ℕ, nat_lt, if◌then◌else◌, List, length}
 use Rattle.model.specs.Session.{Session}
 use Rattle.mon_dispatch.specs.Lines.{Says}
-use Rattle.mon_files.specs.Asked.{SeenPage, to, slip, help}
+use Rattle.mon_files.specs.Asked.{SeenPage, to, slip}
 use Rattle.mon_files.specs.First.{given_in}
 use Rattle.mon_files.specs.Held.{oldest, shown_again}
 use Rattle.mon_files.specs.declared.wording.TheConstants.{HERE}
@@ -38,7 +38,6 @@ abbrev pub after_page : SeenPage → Course → Course
 after_page (to file) course = if nat_lt 0 (length course.0.earlier) then shown_again course
     else course
 after_page (slip why) course = course
-after_page help course = course
 
 -- A line about a page says something. Where the session has room for as many events as are said, it
 -- goes back over those that it holds, and comes again by the same.

@@ -1,9 +1,9 @@
 //! The line that asks for a page.
 
 ghost use Rattle.std.specs.Prelude.{◌≡◌, option_map};
-ghost use Rattle.mon_files.specs.Asked.{page_line, page_view, shown_in};
+ghost use Rattle.mon_files.specs.Asked.{is_page, page_line, page_view, shown_in};
 
-use mon_line_parts::{Lack, Why, after_word, file_of, is_empty, is_word, skip};
+use mon_line_parts::{Lack, Topic, Why, after_word, file_of, is_empty, skip, topic_of, word_of};
 
 /// What a line about a page asks for.
 #[derive(Clone, Copy)]
@@ -12,8 +12,6 @@ pub enum PageLine<'a> {
     To(&'a [u8]),
     /// Something is missing or left over.
     Slip(Why<'a>),
-    /// Help on it.
-    Help,
 }
 
 /// Returns what stands behind the word `page`: the name of a file, and nothing else.
@@ -31,8 +29,15 @@ fn shown_in(text: &[u8]) -> PageLine<'_>
     }
 }
 
-/// Returns what a line asks for that begins with `page`, or with `help` and then `page`. A line of
-/// more than 255 bytes asks for nothing.
+/// Whether a line is about a page.
+fn is_page(about: Option<Topic>) -> bool
+    ensures { result ≡ is_page about }
+{
+    matches!(about, Some(Topic::Page))
+}
+
+/// Returns what a line asks for that begins with `page`, or with what `page` may be shortened to.
+/// A line of more than 255 bytes asks for nothing.
 #[tactic(auto, unfolding(crate::specs::Asked::page_line))]
 pub fn page_line(line: &[u8]) -> Option<PageLine<'_>>
     ensures { option_map page_view result ≡ page_line line.now }
@@ -41,11 +46,10 @@ pub fn page_line(line: &[u8]) -> Option<PageLine<'_>>
         return None;
     }
     let text = skip(line);
-    if is_word(b"page", text) {
-        return Some(shown_in(after_word(text)));
+    let (about, _) = topic_of(word_of(text));
+    if is_page(about) {
+        Some(shown_in(after_word(text)))
+    } else {
+        None
     }
-    if is_word(b"help", text) && is_word(b"page", after_word(text)) {
-        return Some(PageLine::Help);
-    }
-    None
 }

@@ -2,7 +2,7 @@
 
 ghost use Rattle.std.specs.Prelude.{◌≡◌, ◌<◌, ◌≤◌, ◌++◌, ℕ, List, IfErr, IfOk, IfSome, OnOk, length};
 ghost use Rattle.mon_dispatch.specs.Lines.{Says};
-ghost use Rattle.mon_files.specs.Asked.{page_view, slip, to, help};
+ghost use Rattle.mon_files.specs.Asked.{page_view, slip, to};
 ghost use Rattle.mon_files.specs.Held.{shown_again};
 ghost use Rattle.mon_files.specs.Pages.{IsPageOf, ShowsPage};
 ghost use Rattle.mon_line_parts.specs.Reading.{why_view};
@@ -11,7 +11,7 @@ ghost use Rattle.mon_session.specs.Course.{KeepsStops, ShowsOnly, course_of};
 use crate::asked::PageLine;
 use crate::held::record_held;
 use crate::wording::{
-    BYTE, BYTES, EVENT, EVENTS, HELP, HERE, NONE_HELD, NOT_WRITTEN, OWN_FILE, UNKNOWN_FIRST,
+    BYTE, BYTES, EVENT, EVENTS, HERE, NONE_HELD, NOT_WRITTEN, OWN_FILE, UNKNOWN_FIRST,
 };
 use crate::writing::{Outcome, of_memory, write_new};
 use accesses::Written;
@@ -175,14 +175,6 @@ fn say_slip(desk: &mut Desk, why: Why<'_>) -> Result<(), AllocError>
     push_slip(&mut desk.text, Slip { topic: None, why })
 }
 
-/// Says what help says of the line.
-fn say_help(desk: &mut Desk) -> Result<(), AllocError>
-    ensures shows { ShowsOnly desk.old desk.new }
-    ensures said { OnOk result ((said : List ℕ) × Says said desk.old desk.new) }
-{
-    desk.say(HELP)
-}
-
 /// Does what a line about a page asks for: writes what the session holds to a file, as one page for
 /// a browser, and says how many events and bytes it has. A file that the session has read is not
 /// overwritten. The events that are held are undone and made again.
@@ -203,6 +195,5 @@ pub fn show_page<H: Files + AllocGlobal>(
     match asked {
         PageLine::To(file) => show_held(rt, desk, program, file),
         PageLine::Slip(why) => of_memory(say_slip(desk, why)),
-        PageLine::Help => of_memory(say_help(desk)),
     }
 }

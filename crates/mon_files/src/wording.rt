@@ -22,7 +22,3 @@ pub const BYTES: &str = " bytes\n";
 
 /// What a page says of its end.
 pub const HERE: &str = "here the page was written";
-
-/// What help says of the line.
-pub const HELP: &str =
-    "page FILE                         writes the steps that are held as a page for a browser\nas in: page run.html\n";

@@ -42,3 +42,4 @@ place_is topic.Display = refl
 place_is topic.Undisplay = refl
 place_is topic.Save = refl
 place_is topic.Reload = refl
+place_is topic.Page = refl

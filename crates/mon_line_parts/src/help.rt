@@ -12,7 +12,7 @@ pub struct Help {
 }
 
 /// The form, the effect and the example of each topic, in the order of `Topic`.
-pub const HELP: [(&str, &str, &str); 35] = [
+pub const HELP: [(&str, &str, &str); 36] = [
     ("step [N]", "makes N steps, or 1", "step 3"),
     ("over", "makes a JSR as one step", "over"),
     ("out", "steps until this subroutine has returned", "out"),
@@ -123,5 +123,10 @@ pub const HELP: [(&str, &str, &str); 35] = [
         "reload",
         "loads the file again, keeps breaks, watches and displays",
         "reload",
+    ),
+    (
+        "page FILE",
+        "writes the steps that are held as a page for a browser",
+        "page run.html",
     ),
 ];

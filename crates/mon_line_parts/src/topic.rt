@@ -46,11 +46,12 @@ pub enum Topic {
     Undisplay,
     Save,
     Reload,
+    Page,
 }
 
 /// The first words, each with its topic, but for `exit`, which is not to be shortened. A word of
 /// one letter or two is an abbreviation that two words would have in common.
-pub const WORDS: [(&[u8], Topic); 54] = [
+pub const WORDS: [(&[u8], Topic); 55] = [
     (b"step", Topic::Step),
     (b"s", Topic::Step),
     (b"over", Topic::Over),
@@ -100,6 +101,7 @@ pub const WORDS: [(&[u8], Topic); 54] = [
     (b"reset", Topic::Reset),
     (b"save", Topic::Save),
     (b"reload", Topic::Reload),
+    (b"page", Topic::Page),
     (b"help", Topic::Help),
     (b"h", Topic::Help),
     (b"quit", Topic::Quit),
@@ -108,7 +110,7 @@ pub const WORDS: [(&[u8], Topic); 54] = [
 ];
 
 /// The topics, in the order in which help lists them.
-pub const TOPICS: [Topic; 34] = [
+pub const TOPICS: [Topic; 35] = [
     Topic::Step,
     Topic::Over,
     Topic::Out,
@@ -140,6 +142,7 @@ pub const TOPICS: [Topic; 34] = [
     Topic::Nmi,
     Topic::Reset,
     Topic::Save,
+    Topic::Page,
     Topic::Reload,
     Topic::Help,
     Topic::Quit,

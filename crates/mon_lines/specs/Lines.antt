@@ -229,6 +229,7 @@ putting names pc text topic.Save = saved_from names pc text
 putting names pc text topic.Reload = Ok (reload, text)
 putting names pc text topic.Help = helped_from text
 putting names pc text topic.Trace = Ok (help (Some topic.Trace), text)
+putting names pc text topic.Page = Ok (help (Some topic.Page), text)
 putting names pc text _ = Ok (quit, text)
 
 -- What follows a word that shows something, or sets or clears a stop.

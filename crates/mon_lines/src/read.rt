@@ -435,7 +435,7 @@ fn putting<'a>(
         Topic::Save => saved(names, pc, text),
         Topic::Reload => Ok((Command::Reload, text)),
         Topic::Help => helped(text),
-        Topic::Trace => Ok((Command::Help(Some(Topic::Trace)), text)),
+        Topic::Trace | Topic::Page => Ok((Command::Help(Some(topic)), text)),
         _ => Ok((Command::Quit, text)),
     }
 }
