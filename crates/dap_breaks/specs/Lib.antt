@@ -1,5 +1,6 @@
 pub mod Answered
 pub mod Breaks
+pub mod Completions
 pub mod Targets
 pub mod Wanted
 pub mod Watches

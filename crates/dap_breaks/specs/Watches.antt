@@ -1,10 +1,10 @@
 -- Watched bytes. Source: Debug Adapter Protocol 1.65, "DataBreakpointInfo Request",
 -- "SetDataBreakpoints Request"; that a write is a change, and that the list stands for all watches,
 -- mos65.
-use Rattle.std.specs.Prelude.{ℕ, ◌≡◌, ◌==◌, ◌||◌, not, Bool, true, bytes_eq, if◌then◌else◌, List, [], ◌∷◌, ◌++◌, codes, Option, Some, None, option_and_then, unwrap_or}
+use Rattle.std.specs.Prelude.{ℕ, ◌≡◌, ◌==◌, ◌||◌, ◌&&◌, not, Bool, true, bytes_eq, if◌then◌else◌, List, [], ◌∷◌, ◌++◌, codes, map, Option, Some, None, option_and_then, unwrap_or}
 use Rattle.std.specs.List.{flat_map}
-use Rattle.dap_breaks.specs.declared.watches.TheConstants.{NO_DATA}
-use Rattle.dap_messages.specs.Answers.{data_at, no_data}
+use Rattle.dap_breaks.specs.declared.watches.TheConstants.{NO_DATA, NOT_WATCHED}
+use Rattle.dap_messages.specs.Answers.{breakpoints_body, data_at, data_unwatched, data_watched, no_data}
 use Rattle.dap_messages.specs.Fields.{number_at, text_at}
 use Rattle.dap_messages.specs.References.{place_at}
 use Rattle.dap_views.specs.Looks.{place_named}
@@ -14,7 +14,7 @@ use Rattle.mon_lines.specs.declared.command.WatchKind.{WatchKind}
 use Rattle.mon_lines.specs.declared.command.WatchKind.TheVariants.{Change, Read, Write}
 use Rattle.mon_session.specs.declared.desk.Desk.{Desk}
 use Rattle.mon_settings.specs.StopLines.{can_watch, or_same, with_watch}
-use Rattle.mon_stops.specs.Stops.{new_changes}
+use Rattle.mon_stops.specs.Stops.{has_access, new_changes}
 use Rattle.mon_stops.specs.declared.watches.Watch.{Watch}
 use Rattle.mon_stops.specs.declared.watches.Watch.TheVariants.{Bytes}
 use Rattle.serde_json.specs.Data.{Data, Items, no_items}
@@ -114,6 +114,37 @@ abbrev pub SetsWatches : Data → Desk → Desk → Type 0
 SetsWatches request old new = (listed : List Data)
     × (items_of listed ≡ items_at (codes "/arguments/breakpoints") request)
     × (watched_of new ≡ with_all (watches_in listed) (none_watched (watched_of old)))
+
+-- ---- what is answered
+
+-- Whether a byte is watched for an access.
+abbrev pub is_watched : List Watch → ℕ → List ℕ → Bool
+is_watched watches address access = if bytes_eq access (codes "read")
+    then has_access Read address watches
+    else if bytes_eq access (codes "readWrite")
+    then has_access Read address watches && has_access Write address watches
+    else has_access Change address watches
+
+abbrev pub access_of : Data → List ℕ
+access_of wanted = unwrap_or (text_at (codes "/accessType") wanted) (codes "write")
+
+-- A byte that a client wants watched is told to be watched, or why it is not.
+abbrev pub told_at : List Watch → Option ℕ → List ℕ → Data
+told_at watches (Some address) access = if is_watched watches address access then data_watched
+    else data_unwatched NOT_WATCHED.now
+told_at watches None access = data_unwatched NO_DATA.now
+
+abbrev pub told_of : List Watch → Data → Data
+told_of watches wanted = told_at watches (place_at (codes "/dataId") (codes "/offset") wanted)
+    (access_of wanted)
+
+-- Each byte of the list is told of, in the order of the list.
+abbrev pub TellsWatches : Data → List Watch → Data → Type 0
+TellsWatches request watches v = (listed : List Data)
+    × (items_of listed ≡ items_at (codes "/arguments/breakpoints") request)
+    × (v ≡ breakpoints_body (map (told_of watches) listed))
+
+-- ---- what stays
 
 -- Events, breaks, names, lines, and what is shown at each stop are what they were.
 abbrev pub KeepsBreaks : Desk → Desk → Type 0

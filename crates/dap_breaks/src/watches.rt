@@ -1,7 +1,9 @@
 //! Bytes that are watched: each list of them replaces the one before.
 
 ghost use Rattle.std.specs.Prelude.{◌≡◌, ◌++◌, ◌∷◌, [], IfOk, OnOk, map as each, option_map};
-ghost use Rattle.dap_breaks.specs.Watches.{KeepsBreaks, SetsWatches, all_unset, byte_watch};
+ghost use Rattle.dap_messages.specs.Answers.{breakpoints_body};
+ghost use Rattle.dap_breaks.specs.Watches.{KeepsBreaks, SetsWatches, TellsWatches, access_of};
+ghost use Rattle.dap_breaks.specs.Watches.{all_unset, byte_watch, is_watched, told_at, told_of};
 ghost use Rattle.dap_breaks.specs.Watches.{data_by, data_shown, has_bytes, name_of, none_watched};
 ghost use Rattle.dap_breaks.specs.Watches.{place_if, place_of, unset, watched_of, watches_by, watches_in};
 ghost use Rattle.dap_breaks.specs.Watches.{watches_named, watches_of, with_all, with_one};
@@ -16,7 +18,7 @@ use mon_lines::{Stretch, WatchKind};
 use mon_runs::Session;
 use mon_session::Desk;
 use mon_settings::set_watch;
-use mon_stops::Watch;
+use mon_stops::{Stops, Watch};
 use serde_json::Value;
 use std::alloc::{AllocError, Global};
 
@@ -24,7 +26,7 @@ use std::alloc::{AllocError, Global};
 pub const NO_DATA: &str = "this is no byte of memory";
 
 /// What is said of a byte that cannot be watched.
-const NOT_WATCHED: &str = "this byte cannot be watched";
+pub const NOT_WATCHED: &str = "this byte cannot be watched";
 
 /// Returns whether the variables of a scope can be bytes. Without a scope a name is a place.
 fn has_bytes(scope: Option<u64>) -> bool
@@ -209,32 +211,67 @@ fn replace_watches(desk: &mut Desk, watches: &[Watch]) -> Result<(), AllocError>
 }
 
 /// Returns whether a byte is watched for an access.
-fn is_watched(desk: &Desk, address: u16, access: &str) -> bool {
+fn is_watched(stops: &Stops, address: u16, access: &str) -> bool
+    ensures { result ≡ is_watched stops.now.watches.items address access.now }
+{
     match access {
-        "read" => desk.stops.has_access(WatchKind::Read, address),
+        "read" => stops.has_access(WatchKind::Read, address),
         "readWrite" => {
-            desk.stops.has_access(WatchKind::Read, address)
-                && desk.stops.has_access(WatchKind::Write, address)
+            stops.has_access(WatchKind::Read, address)
+                && stops.has_access(WatchKind::Write, address)
         }
-        _ => desk.stops.has_access(WatchKind::Change, address),
+        _ => stops.has_access(WatchKind::Change, address),
     }
 }
 
-/// Returns what is answered of a byte that a client wants watched.
-fn answer(alloc: Global, desk: &Desk, wanted: &Value) -> Result<Value, AllocError> {
-    let access = text_at(wanted, "/accessType").unwrap_or("write");
-    match place_at(wanted, "/dataId", "/offset") {
-        Some(address) if is_watched(desk, address, access) => data_watched(alloc),
-        Some(_) => data_unwatched(alloc, NOT_WATCHED),
+/// Returns the access for which a client wants a byte watched: that of changes if it names none.
+fn access_of(wanted: &Value) -> &str
+    ensures { result.now ≡ access_of (view wanted.now) }
+{
+    match text_at(wanted, "/accessType") {
+        Some(access) => access,
+        None => "write",
+    }
+}
+
+/// Returns what is answered of a byte that a client wants watched for an access.
+fn told_at(
+    alloc: Global,
+    stops: &Stops,
+    address: Option<u16>,
+    access: &str,
+) -> Result<Value, AllocError>
+    ensures { IfOk result
+        (λ v. view v ≡ told_at stops.now.watches.items address access.now) }
+{
+    match address {
+        Some(address) => {
+            if is_watched(stops, address, access) {
+                data_watched(alloc)
+            } else {
+                data_unwatched(alloc, NOT_WATCHED)
+            }
+        }
         None => data_unwatched(alloc, NO_DATA),
     }
 }
 
+/// Returns what is answered of a byte that a client wants watched.
+fn told(alloc: Global, stops: &Stops, wanted: &Value) -> Result<Value, AllocError>
+    ensures { IfOk result (λ v. view v ≡ told_of stops.now.watches.items (view wanted.now)) }
+{
+    let address = place_at(wanted, "/dataId", "/offset");
+    told_at(alloc, stops, address, access_of(wanted))
+}
+
 /// Returns what is answered of bytes that a client wants watched.
-fn answers(alloc: Global, desk: &Desk, listed: &[Value]) -> Result<Value, AllocError> {
+fn all_told(alloc: Global, stops: &Stops, listed: &[Value]) -> Result<Value, AllocError>
+    ensures { IfOk result (λ v. view v ≡ breakpoints_body
+        (each (told_of stops.now.watches.items) (each view listed.now))) }
+{
     let mut list = Vec::new(alloc);
     for wanted in listed {
-        let value = answer(alloc, desk, wanted)?;
+        let value = told(alloc, stops, wanted)?;
         list.push(value)?;
     }
     breakpoints_body(alloc, list)
@@ -255,11 +292,14 @@ pub fn set_data(
     ensures kept { KeepsBreaks desk.old desk.new }
     ensures lines { listed.new.lines ≡ listed.old.lines }
     ensures addresses { listed.new.addresses ≡ listed.old.addresses }
+    ensures answer { IfOk result
+        (λ v. TellsWatches (view request.now) desk.new.stops.watches.items (view v)) }
 {
     let wanted = list_of(request);
     let watches = watches_in(alloc, wanted)?;
     replace_watches(desk, watches.as_slice())?;
     desk.text.clear();
     listed.data_request = Some(request.clone()?);
-    answers(alloc, desk, wanted)
+    let body = all_told(alloc, &desk.stops, wanted)?;
+    Ok(body)
 }

@@ -1,7 +1,8 @@
 -- The values of answers. The members of an object stand in the order of their names. Source: Debug
 -- Adapter Protocol 1.65, "StackFrame", "Breakpoint", "Evaluate Request", "SetVariable Request",
 -- "ReadMemory Request", "WriteMemory Request",
--- "DisassembledInstruction", "GotoTarget", "DataBreakpointInfo Request", "ExceptionInfo Request", "Invalidated Event".
+-- "DisassembledInstruction", "GotoTarget", "CompletionItem", "DataBreakpointInfo Request",
+-- "ExceptionInfo Request", "Invalidated Event".
 use Rattle.std.specs.Prelude.{ℕ, true, false, List, [], ◌∷◌, codes}
 use Rattle.dap_messages.specs.Bodies.{only}
 use Rattle.dap_messages.specs.Messages.{count, object_of, word}
@@ -75,6 +76,15 @@ goto_target address line = object_of ((codes "id", count address)
     ∷ (codes "instructionPointerReference", word (reference address))
     ∷ (codes "label", word (address_text address)) ∷ (codes "line", count line) ∷ [])
 
+-- ---- what can stand for what is typed
+
+-- A word stands for so many bytes from a column on.
+abbrev pub completion : List ℕ → ℕ → ℕ → Data
+completion text start length = object_of ((codes "label", word text)
+    ∷ (codes "length", count length) ∷ (codes "start", count start)
+    ∷ (codes "text", word text) ∷ [])
+
+-- Both are called targets.
 abbrev pub targets_body : List Data → Data
 targets_body ds = object_of ((codes "targets", list_of ds) ∷ [])
 

@@ -1,5 +1,5 @@
 -- The bodies of answers. Source: Debug Adapter Protocol 1.65.
-use Rattle.std.specs.Prelude.{ℕ, Bool, true, false, if◌then◌else◌, List, [], ◌∷◌, ◌++◌, codes}
+use Rattle.std.specs.Prelude.{ℕ, true, false, List, [], ◌∷◌, codes}
 use Rattle.dap_messages.specs.Messages.{count, object_of, word}
 use Rattle.serde_json.specs.Data.{Data, array, boolean, item, no_items}
 
@@ -18,7 +18,8 @@ continued = object_of ((codes "allThreadsContinued", yes) ∷ [])
 
 -- What the adapter can do.
 unfoldable pub capabilities : Data
-capabilities = object_of ((codes "supportsConditionalBreakpoints", yes)
+capabilities = object_of ((codes "supportsCompletionsRequest", yes)
+    ∷ (codes "supportsConditionalBreakpoints", yes)
     ∷ (codes "supportsConfigurationDoneRequest", yes) ∷ (codes "supportsDataBreakpoints", yes)
     ∷ (codes "supportsDisassembleRequest", yes) ∷ (codes "supportsEvaluateForHovers", yes)
     ∷ (codes "supportsExceptionInfoRequest", yes) ∷ (codes "supportsGotoTargetsRequest", yes)

@@ -15,12 +15,13 @@ pub fn capabilities(alloc: Global) -> Result<Value, AllocError>
     ensures { IfOk result (λ v. view v ≡ capabilities) }
 {
     json!(in alloc; {
-        "supportsConditionalBreakpoints": true, "supportsConfigurationDoneRequest": true,
-        "supportsDataBreakpoints": true, "supportsDisassembleRequest": true,
-        "supportsEvaluateForHovers": true, "supportsExceptionInfoRequest": true,
-        "supportsGotoTargetsRequest": true, "supportsHitConditionalBreakpoints": true,
-        "supportsInstructionBreakpoints": true, "supportsReadMemoryRequest": true,
-        "supportsRestartRequest": true, "supportsSetVariable": true, "supportsStepBack": true,
+        "supportsCompletionsRequest": true, "supportsConditionalBreakpoints": true,
+        "supportsConfigurationDoneRequest": true, "supportsDataBreakpoints": true,
+        "supportsDisassembleRequest": true, "supportsEvaluateForHovers": true,
+        "supportsExceptionInfoRequest": true, "supportsGotoTargetsRequest": true,
+        "supportsHitConditionalBreakpoints": true, "supportsInstructionBreakpoints": true,
+        "supportsReadMemoryRequest": true, "supportsRestartRequest": true,
+        "supportsSetVariable": true, "supportsStepBack": true,
         "supportsSteppingGranularity": true, "supportsTerminateRequest": true,
         "supportsWriteMemoryRequest": true
     })

@@ -6,9 +6,9 @@
 //! bodies that say the same whatever the session. `texts` has bytes, addresses and references as
 //! they are shown, `variables` the variables of a scope, `frames` the frames of a stack,
 //! `breakpoints` what is told of a breakpoint, `instructions` the rows of a disassembly, `targets`
-//! lines to go to, `watched` bytes that are watched, `answers` the bodies of other answers. Which
-//! request each command is stands in `specs/Requests.antt`, what a client means in
-//! `specs/Counting.antt` and `specs/References.antt`, what the messages are in
+//! lines to go to and what can stand for what is typed, `watched` bytes that are watched, `answers`
+//! the bodies of other answers. Which request each command is stands in `specs/Requests.antt`, what
+//! a client means in `specs/Counting.antt` and `specs/References.antt`, what the messages are in
 //! `specs/Messages.antt`, the bodies in `specs/Bodies.antt`, `specs/Texts.antt`,
 //! `specs/Variables.antt` and `specs/Answers.antt`.
 #![tactic(auto)]
@@ -42,7 +42,7 @@ pub use message::{Message, message_value, next_number};
 pub use references::{offset_at, place_at};
 pub use request::{Move, Request};
 pub use requests::{command_of, number_of, request_of};
-pub use targets::{goto_target, targets_body};
+pub use targets::{completion, goto_target, targets_body};
 pub use texts::{address_text, byte_text, reference};
 pub use variables::{
     byte_variable, number_variable, push_flags, push_registers, variable, variables_body,

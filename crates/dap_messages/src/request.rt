@@ -46,6 +46,8 @@ pub enum Request {
     SetVariable,
     /// A line of the console, or what a name stands for.
     Evaluate,
+    /// What can stand in a line of the console for what is typed.
+    Completions,
     /// Bytes of memory.
     ReadMemory,
     /// Instructions, each in a row.

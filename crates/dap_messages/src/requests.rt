@@ -31,6 +31,7 @@ fn other_named(name: &str) -> Request
         "variables" => Request::Variables,
         "setVariable" => Request::SetVariable,
         "evaluate" => Request::Evaluate,
+        "completions" => Request::Completions,
         "readMemory" => Request::ReadMemory,
         "disassemble" => Request::Disassemble,
         "writeMemory" => Request::WriteMemory,

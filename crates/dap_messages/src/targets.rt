@@ -1,7 +1,7 @@
-//! Lines to go to.
+//! Lines to go to, and what can stand for what is typed.
 
 ghost use Rattle.std.specs.Prelude.{◌≡◌, IfOk, map as each};
-ghost use Rattle.dap_messages.specs.Answers.{goto_target, targets_body};
+ghost use Rattle.dap_messages.specs.Answers.{completion, goto_target, targets_body};
 ghost use Rattle.serde_json.specs.View.{view};
 
 use crate::texts::{address_text, reference};
@@ -21,7 +21,14 @@ pub fn goto_target(alloc: Global, address: u16, line: u64) -> Result<Value, Allo
     })
 }
 
-/// Returns the answer that has some addresses to go to.
+/// Returns a word that can stand for so many bytes that are typed, from a column on.
+pub fn completion(alloc: Global, word: &str, start: u64, length: u64) -> Result<Value, AllocError>
+    ensures { IfOk result (λ v. view v ≡ completion word.now start length) }
+{
+    json!(in alloc; {"label": word, "length": length, "start": start, "text": word})
+}
+
+/// Returns the answer that has some targets.
 pub fn targets_body(alloc: Global, list: Vec<Value>) -> Result<Value, AllocError>
     ensures { IfOk result (λ v. view v ≡ targets_body (each view list.items)) }
 {

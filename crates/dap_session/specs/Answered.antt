@@ -2,8 +2,9 @@
 use Rattle.std.specs.Prelude.{◌≡◌, ⊤, List, [], ◌∷◌, codes, string_bytes}
 use Rattle.assembler.specs.Assembly.{AssemblyView}
 use Rattle.dap_breaks.specs.Breaks.{KeepsEvents, SetsBreaks, SetsSourceBreaks, place_of}
+use Rattle.dap_breaks.specs.Completions.{completions}
 use Rattle.dap_breaks.specs.Targets.{AreTargets}
-use Rattle.dap_breaks.specs.Watches.{KeepsBreaks, SetsWatches, data_shown}
+use Rattle.dap_breaks.specs.Watches.{KeepsBreaks, SetsWatches, TellsWatches, data_shown}
 use Rattle.dap_messages.specs.Bodies.{nothing, scopes, threads}
 use Rattle.dap_messages.specs.Messages.{Said, done, event}
 use Rattle.dap_messages.specs.declared.request.Request.{Request}
@@ -60,6 +61,8 @@ IsShown to.ReadMemory request counting seat v
 IsShown to.Disassemble request counting seat v
     = v ≡ disassembled seat.desk (string_bytes seat.options.file) counting request
 IsShown to.DataBreakpointInfo request counting seat v = v ≡ data_shown seat.desk request
+IsShown to.Completions request counting seat v
+    = v ≡ completions counting seat.assembly request
 IsShown to.ExceptionInfo request counting seat v = v ≡ exception_body (string_bytes seat.told.words)
 IsShown to.SetExceptionBreakpoints request counting seat v = v ≡ breakpoints_body []
 IsShown to.Pause request counting seat v = v ≡ nothing
@@ -73,6 +76,11 @@ Shows asked request counting seat said
 abbrev pub ShowsTargets : Data → Counting → Seat → List Said → Type 0
 ShowsTargets request counting seat said
     = (v : Data) × AreTargets counting seat.assembly request v × (said ≡ done v ∷ [])
+
+-- Whether each byte that was asked for is watched.
+abbrev pub ShowsWatches : Data → Seat → List Said → Type 0
+ShowsWatches request seat said = (v : Data)
+    × TellsWatches request seat.desk.stops.watches.items v × (said ≡ done v ∷ [])
 
 -- The program is said to have ended.
 abbrev pub Terminates : List Said → Type 0
@@ -97,11 +105,11 @@ AreAnswers to.Evaluate request counting old new said
 AreAnswers to.SetVariable request counting old new said
     = HasChanged old.desk new.desk × IsDone said
 AreAnswers to.SetDataBreakpoints request counting old new said
-    = SetsWatches request old.desk new.desk × KeepsBreaks old.desk new.desk × IsDone said
+    = SetsWatches request old.desk new.desk × KeepsBreaks old.desk new.desk
+    × ShowsWatches request new said
 AreAnswers to.Goto request counting old new said
     = Goes request old.desk new.desk × IsDone said
-AreAnswers to.WriteMemory request counting old new said
-    = Writes request old.desk new.desk × IsDone said
+AreAnswers to.WriteMemory request counting old new said = Writes request old.desk new.desk said
 AreAnswers to.GotoTargets request counting old new said
     = (new ≡ old) × ShowsTargets request counting old said
 AreAnswers to.Restart request counting old new said = Restarts old new × IsDone said

@@ -1,10 +1,13 @@
 -- What a request does to a session that changes it by events, which can be undone. Source: Debug
 -- Adapter Protocol 1.65, "SetVariable Request", "Goto Request", "WriteMemory Request"; mos65.
-use Rattle.std.specs.Prelude.{ℕ, ◌≡◌, ⊤, nat_le, if◌then◌else◌, List, [], codes, Option, Some, None, option_and_then, unwrap_or, Result, Ok}
+use Rattle.std.specs.Prelude.{ℕ, suc, ◌+◌, ◌≡◌, ◌==◌, ◌&&◌, ⊤, nat_le, nat_lt, Bool, if◌then◌else◌, List, [], ◌∷◌, codes, slice_index, Option, Some, None, option_and_then, unwrap_or, Result, Ok}
 use Rattle.base64.specs.Engines.{standard}
 use Rattle.base64.specs.GeneralPurpose.{decode_of}
+use Rattle.dap_messages.specs.Answers.{written_body}
 use Rattle.dap_messages.specs.Fields.{number_at, text_at}
+use Rattle.dap_messages.specs.Messages.{Said, done}
 use Rattle.dap_messages.specs.References.{place_at}
+use Rattle.dap_views.specs.Told.{unmoved_said}
 use Rattle.mon_session.specs.Course.{KeepsStops, course_of, happened}
 use Rattle.mon_session.specs.declared.desk.Desk.{Desk}
 use Rattle.mon_settings.specs.ByteLines.{bytes_put}
@@ -50,13 +53,29 @@ Goes request old new
 abbrev pub data_of : Data → List ℕ
 data_of request = unwrap_or (text_at (codes "/arguments/data") request) []
 
--- The bytes are put into memory from the address on, up to the first that is rejected.
-abbrev pub HasWritten : ℕ → Data → Desk → Desk → Type 0
-HasWritten address request old new = (bytes : List ℕ)
+-- Whether memory has a byte at an address.
+abbrev pub is_there : List ℕ → ℕ → ℕ → Bool
+is_there memory address byte = nat_lt address 65536 && (slice_index memory address == byte)
+
+-- How many of some bytes memory has from an address on, up to the first that differs.
+unfoldable pub count_there : List ℕ → ℕ → List ℕ → ℕ
+count_there memory address [] = 0
+count_there memory address (byte ∷ bytes) = if is_there memory address byte
+    then suc (count_there memory (address + 1) bytes) else 0
+
+-- So many bytes were written, and all that is shown may have changed.
+abbrev pub written_said : ℕ → List Said
+written_said n = done (written_body n) ∷ unmoved_said ∷ []
+
+-- The bytes are put into memory from the address on, up to the first that is rejected. Those that
+-- are there then are said to be written.
+abbrev pub HasWritten : ℕ → Data → Desk → Desk → List Said → Type 0
+HasWritten address request old new said = (bytes : List ℕ)
     × (decode_of standard (data_of request) ≡ Ok bytes)
     × (course_of new ≡ bytes_put address bytes (course_of old)) × KeepsStops old new
+    × (said ≡ written_said (count_there new.session.current.bus.memory address bytes))
 
-abbrev pub Writes : Data → Desk → Desk → Type 0
-Writes request old new = (address : ℕ)
+abbrev pub Writes : Data → Desk → Desk → List Said → Type 0
+Writes request old new said = (address : ℕ)
     × (place_at (codes "/arguments/memoryReference") (codes "/arguments/offset") request
-    ≡ Some address) × HasWritten address request old new
+    ≡ Some address) × HasWritten address request old new said

@@ -1,6 +1,6 @@
 -- What a request does to an adapter, and what is said. Source: Debug Adapter Protocol 1.65; in which
 -- order requests come, mos65.
-use Rattle.std.specs.Prelude.{ℕ, ◌≡◌, ◌⊎◌, ⊤, List, [], ◌∷◌, codes, Option, Some, None}
+use Rattle.std.specs.Prelude.{ℕ, ◌≡◌, ◌⊎◌, ⊤, Bool, true, false, is_none, List, [], ◌∷◌, codes, Option, Some, None}
 use Rattle.dap_messages.specs.Bodies.{capabilities, nothing}
 use Rattle.dap_messages.specs.Fields.{text_at}
 use Rattle.dap_messages.specs.Messages.{Said, done, event, refused}
@@ -8,7 +8,7 @@ use Rattle.dap_messages.specs.declared.request.Request.{Request}
 use Rattle.dap_messages.specs.declared.request.Request.TheVariants as to
 use Rattle.dap_session.specs.Answered.{AreAnswers}
 use Rattle.dap_launch.specs.Begun.{IsBegun}
-use Rattle.dap_session.specs.Console.{IsMemory, ShowsIfRefused}
+use Rattle.dap_session.specs.Console.{IsMemory, ShowsIfRefused, over}
 use Rattle.dap_launch.specs.Options.{AreOptions}
 use Rattle.dap_launch.specs.declared.fault.Fault.{Fault}
 use Rattle.dap_launch.specs.declared.fault.Fault.TheVariants as fault
@@ -100,8 +100,17 @@ ObeysBy (Some counting) asked request old new said
 abbrev pub ObeysAdapter : Request → Data → Adapter → Adapter → List Said → Type 0
 ObeysAdapter asked request old new said = ObeysBy old.counting asked request old new said
 
-abbrev pub IsRefused : List Said → Type 0
-IsRefused said = (words : List ℕ) × (rest : List Said) × (said ≡ refused words ∷ rest)
+-- A launch that leaves no session ends, which is said behind its refusal.
+abbrev pub ends : Request → Option Seat → Bool
+ends to.Launch seat = is_none seat
+ends asked seat = false
+
+abbrev pub end_said : Bool → List Said
+end_said true = over ∷ []
+end_said false = []
+
+abbrev pub IsRefused : Bool → List Said → Type 0
+IsRefused is_end said = (words : List ℕ) × (said ≡ refused words ∷ end_said is_end)
 
 -- A session stays what it is, but for the text of what was said last.
 abbrev pub Stays : Option Seat → Option Seat → Type 0
@@ -112,4 +121,4 @@ Stays old new = ⊥
 -- What is asked for is done, and this is said; or it is refused, and nothing is changed.
 abbrev pub Serves : Request → Data → Adapter → Adapter → List Said → Type 0
 Serves asked request old new said = ObeysAdapter asked request old new said
-    ⊎ (IsRefused said × (new.counting ≡ old.counting) × Stays old.seat new.seat)
+    ⊎ (IsRefused (ends asked new.seat) said × (new.counting ≡ old.counting) × Stays old.seat new.seat)

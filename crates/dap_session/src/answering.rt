@@ -5,7 +5,7 @@ ghost use Rattle.dap_breaks.specs.Breaks.{KeepsEvents, SetsBreaks, SetsSourceBre
 ghost use Rattle.dap_breaks.specs.Watches.{KeepsBreaks, SetsWatches};
 ghost use Rattle.dap_messages.specs.Messages.{said_of};
 ghost use Rattle.dap_session.specs.Answered.{AreAnswers, BeginsAgain, IsDone, IsShown, KeepsMade, Restarts};
-ghost use Rattle.dap_session.specs.Answered.{Shows, ShowsTargets, Terminates};
+ghost use Rattle.dap_session.specs.Answered.{Shows, ShowsTargets, ShowsWatches, Terminates};
 ghost use Rattle.dap_session.specs.Console.{ShowsIfRefused};
 ghost use Rattle.dap_session.specs.Moves.{begun_stand, moved};
 ghost use Rattle.mon_steps.specs.RunLines.{KeepsWatches, stand_of};
@@ -16,7 +16,7 @@ use crate::console::{evaluate, set_variable};
 use crate::moves::make_move;
 use crate::stands::push_halt;
 use dap_breaks::{
-    Listed, data_shown, goto_targets, set_addresses, set_data, set_lines, set_source,
+    Listed, completions, data_shown, goto_targets, set_addresses, set_data, set_lines, set_source,
 };
 use dap_launch::{Fault, Seat, begin, refused, source_of};
 use dap_messages::{
@@ -120,11 +120,11 @@ fn set_by_address(
 }
 
 /// Watches the bytes that a request lists.
-#[tactic(auto, using(crate::proofs::Done::done_one))]
 fn watch(alloc: Global, seat: &mut Seat, request: &Value) -> Result<Vec<Message>, AllocError>
     ensures sets { OnOk result (SetsWatches (view request.now) seat.old.desk seat.new.desk) }
     ensures kept { OnOk result (KeepsBreaks seat.old.desk seat.new.desk) }
-    ensures answer { IfOk result (λ ms. IsDone (each said_of ms.items)) }
+    ensures answer { IfOk result
+        (λ ms. ShowsWatches (view request.now) seat.new (each said_of ms.items)) }
 {
     let body = set_data(alloc, &mut seat.desk, &mut seat.listed, request)?;
     answered(alloc, body)
@@ -252,6 +252,7 @@ fn shown(
         Request::Disassemble => Ok(disassembled(alloc, &seat.desk, &source, request)?),
         Request::ExceptionInfo => Ok(exception(alloc, seat.told.words.as_str())?),
         Request::SetExceptionBreakpoints => Ok(breakpoints_body(alloc, Vec::new(alloc))?),
+        Request::Completions => Ok(completions(alloc, &source, request)?),
         Request::Pause => Ok(nothing(alloc)?),
         _ => Err(refused(alloc, "this request is not served")),
     }
@@ -311,7 +312,7 @@ pub fn answer<H: Files + AllocGlobal>(
         Request::SetInstructionBreakpoints => Ok(set_by_address(alloc, seat, counting, request)?),
         Request::ConfigurationDone => Ok(configured(alloc, seat)?),
         Request::Evaluate => Ok(evaluate(alloc, seat, request)?),
-        Request::SetVariable => Ok(set_variable(alloc, seat, request)?),
+        Request::SetVariable => Ok(set_variable(alloc, seat, counting, request)?),
         Request::SetDataBreakpoints => Ok(watch(alloc, seat, request)?),
         Request::Goto => Ok(go_to(alloc, seat, request)?),
         Request::WriteMemory => Ok(write_memory(alloc, seat, request)?),
@@ -322,6 +323,7 @@ pub fn answer<H: Files + AllocGlobal>(
         Request::Scopes | Request::Variables => show(alloc, seat, counting, request, asked),
         Request::ReadMemory | Request::Disassemble => show(alloc, seat, counting, request, asked),
         Request::DataBreakpointInfo => show(alloc, seat, counting, request, asked),
+        Request::Completions => show(alloc, seat, counting, request, asked),
         Request::ExceptionInfo | Request::Pause => show(alloc, seat, counting, request, asked),
         Request::SetExceptionBreakpoints => show(alloc, seat, counting, request, asked),
         Request::Initialize | Request::Launch => show(alloc, seat, counting, request, asked),

@@ -5,7 +5,8 @@ ghost use Rattle.base64.specs.Engines.{standard};
 ghost use Rattle.base64.specs.GeneralPurpose.{decode_of};
 ghost use Rattle.dap_messages.specs.Messages.{said_of};
 ghost use Rattle.dap_session.specs.Answered.{IsDone};
-ghost use Rattle.dap_session.specs.Changes.{Goes, HasGone, HasWritten, Writes, data_of, target_at};
+ghost use Rattle.dap_session.specs.Changes.{Goes, HasGone, HasWritten, Writes, count_there, data_of};
+ghost use Rattle.dap_session.specs.Changes.{is_there, target_at, written_said};
 ghost use Rattle.dap_session.specs.Console.{ShowsIfRefused};
 ghost use Rattle.mon_session.specs.Course.{KeepsStops, course_of};
 ghost use Rattle.mon_settings.specs.ByteLines.{bytes_put};
@@ -103,15 +104,24 @@ fn bytes_in(alloc: Global, request: &Value) -> Result<Vec<u8>, Fault>
     }
 }
 
-/// Returns how many bytes of a list memory has from an address on.
-fn count_there(session: &Session, address: u16, bytes: &[u8]) -> u64 {
-    let mut count = 0u64;
+/// Returns whether memory has a byte at an address.
+fn is_there(session: &Session, address: u64, byte: u8) -> bool
+    ensures { result ≡ is_there session.now.current.bus.memory address byte }
+{
+    address < 65536 && session.peek(address as u16) == byte
+}
+
+/// Returns how many of some bytes memory has from an address on, up to the first that differs.
+#[tactic(auto, unfolding(crate::specs::Changes::count_there))]
+fn count_there(session: &Session, address: u16, bytes: &[u8]) -> u64
+    ensures { result ≡ count_there session.now.current.bus.memory address bytes.now }
+{
+    let mut count = 0;
     for byte in bytes {
-        let place = u64::from(address).saturating_add(count);
-        if place > 65535 || session.peek(place as u16) != *byte {
+        if !is_there(session, u64::from(address) + count, *byte) {
             return count;
         }
-        count = count.saturating_add(1);
+        count += 1;
     }
     count
 }
@@ -127,10 +137,9 @@ fn put_all(desk: &mut Desk, address: u16, bytes: &[u8]) -> Result<(), AllocError
     done
 }
 
-/// Says how many bytes memory has of those that were written, and that it has changed.
-#[tactic(auto, using(crate::proofs::Done::done_one, crate::proofs::Done::done_more))]
+/// Says how many bytes were written, and that memory has changed.
 fn written(alloc: Global, count: u64) -> Result<Vec<Message>, AllocError>
-    ensures answer { IfOk result (λ ms. IsDone (each said_of ms.items)) }
+    ensures { IfOk result (λ ms. each said_of ms.items ≡ written_said count) }
 {
     let body = written_body(alloc, count)?;
     let mut messages = answered(alloc, body)?;
@@ -148,8 +157,8 @@ fn write_at(
     address: u16,
     request: &Value,
 ) -> Result<Vec<Message>, Fault>
-    ensures done { OnOk result (HasWritten address (view request.now) desk.old desk.new) }
-    ensures answer { IfOk result (λ ms. IsDone (each said_of ms.items)) }
+    ensures done { IfOk result (λ ms. HasWritten address (view request.now) desk.old desk.new
+        (each said_of ms.items)) }
     ensures refused { IfErr result (λ f. ShowsIfRefused f desk.old desk.new) }
 {
     let bytes = bytes_in(alloc, request)?;
@@ -165,8 +174,8 @@ fn write_at(
 /// Errors: `Refused` if the request names no address, or the bytes are not written in Base64.
 #[tactic(auto, using(crate::proofs::Stays::shows_same))]
 pub fn write_memory(alloc: Global, seat: &mut Seat, request: &Value) -> Result<Vec<Message>, Fault>
-    ensures done { OnOk result (Writes (view request.now) seat.old.desk seat.new.desk) }
-    ensures answer { IfOk result (λ ms. IsDone (each said_of ms.items)) }
+    ensures done { IfOk result (λ ms. Writes (view request.now) seat.old.desk seat.new.desk
+        (each said_of ms.items)) }
     ensures refused { IfErr result (λ f. ShowsIfRefused f seat.old.desk seat.new.desk) }
 {
     match place_at(request, "/arguments/memoryReference", "/arguments/offset") {

@@ -11,9 +11,9 @@ ghost use Rattle.mon_session.specs.Course.{KeepsStops, course_of, happened};
 ghost use Rattle.serde_json.specs.View.{view};
 
 use crate::stands::push_halt;
-use dap_launch::{Fault, Seat, refused, refused_by};
-use dap_messages::{Message, evaluated, nothing, number_at, text_at, value_set};
-use dap_views::{Reason, answered, look_at, stand_by, tell_unmoved};
+use dap_launch::{Fault, Seat, refused, refused_by, source_of};
+use dap_messages::{Counting, Message, evaluated, nothing, number_at, text_at, value_set};
+use dap_views::{Reason, answered, look_at, stand_by, tell_unmoved, variables_shown};
 use mon_dispatch::serve;
 use mon_lines::{Command, Flag, Slip, read_line};
 use mon_runs::Event;
@@ -259,19 +259,53 @@ fn change(alloc: Global, desk: &mut Desk, line: &[u8]) -> Result<(), Fault>
     }
 }
 
-/// Sets a variable.
+/// Returns the value of the first of some variables that has a name.
+fn value_of<'a>(variables: &'a [Value], name: &str) -> Option<&'a str> {
+    for variable in variables {
+        match text_at(variable, "/name") {
+            Some(other) if other == name => return text_at(variable, "/value"),
+            _ => {}
+        }
+    }
+    None
+}
+
+/// Returns the answer to a request that has set a variable: the value that its scope shows then.
+fn value_shown(
+    alloc: Global,
+    seat: &Seat,
+    counting: Counting,
+    request: &Value,
+) -> Result<Value, AllocError> {
+    let source = source_of(&seat.options, &seat.assembly, counting);
+    let shown = variables_shown(alloc, &seat.desk, &source, request)?;
+    let name = text_at(request, "/arguments/name").unwrap_or("");
+    let asked = text_at(request, "/arguments/value").unwrap_or("");
+    let value = match shown.pointer("/variables").and_then(Value::as_array) {
+        Some(variables) => value_of(variables.as_slice(), name).unwrap_or(asked),
+        None => asked,
+    };
+    value_set(alloc, value)
+}
+
+/// Sets a variable, and says that what the client shows may have changed.
 ///
 /// Errors: `Refused` if the value is none that it can have.
-#[tactic(auto, using(crate::proofs::Done::done_one, crate::proofs::Stays::shows_same))]
-pub fn set_variable(alloc: Global, seat: &mut Seat, request: &Value) -> Result<Vec<Message>, Fault>
+#[tactic(auto, using(crate::proofs::Done::done_one, crate::proofs::Done::done_more, crate::proofs::Stays::shows_same))]
+pub fn set_variable(
+    alloc: Global,
+    seat: &mut Seat,
+    counting: Counting,
+    request: &Value,
+) -> Result<Vec<Message>, Fault>
     ensures done { OnOk result (HasChanged seat.old.desk seat.new.desk) }
     ensures answer { IfOk result (λ ms. IsDone (each said_of ms.items)) }
     ensures refused { IfErr result (λ f. ShowsIfRefused f seat.old.desk seat.new.desk) }
 {
     let line = setting_line(alloc, request)?;
     change(alloc, &mut seat.desk, line.as_bytes())?;
-    let value = text_at(request, "/arguments/value").unwrap_or("");
-    let body = value_set(alloc, value)?;
-    let messages = answered(alloc, body)?;
+    let body = value_shown(alloc, seat, counting, request)?;
+    let mut messages = answered(alloc, body)?;
+    tell_unmoved(alloc, &mut messages)?;
     Ok(messages)
 }

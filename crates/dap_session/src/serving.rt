@@ -1,12 +1,12 @@
 //! What is done with a request.
 
-ghost use Rattle.std.specs.Prelude.{◌≡◌, ◌∷◌, [], IfErr, IfOk, None, OnOk, map as each, string_bytes};
+ghost use Rattle.std.specs.Prelude.{◌≡◌, ◌∷◌, ◌++◌, [], IfErr, IfOk, None, OnOk, map as each, string_bytes};
 ghost use Rattle.dap_messages.specs.Messages.{refused, said_of};
 ghost use Rattle.dap_messages.specs.Requests.{request_of};
 ghost use Rattle.dap_session.specs.Served.{Begins, CountsIfRefused, Initializes, IsRefused};
 ghost use Rattle.dap_session.specs.Served.{ObeysAdapter, ObeysBegun, ObeysFirst, ObeysLaunched};
-ghost use Rattle.dap_session.specs.Served.{Launches, RestsIfRefused, Serves, StaysIfRefused, ended};
-ghost use Rattle.dap_session.specs.Served.{launched, need_of};
+ghost use Rattle.dap_session.specs.Served.{Launches, RestsIfRefused, Serves, StaysIfRefused, end_said};
+ghost use Rattle.dap_session.specs.Served.{ended, ends, launched, need_of};
 ghost use Rattle.serde_json.specs.View.{view};
 
 use crate::answering::answer;
@@ -153,7 +153,7 @@ fn need_of(asked: Request) -> Need
         Request::Scopes | Request::Variables | Request::SetVariable => Need::InSession,
         Request::Evaluate | Request::ReadMemory | Request::ExceptionInfo => Need::InSession,
         Request::Disassemble | Request::WriteMemory | Request::GotoTargets => Need::InSession,
-        Request::Goto | Request::DataBreakpointInfo => Need::InSession,
+        Request::Goto | Request::DataBreakpointInfo | Request::Completions => Need::InSession,
         Request::SetDataBreakpoints => Need::InSession,
         Request::Pause | Request::Restart | Request::Terminate | Request::Other => Need::InSession,
     }
@@ -217,7 +217,9 @@ fn serve_asked<H: Files + AllocGlobal>(
 }
 
 /// Returns whether a refused request leaves a client without a session that it asked for.
-fn ends(adapter: &Adapter, asked: Request) -> bool {
+fn ends(adapter: &Adapter, asked: Request) -> bool
+    ensures { result ≡ ends asked adapter.now.seat }
+{
     match asked {
         Request::Launch => adapter.seat.is_none(),
         _ => false,
@@ -235,25 +237,23 @@ fn refused_by(alloc: Global, words: String) -> Result<Vec<Message>, AllocError>
 }
 
 /// Appends that the session has ended, if it has.
-#[tactic(auto, using(crate::proofs::Done::refused_more))]
-fn push_end(alloc: Global, messages: &mut Vec<Message>, ends: bool) -> Result<(), AllocError>
-    ensures { OnOk result
-        (IsRefused (each said_of messages.old.items)
-        → IsRefused (each said_of messages.new.items)) }
+fn push_end(alloc: Global, messages: &mut Vec<Message>, is_end: bool) -> Result<(), AllocError>
+    ensures { OnOk result (each said_of messages.new.items
+        ≡ each said_of messages.old.items ++ end_said is_end) }
 {
-    if ends {
+    if is_end {
         push_terminated(alloc, messages)?;
     }
     Ok(())
 }
 
 /// Returns the refusal of a request, and that the session has ended, if it has.
-#[tactic(auto, using(crate::proofs::Done::refused_one))]
-fn refusal(alloc: Global, words: String, ends: bool) -> Result<Vec<Message>, AllocError>
-    ensures { IfOk result (λ ms. IsRefused (each said_of ms.items)) }
+#[tactic(auto, using(crate::proofs::Done::refused_end))]
+fn refusal(alloc: Global, words: String, is_end: bool) -> Result<Vec<Message>, AllocError>
+    ensures { IfOk result (λ ms. IsRefused is_end (each said_of ms.items)) }
 {
     let mut messages = refused_by(alloc, words)?;
-    push_end(alloc, &mut messages, ends)?;
+    push_end(alloc, &mut messages, is_end)?;
     Ok(messages)
 }
 
