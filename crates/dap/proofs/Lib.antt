@@ -1,2 +1,2 @@
-mod Attended
 mod Sent
+mod Runs

@@ -1,48 +1,23 @@
--- Which messages of its input a session of `dap` serves, in which order, and what it writes.
--- Source: Debug Adapter Protocol 1.65, "Base protocol"; mos65.
-use Rattle.std.specs.Prelude.{ℕ, ◌≡◌, Bool, true, false, List, [], ◌∷◌, ◌++◌, Option, None}
-use Rattle.std.specs.Io.KnownBytes.{Consumes}
+-- Messages that are served one after another. Source: Debug Adapter Protocol 1.65, "Base protocol";
+-- mos65.
+use Rattle.std.specs.Prelude.{ℕ, ◌≡◌, Bool, true, false, List, Option, Some, None}
+use Rattle.clap.specs.Words.{Text}
 use Rattle.dap.specs.Served.{Answers}
 use Rattle.dap_session.specs.declared.serving.Adapter.{Adapter}
-use Rattle.message_stream.specs.Messages.{AreMessages, IsFront}
+use Rattle.message_stream.specs.Sessions.{IsEndedBy}
 
--- After so many messages these bodies are served, one after another. None of them asks for the end.
--- So many messages are sent then, and this is written.
-unfoldable pub AreAnswered : List (List ℕ) → Adapter → ℕ → Adapter → ℕ → List ℕ → Type 0
-AreAnswered [] old sent new total written = (new ≡ old) × (total ≡ sent) × (written ≡ [])
-AreAnswered (body ∷ bodies) old sent new total written = (between : Adapter) × (so_far : ℕ)
-    × (front : List ℕ) × (behind : List ℕ) × Answers body old sent between so_far false front
-    × AreAnswered bodies between so_far new total behind × (written ≡ front ++ behind)
+-- The exit status that a message asks for, if it asks for the end.
+abbrev pub status_of : Bool → Option ℕ
+status_of true = Some 0
+status_of false = None
 
--- Of what a reader gave, behind bytes that were read before, each message was served in its order.
--- The last of them asked for the end, and none before it.
-unfoldable pub Attends : List ℕ → Adapter → Option (List ℕ) → Option (List ℕ) → List ℕ → Type 0
-Attends before first given left written = (told : List ℕ) × Consumes given left told
-    × (bodies : List (List ℕ)) × (last : List ℕ) × (held : List ℕ)
-    × AreMessages (before ++ told) (bodies ++ last ∷ []) held
-    × (between : Adapter) × (sent : ℕ) × (front : List ℕ)
-    × AreAnswered bodies first 0 between sent front
-    × (new : Adapter) × (total : ℕ) × (behind : List ℕ)
-    × Answers last between sent new total true behind × (written ≡ front ++ behind)
+-- A body is served. The state is an adapter, and how many messages were sent.
+unfoldable pub Turns : Option Text → List ℕ → Adapter × ℕ → Adapter × ℕ → Option ℕ → List ℕ → Type 0
+Turns seen body old new status written = (end : Bool)
+    × Answers seen body old.0 old.1 new.0 new.1 end written × (status ≡ status_of end)
 
--- The same of the messages that were taken so far, of which none asked for the end. So many bytes
--- are held that belong to none of them.
-unfoldable pub AttendsSoFar : List ℕ → Adapter → Option (List ℕ) → Option (List ℕ) → List ℕ
-    → Adapter → ℕ → List ℕ → Type 0
-AttendsSoFar before first given left held new sent written = (told : List ℕ)
-    × Consumes given left told
-    × (bodies : List (List ℕ)) × AreMessages (before ++ told) bodies held
-    × AreAnswered bodies first 0 new sent written
-
--- One message is taken of the bytes that are held and of what a reader gave, and it is served.
-unfoldable pub TakesTurn : List ℕ → Option (List ℕ) → Option (List ℕ) → List ℕ → Adapter → ℕ
-    → Adapter → ℕ → Bool → List ℕ → Type 0
-TakesTurn held given left rest old sent new total end written = (told : List ℕ)
-    × Consumes given left told
-    × (body : List ℕ) × IsFront (held ++ told) body rest
-    × Answers body old sent new total end written
-
--- A session: an adapter of which nothing was asked serves the messages from the first one on.
-abbrev pub IsAttended : Option (List ℕ) → Option (List ℕ) → List ℕ → Type 0
-IsAttended given left written = (first : Adapter) × (first.counting ≡ None)
-    × (first.seat ≡ None) × Attends [] first given left written
+-- A session: an adapter of which nothing was asked serves the messages from the first one on. The
+-- last of them asked for the end, and none before it.
+abbrev pub IsAttended : Option Text → Option (List ℕ) → Option (List ℕ) → List ℕ → Type 0
+IsAttended seen given left written = (first : Adapter) × (first.counting ≡ None)
+    × (first.seat ≡ None) × IsEndedBy (Turns seen) given left (first, 0) 0 written

@@ -2,3 +2,4 @@ pub mod Attended
 pub mod CommandLine
 pub mod Sent
 pub mod Served
+pub mod Slices

@@ -1,7 +1,9 @@
 -- What is done with a message, and what is written. Source: Debug Adapter Protocol 1.65, "Base
 -- protocol"; RFC 8259; what is said of a body that is no JSON, mos65.
-use Rattle.std.specs.Prelude.{ℕ, ◌≡◌, IsUtf8, Bool, true, false, List, [], ◌∷◌, Option, Some, None}
+use Rattle.std.specs.Prelude.{ℕ, ◌≡◌, IsUtf8, Bool, true, false, List, [], ◌∷◌, ◌++◌, Option, Some, None}
+use Rattle.clap.specs.Words.{Text}
 use Rattle.dap.specs.Sent.{AreSent}
+use Rattle.dap.specs.Slices.{MayRunOn, RunsOn}
 use Rattle.dap.specs.declared.serving.TheConstants.{NOT_JSON}
 use Rattle.dap_messages.specs.Messages.{Said, refused}
 use Rattle.dap_messages.specs.Requests.{request_of}
@@ -38,7 +40,11 @@ abbrev pub ServesBody : List ℕ → Adapter → Adapter → Data → List Said 
 ServesBody body old new request said end = (found : Option Data) × IsMessage body found
     × ServesFound found old new request said end
 
--- After so many messages a body is served, so many are sent then, and this is written.
-unfoldable pub Answers : List ℕ → Adapter → ℕ → Adapter → ℕ → Bool → List ℕ → Type 0
-Answers body old sent new total end written = (request : Data) × (said : List Said)
-    × ServesBody body old new request said end × AreSent sent request said total written
+-- After so many messages a body is served, and a run that nothing has stopped may go on. So many
+-- messages are sent then, and this is written.
+unfoldable pub Answers : Option Text → List ℕ → Adapter → ℕ → Adapter → ℕ → Bool → List ℕ → Type 0
+Answers seen body old sent new total end written = (request : Data) × (said : List Said)
+    × (served : Adapter) × ServesBody body old served request said end
+    × (again : ℕ) × MayRunOn seen again × (last : List Said) × (so_far : ℕ) × (front : List ℕ)
+    × (behind : List ℕ) × RunsOn again request said served sent last new so_far front
+    × AreSent so_far request last total behind × (written ≡ front ++ behind)

@@ -2,12 +2,14 @@
 //!
 //! `dap` is the word, with its command line (`words`). `serving` takes messages from the input and
 //! writes what is answered, by `sending`, before it takes the next. What a message asks for is done
-//! by `dap_session`. What is done with a message stands in `specs/Served.antt`, how messages are
-//! written in `specs/Sent.antt`.
+//! by `dap_session`. `slices` lets a run go on while no message waits. What is done with a message
+//! stands in `specs/Served.antt`, with a run in `specs/Slices.antt`; how messages are written
+//! stands in `specs/Sent.antt`.
 #![tactic(auto)]
 
 mod sending;
 mod serving;
+mod slices;
 mod words;
 
 pub use serving::dap;

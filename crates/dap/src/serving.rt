@@ -1,15 +1,20 @@
 //! Messages taken from the input, one after another, and answered.
 
-ghost use Rattle.std.specs.Prelude.{◌≡◌, ◌≢◌, ◌≤◌, ◌⊎◌, ℕ, IfOk, List, OnOk, map as each};
+ghost use Rattle.std.specs.Prelude.{◌≡◌, ◌≢◌, ◌≤◌, ◌⊎◌, ◌++◌, ℕ, IfOk, List, OnOk, map as each};
 ghost use Rattle.std.specs.Prelude.{option_map};
-ghost use Rattle.std.specs.Io.KnownBytes.{Appends};
-ghost use Rattle.dap.specs.Attended.{Attends, IsAttended, TakesTurn};
+ghost use Rattle.std.specs.Io.KnownBytes.{Appends, Consumes};
+ghost use Rattle.arguments.specs.Words.{texts};
+ghost use Rattle.dap.specs.Attended.{IsAttended, Turns};
+ghost use Rattle.dap.specs.CommandLine.{seen_in};
 ghost use Rattle.dap.specs.Served.{Answers, IsMessage, IsNotJson, ServesBody, ServesMessage};
 ghost use Rattle.dap.specs.Served.{is_end};
 ghost use Rattle.dap_messages.specs.Messages.{said_of};
+ghost use Rattle.message_stream.specs.Messages.{IsFront};
+ghost use Rattle.message_stream.specs.Sessions.{IsEndedBy};
 ghost use Rattle.serde_json.specs.View.{view};
 
 use crate::sending::send;
+use crate::slices::run_on;
 use crate::words::read_words;
 use arguments::{Refusal, put_all, refuse, refused_words};
 use dap_messages::{Message, Request, request_of};
@@ -77,6 +82,7 @@ fn is_end(asked: Request) -> bool
         Request::Disassemble | Request::WriteMemory => false,
         Request::GotoTargets | Request::Goto => false,
         Request::DataBreakpointInfo | Request::SetDataBreakpoints => false,
+        Request::Completions => false,
         Request::ExceptionInfo | Request::Pause | Request::Restart => false,
         Request::Terminate | Request::Other => false,
     }
@@ -117,26 +123,45 @@ fn serve_body<H: Files + AllocGlobal>(
 }
 
 /// Serves the body of a message and writes what is answered, after so many messages that were sent.
-/// Returns how many are sent then, and whether the message asks for the end.
+/// A run that nothing has stopped goes on as long as nothing of the client waits. Returns how many
+/// are sent then, and whether the message asks for the end.
 ///
 /// Errors: `Write` if the output fails; `OutOfMemory` if an allocation fails.
-#[tactic(auto, unfolding(crate::specs::Served::Answers))]
 fn answer<H: Files + AllocGlobal, O: Write>(
     rt: &H,
+    seen: Option<&str>,
+    incoming: &Incoming,
     adapter: &mut Adapter,
     body: &[u8],
     sent: u64,
     output: &mut O,
 ) -> Result<(u64, bool), StreamFault>
     ensures { IfOk result (λ p. (written : List ℕ)
-        × Answers body.now adapter.old sent adapter.new p.0 p.1 written
+        × Answers (option_map (λ s. s.now) seen.entry) body.now adapter.old sent adapter.new p.0
+        p.1 written
         × Appends (O.contents output.old) (O.contents output.new) written) }
 {
     let Ok(served) = serve_body(rt, adapter, body) else {
         return Err(StreamFault::OutOfMemory);
     };
-    let total = send(rt.alloc(), sent, &served.request, &served.messages, output)?;
-    Ok((total, served.is_end))
+    let Served {
+        request,
+        messages,
+        is_end,
+    } = served;
+    let mut waiting = messages;
+    let so_far = run_on(
+        rt,
+        seen,
+        incoming,
+        adapter,
+        &request,
+        &mut waiting,
+        sent,
+        output,
+    )?;
+    let total = send(rt.alloc(), so_far, &request, &waiting, output)?;
+    Ok((total, is_end))
 }
 
 /// Reads a message, and answers it, after so many messages that were sent. Returns how many are
@@ -145,19 +170,22 @@ fn answer<H: Files + AllocGlobal, O: Write>(
 /// Errors: those of `Incoming::next` and `answer`; `Cut` if the input has ended.
 fn take_turn<H: Files + AllocGlobal, R: Read, O: Write>(
     rt: &H,
+    seen: Option<&str>,
     incoming: &mut Incoming,
     adapter: &mut Adapter,
     sent: u64,
     input: &mut R,
     output: &mut O,
 ) -> Result<(u64, bool), StreamFault>
-    ensures { IfOk result (λ p. (written : List ℕ)
-        × TakesTurn incoming.old (R.remaining input.old) (R.remaining input.new) incoming.new
-        adapter.old sent adapter.new p.0 p.1 written
+    ensures { IfOk result (λ p. (told : List ℕ)
+        × Consumes (R.remaining input.old) (R.remaining input.new) told
+        × (body : List ℕ) × IsFront (incoming.old ++ told) body incoming.new × (written : List ℕ)
+        × Answers (option_map (λ s. s.now) seen.entry) body adapter.old sent adapter.new p.0 p.1
+        written
         × Appends (O.contents output.old) (O.contents output.new) written) }
 {
     match incoming.next(rt.alloc(), input)? {
-        Some(body) => answer(rt, adapter, &body, sent, output),
+        Some(body) => answer(rt, seen, incoming, adapter, &body, sent, output),
         None => Err(StreamFault::Cut),
     }
 }
@@ -168,18 +196,20 @@ fn take_turn<H: Files + AllocGlobal, R: Read, O: Write>(
 /// Errors: those of `take_turn`.
 fn take_turns<H: Files + AllocGlobal, R: Read, O: Write>(
     rt: &H,
-    incoming: &mut Incoming,
+    seen: Option<&str>,
     adapter: &mut Adapter,
     input: &mut R,
     output: &mut O,
 ) -> Result<(), StreamFault>
     ensures { OnOk result ((written : List ℕ)
-        × Attends incoming.old adapter.old (R.remaining input.old) (R.remaining input.new) written
+        × IsEndedBy (Turns (option_map (λ s. s.now) seen.entry)) (R.remaining input.old)
+        (R.remaining input.new) (adapter.old, 0) 0 written
         × Appends (O.contents output.old) (O.contents output.new) written) }
 {
+    let mut incoming = Incoming::new(rt.alloc());
     let mut sent = 0;
     for _ in 0..u64::MAX {
-        let (total, is_end) = take_turn(rt, incoming, adapter, sent, input, output)?;
+        let (total, is_end) = take_turn(rt, seen, &mut incoming, adapter, sent, input, output)?;
         if is_end {
             return Ok(());
         }
@@ -194,16 +224,17 @@ fn take_turns<H: Files + AllocGlobal, R: Read, O: Write>(
 /// output fails; `OutOfMemory` if an allocation fails.
 fn attend<H: Files + AllocGlobal, R: Read, O: Write>(
     rt: &H,
+    seen: Option<&str>,
     input: &mut R,
     output: &mut O,
 ) -> Result<(), StreamFault>
-    ensures { OnOk result ((input.new ≡ input.old) ⊎ ((written : List ℕ)
-        × IsAttended (R.remaining input.old) (R.remaining input.new) written
-        × Appends (O.contents output.old) (O.contents output.new) written)) }
+    ensures { OnOk result ((written : List ℕ)
+        × IsAttended (option_map (λ s. s.now) seen.entry) (R.remaining input.old)
+        (R.remaining input.new) written
+        × Appends (O.contents output.old) (O.contents output.new) written) }
 {
-    let mut incoming = Incoming::new(rt.alloc());
     let mut adapter = Adapter::new();
-    take_turns(rt, &mut incoming, &mut adapter, input, output)
+    take_turns(rt, seen, &mut adapter, input, output)
 }
 
 /// Returns why a session ends before its end is asked for, in words.
@@ -235,6 +266,7 @@ fn cut_off<E: Write>(fault: StreamFault, errors: &mut E) -> u8
 /// Serves a session, and returns the exit status.
 fn done<H: Files + AllocGlobal, R: Read, O: Write, E: Write>(
     rt: &H,
+    seen: Option<&str>,
     input: &mut R,
     output: &mut O,
     errors: &mut E,
@@ -242,11 +274,12 @@ fn done<H: Files + AllocGlobal, R: Read, O: Write, E: Write>(
     ensures status { result ≤ 4 }
     ensures quiet { result ≡ 0 → errors.new ≡ errors.old }
     ensures read { result ≢ 2 }
-    ensures attended { result ≡ 0 → (input.new ≡ input.old) ⊎ ((written : List ℕ)
-        × IsAttended (R.remaining input.old) (R.remaining input.new) written
-        × Appends (O.contents output.old) (O.contents output.new) written) }
+    ensures attended { result ≡ 0 → (written : List ℕ)
+        × IsAttended (option_map (λ s. s.now) seen.entry) (R.remaining input.old)
+        (R.remaining input.new) written
+        × Appends (O.contents output.old) (O.contents output.new) written }
 {
-    match attend(rt, input, output) {
+    match attend(rt, seen, input, output) {
         Ok(()) => 0,
         Err(fault) => cut_off(fault, errors),
     }
@@ -270,14 +303,15 @@ pub fn dap<H: Files + AllocGlobal, R: Read, O: Write, E: Write>(
     // Nothing was read, as where the words ask for help; or each message was served in its order,
     // up to the first `disconnect`, and the answers were written.
     ensures attended { result ≡ 0 → (input.new ≡ input.old) ⊎ ((written : List ℕ)
-        × IsAttended (R.remaining input.old) (R.remaining input.new) written
+        × IsAttended (seen_in (texts words.entry.now)) (R.remaining input.old)
+        (R.remaining input.new) written
         × Appends (O.contents output.old) (O.contents output.new) written) }
     // If the words are wrong, nothing is read and nothing is answered.
     ensures unread { result ≡ 2 → input.new ≡ input.old }
     ensures untouched { result ≡ 2 → output.new ≡ output.old }
 {
     match read_words(rt.alloc(), words) {
-        Ok(()) => done(rt, input, output, errors),
+        Ok(seen) => done(rt, seen, input, output, errors),
         Err(fault) => refused_words(fault, output, errors),
     }
 }

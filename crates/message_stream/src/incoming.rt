@@ -17,6 +17,8 @@ use std::marker::Model;
 #[derive(Drop)]
 pub struct Incoming {
     held: Vec<u8>,
+    /// How many bytes were read.
+    count: u64,
 }
 
 impl Model for Incoming {
@@ -34,7 +36,16 @@ impl Incoming {
     {
         Incoming {
             held: Vec::new(alloc),
+            count: 0,
         }
+    }
+
+    /// Returns whether bytes wait to be taken, where so many have come: bytes are held, or fewer
+    /// were read than have come.
+    pub fn waits(&self, come: u64) -> bool
+        ensures { result ≡ false → self.now ≡ [] }
+    {
+        !self.held.is_empty() || self.count < come
     }
 
     /// Takes the message in front, whose body has the bytes from `start` up to `end`. Nothing is
@@ -62,10 +73,13 @@ impl Incoming {
         let mut chunk = [0u8; 4096];
         match reader.read(&mut chunk) {
             Ok(0) => Ok(false),
-            Ok(n) => match self.held.extend_from_slice(&chunk[..n]) {
-                Ok(()) => Ok(true),
-                Err(_) => Err(StreamFault::OutOfMemory),
-            },
+            Ok(n) => {
+                self.count = self.count.saturating_add(n as u64);
+                match self.held.extend_from_slice(&chunk[..n]) {
+                    Ok(()) => Ok(true),
+                    Err(_) => Err(StreamFault::OutOfMemory),
+                }
+            }
             Err(_) => Err(StreamFault::Read),
         }
     }

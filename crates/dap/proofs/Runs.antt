@@ -1,0 +1,43 @@
+-- Runs that go on.
+use Rattle.std.proofs.Common.{◌≡◌, ◌∙◌, ℕ, ◌+◌, ◌<◌, ◌≤◌, suc, Bool, true, false, ◌||◌, List, [], ◌++◌, length, drop, get_or, map, Option, Some, None, refl, sym, ap}
+use Rattle.std.proofs.lemmas.List.{at_drop_all, at_drop_more}
+use Rattle.std.specs.List.{list_any}
+use Rattle.clap.specs.Words.{Text}
+use Rattle.dap.specs.Slices.{GoesOn, MayRunOn, RunsOn, says_no_stop}
+use Rattle.dap.specs.Attended.{Turns}
+use Rattle.dap.specs.Sent.{AreSent}
+use Rattle.dap.specs.Served.{Answers, ServesBody}
+use Rattle.dap_messages.specs.Messages.{Said, said_of}
+use Rattle.dap_messages.specs.declared.message.Message.{Message}
+use Rattle.dap_session.specs.declared.serving.Adapter.{Adapter}
+use Rattle.serde_json.specs.Data.{Data}
+
+pub runs_none : (request : Data) (said : List Said) (a : Adapter) (n : ℕ) → RunsOn 0 request said a n said a n []
+unfolding RunsOn
+runs_none request said a n = (refl, refl, refl, refl)
+
+pub runs_more : (again : ℕ) (request : Data) (said : List Said) (a : Adapter) (n : ℕ) (more : List Said) (b : Adapter) (m : ℕ) (last : List Said) (c : Adapter) (k : ℕ) (front behind : List ℕ) → RunsOn again request said a n more b m front → GoesOn request more b m last c k behind → RunsOn (suc again) request said a n last c k (front ++ behind)
+unfolding RunsOn
+runs_more again request said a n more b m last c k front behind runs on = (more, b, m, front, behind, runs, on, refl)
+
+pub any_more : (ms : List Message) (i : ℕ) (m : Message) → i < length ms → m ≡ get_or ms i m → list_any says_no_stop (map said_of (drop i ms)) ≡ (says_no_stop (said_of m) || list_any says_no_stop (map said_of (drop (i + 1) ms)))
+any_more ms i m h is = at_drop_more (λ x. list_any says_no_stop (map said_of x)) ms i m h ∙ ap (λ x. says_no_stop (said_of x) || list_any says_no_stop (map said_of (drop (i + 1) ms))) (sym is)
+
+pub any_end : (ms : List Message) (i : ℕ) → length ms ≤ i → list_any says_no_stop (map said_of (drop i ms)) ≡ false
+any_end ms i h = at_drop_all (λ x. list_any says_no_stop (map said_of x)) ms i h
+
+pub may_not : (seen : Option Text) → MayRunOn seen 0
+may_not None = refl
+may_not (Some file) = tt
+
+pub turn_ends : (seen : Option Text) (body : List ℕ) (a : Adapter) (n : ℕ) (b : Adapter) (m : ℕ) (written : List ℕ) → Answers seen body a n b m true written → Turns seen body (a, n) (b, m) (Some 0) written
+unfolding Turns
+turn_ends seen body a n b m written h = (true, h, refl)
+
+pub turn_goes_on : (seen : Option Text) (body : List ℕ) (a : Adapter) (n : ℕ) (b : Adapter) (m : ℕ) (written : List ℕ) → Answers seen body a n b m false written → Turns seen body (a, n) (b, m) None written
+unfolding Turns
+turn_goes_on seen body a n b m written h = (false, h, refl)
+
+pub answers : (seen : Option Text) (body : List ℕ) (a : Adapter) (n : ℕ) (request : Data) (said : List Said) (b : Adapter) (end : Bool) (again : ℕ) (last : List Said) (c : Adapter) (k : ℕ) (front : List ℕ) (m : ℕ) (behind : List ℕ) → ServesBody body a b request said end → MayRunOn seen again → RunsOn again request said b n last c k front → AreSent k request last m behind → Answers seen body a n c m end (front ++ behind)
+unfolding Answers
+answers seen body a n request said b end again last c k front m behind serves may runs sent = (request, said, b, serves, again, may, last, k, front, behind, runs, sent, refl)

@@ -1,0 +1,63 @@
+-- Runs that go on while no message of the client waits. Source: mos65.
+use Rattle.std.specs.Prelude.{ℕ, ◌≡◌, ◌-◌, ◌&&◌, zero, suc, ⊤, Bool, true, false, List, [], ◌++◌, codes, drop, length, take, Option, Some, None}
+use Rattle.std.specs.List.{list_any}
+use Rattle.std.specs.Str.{bytes_eq}
+use Rattle.clap.specs.Words.{Text}
+use Rattle.dap.specs.Sent.{AreSent}
+use Rattle.dap_messages.specs.Fields.{text_at}
+use Rattle.dap_messages.specs.Messages.{Said, done, event, refused}
+use Rattle.dap_messages.specs.Requests.{request_of}
+use Rattle.dap_messages.specs.declared.request.Move.TheVariants.{Go}
+use Rattle.dap_messages.specs.declared.request.Request.{Request}
+use Rattle.dap_messages.specs.declared.request.Request.TheVariants.{Moves}
+use Rattle.dap_session.specs.Served.{Serves}
+use Rattle.dap_session.specs.declared.serving.Adapter.{Adapter}
+use Rattle.mon_steps.specs.declared.wording.TheConstants.{NO_STOP}
+use Rattle.serde_json.specs.Data.{Data}
+
+-- ---- a run that nothing has stopped
+
+abbrev pub is_continue : Request → Bool
+is_continue (Moves Go) = true
+is_continue asked = false
+
+abbrev pub is_no_stop : Option (List ℕ) → Bool
+is_no_stop None = false
+is_no_stop (Some words) = bytes_eq words NO_STOP.now
+
+-- It is said that all steps of a run were made, and nothing stopped it.
+abbrev pub says_no_stop : Said → Bool
+says_no_stop (event name body) = is_no_stop (text_at (codes "/description") body)
+says_no_stop (done body) = false
+says_no_stop (refused words) = false
+
+abbrev pub is_open : Data → List Said → Bool
+is_open request said = is_continue (request_of request) && list_any says_no_stop said
+
+-- ---- it goes on
+
+-- What is said of a run that goes on: not that the machine stands, which is said last.
+abbrev pub but_last : List Said → List Said
+but_last said = take (length said - 1) said
+
+-- A run that nothing has stopped goes on: what was said of it is sent, and it is served again, but
+-- not answered again. An answer is said first.
+unfoldable pub GoesOn : Data → List Said → Adapter → ℕ → List Said → Adapter → ℕ → List ℕ → Type 0
+GoesOn request said old sent more new total written = (is_open request said ≡ true)
+    × AreSent sent request (but_last said) total written
+    × (all : List Said) × Serves (request_of request) request old new all × (more ≡ drop 1 all)
+
+-- It goes on so often.
+unfoldable pub RunsOn : ℕ → Data → List Said → Adapter → ℕ → List Said → Adapter → ℕ → List ℕ
+    → Type 0
+RunsOn zero request said old sent last new total written
+    = (last ≡ said) × (new ≡ old) × (total ≡ sent) × (written ≡ [])
+RunsOn (suc again) request said old sent last new total written = (more : List Said)
+    × (between : Adapter) × (so_far : ℕ) × (front : List ℕ) × (behind : List ℕ)
+    × RunsOn again request said old sent more between so_far front
+    × GoesOn request more between so_far last new total behind × (written ≡ front ++ behind)
+
+-- Only where `--seen` names a file.
+abbrev pub MayRunOn : Option Text → ℕ → Type 0
+MayRunOn None again = again ≡ 0
+MayRunOn (Some file) again = ⊤

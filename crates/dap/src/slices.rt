@@ -1,0 +1,173 @@
+//! Runs that go on while no message of the client waits.
+
+ghost use Rattle.std.specs.Prelude.{◌≡◌, [], ℕ, false, IfOk, List, drop, map as each};
+ghost use Rattle.std.specs.Prelude.{option_map, true};
+ghost use Rattle.std.specs.Io.KnownBytes.{Appends};
+ghost use Rattle.std.specs.List.{list_any};
+ghost use Rattle.dap.specs.Slices.{GoesOn, MayRunOn, RunsOn, but_last, is_continue, is_open, says_no_stop};
+ghost use Rattle.dap_messages.specs.Messages.{Said, said_of};
+ghost use Rattle.dap_messages.specs.Requests.{request_of};
+ghost use Rattle.dap_session.specs.Served.{Serves};
+ghost use Rattle.serde_json.specs.View.{view};
+
+use crate::sending::send;
+use dap_messages::{Message, Move, Request, request_of, text_at};
+use dap_session::{Adapter, serve};
+use message_stream::{Incoming, StreamFault};
+use mon_steps::wording::NO_STOP;
+use serde_json::Value;
+use std::alloc::{AllocError, Global};
+use std::fs;
+use std::io::Write;
+use std::rt::Files;
+
+/// Returns whether a request is `continue`.
+fn is_continue(asked: Request) -> bool
+    ensures { result ≡ is_continue asked }
+{
+    match asked {
+        Request::Moves(Move::Go) => true,
+        _ => false,
+    }
+}
+
+/// Returns whether a message says that all steps of a run were made, and nothing stopped it.
+fn says_no_stop(message: &Message) -> bool
+    ensures { result ≡ says_no_stop (said_of message.now) }
+{
+    match message {
+        Message::Event(_, body) => match text_at(body, "/description") {
+            Some(words) => words == NO_STOP,
+            None => false,
+        },
+        Message::Done(_) | Message::Refused(_) => false,
+    }
+}
+
+/// Returns whether one of some messages says so.
+#[tactic(auto, using(crate::proofs::Runs::any_more, crate::proofs::Runs::any_end))]
+fn one_says_no_stop(messages: &[Message]) -> bool
+    ensures { result ≡ list_any says_no_stop (each said_of messages.now) }
+{
+    for message in messages {
+        if says_no_stop(message) {
+            return true;
+        }
+    }
+    false
+}
+
+/// Returns whether a request is a `continue` that nothing has stopped, by what is said of it.
+fn is_open(request: &Value, messages: &[Message]) -> bool
+    ensures { result ≡ is_open (view request.now) (each said_of messages.now) }
+{
+    is_continue(request_of(request)) && one_says_no_stop(messages)
+}
+
+/// Returns whether bytes of the client wait, or may wait: some are held, the file that they are
+/// copied to has more than were read, or it cannot be looked at.
+fn waits<H: Files>(rt: &H, seen: Option<&str>, incoming: &Incoming) -> bool
+    ensures held { result ≡ false → incoming.now ≡ [] }
+    ensures named { (again : ℕ) → result ≡ false
+        → MayRunOn (option_map (λ s. s.now) seen.entry) again }
+{
+    match seen {
+        Some(file) => match fs::metadata(rt, file) {
+            Ok(metadata) => incoming.waits(metadata.len()),
+            Err(_) => true,
+        },
+        None => true,
+    }
+}
+
+/// Takes the message away that is the last.
+fn take_last(messages: &mut Vec<Message>)
+    ensures { each said_of messages.new.items ≡ but_last (each said_of messages.old.items) }
+{
+    let _ = messages.pop();
+}
+
+/// Takes the message away that is the first.
+fn take_first(messages: &mut Vec<Message>)
+    ensures { each said_of messages.new.items ≡ drop 1 (each said_of messages.old.items) }
+{
+    if !messages.is_empty() {
+        let _ = messages.remove(0);
+    }
+}
+
+/// Serves a request, and returns what is said but for the answer.
+fn served_again<H: Files + AllocGlobal>(
+    rt: &H,
+    adapter: &mut Adapter,
+    request: &Value,
+) -> Result<Vec<Message>, AllocError>
+    ensures { IfOk result (λ ms. (all : List Said)
+        × Serves (request_of (view request.now)) (view request.now) adapter.old adapter.new all
+        × (each said_of ms.items ≡ drop 1 all)) }
+{
+    let mut messages = serve(rt, adapter, request)?;
+    take_first(&mut messages);
+    Ok(messages)
+}
+
+/// Lets a run go on that nothing has stopped: sends what is said of it so far, after so many
+/// messages that were sent, and makes the next slice. Returns how many are sent then.
+///
+/// Errors: `Write` if the output fails; `OutOfMemory` if an allocation fails.
+#[tactic(auto, unfolding(crate::specs::Slices::GoesOn))]
+fn go_on<H: Files + AllocGlobal, O: Write>(
+    rt: &H,
+    adapter: &mut Adapter,
+    request: &Value,
+    messages: &mut Vec<Message>,
+    sent: u64,
+    output: &mut O,
+) -> Result<u64, StreamFault>
+    requires { is_open (view request.now) (each said_of messages.old.items) ≡ true }
+    ensures { IfOk result (λ total. (written : List ℕ)
+        × GoesOn (view request.now) (each said_of messages.old.items) adapter.old sent
+        (each said_of messages.new.items) adapter.new total written
+        × Appends (O.contents output.old) (O.contents output.new) written) }
+{
+    take_last(messages);
+    let total = send(rt.alloc(), sent, request, messages, output)?;
+    let Ok(more) = served_again(rt, adapter, request) else {
+        return Err(StreamFault::OutOfMemory);
+    };
+    *messages = more;
+    Ok(total)
+}
+
+/// Lets a run go on as long as nothing stops it and nothing waits. `messages` are what is to be
+/// said of it, before and after. Returns how many messages are sent then.
+///
+/// Errors: those of `go_on`.
+pub fn run_on<H: Files + AllocGlobal, O: Write>(
+    rt: &H,
+    seen: Option<&str>,
+    incoming: &Incoming,
+    adapter: &mut Adapter,
+    request: &Value,
+    messages: &mut Vec<Message>,
+    sent: u64,
+    output: &mut O,
+) -> Result<u64, StreamFault>
+    ensures { IfOk result (λ total. (again : ℕ)
+        × MayRunOn (option_map (λ s. s.now) seen.entry) again × (written : List ℕ)
+        × RunsOn again (view request.now) (each said_of messages.old.items) adapter.old sent
+        (each said_of messages.new.items) adapter.new total written
+        × Appends (O.contents output.old) (O.contents output.new) written) }
+{
+    let mut total = sent;
+    for _ in 0..u64::MAX {
+        if !is_open(request, messages) {
+            return Ok(total);
+        }
+        if waits(rt, seen, incoming) {
+            return Ok(total);
+        }
+        total = go_on(rt, adapter, request, messages, total, output)?;
+    }
+    Ok(total)
+}
