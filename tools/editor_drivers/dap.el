@@ -1,13 +1,13 @@
-;; Emacs drives `mos65 dap' by dap-mode: emacs --batch -l editors/emacs/mos65.el -l dap.el.
+;; Emacs drives `mos65 dap' by dap-mode: emacs --batch -l editors/emacs/mos65.el -l dap.el. -*- lexical-binding: t; -*-
 ;; Environment: PROGRAM, SOURCE (a copy of examples/sieve.a65). Each line is 'right: ..' or 'WRONG: ..'.
 (setq load-prefer-newer t)
 (package-initialize)
-(unless (require 'dap-mode nil t) (princ "no dap-mode\n") (kill-emacs 0))
+(unless (and (require 'dap-mode nil t) (require 'dap-ui nil t)) (princ "no dap-mode\n") (kill-emacs 0))
 (require 'cl-lib)
 (defvar source (getenv "SOURCE"))
 (setq mos65-program (getenv "PROGRAM") lsp-session-file (concat source ".session")
       dap-breakpoints-file (concat source ".breakpoints") dap-auto-configure-features nil
-      dap-auto-show-output nil)
+      dap-auto-show-output nil make-backup-files nil)
 (defun want (holds words) (princ (format "%s: %s\n" (if holds "right" "WRONG") words)))
 (defun wait-for (test words)
   (let ((end (+ (float-time) 20)))
@@ -27,6 +27,8 @@
   (let ((was stops))
     (funcall move)
     (wait-for (lambda () (and (> stops was) (equal shown line))) words)))
+(defun steps (command) (dap--step command (dap--cur-session)))
+(defun goes-on () (dap-continue (dap--cur-session) 1))
 (defun asked (command arguments)
   "The body of the answer to a request."
   (let ((body nil))
@@ -34,9 +36,37 @@
                        (lambda (answer) (setq body (or (gethash "body" answer) t))) (dap--cur-session))
     (wait-for (lambda () body) command)
     body))
+(defun shows (place value words)
+  (let ((body (asked "evaluate" (list :expression place :context "hover"))))
+    (want (and (hash-table-p body) (equal (gethash "result" body) value)) words)))
+(defun sets (scope name value)
+  "Sets a variable as it is set in dap-mode's list of variables, on a row of that list."
+  (with-temp-buffer
+    (insert (propertize name 'button t :item (list :session (dap--cur-session) :name name :value ""
+                                                   :variables-reference scope)))
+    (goto-char (point-min))
+    (cl-letf (((symbol-function 'read-string) (lambda (&rest _) value)))
+      (dap-ui-set-variable-value))))
+(defun said-in-console ()
+  (with-current-buffer dap-ui--repl-buffer (buffer-string)))
+(defun says (line words)
+  "Types a line into the console of dap-mode, and waits for these words."
+  (with-current-buffer (get-buffer-create dap-ui--repl-buffer)
+    (unless (derived-mode-p 'dap-ui-repl-mode) (dap-ui-repl-mode)))
+  (dap-ui-input-sender nil line)
+  (wait-for (lambda () (string-match-p (regexp-quote words) (said-in-console))) (concat "the console: " line)))
+(defun edits (old new)
+  "Puts a line more at the top of the source and one text in place of another, and saves it."
+  (with-current-buffer (find-file-noselect source)
+    (goto-char (point-min))
+    (insert "; a line more\n")
+    (search-forward old)
+    (replace-match new t t)
+    (save-buffer)))
 
 (find-file source)
-(let ((first (line-of "start:")) (next (line-of "number:")) (put (line-of "STX console")))
+(let ((first (line-of "start:")) (next (line-of "number:")) (put (line-of "STX console"))
+      (changed (line-of "STX step")))
   (goto-char (point-min))
   (forward-line (1- put))
   (dap-breakpoint-add)
@@ -44,12 +74,37 @@
             (lambda () (dap-debug (list :type "mos65" :request "launch" :name "sieve"
                                         :program source :stopOnEntry t))))
   (moves-to next "a step" (lambda () (dap-next (dap--cur-session))))
-  (moves-to first "a step back" (lambda () (dap--step "stepBack" (dap--cur-session))))
-  (moves-to put "a breakpoint" (lambda () (dap-continue (dap--cur-session) 1)))
-  (want (equal (gethash "result" (asked "evaluate" (list :expression "X" :context "hover"))) "$02")
-        "hover on a register")
-  (moves-to first "back to the entry"
-            (lambda () (dap--step "reverseContinue" (dap--cur-session)))))
+  (moves-to first "a step back" (lambda () (steps "stepBack")))
+  (moves-to put "a breakpoint" #'goes-on)
+  (shows "X" "$02" "hover on a register")
+  (moves-to first "back to the entry" (lambda () (steps "reverseContinue")))
+
+  (sets 1 "A" "$41")
+  (shows "A" "$41" "a register that was set")
+  (sets 3 "step" "7")
+  (shows "step" "$07" "a byte that was set by its name")
+  (moves-to first "a step back over that" (lambda () (steps "stepBack")))
+  (shows "step" "$00" "the byte as it was")
+
+  (says "watch step" "watch at")
+  (moves-to put "the breakpoint again" #'goes-on)
+  (moves-to (+ changed 1) "a change at the watch" #'goes-on)
+  (moves-to (+ changed 2) "a step behind it" (lambda () (dap-next (dap--cur-session))))
+  (moves-to changed "back to the change at the watch" (lambda () (steps "reverseContinue")))
+  (shows "step" "$00" "the byte before it")
+
+  (edits "LDX #2" "LDX #5")
+  (moves-to (1+ first) "a restart of the source as it was edited"
+            (lambda () (asked "restart" nil)))
+  (moves-to (1+ next) "a step of the new program" (lambda () (dap-next (dap--cur-session))))
+  (shows "X" "$05" "a register of the new program")
+
+  (edits "LDX #5" "LDX #9")
+  (let ((old (dap--cur-session)))
+    (moves-to (+ 2 first) "a restart as dap-mode makes it" #'dap-debug-restart)
+    (want (not (eq old (dap--cur-session))) "another session"))
+  (moves-to (+ 2 next) "a step of the third program" (lambda () (dap-next (dap--cur-session))))
+  (shows "X" "$09" "a register of the third program"))
 (let ((session (dap--cur-session)))
   (dap-disconnect session)
   (wait-for (lambda () (not (process-live-p (dap--debug-session-proc session)))) "an end"))

@@ -1,13 +1,14 @@
 ;; Emacs drives `mos65 lsp' by lsp-mode: emacs --batch -l editors/emacs/mos65.el -l lsp.el.
 ;; Environment: PROGRAM, SOURCE (a copy of an example without a fault), NAME (a name of it) and OTHER
-;; (the name that it gets). Each line is 'right: ..' or 'WRONG: ..'.
+;; (the name that it gets), and RENAMES: a line for each other source, with its path, a name of it, the
+;; name that it gets, and the program that serves it. Each line is 'right: ..' or 'WRONG: ..'.
 (setq load-prefer-newer t)
 (package-initialize)
 (unless (require 'lsp-mode nil t) (princ "no lsp-mode\n") (kill-emacs 0))
 (require 'cl-lib)
 (defvar source (getenv "SOURCE"))
 (defvar name (getenv "NAME"))
-(setq lsp-session-file (concat source ".session") lsp-restart 'ignore lsp-auto-guess-root t
+(setq lsp-session-file (concat source ".session") lsp-restart 'ignore make-backup-files nil lsp-auto-guess-root t
       lsp-enable-file-watchers nil lsp-warn-no-matched-clients nil lsp-enable-snippet nil
       lsp-headerline-breadcrumb-enable nil lsp-modeline-code-actions-enable nil
       lsp-modeline-diagnostics-enable nil lsp-lens-enable nil lsp-idle-delay 0.05
@@ -36,11 +37,15 @@
   (line-number-at-pos))
 (defun ask (method) (at-use) (lsp-request method (lsp--text-document-position-params)))
 
-(find-file source)
-(cl-letf (((symbol-function 'lsp--calculate-root) (lambda (&rest _) (file-name-directory source))))
-  (lsp))
-(wait-for (lambda () (cl-some (lambda (it) (eq (lsp--workspace-status it) 'initialized)) (lsp-workspaces)))
-          "a session")
+(defun opens (path)
+  "Opens a source. Those of one folder have one server."
+  (find-file path)
+  (cl-letf (((symbol-function 'lsp--calculate-root) (lambda (&rest _) (file-name-directory path))))
+    (lsp))
+  (wait-for (lambda () (cl-some (lambda (it) (eq (lsp--workspace-status it) 'initialized)) (lsp-workspaces)))
+            (concat "a session for " (file-name-nondirectory path))))
+
+(opens source)
 (wait-for (lambda () (null (marks))) "no mark on an example")
 (let* ((line (at-use))
        (was (buffer-substring (line-beginning-position) (line-end-position))))
@@ -63,5 +68,14 @@
 (at-use)
 (lsp-rename (getenv "OTHER"))
 (save-buffer)
-(lsp-workspace-shutdown (car (lsp-workspaces)))
+(dolist (row (split-string (getenv "RENAMES") "\n" t))
+  (let* ((words (split-string row)) (name (nth 1 words)) (mos65-program (nth 3 words)))
+    (opens (car words))
+    (at-use)
+    (lsp-rename (nth 2 words))
+    (save-buffer)))
+(dolist (it (lsp--session-workspaces (lsp-session)))
+  (let ((process (lsp--workspace-proc it)))
+    (lsp-workspace-shutdown it)
+    (wait-for (lambda () (not (process-live-p process))) "an end")))
 (kill-emacs 0)

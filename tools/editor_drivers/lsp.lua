@@ -1,5 +1,7 @@
 -- Neovim drives `mos65 lsp`. Environment: PROGRAM, SOURCE (a copy of an example without a fault),
--- NAME (a name of it) and OTHER (the name that it gets). Each line is 'right: ..' or 'WRONG: ..'.
+-- NAME (a name of it) and OTHER (the name that it gets), and RENAMES: a line for each other source, with
+-- its path, a name of it, the name that it gets, and the program that serves it. Each line is
+-- 'right: ..' or 'WRONG: ..'.
 local function want(holds, words)
   io.write((holds and "right: " or "WRONG: ") .. words .. "\n")
 end
@@ -16,20 +18,36 @@ vim.lsp.handlers["textDocument/publishDiagnostics"] = (function(old)
   end
 end)(vim.lsp.handlers["textDocument/publishDiagnostics"])
 
-vim.cmd("edit " .. os.getenv("SOURCE"))
-local client = vim.lsp.start_client({ name = "mos65", cmd = { os.getenv("PROGRAM"), "lsp" }, root_dir = "/" })
-vim.lsp.buf_attach_client(0, client)
+local clients = {}
+local function open(path, program)
+  vim.cmd("edit " .. path)
+  clients[program] = clients[program] or
+    vim.lsp.start_client({ name = "mos65", cmd = { program, "lsp" }, root_dir = "/" })
+  local client = clients[program]
+  vim.lsp.buf_attach_client(0, client)
+  wait(function() return vim.lsp.buf_get_clients(0)[client] ~= nil end,
+    "a session for " .. vim.fn.fnamemodify(path, ":t"))
+  return client
+end
+
+local client = open(os.getenv("SOURCE"), os.getenv("PROGRAM"))
 local lines = vim.api.nvim_buf_get_lines(0, 0, -1, false)
 local name, other = os.getenv("NAME"), os.getenv("OTHER")
-local defined, used, column
-for number, line in ipairs(lines) do
-  local code = line:gsub(";.*", "")
-  if code:match("^%s*" .. name .. "%s*[:=]") then
-    defined = number
-  elseif not used and code:match("%f[%w_]" .. name .. "%f[^%w_]") then
-    used, column = number, code:find("%f[%w_]" .. name .. "%f[^%w_]")
+
+-- The line that defines a name, and a line and a column at which it is used.
+local function places_of(text)
+  local defined, used, column
+  for number, line in ipairs(vim.api.nvim_buf_get_lines(0, 0, -1, false)) do
+    local code = line:gsub(";.*", "")
+    if code:match("^%s*" .. text .. "%s*[:=]") then
+      defined = number
+    elseif not used and code:match("%f[%w_]" .. text .. "%f[^%w_]") then
+      used, column = number, code:find("%f[%w_]" .. text .. "%f[^%w_]")
+    end
   end
+  return defined, used, column
 end
+local defined, used, column = places_of(name)
 
 local function diagnostics()
   return #vim.diagnostic.get(0)
@@ -63,10 +81,21 @@ want(colours > 0 and colours % 5 == 0, "colours")
 want(shown("textDocument/foldingRange") > 0, "folds")
 want(hints > 0 and hints <= #lines, "what stands behind lines")
 want(shown("textDocument/signatureHelp") > 0, "the forms of an operation")
-local changes = ask("textDocument/rename", { newName = other })
-want(changes ~= nil, "another name")
-if changes then vim.lsp.util.apply_workspace_edit(changes, "utf-16") end
-vim.cmd("silent write")
-vim.lsp.stop_client(client)
-vim.wait(20000, function() return vim.lsp.get_client_by_id(client) == nil end, 20)
+local function rename(to)
+  local changes = ask("textDocument/rename", { newName = to })
+  if changes then vim.lsp.util.apply_workspace_edit(changes, "utf-16") end
+  vim.cmd("silent write")
+  return changes ~= nil
+end
+want(rename(other), "another name")
+for path, from, to, program in os.getenv("RENAMES"):gmatch("(%S+) (%S+) (%S+) (%S+)") do
+  client = open(path, program)
+  defined, used, column = places_of(from)
+  want(rename(to), "another name in " .. vim.fn.fnamemodify(path, ":t"))
+end
+for _, it in pairs(clients) do
+  vim.lsp.stop_client(it)
+  vim.wait(20000, function() return vim.lsp.get_client_by_id(it) == nil end, 20)
+  want(vim.lsp.get_client_by_id(it) == nil, "an end")
+end
 vim.cmd("qa!")
