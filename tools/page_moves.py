@@ -20,6 +20,8 @@ class Run:
     def __init__(self, view, changes, facts):
         self.changes, self.last, self.chosen = changes, len(changes), None
         self.pcs, self.stack = [view.pc], [view.regs[3]]
+        # (what was put out before the page begins is there at its start)
+        self.outs = [0] if view.out else []
         self.calls, self.visits, self.writes = [], {}, {}
         for step, change in enumerate(changes):
             if is_entry(change) or view.memory[view.pc] == JSR and not is_by_hand(change):
@@ -34,7 +36,7 @@ class Run:
         for change in reversed(changes):
             view.back(change)
         self.risen = [k for k in range(1, self.last + 1) if self.stack[k] > self.stack[k - 1]]
-        self.outs = self.after(lambda change: change["out"] is not None)
+        self.outs += self.after(lambda change: change["out"] is not None)
         self.entries = self.after(is_entry)
         words = [fact.split() for fact in facts.decode().split("\n") if fact.startswith("line ")]
         self.lines = {int(address, 16): int(number) for _, number, address, _ in words}
