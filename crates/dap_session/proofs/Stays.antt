@@ -1,7 +1,7 @@
 -- What a refused request leaves.
 use Rattle.std.proofs.Common.{Option, Some, None, refl}
 use Rattle.dap_session.specs.Console.{ShowsIfRefused}
-use Rattle.dap_session.specs.Served.{CountsIfRefused, Stays, StaysIfRefused}
+use Rattle.dap_session.specs.Served.{CountsIfRefused, StaysIfRefused}
 use Rattle.dap_launch.specs.declared.fault.Fault.{Fault}
 use Rattle.dap_launch.specs.declared.fault.Fault.TheVariants as fault
 use Rattle.dap_launch.specs.declared.seat.Seat.{Seat}

@@ -1,6 +1,5 @@
 -- What a request does to a session, and what is answered. Source: Debug Adapter Protocol 1.65; mos65.
-use Rattle.std.specs.Prelude.{◌≡◌, ⊤, List, [], ◌∷◌, codes, string_bytes}
-use Rattle.assembler.specs.Assembly.{AssemblyView}
+use Rattle.std.specs.Prelude.{◌≡◌, List, [], ◌∷◌, codes, string_bytes}
 use Rattle.dap_breaks.specs.Breaks.{KeepsEvents, SetsBreaks, SetsSourceBreaks, place_of}
 use Rattle.dap_breaks.specs.Completions.{completions}
 use Rattle.dap_breaks.specs.Targets.{AreTargets}
@@ -10,7 +9,7 @@ use Rattle.dap_messages.specs.Messages.{Said, done, event}
 use Rattle.dap_messages.specs.declared.request.Request.{Request}
 use Rattle.dap_messages.specs.declared.request.Request.TheVariants as to
 use Rattle.dap_launch.specs.Begun.{IsBegun}
-use Rattle.dap_session.specs.Changes.{Goes, HasChanged, Writes}
+use Rattle.dap_session.specs.Changes.{Goes, HasChanged, TellsValue, Writes}
 use Rattle.dap_session.specs.Console.{Evaluates, is_console}
 use Rattle.dap_session.specs.Moves.{begun_stand, moved}
 use Rattle.dap_launch.specs.Options.{IsAgain}
@@ -103,7 +102,8 @@ AreAnswers to.SetInstructionBreakpoints request counting old new said = SetsBrea
 AreAnswers to.Evaluate request counting old new said
     = Evaluates (is_console request) request old.desk new.desk × IsDone said
 AreAnswers to.SetVariable request counting old new said
-    = HasChanged old.desk new.desk × IsDone said
+    = HasChanged old.desk new.desk
+    × TellsValue request new.desk.session new.assembly said
 AreAnswers to.SetDataBreakpoints request counting old new said
     = SetsWatches request old.desk new.desk × KeepsBreaks old.desk new.desk
     × ShowsWatches request new said

@@ -1,12 +1,17 @@
 -- What a request does to a session that changes it by events, which can be undone. Source: Debug
 -- Adapter Protocol 1.65, "SetVariable Request", "Goto Request", "WriteMemory Request"; mos65.
-use Rattle.std.specs.Prelude.{ℕ, suc, ◌+◌, ◌≡◌, ◌==◌, ◌&&◌, ⊤, nat_le, nat_lt, Bool, if◌then◌else◌, List, [], ◌∷◌, codes, slice_index, Option, Some, None, option_and_then, unwrap_or, Result, Ok}
+use Rattle.std.specs.Prelude.{ℕ, suc, ◌+◌, ◌≡◌, ◌==◌, ◌&&◌, ⊤, nat_le, nat_lt, Bool, if◌then◌else◌, List, [], ◌∷◌, codes, slice_index, Option, Some, None, option_and_then, unwrap_or, Ok, false}
+use Rattle.std.specs.Option.{option_map_or}
+use Rattle.std.specs.Str.{bytes_eq}
+use Rattle.assembler.specs.Assembly.{AssemblyView}
 use Rattle.base64.specs.Engines.{standard}
 use Rattle.base64.specs.GeneralPurpose.{decode_of}
-use Rattle.dap_messages.specs.Answers.{written_body}
+use Rattle.dap_breaks.specs.Watches.{items_at}
+use Rattle.dap_messages.specs.Answers.{value_set_body, written_body}
 use Rattle.dap_messages.specs.Fields.{number_at, text_at}
 use Rattle.dap_messages.specs.Messages.{Said, done}
 use Rattle.dap_messages.specs.References.{place_at}
+use Rattle.dap_views.specs.Scopes.{variables_shown}
 use Rattle.dap_views.specs.Told.{unmoved_said}
 use Rattle.mon_session.specs.Course.{KeepsStops, course_of, happened}
 use Rattle.mon_session.specs.declared.desk.Desk.{Desk}
@@ -14,7 +19,9 @@ use Rattle.mon_settings.specs.ByteLines.{bytes_put}
 use Rattle.model.specs.declared.event.Event.{Event}
 use Rattle.model.specs.declared.event.Event.TheVariants.{Patch, Set}
 use Rattle.model.specs.declared.event.Setting.TheVariants.{Pc}
+use Rattle.model.specs.Session.{Session}
 use Rattle.serde_json.specs.Data.{Data}
+use Rattle.serde_json.specs.View.{items_of}
 
 -- ---- a variable
 
@@ -28,6 +35,29 @@ IsChange other = ⊥
 abbrev pub HasChanged : Desk → Desk → Type 0
 HasChanged old new = (made : Event) × IsChange made
     × (course_of new ≡ happened made (course_of old)) × KeepsStops old new
+
+-- ---- the value that is answered
+
+-- Whether a variable has a name.
+abbrev pub is_named : List ℕ → Data → Bool
+is_named name v = option_map_or (λ other. bytes_eq other name) (text_at (codes "/name") v) false
+
+-- The value of the first of some variables that has a name.
+abbrev pub value_of : List ℕ → List Data → Option (List ℕ)
+value_of name [] = None
+value_of name (v ∷ vs) = if is_named name v then text_at (codes "/value") v else value_of name vs
+
+-- The value that is shown of the variable that a request sets, or else the one that it asks for.
+abbrev pub value_shown : Data → List Data → List ℕ
+value_shown request listed = unwrap_or
+    (value_of (unwrap_or (text_at (codes "/arguments/name") request) []) listed)
+    (unwrap_or (text_at (codes "/arguments/value") request) [])
+
+-- It is that of the scope that the request names, and all that is shown may have changed.
+abbrev pub TellsValue : Data → Session → Option AssemblyView → List Said → Type 0
+TellsValue request session assembly said = (listed : List Data)
+    × (items_of listed ≡ items_at (codes "/variables") (variables_shown session assembly request))
+    × (said ≡ done (value_set_body (value_shown request listed)) ∷ unmoved_said ∷ [])
 
 -- ---- another instruction
 

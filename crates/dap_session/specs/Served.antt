@@ -8,7 +8,7 @@ use Rattle.dap_messages.specs.declared.request.Request.{Request}
 use Rattle.dap_messages.specs.declared.request.Request.TheVariants as to
 use Rattle.dap_session.specs.Answered.{AreAnswers}
 use Rattle.dap_launch.specs.Begun.{IsBegun}
-use Rattle.dap_session.specs.Console.{IsMemory, ShowsIfRefused, over}
+use Rattle.dap_session.specs.Console.{ShowsIfRefused, over}
 use Rattle.dap_launch.specs.Options.{AreOptions}
 use Rattle.dap_launch.specs.declared.fault.Fault.{Fault}
 use Rattle.dap_launch.specs.declared.fault.Fault.TheVariants as fault

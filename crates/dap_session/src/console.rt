@@ -1,14 +1,15 @@
 //! Lines of `mon`, and variables that are set.
 
 ghost use Rattle.std.specs.Prelude.{◌≡◌, ◌∷◌, ◌++◌, [], ℕ, Bool, IfErr, IfOk, List, OnOk, map as each};
-ghost use Rattle.std.specs.Prelude.{string_bytes};
+ghost use Rattle.std.specs.Prelude.{codes, option_map, string_bytes};
+ghost use Rattle.dap_breaks.specs.Watches.{items_at};
 ghost use Rattle.dap_messages.specs.Messages.{said_of};
 ghost use Rattle.dap_session.specs.Answered.{IsDone};
-ghost use Rattle.dap_session.specs.Changes.{HasChanged};
+ghost use Rattle.dap_session.specs.Changes.{HasChanged, TellsValue, is_named, value_of, value_shown};
 ghost use Rattle.dap_session.specs.Console.{Evaluates, Looks, ServesConsole, ShowsIfRefused};
 ghost use Rattle.dap_session.specs.Console.{expression_of, is_console, over};
 ghost use Rattle.mon_session.specs.Course.{KeepsStops, course_of, happened};
-ghost use Rattle.serde_json.specs.View.{view};
+ghost use Rattle.serde_json.specs.View.{items_view, view};
 
 use crate::stands::push_halt;
 use dap_launch::{Fault, Seat, refused, refused_by, source_of};
@@ -259,39 +260,72 @@ fn change(alloc: Global, desk: &mut Desk, line: &[u8]) -> Result<(), Fault>
     }
 }
 
+/// Returns whether a variable has a name.
+fn is_named(variable: &Value, name: &str) -> bool
+    ensures { result ≡ is_named name.now (view variable.now) }
+{
+    match text_at(variable, "/name") {
+        Some(other) => other == name,
+        None => false,
+    }
+}
+
 /// Returns the value of the first of some variables that has a name.
-fn value_of<'a>(variables: &'a [Value], name: &str) -> Option<&'a str> {
+fn value_of<'a>(variables: &'a [Value], name: &str) -> Option<&'a str>
+    ensures { option_map (λ s. s.now) result
+        ≡ value_of name.now (each view variables.now) }
+{
     for variable in variables {
-        match text_at(variable, "/name") {
-            Some(other) if other == name => return text_at(variable, "/value"),
-            _ => {}
+        if is_named(variable, name) {
+            return text_at(variable, "/value");
         }
     }
     None
 }
 
-/// Returns the answer to a request that has set a variable: the value that its scope shows then.
-fn value_shown(
+/// Returns the variables that a scope is shown with.
+fn variables_in(shown: &Value) -> &[Value]
+    ensures { items_view result.now ≡ items_at (codes "/variables") (view shown.now) }
+{
+    match shown.pointer("/variables").and_then(Value::as_array) {
+        Some(list) => list.as_slice(),
+        None => &[],
+    }
+}
+
+/// Returns the value that is shown of the variable that a request sets, or else the one that it
+/// asks for.
+fn value_shown<'a>(request: &'a Value, variables: &'a [Value]) -> &'a str
+    ensures { result.now ≡ value_shown (view request.now) (each view variables.now) }
+{
+    let name = text_at(request, "/arguments/name").unwrap_or("");
+    let asked = text_at(request, "/arguments/value").unwrap_or("");
+    value_of(variables, name).unwrap_or(asked)
+}
+
+/// Says which value a variable has that a request has set, and that what the client shows may have
+/// changed.
+fn tell_value(
     alloc: Global,
     seat: &Seat,
     counting: Counting,
     request: &Value,
-) -> Result<Value, AllocError> {
+) -> Result<Vec<Message>, AllocError>
+    ensures { IfOk result (λ ms. TellsValue (view request.now) seat.now.desk.session
+        seat.now.assembly (each said_of ms.items)) }
+{
     let source = source_of(&seat.options, &seat.assembly, counting);
     let shown = variables_shown(alloc, &seat.desk, &source, request)?;
-    let name = text_at(request, "/arguments/name").unwrap_or("");
-    let asked = text_at(request, "/arguments/value").unwrap_or("");
-    let value = match shown.pointer("/variables").and_then(Value::as_array) {
-        Some(variables) => value_of(variables.as_slice(), name).unwrap_or(asked),
-        None => asked,
-    };
-    value_set(alloc, value)
+    let body = value_set(alloc, value_shown(request, variables_in(&shown)))?;
+    let mut messages = answered(alloc, body)?;
+    tell_unmoved(alloc, &mut messages)?;
+    Ok(messages)
 }
 
-/// Sets a variable, and says that what the client shows may have changed.
+/// Sets a variable, and says which value it has then.
 ///
 /// Errors: `Refused` if the value is none that it can have.
-#[tactic(auto, using(crate::proofs::Done::done_one, crate::proofs::Done::done_more, crate::proofs::Stays::shows_same))]
+#[tactic(auto, using(crate::proofs::Stays::shows_same))]
 pub fn set_variable(
     alloc: Global,
     seat: &mut Seat,
@@ -299,13 +333,12 @@ pub fn set_variable(
     request: &Value,
 ) -> Result<Vec<Message>, Fault>
     ensures done { OnOk result (HasChanged seat.old.desk seat.new.desk) }
-    ensures answer { IfOk result (λ ms. IsDone (each said_of ms.items)) }
+    ensures answer { IfOk result (λ ms. TellsValue (view request.now) seat.new.desk.session
+        seat.new.assembly (each said_of ms.items)) }
     ensures refused { IfErr result (λ f. ShowsIfRefused f seat.old.desk seat.new.desk) }
 {
     let line = setting_line(alloc, request)?;
     change(alloc, &mut seat.desk, line.as_bytes())?;
-    let body = value_shown(alloc, seat, counting, request)?;
-    let mut messages = answered(alloc, body)?;
-    tell_unmoved(alloc, &mut messages)?;
+    let messages = tell_value(alloc, seat, counting, request)?;
     Ok(messages)
 }
