@@ -8,6 +8,6 @@ mod places;
 mod rows;
 mod texts;
 
-pub use names::{Names, is_same_word};
+pub use names::{Name, Names, is_same_word};
 pub use places::Places;
 pub use rows::{Row, rows_of};

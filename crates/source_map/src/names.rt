@@ -16,13 +16,13 @@ use std::marker::Model;
 
 /// A name with its address.
 #[derive(Drop)]
-struct Name {
-    text: Vec<u8>,
-    address: u16,
+pub struct Name {
+    pub text: Vec<u8>,
+    pub address: u16,
     /// Whether it stands before `:`.
-    is_label: bool,
+    pub is_label: bool,
     /// Whether a byte of the program stands at the address.
-    has_byte: bool,
+    pub has_byte: bool,
 }
 
 /// Names in the order of their definition.
@@ -154,6 +154,13 @@ impl Names {
         Names {
             entries: Vec::new(alloc),
         }
+    }
+
+    /// Returns the names in the order of their definition.
+    pub fn all(&self) -> &[Name]
+        ensures { map named result.now ≡ self.now }
+    {
+        self.entries.as_slice()
     }
 
     /// Appends a name.
