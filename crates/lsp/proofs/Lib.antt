@@ -1,4 +1,6 @@
 pub mod Filtered
+pub mod Listed
 pub mod Nothing
-pub mod Written
 pub mod Refused
+pub mod Small
+pub mod Written

@@ -11,8 +11,15 @@ use Rattle.lsp_answers.specs.Names.{definition_at, references_at}
 use Rattle.lsp_answers.specs.Renames.{IsKeptAt, IsRenameAt}
 use Rattle.lsp_answers.specs.Texts.{TextView, name_at, text_of}
 use Rattle.lsp_hints.specs.Fixes.{AreFixes}
-use Rattle.lsp_requests.specs.Fields.{PlaceView}
-use Rattle.lsp_requests.specs.Requests.{RequestView, initialize, shutdown, hover, definition, references, rename, symbols, completion, signatures, colours, folds, hints, fixes, invalid, unknown}
+use Rattle.lsp_requests.specs.Requests.{RequestView, initialize, shutdown, asks, renames, invalid, unknown}
+use Rattle.lsp_requests.specs.declared.asked.At.{At}
+use Rattle.lsp_requests.specs.declared.asked.At.TheVariants as positions
+use Rattle.lsp_requests.specs.declared.asked.Question.{Question}
+use Rattle.lsp_requests.specs.declared.asked.Question.TheVariants as questions
+use Rattle.lsp_requests.specs.declared.asked.Whole.{Whole}
+use Rattle.lsp_requests.specs.declared.asked.Whole.TheVariants as documents
+use Rattle.lsp_requests.specs.declared.asked.Within.{Within}
+use Rattle.lsp_requests.specs.declared.asked.Within.TheVariants as ranges
 use Rattle.lsp_values.specs.Replies.{failure_data, result_data}
 use Rattle.lsp_values.specs.declared.replies.Failure.{Failure}
 use Rattle.lsp_values.specs.declared.replies.Failure.TheVariants as failures
@@ -31,37 +38,48 @@ IsResult id Such v = (given : Data) × Such given × (v ≡ result_data id given
 abbrev pub text_on : Map → List Opened → List ℕ → TextView
 text_on bus_map ds uri = text_of bus_map.profile (source_in ds uri)
 
--- The changes of a rename, or why there are none.
-abbrev pub IsRenamed : Map → List Opened → Data → PlaceView → List ℕ → Data → Type 0
-IsRenamed bus_map ds id place name v =
-    IsResult id (IsRenameAt bus_map place.uri (text_on bus_map ds place.uri)
-    (name_at (text_on bus_map ds place.uri) place.line place.character) name) v
-    ⊎ (IsKeptAt bus_map (text_on bus_map ds place.uri)
-    (name_at (text_on bus_map ds place.uri) place.line place.character) name
-    × IsFailure id failures.Refused v)
+-- ---- the results of questions about a document with this name and this text
+
+abbrev pub of_document : TextView → Whole → Data
+of_document t documents.Symbols = symbols_of t
+of_document t documents.Completion = completion_of t
+of_document t documents.Colours = colours_in t
+of_document t documents.Folds = folds_in t
+
+abbrev pub IsOfPosition : List ℕ → TextView → ℕ → ℕ → At → Data → Type 0
+IsOfPosition uri t line character positions.Hover given = IsMeaning t line character given
+IsOfPosition uri t line character positions.Definition given
+    = given ≡ definition_at uri t line character
+IsOfPosition uri t line character (positions.References declares) given
+    = given ≡ references_at uri t line character declares
+IsOfPosition uri t line character positions.Signatures given
+    = given ≡ signatures_in t line character
+
+abbrev pub IsOfLines : Map → List ℕ → TextView → ℕ × ℕ → Within → Data → Type 0
+IsOfLines bus_map uri t lines ranges.Hints given = given ≡ hints_in t lines
+IsOfLines bus_map uri t lines ranges.Fixes given = AreFixes bus_map uri t lines given
+
+abbrev pub IsAnswerTo : Map → List ℕ → TextView → Question → Data → Type 0
+IsAnswerTo bus_map uri t (questions.Whole what) given = given ≡ of_document t what
+IsAnswerTo bus_map uri t (questions.At what line character) given
+    = IsOfPosition uri t line character what given
+IsAnswerTo bus_map uri t (questions.Within what from to) given
+    = IsOfLines bus_map uri t (from, to) what given
+
+-- ---- the answers to requests
+
+-- The changes of a rename of the name at a position, or why there are none.
+abbrev pub IsRenamed : Map → List ℕ → TextView → ℕ → ℕ → List ℕ → Data → Data → Type 0
+IsRenamed bus_map uri t line character name id v =
+    IsResult id (IsRenameAt bus_map uri t (name_at t line character) name) v
+    ⊎ (IsKeptAt bus_map t (name_at t line character) name × IsFailure id failures.Refused v)
 
 -- The answer of a server that is in use.
 abbrev pub IsRunning : Map → List Opened → Data → RequestView → Data → Type 0
-IsRunning bus_map ds id (hover place) v = IsResult id
-    (IsMeaning (text_on bus_map ds place.uri) place.line place.character) v
-IsRunning bus_map ds id (definition place) v = v ≡ result_data id
-    (definition_at place.uri (text_on bus_map ds place.uri) place.line place.character)
-IsRunning bus_map ds id (references place declares) v = v ≡ result_data id
-    (references_at place.uri (text_on bus_map ds place.uri) place.line place.character declares)
-IsRunning bus_map ds id (rename place name) v = IsRenamed bus_map ds id place name v
-IsRunning bus_map ds id (symbols uri) v
-    = v ≡ result_data id (symbols_of (text_on bus_map ds uri))
-IsRunning bus_map ds id (completion uri) v
-    = v ≡ result_data id (completion_of (text_on bus_map ds uri))
-IsRunning bus_map ds id (signatures place) v = v ≡ result_data id
-    (signatures_in (text_on bus_map ds place.uri) place.line place.character)
-IsRunning bus_map ds id (colours uri) v
-    = v ≡ result_data id (colours_in (text_on bus_map ds uri))
-IsRunning bus_map ds id (folds uri) v = v ≡ result_data id (folds_in (text_on bus_map ds uri))
-IsRunning bus_map ds id (hints uri from to) v
-    = v ≡ result_data id (hints_in (text_on bus_map ds uri) from to)
-IsRunning bus_map ds id (fixes uri from to) v
-    = IsResult id (AreFixes bus_map uri (text_on bus_map ds uri) (from, to)) v
+IsRunning bus_map ds id (asks uri question) v
+    = IsResult id (IsAnswerTo bus_map uri (text_on bus_map ds uri) question) v
+IsRunning bus_map ds id (renames uri line character name) v
+    = IsRenamed bus_map uri (text_on bus_map ds uri) line character name id v
 IsRunning bus_map ds id shutdown v = v ≡ result_data id null
 IsRunning bus_map ds id invalid v = IsFailure id failures.WrongParameters v
 IsRunning bus_map ds id unknown v = IsFailure id failures.UnknownMethod v

@@ -9,9 +9,10 @@ use Rattle.lsp.specs.declared.phase.Phase.{Phase}
 use Rattle.lsp.specs.declared.phase.Phase.TheVariants.{Fresh, Running, ShutDown}
 use Rattle.lsp_answers.specs.Marks.{AreMarks}
 use Rattle.lsp_answers.specs.Texts.{text_of}
-use Rattle.lsp_requests.specs.Requests.{RequestView, shutdown, exit, opens, changes, closes, request_of}
+use Rattle.lsp_requests.specs.Requests.{RequestView, shutdown, exit, opens, closes, request_of}
 use Rattle.lsp_values.specs.Replies.{notice_data}
 use Rattle.lsp_values.specs.Values.{list_of, marks_data}
+use Rattle.lsp_values.specs.declared.replies.Failure.{Failure}
 use Rattle.lsp_values.specs.declared.replies.Failure.TheVariants.{NotJson, NoRequest}
 use Rattle.model.specs.State.{Map}
 use Rattle.serde_json.specs.Data.{Data, null}
@@ -30,10 +31,9 @@ phase_after Fresh request = if is_initialize request then Running else Fresh
 phase_after Running request = if is_shutdown request then ShutDown else Running
 phase_after ShutDown request = ShutDown
 
--- The documents after a notice. A change has the whole text.
+-- The documents after a notice, which has the whole text of one.
 abbrev pub documents_after : List Opened → RequestView → List Opened
 documents_after ds (opens uri text) = opened uri text ds
-documents_after ds (changes uri text) = opened uri text ds
 documents_after ds (closes uri) = closed uri ds
 documents_after ds request = ds
 
@@ -64,8 +64,6 @@ published marks = notice_data (codes "textDocument/publishDiagnostics") marks
 abbrev pub AreTold : Map → RequestView → List Data → Type 0
 AreTold bus_map (opens uri text) vs = (marks : Data)
     × AreMarks bus_map uri (text_of bus_map.profile text) marks × (vs ≡ published marks ∷ [])
-AreTold bus_map (changes uri text) vs = (marks : Data)
-    × AreMarks bus_map uri (text_of bus_map.profile text) marks × (vs ≡ published marks ∷ [])
 AreTold bus_map (closes uri) vs = vs ≡ published (marks_data uri (list_of [])) ∷ []
 AreTold bus_map request vs = vs ≡ []
 
@@ -88,13 +86,13 @@ AreReplies true bus_map s id request vs = vs ≡ []
 AreReplies false bus_map s id request vs
     = (v : Data) × IsReply bus_map s id request v × (vs ≡ v ∷ [])
 
--- A message that is neither a request nor a notice.
-abbrev pub AreRefused : List Data → Type 0
-AreRefused vs = (v : Data) × IsFailure null NoRequest v × (vs ≡ v ∷ [])
+-- A message that is neither a request nor a notice fails without an id.
+abbrev pub AreRefused : Failure → List Data → Type 0
+AreRefused failure vs = (v : Data) × IsFailure null failure v × (vs ≡ v ∷ [])
 
 abbrev pub AreNotices : Bool → Map → Phase → RequestView → List Data → Type 0
 AreNotices true bus_map phase request vs = AreToldIn bus_map phase request vs
-AreNotices false bus_map phase request vs = AreRefused vs
+AreNotices false bus_map phase request vs = AreRefused NoRequest vs
 
 abbrev pub AreAnswersBy : Option Data → Map → State → Data → List Data → Type 0
 AreAnswersBy (Some id) bus_map s message vs
@@ -108,7 +106,7 @@ AreAnswers bus_map s message vs = AreAnswersBy (id_of message) bus_map s message
 
 -- A body that is no JSON is refused.
 abbrev pub AreAnswersTo : Map → State → Option Data → List Data → Type 0
-AreAnswersTo bus_map s None vs = (v : Data) × IsFailure null NotJson v × (vs ≡ v ∷ [])
+AreAnswersTo bus_map s None vs = AreRefused NotJson vs
 AreAnswersTo bus_map s (Some message) vs = AreAnswers bus_map s message vs
 
 -- ---- the end

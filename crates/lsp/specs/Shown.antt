@@ -13,8 +13,8 @@ colours_in t = painted t.profile t.lines
 abbrev pub folds_in : TextView → Data
 folds_in t = folded t.profile t.lines
 
-abbrev pub hints_in : TextView → ℕ → ℕ → Data
-hints_in t from to = hints_of t.profile t.source t.lines (from, to)
+abbrev pub hints_in : TextView → ℕ × ℕ → Data
+hints_in t lines = hints_of t.profile t.source t.lines lines
 
 -- A line, empty where there is none: by its number from 1, and as the protocol counts it from 0.
 abbrev pub line_by : TextView → Option ℕ → List ℕ

@@ -1,5 +1,5 @@
 -- What comes of one turn of a server. Source: mos65.
-use Rattle.std.specs.Prelude.{ℕ, ◌≡◌, ◌≤◌, ⊤, List, [], Option, Some, None}
+use Rattle.std.specs.Prelude.{ℕ, ◌≡◌, List, [], Option, Some, None}
 use Rattle.lsp.specs.Sessions.{Answers}
 use Rattle.lsp.specs.State.{State}
 use Rattle.lsp.specs.declared.serving.Turn.{Turn}
@@ -17,9 +17,3 @@ Comes bus_map bytes left held old new written (Ended status) = (body : List ℕ)
     × IsFront bytes body held × Answers bus_map body old new (Some status) written
 Comes bus_map bytes left held old new written Over = IsOver bytes left × (new ≡ old)
     × (written ≡ [])
-
--- An exit status is 0 or 1.
-abbrev pub IsSmall : Turn → Type 0
-IsSmall Served = ⊤
-IsSmall (Ended status) = status ≤ 1
-IsSmall Over = ⊤

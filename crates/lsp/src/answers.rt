@@ -1,46 +1,58 @@
 //! What is answered to requests.
 
 ghost use Rattle.std.specs.Prelude.{IfOk};
-ghost use Rattle.lsp.specs.Answers.{IsFailure, IsFresh, IsRenamed, IsReplyIn, IsRunning};
+ghost use Rattle.lsp.specs.Answers.{IsFailure, IsFresh, IsReplyIn, IsRunning};
 ghost use Rattle.lsp.specs.State.{documents_view};
-ghost use Rattle.lsp_requests.specs.Requests as asked;
-ghost use Rattle.lsp_requests.specs.Views.{place_view, request_view};
+ghost use Rattle.lsp_requests.specs.Requests.{asks, renames};
+ghost use Rattle.lsp_requests.specs.Views.{request_view};
 ghost use Rattle.serde_json.specs.View.{view};
 
 use crate::capabilities::capabilities;
 use crate::documents::Documents;
 use crate::phase::{Phase, is_initialize};
-use crate::shown::{colours_reply, fixes_reply, folds_reply, hints_reply, signatures_reply};
+use crate::questions::answer_to;
 use crate::texts::text_on;
 use bus::MapSpec;
-use lsp_answers::{completion, definition, hover, references, rename, symbols};
-use lsp_requests::{Place, Request};
+use lsp_answers::rename;
+use lsp_requests::{Question, Request};
 use lsp_values::{Failure, failure_reply, result_reply};
 use serde_json::Value;
 use std::alloc::{AllocError, Global};
 
-/// Answers a request for another name.
+/// Answers a question about a document.
+fn question_reply(
+    alloc: Global,
+    map: &MapSpec,
+    documents: &Documents,
+    id: &Value,
+    uri: &str,
+    question: Question,
+) -> Result<Value, AllocError>
+    ensures { IfOk result (λ v. IsRunning map.now (documents_view documents.now) (view id.now)
+        (asks uri.now question) (view v)) }
+{
+    let text = text_on(alloc, map, documents, uri)?;
+    let given = answer_to(alloc, map, uri, &text, question)?;
+    let reply = result_reply(alloc, id, given)?;
+    Ok(reply)
+}
+
+/// Answers a request for another name for the name at a position.
 fn rename_reply(
     alloc: Global,
     map: &MapSpec,
     documents: &Documents,
     id: &Value,
-    place: Place<'_>,
+    uri: &str,
+    line: u64,
+    character: u64,
     name: &str,
 ) -> Result<Value, AllocError>
-    ensures { IfOk result (λ v. IsRenamed map.now (documents_view documents.now) (view id.now)
-        (place_view place.entry) name.now (view v)) }
+    ensures { IfOk result (λ v. IsRunning map.now (documents_view documents.now) (view id.now)
+        (renames uri.now line character name.now) (view v)) }
 {
-    let text = text_on(alloc, map, documents, place.uri)?;
-    match rename(
-        alloc,
-        map,
-        place.uri,
-        &text,
-        place.line,
-        place.character,
-        name,
-    )? {
+    let text = text_on(alloc, map, documents, uri)?;
+    match rename(alloc, map, uri, &text, line, character, name)? {
         Ok(changes) => {
             let reply = result_reply(alloc, id, changes)?;
             Ok(reply)
@@ -50,99 +62,6 @@ fn rename_reply(
             Ok(reply)
         }
     }
-}
-
-/// Answers a request for what is meant at a place.
-fn hover_reply(
-    alloc: Global,
-    map: &MapSpec,
-    documents: &Documents,
-    id: &Value,
-    place: Place<'_>,
-) -> Result<Value, AllocError>
-    ensures { IfOk result (λ v. IsRunning map.now (documents_view documents.now) (view id.now)
-        (asked.hover (place_view place.entry)) (view v)) }
-{
-    let text = text_on(alloc, map, documents, place.uri)?;
-    let meaning = hover(alloc, &text, place.line, place.character)?;
-    let reply = result_reply(alloc, id, meaning)?;
-    Ok(reply)
-}
-
-/// Answers a request for where the name at a place is defined.
-fn definition_reply(
-    alloc: Global,
-    map: &MapSpec,
-    documents: &Documents,
-    id: &Value,
-    place: Place<'_>,
-) -> Result<Value, AllocError>
-    ensures { IfOk result (λ v. IsRunning map.now (documents_view documents.now) (view id.now)
-        (asked.definition (place_view place.entry)) (view v)) }
-{
-    let text = text_on(alloc, map, documents, place.uri)?;
-    let places = definition(alloc, place.uri, &text, place.line, place.character)?;
-    let reply = result_reply(alloc, id, places)?;
-    Ok(reply)
-}
-
-/// Answers a request for where the name at a place stands.
-fn references_reply(
-    alloc: Global,
-    map: &MapSpec,
-    documents: &Documents,
-    id: &Value,
-    place: Place<'_>,
-    declares: bool,
-) -> Result<Value, AllocError>
-    ensures { IfOk result (λ v. IsRunning map.now (documents_view documents.now) (view id.now)
-        (asked.references (place_view place.entry) declares) (view v)) }
-{
-    let text = text_on(alloc, map, documents, place.uri)?;
-    let places = references(
-        alloc,
-        place.uri,
-        &text,
-        place.line,
-        place.character,
-        declares,
-    )?;
-    let reply = result_reply(alloc, id, places)?;
-    Ok(reply)
-}
-
-/// Answers a request for the names of a document.
-fn symbols_reply(
-    alloc: Global,
-    map: &MapSpec,
-    documents: &Documents,
-    id: &Value,
-    uri: &str,
-) -> Result<Value, AllocError>
-    ensures { IfOk result (λ v. IsRunning map.now (documents_view documents.now) (view id.now)
-        (asked.symbols uri.now) (view v)) }
-{
-    let text = text_on(alloc, map, documents, uri)?;
-    let names = symbols(alloc, &text)?;
-    let reply = result_reply(alloc, id, names)?;
-    Ok(reply)
-}
-
-/// Answers a request for what may be written in a document.
-fn completion_reply(
-    alloc: Global,
-    map: &MapSpec,
-    documents: &Documents,
-    id: &Value,
-    uri: &str,
-) -> Result<Value, AllocError>
-    ensures { IfOk result (λ v. IsRunning map.now (documents_view documents.now) (view id.now)
-        (asked.completion uri.now) (view v)) }
-{
-    let text = text_on(alloc, map, documents, uri)?;
-    let items = completion(alloc, &text)?;
-    let reply = result_reply(alloc, id, items)?;
-    Ok(reply)
 }
 
 /// Returns the words of a failure.
@@ -189,32 +108,22 @@ fn running_reply(
         (request_view request.entry) (view v)) }
 {
     match request {
-        Request::Hover(place) => hover_reply(alloc, map, documents, id, place),
-        Request::Definition(place) => definition_reply(alloc, map, documents, id, place),
-        Request::References { place, declares } => {
-            references_reply(alloc, map, documents, id, place, declares)
+        Request::Question { uri, question } => {
+            question_reply(alloc, map, documents, id, uri, question)
         }
-        Request::Rename { place, name } => rename_reply(alloc, map, documents, id, place, name),
-        Request::Symbols { uri } => symbols_reply(alloc, map, documents, id, uri),
-        Request::Completion { uri } => completion_reply(alloc, map, documents, id, uri),
-        Request::Signatures(place) => signatures_reply(alloc, map, documents, id, place),
-        Request::Colours { uri } => colours_reply(alloc, map, documents, id, uri),
-        Request::Folds { uri } => folds_reply(alloc, map, documents, id, uri),
-        Request::Hints { uri, from, to } => {
-            hints_reply(alloc, map, documents, id, uri, (from, to))
-        }
-        Request::Fixes { uri, from, to } => {
-            fixes_reply(alloc, map, documents, id, uri, (from, to))
-        }
+        Request::Rename {
+            uri,
+            line,
+            character,
+            name,
+        } => rename_reply(alloc, map, documents, id, uri, line, character, name),
         Request::Shutdown => result_reply(alloc, id, Value::Null),
         Request::Invalid => failed(alloc, id, Failure::WrongParameters),
         Request::Unknown => failed(alloc, id, Failure::UnknownMethod),
         Request::Initialize | Request::Exit | Request::NoMethod => {
             failed(alloc, id, Failure::NoRequest)
         }
-        Request::Open { .. } | Request::Change { .. } | Request::Close { .. } => {
-            failed(alloc, id, Failure::NoRequest)
-        }
+        Request::Open { .. } | Request::Close { .. } => failed(alloc, id, Failure::NoRequest),
     }
 }
 

@@ -1,81 +1,103 @@
 //! What the server can do.
 
-ghost use Rattle.std.specs.Prelude.{◌≡◌, IfOk};
-ghost use Rattle.lsp.specs.Capabilities.{capabilities, colours, fixes, served, signatures};
-ghost use Rattle.lsp.specs.Capabilities.{sync};
+ghost use Rattle.std.specs.Prelude.{◌≡◌, IfOk, map as each};
+ghost use Rattle.lsp.specs.Capabilities.{capabilities, colours, fixes, served, signatures, sync};
+ghost use Rattle.lsp_values.specs.Values.{list_of, word};
 ghost use Rattle.serde_json.specs.View.{view};
 
+use lsp_values::Object;
 use serde_json::{Value, json};
 use std::alloc::{AllocError, Global};
 
-/// Returns what the server can do about colours: those of a whole text, by this legend.
-#[tactic(auto, unfolding(crate::specs::Capabilities::colours))]
+/// The types of colours, by their numbers from 0.
+const TYPES: [&str; 6] = [
+    "keyword", "macro", "variable", "number", "string", "comment",
+];
+
+/// Returns a list of words.
+fn words(alloc: Global, texts: &[&str]) -> Result<Value, AllocError>
+    ensures { IfOk result (λ v. view v ≡ list_of (each word (each (λ s. s.now) texts.now))) }
+{
+    let mut list = Vec::new(alloc);
+    for text in texts {
+        let value = json!(in alloc; *text)?;
+        list.push(value)?;
+    }
+    Ok(Value::Array(list))
+}
+
+/// Returns what the server can do about colours: those of a whole text, by the legend.
 fn colours(alloc: Global) -> Result<Value, AllocError>
     ensures { IfOk result (λ v. view v ≡ colours) }
 {
-    json!(in alloc; {
-        "full": true,
-        "legend": {
-            "tokenModifiers": ["definition"],
-            "tokenTypes": ["keyword", "macro", "variable", "number", "string", "comment"]
-        }
-    })
+    let legend = Object::new(alloc)
+        .member("tokenModifiers", words(alloc, &["definition"]))
+        .member("tokenTypes", words(alloc, &TYPES))
+        .build();
+    Object::new(alloc)
+        .member("full", Ok(Value::Bool(true)))
+        .member("legend", legend)
+        .build()
 }
 
 /// Returns what the server can do about faults: changes that mend them.
-#[tactic(auto, unfolding(crate::specs::Capabilities::fixes))]
 fn fixes(alloc: Global) -> Result<Value, AllocError>
     ensures { IfOk result (λ v. view v ≡ fixes) }
 {
-    json!(in alloc; {"codeActionKinds": ["quickfix"]})
+    Object::new(alloc)
+        .member("codeActionKinds", words(alloc, &["quickfix"]))
+        .build()
 }
 
 /// Returns what the server can do about operations: their forms, for which a blank or a comma asks.
-#[tactic(auto, unfolding(crate::specs::Capabilities::signatures))]
 fn signatures(alloc: Global) -> Result<Value, AllocError>
     ensures { IfOk result (λ v. view v ≡ signatures) }
 {
-    json!(in alloc; {"triggerCharacters": [" ", ","]})
+    Object::new(alloc)
+        .member("triggerCharacters", words(alloc, &[" ", ","]))
+        .build()
 }
 
 /// Returns how documents come: they are opened and closed, and a change has the whole text.
-#[tactic(auto, unfolding(crate::specs::Capabilities::sync))]
 fn sync(alloc: Global) -> Result<Value, AllocError>
     ensures { IfOk result (λ v. view v ≡ sync) }
 {
-    json!(in alloc; {"change": 1, "openClose": true})
+    Object::new(alloc)
+        .count("change", 1)
+        .member("openClose", Ok(Value::Bool(true)))
+        .build()
 }
 
-/// Returns what the server serves.
-#[tactic(auto, unfolding(crate::specs::Capabilities::served))]
+/// Returns what the server provides.
 fn served(alloc: Global) -> Result<Value, AllocError>
     ensures { IfOk result (λ v. view v ≡ served) }
 {
-    let colours = colours(alloc)?;
-    let fixes = fixes(alloc)?;
-    let signatures = signatures(alloc)?;
-    let sync = sync(alloc)?;
-    json!(in alloc; {
-        "codeActionProvider": fixes,
-        "completionProvider": {},
-        "definitionProvider": true,
-        "documentSymbolProvider": true,
-        "foldingRangeProvider": true,
-        "hoverProvider": true,
-        "inlayHintProvider": true,
-        "positionEncoding": "utf-16",
-        "referencesProvider": true,
-        "renameProvider": true,
-        "semanticTokensProvider": colours,
-        "signatureHelpProvider": signatures,
-        "textDocumentSync": sync
-    })
+    Object::new(alloc)
+        .member("codeActionProvider", fixes(alloc))
+        .member("completionProvider", Object::new(alloc).build())
+        .member("definitionProvider", Ok(Value::Bool(true)))
+        .member("documentSymbolProvider", Ok(Value::Bool(true)))
+        .member("foldingRangeProvider", Ok(Value::Bool(true)))
+        .member("hoverProvider", Ok(Value::Bool(true)))
+        .member("inlayHintProvider", Ok(Value::Bool(true)))
+        .word("positionEncoding", "utf-16")
+        .member("referencesProvider", Ok(Value::Bool(true)))
+        .member("renameProvider", Ok(Value::Bool(true)))
+        .member("semanticTokensProvider", colours(alloc))
+        .member("signatureHelpProvider", signatures(alloc))
+        .member("textDocumentSync", sync(alloc))
+        .build()
 }
 
 /// Returns what the server can do.
 pub fn capabilities(alloc: Global) -> Result<Value, AllocError>
     ensures { IfOk result (λ v. view v ≡ capabilities) }
 {
-    let served = served(alloc)?;
-    json!(in alloc; {"capabilities": served, "serverInfo": {"name": "mos65"}})
+    Object::new(alloc)
+        .member("capabilities", served(alloc))
+        .member(
+            "serverInfo",
+            Object::new(alloc).word("name", "mos65").build(),
+        )
+        .build()
 }

@@ -3,8 +3,8 @@
 //! `lsp` is the word, with its words (`words`). `serving` takes messages from the input and writes
 //! what is answered before it takes the next, `server` does what a message asks for, over the
 //! documents that are open (`documents`) and how far the client has come (`phase`). `answers` has
-//! the answer to each request, and `shown` that to requests for what an editor shows, of the texts
-//! of documents (`texts`). `capabilities` says what the server can do. What a message asks for is
+//! the answer to each request, and `questions` what is answered to questions about documents, of
+//! their texts (`texts`). `capabilities` says what the server can do. What a message asks for is
 //! read by `lsp_requests`, what is answered of a source is made by `lsp_answers`, `lsp_outline` and
 //! `lsp_hints`, and `lsp_values` makes the values. `specs/Messages.antt` says what the server does
 //! with a message, `specs/Answers.antt` what it answers.
@@ -14,9 +14,9 @@ mod answers;
 mod capabilities;
 mod documents;
 mod phase;
+mod questions;
 mod server;
 mod serving;
-mod shown;
 mod texts;
 mod words;
 

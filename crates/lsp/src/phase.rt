@@ -8,7 +8,7 @@ ghost use Rattle.lsp_requests.specs.Views.{request_view};
 use lsp_requests::Request;
 
 /// How far a client has come.
-#[derive(Clone, Copy, Debug, PartialEq, Eq)]
+#[derive(Clone, Copy)]
 pub enum Phase {
     /// Nothing was asked for yet.
     Fresh,
@@ -48,46 +48,19 @@ impl Phase {
 pub fn is_initialize(request: Request<'_>) -> bool
     ensures { result ≡ is_initialize (request_view request.entry) }
 {
-    match request {
-        Request::Initialize => true,
-        Request::Shutdown | Request::Exit | Request::Open { .. } | Request::Change { .. } => false,
-        Request::Close { .. } | Request::Hover(_) | Request::Definition(_) => false,
-        Request::References { .. } | Request::Rename { .. } => false,
-        Request::Symbols { .. } | Request::Completion { .. } => false,
-        Request::Signatures(_) | Request::Colours { .. } => false,
-        Request::Folds { .. } | Request::Hints { .. } | Request::Fixes { .. } => false,
-        Request::Invalid | Request::Unknown | Request::NoMethod => false,
-    }
+    matches!(request, Request::Initialize)
 }
 
 /// Returns whether a request is `shutdown`.
 fn is_shutdown(request: Request<'_>) -> bool
     ensures { result ≡ is_shutdown (request_view request.entry) }
 {
-    match request {
-        Request::Shutdown => true,
-        Request::Initialize | Request::Exit | Request::Open { .. } => false,
-        Request::Change { .. } | Request::Close { .. } | Request::Hover(_) => false,
-        Request::Definition(_) | Request::References { .. } | Request::Rename { .. } => false,
-        Request::Symbols { .. } | Request::Completion { .. } => false,
-        Request::Signatures(_) | Request::Colours { .. } => false,
-        Request::Folds { .. } | Request::Hints { .. } | Request::Fixes { .. } => false,
-        Request::Invalid | Request::Unknown | Request::NoMethod => false,
-    }
+    matches!(request, Request::Shutdown)
 }
 
 /// Returns whether a request is `exit`.
 pub fn is_exit(request: Request<'_>) -> bool
     ensures { result ≡ is_exit (request_view request.entry) }
 {
-    match request {
-        Request::Exit => true,
-        Request::Initialize | Request::Shutdown | Request::Open { .. } => false,
-        Request::Change { .. } | Request::Close { .. } | Request::Hover(_) => false,
-        Request::Definition(_) | Request::References { .. } | Request::Rename { .. } => false,
-        Request::Symbols { .. } | Request::Completion { .. } => false,
-        Request::Signatures(_) | Request::Colours { .. } => false,
-        Request::Folds { .. } | Request::Hints { .. } | Request::Fixes { .. } => false,
-        Request::Invalid | Request::Unknown | Request::NoMethod => false,
-    }
+    matches!(request, Request::Exit)
 }

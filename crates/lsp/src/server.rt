@@ -1,12 +1,12 @@
 //! What the server does with a message.
 
-ghost use Rattle.std.specs.Prelude.{◌≡◌, ◌≤◌, ◌∷◌, [], IfOk, IfSome, None, OnOk, is_some, map as each};
-ghost use Rattle.lsp.specs.Messages.{AreAnswers, AreAnswersTo, AreNotices, AreRefused, AreReplies};
-ghost use Rattle.lsp.specs.Messages.{AreTold, AreToldIn, documents_after, documents_in, end_of};
-ghost use Rattle.lsp.specs.Messages.{is_answer, published, state_after};
+ghost use Rattle.std.specs.Prelude.{◌≡◌, ◌∷◌, [], IfOk, OnOk, is_some, map as each};
+ghost use Rattle.lsp.specs.Messages.{AreAnswers, AreRefused, AreReplies, AreTold, AreToldIn};
+ghost use Rattle.lsp.specs.Messages.{documents_after, documents_in, end_of, is_answer, published};
+ghost use Rattle.lsp.specs.Messages.{state_after};
 ghost use Rattle.lsp.specs.State.{documents_view, server_view, start};
 ghost use Rattle.lsp_answers.specs.Marks.{AreMarks};
-ghost use Rattle.lsp_answers.specs.Texts.{text_of, text_view};
+ghost use Rattle.lsp_answers.specs.Texts.{text_of};
 ghost use Rattle.lsp_requests.specs.Views.{request_view};
 ghost use Rattle.lsp_values.specs.Values.{list_of, marks_data};
 ghost use Rattle.serde_json.specs.Data.{Data};
@@ -59,20 +59,13 @@ fn told_marks(alloc: Global, marks: Value) -> Result<Vec<Value>, AllocError>
     one(alloc, notice)
 }
 
-/// Finds the lines and the names of a text.
-fn read<'a>(alloc: Global, map: &MapSpec, text: &'a str) -> Result<Text<'a>, AllocError>
-    ensures { IfOk result (λ read. text_view read ≡ text_of map.now.profile text.now) }
-{
-    Text::read(alloc, map.profile(), text.as_bytes())
-}
-
 /// Returns the notice of the marks of a document with this text.
 fn marks_told(alloc: Global, map: &MapSpec, uri: &str, text: &str) -> Result<Vec<Value>, AllocError>
     ensures { IfOk result (λ vs. (marks : Data)
         × AreMarks map.now uri.now (text_of map.now.profile text.now) marks
         × (each view vs.items ≡ published marks ∷ [])) }
 {
-    let text = read(alloc, map, text)?;
+    let text = Text::read(alloc, map.profile(), text.as_bytes())?;
     let marks = published(alloc, map, uri, &text)?;
     let notices = told_marks(alloc, marks)?;
     Ok(notices)
@@ -87,98 +80,59 @@ fn no_marks_told(alloc: Global, uri: &str) -> Result<Vec<Value>, AllocError>
     told_marks(alloc, marks)
 }
 
-/// Does what a notice about a document asks for. The only error is that a request for memory was
-/// refused.
-fn note(alloc: Global, documents: &mut Documents, request: Request<'_>) -> Result<(), AllocError>
-    ensures { OnOk result (documents_view documents.new
+/// Does what a notice about a document asks for, and returns what is told then. The only error is
+/// that a request for memory was refused.
+fn note(
+    alloc: Global,
+    map: &MapSpec,
+    documents: &mut Documents,
+    request: Request<'_>,
+) -> Result<Vec<Value>, AllocError>
+    ensures documents { OnOk result (documents_view documents.new
         ≡ documents_after (documents_view documents.old) (request_view request.entry)) }
-{
-    match request {
-        Request::Open { uri, text } => documents.open(alloc, uri, text),
-        Request::Change { uri, text } => documents.open(alloc, uri, text),
-        Request::Close { uri } => {
-            documents.close(uri);
-            Ok(())
-        }
-        Request::Initialize | Request::Shutdown | Request::Exit => Ok(()),
-        Request::Hover(_) | Request::Definition(_) => Ok(()),
-        Request::References { .. } | Request::Rename { .. } => Ok(()),
-        Request::Symbols { .. } | Request::Completion { .. } => Ok(()),
-        Request::Signatures(_) | Request::Colours { .. } => Ok(()),
-        Request::Folds { .. } | Request::Hints { .. } | Request::Fixes { .. } => Ok(()),
-        Request::Invalid | Request::Unknown | Request::NoMethod => Ok(()),
-    }
-}
-
-/// Returns what is told after a notice.
-fn told(alloc: Global, map: &MapSpec, request: Request<'_>) -> Result<Vec<Value>, AllocError>
-    ensures { IfOk result
+    ensures told { IfOk result
         (λ vs. AreTold map.now (request_view request.entry) (each view vs.items)) }
 {
     match request {
-        Request::Open { uri, text } => marks_told(alloc, map, uri, text),
-        Request::Change { uri, text } => marks_told(alloc, map, uri, text),
-        Request::Close { uri } => no_marks_told(alloc, uri),
+        Request::Open { uri, text } => {
+            documents.open(alloc, uri, text)?;
+            marks_told(alloc, map, uri, text)
+        }
+        Request::Close { uri } => {
+            documents.close(uri);
+            no_marks_told(alloc, uri)
+        }
         Request::Initialize | Request::Shutdown | Request::Exit => Ok(Vec::new(alloc)),
-        Request::Hover(_) | Request::Definition(_) => Ok(Vec::new(alloc)),
-        Request::References { .. } | Request::Rename { .. } => Ok(Vec::new(alloc)),
-        Request::Symbols { .. } | Request::Completion { .. } => Ok(Vec::new(alloc)),
-        Request::Signatures(_) | Request::Colours { .. } => Ok(Vec::new(alloc)),
-        Request::Folds { .. } | Request::Hints { .. } => Ok(Vec::new(alloc)),
-        Request::Fixes { .. } => Ok(Vec::new(alloc)),
+        Request::Question { .. } | Request::Rename { .. } => Ok(Vec::new(alloc)),
         Request::Invalid | Request::Unknown | Request::NoMethod => Ok(Vec::new(alloc)),
     }
 }
 
-/// Returns what is told after a notice in a phase.
-fn told_in(
+/// Does what a notice asks for in a phase, and returns what is told then. The only error is that a
+/// request for memory was refused.
+fn note_in(
     alloc: Global,
     map: &MapSpec,
     phase: Phase,
+    documents: &mut Documents,
     request: Request<'_>,
 ) -> Result<Vec<Value>, AllocError>
-    ensures { IfOk result
+    ensures documents { OnOk result (documents_view documents.new
+        ≡ documents_in phase (documents_view documents.old) (request_view request.entry)) }
+    ensures told { IfOk result
         (λ vs. AreToldIn map.now phase (request_view request.entry) (each view vs.items)) }
 {
     match phase {
-        Phase::Running => told(alloc, map, request),
-        Phase::Fresh => Ok(Vec::new(alloc)),
-        Phase::ShutDown => Ok(Vec::new(alloc)),
+        Phase::Running => note(alloc, map, documents, request),
+        Phase::Fresh | Phase::ShutDown => Ok(Vec::new(alloc)),
     }
 }
 
-/// Does what a notice asks for in a phase. The only error is that a request for memory was refused.
-fn note_in(
-    alloc: Global,
-    phase: Phase,
-    documents: &mut Documents,
-    request: Request<'_>,
-) -> Result<(), AllocError>
-    ensures { OnOk result (documents_view documents.new
-        ≡ documents_in phase (documents_view documents.old) (request_view request.entry)) }
+/// Returns the answer to what is no request, no notice and no answer.
+pub fn refused(alloc: Global, failure: Failure) -> Result<Vec<Value>, AllocError>
+    ensures { IfOk result (λ vs. AreRefused failure (each view vs.items)) }
 {
-    match phase {
-        Phase::Running => note(alloc, documents, request),
-        Phase::Fresh => Ok(()),
-        Phase::ShutDown => Ok(()),
-    }
-}
-
-/// Returns the answer to a message that is no request, no notice and no answer.
-fn refused(alloc: Global) -> Result<Vec<Value>, AllocError>
-    ensures { IfOk result (λ vs. AreRefused (each view vs.items)) }
-{
-    let reply = failed(alloc, &Value::Null, Failure::NoRequest)?;
-    let replies = one(alloc, reply)?;
-    Ok(replies)
-}
-
-/// Returns the answer to a body that is no JSON.
-pub fn not_json(alloc: Global, map: &MapSpec, server: &Server) -> Result<Vec<Value>, AllocError>
-    ensures { IfOk result
-        (λ vs. AreAnswersTo map.now (server_view server.now) None (each view vs.items)) }
-{
-    let reply = failed(alloc, &Value::Null, Failure::NotJson)?;
+    let reply = failed(alloc, &Value::Null, failure)?;
     let replies = one(alloc, reply)?;
     Ok(replies)
 }
@@ -220,24 +174,6 @@ fn replies(
     Ok(answers)
 }
 
-/// Returns what is told after a message without a number, which has a method or has not.
-fn notices(
-    alloc: Global,
-    map: &MapSpec,
-    phase: Phase,
-    request: Request<'_>,
-    has_method: bool,
-) -> Result<Vec<Value>, AllocError>
-    ensures { IfOk result (λ vs. AreNotices has_method map.now phase
-        (request_view request.entry) (each view vs.items)) }
-{
-    if has_method {
-        told_in(alloc, map, phase, request)
-    } else {
-        refused(alloc)
-    }
-}
-
 /// Does what a message asks for, and returns what is to be told then: one answer to a request, and
 /// the marks of a document after its text was told. The only error is that a request for memory was
 /// refused.
@@ -260,8 +196,12 @@ pub fn serve(
             Ok(answers)
         }
         None => {
-            note_in(alloc, server.phase, &mut server.documents, request)?;
-            notices(alloc, map, server.phase, request, has(message, "method"))
+            let told = note_in(alloc, map, server.phase, &mut server.documents, request)?;
+            if has(message, "method") {
+                Ok(told)
+            } else {
+                refused(alloc, Failure::NoRequest)
+            }
         }
     }
 }
@@ -269,8 +209,7 @@ pub fn serve(
 /// Returns the exit status that a message asks for, if it asks for the end: 0 after `shutdown`, and
 /// 1 without.
 pub fn asks_for_end(server: &Server, message: &Value) -> Option<u8>
-    ensures end { result ≡ end_of (server_view server.now) (view message.now) }
-    ensures small { IfSome result (λ status. status ≤ 1) }
+    ensures { result ≡ end_of (server_view server.now) (view message.now) }
 {
     if is_exit(read_request(message)) {
         Some(server.phase.status())

@@ -1,6 +1,6 @@
 //! Messages taken from the input, one after another, and answered.
 
-ghost use Rattle.std.specs.Prelude.{◌≡◌, ◌≤◌, ◌++◌, ℕ, IfOk, IfSome, List, None, OnOk, Option, Some};
+ghost use Rattle.std.specs.Prelude.{◌≡◌, ◌≤◌, ◌++◌, ℕ, IfOk, List, None, OnOk, Option, Some};
 ghost use Rattle.std.specs.Prelude.{map as each};
 ghost use Rattle.std.specs.Io.KnownBytes.{Appends, Consumes};
 ghost use Rattle.std.specs.Option.{option_map};
@@ -9,7 +9,7 @@ ghost use Rattle.lsp.specs.CommandLine.{LspAsked, lsp_app, lsp_asked, lsp_view};
 ghost use Rattle.lsp.specs.Messages.{Does, IsMessage};
 ghost use Rattle.lsp.specs.Sessions.{Answers, IsSession, map_for};
 ghost use Rattle.lsp.specs.State.{server_view};
-ghost use Rattle.lsp.specs.Turns.{Comes, IsSmall};
+ghost use Rattle.lsp.specs.Turns.{Comes};
 ghost use Rattle.lsp.specs.Writing.{AreWritten, IsTextOf};
 ghost use Rattle.lsp.specs.declared.phase.Phase.TheVariants.{ShutDown};
 ghost use Rattle.message_stream.specs.Messages.{framed};
@@ -17,10 +17,11 @@ ghost use Rattle.serde_json.specs.Data.{Data};
 ghost use Rattle.serde_json.specs.View.{view};
 
 use crate::phase::Phase;
-use crate::server::{Server, asks_for_end, not_json, serve};
+use crate::server::{Server, asks_for_end, refused, serve};
 use crate::words::{LspWords, read_words};
 use arguments::{Refusal, map_of, put_all, refuse, refused_words};
 use bus::MapSpec;
+use lsp_values::Failure;
 use message_stream::{Incoming, StreamFault, write_message};
 use serde_json::Value;
 use std::alloc::{AllocError, Global};
@@ -78,9 +79,8 @@ fn obeyed(
     server: &mut Server,
     message: &Value,
 ) -> Result<(Vec<Value>, Option<u8>), AllocError>
-    ensures does { IfOk result (λ p. Does map.now (server_view server.old)
+    ensures { IfOk result (λ p. Does map.now (server_view server.old)
         (Some (view message.now)) (server_view server.new) (each view p.0.items) p.1) }
-    ensures small { IfOk result (λ p. IfSome p.1 (λ status. status ≤ 1)) }
 {
     match asks_for_end(server, message) {
         Some(status) => Ok((Vec::new(alloc), Some(status))),
@@ -99,15 +99,14 @@ fn served(
     server: &mut Server,
     body: &[u8],
 ) -> Result<(Vec<Value>, Option<u8>), AllocError>
-    ensures does { IfOk result (λ p. (message : Option Data) × IsMessage body.now message
+    ensures { IfOk result (λ p. (message : Option Data) × IsMessage body.now message
         × Does map.now (server_view server.old) message (server_view server.new)
         (each view p.0.items) p.1) }
-    ensures small { IfOk result (λ p. IfSome p.1 (λ status. status ≤ 1)) }
 {
     match value_of(alloc, body)? {
         Some(message) => obeyed(alloc, map, server, &message),
         None => {
-            let values = not_json(alloc, map, server)?;
+            let values = refused(alloc, Failure::NotJson)?;
             Ok((values, None))
         }
     }
@@ -125,10 +124,9 @@ fn answer<O: Write>(
     body: &[u8],
     output: &mut O,
 ) -> Result<Option<u8>, StreamFault>
-    ensures answers { IfOk result (λ end. (written : List ℕ) × Answers map.now body.now
+    ensures { IfOk result (λ end. (written : List ℕ) × Answers map.now body.now
         (server_view server.old) (server_view server.new) end written
         × Appends (O.contents output.old) (O.contents output.new) written) }
-    ensures small { IfOk result (λ end. IfSome end (λ status. status ≤ 1)) }
 {
     let Ok((values, end)) = served(alloc, map, server, body) else {
         return Err(StreamFault::OutOfMemory);
@@ -161,12 +159,11 @@ fn take_turn<R: Read, O: Write>(
     input: &mut R,
     output: &mut O,
 ) -> Result<Turn, StreamFault>
-    ensures turn { IfOk result (λ turn. (told : List ℕ)
+    ensures { IfOk result (λ turn. (told : List ℕ)
         × Consumes (R.remaining input.old) (R.remaining input.new) told × (written : List ℕ)
         × Comes map.now (incoming.old ++ told) (R.remaining input.new) incoming.new
         (server_view server.old) (server_view server.new) written turn
         × Appends (O.contents output.old) (O.contents output.new) written) }
-    ensures small { IfOk result IsSmall }
 {
     let Some(body) = incoming.next(alloc, input)? else {
         return Ok(Turn::Over);

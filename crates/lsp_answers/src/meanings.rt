@@ -4,10 +4,11 @@ ghost use Rattle.std.specs.Prelude.{◌≡◌, ◌≤◌, ◌++◌, ◌-◌, ℕ
 ghost use Rattle.std.specs.List.{find};
 ghost use Rattle.std.specs.Option.{option_map};
 ghost use Rattle.line_parts.specs.Lexemes.{lexeme_of, lexemes};
-ghost use Rattle.lsp_answers.specs.Meanings.{IsMeaning, IsOfLine, IsOfName, IsOfRow, IsSaid};
+ghost use Rattle.lsp_answers.specs.Meanings.{IsMeaning, IsOfLine, IsOfName, IsOfPlace, IsOfRow};
+ghost use Rattle.lsp_answers.specs.Meanings.{IsSaid};
 ghost use Rattle.lsp_answers.specs.Meanings.{found_in, is_mnemonic_on, mnemonic_on, opcode_of};
 ghost use Rattle.lsp_answers.specs.Meanings.{row_of, row_on, tokens_or_none};
-ghost use Rattle.lsp_answers.specs.Texts.{line_at, text_view};
+ghost use Rattle.lsp_answers.specs.Texts.{line_at, name_at, text_view};
 ghost use Rattle.model.specs.Mnemonics.{mnemonic_text};
 ghost use Rattle.model.specs.Token.{tokens_of};
 ghost use Rattle.name_uses.specs.Views.{use_view};
@@ -224,6 +225,24 @@ fn line_said(
     }
 }
 
+/// Returns what is said at a place: of a name, or else of a mnemonic; `null` where neither stands.
+fn place_said(
+    alloc: Global,
+    text: &Text<'_>,
+    laid: &Laid<'_>,
+    line: u64,
+    character: u64,
+) -> Result<Value, AllocError>
+    requires { found_all laid.now.found.items ≡ found_in (text_view text.now) }
+    ensures { IfOk result (λ v. IsOfPlace (text_view text.now) line character
+        (name_at (text_view text.now) line character) (view v)) }
+{
+    match text.name_at(line, character) {
+        Some(one) => name_said(alloc, text, laid, &one),
+        None => line_said(alloc, text, laid, text.number(line), character),
+    }
+}
+
 /// Returns what is meant at a place: of a name its number and where it is defined, of an
 /// instruction its form, address, opcode, bytes, cycles and flags; `null` elsewhere, and of a
 /// source that is too long. The only error is that a request for memory was refused.
@@ -234,8 +253,5 @@ pub fn hover(alloc: Global, text: &Text<'_>, line: u64, character: u64) -> Resul
         return Ok(Value::Null);
     }
     let laid = lay_out_text(alloc, text)?;
-    match text.name_at(line, character) {
-        Some(one) => name_said(alloc, text, &laid, &one),
-        None => line_said(alloc, text, &laid, text.number(line), character),
-    }
+    place_said(alloc, text, &laid, line, character)
 }

@@ -12,8 +12,8 @@ ghost use Rattle.serde_json.specs.View.{view};
 use crate::right_words::right_word;
 use bus::MapSpec;
 use lsp_answers::Text;
-use lsp_values::{changes, edit};
-use serde_json::{Value, json};
+use lsp_values::{Object, changes, edit};
+use serde_json::Value;
 use source_diagnostics::{Diagnostic, diagnostics};
 use std::alloc::{AllocError, Global};
 
@@ -31,7 +31,11 @@ fn title_of(alloc: Global, word: &[u8]) -> Result<String, AllocError>
 fn action(alloc: Global, title: &str, edit: Value) -> Result<Value, AllocError>
     ensures { IfOk result (λ v. view v ≡ action_data title.now (view edit)) }
 {
-    json!(in alloc; {"edit": edit, "kind": "quickfix", "title": title})
+    Object::new(alloc)
+        .member("edit", Ok(edit))
+        .word("kind", "quickfix")
+        .word("title", title)
+        .build()
 }
 
 /// Returns a list of one change.

@@ -12,7 +12,7 @@ use optable::mnemonic_in;
 use source_notes::{after, blank_run, word_run};
 
 /// An operation.
-#[derive(Clone, Copy, Debug)]
+#[derive(Clone, Copy)]
 pub enum Operation {
     /// An instruction.
     Instruction(Mnemonic),

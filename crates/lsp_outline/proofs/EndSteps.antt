@@ -1,5 +1,5 @@
 -- The way to the end of the last token of a line, and behind blanks.
-use Rattle.std.proofs.Common.{◌≡◌, ◌∙◌, ℕ, ◌+◌, ◌-◌, ◌<◌, ◌≤◌, Bool, List, [], ◌∷◌, length, take, drop, refl, sym, ap, subst, get_or, add-one, drop-cons, arith}
+use Rattle.std.proofs.Common.{◌≡◌, ◌∙◌, ℕ, ◌+◌, ◌<◌, ◌≤◌, Bool, List, ◌∷◌, length, take, drop, refl, sym, ap, subst, get_or, add-one, drop-cons, arith}
 use Rattle.std.specs.Prelude.{min}
 use Rattle.std.specs.List.{prefix_len}
 use Rattle.std.proofs.lemmas.List.{drop_all, length-drop, length-take}

@@ -1,5 +1,5 @@
 -- What is painted of a source. Source: Language Server Protocol 3.17, "Semantic Tokens"; mos65.
-use Rattle.std.specs.Prelude.{ℕ, ◌+◌, ◌-◌, ◌==◌, ◌||◌, nat_lt, Bool, true, false, if◌then◌else◌, List, [], ◌∷◌, ◌++◌, drop, length, codes, Option, Some, None}
+use Rattle.std.specs.Prelude.{ℕ, ◌+◌, ◌-◌, ◌==◌, ◌||◌, nat_lt, Bool, false, if◌then◌else◌, List, [], ◌∷◌, ◌++◌, drop, length, codes, Option, Some, None}
 use Rattle.std.specs.List.{prefix_len}
 use Rattle.lsp_outline.specs.Colours.{colour_of, modifiers_of, type_of}
 use Rattle.lsp_outline.specs.declared.colour.Colour.{Colour}

@@ -3,15 +3,13 @@
 ghost use Rattle.std.specs.Prelude.{◌≡◌};
 ghost use Rattle.line_parts.specs.Lexemes.{lexeme_of};
 ghost use Rattle.lsp_outline.specs.Colours.{colour_of, modifiers_of, type_of, word_colour};
-ghost use Rattle.model.specs.SourceLine.{is_reserved};
-ghost use Rattle.name_uses.specs.Registers.{is_register};
 
 use line_parts::Token;
 use model::{Profile, TokenKind};
-use optable::mnemonic_in;
+use name_uses::is_reserved;
 
 /// What a part of a line is painted as.
-#[derive(Clone, Copy, Debug, PartialEq, Eq)]
+#[derive(Clone, Copy)]
 pub enum Colour {
     /// A mnemonic, A, X or Y.
     Reserved,
@@ -54,24 +52,6 @@ impl Colour {
             Colour::Number | Colour::Quoted | Colour::Comment => 0,
         }
     }
-}
-
-/// Returns whether a text is A, X or Y, in either letter case.
-fn is_register(text: &[u8]) -> bool
-    ensures { result ≡ is_register text.now }
-{
-    match text {
-        [byte] => matches!(byte.to_ascii_uppercase(), b'A' | b'X' | b'Y'),
-        _ => false,
-    }
-}
-
-/// Returns whether a word is a mnemonic of a profile, A, X or Y, in either letter case.
-#[tactic(auto, using(name_uses::proofs::Reserved::reserved_by))]
-pub fn is_reserved(profile: Profile, text: &[u8]) -> bool
-    ensures { result ≡ is_reserved profile text.now }
-{
-    mnemonic_in(profile, text).is_some() || is_register(text)
 }
 
 /// Returns the colour of a word, which its line defines, or not.

@@ -14,7 +14,7 @@ use std::alloc::{AllocError, Global};
 
 /// Lines that are folded into the first of them: the numbers of the first and the last one, counted
 /// from 0.
-#[derive(Clone, Copy, Debug)]
+#[derive(Clone, Copy)]
 pub struct Fold {
     pub first: usize,
     pub last: usize,

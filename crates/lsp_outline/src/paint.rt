@@ -15,7 +15,7 @@ use source_notes::{after, blank_run, is_symbol};
 use std::alloc::{AllocError, Global};
 
 /// A part of a line with its colour.
-#[derive(Clone, Copy, Debug)]
+#[derive(Clone, Copy)]
 pub struct Paint {
     /// Its line, counted from 0.
     pub line: usize,

@@ -6,28 +6,34 @@ ghost use Rattle.lsp_outline.specs.Painted.{data_of};
 ghost use Rattle.serde_json.specs.View.{view};
 
 use crate::folds::Fold;
-use serde_json::{Value, json};
+use lsp_values::Object;
+use serde_json::Value;
 use std::alloc::{AllocError, Global};
 
 /// Returns the value of some colours.
 pub fn data(alloc: Global, counts: Value) -> Result<Value, AllocError>
     ensures { IfOk result (λ v. view v ≡ data_of (view counts)) }
 {
-    json!(in alloc; {"data": counts})
+    Object::new(alloc).member("data", Ok(counts)).build()
 }
 
 /// Returns the value of a fold.
 pub fn fold(alloc: Global, one: &Fold) -> Result<Value, AllocError>
     ensures { IfOk result (λ v. view v ≡ fold_data one.now) }
 {
-    let (first, last) = (one.first, one.last);
-    json!(in alloc; {"endLine": last, "startLine": first})
+    Object::new(alloc)
+        .count("endLine", one.last as u64)
+        .count("startLine", one.first as u64)
+        .build()
 }
 
 /// Returns the value of a fold of comments.
 pub fn comment_fold(alloc: Global, one: &Fold) -> Result<Value, AllocError>
     ensures { IfOk result (λ v. view v ≡ comment_data one.now) }
 {
-    let (first, last) = (one.first, one.last);
-    json!(in alloc; {"endLine": last, "kind": "comment", "startLine": first})
+    Object::new(alloc)
+        .count("endLine", one.last as u64)
+        .word("kind", "comment")
+        .count("startLine", one.first as u64)
+        .build()
 }

@@ -21,33 +21,26 @@ or_false (Some flag) = flag
 abbrev pub flag_at : List ℕ → Data → Bool
 flag_at path message = or_false (option_and_then as_bool (pointer path message))
 
--- A place in a document: its name, a line and a column, both from 0.
-pub record PlaceView : Type 0 where
-  pub uri : List ℕ
-  pub line : ℕ
-  pub character : ℕ
-
 abbrev pub uri_of : Data → Option (List ℕ)
 uri_of message = text_at (codes "/params/textDocument/uri") message
 
-abbrev pub place_by : Option (List ℕ) → Option ℕ → Option ℕ → Option PlaceView
-place_by (Some uri) (Some line) (Some character)
-    = Some (record { uri = uri; line = line; character = character })
-place_by uri line character = None
+-- The numbers at two paths, if both are there.
+abbrev pub both_of : Option ℕ → Option ℕ → Option (ℕ × ℕ)
+both_of (Some first) (Some second) = Some (first, second)
+both_of first second = None
 
-unfoldable pub place_of : Data → Option PlaceView
-place_of message = place_by (uri_of message)
-    (number_at (codes "/params/position/line") message)
-    (number_at (codes "/params/position/character") message)
+abbrev pub numbers_at : List ℕ → List ℕ → Data → Option (ℕ × ℕ)
+numbers_at first second message = both_of (number_at first message) (number_at second message)
+
+-- A position: a line and a column, both from 0.
+abbrev pub position_of : Data → Option (ℕ × ℕ)
+position_of message = numbers_at (codes "/params/position/line")
+    (codes "/params/position/character") message
 
 -- The lines in which a range begins and ends.
-abbrev pub lines_by : Option ℕ → Option ℕ → Option (ℕ × ℕ)
-lines_by (Some from) (Some to) = Some (from, to)
-lines_by from to = None
-
 abbrev pub lines_of : Data → Option (ℕ × ℕ)
-lines_of message = lines_by (number_at (codes "/params/range/start/line") message)
-    (number_at (codes "/params/range/end/line") message)
+lines_of message = numbers_at (codes "/params/range/start/line")
+    (codes "/params/range/end/line") message
 
 -- Something stands at a path.
 unfoldable pub has : List ℕ → Data → Bool

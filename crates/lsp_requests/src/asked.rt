@@ -1,16 +1,54 @@
 //! What a client asks for.
 
-/// A place in a document, as the protocol counts it: a line and a column, both from 0, the column
-/// in units of UTF-16.
-#[derive(Clone, Copy, Debug)]
-pub struct Place<'a> {
-    pub uri: &'a str,
-    pub line: u64,
-    pub character: u64,
+/// What is asked of a whole document.
+#[derive(Clone, Copy)]
+pub enum Whole {
+    /// `textDocument/documentSymbol`
+    Symbols,
+    /// `textDocument/completion`
+    Completion,
+    /// `textDocument/semanticTokens/full`
+    Colours,
+    /// `textDocument/foldingRange`
+    Folds,
+}
+
+/// What is asked of a position in a document.
+#[derive(Clone, Copy)]
+pub enum At {
+    /// `textDocument/hover`
+    Hover,
+    /// `textDocument/definition`
+    Definition,
+    /// `textDocument/references`, and whether definitions are wanted too.
+    References { declares: bool },
+    /// `textDocument/signatureHelp`
+    Signatures,
+}
+
+/// What is asked of some lines of a document.
+#[derive(Clone, Copy)]
+pub enum Within {
+    /// `textDocument/inlayHint`
+    Hints,
+    /// `textDocument/codeAction`
+    Fixes,
+}
+
+/// What is asked of a document.
+#[derive(Clone, Copy)]
+pub enum Question {
+    /// Of the whole document.
+    Whole(Whole),
+    /// Of a position, as the protocol counts it: a line and a column, both from 0, the column in
+    /// units of UTF-16.
+    At { what: At, line: u64, character: u64 },
+    /// Of the lines between a first and a last one, counted from 0.
+    Within { what: Within, from: u64, to: u64 },
 }
 
 /// What a message asks for.
-#[derive(Clone, Copy, Debug)]
+#[derive(Clone, Copy)]
 pub enum Request<'a> {
     /// `initialize`
     Initialize,
@@ -18,34 +56,27 @@ pub enum Request<'a> {
     Shutdown,
     /// `exit`
     Exit,
-    /// `textDocument/didOpen`: a document with its whole text.
-    Open { uri: &'a str, text: &'a str },
-    /// `textDocument/didChange`: the whole text that a document has now.
-    Change { uri: &'a str, text: &'a str },
+    /// `textDocument/didOpen`, `textDocument/didChange`: the whole text that a document has now.
+    Open {
+        uri: &'a str,
+        text: &'a str,
+    },
     /// `textDocument/didClose`
-    Close { uri: &'a str },
-    /// `textDocument/hover`
-    Hover(Place<'a>),
-    /// `textDocument/definition`
-    Definition(Place<'a>),
-    /// `textDocument/references`, and whether definitions are wanted too.
-    References { place: Place<'a>, declares: bool },
-    /// `textDocument/rename`, and the new name.
-    Rename { place: Place<'a>, name: &'a str },
-    /// `textDocument/documentSymbol`
-    Symbols { uri: &'a str },
-    /// `textDocument/completion`
-    Completion { uri: &'a str },
-    /// `textDocument/signatureHelp`
-    Signatures(Place<'a>),
-    /// `textDocument/semanticTokens/full`
-    Colours { uri: &'a str },
-    /// `textDocument/foldingRange`
-    Folds { uri: &'a str },
-    /// `textDocument/inlayHint`, and the first and the last line that are wanted, counted from 0.
-    Hints { uri: &'a str, from: u64, to: u64 },
-    /// `textDocument/codeAction`, and the first and the last line that are meant, counted from 0.
-    Fixes { uri: &'a str, from: u64, to: u64 },
+    Close {
+        uri: &'a str,
+    },
+    /// A question about a document.
+    Question {
+        uri: &'a str,
+        question: Question,
+    },
+    /// `textDocument/rename`: another name for the name at a position.
+    Rename {
+        uri: &'a str,
+        line: u64,
+        character: u64,
+        name: &'a str,
+    },
     /// A method that is served, without what it needs.
     Invalid,
     /// A method that is not served.

@@ -3,11 +3,9 @@
 ghost use Rattle.std.specs.Prelude.{◌≡◌};
 ghost use Rattle.std.specs.Option.{option_map};
 ghost use Rattle.serde_json.specs.View.{view};
-ghost use Rattle.lsp_requests.specs.Fields.{changed_text, flag_at, has, lines_of, number_at, place_of};
-ghost use Rattle.lsp_requests.specs.Fields.{text_at, uri_of};
-ghost use Rattle.lsp_requests.specs.Views.{place_view};
+ghost use Rattle.lsp_requests.specs.Fields.{changed_text, flag_at, has, lines_of, number_at};
+ghost use Rattle.lsp_requests.specs.Fields.{numbers_at, position_of, text_at, uri_of};
 
-use crate::asked::Place;
 use serde_json::Value;
 
 /// Returns the text at a path of a message, if there is one.
@@ -22,6 +20,38 @@ fn number_at(message: &Value, path: &str) -> Option<u64>
     ensures { result ≡ number_at path.now (view message.now) }
 {
     message.pointer(path).and_then(Value::as_u64)
+}
+
+/// Returns the numbers at two paths of a message, if both are there.
+fn numbers_at(message: &Value, first: &str, second: &str) -> Option<(u64, u64)>
+    ensures { result ≡ numbers_at first.now second.now (view message.now) }
+{
+    match (number_at(message, first), number_at(message, second)) {
+        (Some(first), Some(second)) => Some((first, second)),
+        _ => None,
+    }
+}
+
+/// Returns the position that a message is about: a line and a column, both from 0.
+pub fn position_of(message: &Value) -> Option<(u64, u64)>
+    ensures { result ≡ position_of (view message.now) }
+{
+    numbers_at(
+        message,
+        "/params/position/line",
+        "/params/position/character",
+    )
+}
+
+/// Returns the numbers of the lines in which the range of a message begins and ends, if it has one.
+pub fn lines_of(message: &Value) -> Option<(u64, u64)>
+    ensures { result ≡ lines_of (view message.now) }
+{
+    numbers_at(
+        message,
+        "/params/range/start/line",
+        "/params/range/end/line",
+    )
 }
 
 /// Returns whether `true` stands at a path of a message.
@@ -39,30 +69,6 @@ pub fn uri_of(message: &Value) -> Option<&str>
     ensures { option_map (λ s. s.now) result ≡ uri_of (view message.now) }
 {
     text_at(message, "/params/textDocument/uri")
-}
-
-/// Returns the place that a message is about.
-#[tactic(auto, unfolding(crate::specs::Fields::place_of))]
-pub fn place_of(message: &Value) -> Option<Place<'_>>
-    ensures { option_map place_view result ≡ place_of (view message.now) }
-{
-    let uri = uri_of(message)?;
-    let line = number_at(message, "/params/position/line")?;
-    let character = number_at(message, "/params/position/character")?;
-    Some(Place {
-        uri,
-        line,
-        character,
-    })
-}
-
-/// Returns the numbers of the lines in which the range of a message begins and ends, if it has one.
-pub fn lines_of(message: &Value) -> Option<(u64, u64)>
-    ensures { result ≡ lines_of (view message.now) }
-{
-    let from = number_at(message, "/params/range/start/line")?;
-    let to = number_at(message, "/params/range/end/line")?;
-    Some((from, to))
 }
 
 /// Returns whether something stands at a path of a message.

@@ -8,5 +8,5 @@ mod asked;
 mod fields;
 mod requests;
 
-pub use asked::{Place, Request};
+pub use asked::{At, Question, Request, Whole, Within};
 pub use requests::read_request;

@@ -3,111 +3,120 @@
 ghost use Rattle.std.specs.Prelude.{◌≡◌};
 ghost use Rattle.std.specs.Option.{option_map};
 ghost use Rattle.serde_json.specs.View.{view};
-ghost use Rattle.lsp_requests.specs.Requests.{by_method, by_method_of_shown, by_method_of_text};
-ghost use Rattle.lsp_requests.specs.Requests.{change_of, close_of, colours_of, completion_of};
-ghost use Rattle.lsp_requests.specs.Requests.{definition_of, fixes_of, fixes_within, folds_of, hints_of};
-ghost use Rattle.lsp_requests.specs.Requests.{hints_within, hover_of, open_of, references_of, rename_at};
-ghost use Rattle.lsp_requests.specs.Requests.{rename_of, request_of, signatures_of, symbols_of};
-ghost use Rattle.lsp_requests.specs.Views.{place_view, request_view};
+ghost use Rattle.lsp_requests.specs.Requests.{asked_at, asked_of, asked_within, by_method};
+ghost use Rattle.lsp_requests.specs.Requests.{close_by, of_lines, of_position, open_by};
+ghost use Rattle.lsp_requests.specs.Requests.{question_by_method, references_of, rename_by};
+ghost use Rattle.lsp_requests.specs.Requests.{rename_of, request_of};
+ghost use Rattle.lsp_requests.specs.Views.{request_view};
 
-use crate::asked::{Place, Request};
-use crate::fields::{changed_text, flag_at, lines_of, place_of, text_at, uri_of};
+use crate::asked::{At, Question, Request, Whole, Within};
+use crate::fields::{changed_text, flag_at, lines_of, position_of, text_at, uri_of};
 use serde_json::Value;
 
-/// Reads `textDocument/didOpen`.
-fn open_of(message: &Value) -> Request<'_>
-    ensures { request_view result ≡ open_of (view message.now) }
+/// Returns the notice of the whole text of a document, if both are given.
+fn open_by<'a>(uri: Option<&'a str>, text: Option<&'a str>) -> Request<'a>
+    ensures { request_view result
+        ≡ open_by (option_map (λ s. s.now) uri.entry) (option_map (λ s. s.now) text.entry) }
 {
-    match (
-        uri_of(message),
-        text_at(message, "/params/textDocument/text"),
-    ) {
+    match (uri, text) {
         (Some(uri), Some(text)) => Request::Open { uri, text },
         _ => Request::Invalid,
     }
 }
 
-/// Reads `textDocument/didChange`.
-fn change_of(message: &Value) -> Request<'_>
-    ensures { request_view result ≡ change_of (view message.now) }
+/// Returns the notice that a document is closed, if it is given.
+fn close_by(uri: Option<&str>) -> Request<'_>
+    ensures { request_view result ≡ close_by (option_map (λ s. s.now) uri.entry) }
 {
-    match (uri_of(message), changed_text(message)) {
-        (Some(uri), Some(text)) => Request::Change { uri, text },
-        _ => Request::Invalid,
-    }
-}
-
-/// Reads `textDocument/didClose`.
-fn close_of(message: &Value) -> Request<'_>
-    ensures { request_view result ≡ close_of (view message.now) }
-{
-    match uri_of(message) {
+    match uri {
         Some(uri) => Request::Close { uri },
         None => Request::Invalid,
     }
 }
 
-/// Reads `textDocument/documentSymbol`.
-fn symbols_of(message: &Value) -> Request<'_>
-    ensures { request_view result ≡ symbols_of (view message.now) }
+/// Reads a question about a whole document.
+fn asked_of(what: Whole, message: &Value) -> Request<'_>
+    ensures { request_view result ≡ asked_of what (view message.now) }
 {
     match uri_of(message) {
-        Some(uri) => Request::Symbols { uri },
+        Some(uri) => Request::Question {
+            uri,
+            question: Question::Whole(what),
+        },
         None => Request::Invalid,
     }
 }
 
-/// Reads `textDocument/completion`.
-fn completion_of(message: &Value) -> Request<'_>
-    ensures { request_view result ≡ completion_of (view message.now) }
+/// Returns a question about a position, if a document and a position are given.
+fn of_position(what: At, uri: Option<&str>, position: Option<(u64, u64)>) -> Request<'_>
+    ensures { request_view result
+        ≡ of_position what (option_map (λ s. s.now) uri.entry) position }
 {
-    match uri_of(message) {
-        Some(uri) => Request::Completion { uri },
-        None => Request::Invalid,
+    match (uri, position) {
+        (Some(uri), Some((line, character))) => Request::Question {
+            uri,
+            question: Question::At {
+                what,
+                line,
+                character,
+            },
+        },
+        _ => Request::Invalid,
     }
 }
 
-/// Reads `textDocument/hover`.
-fn hover_of(message: &Value) -> Request<'_>
-    ensures { request_view result ≡ hover_of (view message.now) }
+/// Reads a question about a position.
+fn asked_at(what: At, message: &Value) -> Request<'_>
+    ensures { request_view result ≡ asked_at what (view message.now) }
 {
-    match place_of(message) {
-        Some(place) => Request::Hover(place),
-        None => Request::Invalid,
-    }
-}
-
-/// Reads `textDocument/definition`.
-fn definition_of(message: &Value) -> Request<'_>
-    ensures { request_view result ≡ definition_of (view message.now) }
-{
-    match place_of(message) {
-        Some(place) => Request::Definition(place),
-        None => Request::Invalid,
-    }
+    of_position(what, uri_of(message), position_of(message))
 }
 
 /// Reads `textDocument/references`.
 fn references_of(message: &Value) -> Request<'_>
     ensures { request_view result ≡ references_of (view message.now) }
 {
-    match place_of(message) {
-        Some(place) => Request::References {
-            place,
-            declares: flag_at(message, "/params/context/includeDeclaration"),
+    let declares = flag_at(message, "/params/context/includeDeclaration");
+    asked_at(At::References { declares }, message)
+}
+
+/// Returns a question about some lines, if a document and lines are given.
+fn of_lines(what: Within, uri: Option<&str>, lines: Option<(u64, u64)>) -> Request<'_>
+    ensures { request_view result ≡ of_lines what (option_map (λ s. s.now) uri.entry) lines }
+{
+    match (uri, lines) {
+        (Some(uri), Some((from, to))) => Request::Question {
+            uri,
+            question: Question::Within { what, from, to },
         },
-        None => Request::Invalid,
+        _ => Request::Invalid,
     }
 }
 
-/// Returns the request for another name for the name at a place, if one is given.
-fn rename_at<'a>(place: Place<'a>, name: Option<&'a str>) -> Request<'a>
-    ensures { request_view result
-        ≡ rename_at (place_view place.entry) (option_map (λ s. s.now) name.entry) }
+/// Reads a question about some lines.
+fn asked_within(what: Within, message: &Value) -> Request<'_>
+    ensures { request_view result ≡ asked_within what (view message.now) }
 {
-    match name {
-        Some(name) => Request::Rename { place, name },
-        None => Request::Invalid,
+    of_lines(what, uri_of(message), lines_of(message))
+}
+
+/// Returns the request for another name, if a document, a position and a name are given.
+fn rename_by<'a>(
+    uri: Option<&'a str>,
+    position: Option<(u64, u64)>,
+    name: Option<&'a str>,
+) -> Request<'a>
+    ensures { request_view result ≡ rename_by (option_map (λ s. s.now) uri.entry) position
+        (option_map (λ s. s.now) name.entry) }
+{
+    match (uri, position, name) {
+        (Some(uri), Some((line, character)), Some(name)) => Request::Rename {
+            uri,
+            line,
+            character,
+            name,
+        },
+        _ => Request::Invalid,
     }
 }
 
@@ -115,112 +124,28 @@ fn rename_at<'a>(place: Place<'a>, name: Option<&'a str>) -> Request<'a>
 fn rename_of(message: &Value) -> Request<'_>
     ensures { request_view result ≡ rename_of (view message.now) }
 {
-    match place_of(message) {
-        Some(place) => rename_at(place, text_at(message, "/params/newName")),
-        None => Request::Invalid,
-    }
+    let name = text_at(message, "/params/newName");
+    rename_by(uri_of(message), position_of(message), name)
 }
 
-/// Reads `textDocument/signatureHelp`.
-fn signatures_of(message: &Value) -> Request<'_>
-    ensures { request_view result ≡ signatures_of (view message.now) }
-{
-    match place_of(message) {
-        Some(place) => Request::Signatures(place),
-        None => Request::Invalid,
-    }
-}
-
-/// Reads `textDocument/semanticTokens/full`.
-fn colours_of(message: &Value) -> Request<'_>
-    ensures { request_view result ≡ colours_of (view message.now) }
-{
-    match uri_of(message) {
-        Some(uri) => Request::Colours { uri },
-        None => Request::Invalid,
-    }
-}
-
-/// Reads `textDocument/foldingRange`.
-fn folds_of(message: &Value) -> Request<'_>
-    ensures { request_view result ≡ folds_of (view message.now) }
-{
-    match uri_of(message) {
-        Some(uri) => Request::Folds { uri },
-        None => Request::Invalid,
-    }
-}
-
-/// Returns the request for hints between two lines of a document, if the lines are given.
-fn hints_within(uri: &str, lines: Option<(u64, u64)>) -> Request<'_>
-    ensures { request_view result ≡ hints_within uri.now lines }
-{
-    match lines {
-        Some((from, to)) => Request::Hints { uri, from, to },
-        None => Request::Invalid,
-    }
-}
-
-/// Reads `textDocument/inlayHint`.
-fn hints_of(message: &Value) -> Request<'_>
-    ensures { request_view result ≡ hints_of (view message.now) }
-{
-    match uri_of(message) {
-        Some(uri) => hints_within(uri, lines_of(message)),
-        None => Request::Invalid,
-    }
-}
-
-/// Returns the request for changes between two lines of a document, if the lines are given.
-fn fixes_within(uri: &str, lines: Option<(u64, u64)>) -> Request<'_>
-    ensures { request_view result ≡ fixes_within uri.now lines }
-{
-    match lines {
-        Some((from, to)) => Request::Fixes { uri, from, to },
-        None => Request::Invalid,
-    }
-}
-
-/// Reads `textDocument/codeAction`.
-fn fixes_of(message: &Value) -> Request<'_>
-    ensures { request_view result ≡ fixes_of (view message.now) }
-{
-    match uri_of(message) {
-        Some(uri) => fixes_within(uri, lines_of(message)),
-        None => Request::Invalid,
-    }
-}
-
-/// Reads a message that is about what is shown of a document.
-#[tactic(auto, unfolding(crate::specs::Requests::by_method_of_shown))]
-fn by_method_of_shown<'a>(method: &str, message: &'a Value) -> Request<'a>
-    ensures { request_view result ≡ by_method_of_shown method.now (view message.now) }
+/// Reads a message that asks something of a document.
+#[tactic(auto, unfolding(crate::specs::Requests::question_by_method))]
+fn question_by_method<'a>(method: &str, message: &'a Value) -> Request<'a>
+    ensures { request_view result ≡ question_by_method method.now (view message.now) }
 {
     match method {
-        "textDocument/signatureHelp" => signatures_of(message),
-        "textDocument/semanticTokens/full" => colours_of(message),
-        "textDocument/foldingRange" => folds_of(message),
-        "textDocument/inlayHint" => hints_of(message),
-        "textDocument/codeAction" => fixes_of(message),
-        _ => Request::Unknown,
-    }
-}
-
-/// Reads a message that is about a document.
-fn by_method_of_text<'a>(method: &str, message: &'a Value) -> Request<'a>
-    ensures { request_view result ≡ by_method_of_text method.now (view message.now) }
-{
-    match method {
-        "textDocument/didOpen" => open_of(message),
-        "textDocument/didChange" => change_of(message),
-        "textDocument/didClose" => close_of(message),
-        "textDocument/hover" => hover_of(message),
-        "textDocument/definition" => definition_of(message),
+        "textDocument/documentSymbol" => asked_of(Whole::Symbols, message),
+        "textDocument/completion" => asked_of(Whole::Completion, message),
+        "textDocument/semanticTokens/full" => asked_of(Whole::Colours, message),
+        "textDocument/foldingRange" => asked_of(Whole::Folds, message),
+        "textDocument/hover" => asked_at(At::Hover, message),
+        "textDocument/definition" => asked_at(At::Definition, message),
         "textDocument/references" => references_of(message),
+        "textDocument/signatureHelp" => asked_at(At::Signatures, message),
+        "textDocument/inlayHint" => asked_within(Within::Hints, message),
+        "textDocument/codeAction" => asked_within(Within::Fixes, message),
         "textDocument/rename" => rename_of(message),
-        "textDocument/documentSymbol" => symbols_of(message),
-        "textDocument/completion" => completion_of(message),
-        method => by_method_of_shown(method, message),
+        _ => Request::Unknown,
     }
 }
 
@@ -232,7 +157,13 @@ fn by_method<'a>(method: &str, message: &'a Value) -> Request<'a>
         "initialize" => Request::Initialize,
         "shutdown" => Request::Shutdown,
         "exit" => Request::Exit,
-        method => by_method_of_text(method, message),
+        "textDocument/didOpen" => open_by(
+            uri_of(message),
+            text_at(message, "/params/textDocument/text"),
+        ),
+        "textDocument/didChange" => open_by(uri_of(message), changed_text(message)),
+        "textDocument/didClose" => close_by(uri_of(message)),
+        method => question_by_method(method, message),
     }
 }
 

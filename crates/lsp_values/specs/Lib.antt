@@ -1,3 +1,4 @@
 pub mod Columns
+pub mod Objects
 pub mod Replies
 pub mod Values

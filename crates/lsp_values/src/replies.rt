@@ -4,11 +4,12 @@ ghost use Rattle.std.specs.Prelude.{◌≡◌, IfOk};
 ghost use Rattle.lsp_values.specs.Replies.{failure_data, notice_data, number_of, result_data};
 ghost use Rattle.serde_json.specs.View.{view};
 
-use serde_json::{Value, json};
+use crate::object::Object;
+use serde_json::Value;
 use std::alloc::{AllocError, Global};
 
 /// Why a request is refused.
-#[derive(Clone, Copy, Debug, PartialEq, Eq)]
+#[derive(Clone, Copy)]
 pub enum Failure {
     /// The body of a message is no JSON.
     NotJson,
@@ -45,7 +46,11 @@ impl Failure {
 pub fn result_reply(alloc: Global, id: &Value, given: Value) -> Result<Value, AllocError>
     ensures { IfOk result (λ v. view v ≡ result_data (view id.now) (view given)) }
 {
-    json!(in alloc; {"id": id, "jsonrpc": "2.0", "result": given})
+    Object::new(alloc)
+        .member("id", id.clone())
+        .word("jsonrpc", "2.0")
+        .member("result", Ok(given))
+        .build()
 }
 
 /// Returns the answer to a request that fails: its number, why, and words.
@@ -57,15 +62,24 @@ pub fn failure_reply(
 ) -> Result<Value, AllocError>
     ensures { IfOk result (λ v. view v ≡ failure_data (view id.now) failure words.now) }
 {
-    let number = failure.number();
-    json!(in alloc; {
-        "error": {"code": number, "message": words}, "id": id, "jsonrpc": "2.0"
-    })
+    let error = Object::new(alloc)
+        .member("code", Ok(Value::from(failure.number())))
+        .word("message", words)
+        .build();
+    Object::new(alloc)
+        .member("error", error)
+        .member("id", id.clone())
+        .word("jsonrpc", "2.0")
+        .build()
 }
 
 /// Returns a notice of the server.
 pub fn notice(alloc: Global, method: &str, params: Value) -> Result<Value, AllocError>
     ensures { IfOk result (λ v. view v ≡ notice_data method.now (view params)) }
 {
-    json!(in alloc; {"jsonrpc": "2.0", "method": method, "params": params})
+    Object::new(alloc)
+        .word("jsonrpc", "2.0")
+        .word("method", method)
+        .member("params", Ok(params))
+        .build()
 }

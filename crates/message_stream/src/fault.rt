@@ -1,7 +1,7 @@
 //! Why no message comes.
 
 /// Why no message is taken from a stream, or none is written.
-#[derive(Clone, Copy, Debug, PartialEq, Eq)]
+#[derive(Clone, Copy)]
 pub enum StreamFault {
     /// The header in front gives no length of a body, or one of more than 16,777,216 bytes.
     NoLength,

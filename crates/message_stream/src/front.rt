@@ -6,7 +6,7 @@ ghost use Rattle.message_stream.specs.Messages.{header_len, is_digit, length_in,
 ghost use Rattle.message_stream.specs.Messages.{number_from, number_in, with_digit};
 
 /// What stands in front of the bytes of a stream.
-#[derive(Clone, Copy, Debug, PartialEq, Eq)]
+#[derive(Clone, Copy)]
 pub enum Front {
     /// A whole message, whose body has the bytes from `start` up to `end`.
     Message { start: usize, end: usize },

@@ -18,4 +18,4 @@ pub use lines::name_uses;
 pub use name_use::NameUse;
 pub use picks::{Part, picked};
 pub use place::name_at;
-pub use words::is_name;
+pub use words::{is_name, is_name_token, is_reserved};

@@ -1,6 +1,6 @@
 //! The names of lines.
 
-ghost use Rattle.std.specs.Prelude.{◌≡◌, ◌≤◌, ◌++◌, IfOk, Ok, OnOk, length};
+ghost use Rattle.std.specs.Prelude.{◌≡◌, ◌≤◌, ◌++◌, IfOk, OnOk, length};
 ghost use Rattle.line_parts.specs.Lexemes.{lexemes};
 ghost use Rattle.line_parts.specs.LineViews.{line_view};
 ghost use Rattle.model.specs.Source.{is_end};
@@ -36,6 +36,15 @@ fn ends(line: &Line<'_>) -> bool
     }
 }
 
+/// Returns whether a line defines the name with which it begins, and whether it is the last one
+/// that is read.
+fn defines_and_ends(line: Line<'_>) -> (bool, bool)
+    ensures defines { result.0 ≡ defines_first (line_view line.entry) }
+    ensures end { result.1 ≡ ends_line (line_view line.entry) }
+{
+    (defines_first(&line), ends(&line))
+}
+
 /// Appends the names among the tokens of a line of this number. The first one is defined there, or
 /// none is.
 fn push_tokens<'a>(
@@ -63,27 +72,6 @@ fn push_tokens<'a>(
     Ok(())
 }
 
-/// Appends the names of a line of this number that was read.
-#[tactic(auto, unfolding(crate::specs::Uses::line_uses))]
-fn push_read<'a>(
-    uses: &mut Vec<NameUse<'a>>,
-    room: &mut Vec<Token<'a>>,
-    profile: Profile,
-    number: u32,
-    text: &'a [u8],
-    line: &Line<'a>,
-) -> Result<(), AllocError>
-    requires { read_line profile text.now ≡ Ok (line_view line.now) }
-    ensures { OnOk result (use_views uses.new.items
-        ≡ use_views uses.old.items ++ line_uses profile number text.now) }
-{
-    match tokens_into(room, text) {
-        Ok(()) => push_tokens(uses, profile, number, defines_first(line), room),
-        Err(LineFault::OutOfMemory) => Err(AllocError),
-        Err(LineFault::Syntax) => Ok(()),
-    }
-}
-
 /// Appends the names of a line of this number, and returns whether it is the last one that is read.
 #[tactic(auto, unfolding(crate::specs::Uses::line_uses))]
 fn push_line<'a>(
@@ -98,14 +86,17 @@ fn push_line<'a>(
         ≡ use_views uses.old.items ++ line_uses profile number text.now) }
     ensures end { IfOk result (λ ended. ended ≡ is_end (read_line profile text.now)) }
 {
-    match read_line_with(alloc, profile, room, text) {
-        Ok(line) => {
-            push_read(uses, room, profile, number, text, &line)?;
-            Ok(ends(&line))
-        }
-        Err(LineError::Kind(_)) => Ok(false),
-        Err(LineError::Memory) => Err(AllocError),
+    let (defines, ended) = match read_line_with(alloc, profile, room, text) {
+        Ok(line) => defines_and_ends(line),
+        Err(LineError::Kind(_)) => return Ok(false),
+        Err(LineError::Memory) => return Err(AllocError),
+    };
+    match tokens_into(room, text) {
+        Ok(()) => push_tokens(uses, profile, number, defines, room)?,
+        Err(LineFault::OutOfMemory) => return Err(AllocError),
+        Err(LineFault::Syntax) => {}
     }
+    Ok(ended)
 }
 
 /// Returns the names of a source in a profile where they stand, in their order: in each line that

@@ -1,7 +1,7 @@
 //! A name where it stands.
 
 /// A name where it stands in a source.
-#[derive(Clone, Copy, Debug)]
+#[derive(Clone, Copy)]
 pub struct NameUse<'a> {
     /// The number of its line, counted from 1.
     pub line: u32,

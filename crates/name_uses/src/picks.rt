@@ -9,7 +9,7 @@ use crate::name_use::NameUse;
 use std::alloc::{AllocError, Global};
 
 /// Which uses of a name are meant.
-#[derive(Clone, Copy, Debug, PartialEq, Eq)]
+#[derive(Clone, Copy)]
 pub enum Part {
     /// All.
     All,

@@ -27,7 +27,7 @@ fn is_register(text: &[u8]) -> bool
 
 /// Returns whether a word is a mnemonic of a profile, A, X or Y, in either letter case.
 #[tactic(auto, using(crate::proofs::Reserved::reserved_by))]
-fn is_reserved(profile: Profile, text: &[u8]) -> bool
+pub fn is_reserved(profile: Profile, text: &[u8]) -> bool
     ensures { result ≡ is_reserved profile text.now }
 {
     mnemonic_in(profile, text).is_some() || is_register(text)

@@ -85,10 +85,10 @@ fn source_faults_marked(
         AreMarked (fault_blocks (IsMeant (known_in map.now.profile source.now)))
         fault_kind (lines_of source.now) faults.now found.items) }
 {
+    let lines = every_line(alloc, source)?;
     let mut symbols = Symbols::new(alloc);
     let profile = map.profile();
     let laid = lay_out(alloc, profile, Mending::Smallest, &mut symbols, source)?;
-    let lines = every_line(alloc, source)?;
     let names = names_read(alloc, &lines, laid.len())?;
     let context = Context {
         profile,

@@ -9,7 +9,7 @@ use warning_notes::kind_name;
 use warnings::WarningKind;
 
 /// What kind of fault or warning it is.
-#[derive(Clone, Copy, Debug, PartialEq, Eq)]
+#[derive(Clone, Copy)]
 pub enum DiagnosticKind {
     /// A fault of the source.
     Fault(AsmFaultKind),

@@ -1,7 +1,7 @@
 //! Why a name is not changed.
 
 /// Why a name is not changed to another one.
-#[derive(Clone, Copy, Debug, PartialEq, Eq)]
+#[derive(Clone, Copy)]
 pub enum RenameFault {
     /// The new name is no name in the profile.
     NoName,

@@ -1,4 +1,4 @@
-use Rattle.std.proofs.Common.{◌≤◌, Fits, arith, length, refl, w64}
+use Rattle.std.proofs.Common.{Fits, arith, length, refl, w64}
 use Rattle.std.proofs.Math.Facts.{Fits-le}
 use Rattle.line_parts.specs.Lexemes.{lexemes}
 use Rattle.lsp_outline.proofs.EndSteps.{last_end, next_end, next_slices, next_within}
